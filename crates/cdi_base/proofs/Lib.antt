@@ -1,0 +1,3 @@
+pub mod Tables
+pub mod Clones
+pub mod BuiltIns

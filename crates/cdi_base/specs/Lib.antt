@@ -1,0 +1,6 @@
+pub mod Name
+pub mod Fields
+pub mod Reading
+pub mod BuiltIn
+pub mod Words
+pub mod Limits

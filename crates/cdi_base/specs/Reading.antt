@@ -1,0 +1,19 @@
+-- What a reader answers, beside what reading gives as a function.
+use Rattle.std.specs.Prelude.{◌≡◌, Result, Ok, Err}
+use Rattle.cdi_base.specs.declared.reading.ReadError.{ReadError}
+use Rattle.cdi_base.specs.declared.reading.ReadError.TheVariants as errors
+
+infixl 10 ◌>>=◌
+abbrev pub ◌>>=◌ : {A B F : Type 0} → Result A F → (A → Result B F) → Result B F
+(Ok x) >>= next = next x
+(Err fault) >>= next = Err fault
+
+-- an error is the fault that reading gives, unless memory ran out
+abbrev pub Fails : {A F : Type 0} → ReadError F → Result A F → Type 0
+Fails errors.Memory read = Unit {0}
+Fails (errors.Fault fault) read = read ≡ Err fault
+
+-- what was answered, seen by view, is what reading gives, unless memory ran out
+abbrev pub Gives : {A B F : Type 0} → (A → B) → Result A (ReadError F) → Result B F → Type 0
+Gives view (Ok x) read = read ≡ Ok (view x)
+Gives view (Err error) read = Fails error read

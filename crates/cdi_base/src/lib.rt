@@ -1,0 +1,32 @@
+//! Names, values, acts, entries, commands and replies.
+#![tactic(auto)]
+
+pub mod act;
+pub mod built_in;
+pub mod command;
+pub mod entry;
+pub mod fields;
+pub mod limits;
+pub mod name;
+pub mod place;
+pub mod reading;
+pub mod reply;
+pub mod seq;
+pub mod text;
+pub mod uses;
+pub mod value;
+
+pub use act::{Act, Answer, Via};
+pub use built_in::BuiltIn;
+pub use command::Command;
+pub use entry::Entry;
+pub use fields::Fields;
+pub use limits::Limits;
+pub use name::{InternError, Name, Names, is_name};
+pub use place::{InterceptorMethod, Place};
+pub use reading::ReadError;
+pub use reply::{Cause, Refusal, Reply};
+pub use seq::Seq;
+pub use text::Text;
+pub use uses::{MemberValue, Use, WrittenMember, WrittenUse};
+pub use value::Value;

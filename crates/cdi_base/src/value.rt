@@ -1,0 +1,25 @@
+//! The values of fields, arguments, results and events.
+use crate::text::Text;
+use std::alloc::{AllocError, Global};
+
+/// Null, a whole number of 64 bits, or a text: what a field holds, a method takes and gives, and an event carries.
+#[derive(Debug, PartialEq, Eq, Drop)]
+pub enum Value {
+    Null,
+    Int(i64),
+    Text(Text),
+}
+
+impl Clone for Value {
+    ghost use Rattle.std.specs.Prelude.{◌≡◌};
+
+    ghost is_clone = { λ v copy. copy ≡ v };
+
+    fn clone(&self) -> Result<Value, AllocError> {
+        match self {
+            Value::Null => Ok(Value::Null),
+            Value::Int(n) => Ok(Value::Int(*n)),
+            Value::Text(text) => Ok(Value::Text(text.clone()?)),
+        }
+    }
+}
