@@ -14,6 +14,8 @@ pub mod reply;
 pub mod seq;
 pub mod text;
 pub mod uses;
+#[cfg(test)]
+mod tests;
 pub mod value;
 
 pub use act::{Act, Answer, Via};

@@ -1,0 +1,5 @@
+pub mod Shape
+pub mod Gives
+pub mod Adding
+pub mod Table
+pub mod Picks

@@ -1,0 +1,10 @@
+pub mod DataCode
+pub mod Form
+pub mod Shape
+pub mod HasForm
+pub mod Numbers
+pub mod Names
+pub mod Parts
+pub mod Items
+pub mod Limits
+pub mod Reading

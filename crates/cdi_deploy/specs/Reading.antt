@@ -1,0 +1,46 @@
+-- Bytes to the deployment that they are, or to their first fault.
+use Rattle.std.specs.Prelude.{ℕ, not, List, length, Option, Some, None, Result, Ok, Err, nat_lt, if◌then◌else◌}
+use Rattle.std.specs.Str.{is_utf8}
+use Rattle.cdi_base.specs.Reading.{◌>>=◌}
+use Rattle.serde_json.specs.Data.{Data}
+use Rattle.serde_json.specs.Read as json
+use Rattle.cdi_deploy.specs.declared.fault.ReadFault.{ReadFault}
+use Rattle.cdi_deploy.specs.declared.fault.ReadFault.TheVariants as faults
+use Rattle.cdi_deploy.specs.declared.deployment.Deployment.{Deployment}
+use Rattle.cdi_deploy.specs.declared.form.Kind.TheVariants as kinds
+use Rattle.cdi_deploy.specs.declared.form.Part.{Part}
+use Rattle.cdi_deploy.specs.declared.form.Part.TheVariants as parts
+use Rattle.cdi_deploy.specs.Numbers.{numbers_fit}
+use Rattle.cdi_deploy.specs.Shape.{wrong}
+use Rattle.cdi_deploy.specs.Names.{names_fit}
+use Rattle.cdi_deploy.specs.Items.{lists_of}
+use Rattle.cdi_deploy.specs.Limits.{is_within}
+
+abbrev pub or_not_json : Option Data → Result Data ReadFault
+or_not_json None = Err faults.NotJson
+or_not_json (Some d) = Ok d
+
+-- the JSON value of a text in UTF-8
+unfoldable pub value_in : List ℕ → Result Data ReadFault
+value_in bytes = if is_utf8 bytes then or_not_json (json.read bytes) else Err faults.NotJson
+
+abbrev pub root : Part
+root = parts.Object kinds.Deployment
+
+-- a wrong place is a fault, and without one the reading goes on
+abbrev pub or_shape : Option (List ℕ) → Result Deployment ReadFault → Result Deployment ReadFault
+or_shape None next = next
+or_shape (Some path) next = Err (faults.Shape path)
+
+abbrev pub within_limits : Deployment → Result Deployment ReadFault
+within_limits d = if is_within d then Ok d else Err faults.TooMany
+
+-- the deployment that a JSON value is, or its first fault
+unfoldable pub deployment_of : Data → Result Deployment ReadFault
+deployment_of d =
+    if not (numbers_fit d) then Err faults.BadNumber
+    else or_shape (wrong d root) (if not (names_fit d root) then Err faults.BadName else lists_of d >>= within_limits)
+
+-- the deployment that bytes are, or their first fault: more than 1,048,576 are not looked at
+unfoldable pub deployment_in : List ℕ → Result Deployment ReadFault
+deployment_in bytes = if nat_lt 1048576 (length bytes) then Err faults.TooLong else value_in bytes >>= deployment_of

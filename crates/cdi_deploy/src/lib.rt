@@ -1,0 +1,22 @@
+//! Deployments, read from JSON: which bytes are one, what the first fault of others is, and what is declared in it.
+#![tactic(auto)]
+
+pub mod deployment;
+pub mod fault;
+pub mod form;
+mod items;
+pub mod laws;
+pub mod limits;
+mod names;
+mod numbers;
+mod parts;
+pub mod reading;
+mod shape;
+pub mod steps;
+#[cfg(test)]
+mod tests;
+
+pub use deployment::{Bean, Class, Deployment, Field, Member, Method, Scope, Script};
+pub use fault::ReadFault;
+pub use reading::read;
+pub use steps::Steps;

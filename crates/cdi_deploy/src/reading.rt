@@ -1,0 +1,73 @@
+//! Reading a deployment: its faults in their order, and then its lists.
+ghost use Rattle.std.specs.Prelude.{◌≡◌};
+ghost use Rattle.serde_json.specs.View.{view};
+ghost use Rattle.cdi_base.specs.Reading.{Gives};
+ghost use Rattle.cdi_deploy.specs.Reading as spec;
+
+use crate::deployment::Deployment;
+use crate::fault::ReadFault;
+use crate::form::{Kind, Part};
+use crate::items::lists_of;
+use crate::limits::is_within;
+use crate::names::names_fit;
+use crate::numbers::numbers_fit;
+use crate::shape::wrong;
+use cdi_base::ReadError;
+use serde_json::Value as Json;
+use std::alloc::Global;
+
+/// The most bytes of a deployment.
+pub const MAX_BYTES: usize = 1_048_576;
+
+/// What stands at the root.
+const ROOT: Part = Part::Object(Kind::Deployment);
+
+#[tactic(auto, unfolding(crate::specs::Reading::value_in))]
+fn value_in(alloc: Global, bytes: &[u8]) -> Result<Json, ReadError<ReadFault>>
+    ensures { Gives view result (spec.value_in bytes.now) }
+{
+    let Ok(text) = std::str::from_utf8(bytes) else {
+        return Err(ReadError::Fault(ReadFault::NotJson));
+    };
+    match Json::from_str(alloc, text) {
+        Ok(value) => Ok(value),
+        Err(error) => if error.is_memory() {
+            Err(ReadError::Memory)
+        } else {
+            Err(ReadError::Fault(ReadFault::NotJson))
+        },
+    }
+}
+
+#[tactic(auto, unfolding(crate::specs::Reading::deployment_of))]
+fn deployment_of(alloc: Global, value: &Json) -> Result<Deployment, ReadError<ReadFault>>
+    ensures { Gives (λ d. d) result (spec.deployment_of (view value.now)) }
+{
+    if !numbers_fit(value) {
+        return Err(ReadError::Fault(ReadFault::BadNumber));
+    }
+    if let Some(path) = wrong(alloc, value, ROOT)? {
+        return Err(ReadError::Fault(ReadFault::Shape(path)));
+    }
+    if !names_fit(value, ROOT) {
+        return Err(ReadError::Fault(ReadFault::BadName));
+    }
+    let deployment = lists_of(alloc, value)?;
+    if !is_within(&deployment) {
+        return Err(ReadError::Fault(ReadFault::TooMany));
+    }
+    Ok(deployment)
+}
+
+/// Reads a deployment: gives what the bytes declare, or the first fault that holds of them in the order of
+/// [`ReadFault`]. An error is [`ReadError::Memory`] where a growth was refused, whatever the bytes are.
+#[tactic(auto, unfolding(crate::specs::Reading::deployment_in))]
+pub fn read(alloc: Global, bytes: &[u8]) -> Result<Deployment, ReadError<ReadFault>>
+    ensures { Gives (λ d. d) result (spec.deployment_in bytes.now) }
+{
+    if bytes.len() > MAX_BYTES {
+        return Err(ReadError::Fault(ReadFault::TooLong));
+    }
+    let value = value_in(alloc, bytes)?;
+    deployment_of(alloc, &value)
+}

@@ -1,0 +1,339 @@
+use crate::{Bean, Member, Method, Scope, read};
+use cdi_base::{BuiltIn, ReadError, Value};
+use std::alloc::{AllocError, Global};
+use std::test::Fail;
+
+/// What is printed for bytes: `ok`, or their first fault.
+fn printed(alloc: Global, bytes: &[u8]) -> Result<String, AllocError> {
+    match read(alloc, bytes) {
+        Ok(_) => String::from_str(alloc, "ok"),
+        Err(ReadError::Memory) => Err(AllocError),
+        Err(ReadError::Fault(fault)) => format!(in alloc; "{fault}"),
+    }
+}
+
+#[test]
+fn first_faults(rt: HostRuntime) -> Result<(), Fail> {
+    for (text, expected) in [
+        ("{}", "ok"),
+        (" { \"form\" : 1 } ", "ok"),
+        ("{\"classes\":[],\"scripts\":[]}", "ok"),
+        // The bytes.
+        ("", "NotJson"),
+        ("{", "NotJson"),
+        ("{\"form\":1,}", "NotJson"),
+        ("{}{}", "NotJson"),
+        ("{\"x\":1e400}", "NotJson"),
+        ("{\"x\":\"\\ud800\"}", "NotJson"),
+        // Numbers, wherever they stand.
+        ("{\"x\":1.5}", "BadNumber"),
+        ("[-0]", "BadNumber"),
+        ("[1.0]", "BadNumber"),
+        ("[1e3]", "BadNumber"),
+        ("[9223372036854775808]", "BadNumber"),
+        ("[-9223372036854775809]", "BadNumber"),
+        ("[9223372036854775807,-9223372036854775808]", "Shape "),
+        (
+            "{\"classes\":[{\"name\":\"K\",\"fields\":[{\"name\":\"n\",\"value\":1.5}]}]}",
+            "BadNumber",
+        ),
+        (
+            "{\"scripts\":[{\"name\":\"s\",\"steps\":[[\"give\",1.5]]}]}",
+            "BadNumber",
+        ),
+        ("{\"form\":1.5,\"form\":1}", "ok"),
+        // The root.
+        ("[]", "Shape "),
+        ("null", "Shape "),
+        ("{\"interfaces\":[]}", "Shape "),
+        ("{\"form\":2,\"x\":0}", "Shape "),
+        ("{\"form\":2}", "Shape /form"),
+        ("{\"form\":0}", "Shape /form"),
+        ("{\"form\":-1}", "Shape /form"),
+        ("{\"form\":\"1\"}", "Shape /form"),
+        ("{\"form\":null}", "Shape /form"),
+        ("{\"form\":2,\"form\":1}", "ok"),
+        ("{\"form\":1,\"form\":2}", "Shape /form"),
+        ("{\"form\":3,\"classes\":5}", "Shape /classes"),
+        ("{\"classes\":null}", "Shape /classes"),
+        ("{\"classes\":{}}", "Shape /classes"),
+        // Classes, beans and fields.
+        ("{\"classes\":[{}]}", "Shape /classes/0"),
+        (
+            "{\"classes\":[{\"name\":\"K\"},{\"name\":\"L\",\"extends\":\"K\"}]}",
+            "Shape /classes/1",
+        ),
+        ("{\"classes\":[{\"name\":1},{}]}", "Shape /classes/0/name"),
+        ("{\"classes\":[{\"name\":null}]}", "Shape /classes/0/name"),
+        (
+            "{\"classes\":[{\"name\":\"K\",\"bean\":null}]}",
+            "Shape /classes/0/bean",
+        ),
+        (
+            "{\"classes\":[{\"name\":\"K\",\"bean\":true}]}",
+            "Shape /classes/0/bean",
+        ),
+        (
+            "{\"classes\":[{\"name\":\"K\",\"bean\":{\"quals\":[]}}]}",
+            "Shape /classes/0/bean",
+        ),
+        (
+            "{\"classes\":[{\"name\":\"K\",\"bean\":{\"scope\":\"SessionScoped\"}}]}",
+            "Shape /classes/0/bean/scope",
+        ),
+        (
+            "{\"classes\":[{\"name\":\"K\",\"bean\":{\"scope\":null}}]}",
+            "Shape /classes/0/bean/scope",
+        ),
+        (
+            "{\"classes\":[{\"name\":\"K\",\"bean\":{\"scope\":\"Dependent\"}}]}",
+            "ok",
+        ),
+        (
+            "{\"classes\":[{\"name\":\"K\",\"fields\":[{\"value\":1}]}]}",
+            "Shape /classes/0/fields/0",
+        ),
+        (
+            "{\"classes\":[{\"name\":\"K\",\"fields\":[{\"name\":\"n\",\"value\":[]}]}]}",
+            "Shape /classes/0/fields/0/value",
+        ),
+        (
+            "{\"classes\":[{\"name\":\"K\",\"fields\":[{\"name\":\"n\",\"value\":true}]}]}",
+            "Shape /classes/0/fields/0/value",
+        ),
+        (
+            "{\"classes\":[{\"name\":\"K\",\"fields\":[{\"name\":\"n\",\"value\":null},7]}]}",
+            "Shape /classes/0/fields/1",
+        ),
+        // Members.
+        (
+            "{\"classes\":[{\"name\":\"K\",\"members\":[{\"kind\":\"init\",\"name\":\"i\",\"body\":\"i\"}]}]}",
+            "Shape /classes/0/members/0",
+        ),
+        (
+            "{\"classes\":[{\"name\":\"K\",\"members\":[{\"kind\":null,\"name\":\"m\",\"body\":\"m\"}]}]}",
+            "Shape /classes/0/members/0",
+        ),
+        (
+            "{\"classes\":[{\"name\":\"K\",\"members\":[{\"name\":\"m\",\"body\":\"m\"}]}]}",
+            "Shape /classes/0/members/0",
+        ),
+        (
+            "{\"classes\":[{\"name\":\"K\",\"members\":[{\"kind\":\"method\",\"name\":\"m\"}]}]}",
+            "Shape /classes/0/members/0",
+        ),
+        (
+            "{\"classes\":[{\"name\":\"K\",\"members\":[{\"kind\":\"method\",\"name\":\"m\",\"body\":\"m\",\"bindings\":[]}]}]}",
+            "Shape /classes/0/members/0",
+        ),
+        (
+            "{\"classes\":[{\"name\":\"K\",\"members\":[{\"kind\":\"method\",\"name\":\"m\",\"body\":\"m\",\"args\":9}]}]}",
+            "Shape /classes/0/members/0/args",
+        ),
+        (
+            "{\"classes\":[{\"name\":\"K\",\"members\":[{\"kind\":\"method\",\"name\":\"m\",\"body\":\"m\",\"args\":-1}]}]}",
+            "Shape /classes/0/members/0/args",
+        ),
+        (
+            "{\"classes\":[{\"name\":\"K\",\"members\":[{\"kind\":\"method\",\"name\":\"m\",\"body\":\"m\",\"args\":8}]}]}",
+            "ok",
+        ),
+        // Scripts, whose steps are not looked at.
+        ("{\"scripts\":[{\"name\":\"s\"}]}", "Shape /scripts/0"),
+        (
+            "{\"scripts\":[{\"name\":\"s\",\"steps\":{}}]}",
+            "Shape /scripts/0/steps",
+        ),
+        (
+            "{\"scripts\":[{\"name\":\"s\",\"steps\":[null,{\"x\":\"?\"}]}]}",
+            "ok",
+        ),
+        // Names, after every shape.
+        ("{\"classes\":[{\"name\":\"K-\"}]}", "BadName"),
+        ("{\"classes\":[{\"name\":\"\"}]}", "BadName"),
+        (
+            "{\"classes\":[{\"name\":\"K\",\"fields\":[{\"name\":\"?\"}]}]}",
+            "BadName",
+        ),
+        (
+            "{\"classes\":[{\"name\":\"K\",\"fields\":[{\"name\":\"n\",\"value\":\"?\"}]}]}",
+            "ok",
+        ),
+        (
+            "{\"classes\":[{\"name\":\"K\",\"members\":[{\"kind\":\"method\",\"name\":\"m\",\"body\":\"?\"}]}]}",
+            "BadName",
+        ),
+        ("{\"scripts\":[{\"name\":\"a b\",\"steps\":[]}]}", "BadName"),
+        ("{\"classes\":[{\"name\":\"K-\"},{}]}", "Shape /classes/1"),
+        (
+            "{\"classes\":[{\"name\":\"K-\"},{\"name\":\"L\"}],\"scripts\":[{\"name\":\"s\",\"steps\":1.0}]}",
+            "BadNumber",
+        ),
+    ] {
+        assert_eq!(rt;
+            printed(rt.alloc(), text.as_bytes())?.as_str(),
+            expected,
+            "of {text}"
+        );
+    }
+    assert_eq!(rt;
+        printed(rt.alloc(), &[b'"', 255, b'"'])?.as_str(),
+        "NotJson"
+    );
+    Ok(())
+}
+
+/// A text with one part repeated.
+fn repeated(
+    alloc: Global,
+    before: &str,
+    part: &str,
+    count: usize,
+    after: &str,
+) -> Result<String, AllocError> {
+    let parts = part.repeat(alloc, count)?;
+    format!(in alloc; "{before}{parts}{after}")
+}
+
+#[test]
+fn limits(rt: HostRuntime) -> Result<(), Fail> {
+    let classes = ("{\"classes\":[", "{\"name\":\"K\"},", "{\"name\":\"K\"}]}");
+    let scripts = (
+        "{\"scripts\":[",
+        "{\"name\":\"s\",\"steps\":[]},",
+        "{\"name\":\"s\",\"steps\":[]}]}",
+    );
+    let fields = (
+        "{\"classes\":[{\"name\":\"K\",\"fields\":[",
+        "{\"name\":\"n\"},",
+        "{\"name\":\"n\"}]}]}",
+    );
+    let members = (
+        "{\"classes\":[{\"name\":\"K\",\"members\":[",
+        "{\"kind\":\"method\",\"name\":\"m\",\"body\":\"m\"},",
+        "{\"kind\":\"method\",\"name\":\"m\",\"body\":\"m\"}]}]}",
+    );
+    for (parts, count, expected) in [
+        (("{}", " ", ""), 1048574, "ok"),
+        (("{}", " ", ""), 1048575, "TooLong"),
+        (("", "[", ""), 1048577, "TooLong"),
+        (("", "[", ""), 127, "NotJson"),
+        (("[[[", "[", "1]]]"), 0, "Shape "),
+        (classes, 1023, "ok"),
+        (classes, 1024, "TooMany"),
+        (scripts, 1023, "ok"),
+        (scripts, 1024, "TooMany"),
+        (fields, 63, "ok"),
+        (fields, 64, "TooMany"),
+        (members, 63, "ok"),
+        (members, 64, "TooMany"),
+        (("{\"classes\":[{\"name\":\"", "N", "\"}]}"), 255, "ok"),
+        (("{\"classes\":[{\"name\":\"", "N", "\"}]}"), 256, "BadName"),
+        (
+            ("{\"classes\":[", "{\"name\":\"K\"},", "{\"name\":\"?\"}]}"),
+            1024,
+            "BadName",
+        ),
+        (
+            ("{\"classes\":[", "{\"name\":\"K\"},", "{}]}"),
+            1024,
+            "Shape /classes/1024",
+        ),
+    ] {
+        let (before, part, after) = parts;
+        let text = repeated(rt.alloc(), before, part, count, after)?;
+        assert_eq!(rt;
+            printed(rt.alloc(), text.as_bytes())?.as_str(),
+            expected,
+            "{count} of {part}"
+        );
+    }
+    for (depth, expected) in [(127, "Shape "), (128, "NotJson")] {
+        let closed = "]".repeat(rt.alloc(), depth)?;
+        let text = repeated(rt.alloc(), "", "[", depth, closed.as_str())?;
+        assert_eq!(rt;
+            printed(rt.alloc(), text.as_bytes())?.as_str(),
+            expected,
+            "{depth} deep"
+        );
+    }
+    Ok(())
+}
+
+#[test]
+fn the_counter(rt: HostRuntime) -> Result<(), Fail> {
+    let text =
+        "{\"classes\":[{\"name\":\"K\",\"bean\":{\"scope\":\"ApplicationScoped\"},\"fields\":[{\"name\":\"n\",\"value\":0}],\"members\":[{\"kind\":\"method\",\"name\":\"up\",\"body\":\"up\"}]}],\"scripts\":[{\"name\":\"up\",\"steps\":[[\"set\",\"n\",[\"add\",[\"field\",\"n\"],1]],[\"give\",[\"field\",\"n\"]]]}]}";
+    let deployment = read(rt.alloc(), text.as_bytes())?;
+    let names = &deployment.names;
+    assert_eq!(rt; names.len(), 22);
+    assert!(rt; names.find("Startup") == Some(BuiltIn::Startup.name()));
+    let counter = names.find("K").ok_or("K")?;
+    let field = names.find("n").ok_or("n")?;
+    let up = names.find("up").ok_or("up")?;
+
+    assert_eq!(rt; deployment.classes.len(), 1);
+    let class = deployment.classes.get(0).ok_or("a class")?;
+    assert!(rt; class.name == counter);
+    assert!(rt;
+        class.bean
+            == Some(Bean {
+                scope: Scope::ApplicationScoped
+            })
+    );
+    assert_eq!(rt; class.fields.len(), 1);
+    let first = class.fields.get(0).ok_or("a field")?;
+    assert!(rt; first.name == field && first.value == Value::Int(0));
+    assert_eq!(rt; class.members.len(), 1);
+    let member = class.members.get(0).ok_or("a member")?;
+    assert!(rt;
+        *member
+            == Member::Method(Method {
+                name: up,
+                body: up,
+                args: 0
+            })
+    );
+
+    assert_eq!(rt; deployment.scripts.len(), 1);
+    let script = deployment.scripts.get(0).ok_or("a script")?;
+    assert!(rt; script.name == up);
+    let steps = serde_json::Value::from_str(
+        rt.alloc(),
+        "[[\"set\",\"n\",[\"add\",[\"field\",\"n\"],1]],[\"give\",[\"field\",\"n\"]]]",
+    )?;
+    assert!(rt; *script.steps.as_value() == steps);
+    Ok(())
+}
+
+#[test]
+fn what_is_missing(rt: HostRuntime) -> Result<(), Fail> {
+    let text =
+        "{\"classes\":[{\"name\":\"K\",\"bean\":{},\"fields\":[{\"name\":\"a\"},{\"name\":\"b\",\"value\":\"?\"},{\"name\":\"c\",\"value\":-7}]},{\"name\":\"Object\",\"members\":[{\"kind\":\"method\",\"name\":\"m\",\"body\":\"a\",\"args\":8}]}]}";
+    let deployment = read(rt.alloc(), text.as_bytes())?;
+    assert_eq!(rt; deployment.classes.len(), 2);
+    assert!(rt; deployment.scripts.is_empty());
+    let bean = deployment.classes.get(0).ok_or("a bean")?;
+    assert!(rt;
+        bean.bean
+            == Some(Bean {
+                scope: Scope::Dependent
+            })
+    );
+    assert!(rt; bean.members.is_empty());
+    for (index, expected) in [(0, "Null"), (1, "Text"), (2, "Int(-7)")] {
+        let field = bean.fields.get(index).ok_or("a field")?;
+        let value = &field.value;
+        let shown = format!(in rt.alloc(); "{value:?}")?;
+        assert!(rt; shown.as_str().starts_with(expected), "{shown}");
+    }
+    let class = deployment.classes.get(1).ok_or("a class")?;
+    assert!(rt; class.name == BuiltIn::Object.name());
+    assert!(rt; class.bean.is_none() && class.fields.is_empty());
+    let Some(Member::Method(method)) = class.members.get(0) else {
+        return Err(Fail::from("a method"));
+    };
+    assert_eq!(rt; method.args, 8);
+    assert!(rt; Some(method.body) == deployment.names.find("a"));
+    Ok(())
+}
