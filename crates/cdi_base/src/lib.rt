@@ -12,10 +12,10 @@ pub mod place;
 pub mod reading;
 pub mod reply;
 pub mod seq;
-pub mod text;
-pub mod uses;
 #[cfg(test)]
 mod tests;
+pub mod text;
+pub mod uses;
 pub mod value;
 
 pub use act::{Act, Answer, Via};

@@ -1,7 +1,7 @@
 use crate::built_in::ALL;
 use crate::{
-    Act, Answer, BuiltIn, Cause, Fields, InternError, Limits, MemberValue, Name, Names, Refusal, Seq,
-    Text, Use, Value, Via, is_name,
+    Act, Answer, BuiltIn, Cause, Fields, InternError, Limits, MemberValue, Name, Names, Refusal,
+    Seq, Text, Use, Value, Via, is_name,
 };
 use std::alloc::Global;
 use std::process::Abort;
@@ -191,7 +191,10 @@ fn keeps_limits_in_range(rt: HostRuntime) {
 #[test]
 fn writes_words(rt: HostRuntime) -> Result<(), Fail> {
     let alloc = rt.alloc();
-    assert_eq!(rt; format!(in alloc; "{}", Refusal::BadLine)?.as_str(), "BadLine");
+    assert_eq!(rt;
+        format!(in alloc; "{}", Refusal::BadLine)?.as_str(),
+        "BadLine"
+    );
     assert_eq!(rt; Refusal::TooManySessions.word(), "TooManySessions");
     assert_eq!(rt; format!(in alloc; "{}", Cause::Memory)?.as_str(), "memory");
     let error: crate::ReadError<Cause> = crate::ReadError::Fault(Cause::Depth);

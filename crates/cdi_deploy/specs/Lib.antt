@@ -8,3 +8,4 @@ pub mod Parts
 pub mod Items
 pub mod Limits
 pub mod Reading
+pub mod KnownNames

@@ -1,11 +1,20 @@
 //! Laws of the definitions that the contracts cite.
-ghost use Rattle.std.specs.Prelude.{◌≡◌, ◌↔◌, None};
+ghost use Rattle.std.specs.Prelude.{◌≡◌, ◌↔◌, ℕ, List, None, IfOk};
 ghost use Rattle.serde_json.specs.Data.{Data};
 ghost use Rattle.cdi_deploy.specs.HasForm.{HasForm};
-ghost use Rattle.cdi_deploy.specs.Reading.{root};
+ghost use Rattle.cdi_deploy.specs.KnownNames.{KnowsNames};
+ghost use Rattle.cdi_deploy.specs.Reading.{deployment_in};
 ghost use Rattle.cdi_deploy.specs.Shape.{wrong};
+ghost use Rattle.cdi_deploy.specs.declared.form.Part.{Part as AnyPart};
 
-/// No place of a value is wrong exactly where the value is of the form of a deployment.
+/// No place of a value is wrong exactly where the value is of the form of its part. So a deployment is refused as
+/// [`crate::ReadFault::Shape`] only where its value isn't of the form of a deployment.
 pub fn law_form()
-    ensures { (d : Data) → (wrong d root ≡ None) ↔ HasForm root d }
+    ensures { (part : AnyPart) (d : Data) → (wrong d part ≡ None) ↔ HasForm part d }
+{}
+
+/// Each name in the lists of a deployment that was read is a name of its table, so that [`cdi_base::Names::text`] may
+/// be asked for its text.
+pub fn law_known_names()
+    ensures { (bytes : List ℕ) → IfOk (deployment_in bytes) KnowsNames }
 {}

@@ -1,13 +1,17 @@
-// A library with one function.
+//! Scripts: bodies that are written in a deployment.
 #![tactic(auto)]
 
-ghost use Rattle.std.specs.Prelude.{◌≡◌};
-ghost use Rattle.cdi_script.specs.Echo.{echo_of};
+mod build;
+pub mod expression;
+pub mod fault;
+mod form;
+pub mod next;
+pub mod script;
+pub mod shape;
+pub mod step;
+pub mod value;
 
-// The `ensures` clause is the contract: what `echo` returns is `echo_of` of its argument, a definition
-// in `specs/Echo.antt`, which a caller's clause can cite too.
-pub fn echo(x: usize) -> usize
-    ensures { result ≡ echo_of x }
-{
-    x
-}
+pub use expression::Expression;
+pub use fault::ScriptFault;
+pub use script::{MAX_STEPS, Script};
+pub use step::{Action, Step};

@@ -1,0 +1,59 @@
+-- The runs of a program.
+use Rattle.std.specs.Prelude.{ℕ, ◌≡◌, ◌-◌, ◌^◌, ◌<◌, ◌≤◌, List, length, Option, Some, None}
+use Rattle.cdi_base.specs.declared.value.Value.{Value}
+use Rattle.cdi_base.specs.declared.act.Act.{Act}
+use Rattle.cdi_base.specs.declared.entry.Entry.{Entry}
+use Rattle.cdi_base.specs.declared.entry.Entry.TheVariants as entries
+use Rattle.cdi_base.specs.declared.reply.Cause.{Cause}
+use Rattle.cdi_base.specs.declared.reply.Cause.TheVariants as causes
+use Rattle.cdi_bodies.specs.declared.view.View.{View}
+use Rattle.cdi_deploy.specs.declared.deployment.Scope.{Scope}
+use Rattle.cdi_deploy.specs.declared.deployment.Scope.TheVariants as scopes
+use Rattle.cdi_plain.specs.declared.bean.Tables.{Tables}
+use Rattle.cdi_plain.specs.declared.task.Call.{Call}
+use Rattle.cdi_plain.specs.declared.task.Completion.{Completion}
+use Rattle.cdi_plain.specs.declared.task.Completion.TheVariants as completions
+use Rattle.cdi_plain.specs.declared.task.Outcome.{Outcome}
+use Rattle.cdi_plain.specs.declared.task.Outcome.TheVariants as outcomes
+use Rattle.cdi_plain.specs.World.{World, Change, changed, written, HasRoom, next_number}
+use Rattle.cdi_plain.specs.Programs.{Place, Content, content, Prog, ret, throw, cut, find, scoped, deeper, fresh, change, tick, act, choose, nested}
+use Rattle.cdi_plain.specs.Machine.{machine}
+
+-- which act a body may give, by its number, the fields of its instance and its view
+abbrev pub Gives : Type 1
+Gives = ℕ → List (ℕ × Value) → View → Act → Type 0
+
+-- what is left after a call
+abbrev pub after : Outcome → (Completion → Prog Value) → Prog Value
+after (outcomes.Value v) k = k (completions.Value v)
+after (outcomes.Threw x) k = k (completions.Threw x)
+after (outcomes.Cut cause) k = cut cause
+
+-- the command may give so many entries as before, and has given the same
+pub record SameTrace (w v : World) : Type 0 where
+  pub trace : v.trace ≡ w.trace
+  pub ticks : v.ticks ≡ w.ticks
+
+-- The program may come to this outcome, from the one world to the other. A body gives any act that `gives` allows, and
+-- of several candidates any one is picked. Where `Starved` holds, memory may run out at any point.
+pub data Runs (tables : Tables) (gives : Gives) (Starved : Type 0) : Prog Value → World → Outcome → World → Type 0 where
+  returns : {v : Value} {w : World} → Runs tables gives Starved (ret v) w (outcomes.Value v) w
+  throws : {x : ℕ} {w : World} → Runs tables gives Starved (throw x) w (outcomes.Threw x) w
+  cuts : {cause : Cause} {w : World} → Runs tables gives Starved (cut cause) w (outcomes.Cut cause) w
+  finds : {p : Place} {n : Prog Value} {k : Content p → Prog Value} {w v : World} {o : Outcome} (x : Content p) → content tables w p ≡ Some x → Runs tables gives Starved (k x) w o v → Runs tables gives Starved (find p n k) w o v
+  finds_none : {p : Place} {n : Prog Value} {k : Content p → Prog Value} {w v : World} {o : Outcome} → content tables w p ≡ None → Runs tables gives Starved n w o v → Runs tables gives Starved (find p n k) w o v
+  shares : {s : Scope} {p q : Prog Value} {w v : World} {o : Outcome} → s ≡ scopes.ApplicationScoped → Runs tables gives Starved p w o v → Runs tables gives Starved (scoped s p q) w o v
+  depends : {s : Scope} {p q : Prog Value} {w v : World} {o : Outcome} → s ≡ scopes.Dependent → Runs tables gives Starved q w o v → Runs tables gives Starved (scoped s p q) w o v
+  too_deep : {d : ℕ} {k : ℕ → Prog Value} {w : World} → d ≡ 0 → Runs tables gives Starved (deeper d k) w (outcomes.Cut causes.Depth) w
+  goes_deeper : {d : ℕ} {k : ℕ → Prog Value} {w v : World} {o : Outcome} → 0 < d → Runs tables gives Starved (k (d - 1)) w o v → Runs tables gives Starved (deeper d k) w o v
+  no_number : {k : ℕ → Prog Value} {w : World} → 2 ^ 32 ≤ next_number w → Runs tables gives Starved (fresh k) w (outcomes.Cut causes.Numbers) w
+  numbers : {k : ℕ → Prog Value} {w v : World} {o : Outcome} → next_number w < 2 ^ 32 → Runs tables gives Starved (k (next_number w)) w o v → Runs tables gives Starved (fresh k) w o v
+  changes : {g : Change} {p : Prog Value} {w v : World} {o : Outcome} → Runs tables gives Starved p (changed g w) o v → Runs tables gives Starved (change g p) w o v
+  writes : {e : Entry} {p : Prog Value} {w v : World} {o : Outcome} → HasRoom w → Runs tables gives Starved p (written e w) o v → Runs tables gives Starved (tick e p) w o v
+  is_full : {e : Entry} {p : Prog Value} {w : World} → w.ticks ≤ length w.trace → Runs tables gives Starved (tick e p) w (outcomes.Cut causes.Ticks) w
+  does : {b : ℕ} {fields : List (ℕ × Value)} {view : View} {k : Act → Prog Value} {w v : World} {o : Outcome} (a : Act) → gives b fields view a → Runs tables gives Starved (tick (entries.Did a) (k a)) w o v → Runs tables gives Starved (act b fields view k) w o v
+  has_none : {n : ℕ} {p : Prog Value} {k : ℕ → Prog Value} {w v : World} {o : Outcome} → n ≡ 0 → Runs tables gives Starved p w o v → Runs tables gives Starved (choose n p k) w o v
+  has_one : {n : ℕ} {p : Prog Value} {k : ℕ → Prog Value} {w v : World} {o : Outcome} → n ≡ 1 → Runs tables gives Starved (k 0) w o v → Runs tables gives Starved (choose n p k) w o v
+  picks : {n : ℕ} {p : Prog Value} {k : ℕ → Prog Value} {w v : World} {o : Outcome} (i : ℕ) → 2 ≤ n → i < n → Runs tables gives Starved (tick (entries.Pick n i) (k i)) w o v → Runs tables gives Starved (choose n p k) w o v
+  calls : {c : Call} {k : Completion → Prog Value} {w u v : World} {o1 o : Outcome} → Runs tables gives Starved (machine c) w o1 u → Runs tables gives Starved (after o1 k) u o v → Runs tables gives Starved (nested c k) w o v
+  starves : {p : Prog Value} {w v : World} → Starved → SameTrace w v → Runs tables gives Starved p w (outcomes.Cut causes.Memory) v

@@ -1,0 +1,171 @@
+//! What a script does next.
+ghost use Rattle.std.specs.Prelude.{◌≡◌, ◌≤◌, ◌<◌, ◌^◌, length, IfOk, option_map};
+ghost use Rattle.cdi_script.specs.Next as spec;
+ghost use Rattle.cdi_script.specs.Reached as reaching;
+
+use crate::expression::Expression;
+use crate::script::Script;
+use crate::step::{Action, Step};
+use cdi_base::{Act, Answer, Fields, Seq, Value};
+use cdi_bodies::View;
+use std::alloc::{AllocError, Global};
+
+fn threw(answer: &Answer) -> bool
+    ensures { result ≡ reaching.threw answer.now }
+{
+    match answer {
+        Answer::Threw { .. } => true,
+        _ => false,
+    }
+}
+
+/// The steps from the next catch on, or from the next that is none.
+fn from_next(catches: bool, steps: &[Step]) -> &[Step]
+    ensures { result.now ≡ reaching.from_next catches steps.now }
+{
+    let mut left = steps;
+    while let Some((step, more)) = left.split_first() {
+        if step.is_catch == catches {
+            return left;
+        }
+        left = more;
+    }
+    left
+}
+
+fn passed(steps: &[Step]) -> &[Step]
+    ensures { result.now ≡ reaching.passed steps.now }
+{
+    match steps.split_first() {
+        Some((_, more)) => more,
+        None => steps,
+    }
+}
+
+/// The steps from the one reached on.
+fn reached<'a>(steps: &'a [Step], answers: &[Answer]) -> &'a [Step]
+    ensures { result.now ≡ reaching.reached steps.now answers.now }
+{
+    let mut left = from_next(false, steps);
+    for answer in answers {
+        left = from_next(threw(answer), passed(left));
+    }
+    left
+}
+
+fn is_lookup(action: &Action) -> bool
+    ensures { result ≡ spec.is_lookup action.now }
+{
+    match action {
+        Action::Find { .. } => true,
+        _ => false,
+    }
+}
+
+fn lookups_in(steps: &[Step]) -> usize
+    ensures count { result ≡ spec.lookups_in steps.now }
+    ensures within { result ≤ length steps.now }
+{
+    steps.iter().filter(|step| is_lookup(&step.action)).count()
+}
+
+fn values_of(
+    alloc: Global,
+    args: &[Expression],
+    fields: &Fields,
+    view: &View,
+) -> Result<Seq<Value>, AllocError>
+    ensures { IfOk result (λ values. values ≡ spec.values_of args.now fields.now view.now) }
+{
+    let mut values = Vec::new(alloc);
+    for arg in args {
+        values.push(arg.value(alloc, fields, view)?)?;
+    }
+    Ok(Seq::new(values))
+}
+
+#[tactic(auto, using(cdi_base::proofs::Clones::same_items))]
+fn act_of(
+    alloc: Global,
+    lookup: u32,
+    action: &Action,
+    fields: &Fields,
+    view: &View,
+) -> Result<Act, AllocError>
+    ensures { IfOk result (λ act. act ≡ spec.act_of lookup action.now fields.now view.now) }
+{
+    Ok(match action {
+        Action::Set { field, value } => Act::Set {
+            field: *field,
+            value: value.value(alloc, fields, view)?,
+        },
+        Action::Call { via, method, args } => Act::Call {
+            via: *via,
+            method: *method,
+            args: values_of(alloc, args.as_slice(), fields, view)?,
+        },
+        Action::Own { method, args } => Act::Own {
+            method: *method,
+            args: values_of(alloc, args.as_slice(), fields, view)?,
+        },
+        Action::Read { via } => Act::Read { via: *via },
+        Action::Write { via, value } => Act::Write {
+            via: *via,
+            value: value.value(alloc, fields, view)?,
+        },
+        Action::Fire {
+            class,
+            qualifiers,
+            value,
+        } => Act::Fire {
+            class: *class,
+            qualifiers: qualifiers.clone()?,
+            value: value.value(alloc, fields, view)?,
+        },
+        Action::Proceed => Act::Proceed { args: None },
+        Action::ProceedWith { args } => Act::Proceed {
+            args: Some(values_of(alloc, args.as_slice(), fields, view)?),
+        },
+        Action::Find { .. } => Act::Find { lookup },
+        Action::Keep { key, value } => Act::Keep {
+            key: *key,
+            value: value.value(alloc, fields, view)?,
+        },
+        Action::Peek { key } => Act::Peek { key: *key },
+        Action::Give { value } => Act::Give {
+            value: value.value(alloc, fields, view)?,
+        },
+        Action::Throw { exception } => Act::Throw {
+            exception: *exception,
+        },
+    })
+}
+
+fn end_act(last: Option<&Answer>) -> Act
+    ensures { result ≡ spec.end_act (option_map (λ x. x.now) last.entry) }
+{
+    match last {
+        Some(Answer::Threw { exception, .. }) => Act::Throw {
+            exception: *exception,
+        },
+        _ => Act::Give { value: Value::Null },
+    }
+}
+
+impl Script {
+    /// What a body with this script does next. At the start, and after an answer that is no exception, it takes the
+    /// next step that is no catch; after an exception it takes the next catch, and where there is none it throws the
+    /// exception on. Where no step is left otherwise, it gives null. The place in the script only moves forward, so
+    /// that no step is taken twice.
+    pub fn next(&self, alloc: Global, fields: &Fields, view: &View) -> Result<Act, AllocError>
+        ensures { IfOk result (λ act. act ≡ spec.next_of self.now fields.now view.now) }
+    {
+        let steps = self.steps.as_slice();
+        let left = reached(steps, view.answers.as_slice());
+        let Some(step) = left.first() else {
+            return Ok(end_act(view.answers.as_slice().last()));
+        };
+        let lookup = lookups_in(steps).saturating_sub(lookups_in(left)) as u32;
+        act_of(alloc, lookup, &step.action, fields, view)
+    }
+}

@@ -1,0 +1,75 @@
+//! Scripts, and reading them.
+ghost use Rattle.std.specs.Prelude.{◌≡◌, ◌≤◌, ◌↔◌, [], length, IsTrue, IfErr, OnErr, Err, slice_get, Some};
+ghost use Rattle.cdi_base.specs.Reading.{Gives};
+ghost use Rattle.serde_json.specs.View.{view};
+ghost use Rattle.cdi_script.specs.Build as spec;
+
+use crate::build::{bad, each};
+use crate::fault::ScriptFault;
+use crate::form::are_steps;
+use crate::step::Step;
+use cdi_base::{Names, ReadError, Seq};
+use serde_json::Value as Json;
+use std::alloc::Global;
+use std::marker::Model;
+
+/// The most steps that a script has.
+pub const MAX_STEPS: usize = 256;
+
+/// A script, which contracts see as the list of its steps.
+#[derive(Debug, Drop)]
+pub struct Script {
+    pub(crate) steps: Seq<Step>,
+}
+
+impl Model for Script {
+    ghost use Rattle.std.specs.Prelude.{List, ◌≤◌, length};
+    ghost use Rattle.cdi_script.specs.declared.step.Step.{Step as AnyStep};
+
+    ghost Value = { List AnyStep };
+
+    ghost view = { λ s. s.steps };
+
+    ghost invariant = { λ s. length s.steps ≤ 256 };
+}
+
+impl Script {
+    /// The script that a value is: an array of at most [`MAX_STEPS`] steps. Its names go into the table. A value that
+    /// is no script, or one that is too long, leaves the table as it was; where the table is full or memory runs out,
+    /// the table may have got some names of the script.
+    pub fn read(
+        alloc: Global,
+        value: &Json,
+        names: &mut Names,
+    ) -> Result<Script, ReadError<ScriptFault>>
+        ensures { Gives (λ script. (script, names.new)) result (spec.script_of names.old (view value.now)) }
+    {
+        let Json::Array(items) = value else {
+            return bad();
+        };
+        let items = items.as_slice();
+        if !are_steps(items) {
+            return bad();
+        }
+        if items.len() > MAX_STEPS {
+            return Err(ReadError::Fault(ScriptFault::TooLong));
+        }
+        let steps = each::<Step>(alloc, names, items)?;
+        Ok(Script { steps })
+    }
+
+    /// How many steps there are.
+    pub fn len(&self) -> usize
+        ensures count { result ≡ length self.now }
+        ensures within { length self.now ≤ MAX_STEPS }
+    {
+        self.steps.len()
+    }
+
+    /// Whether there is no step.
+    pub fn is_empty(&self) -> bool
+        ensures { IsTrue result ↔ (self.now ≡ []) }
+    {
+        self.steps.is_empty()
+    }
+}
