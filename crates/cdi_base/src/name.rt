@@ -1,5 +1,5 @@
 //! Names, and the table that numbers them.
-ghost use Rattle.std.specs.Prelude.{◌≡◌, [], ◌<◌, ◌≤◌, ◌↔◌, false, length, slice_get, position, bytes_eq, Some, IsTrue, IfOk, OnOk, OnErr, IsErrOf};
+ghost use Rattle.std.specs.Prelude.{◌≡◌, [], ◌<◌, ◌≤◌, ◌↔◌, false, length, slice_get, option_map, position, bytes_eq, Some, IsTrue, IfOk, OnOk, OnErr, IsErrOf};
 ghost use Rattle.std.specs.List.{list_all};
 ghost use Rattle.cdi_base.specs.Name as spec;
 ghost use Rattle.cdi_base.specs.declared.name.InternError.TheVariants.{Memory};
@@ -166,6 +166,16 @@ impl Names {
         ensures one_to_one { spec.number_of self.now result.now ≡ name }
     {
         self.texts.get_index(name.number as usize).unwrap().as_str()
+    }
+
+    /// The text of a name, if it is a name of this table.
+    pub fn get(&self, name: Name) -> Option<&str>
+        ensures { option_map (λ t. t.now) result ≡ slice_get self.now name }
+    {
+        match self.texts.get_index(name.number as usize) {
+            Some(text) => Some(text.as_str()),
+            None => None,
+        }
     }
 
     /// The name of a text, if the table holds it.

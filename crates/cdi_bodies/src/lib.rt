@@ -6,10 +6,9 @@ pub mod entry;
 pub mod error;
 pub mod shape;
 pub mod table;
-pub mod view;
-
 #[cfg(test)]
 mod tests;
+pub mod view;
 
 pub use chooser::{Choice, Chooser};
 pub use entry::Body;

@@ -10,14 +10,14 @@ use std::alloc::Global;
 pub struct MethodCall {
     pub via: Via,
     pub method: Name,
-    pub count: u32,
+    pub count: usize,
 }
 
 /// A method of the body's own instance that it may call: its name, and the number of values.
 #[derive(Debug, PartialEq, Eq, Drop)]
 pub struct OwnCall {
     pub method: Name,
-    pub count: u32,
+    pub count: usize,
 }
 
 /// An event that a body may fire: its class, and its qualifiers as they were written.

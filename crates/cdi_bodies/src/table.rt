@@ -165,6 +165,5 @@ impl Bodies {
     /// Whatever a body of a table may give lies in its shape.
     pub fn gives_in_shape(_bodies: &Bodies)
         ensures { LieInShape (entries_of _bodies.now) }
-    {
-    }
+    {}
 }

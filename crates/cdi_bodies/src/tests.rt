@@ -65,7 +65,8 @@ fn asks_what_was_captured(rt: HostRuntime) -> Result<(), Fail> {
     let act = bodies.next(id, &Fields::new(alloc), &begun(alloc))?;
     let Act::Give {
         value: Value::Text(text),
-    } = act else {
+    } = act
+    else {
         panic!(rt; "the body gives its text");
     };
     assert_eq!(rt; text.as_str(), "kept");
@@ -123,13 +124,20 @@ fn holds_4096_bodies(rt: HostRuntime) -> Result<(), Fail> {
 
 #[test]
 fn chooses_below_the_count(rt: HostRuntime) -> Result<(), Fail> {
-    let choice: Choice = Box::new(rt.alloc(), |count: u32, entries: u64| -> u32
-        requires { 0 < count }
-        ensures { result ≡ entries % count }
-    { (entries % u64::from(count)) as u32 })?;
+    let choice: Choice = Box::new(
+        rt.alloc(),
+        |count: u32, entries: u64| -> u32
+            requires { 0 < count }
+            ensures { result ≡ entries % count }
+        { (entries % u64::from(count)) as u32 },
+    )?;
     let chooser = Chooser::new(choice);
     for (count, entries, chosen) in [(1, 9, 0), (3, 7, 1), (4, 3, 3)] {
-        assert_eq!(rt; chooser.choose(count, entries), chosen, "{count} at {entries}");
+        assert_eq!(rt;
+            chooser.choose(count, entries),
+            chosen,
+            "{count} at {entries}"
+        );
     }
     Ok(())
 }

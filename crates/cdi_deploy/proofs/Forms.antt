@@ -1,5 +1,5 @@
 -- No place of a value is wrong exactly where the value is of the form that is wanted.
-use Rattle.std.proofs.Common.{◌≡◌, ◌∙◌, ℕ, ◌+◌, ◌≤◌, ◌==◌, nat_le, ◌&&◌, ◌⊎◌, inl, inr, Bool, true, false, List, [], Option, Some, None, option_and_then, codes, if◌then◌else◌, refl, sym, ap, ap₂, subst, arith, rules}
+use Rattle.std.proofs.Common.{◌≡◌, ◌∙◌, ℕ, ◌+◌, ◌&&◌, inl, inr, Bool, true, false, List, [], Option, Some, None, option_and_then, codes, if◌then◌else◌, refl, sym, ap, ap₂, subst}
 use Rattle.std.proofs.lemmas.Bool.{eqb-true, leb-true, le-leb}
 use Rattle.std.proofs.lemmas.List.Sums.{AllPass-from_list_all, list_all-from_AllPass}
 use Rattle.std.specs.Option.{is_some}
@@ -8,11 +8,11 @@ use Rattle.serde_json.specs.Find.{as_str, get_member}
 use Rattle.cdi_deploy.specs.declared.form.Kind.{Kind}
 use Rattle.cdi_deploy.specs.declared.form.Part.{Part}
 use Rattle.cdi_deploy.specs.declared.form.Part.TheVariants as parts
-use Rattle.cdi_deploy.specs.Form.{required, part_at, member_kind, kind_of, is_scope, has_required, are_listed, has_right_keys}
-use Rattle.cdi_deploy.specs.HasForm.{HasItem, HasMember, HasRequired, AreListed, NamesKind, HasForm, one, name, null_value, number_value, text_value, count, scope, kind_text, steps, an_object, objects, a_member, members}
-use Rattle.cdi_deploy.specs.Shape.{may_be_null, may_be_number, may_be_text, is_one, is_count, here_unless, under, or_else, in_kind, at_part, wrong, wrong_items, wrong_members}
+use Rattle.cdi_deploy.specs.Form.{required, part_at, member_kind, kind_of, are_listed, has_right_keys}
+use Rattle.cdi_deploy.specs.HasForm.{HasItem, HasMember, HasRequired, AreListed, HasForm, one, name, null_value, number_value, text_value, count, scope, kind_text, steps, an_object, objects, a_member, members}
+use Rattle.cdi_deploy.specs.Shape.{here_unless, under, or_else, in_kind, at_part, wrong, wrong_items, wrong_members}
 
-both : (a b : Bool) → (a && b) ≡ true → (a ≡ true) × (b ≡ true)
+pub both : (a b : Bool) → (a && b) ≡ true → (a ≡ true) × (b ≡ true)
 both true b e = (refl, e)
 both false b e = absurd cc
 

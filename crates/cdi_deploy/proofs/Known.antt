@@ -1,5 +1,5 @@
 -- What is read into a table names only names of the table.
-use Rattle.std.proofs.Common.{◌≡◌, ◌∙◌, ℕ, suc, ◌+◌, ◌<◌, ◌≤◌, nat_lt, not, ◌==◌, Bool, true, false, cond, ◌||◌, List, [], ◌∷◌, ◌++◌, length, codes, Option, Some, None, Result, Ok, Err, IfOk, bytes_eq, if◌then◌else◌, refl, sym, ap, subst, arith}
+use Rattle.std.proofs.Common.{◌≡◌, ℕ, ◌+◌, ◌<◌, ◌≤◌, nat_lt, not, Bool, true, false, cond, ◌||◌, List, [], ◌∷◌, ◌++◌, length, codes, Option, Some, None, Result, Ok, Err, IfOk, bytes_eq, if◌then◌else◌, refl, arith}
 use Rattle.std.proofs.lemmas.List.{length-append}
 use Rattle.std.proofs.lemmas.List.Elements.{All-cons, All-nil, All-weaker}
 use Rattle.std.specs.List.{All, list_any, position_or_len}
@@ -14,7 +14,6 @@ use Rattle.cdi_deploy.specs.declared.deployment.Deployment.{Deployment}
 use Rattle.cdi_deploy.specs.declared.deployment.Member.{Member}
 use Rattle.cdi_deploy.specs.declared.deployment.Member.TheVariants as variants
 use Rattle.cdi_deploy.specs.declared.deployment.Method.{Method}
-use Rattle.cdi_deploy.specs.declared.deployment.Script.{Script}
 use Rattle.cdi_deploy.specs.Items.{Reads, named, each, maybe, bean_at, field_at, method_at, member_at, class_at, script_at, lists_of}
 use Rattle.cdi_deploy.specs.KnownNames.{KnowsField, KnowsMember, KnowsClass, KnowsScript, KnowsNames}
 use Rattle.cdi_deploy.specs.Limits.{is_within}
@@ -126,7 +125,7 @@ class-keeps : (m n : ℕ) (c : Class) → m ≤ n → KnowsClass m c → KnowsCl
 class-keeps m n c le h = record {
   name = omega (arith, h.name);
   fields = All-weaker (KnowsField m) (KnowsField n) (λ f known. omega (arith, known)) c.fields h.fields;
-  members = All-weaker (KnowsMember m) (KnowsMember n) (λ x known. member-keeps m n x le known) c.members h.members
+  members = All-weaker (KnowsMember m) (KnowsMember n) (λ x known. member-keeps m n x le known) c.members h.members;
 }
 
 class-knows : (names : List (List ℕ)) (d : Data) → IfOk (class_at names d) (Knows KnowsClass names)
@@ -136,11 +135,14 @@ class-knows names d =
     (λ name a. both_hold (λ p. length name.1 ≤ length p.1) (Knows KnowsClass names) (maybe bean_at name.1 (get (codes "bean") d)) _ (bean-knows name.1 _)
     (λ bean b. both_hold (Knows (λ count xs. All (KnowsField count) xs) bean.1) (Knows KnowsClass names) (each field_at bean.1 (list_of (get (codes "fields") d))) _ (fields-of bean.1 _)
     (λ fields c. both_hold (Knows (λ count xs. All (KnowsMember count) xs) fields.1) (Knows KnowsClass names) (each member_at fields.1 (list_of (get (codes "members") d))) _ (members-of fields.1 _)
-    (λ members e. (omega (arith, a.0, b, c.0, e.0), record {
-      name = omega (arith, a.1, b, c.0, e.0);
-      fields = All-weaker (KnowsField (length fields.1)) (KnowsField (length members.1)) (λ f known. omega (arith, known, e.0)) fields.0 c.1;
-      members = e.1
-    })))))
+    (λ members e. (
+      omega (arith, a.0, b, c.0, e.0),
+      record {
+        name = omega (arith, a.1, b, c.0, e.0);
+        fields = All-weaker (KnowsField (length fields.1)) (KnowsField (length members.1)) (λ f known. omega (arith, known, e.0)) fields.0 c.1;
+        members = e.1;
+      },
+    )))))
 
 classes-of : (names : List (List ℕ)) (ds : Items) → IfOk (each class_at names ds) (Knows (λ count xs. All (KnowsClass count) xs) names)
 classes-of = each-knows KnowsClass class-keeps class_at class-knows
@@ -155,7 +157,7 @@ lists-know d =
     (λ classes a. both_hold (Knows (λ count xs. All (KnowsScript count) xs) classes.1) KnowsNames (each script_at classes.1 (list_of (get (codes "scripts") d))) _ (scripts-of classes.1 _)
     (λ scripts b. record {
       classes = All-weaker (KnowsClass (length classes.1)) (KnowsClass (length scripts.1)) (λ c known. class-keeps (length classes.1) (length scripts.1) c b.0 known) classes.0 a.1;
-      scripts = b.1
+      scripts = b.1;
     }))
 
 within-knows : (d : Deployment) → KnowsNames d → IfOk (within_limits d) KnowsNames

@@ -1,3 +1,4 @@
 pub mod Each
 pub mod Forms
 pub mod Known
+pub mod NamePlaces

@@ -1,5 +1,5 @@
 -- A code for JSON data, by which the prover tells its values apart.
-use Rattle.std.specs.Prelude.{◌≡◌, ℕ, ℤ, List, Bool, Float, refl}
+use Rattle.std.specs.Prelude.{◌≡◌, ℕ, List, refl}
 use Rattle.std.proofs.Common.{ap, ap₂}
 use base.Stored.{Gv, gnil, gnum, gcons, Coded, coded_ℕ, coded_ℤ, coded_bool, coded_list, coded_float}
 use Rattle.serde_json.specs.Data.{Num, unsigned, negative, float, Data, null, boolean, number, string, array, object, Items, no_items, item, Members, no_members, member}

@@ -1,5 +1,5 @@
 -- Which values are of the form of a part, said apart from any way to look for it.
-use Rattle.std.specs.Prelude.{◌≡◌, ℕ, ◌≤◌, ◌⊎◌, List, codes, IsTrue, Option, Some}
+use Rattle.std.specs.Prelude.{◌≡◌, ℕ, ◌≤◌, ◌⊎◌, List, codes, IsTrue, Some}
 use Rattle.std.specs.List.{AllPass}
 use Rattle.std.specs.Option.{is_some}
 use Rattle.serde_json.specs.Data.{Num, unsigned, Data, null, number, string, array, object, Items, no_items, item, Members, no_members, member}
@@ -31,6 +31,7 @@ AreListed kind ms = (key : List ℕ) (d : Data) → HasMember ms key d → IsTru
 abbrev pub NamesKind : Members → Kind → Type 0
 NamesKind ms kind = (word : List ℕ) × (get_member (codes "kind") ms ≡ Some (string word)) × (member_kind word ≡ Some kind)
 
+-- a value is of the form of a part
 pub data HasForm : Part → Data → Type 0 where
   -- the number of the form is 1
   one : HasForm parts.FormNumber (number (unsigned 1))

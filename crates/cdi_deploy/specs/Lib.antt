@@ -9,3 +9,4 @@ pub mod Items
 pub mod Limits
 pub mod Reading
 pub mod KnownNames
+pub mod NamePlaces

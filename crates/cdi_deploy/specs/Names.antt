@@ -1,7 +1,7 @@
 -- Each text in the place of a name is a name.
 use Rattle.std.specs.Prelude.{ℕ, Bool, true, ◌&&◌, List, Option, Some, None}
 use Rattle.cdi_base.specs.Name.{is_name}
-use Rattle.serde_json.specs.Data.{Data, null, boolean, number, string, array, object, Items, no_items, item, Members, no_members, member}
+use Rattle.serde_json.specs.Data.{Data, string, array, object, Items, no_items, item, Members, no_members, member}
 use Rattle.cdi_deploy.specs.declared.form.Kind.{Kind}
 use Rattle.cdi_deploy.specs.declared.form.Part.{Part}
 use Rattle.cdi_deploy.specs.declared.form.Part.TheVariants as parts

@@ -28,7 +28,8 @@ fn each<T: Item>(
     names: &mut Names,
     values: &[Json],
 ) -> Result<Seq<T>, ReadError<ReadFault>>
-    ensures { Gives (λ items. (items, names.new)) result (spec.each T.reading names.old (items_view values.now)) }
+    ensures { Gives (λ items. (items, names.new)) result
+        (spec.each T.reading names.old (items_view values.now)) }
 {
     let mut items = Vec::new(alloc);
     for value in values {
@@ -43,7 +44,8 @@ fn maybe<T: Item>(
     names: &mut Names,
     value: Option<&Json>,
 ) -> Result<Option<T>, ReadError<ReadFault>>
-    ensures { Gives (λ item. (item, names.new)) result (spec.maybe T.reading names.old (option_map (λ v. view v.now) value.entry)) }
+    ensures { Gives (λ item. (item, names.new)) result
+        (spec.maybe T.reading names.old (option_map (λ v. view v.now) value.entry)) }
 {
     match value {
         None => Ok(None),

@@ -1,1 +1,5 @@
-
+pub mod Eligible
+pub mod Rules
+pub mod Known
+pub mod Sound
+pub mod Cost

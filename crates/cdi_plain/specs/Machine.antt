@@ -68,8 +68,8 @@ made n bean = do
   plan ← bean_at bean
   alter (Make bean (first_fields plan.fields))
   scoped plan.scope
-    (alter (Hold bean held.Making) >> note (entries.Ready n) >> stored n bean)
-    (note (entries.Ready n) >> stored n bean)
+      (alter (Hold bean held.Making) >> note (entries.Ready n) >> stored n bean)
+      (note (entries.Ready n) >> stored n bean)
 
 abbrev pub create : ℕ → ℕ → Prog Value
 create n bean = do
@@ -147,8 +147,8 @@ ended n = do
   alter (Put n (record o { phase = phases.Ending }))
   plan ← bean_at o.bean
   scoped plan.scope
-    (alter (Hold o.bean held.Absent) >> run (calls.Release n))
-    (run (calls.Release n))
+      (alter (Hold o.bean held.Absent) >> run (calls.Release n))
+      (run (calls.Release n))
 
 abbrev pub destroy : ℕ → Prog Value
 destroy n = do
@@ -198,8 +198,8 @@ used method args resolutions.Many = raise built_in.AmbiguousResolutionException
 used method args (resolutions.One bean) = do
   plan ← bean_at bean
   scoped plan.scope
-    (run (calls.Obtain bean) >> reached bean method args)
-    (fresh λ n. run (calls.Create n bean) >> borrowed n bean method args)
+      (run (calls.Obtain bean) >> reached bean method args)
+      (fresh λ n. run (calls.Create n bean) >> borrowed n bean method args)
 
 abbrev pub call_bean : ℕ → ℕ → List Value → Prog Value
 call_bean type method args = do

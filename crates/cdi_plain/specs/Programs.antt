@@ -12,7 +12,7 @@ use Rattle.cdi_bodies.specs.declared.view.View.{View}
 use Rattle.cdi_deploy.specs.declared.deployment.Scope.{Scope}
 use Rattle.cdi_plain.specs.declared.bean.Bean.{Bean}
 use Rattle.cdi_plain.specs.declared.bean.Method.{Method}
-use Rattle.cdi_plain.specs.declared.bean.Tables.{Tables}
+use Rattle.cdi_plain.specs.declared.tables.Tables.{Tables}
 use Rattle.cdi_plain.specs.declared.bean.Resolution.{Resolution}
 use Rattle.cdi_plain.specs.declared.world.Status.{Status}
 use Rattle.cdi_plain.specs.declared.world.Held.{Held}
@@ -20,7 +20,7 @@ use Rattle.cdi_plain.specs.declared.task.Code.{Code}
 use Rattle.cdi_plain.specs.declared.task.Call.{Call}
 use Rattle.cdi_plain.specs.declared.task.Completion.{Completion}
 use Rattle.cdi_plain.specs.declared.task.Completion.TheVariants as completions
-use Rattle.cdi_plain.specs.Beans.{method_of, resolve}
+use Rattle.cdi_plain.specs.Beans.{bean_of, method_of, resolve}
 use Rattle.cdi_plain.specs.World.{Instance, World, Change, instance_at, greatest_held}
 
 -- where something may be found
@@ -51,7 +51,7 @@ Content GreatestHeld = ℕ
 Content (NumberAt numbers i) = ℕ
 
 abbrev pub content : Tables → World → (p : Place) → Option (Content p)
-content tables w (BeanAt bean) = slice_get tables.beans bean
+content tables w (BeanAt bean) = bean_of tables bean
 content tables w (MethodAt code) = method_of tables code
 content tables w (ResolutionOf type) = Some (resolve tables type)
 content tables w (TextOf name) = slice_get tables.names name

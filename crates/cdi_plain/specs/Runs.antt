@@ -1,5 +1,6 @@
 -- The runs of a program.
-use Rattle.std.specs.Prelude.{ℕ, ◌≡◌, ◌-◌, ◌^◌, ◌<◌, ◌≤◌, List, length, Option, Some, None}
+use Rattle.std.specs.Prelude.{ℕ, ◌≡◌, ◌-◌, ◌^◌, ◌<◌, ◌≤◌, List, length, Option, Some, None, Result, Ok, Err}
+use Rattle.std.specs.declared.alloc.AllocError.{AllocError}
 use Rattle.cdi_base.specs.declared.value.Value.{Value}
 use Rattle.cdi_base.specs.declared.act.Act.{Act}
 use Rattle.cdi_base.specs.declared.entry.Entry.{Entry}
@@ -9,7 +10,7 @@ use Rattle.cdi_base.specs.declared.reply.Cause.TheVariants as causes
 use Rattle.cdi_bodies.specs.declared.view.View.{View}
 use Rattle.cdi_deploy.specs.declared.deployment.Scope.{Scope}
 use Rattle.cdi_deploy.specs.declared.deployment.Scope.TheVariants as scopes
-use Rattle.cdi_plain.specs.declared.bean.Tables.{Tables}
+use Rattle.cdi_plain.specs.declared.tables.Tables.{Tables}
 use Rattle.cdi_plain.specs.declared.task.Call.{Call}
 use Rattle.cdi_plain.specs.declared.task.Completion.{Completion}
 use Rattle.cdi_plain.specs.declared.task.Completion.TheVariants as completions
@@ -57,3 +58,8 @@ pub data Runs (tables : Tables) (gives : Gives) (Starved : Type 0) : Prog Value 
   picks : {n : ℕ} {p : Prog Value} {k : ℕ → Prog Value} {w v : World} {o : Outcome} (i : ℕ) → 2 ≤ n → i < n → Runs tables gives Starved (tick (entries.Pick n i) (k i)) w o v → Runs tables gives Starved (choose n p k) w o v
   calls : {c : Call} {k : Completion → Prog Value} {w u v : World} {o1 o : Outcome} → Runs tables gives Starved (machine c) w o1 u → Runs tables gives Starved (after o1 k) u o v → Runs tables gives Starved (nested c k) w o v
   starves : {p : Prog Value} {w v : World} → Starved → SameTrace w v → Runs tables gives Starved p w (outcomes.Cut causes.Memory) v
+
+-- What the engine answers: a run of the program, or, where memory ran out, a run of it that was cut for that.
+abbrev pub Ran : Tables → Gives → Prog Value → World → Result Outcome AllocError → World → Type 0
+Ran tables gives p w (Ok o) v = Runs tables gives ⊥ p w o v
+Ran tables gives p w (Err e) v = Runs tables gives (Unit {0}) p w (outcomes.Cut causes.Memory) v

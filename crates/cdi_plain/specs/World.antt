@@ -1,7 +1,5 @@
 -- The world of the machine.
-use Rattle.std.specs.Prelude.{ℕ, ◌<◌, ◌++◌, ◌∷◌, [], Bool, true, false, List, length, replicate, slice_get, slice_set, Option, Some, None, max}
-
-
+use Rattle.std.specs.Prelude.{ℕ, ◌<◌, ◌++◌, ◌∷◌, [], Bool, true, false, List, length, replicate, slice_get, slice_set, Option, Some, None, max, fold}
 use Rattle.cdi_base.specs.declared.value.Value.{Value}
 use Rattle.cdi_base.specs.declared.entry.Entry.{Entry}
 use Rattle.cdi_plain.specs.declared.world.Phase.{Phase}
@@ -78,14 +76,13 @@ changed (Become status) w = record w { status = status }
 changed End w = record w { down = true }
 
 -- the greatest number that is held
-abbrev pub greater : Held → Option ℕ → Option ℕ
-greater (held.Is n) None = Some n
-greater (held.Is n) (Some m) = Some (max n m)
-greater _ o = o
+abbrev pub greater : Option ℕ → Held → Option ℕ
+greater None (held.Is n) = Some n
+greater (Some m) (held.Is n) = Some (max m n)
+greater o _ = o
 
 abbrev pub greatest_held : List Held → Option ℕ
-greatest_held [] = None
-greatest_held (h ∷ hs) = greater h (greatest_held hs)
+greatest_held hs = fold greater None hs
 
 -- the world before the start
 abbrev pub before_boot : ℕ → ℕ → ℕ → World

@@ -1,7 +1,11 @@
 //! The beans of a deployment, as the machine reads them.
-use cdi_base::{Name, Names, Place, Seq};
+ghost use Rattle.std.specs.Prelude.{◌≡◌, option_map, Some, OnOk, IfOk};
+ghost use Rattle.cdi_plain.specs.Beans as spec;
+
+use cdi_base::{BuiltIn, Fields, Name, Place, Seq};
 use cdi_bodies::BodyId;
-use cdi_deploy::{Field, Scope};
+use cdi_deploy::deployment::{Field, Scope};
+use std::alloc::{AllocError, Global};
 
 /// A business method of a bean.
 #[derive(Drop)]
@@ -25,14 +29,6 @@ pub struct Bean {
     pub methods: Seq<Method>,
 }
 
-/// The tables of an accepted deployment. They never change.
-#[derive(Drop)]
-pub struct Tables {
-    pub names: Names,
-    /// The managed beans in the order of the deployment; a bean is named by its index.
-    pub beans: Seq<Bean>,
-}
-
 /// What a type and qualifiers resolve to (Jakarta CDI 4.0, *Typesafe resolution*).
 #[derive(Clone, Copy, Debug, PartialEq, Eq)]
 pub enum Resolution {
@@ -42,4 +38,47 @@ pub enum Resolution {
     Nothing,
     /// Several beans are: an ambiguous dependency.
     Many,
+}
+
+impl Resolution {
+    /// What it is with one eligible bean more.
+    pub(crate) fn with(self, bean: u32) -> Resolution
+        ensures { result ≡ spec.with_bean self bean }
+    {
+        match self {
+            Resolution::Nothing => Resolution::One(bean),
+            _ => Resolution::Many,
+        }
+    }
+}
+
+pub(crate) fn find_method(methods: &[Method], name: Name) -> Option<&Method>
+    ensures { spec.find_method methods.now name ≡ option_map (λ m. m.now) result }
+{
+    for method in methods {
+        if method.name == name {
+            return Some(method);
+        }
+    }
+    None
+}
+
+impl Bean {
+    /// The fields of a new instance.
+    pub fn first_fields(&self, alloc: Global) -> Result<Fields, AllocError>
+        ensures { IfOk result (λ fields. fields ≡ spec.first_fields self.now.fields) }
+    {
+        let mut fields = Fields::new(alloc);
+        for field in self.fields.as_slice() {
+            fields.put(field.name, field.value.clone()?)?;
+        }
+        Ok(fields)
+    }
+
+    /// Whether a type is one of its bean types (Jakarta CDI 4.0, *Bean types*).
+    pub fn has_type(&self, bean_type: Name) -> bool
+        ensures { result ≡ spec.has_type bean_type self.now }
+    {
+        bean_type == BuiltIn::Object.name() || self.class == bean_type
+    }
 }

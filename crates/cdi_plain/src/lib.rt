@@ -2,5 +2,10 @@
 #![tactic(auto)]
 
 pub mod bean;
+pub mod driver;
+mod events;
+pub mod run;
+pub mod step;
+pub mod tables;
 pub mod task;
 pub mod world;

@@ -41,9 +41,14 @@ pub struct Running {
 #[derive(Drop)]
 pub enum Call {
     /// Obtains the contextual instance of a bean with a normal scope.
-    Obtain { bean: u32 },
+    Obtain {
+        bean: u32,
+    },
     /// Creates the instance with the next number.
-    Create { number: u32, bean: u32 },
+    Create {
+        number: u32,
+        bean: u32,
+    },
     /// Runs a body on an instance, from its first act to its last.
     Body {
         instance: u32,
@@ -54,9 +59,13 @@ pub enum Call {
     /// Runs a body from its next act on.
     Acts(Running),
     /// Destroys an instance.
-    Destroy { number: u32 },
+    Destroy {
+        number: u32,
+    },
     /// Destroys the dependents of an instance whose destruction has begun, and lets it go.
-    Release { number: u32 },
+    Release {
+        number: u32,
+    },
     /// Destroys instances by falling number, and ends as it was told.
     Dismiss {
         temporaries: Seq<u32>,
@@ -82,9 +91,15 @@ pub enum Task {
     /// A call begins.
     Start(Call),
     /// The entry of a new instance is written.
-    Made { number: u32, bean: u32 },
+    Made {
+        number: u32,
+        bean: u32,
+    },
     /// The entry of a complete instance is written.
-    Stored { number: u32, bean: u32 },
+    Stored {
+        number: u32,
+        bean: u32,
+    },
     /// A running body gave an act.
     Do(Running, Act),
     /// A running body is answered.
@@ -92,11 +107,18 @@ pub enum Task {
     /// A call of a running body ended.
     Answered(Running, Completion),
     /// The destruction of an instance has begun.
-    Ended { number: u32 },
+    Ended {
+        number: u32,
+    },
     /// The dependent at an index is to be destroyed.
-    Released { number: u32, choice: u32 },
+    Released {
+        number: u32,
+        choice: u32,
+    },
     /// The entry of a gone instance is written.
-    Removed { number: u32 },
+    Removed {
+        number: u32,
+    },
     /// The contextual instance of a bean has been obtained for a command.
     Reached {
         bean: u32,
@@ -141,7 +163,9 @@ pub enum Frame {
         args: Seq<Value>,
     },
     /// Instances wait for the end of what they were made for.
-    Using { temporaries: Seq<u32> },
+    Using {
+        temporaries: Seq<u32>,
+    },
     /// Instances wait for the destruction of another one.
     Dismissing {
         temporaries: Seq<u32>,
@@ -150,7 +174,9 @@ pub enum Frame {
     /// A body waits for the outcome of a call.
     Answering(Running),
     /// An instance waits for the destruction of a dependent.
-    Releasing { number: u32 },
+    Releasing {
+        number: u32,
+    },
     /// The application context waits for the destruction of an instance.
     Clearing,
     /// The shutdown waits for the application context.

@@ -53,11 +53,14 @@ pub struct Instance {
 }
 
 impl Model for Instance {
+    ghost use Rattle.std.specs.Prelude.{◌<◌, ◌^◌, length};
     ghost use Rattle.cdi_plain.specs.World.{Instance as AnyInstance};
 
     ghost Value = { AnyInstance };
 
     ghost view = { λ i. record { bean = i.bean; phase = i.phase; fields = i.fields; dependents = i.dependents.items } };
+
+    ghost invariant = { λ i. length i.dependents.items < 2 ^ 32 };
 }
 
 impl Instance {
@@ -77,7 +80,8 @@ impl Instance {
 
     /// Its dependents, in the order of their adoption (Jakarta CDI 4.0, *Dependent objects*).
     pub fn dependents(&self) -> &[u32]
-        ensures { result.now ≡ self.now.dependents }
+        ensures all { result.now ≡ self.now.dependents }
+        ensures few { length self.now.dependents < 2 ^ 32 }
     {
         &self.dependents
     }
@@ -172,11 +176,9 @@ impl World {
     pub fn greatest_held(&self) -> Option<u32>
         ensures { result ≡ greatest_held self.now.application }
     {
-        let mut greatest = None;
-        for held in self.application.iter().rev() {
-            greatest = greater(*held, greatest);
-        }
-        greatest
+        self.application
+            .iter()
+            .fold(None, |most, held| greater(most, *held))
     }
 
     /// Whether the application context is active.
@@ -248,10 +250,11 @@ impl World {
 
     /// An instance is gone.
     pub fn remove(&mut self, number: u32)
-        requires { IsSome (instance_at self.old number) }
         ensures { self.new ≡ changed (Remove number) self.old }
     {
-        self.instances[number as usize] = None;
+        if let Some(slot) = self.instances.get_mut(number as usize) {
+            *slot = None;
+        }
     }
 
     /// The application context has this for a bean.
@@ -264,7 +267,7 @@ impl World {
     }
 
     /// The application context gets another status.
-    pub fn become(&mut self, status: Status)
+    pub fn set_status(&mut self, status: Status)
         ensures { self.new ≡ changed (Become status) self.old }
     {
         self.status = status;
@@ -285,14 +288,14 @@ impl World {
     }
 }
 
-fn greater(held: Held, other: Option<u32>) -> Option<u32>
-    ensures { result ≡ spec.greater held other }
+fn greater(most: Option<u32>, held: Held) -> Option<u32>
+    ensures { result ≡ spec.greater most held }
 {
     match held {
-        Held::Is(number) => match other {
-            Some(most) => Some(number.max(most)),
+        Held::Is(number) => match most {
+            Some(most) => Some(most.max(number)),
             None => Some(number),
         },
-        _ => other,
+        _ => most,
     }
 }

@@ -85,9 +85,13 @@ step_of_three names word first second =
     if is_word word (codes "set") then set_of names first second
     else (if is_word word (codes "own") then own_of names first second else Err BadStep)
 
+abbrev pub step_in : List (List ℕ) → Items → Reads Step
+step_in names (item word (item value no_items)) = if is_word word (codes "give") then give_of names value else Err BadStep
+step_in names (item word (item first (item second no_items))) = step_of_three names word first second
+step_in names _ = Err BadStep
+
 abbrev pub step_of : List (List ℕ) → Data → Reads Step
-step_of names (array (item word (item value no_items))) = if is_word word (codes "give") then give_of names value else Err BadStep
-step_of names (array (item word (item first (item second no_items)))) = step_of_three names word first second
+step_of names (array items) = step_in names items
 step_of names _ = Err BadStep
 
 -- the steps, where each is one and they are at most 256

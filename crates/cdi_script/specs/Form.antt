@@ -2,6 +2,7 @@
 use Rattle.std.specs.Prelude.{ℕ, List, Bool, true, false, ◌&&◌, codes, bytes_eq, nat_le, is_some, if◌then◌else◌}
 use Rattle.cdi_base.specs.Name.{is_name}
 use Rattle.serde_json.specs.Data.{Num, unsigned, negative, float, Data, null, boolean, number, string, array, object, Items, no_items, item}
+use Rattle.serde_json.specs.Events.{items_len}
 use Rattle.serde_json.specs.Find.{as_i64}
 
 -- the value is this text
@@ -56,7 +57,16 @@ is_step_of_three word first second =
     else (if is_word word (codes "own") then is_named first && are_expressions second else false)
 
 -- one of these, or `["give",e]`
+abbrev pub is_step_in : Items → Bool
+is_step_in (item word (item value no_items)) = is_word word (codes "give") && is_expression value
+is_step_in (item word (item first (item second no_items))) = is_step_of_three word first second
+is_step_in _ = false
+
 abbrev pub is_step : Data → Bool
-is_step (array (item word (item value no_items))) = is_word word (codes "give") && is_expression value
-is_step (array (item word (item first (item second no_items)))) = is_step_of_three word first second
+is_step (array items) = is_step_in items
 is_step _ = false
+
+-- an array of at most 256 steps
+abbrev pub is_script : Data → Bool
+is_script (array items) = all_items is_step items && nat_le (items_len items) 256
+is_script _ = false

@@ -1,5 +1,5 @@
 -- What a script does next.
-use Rattle.std.specs.Prelude.{ℕ, ◌-◌, List, [], ◌∷◌, Bool, true, false, map, count_by, Option, Some, None}
+use Rattle.std.specs.Prelude.{ℕ, ◌+◌, ◌-◌, List, [], ◌∷◌, Bool, true, false, map, if◌then◌else◌, Option, Some, None}
 use Rattle.cdi_base.specs.declared.act.Act.{Act}
 use Rattle.cdi_base.specs.declared.act.Act.TheVariants as acts
 use Rattle.cdi_base.specs.declared.act.Answer.{Answer}
@@ -24,7 +24,8 @@ is_lookup (actions.Find bean_type qualifiers) = true
 is_lookup _ = false
 
 abbrev pub lookups_in : List Step → ℕ
-lookups_in steps = count_by (λ step. is_lookup step.action) steps
+lookups_in [] = 0
+lookups_in (step ∷ steps) = (if is_lookup step.action then 1 else 0) + lookups_in steps
 
 -- the act of a step; the lookup is the one that the step makes if it makes one
 abbrev pub act_of : ℕ → Action → Fields → View → Act

@@ -18,11 +18,7 @@ pub(crate) trait Item: Sized + Drop {
     ghost form: { List (List ℕ) → Data → spec.Reads Self };
 
     /// The item that a value is.
-    fn read(
-        alloc: Global,
-        names: &mut Names,
-        value: &Json,
-    ) -> Result<Self, ReadError<ScriptFault>>
+    fn read(alloc: Global, names: &mut Names, value: &Json) -> Result<Self, ReadError<ScriptFault>>
         ensures { Gives (λ x. (x, names.new)) result (form names.old (view value.now)) };
 }
 
@@ -227,11 +223,7 @@ fn own_of(
 }
 
 #[tactic(auto, unfolding(crate::specs::Build::give_of))]
-fn give_of(
-    alloc: Global,
-    names: &mut Names,
-    value: &Json,
-) -> Result<Step, ReadError<ScriptFault>>
+fn give_of(alloc: Global, names: &mut Names, value: &Json) -> Result<Step, ReadError<ScriptFault>>
     ensures { Gives (λ x. (x, names.new)) result (spec.give_of names.old (view value.now)) }
 {
     let value = expression_of(alloc, names, value)?;
@@ -257,6 +249,23 @@ fn step_of_three(
     bad()
 }
 
+fn step_in(alloc: Global, names: &mut Names, items: &[Json]) -> Result<Step, ReadError<ScriptFault>>
+    ensures { Gives (λ x. (x, names.new)) result (spec.step_in names.old (items_view items.now)) }
+{
+    match items {
+        [] => bad(),
+        [_] => bad(),
+        [word, value] => {
+            if !is_word(word, "give") {
+                return bad();
+            }
+            give_of(alloc, names, value)
+        }
+        [word, first, second] => step_of_three(alloc, names, word, first, second),
+        [_, _, _, _, ..] => bad(),
+    }
+}
+
 impl Item for Step {
     ghost form = { spec.step_of };
 
@@ -265,20 +274,9 @@ impl Item for Step {
         names: &mut Names,
         value: &Json,
     ) -> Result<Self, ReadError<ScriptFault>> {
-        let Json::Array(items) = value else {
-            return bad();
-        };
-        match items.as_slice() {
-            [] => bad(),
-            [_] => bad(),
-            [word, value] => {
-                if !is_word(word, "give") {
-                    return bad();
-                }
-                give_of(alloc, names, value)
-            }
-            [word, first, second] => step_of_three(alloc, names, word, first, second),
-            [_, _, _, _, ..] => bad(),
+        match value {
+            Json::Array(items) => step_in(alloc, names, items.as_slice()),
+            _ => bad(),
         }
     }
 }

@@ -74,18 +74,24 @@ fn is_expression(value: &Json) -> bool
     }
 }
 
-fn are_expressions(value: &Json) -> bool
-    ensures { result ≡ spec.are_expressions (view value.now) }
+fn all_expressions(items: &[Json]) -> bool
+    ensures { result ≡ spec.all_items spec.is_expression (items_view items.now) }
 {
-    let Json::Array(items) = value else {
-        return false;
-    };
-    for item in items.as_slice() {
+    for item in items {
         if !is_expression(item) {
             return false;
         }
     }
     true
+}
+
+fn are_expressions(value: &Json) -> bool
+    ensures { result ≡ spec.are_expressions (view value.now) }
+{
+    match value {
+        Json::Array(items) => all_expressions(items.as_slice()),
+        _ => false,
+    }
 }
 
 #[tactic(auto, unfolding(crate::specs::Form::is_step_of_three))]
@@ -101,18 +107,24 @@ fn is_step_of_three(word: &Json, first: &Json, second: &Json) -> bool
     false
 }
 
-fn is_step(value: &Json) -> bool
-    ensures { result ≡ spec.is_step (view value.now) }
+fn is_step_in(items: &[Json]) -> bool
+    ensures { result ≡ spec.is_step_in (items_view items.now) }
 {
-    let Json::Array(items) = value else {
-        return false;
-    };
-    match items.as_slice() {
+    match items {
         [] => false,
         [_] => false,
         [word, value] => is_word(word, "give") && is_expression(value),
         [word, first, second] => is_step_of_three(word, first, second),
         [_, _, _, _, ..] => false,
+    }
+}
+
+fn is_step(value: &Json) -> bool
+    ensures { result ≡ spec.is_step (view value.now) }
+{
+    match value {
+        Json::Array(items) => is_step_in(items.as_slice()),
+        _ => false,
     }
 }
 

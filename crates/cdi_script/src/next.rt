@@ -2,10 +2,11 @@
 ghost use Rattle.std.specs.Prelude.{◌≡◌, ◌≤◌, ◌<◌, ◌^◌, length, IfOk, option_map};
 ghost use Rattle.cdi_script.specs.Next as spec;
 ghost use Rattle.cdi_script.specs.Reached as reaching;
+ghost use Rattle.cdi_script.specs.Within.{StaysInShape};
 
 use crate::expression::Expression;
 use crate::script::Script;
-use crate::step::{Action, Step};
+use crate::step::{Action, Step, copy_of};
 use cdi_base::{Act, Answer, Fields, Seq, Value};
 use cdi_bodies::View;
 use std::alloc::{AllocError, Global};
@@ -66,7 +67,13 @@ fn lookups_in(steps: &[Step]) -> usize
     ensures count { result ≡ spec.lookups_in steps.now }
     ensures within { result ≤ length steps.now }
 {
-    steps.iter().filter(|step| is_lookup(&step.action)).count()
+    let mut count = 0;
+    for step in steps {
+        if is_lookup(&step.action) {
+            count += 1;
+        }
+    }
+    count
 }
 
 fn values_of(
@@ -84,7 +91,6 @@ fn values_of(
     Ok(Seq::new(values))
 }
 
-#[tactic(auto, using(cdi_base::proofs::Clones::same_items))]
 fn act_of(
     alloc: Global,
     lookup: u32,
@@ -119,7 +125,7 @@ fn act_of(
             value,
         } => Act::Fire {
             class: *class,
-            qualifiers: qualifiers.clone()?,
+            qualifiers: copy_of(qualifiers)?,
             value: value.value(alloc, fields, view)?,
         },
         Action::Proceed => Act::Proceed { args: None },
@@ -168,4 +174,9 @@ impl Script {
         let lookup = lookups_in(steps).saturating_sub(lookups_in(left)) as u32;
         act_of(alloc, lookup, &step.action, fields, view)
     }
+
+    /// What a script does next lies in the shape that it has, whatever its fields are and whatever was answered.
+    pub fn stays_in_shape(_script: &Script)
+        ensures { StaysInShape _script.now }
+    {}
 }

@@ -1,8 +1,10 @@
 //! Scripts, and reading them.
-ghost use Rattle.std.specs.Prelude.{◌≡◌, ◌≤◌, ◌↔◌, [], length, IsTrue, IfErr, OnErr, Err, slice_get, Some};
+ghost use Rattle.std.specs.Prelude.{◌≡◌, ◌≤◌, ◌↔◌, [], length, false, IsTrue, IfOk};
 ghost use Rattle.cdi_base.specs.Reading.{Gives};
-ghost use Rattle.serde_json.specs.View.{view};
+ghost use Rattle.serde_json.specs.Data.{array};
+ghost use Rattle.serde_json.specs.View.{view, items_view};
 ghost use Rattle.cdi_script.specs.Build as spec;
+ghost use Rattle.cdi_script.specs.Form.{is_script};
 
 use crate::build::{bad, each};
 use crate::fault::ScriptFault;
@@ -24,13 +26,36 @@ pub struct Script {
 
 impl Model for Script {
     ghost use Rattle.std.specs.Prelude.{List, ◌≤◌, length};
+    ghost use Rattle.std.specs.Coded.{codes};
+    ghost use Rattle.cdi_script.specs.contracts.step.Step as step;
     ghost use Rattle.cdi_script.specs.declared.step.Step.{Step as AnyStep};
 
     ghost Value = { List AnyStep };
 
+    ghost coded = { Prim.hlevel (codes, step.the_row.coded) };
+
     ghost view = { λ s. s.steps };
 
     ghost invariant = { λ s. length s.steps ≤ 256 };
+}
+
+#[tactic(auto, using(crate::proofs::Long::lengths))]
+fn steps_of(
+    alloc: Global,
+    names: &mut Names,
+    items: &[Json],
+) -> Result<Seq<Step>, ReadError<ScriptFault>>
+    ensures gives { Gives (λ steps. (steps, names.new)) result (spec.steps_of names.old (items_view items.now)) }
+    ensures within { IfOk result (λ steps. length steps ≤ MAX_STEPS) }
+    ensures refused { is_script (array (items_view items.now)) ≡ false → names.new ≡ names.old }
+{
+    if !are_steps(items) {
+        return bad();
+    }
+    if items.len() > MAX_STEPS {
+        return Err(ReadError::Fault(ScriptFault::TooLong));
+    }
+    each::<Step>(alloc, names, items)
 }
 
 impl Script {
@@ -42,19 +67,13 @@ impl Script {
         value: &Json,
         names: &mut Names,
     ) -> Result<Script, ReadError<ScriptFault>>
-        ensures { Gives (λ script. (script, names.new)) result (spec.script_of names.old (view value.now)) }
+        ensures gives { Gives (λ script. (script, names.new)) result (spec.script_of names.old (view value.now)) }
+        ensures refused { is_script (view value.now) ≡ false → names.new ≡ names.old }
     {
         let Json::Array(items) = value else {
             return bad();
         };
-        let items = items.as_slice();
-        if !are_steps(items) {
-            return bad();
-        }
-        if items.len() > MAX_STEPS {
-            return Err(ReadError::Fault(ScriptFault::TooLong));
-        }
-        let steps = each::<Step>(alloc, names, items)?;
+        let steps = steps_of(alloc, names, items.as_slice())?;
         Ok(Script { steps })
     }
 

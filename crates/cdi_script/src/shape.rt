@@ -3,12 +3,11 @@ ghost use Rattle.std.specs.Prelude.{◌≡◌, IfOk, OnOk};
 ghost use Rattle.cdi_script.specs.Listed as spec;
 
 use crate::script::Script;
-use crate::step::Action;
+use crate::step::{Action, copy_of};
 use cdi_bodies::{FiredEvent, Lookup, MethodCall, OwnCall, Shape};
 use std::alloc::{AllocError, Global};
 
 /// Adds what an action names.
-#[tactic(auto, using(cdi_base::proofs::Clones::same_items))]
 fn list(shape: &mut Shape, action: &Action) -> Result<(), AllocError>
     ensures { OnOk result (shape.new ≡ spec.with_action shape.old action.now) }
 {
@@ -17,26 +16,28 @@ fn list(shape: &mut Shape, action: &Action) -> Result<(), AllocError>
         Action::Call { via, method, args } => shape.calls.push(MethodCall {
             via: *via,
             method: *method,
-            count: args.len() as u32,
+            count: args.len(),
         })?,
         Action::Own { method, args } => shape.owns.push(OwnCall {
             method: *method,
-            count: args.len() as u32,
+            count: args.len(),
         })?,
         Action::Read { via } => shape.cells.push(*via)?,
         Action::Write { via, .. } => shape.cells.push(*via)?,
         Action::Fire {
-            class, qualifiers, ..
+            class,
+            qualifiers,
+            ..
         } => shape.fires.push(FiredEvent {
             class: *class,
-            qualifiers: qualifiers.clone()?,
+            qualifiers: copy_of(qualifiers)?,
         })?,
         Action::Find {
             bean_type,
             qualifiers,
         } => shape.lookups.push(Lookup {
             bean_type: *bean_type,
-            qualifiers: qualifiers.clone()?,
+            qualifiers: copy_of(qualifiers)?,
         })?,
         Action::Throw { exception } => shape.throws.push(*exception)?,
         Action::Proceed => shape.chain = true,
@@ -55,7 +56,7 @@ impl Script {
         ensures { IfOk result (λ shape. shape ≡ spec.shape_of self.now) }
     {
         let mut shape = Shape::new(alloc);
-        for step in self.steps.iter() {
+        for step in self.steps.as_slice() {
             list(&mut shape, &step.action)?;
         }
         Ok(shape)

@@ -33,12 +33,7 @@ fn value_in(answer: Option<&Answer>) -> Result<Value, AllocError>
 
 impl Expression {
     /// The value at the fields of an instance and what a body has seen.
-    pub fn value(
-        &self,
-        alloc: Global,
-        fields: &Fields,
-        view: &View,
-    ) -> Result<Value, AllocError>
+    pub fn value(&self, alloc: Global, fields: &Fields, view: &View) -> Result<Value, AllocError>
         ensures { IfOk result (λ v. v ≡ spec.value_of self.now fields.now view.now) }
     {
         match &self.node {

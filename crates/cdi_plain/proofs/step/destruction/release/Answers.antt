@@ -1,0 +1,7 @@
+use Rattle.std.proofs.Common.{arith, rules}
+use Rattle.cdi_plain.proofs.Rules.{release_first}
+use Rattle.cdi_plain.proofs.step.destruction.release.Goals as goal
+
+pub returns-clause-leads : goal.returns-clause-leads
+returns-clause-leads g c =
+    release_first c.args.tables.now (g.D.Driver.gives c.args.driver.now) c.args.number c.args.world.now c.in-Some.ensures (search rules) (omega arith) (search rules)
