@@ -15,7 +15,7 @@ pub(crate) fn numbers_fit(value: &Value) -> bool
         Value::Bool(_) => true,
         Value::Number(number) => number.is_i64(),
         Value::String(_) => true,
-        Value::Array(items) => items_fit(items) || items.len() > 9,
+        Value::Array(items) => items_fit(items),
         Value::Object(members) => members_fit(members),
     }
 }

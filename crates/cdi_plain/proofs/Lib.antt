@@ -3,3 +3,4 @@ pub mod Rules
 pub mod Known
 pub mod Sound
 pub mod Cost
+pub mod Order

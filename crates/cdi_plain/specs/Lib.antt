@@ -6,3 +6,4 @@ pub mod Machine
 pub mod Runs
 pub mod Points
 pub mod Falls
+pub mod Laws

@@ -4,6 +4,7 @@
 pub mod bean;
 pub mod driver;
 mod events;
+pub mod laws;
 pub mod run;
 pub mod step;
 pub mod tables;
