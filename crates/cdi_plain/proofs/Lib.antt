@@ -4,3 +4,5 @@ pub mod Known
 pub mod Sound
 pub mod Cost
 pub mod Order
+pub mod Evaluator
+pub mod Worked

@@ -35,7 +35,6 @@ changed_front (Hold bean held) w f = f
 changed_front (Become status) w f = f
 changed_front End w f = f
 
-
 module _ (tables : Tables) (gives : Gives) where
   front : {p : Prog Value} {w v : World} {o : Outcome} → Runs tables gives ⊥ p w o v → IsFront w.trace v.trace
   front {w = w} Runs.returns = front_self w.trace

@@ -7,3 +7,4 @@ pub mod Runs
 pub mod Points
 pub mod Falls
 pub mod Laws
+pub mod Worked
