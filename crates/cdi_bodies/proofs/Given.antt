@@ -5,7 +5,7 @@ use Rattle.cdi_base.specs.declared.fields.Fields.{Fields}
 use Rattle.cdi_bodies.specs.declared.entry.Entry.{Entry}
 use Rattle.cdi_bodies.specs.declared.view.View.{View}
 use Rattle.cdi_bodies.specs.Shape.{in_shape}
-use Rattle.cdi_bodies.specs.Gives.{Promises, shape_at, LieInShape}
+use Rattle.cdi_bodies.specs.Gives.{Promises, LieInShape}
 
 pub promise-in_shape : {X : Type 0} {F : X → Type 0} {g : _} (e : Entry X F g) (fields : Fields) (view : View) (act : Act) → Promises e fields view act → in_shape e.shape view act ≡ true
 promise-in_shape e fields view act p = subst (λ (v : View). in_shape e.shape v act ≡ true) p.is_view (e.within p.shown_fields p.shown_view act p.given)

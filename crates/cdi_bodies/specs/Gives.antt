@@ -1,5 +1,5 @@
 -- What the registered bodies may give.
-use Rattle.std.specs.Prelude.{◌≡◌, ℕ, ◌==◌, List, Bool, Option, Some, None, is_some, Ok, true, slice_get, option_map, position, MatchOption, IfSome}
+use Rattle.std.specs.Prelude.{◌≡◌, ℕ, ◌==◌, List, Bool, Option, is_some, Ok, true, slice_get, option_map, position, MatchOption, IfSome}
 use Rattle.std.specs.Borrow.{Bor}
 use Rattle.cdi_base.specs.declared.act.Act.{Act}
 use Rattle.cdi_base.specs.declared.fields.Fields.{Fields}

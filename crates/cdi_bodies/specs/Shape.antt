@@ -1,5 +1,5 @@
 -- Which acts lie in a shape.
-use Rattle.std.specs.Prelude.{ℕ, Bool, true, false, List, [], ◌-◌, ◌==◌, ◌&&◌, ◌||◌, length, nat_lt, slice_get, Option, Some, None, bytes_eq}
+use Rattle.std.specs.Prelude.{ℕ, Bool, true, false, [], ◌-◌, ◌==◌, ◌&&◌, ◌||◌, length, nat_lt, slice_get, Option, Some, bytes_eq}
 use Rattle.std.specs.Cmp.Lexicographic.{pointwise}
 use Rattle.std.specs.List.{list_any}
 use Rattle.std.specs.Ordering.{int_eq}

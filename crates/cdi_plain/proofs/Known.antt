@@ -24,3 +24,12 @@ module _ (IsBody : ℕ → Type 0) where
 
   pub known_method : (tables : Tables) (code : Code) {m : Method} → KnowsEach IsBody tables.beans → method_of tables code ≡ Some m → IsBody m.body
   known_method tables (codes.Method bean name) h e = known_of tables.beans bean name h e
+
+-- where every number is a body, each method's is
+pub all_known : (bs : List Bean) → KnowsEach (λ _. Unit {0}) bs
+all_known [] = tt
+all_known (b ∷ bs) = (all_in b.methods, all_known bs)
+  where
+    all_in : (ms : List Method) → KnowsMethods (λ _. Unit {0}) ms
+    all_in [] = tt
+    all_in (m ∷ ms) = (tt, all_in ms)

@@ -9,4 +9,6 @@ pub mod run;
 pub mod step;
 pub mod tables;
 pub mod task;
+#[cfg(test)]
+mod tests;
 pub mod world;

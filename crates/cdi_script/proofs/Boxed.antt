@@ -1,5 +1,5 @@
 -- What a box promises of a call is what the boxed value does.
-use Rattle.std.proofs.Common.{◌≡◌, refl, subst}
+use Rattle.std.proofs.Common.{refl, subst}
 use denote.Param.Object.{Made, read_made}
 use denote.Param.Table.{Table}
 use denote.Param.Members.{Mut}

@@ -1,5 +1,5 @@
 -- A table that follows a list of scripts, while bodies are added, and what its bodies give.
-use Rattle.std.proofs.Common.{◌≡◌, ◌∙◌, ap, sym, refl, subst, ℕ, zero, suc, ◌+◌, length-append, List, [], ◌∷◌, ◌++◌, Ok, Some, slice_get, IfSome, Bor, Global, length, arith}
+use Rattle.std.proofs.Common.{◌≡◌, ◌∙◌, ap, sym, refl, subst, ℕ, zero, suc, ◌+◌, length-append, List, [], ◌∷◌, ◌++◌, Ok, slice_get, IfSome, Bor, Global, length, arith}
 use Rattle.std.specs.declared.dyn_box.DynBox.{DynBox}
 use Rattle.cdi_base.specs.declared.act.Act.{Act}
 use Rattle.cdi_base.specs.declared.fields.Fields.{Fields}
@@ -7,7 +7,7 @@ use Rattle.cdi_bodies.specs.declared.entry.Entry.{Entry}
 use Rattle.cdi_bodies.specs.declared.shape.Shape.{Shape}
 use Rattle.cdi_bodies.specs.declared.view.View.{View}
 use Rattle.cdi_bodies.specs.Adding.{Adds}
-use Rattle.cdi_bodies.specs.Gives.{Promises, gives}
+use Rattle.cdi_bodies.specs.Gives.{gives}
 use Rattle.cdi_script.specs.declared.step.Step.{Step}
 use Rattle.cdi_script.specs.Follows.{Runs, Follows}
 use Rattle.cdi_script.specs.Next.{next_of}

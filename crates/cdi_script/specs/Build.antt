@@ -1,5 +1,5 @@
 -- The script that a value is, with the table of names that it is read into.
-use Rattle.std.specs.Prelude.{ℕ, ℤ, List, [], ◌∷◌, Bool, codes, nat_le, Option, Some, None, Result, Ok, Err, false, if◌then◌else◌}
+use Rattle.std.specs.Prelude.{ℕ, List, [], ◌∷◌, codes, nat_le, Option, Some, None, Result, Ok, Err, false, if◌then◌else◌}
 use Rattle.cdi_base.specs.Name.{is_name, has_room, number_of, with_name}
 use Rattle.cdi_base.specs.Reading.{◌>>=◌}
 use Rattle.serde_json.specs.Data.{Num, unsigned, negative, float, Data, null, boolean, number, string, array, object, Items, no_items, item}

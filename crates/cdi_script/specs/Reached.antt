@@ -1,7 +1,7 @@
 -- The step that a script reaches.
 use Rattle.std.specs.Prelude.{List, [], ◌∷◌, Bool, true, false, not, fold, if◌then◌else◌}
 use Rattle.cdi_base.specs.declared.act.Answer.{Answer}
-use Rattle.cdi_base.specs.declared.act.Answer.TheVariants.{Done, Threw, Found}
+use Rattle.cdi_base.specs.declared.act.Answer.TheVariants.{Threw}
 use Rattle.cdi_script.specs.declared.step.Step.{Step}
 
 abbrev pub threw : Answer → Bool

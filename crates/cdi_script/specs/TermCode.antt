@@ -1,5 +1,5 @@
 -- A code for terms, by which a proof tells them apart.
-use Rattle.std.specs.Prelude.{◌≡◌, ℕ, ℤ, List, refl}
+use Rattle.std.specs.Prelude.{◌≡◌, ℕ, refl}
 use Rattle.std.proofs.Common.{ap, ap₂}
 use base.Stored.{Gv, gnil, gnum, gcons, Coded, coded_ℕ, coded_ℤ, coded_list}
 use Rattle.cdi_script.specs.Term.{Term, null, whole, text, field, argument, answer, last, sum}

@@ -1,0 +1,226 @@
+//! Runs of the engine under drivers of the tests' own.
+ghost use Rattle.std.specs.Prelude.{◌≡◌, IfOk};
+ghost use Rattle.cdi_base.specs.declared.act.Act.TheVariants.{Give};
+ghost use Rattle.cdi_plain.specs.Beans.{KnowsEach};
+ghost use Rattle.cdi_base.specs.declared.value.Value.TheVariants.{Null};
+
+use crate::bean::{Bean, Method};
+use crate::driver::Driver;
+use crate::run::run;
+use crate::tables::Tables;
+use crate::task::{Call, Outcome};
+use crate::world::World;
+use cdi_base::{Act, BuiltIn, Cause, Fields, Limits, Name, Names, Place, Seq, Value, is_name};
+use cdi_bodies::{Bodies, Body, BodyId, Shape, View};
+use cdi_deploy::deployment::{Field, Scope};
+use std::alloc::{AllocError, Global};
+use std::process::Abort;
+use std::test::Fail;
+
+/// A body that counts a field up and gives it.
+#[derive(Clone, Copy)]
+struct Counting {
+    field: Name,
+}
+
+/// A body that calls its own method for ever.
+#[derive(Clone, Copy)]
+struct Recursive {
+    alloc: Global,
+    method: Name,
+}
+
+impl Driver for Counting {
+    ghost knows = { λ _ _. Unit {0} };
+
+    ghost gives = { λ _ _ _ _ _. Unit {0} };
+
+    ghost picks = { λ _ _ _ _. Unit {0} };
+
+    fn act(&self, _body: BodyId, fields: &Fields, view: &View) -> Result<Act, AllocError> {
+        if view.answers.is_empty() {
+            let next = match fields.get(self.field) {
+                Value::Int(count) => count.checked_add(1).unwrap_or(0),
+                _ => 0,
+            };
+            return Ok(Act::Set {
+                field: self.field,
+                value: Value::Int(next),
+            });
+        }
+        Ok(Act::Give {
+            value: fields.get(self.field).clone()?,
+        })
+    }
+
+    fn pick(&self, count: u32, _entries: u64) -> u32 {
+        count - 1
+    }
+}
+
+impl Driver for Recursive {
+    ghost knows = { λ _ _. Unit {0} };
+
+    ghost gives = { λ _ _ _ _ _. Unit {0} };
+
+    ghost picks = { λ _ _ _ _. Unit {0} };
+
+    fn act(&self, _body: BodyId, _fields: &Fields, _view: &View) -> Result<Act, AllocError> {
+        Ok(Act::Own {
+            method: self.method,
+            args: Seq::empty(self.alloc),
+        })
+    }
+
+    fn pick(&self, _count: u32, _entries: u64) -> u32 {
+        0
+    }
+}
+
+/// The deployment of a class K with a field n and a method up, several times under one name.
+#[derive(Drop)]
+struct Deployed {
+    tables: Tables,
+    class: Name,
+    field: Name,
+    method: Name,
+}
+
+fn name_of(rt: &impl Abort, names: &mut Names, text: &str) -> Result<Name, Fail> {
+    assert!(rt; is_name(text));
+    Ok(names.intern(text)?)
+}
+
+/// A body's number: that of one that gives null.
+fn a_body(alloc: Global, name: Name) -> Result<BodyId, Fail> {
+    let mut bodies = Bodies::new(alloc);
+    let body: Body = Box::new(
+        alloc,
+        |_fields: &Fields, _view: &View| -> Result<Act, AllocError>
+            ensures { IfOk result (λ act. act ≡ Give Null) }
+        { Ok(Act::Give { value: Value::Null }) },
+    )?;
+    Ok(bodies.add(name, Shape::new(alloc), body)?)
+}
+
+fn deploy(rt: &impl Abort, alloc: Global, scope: Scope, beans: usize) -> Result<Deployed, Fail> {
+    let mut names = Names::with_built_in(alloc)?;
+    let class = name_of(rt, &mut names, "K")?;
+    let field = name_of(rt, &mut names, "n")?;
+    let method = name_of(rt, &mut names, "up")?;
+    let body = a_body(alloc, method)?;
+    let mut list = Seq::empty(alloc);
+    for _ in 0..beans {
+        let mut fields = Seq::empty(alloc);
+        fields.push(Field {
+            name: field,
+            value: Value::Int(0),
+        })?;
+        let mut methods = Seq::empty(alloc);
+        methods.push(Method {
+            name: method,
+            place: Place::Member {
+                class,
+                member: method,
+            },
+            count: 0,
+            body,
+        })?;
+        list.push(Bean {
+            class,
+            scope,
+            fields,
+            methods,
+        })?;
+    }
+    assert!(rt; list.len() <= 4_096);
+    Ok(Deployed {
+        tables: Tables { names, beans: list },
+        class,
+        field,
+        method,
+    })
+}
+
+fn call(alloc: Global, deployed: &Deployed, bean_type: Name) -> Call {
+    Call::CallBean {
+        bean_type,
+        method: deployed.method,
+        args: Seq::empty(alloc),
+    }
+}
+
+/// How a call ended, and how many entries it gave.
+#[derive(Drop)]
+struct Ended {
+    outcome: Outcome,
+    entries: usize,
+}
+
+#[tactic(auto, using(crate::proofs::Known::all_known))]
+fn make_ended<D: Driver>(
+    alloc: Global,
+    tables: &Tables,
+    driver: &D,
+    world: &mut World,
+    call: Call,
+) -> Result<Ended, AllocError>
+    requires { KnowsEach (D.knows driver.now) tables.now.beans }
+{
+    world.begin();
+    let outcome = run(alloc, tables, driver, world, call)?;
+    let entries = world.trace().len();
+    Ok(Ended { outcome, entries })
+}
+
+#[test]
+#[tactic(auto, using(crate::proofs::Known::all_known))]
+fn counts(rt: HostRuntime) -> Result<(), Fail> {
+    let alloc = rt.alloc();
+    let deployed = deploy(&rt, alloc, Scope::ApplicationScoped, 1)?;
+    let driver = Counting {
+        field: deployed.field,
+    };
+    let mut world = World::new(alloc, 1, Limits::default())?;
+    for (count, entries) in [(1, 5), (2, 3)] {
+        let call = call(alloc, &deployed, deployed.class);
+        let ended = make_ended(alloc, &deployed.tables, &driver, &mut world, call)?;
+        assert!(rt; ended.outcome == Outcome::Value(Value::Int(count)));
+        assert_eq!(rt; ended.entries, entries);
+    }
+    Ok(())
+}
+
+#[test]
+#[tactic(auto, using(crate::proofs::Known::all_known))]
+fn shuts_down(rt: HostRuntime) -> Result<(), Fail> {
+    let alloc = rt.alloc();
+    let deployed = deploy(&rt, alloc, Scope::ApplicationScoped, 1)?;
+    let driver = Counting {
+        field: deployed.field,
+    };
+    let mut world = World::new(alloc, 1, Limits::default())?;
+    for (call, entries) in [(Call::Boot, 2), (Call::Shutdown, 3)] {
+        let ended = make_ended(alloc, &deployed.tables, &driver, &mut world, call)?;
+        assert_eq!(rt; ended.entries, entries);
+    }
+    assert!(rt; world.is_down());
+    Ok(())
+}
+
+#[test]
+#[tactic(auto, using(crate::proofs::Known::all_known))]
+fn cuts_below_the_last_level(rt: HostRuntime) -> Result<(), Fail> {
+    let alloc = rt.alloc();
+    let deployed = deploy(&rt, alloc, Scope::Dependent, 1)?;
+    let driver = Recursive {
+        alloc,
+        method: deployed.method,
+    };
+    let mut world = World::new(alloc, 1, Limits::default())?;
+    let call = call(alloc, &deployed, BuiltIn::Object.name());
+    let ended = make_ended(alloc, &deployed.tables, &driver, &mut world, call)?;
+    assert!(rt; ended.outcome == Outcome::Cut(Cause::Depth));
+    assert_eq!(rt; ended.entries, 66);
+    Ok(())
+}
