@@ -6,3 +6,6 @@ pub mod Cost
 pub mod Order
 pub mod Evaluator
 pub mod Worked
+pub mod Built
+pub mod Checked
+pub mod Accepted

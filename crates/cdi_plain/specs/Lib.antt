@@ -8,3 +8,9 @@ pub mod Points
 pub mod Falls
 pub mod Laws
 pub mod Worked
+pub mod Build
+pub mod Problem
+pub mod Duplicates
+pub mod WrongBodies
+pub mod Check
+pub mod Accepted

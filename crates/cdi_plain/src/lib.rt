@@ -2,9 +2,12 @@
 #![tactic(auto)]
 
 pub mod bean;
+pub mod build;
+pub mod check;
 pub mod driver;
 mod events;
 pub mod laws;
+pub mod problem;
 pub mod run;
 pub mod step;
 pub mod tables;
