@@ -3,6 +3,8 @@
 
 pub mod bean;
 pub mod build;
+#[cfg(test)]
+mod build_tests;
 pub mod check;
 pub mod driver;
 mod events;

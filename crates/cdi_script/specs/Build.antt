@@ -57,7 +57,7 @@ expression_of names (array (item word (item value no_items))) = pair_of names wo
 expression_of names (array (item word (item left (item right no_items)))) =
     if is_word word (codes "add") then (expression_of names left >>= λ a. expression_of a.1 right >>= λ b. Ok (terms.sum a.0 b.0, b.1)) else Err BadStep
 expression_of names (array _) = Err BadStep
-expression_of names (object members) = Err BadStep
+expression_of names (object _) = Err BadStep
 
 -- one item after another, each into the table that the one before left
 abbrev pub each : {X : Type 0} → (List (List ℕ) → Data → Reads X) → List (List ℕ) → Items → Reads (List X)

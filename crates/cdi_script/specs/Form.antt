@@ -40,7 +40,7 @@ is_expression (array (item word no_items)) = is_word word (codes "last")
 is_expression (array (item word (item value no_items))) = is_pair word value
 is_expression (array (item word (item left (item right no_items)))) = is_word word (codes "add") && (is_expression left && is_expression right)
 is_expression (array _) = false
-is_expression (object members) = false
+is_expression (object _) = false
 
 abbrev pub all_items : (Data → Bool) → Items → Bool
 all_items test no_items = true
