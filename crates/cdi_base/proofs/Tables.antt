@@ -1,7 +1,7 @@
 -- Places in a list of texts, and entries of a map.
 use Rattle.std.proofs.Common.{◌≡◌, ℕ, zero, suc, ◌+◌, ◌<◌, ◌≤◌, Bool, true, false, cond, not, ◌||◌, List, [], ◌∷◌, ◌++◌, length, map, get_or, slice_get, position, Option, Some, None, nat_eq, refl, sym, ap, ◌∙◌, arith}
 use Rattle.std.proofs.lemmas.List.{length-map}
-use Rattle.std.proofs.lemmas.List.Sums.{position_or_len_is}
+use Rattle.std.proofs.lemmas.List.Sums.{position_or_len_is, prefix_len-le-length}
 use Rattle.std.proofs.lemmas.Map.Keys.{apart_from_distinct}
 use Rattle.std.proofs.lemmas.Option.{slice_get_within, get_or_from_slice_get}
 use Rattle.std.specs.Cmp.{IsEquivalence}
@@ -73,3 +73,16 @@ set-absent (e ∷ es) k v h = by (set-absent es k v) (nat_eq k e.0) h
         → e ∷ es ≡ cond b ((e.0, v) ∷ es) (e ∷ set es k v)
     by later true h = absurd cc
     by later false h = ap (λ r. e ∷ r) (later h)
+
+pub past_all : {X : Type 0} (p : X → Bool) (xs : List X) → None ≡ position p xs → length xs ≡ position_or_len p xs
+past_all p xs h = by (nat_lt (position_or_len p xs) (length xs)) refl h
+  where
+    within : position_or_len p xs ≤ length xs
+    within = prefix_len-le-length (λ x. not (p x)) xs
+
+    not_below : nat_lt (position_or_len p xs) (length xs) ≡ false → length xs ≤ position_or_len p xs
+    not_below e = grind arith
+
+    by : (b : Bool) → nat_lt (position_or_len p xs) (length xs) ≡ b → None ≡ cond b (Some (position_or_len p xs)) None → length xs ≡ position_or_len p xs
+    by true e h = absurd cc
+    by false e h = omega (arith, within, not_below e)

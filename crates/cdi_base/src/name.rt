@@ -187,4 +187,18 @@ impl Names {
             number: index as u32,
         })
     }
+
+    /// The name that a text has in the table, or the one that it would be given next.
+    pub fn name_for(&self, text: &str) -> Name
+        ensures { result ≡ spec.number_of self.now text.now }
+    {
+        match self.texts.get_index_of(text) {
+            Some(index) => Name {
+                number: index as u32,
+            },
+            None => Name {
+                number: self.texts.len() as u32,
+            },
+        }
+    }
 }

@@ -53,6 +53,9 @@ fn interns_each_text_once(rt: HostRuntime) -> Result<(), Fail> {
     assert_eq!(rt; names.find("K"), Some(first));
     assert_eq!(rt; names.find("k"), Some(second));
     assert_eq!(rt; names.find("kk"), None);
+    assert_eq!(rt; names.name_for("k"), second);
+    let next = names.name_for("kk");
+    assert_eq!(rt; interned(&rt, &mut names, "kk")?, next);
     Ok(())
 }
 

@@ -16,7 +16,7 @@ use Rattle.cdi_plain.specs.declared.task.Next.TheVariants as nexts
 use Rattle.cdi_plain.specs.World.{World, Change, changed, Make, Put, Remove, Hold, Become, End, written, HasRoom}
 use Rattle.cdi_plain.specs.Programs.{Prog}
 use Rattle.cdi_plain.specs.Machine.{machine}
-use Rattle.cdi_plain.specs.Runs.{Gives, Runs, SameTrace}
+use Rattle.cdi_plain.specs.Runs.{Legal, Runs, SameTrace}
 use Rattle.cdi_plain.specs.Points.{first}
 use Rattle.cdi_plain.specs.Falls.{call_rank, rank, frame_rank, back_rank, left, cost, Back, Falls}
 
@@ -48,8 +48,8 @@ still w = record { ticks = refl; longer = omega arith }
 kept : {w v : World} → SameTrace w v → Grows w v
 kept k = let e = ap (λ (x : List Entry). length x) k.trace in record { ticks = k.ticks; longer = omega arith }
 
-module _ (tables : Tables) (gives : Gives) (Starved : Type 0) where
-  pub grows : {p : Prog Value} {w v : World} {o : Outcome} → Runs tables gives Starved p w o v → Grows w v
+module _ (tables : Tables) (legal : Legal) (Starved : Type 0) where
+  pub grows : {p : Prog Value} {w v : World} {o : Outcome} → Runs tables legal Starved p w o v → Grows w v
   grows {w = w} Runs.returns = still w
   grows {w = w} Runs.throws = still w
   grows {w = w} Runs.cuts = still w
@@ -67,12 +67,12 @@ module _ (tables : Tables) (gives : Gives) (Starved : Type 0) where
   grows (Runs.does a h r) = grows r
   grows (Runs.has_none e r) = grows r
   grows (Runs.has_one e r) = grows r
-  grows (Runs.picks i m l r) = grows r
+  grows (Runs.picks i m l c r) = grows r
   grows (Runs.calls r1 r) = let a = grows r1 in let b = grows r in record { ticks = b.ticks ∙ a.ticks; longer = omega (arith, a.longer, b.longer) }
   grows (Runs.starves s h) = kept h
 
   -- a destruction is cut or writes an entry
-  destroy_writes : {n : ℕ} {v w1 : World} {o : Outcome} → Runs tables gives Starved (machine (calls.Destroy n)) v o w1 → ((k : Frame) → back_rank k o ≡ 0) ⊎ ((length v.trace < length w1.trace) × (length v.trace < v.ticks))
+  destroy_writes : {n : ℕ} {v w1 : World} {o : Outcome} → Runs tables legal Starved (machine (calls.Destroy n)) v o w1 → ((k : Frame) → back_rank k o ≡ 0) ⊎ ((length v.trace < length w1.trace) × (length v.trace < v.ticks))
   destroy_writes {n = n} {v = v} (Runs.writes room r) = let h = grows r in let p = length-append v.trace (entries.End n ∷ []) in inr (omega (arith, h.longer), omega arith)
   destroy_writes (Runs.is_full h) = inl (λ k. refl)
   destroy_writes (Runs.starves s h) = inl (λ k. refl)
@@ -100,41 +100,41 @@ entry_falls t t1 e w v h room =
     let p = length-append v.trace (e ∷ []) in
     by_entry t t1 w (written e v) (omega arith) (omega arith) l
 
-module _ (tables : Tables) (gives : Gives) where
-  after_destroy : (t t1 : Task) (k : Frame) {n : ℕ} {o1 : Outcome} (w v : World) {w1 : World} → SameTrace w v → Runs tables gives ⊥ (machine (calls.Destroy n)) v o1 w1 → 0 < rank t → rank t1 ≤ back_rank k o1 → cost t1 w1 < cost t w
+module _ (tables : Tables) (legal : Legal) where
+  after_destroy : (t t1 : Task) (k : Frame) {n : ℕ} {o1 : Outcome} (w v : World) {w1 : World} → SameTrace w v → Runs tables legal ⊥ (machine (calls.Destroy n)) v o1 w1 → 0 < rank t → rank t1 ≤ back_rank k o1 → cost t1 w1 < cost t w
   after_destroy t t1 k {o1 = o1} w v {w1 = w1} s r pos h =
       let a = kept s in
-      let b = grows tables gives ⊥ r in
+      let b = grows tables legal ⊥ r in
       let e = ap (λ (x : List Entry). length x) s.trace in
-      elim (destroy_writes tables gives ⊥ r) [
+      elim (destroy_writes tables legal ⊥ r) [
         | inl z ↦ let zz = z k in by_rank t t1 w w1 (record { ticks = b.ticks ∙ a.ticks; longer = omega (arith, a.longer, b.longer) }) (omega (arith, zz))
         | inr p ↦ by_entry t t1 w w1 (omega (arith, p.0)) (omega (arith, p.1, a.ticks)) (b.ticks ∙ a.ticks)
       ]
 
-  after_back : (t t1 : Task) (c : Call) (k : Frame) {o1 : Outcome} (w v : World) {w1 : World} → SameTrace w v → Back t c k → 0 < rank t → Runs tables gives ⊥ (machine c) v o1 w1 → rank t1 ≤ back_rank k o1 → cost t1 w1 < cost t w
+  after_back : (t t1 : Task) (c : Call) (k : Frame) {o1 : Outcome} (w v : World) {w1 : World} → SameTrace w v → Back t c k → 0 < rank t → Runs tables legal ⊥ (machine c) v o1 w1 → rank t1 ≤ back_rank k o1 → cost t1 w1 < cost t w
   after_back t t1 c (frames.Dismissing temporaries told) w v s (n, is) pos r h = after_destroy t t1 (frames.Dismissing temporaries told) w v s (rw is at r) pos h
   after_back t t1 c (frames.Releasing i) w v s (n, is) pos r h = after_destroy t t1 (frames.Releasing i) w v s (rw is at r) pos h
   after_back t t1 c frames.Clearing w v s (n, is) pos r h = after_destroy t t1 frames.Clearing w v s (rw is at r) pos h
   after_back t t1 c k {o1 = outcomes.Cut x} w v {w1 = w1} s q pos r h =
-      let a = kept s in let b = grows tables gives ⊥ r in
+      let a = kept s in let b = grows tables legal ⊥ r in
       by_rank t t1 w w1 (record { ticks = b.ticks ∙ a.ticks; longer = omega (arith, a.longer, b.longer) }) (omega arith)
   after_back t t1 c (frames.Reaching bean method args) {o1 = o1} w v {w1 = w1} s q pos r h =
-      let a = kept s in let b = grows tables gives ⊥ r in
+      let a = kept s in let b = grows tables legal ⊥ r in
       by_rank t t1 w w1 (record { ticks = b.ticks ∙ a.ticks; longer = omega (arith, a.longer, b.longer) }) (grind arith)
   after_back t t1 c (frames.Borrowing n bean method args) {o1 = o1} w v {w1 = w1} s q pos r h =
-      let a = kept s in let b = grows tables gives ⊥ r in
+      let a = kept s in let b = grows tables legal ⊥ r in
       by_rank t t1 w w1 (record { ticks = b.ticks ∙ a.ticks; longer = omega (arith, a.longer, b.longer) }) (grind arith)
   after_back t t1 c (frames.Using temporaries) {o1 = o1} w v {w1 = w1} s q pos r h =
-      let a = kept s in let b = grows tables gives ⊥ r in
+      let a = kept s in let b = grows tables legal ⊥ r in
       by_rank t t1 w w1 (record { ticks = b.ticks ∙ a.ticks; longer = omega (arith, a.longer, b.longer) }) (grind arith)
   after_back t t1 c (frames.Answering x) {o1 = o1} w v {w1 = w1} s q pos r h =
-      let a = kept s in let b = grows tables gives ⊥ r in
+      let a = kept s in let b = grows tables legal ⊥ r in
       by_rank t t1 w w1 (record { ticks = b.ticks ∙ a.ticks; longer = omega (arith, a.longer, b.longer) }) (grind arith)
   after_back t t1 c frames.Emptying {o1 = o1} w v {w1 = w1} s q pos r h =
-      let a = kept s in let b = grows tables gives ⊥ r in
+      let a = kept s in let b = grows tables legal ⊥ r in
       by_rank t t1 w w1 (record { ticks = b.ticks ∙ a.ticks; longer = omega (arith, a.longer, b.longer) }) (grind arith)
 
-  pub after_falls : (t t1 : Task) (c : Call) (k : Frame) {o1 : Outcome} (w v : World) {w1 : World} → Falls t w (nexts.Needs c k) v → Runs tables gives ⊥ (first (tasks.Start c)) v o1 w1 → rank t1 ≤ back_rank k o1 → cost t1 w1 < cost t w
+  pub after_falls : (t t1 : Task) (c : Call) (k : Frame) {o1 : Outcome} (w v : World) {w1 : World} → Falls t w (nexts.Needs c k) v → Runs tables legal ⊥ (first (tasks.Start c)) v o1 w1 → rank t1 ≤ back_rank k o1 → cost t1 w1 < cost t w
   after_falls t t1 c k w v h r q = after_back t t1 c k w v h.0 h.2 (omega (arith, h.1)) r q
 
 pub ruleset costs = (goes_falls, part_falls, entry_falls, after_falls)

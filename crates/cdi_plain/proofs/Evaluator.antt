@@ -20,7 +20,7 @@ use Rattle.cdi_plain.specs.declared.task.Call.{Call}
 use Rattle.cdi_plain.specs.World.{World, changed, written, HasRoom, next_number}
 use Rattle.cdi_plain.specs.Programs.{content, Prog, ret, throw, cut, find, scoped, deeper, fresh, change, tick, act, choose, nested}
 use Rattle.cdi_plain.specs.Machine.{machine}
-use Rattle.cdi_plain.specs.Runs.{Gives, Runs, after}
+use Rattle.cdi_plain.specs.Runs.{Runs, after}
 use Rattle.cdi_plain.specs.Worked.{anything}
 
 abbrev found : {X T : Type 0} (c : Option X) → (c ≡ None → T) → ((x : X) → c ≡ Some x → T) → T
@@ -95,7 +95,7 @@ module _ (tables : Tables) (plan : List Entry) where
   within rec (choose n p k) w = by_count n
       (λ e. on (λ o v r. Runs.has_none e r) (within rec p w))
       (λ e. on (λ o v r. Runs.has_one e r) (within rec (k 0) w))
-      (λ m. let i = pick_in (slice_get plan (length w.trace)) in by_order i n (λ h. on (λ o v r. Runs.picks i m h r) (ticking (entries.Pick n i) (k i) w (within rec (k i) (written (entries.Pick n i) w)))) (λ h. None))
+      (λ m. let i = pick_in (slice_get plan (length w.trace)) in by_order i n (λ h. on (λ o v r. Runs.picks i m h (tt {0}) r) (ticking (entries.Pick n i) (k i) w (within rec (k i) (written (entries.Pick n i) w)))) (λ h. None))
   within rec (nested c k) w = calling c k w (rec c w) (λ o u. completing k o u (λ d. within rec (k d) u))
 
   -- at most so many calls deep

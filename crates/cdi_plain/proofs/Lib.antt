@@ -9,3 +9,5 @@ pub mod Worked
 pub mod Built
 pub mod Checked
 pub mod Accepted
+pub mod Schedule
+pub mod Wider

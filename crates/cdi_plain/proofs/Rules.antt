@@ -20,27 +20,27 @@ use Rattle.cdi_plain.specs.World.{Instance, World, instance_at, next_number}
 use Rattle.cdi_plain.specs.Beans.{bean_of, method_of, resolve}
 use Rattle.cdi_plain.specs.Programs.{act, nested, cut}
 use Rattle.cdi_plain.specs.Machine.{perform, released, gone}
-use Rattle.cdi_plain.specs.Runs.{Gives}
+use Rattle.cdi_plain.specs.Runs.{Legal}
 use Rattle.cdi_plain.specs.Points.{Leads, settled, first, waits, if_below}
 use Rattle.cdi_plain.specs.Points.Comes.{same, does, picks}
 
-module _ (tables : Tables) (gives : Gives) where
-  pub acts_first : (r : Running) {a copy : Act} {m : Method} {o : Instance} (w : World) {fields : List (ℕ × Value)} → method_of tables r.code ≡ Some m → instance_at w r.instance ≡ Some o → gives m.body fields r.view a → fields ≡ o.fields → copy ≡ a
-      → Leads tables gives (tasks.Start (calls.Acts r)) w (nexts.Writes (entries.Did copy) (tasks.Do r a)) w
+module _ (tables : Tables) (legal : Legal) where
+  pub acts_first : (r : Running) {a copy : Act} {m : Method} {o : Instance} (w : World) {fields : List (ℕ × Value)} → method_of tables r.code ≡ Some m → instance_at w r.instance ≡ Some o → legal.gives m.body fields r.view a → fields ≡ o.fields → copy ≡ a
+      → Leads tables legal (tasks.Start (calls.Acts r)) w (nexts.Writes (entries.Did copy) (tasks.Do r a)) w
   acts_first r {a = a} {m = m} {o = o} w f e h k c =
       let here : settled tables (first (tasks.Start (calls.Acts r))) w ≡ (act m.body o.fields r.view (perform r), w) = rw (f, e) refl in
-      let allowed : gives m.body o.fields r.view a = rw k at h in
+      let allowed : legal.gives m.body o.fields r.view a = rw k at h in
       rw c (does {k = perform r} here allowed)
 
-  pub release_first : (i : ℕ) {c n : ℕ} {o : Instance} (w : World) → instance_at w i ≡ Some o → n ≡ length o.dependents → 2 ≤ n → c < n
-      → Leads tables gives (tasks.Start (calls.Release i)) w (nexts.Writes (entries.Pick n c) (tasks.Released i c)) w
-  release_first i {n = n} {o = o} w e f many within = picks {n = n} {p = gone i} {k = released i} (grind (arith, e, f)) many within
+  pub release_first : (i : ℕ) {c n : ℕ} {o : Instance} (w : World) → instance_at w i ≡ Some o → n ≡ length o.dependents → 2 ≤ n → c < n → legal.picks n (length w.trace) c
+      → Leads tables legal (tasks.Start (calls.Release i)) w (nexts.Writes (entries.Pick n c) (tasks.Released i c)) w
+  release_first i {n = n} {o = o} w e f many within legal_pick = picks {n = n} {p = gone i} {k = released i} (grind (arith, e, f)) many within legal_pick
 
   below : {Y : Type 0} (n m : ℕ) (p q : Y) → n < m → if_below n m p q ≡ p
   below n m p q h = grind arith
 
   pub call_first : (type method : ℕ) (args : List Value) {bean n : ℕ} {b : Bean} (w : World) → resolve tables type ≡ One bean → bean_of tables bean ≡ Some b → b.scope ≡ scopes.Dependent → n ≡ next_number w → next_number w < 2 ^ 32
-      → Leads tables gives (tasks.Start (calls.CallBean type method args)) w (nexts.Needs (calls.Create n bean) (frames.Borrowing n bean method args)) w
+      → Leads tables legal (tasks.Start (calls.CallBean type method args)) w (nexts.Needs (calls.Create n bean) (frames.Borrowing n bean method args)) w
   call_first type method args {bean = bean} w r f s e h =
       let made = nested (calls.Create (next_number w) bean) (waits (frames.Borrowing (next_number w) bean method args)) in
       let few = below (next_number w) (2 ^ 32) (made, w) (cut causes.Numbers, w) h in
@@ -56,7 +56,7 @@ module _ (tables : Tables) (gives : Gives) where
   front_of (m ∷ ns) n = ap (λ (l : List ℕ). m ∷ l) (front_of ns n)
 
   pub dismiss_first : (temporaries numbers : List ℕ) (n : ℕ) (c : Completion) (w : World) → temporaries ≡ numbers ++ n ∷ []
-      → Leads tables gives (tasks.Start (calls.Dismiss temporaries c)) w (nexts.Needs (calls.Destroy n) (frames.Dismissing numbers c)) w
+      → Leads tables legal (tasks.Start (calls.Dismiss temporaries c)) w (nexts.Needs (calls.Destroy n) (frames.Dismissing numbers c)) w
   dismiss_first temporaries numbers n c w e =
       let count : length (numbers ++ n ∷ []) - 1 ≡ length numbers = omega (arith, length-append numbers (n ∷ [])) in
       let here : settled tables (first (tasks.Start (calls.Dismiss (numbers ++ n ∷ []) c))) w ≡ (nested (calls.Destroy n) (waits (frames.Dismissing numbers c)), w) = rw (count, last_of numbers n, front_of numbers n) refl in

@@ -20,7 +20,7 @@ use Rattle.cdi_plain.specs.declared.task.Next.TheVariants as nexts
 use Rattle.cdi_plain.specs.World.{World, Change, changed, Make, Put, Remove, Hold, Become, End, written, HasRoom, next_number}
 use Rattle.cdi_plain.specs.Programs.{Content, content, Prog, ret, throw, cut, find, scoped, deeper, fresh, change, tick, act, choose, nested, completed}
 use Rattle.cdi_plain.specs.Machine.{machine}
-use Rattle.cdi_plain.specs.Runs.{Gives, Runs, Ran, SameTrace, after}
+use Rattle.cdi_plain.specs.Runs.{Legal, Runs, Ran, SameTrace, after}
 use Rattle.cdi_plain.specs.Points.{Comes, Leads, first, rest, node, waits, over, settled, if_found, if_scope, if_zero, if_below, if_few}
 
 same_trace : (w : World) → SameTrace w w
@@ -68,10 +68,10 @@ module _ (tables : Tables) where
   settled_same (choose n p k) w = few_same (nat_eq n 0) (nat_eq n 1) (settled tables p w) (settled tables (k 0) w) (choose n p k, w) w (settled_same p w) (settled_same (k 0) w) (same_trace w)
   settled_same (nested c k) w = same_trace w
 
-module _ (tables : Tables) (gives : Gives) (Starved : Type 0) where
+module _ (tables : Tables) (legal : Legal) (Starved : Type 0) where
   -- the runs from a program and a world
   abbrev At : Prog Value × World → Outcome → World → Type 0
-  At s o v = Runs tables gives Starved s.0 s.1 o v
+  At s o v = Runs tables legal Starved s.0 s.1 o v
 
   is_zero : {Y : Type 0} (n : ℕ) (p q : Y) → n ≡ 0 → if_zero n p q ≡ p
   is_zero n p q h = rw h
@@ -93,7 +93,7 @@ module _ (tables : Tables) (gives : Gives) (Starved : Type 0) where
       let k = settled_same tables p w in
       Runs.starves s (record { trace = h.trace ∙ sym k.trace; ticks = h.ticks ∙ sym k.ticks })
 
-  pub to_settled : {p : Prog Value} {w v : World} {o : Outcome} → Runs tables gives Starved p w o v → At (settled tables p w) o v
+  pub to_settled : {p : Prog Value} {w v : World} {o : Outcome} → Runs tables legal Starved p w o v → At (settled tables p w) o v
   to_settled Runs.returns = Runs.returns
   to_settled Runs.throws = Runs.throws
   to_settled Runs.cuts = Runs.cuts
@@ -111,52 +111,52 @@ module _ (tables : Tables) (gives : Gives) (Starved : Type 0) where
   to_settled (Runs.does a h r) = Runs.does a h r
   to_settled (Runs.has_none e r) = rw e (to_settled r)
   to_settled (Runs.has_one e r) = rw e (to_settled r)
-  to_settled {w = w} {v = v} {o = o} (Runs.picks {n = n} {p = p} {k = k} i h l r) = subst (λ s. At s o v) (sym (many n (settled tables p w) (settled tables (k 0) w) (choose n p k, w) h)) (Runs.picks i h l r)
+  to_settled {w = w} {v = v} {o = o} (Runs.picks {n = n} {p = p} {k = k} i h l c r) = subst (λ s. At s o v) (sym (many n (settled tables p w) (settled tables (k 0) w) (choose n p k, w) h)) (Runs.picks i h l c r)
   to_settled (Runs.calls r1 r) = Runs.calls r1 r
   to_settled {p = p} {w = w} (Runs.starves s h) = starved_at p w s h
 
   find_from : {X : Type 0} (c : Option X) {n p : Prog Value} {k : X → Prog Value} {w v : World} {o : Outcome}
-      → (c ≡ None → Runs tables gives Starved n w o v → Runs tables gives Starved p w o v)
-      → ((x : X) → c ≡ Some x → Runs tables gives Starved (k x) w o v → Runs tables gives Starved p w o v)
-      → (At (settled tables n w) o v → Runs tables gives Starved n w o v)
-      → ((x : X) → At (settled tables (k x) w) o v → Runs tables gives Starved (k x) w o v)
-      → At (if_found c (settled tables n w) (λ x. settled tables (k x) w)) o v → Runs tables gives Starved p w o v
+      → (c ≡ None → Runs tables legal Starved n w o v → Runs tables legal Starved p w o v)
+      → ((x : X) → c ≡ Some x → Runs tables legal Starved (k x) w o v → Runs tables legal Starved p w o v)
+      → (At (settled tables n w) o v → Runs tables legal Starved n w o v)
+      → ((x : X) → At (settled tables (k x) w) o v → Runs tables legal Starved (k x) w o v)
+      → At (if_found c (settled tables n w) (λ x. settled tables (k x) w)) o v → Runs tables legal Starved p w o v
   find_from None a b f g r = a refl (f r)
   find_from (Some x) a b f g r = b x refl (g x r)
 
   scope_from : (s : Scope) (p q : Prog Value) {w v : World} {o : Outcome}
-      → (At (settled tables p w) o v → Runs tables gives Starved p w o v)
-      → (At (settled tables q w) o v → Runs tables gives Starved q w o v)
-      → At (if_scope s (settled tables p w) (settled tables q w)) o v → Runs tables gives Starved (scoped s p q) w o v
+      → (At (settled tables p w) o v → Runs tables legal Starved p w o v)
+      → (At (settled tables q w) o v → Runs tables legal Starved q w o v)
+      → At (if_scope s (settled tables p w) (settled tables q w)) o v → Runs tables legal Starved (scoped s p q) w o v
   scope_from scopes.ApplicationScoped p q f g r = Runs.shares refl (f r)
   scope_from scopes.Dependent p q f g r = Runs.depends refl (g r)
 
   deep_from : (d : ℕ) (k : ℕ → Prog Value) {w v : World} {o : Outcome}
-      → (At (settled tables (k (d - 1)) w) o v → Runs tables gives Starved (k (d - 1)) w o v)
-      → At (if_zero d (cut causes.Depth, w) (settled tables (k (d - 1)) w)) o v → Runs tables gives Starved (deeper d k) w o v
+      → (At (settled tables (k (d - 1)) w) o v → Runs tables legal Starved (k (d - 1)) w o v)
+      → At (if_zero d (cut causes.Depth, w) (settled tables (k (d - 1)) w)) o v → Runs tables legal Starved (deeper d k) w o v
   deep_from zero k f Runs.cuts = Runs.too_deep refl
   deep_from zero k f (Runs.starves s h) = Runs.starves s h
   deep_from (suc d) k {w = w} {v = v} {o = o} f r = Runs.goes_deeper (omega arith) (f (subst (λ s. At s o v) (not_zero (suc d) (cut causes.Depth, w) (settled tables (k (suc d - 1)) w) (omega arith)) r))
 
-  ended_from : {k : ℕ → Prog Value} {w v : World} {o : Outcome} → 2 ^ 32 ≤ next_number w → Runs tables gives Starved (cut causes.Numbers) w o v → Runs tables gives Starved (fresh k) w o v
+  ended_from : {k : ℕ → Prog Value} {w v : World} {o : Outcome} → 2 ^ 32 ≤ next_number w → Runs tables legal Starved (cut causes.Numbers) w o v → Runs tables legal Starved (fresh k) w o v
   ended_from h Runs.cuts = Runs.no_number h
   ended_from h (Runs.starves s e) = Runs.starves s e
 
   number_from : (b : Bool) (k : ℕ → Prog Value) {w v : World} {o : Outcome} → nat_lt (next_number w) (2 ^ 32) ≡ b
-      → (At (settled tables (k (next_number w)) w) o v → Runs tables gives Starved (k (next_number w)) w o v)
-      → At (elim b as (λ _. Prog Value × World) [ true ↦ settled tables (k (next_number w)) w | false ↦ (cut causes.Numbers, w) ]) o v → Runs tables gives Starved (fresh k) w o v
+      → (At (settled tables (k (next_number w)) w) o v → Runs tables legal Starved (k (next_number w)) w o v)
+      → At (elim b as (λ _. Prog Value × World) [ true ↦ settled tables (k (next_number w)) w | false ↦ (cut causes.Numbers, w) ]) o v → Runs tables legal Starved (fresh k) w o v
   number_from true k e f r = Runs.numbers (grind arith) (f r)
   number_from false k e f r = ended_from (grind arith) r
 
   few_from : (n : ℕ) (p : Prog Value) (k : ℕ → Prog Value) {w v : World} {o : Outcome}
-      → (At (settled tables p w) o v → Runs tables gives Starved p w o v)
-      → (At (settled tables (k 0) w) o v → Runs tables gives Starved (k 0) w o v)
-      → At (if_few n (settled tables p w) (settled tables (k 0) w) (choose n p k, w)) o v → Runs tables gives Starved (choose n p k) w o v
+      → (At (settled tables p w) o v → Runs tables legal Starved p w o v)
+      → (At (settled tables (k 0) w) o v → Runs tables legal Starved (k 0) w o v)
+      → At (if_few n (settled tables p w) (settled tables (k 0) w) (choose n p k, w)) o v → Runs tables legal Starved (choose n p k) w o v
   few_from zero p k f g r = Runs.has_none refl (f r)
   few_from (suc zero) p k f g r = Runs.has_one refl (g r)
   few_from (suc (suc n)) p k {w = w} {v = v} {o = o} f g r = subst (λ s. At s o v) (many (suc (suc n)) (settled tables p w) (settled tables (k 0) w) (choose (suc (suc n)) p k, w) (omega arith)) r
 
-  pub from_settled : (p : Prog Value) {w v : World} {o : Outcome} → At (settled tables p w) o v → Runs tables gives Starved p w o v
+  pub from_settled : (p : Prog Value) {w v : World} {o : Outcome} → At (settled tables p w) o v → Runs tables legal Starved p w o v
   from_settled (ret x) r = r
   from_settled (throw x) r = r
   from_settled (cut cause) r = r
@@ -171,52 +171,52 @@ module _ (tables : Tables) (gives : Gives) (Starved : Type 0) where
   from_settled (nested c k) r = r
 
   -- every run of what is left after a step is one of the task
-  comes_runs : {s t : Prog Value × World} {o : Outcome} {v : World} → Comes gives s t → At t o v → At s o v
+  comes_runs : {s t : Prog Value × World} {o : Outcome} {v : World} → Comes legal s t → At t o v → At s o v
   comes_runs {o = o} {v = v} (Comes.same e) r = subst (λ s. At s o v) (sym e) r
   comes_runs {o = o} {v = v} (Comes.does {a = a} e h) r = subst (λ s. At s o v) (sym e) (Runs.does a h r)
-  comes_runs {o = o} {v = v} (Comes.picks {i = i} e m l) r = subst (λ s. At s o v) (sym e) (Runs.picks i m l r)
+  comes_runs {o = o} {v = v} (Comes.picks {i = i} e m l c) r = subst (λ s. At s o v) (sym e) (Runs.picks i m l c r)
 
-  pub leads_runs : (t : Task) (n : Next) (w u : World) {v : World} {o : Outcome} → Leads tables gives t w n u → Runs tables gives Starved (node n) u o v → Runs tables gives Starved (first t) w o v
+  pub leads_runs : (t : Task) (n : Next) (w u : World) {v : World} {o : Outcome} → Leads tables legal t w n u → Runs tables legal Starved (node n) u o v → Runs tables legal Starved (first t) w o v
   leads_runs t n w u h r = from_settled (first t) (comes_runs h (to_settled r))
 
   -- a call whose outcome goes on
-  over_runs : (o : Outcome) {w : World} → Runs tables gives Starved (over o) w o w
+  over_runs : (o : Outcome) {w : World} → Runs tables legal Starved (over o) w o w
   over_runs (outcomes.Value v) = Runs.returns
   over_runs (outcomes.Threw x) = Runs.throws
   over_runs (outcomes.Cut cause) = Runs.cuts
 
-  completed_runs : (o : Outcome) {w : World} → Runs tables gives Starved (after o completed) w o w
+  completed_runs : (o : Outcome) {w : World} → Runs tables legal Starved (after o completed) w o w
   completed_runs (outcomes.Value v) = Runs.returns
   completed_runs (outcomes.Threw x) = Runs.throws
   completed_runs (outcomes.Cut cause) = Runs.cuts
 
-  pub rest_runs : (t : Task) {w v : World} {o : Outcome} → Runs tables gives Starved (first t) w o v → Runs tables gives Starved (rest t) w o v
+  pub rest_runs : (t : Task) {w v : World} {o : Outcome} → Runs tables legal Starved (first t) w o v → Runs tables legal Starved (rest t) w o v
   rest_runs (tasks.Start c) {o = o} r = Runs.calls r (completed_runs o)
   rest_runs (tasks.Over p) r = r
   rest_runs _ r = r
 
-  pub ends : (t : Task) (w u : World) {o : Outcome} → Leads tables gives t w (nexts.Finished o) u → Runs tables gives Starved (first t) w o u
+  pub ends : (t : Task) (w u : World) {o : Outcome} → Leads tables legal t w (nexts.Finished o) u → Runs tables legal Starved (first t) w o u
   ends t w u {o = o} s = leads_runs t (nexts.Finished o) w u s (over_runs o)
 
-  pub goes : (t t1 : Task) (w u : World) {v : World} {o : Outcome} → Leads tables gives t w (nexts.Goes t1) u → Runs tables gives Starved (first t1) u o v → Runs tables gives Starved (first t) w o v
+  pub goes : (t t1 : Task) (w u : World) {v : World} {o : Outcome} → Leads tables legal t w (nexts.Goes t1) u → Runs tables legal Starved (first t1) u o v → Runs tables legal Starved (first t) w o v
   goes t t1 w u s r = leads_runs t (nexts.Goes t1) w u s (rest_runs t1 r)
 
-  pub needs : (t t1 : Task) (c : Call) (k : Frame) (w u : World) {w1 v : World} {o1 o : Outcome} → Leads tables gives t w (nexts.Needs c k) u → Runs tables gives Starved (first (tasks.Start c)) u o1 w1 → rest t1 ≡ after o1 (waits k) → Runs tables gives Starved (first t1) w1 o v → Runs tables gives Starved (first t) w o v
-  needs t t1 c k w u {w1 = w1} {v = v} {o = o} s r1 e r = leads_runs t (nexts.Needs c k) w u s (Runs.calls r1 (subst (λ p. Runs tables gives Starved p w1 o v) e (rest_runs t1 r)))
+  pub needs : (t t1 : Task) (c : Call) (k : Frame) (w u : World) {w1 v : World} {o1 o : Outcome} → Leads tables legal t w (nexts.Needs c k) u → Runs tables legal Starved (first (tasks.Start c)) u o1 w1 → rest t1 ≡ after o1 (waits k) → Runs tables legal Starved (first t1) w1 o v → Runs tables legal Starved (first t) w o v
+  needs t t1 c k w u {w1 = w1} {v = v} {o = o} s r1 e r = leads_runs t (nexts.Needs c k) w u s (Runs.calls r1 (subst (λ p. Runs tables legal Starved p w1 o v) e (rest_runs t1 r)))
 
-  pub writes : (t t1 : Task) (e : Entry) (w u : World) {v : World} {o : Outcome} → Leads tables gives t w (nexts.Writes e t1) u → HasRoom u → Runs tables gives Starved (first t1) (written e u) o v → Runs tables gives Starved (first t) w o v
+  pub writes : (t t1 : Task) (e : Entry) (w u : World) {v : World} {o : Outcome} → Leads tables legal t w (nexts.Writes e t1) u → HasRoom u → Runs tables legal Starved (first t1) (written e u) o v → Runs tables legal Starved (first t) w o v
   writes t t1 e w u s h r = leads_runs t (nexts.Writes e t1) w u s (Runs.writes h (rest_runs t1 r))
 
-  pub full : (t t1 : Task) (e : Entry) (w u : World) → Leads tables gives t w (nexts.Writes e t1) u → u.ticks ≤ length u.trace → Runs tables gives Starved (first t) w (outcomes.Cut causes.Ticks) u
+  pub full : (t t1 : Task) (e : Entry) (w u : World) → Leads tables legal t w (nexts.Writes e t1) u → u.ticks ≤ length u.trace → Runs tables legal Starved (first t) w (outcomes.Cut causes.Ticks) u
   full t t1 e w u s h = leads_runs t (nexts.Writes e t1) w u s (Runs.is_full h)
 
   -- memory runs out in a call
-  pub starved_in : (t : Task) (c : Call) (k : Frame) (w u : World) {v : World} → Leads tables gives t w (nexts.Needs c k) u → Runs tables gives Starved (first (tasks.Start c)) u (outcomes.Cut causes.Memory) v → Runs tables gives Starved (first t) w (outcomes.Cut causes.Memory) v
+  pub starved_in : (t : Task) (c : Call) (k : Frame) (w u : World) {v : World} → Leads tables legal t w (nexts.Needs c k) u → Runs tables legal Starved (first (tasks.Start c)) u (outcomes.Cut causes.Memory) v → Runs tables legal Starved (first t) w (outcomes.Cut causes.Memory) v
   starved_in t c k w u s r = leads_runs t (nexts.Needs c k) w u s (Runs.calls r Runs.cuts)
 
 -- a run that has all its memory is one of those where it may run out
-module _ (tables : Tables) (gives : Gives) where
-  pub spared : {p : Prog Value} {w v : World} {o : Outcome} → Runs tables gives ⊥ p w o v → Runs tables gives (Unit {0}) p w o v
+module _ (tables : Tables) (legal : Legal) where
+  pub spared : {p : Prog Value} {w v : World} {o : Outcome} → Runs tables legal ⊥ p w o v → Runs tables legal (Unit {0}) p w o v
   spared Runs.returns = Runs.returns
   spared Runs.throws = Runs.throws
   spared Runs.cuts = Runs.cuts
@@ -234,21 +234,21 @@ module _ (tables : Tables) (gives : Gives) where
   spared (Runs.does a h r) = Runs.does a h (spared r)
   spared (Runs.has_none e r) = Runs.has_none e (spared r)
   spared (Runs.has_one e r) = Runs.has_one e (spared r)
-  spared (Runs.picks i m l r) = Runs.picks i m l (spared r)
+  spared (Runs.picks i m l c r) = Runs.picks i m l c (spared r)
   spared (Runs.calls r1 r) = Runs.calls (spared r1) (spared r)
   spared (Runs.starves s h) = absurd s
 
 pub ruleset runs = (ends, goes, needs, writes, full)
 
-module _ (tables : Tables) (gives : Gives) where
-  pub ran_needs : (t t1 : Task) (c : Call) (k : Frame) (w u : World) {w1 : World} (v : World) {o1 : Outcome} (r : Result Outcome AllocError) → Leads tables gives t w (nexts.Needs c k) u → Runs tables gives ⊥ (first (tasks.Start c)) u o1 w1 → rest t1 ≡ after o1 (waits k)
-      → Ran tables gives (first t1) w1 r v → Ran tables gives (first t) w r v
-  ran_needs t t1 c k w u v (Ok o) s r1 e h = needs tables gives ⊥ t t1 c k w u s r1 e h
-  ran_needs t t1 c k w u v (Err x) s r1 e h = needs tables gives (Unit {0}) t t1 c k w u s (spared tables gives r1) e h
+module _ (tables : Tables) (legal : Legal) where
+  pub ran_needs : (t t1 : Task) (c : Call) (k : Frame) (w u : World) {w1 : World} (v : World) {o1 : Outcome} (r : Result Outcome AllocError) → Leads tables legal t w (nexts.Needs c k) u → Runs tables legal ⊥ (first (tasks.Start c)) u o1 w1 → rest t1 ≡ after o1 (waits k)
+      → Ran tables legal (first t1) w1 r v → Ran tables legal (first t) w r v
+  ran_needs t t1 c k w u v (Ok o) s r1 e h = needs tables legal ⊥ t t1 c k w u s r1 e h
+  ran_needs t t1 c k w u v (Err x) s r1 e h = needs tables legal (Unit {0}) t t1 c k w u s (spared tables legal r1) e h
 
-  pub starved : {p : Prog Value} {w v : World} → SameTrace w v → Runs tables gives (Unit {0}) p w (outcomes.Cut causes.Memory) v
+  pub starved : {p : Prog Value} {w v : World} → SameTrace w v → Runs tables legal (Unit {0}) p w (outcomes.Cut causes.Memory) v
   starved h = Runs.starves tt h
 
-  pub ran_err : {p : Prog Value} {w : World} (v : World) (r : Result Outcome AllocError) → IsErr r → Runs tables gives (Unit {0}) p w (outcomes.Cut causes.Memory) v → Ran tables gives p w r v
+  pub ran_err : {p : Prog Value} {w : World} (v : World) (r : Result Outcome AllocError) → IsErr r → Runs tables legal (Unit {0}) p w (outcomes.Cut causes.Memory) v → Ran tables legal p w r v
   ran_err v (Ok o) h s = absurd (true≢false (sym h))
   ran_err v (Err x) h s = s

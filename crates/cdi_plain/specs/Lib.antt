@@ -14,3 +14,4 @@ pub mod Duplicates
 pub mod WrongBodies
 pub mod Check
 pub mod Accepted
+pub mod Registered

@@ -23,7 +23,7 @@ use Rattle.cdi_plain.specs.declared.task.Next.TheVariants as nexts
 use Rattle.cdi_plain.specs.World.{World, changed, next_number}
 use Rattle.cdi_plain.specs.Programs.{Place, Content, content, Prog, ret, throw, cut, find, scoped, deeper, fresh, change, tick, act, choose, nested, ◌>>=◌, completed, run}
 use Rattle.cdi_plain.specs.Machine.{machine, made, stored, perform, told, answered, ended, released, removed, reached, borrowed, started, closing, ending, emptied, down}
-use Rattle.cdi_plain.specs.Runs.{Gives, Runs}
+use Rattle.cdi_plain.specs.Runs.{Legal, Runs}
 
 abbrev pub over : Outcome → Prog Value
 over (outcomes.Value v) = ret v
@@ -104,11 +104,11 @@ settled tables (choose n p k) w = if_few n (settled tables p w) (settled tables 
 settled tables (nested c k) w = (nested c k, w)
 
 -- the one goes on as the other
-pub data Comes (gives : Gives) : Prog Value × World → Prog Value × World → Type 0 where
-  same : {s t : Prog Value × World} → s ≡ t → Comes gives s t
-  does : {b : ℕ} {fields : List (ℕ × Value)} {view : View} {k : Act → Prog Value} {a : Act} {w : World} {s : Prog Value × World} → s ≡ (act b fields view k, w) → gives b fields view a → Comes gives s (tick (entries.Did a) (k a), w)
-  picks : {n i : ℕ} {p : Prog Value} {k : ℕ → Prog Value} {w : World} {s : Prog Value × World} → s ≡ (choose n p k, w) → 2 ≤ n → i < n → Comes gives s (tick (entries.Pick n i) (k i), w)
+pub data Comes (legal : Legal) : Prog Value × World → Prog Value × World → Type 0 where
+  same : {s t : Prog Value × World} → s ≡ t → Comes legal s t
+  does : {b : ℕ} {fields : List (ℕ × Value)} {view : View} {k : Act → Prog Value} {a : Act} {w : World} {s : Prog Value × World} → s ≡ (act b fields view k, w) → legal.gives b fields view a → Comes legal s (tick (entries.Did a) (k a), w)
+  picks : {n i : ℕ} {p : Prog Value} {k : ℕ → Prog Value} {w : World} {s : Prog Value × World} → s ≡ (choose n p k, w) → 2 ≤ n → i < n → legal.picks n (length w.trace) i → Comes legal s (tick (entries.Pick n i) (k i), w)
 
 -- the task may do this first, from the one world to the other: what is left after it is what was left before
-abbrev pub Leads : Tables → Gives → Task → World → Next → World → Type 0
-Leads tables gives t w n v = Comes gives (settled tables (first t) w) (settled tables (node n) v)
+abbrev pub Leads : Tables → Legal → Task → World → Next → World → Type 0
+Leads tables legal t w n v = Comes legal (settled tables (first t) w) (settled tables (node n) v)

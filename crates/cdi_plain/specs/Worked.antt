@@ -25,11 +25,11 @@ use Rattle.cdi_plain.specs.declared.world.Held.TheVariants as held
 use Rattle.cdi_plain.specs.World.{Instance, World, before_boot, begun}
 use Rattle.cdi_plain.specs.Events.{initialized, startup, shutting_down, before_destroyed, destroyed}
 use Rattle.cdi_plain.specs.Machine.{machine}
-use Rattle.cdi_plain.specs.Runs.{Gives, Runs}
+use Rattle.cdi_plain.specs.Runs.{Legal, Runs}
 
--- bodies of which nothing is said
-abbrev pub anything : Gives
-anything body fields view act = Unit {0}
+-- any act, and any pick
+abbrev pub anything : Legal
+anything = record { gives = λ body fields view act. Unit {0}; picks = λ count entries choice. Unit {0} }
 
 -- the numbers of the names K, n and up
 abbrev pub K : ℕ

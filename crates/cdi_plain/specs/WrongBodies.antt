@@ -80,7 +80,9 @@ wrong_of_kind shape_of kind (class ∷ classes) = wrong_in shape_of kind class +
 
 -- All wrong bodies: by kind, and then in the order of the deployment. No place stands here twice in a kind, since they
 -- are looked for only where no name stands twice.
+abbrev pub wrong_with : (ℕ → Option Shape) → List Class → List Problem
+wrong_with shape_of classes =
+    wrong_of_kind shape_of kinds.UnknownBody classes ++ wrong_of_kind shape_of kinds.BodyOutsideShape classes ++ wrong_of_kind shape_of kinds.ProceedNotAllowed classes
+
 abbrev pub wrong_bodies : {X : Type 0} {F : X → Type 0} {g : _} → List Class → List (Entry X F g) → List Problem
-wrong_bodies classes entries =
-    wrong_of_kind (shape_of entries) kinds.UnknownBody classes ++ wrong_of_kind (shape_of entries) kinds.BodyOutsideShape classes
-    ++ wrong_of_kind (shape_of entries) kinds.ProceedNotAllowed classes
+wrong_bodies classes entries = wrong_with (shape_of entries) classes

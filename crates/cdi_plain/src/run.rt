@@ -26,7 +26,7 @@ fn run_task<D: Driver>(
     task: Task,
 ) -> Result<Outcome, AllocError>
     requires { KnowsEach (D.knows driver.now) tables.now.beans }
-    ensures { Ran tables.now (D.gives driver.now) (first task) world.old result world.new }
+    ensures { Ran tables.now (D.legal driver.now) (first task) world.old result world.new }
 {
     match step(alloc, tables, driver, world, task)? {
         Next::Finished(outcome) => Ok(outcome),
@@ -56,7 +56,7 @@ pub fn run<D: Driver>(
     call: Call,
 ) -> Result<Outcome, AllocError>
     requires { KnowsEach (D.knows driver.now) tables.now.beans }
-    ensures { Ran tables.now (D.gives driver.now) (machine call) world.old result world.new }
+    ensures { Ran tables.now (D.legal driver.now) (machine call) world.old result world.new }
 {
     run_task(alloc, tables, driver, world, Task::Start(call))
 }

@@ -101,7 +101,7 @@ fn start<D: Driver>(
     call: Call,
 ) -> Result<Next, AllocError>
     requires { KnowsEach (D.knows driver.now) tables.now.beans }
-    ensures leads { IfOk result (λ next. Leads tables.now (D.gives driver.now) (Task.Start call) world.now next world.now) }
+    ensures leads { IfOk result (λ next. Leads tables.now (D.legal driver.now) (Task.Start call) world.now next world.now) }
     ensures falls { IfOk result (λ next. Falls (Task.Start call) world.now next world.now) }
 {
     match call {
@@ -141,7 +141,7 @@ pub fn step<D: Driver>(
     task: Task,
 ) -> Result<Next, AllocError>
     requires { KnowsEach (D.knows driver.now) tables.now.beans }
-    ensures leads { IfOk result (λ next. Leads tables.now (D.gives driver.now) task world.old next world.new) }
+    ensures leads { IfOk result (λ next. Leads tables.now (D.legal driver.now) task world.old next world.new) }
     ensures falls { IfOk result (λ next. Falls task world.old next world.new) }
     ensures kept { OnErr result (SameTrace world.old world.new) }
 {

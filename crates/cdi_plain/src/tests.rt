@@ -2,6 +2,7 @@
 ghost use Rattle.std.specs.Prelude.{◌≡◌, IfOk};
 ghost use Rattle.cdi_base.specs.declared.act.Act.TheVariants.{Give};
 ghost use Rattle.cdi_plain.specs.Beans.{KnowsEach};
+ghost use Rattle.cdi_plain.specs.Worked.{anything};
 ghost use Rattle.cdi_base.specs.declared.value.Value.TheVariants.{Null};
 
 use crate::bean::{Bean, Method};
@@ -33,9 +34,7 @@ struct Recursive {
 impl Driver for Counting {
     ghost knows = { λ _ _. Unit {0} };
 
-    ghost gives = { λ _ _ _ _ _. Unit {0} };
-
-    ghost picks = { λ _ _ _ _. Unit {0} };
+    ghost legal = { λ _. anything };
 
     fn act(&self, _body: BodyId, fields: &Fields, view: &View) -> Result<Act, AllocError> {
         if view.answers.is_empty() {
@@ -61,9 +60,7 @@ impl Driver for Counting {
 impl Driver for Recursive {
     ghost knows = { λ _ _. Unit {0} };
 
-    ghost gives = { λ _ _ _ _ _. Unit {0} };
-
-    ghost picks = { λ _ _ _ _. Unit {0} };
+    ghost legal = { λ _. anything };
 
     fn act(&self, _body: BodyId, _fields: &Fields, _view: &View) -> Result<Act, AllocError> {
         Ok(Act::Own {

@@ -26,7 +26,7 @@ pub(super) fn body<D: Driver>(
     args: Seq<Value>,
     depth: u32,
 ) -> Result<Next, AllocError>
-    ensures leads { IfOk result (λ next. Leads tables.now (D.gives driver.now) (Task.Start (Call.Body instance code args depth)) world.now next world.now) }
+    ensures leads { IfOk result (λ next. Leads tables.now (D.legal driver.now) (Task.Start (Call.Body instance code args depth)) world.now next world.now) }
     ensures falls { IfOk result (λ next. Falls (Task.Start (Call.Body instance code args depth)) world.now next world.now) }
 {
     let _world = world;
@@ -63,7 +63,7 @@ pub(super) fn acts<D: Driver>(
     running: Running,
 ) -> Result<Next, AllocError>
     requires { KnowsEach (D.knows driver.now) tables.now.beans }
-    ensures leads { IfOk result (λ next. Leads tables.now (D.gives driver.now) (Task.Start (Call.Acts running)) world.now next world.now) }
+    ensures leads { IfOk result (λ next. Leads tables.now (D.legal driver.now) (Task.Start (Call.Acts running)) world.now next world.now) }
     ensures falls { IfOk result (λ next. Falls (Task.Start (Call.Acts running)) world.now next world.now) }
 {
     let Some(method) = tables.method(&running.code) else {
@@ -86,7 +86,7 @@ pub(super) fn told<D: Driver>(
     running: Running,
     answer: Answer,
 ) -> Result<Next, AllocError>
-    ensures leads { IfOk result (λ next. Leads tables.now (D.gives driver.now) (Task.Told running answer) world.now next world.now) }
+    ensures leads { IfOk result (λ next. Leads tables.now (D.legal driver.now) (Task.Told running answer) world.now next world.now) }
     ensures falls { IfOk result (λ next. Falls (Task.Told running answer) world.now next world.now) }
 {
     let _world = world;
@@ -116,7 +116,7 @@ pub(super) fn answered<D: Driver>(
     running: Running,
     completion: Completion,
 ) -> Result<Next, AllocError>
-    ensures leads { IfOk result (λ next. Leads tables.now (D.gives driver.now) (Task.Answered running completion) world.now next world.now) }
+    ensures leads { IfOk result (λ next. Leads tables.now (D.legal driver.now) (Task.Answered running completion) world.now next world.now) }
     ensures falls { IfOk result (λ next. Falls (Task.Answered running completion) world.now next world.now) }
 {
     let _world = world;
@@ -141,7 +141,7 @@ pub(super) fn perform<D: Driver>(
     running: Running,
     act: Act,
 ) -> Result<Next, AllocError>
-    ensures leads { IfOk result (λ next. Leads tables.now (D.gives driver.now) (Task.Do running act) world.old next world.new) }
+    ensures leads { IfOk result (λ next. Leads tables.now (D.legal driver.now) (Task.Do running act) world.old next world.new) }
     ensures falls { IfOk result (λ next. Falls (Task.Do running act) world.old next world.new) }
     ensures kept { OnErr result (SameTrace world.old world.new) }
 {

@@ -25,7 +25,7 @@ pub(super) fn call_bean<D: Driver>(
     method: Name,
     args: Seq<Value>,
 ) -> Result<Next, AllocError>
-    ensures leads { IfOk result (λ next. Leads tables.now (D.gives driver.now) (Task.Start (Call.CallBean bean_type method args)) world.now next world.now) }
+    ensures leads { IfOk result (λ next. Leads tables.now (D.legal driver.now) (Task.Start (Call.CallBean bean_type method args)) world.now next world.now) }
     ensures falls { IfOk result (λ next. Falls (Task.Start (Call.CallBean bean_type method args)) world.now next world.now) }
 {
     let bean = match tables.resolve(bean_type) {
@@ -66,7 +66,7 @@ pub(super) fn reached<D: Driver>(
     method: Name,
     args: Seq<Value>,
 ) -> Result<Next, AllocError>
-    ensures leads { IfOk result (λ next. Leads tables.now (D.gives driver.now) (Task.Reached bean method args) world.now next world.now) }
+    ensures leads { IfOk result (λ next. Leads tables.now (D.legal driver.now) (Task.Reached bean method args) world.now next world.now) }
     ensures falls { IfOk result (λ next. Falls (Task.Reached bean method args) world.now next world.now) }
 {
     let Some(Held::Is(number)) = world.held(bean) else {
@@ -92,7 +92,7 @@ pub(super) fn borrowed<D: Driver>(
     method: Name,
     args: Seq<Value>,
 ) -> Result<Next, AllocError>
-    ensures leads { IfOk result (λ next. Leads tables.now (D.gives driver.now) (Task.Borrowed number bean method args) world.now next world.now) }
+    ensures leads { IfOk result (λ next. Leads tables.now (D.legal driver.now) (Task.Borrowed number bean method args) world.now next world.now) }
     ensures falls { IfOk result (λ next. Falls (Task.Borrowed number bean method args) world.now next world.now) }
 {
     let mut temporaries = Seq::empty(alloc);
@@ -114,7 +114,7 @@ pub(super) fn boot<D: Driver>(
     driver: &D,
     world: &World,
 ) -> Result<Next, AllocError>
-    ensures leads { IfOk result (λ next. Leads tables.now (D.gives driver.now) (Task.Start Call.Boot) world.now next world.now) }
+    ensures leads { IfOk result (λ next. Leads tables.now (D.legal driver.now) (Task.Start Call.Boot) world.now next world.now) }
     ensures falls { IfOk result (λ next. Falls (Task.Start Call.Boot) world.now next world.now) }
 {
     let _world = world;
@@ -129,7 +129,7 @@ pub(super) fn started<D: Driver>(
     driver: &D,
     world: &World,
 ) -> Result<Next, AllocError>
-    ensures leads { IfOk result (λ next. Leads tables.now (D.gives driver.now) Task.Started world.now next world.now) }
+    ensures leads { IfOk result (λ next. Leads tables.now (D.legal driver.now) Task.Started world.now next world.now) }
     ensures falls { IfOk result (λ next. Falls Task.Started world.now next world.now) }
 {
     let _world = world;
@@ -144,7 +144,7 @@ pub(super) fn shutdown<D: Driver>(
     driver: &D,
     world: &World,
 ) -> Result<Next, AllocError>
-    ensures leads { IfOk result (λ next. Leads tables.now (D.gives driver.now) (Task.Start Call.Shutdown) world.now next world.now) }
+    ensures leads { IfOk result (λ next. Leads tables.now (D.legal driver.now) (Task.Start Call.Shutdown) world.now next world.now) }
     ensures falls { IfOk result (λ next. Falls (Task.Start Call.Shutdown) world.now next world.now) }
 {
     let _world = world;
@@ -159,7 +159,7 @@ pub(super) fn closing<D: Driver>(
     driver: &D,
     world: &World,
 ) -> Result<Next, AllocError>
-    ensures leads { IfOk result (λ next. Leads tables.now (D.gives driver.now) Task.Closing world.now next world.now) }
+    ensures leads { IfOk result (λ next. Leads tables.now (D.legal driver.now) Task.Closing world.now next world.now) }
     ensures falls { IfOk result (λ next. Falls Task.Closing world.now next world.now) }
 {
     let _world = world;
@@ -173,7 +173,7 @@ pub(super) fn ending<D: Driver>(
     driver: &D,
     world: &mut World,
 ) -> Result<Next, AllocError>
-    ensures leads { IfOk result (λ next. Leads tables.now (D.gives driver.now) Task.Ending world.old next world.new) }
+    ensures leads { IfOk result (λ next. Leads tables.now (D.legal driver.now) Task.Ending world.old next world.new) }
     ensures falls { IfOk result (λ next. Falls Task.Ending world.old next world.new) }
     ensures kept { OnErr result (SameTrace world.old world.new) }
 {
@@ -189,7 +189,7 @@ pub(super) fn emptied<D: Driver>(
     driver: &D,
     world: &mut World,
 ) -> Result<Next, AllocError>
-    ensures leads { IfOk result (λ next. Leads tables.now (D.gives driver.now) Task.Emptied world.old next world.new) }
+    ensures leads { IfOk result (λ next. Leads tables.now (D.legal driver.now) Task.Emptied world.old next world.new) }
     ensures falls { IfOk result (λ next. Falls Task.Emptied world.old next world.new) }
     ensures kept { OnErr result (SameTrace world.old world.new) }
 {
@@ -205,7 +205,7 @@ pub(super) fn down<D: Driver>(
     driver: &D,
     world: &mut World,
 ) -> Result<Next, AllocError>
-    ensures leads { IfOk result (λ next. Leads tables.now (D.gives driver.now) Task.Down world.old next world.new) }
+    ensures leads { IfOk result (λ next. Leads tables.now (D.legal driver.now) Task.Down world.old next world.new) }
     ensures falls { IfOk result (λ next. Falls Task.Down world.old next world.new) }
     ensures kept { OnErr result (SameTrace world.old world.new) }
 {

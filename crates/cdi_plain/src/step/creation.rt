@@ -21,7 +21,7 @@ pub(super) fn obtain<D: Driver>(
     world: &World,
     bean: u32,
 ) -> Result<Next, AllocError>
-    ensures leads { IfOk result (λ next. Leads tables.now (D.gives driver.now) (Task.Start (Call.Obtain bean)) world.now next world.now) }
+    ensures leads { IfOk result (λ next. Leads tables.now (D.legal driver.now) (Task.Start (Call.Obtain bean)) world.now next world.now) }
     ensures falls { IfOk result (λ next. Falls (Task.Start (Call.Obtain bean)) world.now next world.now) }
 {
     let status = world.status();
@@ -51,7 +51,7 @@ pub(super) fn create<D: Driver>(
     number: u32,
     bean: u32,
 ) -> Result<Next, AllocError>
-    ensures leads { IfOk result (λ next. Leads tables.now (D.gives driver.now) (Task.Start (Call.Create number bean)) world.now next world.now) }
+    ensures leads { IfOk result (λ next. Leads tables.now (D.legal driver.now) (Task.Start (Call.Create number bean)) world.now next world.now) }
     ensures falls { IfOk result (λ next. Falls (Task.Start (Call.Create number bean)) world.now next world.now) }
 {
     let Some(plan) = tables.bean(bean) else {
@@ -77,7 +77,7 @@ pub(super) fn made<D: Driver>(
     number: u32,
     bean: u32,
 ) -> Result<Next, AllocError>
-    ensures leads { IfOk result (λ next. Leads tables.now (D.gives driver.now) (Task.Made number bean) world.old next world.new) }
+    ensures leads { IfOk result (λ next. Leads tables.now (D.legal driver.now) (Task.Made number bean) world.old next world.new) }
     ensures falls { IfOk result (λ next. Falls (Task.Made number bean) world.old next world.new) }
     ensures kept { OnErr result (SameTrace world.old world.new) }
 {
@@ -102,7 +102,7 @@ pub(super) fn stored<D: Driver>(
     number: u32,
     bean: u32,
 ) -> Result<Next, AllocError>
-    ensures leads { IfOk result (λ next. Leads tables.now (D.gives driver.now) (Task.Stored number bean) world.old next world.new) }
+    ensures leads { IfOk result (λ next. Leads tables.now (D.legal driver.now) (Task.Stored number bean) world.old next world.new) }
     ensures falls { IfOk result (λ next. Falls (Task.Stored number bean) world.old next world.new) }
     ensures kept { OnErr result (SameTrace world.old world.new) }
 {

@@ -29,7 +29,7 @@ pub(super) fn ended<D: Driver>(
     world: &mut World,
     number: u32,
 ) -> Result<Next, AllocError>
-    ensures leads { IfOk result (λ next. Leads tables.now (D.gives driver.now) (Task.Ended number) world.old next world.new) }
+    ensures leads { IfOk result (λ next. Leads tables.now (D.legal driver.now) (Task.Ended number) world.old next world.new) }
     ensures falls { IfOk result (λ next. Falls (Task.Ended number) world.old next world.new) }
     ensures kept { OnErr result (SameTrace world.old world.new) }
 {
@@ -56,7 +56,7 @@ pub(super) fn release<D: Driver>(
     world: &World,
     number: u32,
 ) -> Result<Next, AllocError>
-    ensures leads { IfOk result (λ next. Leads tables.now (D.gives driver.now) (Task.Start (Call.Release number)) world.now next world.now) }
+    ensures leads { IfOk result (λ next. Leads tables.now (D.legal driver.now) (Task.Start (Call.Release number)) world.now next world.now) }
     ensures falls { IfOk result (λ next. Falls (Task.Start (Call.Release number)) world.now next world.now) }
 {
     let Some(instance) = world.instance(number) else {
@@ -86,7 +86,7 @@ pub(super) fn released<D: Driver>(
     number: u32,
     choice: u32,
 ) -> Result<Next, AllocError>
-    ensures leads { IfOk result (λ next. Leads tables.now (D.gives driver.now) (Task.Released number choice) world.old next world.new) }
+    ensures leads { IfOk result (λ next. Leads tables.now (D.legal driver.now) (Task.Released number choice) world.old next world.new) }
     ensures falls { IfOk result (λ next. Falls (Task.Released number choice) world.old next world.new) }
     ensures kept { OnErr result (SameTrace world.old world.new) }
 {
@@ -111,7 +111,7 @@ pub(super) fn removed<D: Driver>(
     world: &mut World,
     number: u32,
 ) -> Result<Next, AllocError>
-    ensures leads { IfOk result (λ next. Leads tables.now (D.gives driver.now) (Task.Removed number) world.old next world.new) }
+    ensures leads { IfOk result (λ next. Leads tables.now (D.legal driver.now) (Task.Removed number) world.old next world.new) }
     ensures falls { IfOk result (λ next. Falls (Task.Removed number) world.old next world.new) }
     ensures kept { OnErr result (SameTrace world.old world.new) }
 {
@@ -128,7 +128,7 @@ pub(super) fn dismiss<D: Driver>(
     temporaries: Seq<u32>,
     completion: Completion,
 ) -> Result<Next, AllocError>
-    ensures leads { IfOk result (λ next. Leads tables.now (D.gives driver.now) (Task.Start (Call.Dismiss temporaries completion)) world.now next world.now) }
+    ensures leads { IfOk result (λ next. Leads tables.now (D.legal driver.now) (Task.Start (Call.Dismiss temporaries completion)) world.now next world.now) }
     ensures falls { IfOk result (λ next. Falls (Task.Start (Call.Dismiss temporaries completion)) world.now next world.now) }
 {
     let _world = world;
@@ -155,7 +155,7 @@ pub(super) fn clear<D: Driver>(
     driver: &D,
     world: &World,
 ) -> Result<Next, AllocError>
-    ensures leads { IfOk result (λ next. Leads tables.now (D.gives driver.now) (Task.Start Call.Clear) world.now next world.now) }
+    ensures leads { IfOk result (λ next. Leads tables.now (D.legal driver.now) (Task.Start Call.Clear) world.now next world.now) }
     ensures falls { IfOk result (λ next. Falls (Task.Start Call.Clear) world.now next world.now) }
 {
     match world.greatest_held() {

@@ -7,4 +7,4 @@ act-requires g c = known_method (g.D.Driver.knows c.args.driver.now) c.args.tabl
 
 pub returns-clause-leads : goal.returns-clause-leads
 returns-clause-leads g c =
-    acts_first c.args.tables.now (g.D.Driver.gives c.args.driver.now) c.args.running c.args.world.now c.in-Some.ensures c.in-Some-instance.ensures c.in_ok-act.ensures c.fields.ensures c.in_ok-clone.ensures.cases
+    acts_first c.args.tables.now (g.D.Driver.legal c.args.driver.now) c.args.running c.args.world.now c.in-Some.ensures c.in-Some-instance.ensures c.in_ok-act.ensures c.fields.ensures c.in_ok-clone.ensures.cases

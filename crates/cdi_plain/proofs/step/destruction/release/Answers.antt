@@ -4,4 +4,4 @@ use Rattle.cdi_plain.proofs.step.destruction.release.Goals as goal
 
 pub returns-clause-leads : goal.returns-clause-leads
 returns-clause-leads g c =
-    release_first c.args.tables.now (g.D.Driver.gives c.args.driver.now) c.args.number c.args.world.now c.in-Some.ensures (search rules) (omega arith) (search rules)
+    release_first c.args.tables.now (g.D.Driver.legal c.args.driver.now) c.args.number c.args.world.now c.in-Some.ensures (search rules) (omega arith) (search rules) (rw c.trace.ensures at c.pick-choice.ensures.picked)
