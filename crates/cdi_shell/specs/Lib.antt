@@ -1,0 +1,4 @@
+pub mod Requests
+pub mod States
+pub mod Containers
+pub mod Known

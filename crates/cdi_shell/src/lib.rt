@@ -1,0 +1,5 @@
+//! Runs a deployment on command lines.
+#![tactic(auto)]
+
+pub mod container;
+pub mod request;

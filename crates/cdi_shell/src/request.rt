@@ -1,0 +1,102 @@
+//! What a command asks of the machine.
+ghost use Rattle.std.specs.Prelude.{◌≡◌, length, option_map};
+ghost use Rattle.std.specs.List.{list_any};
+ghost use Rattle.cdi_shell.specs.Requests as spec;
+
+use cdi_base::{BuiltIn, Command, Name, Refusal, Seq, Text, Value};
+use cdi_plain::bean::{Method, Resolution};
+use cdi_plain::tables::Tables;
+use cdi_plain::task::{Call, Code};
+
+/// What a command comes to.
+#[derive(Drop)]
+pub enum Request {
+    /// It is refused, and changes nothing.
+    Refused(Refusal),
+    /// It is this task of the machine.
+    Runs(Call),
+}
+
+/// Whether a name is a type: a class of the deployment, or a built-in one.
+fn is_type(classes: &[Name], name: Name) -> bool
+    ensures { result ≡ spec.is_type classes.now name }
+{
+    name == BuiltIn::Object.name()
+        || name == BuiltIn::Startup.name()
+        || name == BuiltIn::Shutdown.name()
+        || classes.contains(&name)
+}
+
+/// A call of a method that was looked for: it has to be there, and to take as many values as there are.
+fn invoked(method: Option<&Method>, bean_type: Name, name: Name, args: Seq<Value>) -> Request
+    ensures { result ≡ spec.invoked (option_map (λ m. m.now) method.entry) (Call.CallBean bean_type name args) (length args) }
+{
+    let Some(method) = method else {
+        return Request::Refused(Refusal::NoMethod);
+    };
+    if method.count as usize != args.len() {
+        return Request::Refused(Refusal::WrongCount);
+    }
+    Request::Runs(Call::CallBean {
+        bean_type,
+        method: name,
+        args,
+    })
+}
+
+/// A call of a business method.
+fn called(
+    tables: &Tables,
+    classes: &[Name],
+    bean_type: Name,
+    method: Name,
+    args: Seq<Value>,
+) -> Request
+    ensures { result ≡ spec.called tables.now classes.now bean_type method args }
+{
+    if !is_type(classes, bean_type) {
+        return Request::Refused(Refusal::UnknownName);
+    }
+    match tables.resolve(bean_type) {
+        Resolution::One(bean) => invoked(
+            tables.method(&Code::Method { bean, method }),
+            bean_type,
+            method,
+            args,
+        ),
+        _ => Request::Runs(Call::CallBean {
+            bean_type,
+            method,
+            args,
+        }),
+    }
+}
+
+/// What a command asks of the machine, or why it is refused: the first refusal that holds, in the order of
+/// [`Refusal`]. No request is ever open, and no event can be fired: a command that isn't served is refused as
+/// [`Refusal::BadLine`].
+pub fn requested(tables: &Tables, classes: &[Name], command: Command) -> Request
+    ensures { result ≡ spec.requested tables.now classes.now command }
+{
+    match command {
+        Command::Call {
+            request,
+            bean_type,
+            qualifiers,
+            method,
+            args,
+        } => {
+            if request.is_some() {
+                return Request::Refused(Refusal::NoRequest);
+            }
+            if !qualifiers.is_empty() {
+                return Request::Refused(Refusal::BadLine);
+            }
+            let bean_type = tables.names.name_for(bean_type.as_str());
+            let method = tables.names.name_for(method.as_str());
+            called(tables, classes, bean_type, method, args)
+        }
+        Command::Shutdown => Request::Runs(Call::Shutdown),
+        _ => Request::Refused(Refusal::BadLine),
+    }
+}
