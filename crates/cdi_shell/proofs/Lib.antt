@@ -1,0 +1,12 @@
+pub mod Counted
+pub mod Determined
+pub mod Holding
+pub mod Lengths
+pub mod Lines
+pub mod Mapped
+pub mod NoFloats
+pub mod OneOutput
+pub mod Playing
+pub mod Reading
+pub mod Scripted
+pub mod Served

@@ -1,0 +1,63 @@
+-- A container that is served plays its deployment.
+use Rattle.std.proofs.Common.{ℕ, ◌≡◌, ◌∙◌, List, [], refl, sym, ap, subst, Option, Some, None, Ok, Err, map, length}
+use Rattle.std.specs.Prelude.{Result}
+use Rattle.cdi_bodies.specs.declared.entry.Entry.{Entry}
+use Rattle.cdi_bodies.specs.Table.{entries_of}
+use Rattle.cdi_deploy.specs.declared.deployment.Deployment.{Deployment}
+use Rattle.cdi_base.specs.declared.reply.Reply.{Reply}
+use Rattle.cdi_plain.specs.declared.tables.Tables.{Tables}
+use Rattle.cdi_plain.specs.Build.{beans_of}
+use Rattle.cdi_plain.specs.Check.{problems_of}
+use Rattle.cdi_plain.specs.Registered.{legal_of}
+use Rattle.cdi_plain.specs.Runs.{Legal}
+use Rattle.cdi_shell.specs.declared.container.Container.{Container}
+use Rattle.cdi_shell.specs.declared.ending.Ending.{Ending}
+use Rattle.cdi_shell.specs.declared.fault.ServeFault.{ServeFault}
+use Rattle.cdi_shell.specs.Containers.{state_of, legal_in, SameParts, IsBooted}
+use Rattle.cdi_shell.specs.Drive.{Streams, IsSilent, Lives, Plays, IsServed}
+use Rattle.cdi_shell.specs.Endings.{after_serving}
+use Rattle.cdi_shell.specs.ReplyText.{reply_line}
+use Rattle.cdi_shell.specs.Served.{Serves}
+use Rattle.cdi_shell.specs.Sessions.{AnswersLine, Answers, Served}
+use Rattle.cdi_shell.specs.States.{State, Boots}
+use Rattle.cdi_shell.proofs.Mapped.{serves}
+
+module _ {X : Type 0} {F : X → Type 0} {g : _} where
+  same_parts : (a b c : Container X F g) → SameParts a b → SameParts b c → SameParts a c
+  same_parts a b c p q = record { tables = q.tables ∙ p.tables; classes = q.classes ∙ p.classes; bodies = q.bodies ∙ p.bodies; booted = q.booted ∙ p.booted }
+
+  module _ (c : Container X F g) where
+    -- what the container answers at the start, in the words of the machine alone
+    abbrev Line : State → List ℕ → List ℕ → State → Type 0
+    Line = AnswersLine c.tables c.classes (legal_in c) (Unit {0})
+
+    keeps : (s : Container X F g) (line text : List ℕ) (t : Container X F g) → SameParts c s → Answers s line text t → SameParts c t
+    keeps s line text t k a = same_parts c s t k a.same
+
+    maps : (s : Container X F g) (line text : List ℕ) (t : Container X F g) → SameParts c s → Answers s line text t → Line (state_of s) line text (state_of t)
+    maps s line text t k a = rw (k.tables, k.classes, k.bodies) at a.answers
+
+    line_serves : (d : Container X F g) (result : Result (Unit {0}) ServeFault) (u v h k : Option (List ℕ)) → Serves 16777216 Answers (reply_line c.tables.names c.booted) c d result u v h k → Serves 16777216 Line (reply_line c.tables.names c.booted) (state_of c) (state_of d) result u v h k
+    line_serves d result u v h k s = serves Answers Line state_of (SameParts c) keeps maps 16777216 (reply_line c.tables.names c.booted) c d result u v h k (record { tables = refl; classes = refl; bodies = refl; booted = refl }) s
+
+  pub plays : (deployment : Deployment) (entries : List (Entry X F g)) (depth ticks : ℕ) (c : Container X F g) (streams : Streams) (ending : Ending) → IsBooted deployment entries depth ticks c → IsServed c streams ending
+      → Plays depth ticks deployment.names (problems_of deployment entries) (beans_of deployment.classes entries) (map (λ class. class.name) deployment.classes) (legal_of entries) streams ending
+  plays deployment entries depth ticks c streams ending b s = by s.result s.served s.is_ending
+    where
+      by : (result : Result (Unit {0}) ServeFault) → Served 16777216 c s.after streams.unread streams.unread_after streams.held streams.held_after result → ending ≡ after_serving result s.after.halted
+          → Plays depth ticks deployment.names (problems_of deployment entries) (beans_of deployment.classes entries) (map (λ class. class.name) deployment.classes) (legal_of entries) streams ending
+      by result (Served.silent same unread held) is = Plays.starves (record { unread = unread; held = held; is_ending = is })
+      by result (Served.serves h) is =
+          let line = line_serves c s.after result streams.unread streams.unread_after streams.held streams.held_after h in
+          Plays.runs b.accepted (record {
+            tables = c.tables;
+            is_names = b.names;
+            is_beans = b.beans;
+            reply = c.booted;
+            started = state_of c;
+            ended = state_of s.after;
+            result = result;
+            boots = rw b.bodies at b.starts;
+            serves = rw (b.bodies, b.classes) at line;
+            is_ending = is;
+          })

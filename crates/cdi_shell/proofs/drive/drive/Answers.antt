@@ -1,0 +1,12 @@
+use Rattle.cdi_shell.proofs.OneOutput.{one_output}
+use Rattle.cdi_shell.proofs.drive.drive.Goals as goal
+
+pub returns : goal.returns
+returns g c =
+    record {
+      ending = c.run.result;
+      is_status = c.status.ensures;
+      drives = c.run.ensures.drives;
+      failed = c.run.ensures.failed;
+      only = λ input held s e settled settled' u u' h h' d. one_output c.args.limits.depth c.args.limits.ticks c.args.deployment.now input held _ s c.run.result e settled settled' u u' h h' c.run.ensures.drives d;
+    }

@@ -1,0 +1,149 @@
+-- A run of the program, from the bytes of a deployment and of its input to the bytes of its output.
+use Rattle.std.specs.Prelude.{◌≡◌, ◌≢◌, ℕ, ◌==◌, List, [], ◌∷◌, map, Option, Some, None, Result, Ok, Err, slice_get, position, option_map, option_and_then, MatchOption}
+use Rattle.std.specs.Io.KnownBytes.{Appends}
+use Rattle.cdi_base.specs.declared.act.Act.{Act}
+use Rattle.cdi_base.specs.declared.reply.Reply.{Reply}
+use Rattle.cdi_base.specs.Reading.{◌>>=◌}
+use Rattle.cdi_bodies.specs.declared.shape.Shape.{Shape}
+use Rattle.cdi_deploy.specs.declared.deployment.Class.{Class}
+use Rattle.cdi_deploy.specs.declared.deployment.Deployment.{Deployment}
+use Rattle.cdi_deploy.specs.Reading.{deployment_in}
+use Rattle.cdi_plain.specs.declared.bean.Bean.{Bean}
+use Rattle.cdi_plain.specs.declared.problem.Problem.{Problem}
+use Rattle.cdi_plain.specs.declared.tables.Tables.{Tables}
+use Rattle.cdi_plain.specs.Build.{beans_in}
+use Rattle.cdi_plain.specs.Check.{problems_with}
+use Rattle.cdi_plain.specs.Runs.{Legal}
+use Rattle.cdi_script.specs.Listed.{shape_of}
+use Rattle.cdi_script.specs.Next.{next_of}
+use Rattle.cdi_shell.specs.declared.container.Container.{Container}
+use Rattle.cdi_shell.specs.declared.ending.Ending.{Ending}
+use Rattle.cdi_shell.specs.declared.ending.Ending.TheVariants as endings
+use Rattle.cdi_shell.specs.declared.fault.ServeFault.{ServeFault}
+use Rattle.cdi_shell.specs.declared.fault.ServeFault.TheVariants as faults
+use Rattle.cdi_shell.specs.declared.output.WriteFailed.{WriteFailed}
+use Rattle.cdi_shell.specs.declared.scripts.BadScript.{BadScript}
+use Rattle.cdi_shell.specs.declared.scripts.NamedScript.{NamedScript}
+use Rattle.cdi_shell.specs.Endings.{after_serving, after_refusal}
+use Rattle.cdi_shell.specs.Ends.{WritesAll}
+use Rattle.cdi_shell.specs.RefusalText.{fault_line, script_line, problem_lines}
+use Rattle.cdi_shell.specs.ReplyText.{reply_line}
+use Rattle.cdi_shell.specs.Scripts.{is_named, registered, scripts_in}
+use Rattle.cdi_shell.specs.Served.{Serves}
+use Rattle.cdi_shell.specs.Sessions.{AnswersLine, Served}
+use Rattle.cdi_shell.specs.States.{State, Boots}
+
+-- a fault, as the line that tells it
+abbrev pub or_line : {X F : Type 0} → (F → List ℕ) → Result X F → Result X (List ℕ)
+or_line line (Ok x) = Ok x
+or_line line (Err fault) = Err (line fault)
+
+abbrev pub bad_script_line : BadScript → List ℕ
+bad_script_line bad = script_line bad.name bad.fault
+
+-- a deployment with its scripts, whose names are in its table
+pub record Readied : Type 0 where
+  pub deployment : Deployment
+  pub scripts : List NamedScript
+
+-- the scripts of a deployment that was read, or the line of the first that is bad
+abbrev pub with_scripts : Deployment → Result Readied (List ℕ)
+with_scripts d = or_line bad_script_line (scripts_in d.names d.scripts) >>= λ read. Ok (record { deployment = record d { names = read.1 }; scripts = read.0 })
+
+-- the deployment that bytes are, or the line of its first fault
+abbrev pub readied : List ℕ → Result Readied (List ℕ)
+readied bytes = or_line fault_line (deployment_in bytes) >>= with_scripts
+
+-- ---- scripts as bodies
+
+abbrev pub place_under : List NamedScript → ℕ → Option ℕ
+place_under scripts name = position (is_named name) scripts
+
+abbrev pub shape_at : List NamedScript → ℕ → Option Shape
+shape_at scripts id = option_map (λ s. shape_of s.script) (slice_get scripts id)
+
+abbrev pub shape_under : List NamedScript → ℕ → Option Shape
+shape_under scripts name = option_and_then (shape_at scripts) (place_under scripts name)
+
+-- a body does what its script does next, and the first of several candidates is picked: one act and one pick is legal
+abbrev pub legal_by : List NamedScript → Legal
+legal_by scripts =
+    record {
+      gives = λ id fields view act. MatchOption (slice_get scripts id) ⊥ (λ s. act ≡ next_of s.script fields view);
+      picks = λ count entries choice. choice ≡ 0;
+    }
+
+-- ---- the run
+
+-- where the known bytes of the reader and of the writer are these, before and after
+pub record Streams : Type 0 where
+  pub unread : Option (List ℕ)
+  pub unread_after : Option (List ℕ)
+  pub held : Option (List ℕ)
+  pub held_after : Option (List ℕ)
+
+-- these lines are written, or where that failed a front part of them
+pub record Refuses (lines : List ℕ) (held held_after : Option (List ℕ)) (ending : Ending) : Type 0 where
+  pub result : Result (Unit {0}) WriteFailed
+  pub written : WritesAll held held_after result lines
+  pub is_ending : ending ≡ after_refusal result
+
+-- nothing is read, and these lines are written
+pub record Writes (lines : List ℕ) (streams : Streams) (ending : Ending) : Type 0 where
+  pub unread : streams.unread_after ≡ streams.unread
+  pub refuses : Refuses lines streams.held streams.held_after ending
+
+-- memory ran out before anything was read or written
+pub record IsSilent (streams : Streams) (ending : Ending) : Type 0 where
+  pub unread : streams.unread_after ≡ streams.unread
+  pub held : streams.held_after ≡ streams.held
+  pub is_ending : ending ≡ endings.Fault faults.Memory
+
+-- The container of these tables, which takes so many levels and entries, is started and served: the lines written are
+-- those of a run of the machine for the lines read, in which all that happens is legal.
+pub record Lives (depth ticks : ℕ) (names : List (List ℕ)) (beans : List Bean) (classes : List ℕ) (legal : Legal) (streams : Streams) (ending : Ending) : Type 0 where
+  pub tables : Tables
+  pub is_names : tables.names ≡ names
+  pub is_beans : tables.beans ≡ beans
+  pub reply : Reply
+  pub started : State
+  pub ended : State
+  pub result : Result (Unit {0}) ServeFault
+  pub boots : Boots tables legal (Unit {0}) depth ticks reply started
+  pub serves : Serves 16777216 (AnswersLine tables classes legal (Unit {0})) (reply_line tables.names reply) started ended result streams.unread streams.unread_after streams.held streams.held_after
+  pub is_ending : ending ≡ after_serving result ended.halted
+
+-- a deployment is run: its problems are written, or, if it has none, its container lives
+pub data Plays (depth ticks : ℕ) (names : List (List ℕ)) (problems : List Problem) (beans : List Bean) (classes : List ℕ) (legal : Legal) (streams : Streams) (ending : Ending) : Type 0 where
+  starves : IsSilent streams ending → Plays depth ticks names problems beans classes legal streams ending
+  refuses : problems ≢ [] → Writes (problem_lines names problems) streams ending → Plays depth ticks names problems beans classes legal streams ending
+  runs : problems ≡ [] → Lives depth ticks names beans classes legal streams ending → Plays depth ticks names problems beans classes legal streams ending
+
+-- a deployment whose bodies are these scripts is run
+abbrev pub PlaysScripts : ℕ → ℕ → Deployment → List NamedScript → Streams → Ending → Type 0
+PlaysScripts depth ticks d scripts streams ending =
+    Plays depth ticks d.names (problems_with (shape_under scripts) d) (beans_in (place_under scripts) d.classes) (map (λ class. class.name) d.classes) (legal_by scripts) streams ending
+
+-- what was made ready is run
+abbrev pub DrivesReadied : ℕ → ℕ → Result Readied (List ℕ) → Streams → Ending → Type 0
+DrivesReadied depth ticks (Err lines) streams ending = Writes lines streams ending
+DrivesReadied depth ticks (Ok r) streams ending = PlaysScripts depth ticks r.deployment (registered r.scripts) streams ending
+
+-- the program is run on the bytes of a deployment
+pub data Drives (depth ticks : ℕ) (bytes : List ℕ) (streams : Streams) (ending : Ending) : Type 0 where
+  starves : IsSilent streams ending → Drives depth ticks bytes streams ending
+  drives : DrivesReadied depth ticks (readied bytes) streams ending → Drives depth ticks bytes streams ending
+
+-- ---- parts of a run, for private clauses
+
+-- these lines are written, or memory ran out before
+pub data RefusesOr (lines : List ℕ) (held held_after : Option (List ℕ)) (ending : Ending) : Type 0 where
+  starves : held_after ≡ held → ending ≡ endings.Fault faults.Memory → RefusesOr lines held held_after ending
+  refuses : Refuses lines held held_after ending → RefusesOr lines held held_after ending
+
+-- a container is served to an end
+pub record IsServed {X : Type 0} {F : X → Type 0} {g : _} (c : Container X F g) (streams : Streams) (ending : Ending) : Type 0 where
+  pub after : Container X F g
+  pub result : Result (Unit {0}) ServeFault
+  pub served : Served 16777216 c after streams.unread streams.unread_after streams.held streams.held_after result
+  pub is_ending : ending ≡ after_serving result after.halted

@@ -1,0 +1,35 @@
+-- A run of the program is told by its limits, its deployment and its input.
+use Rattle.std.specs.Prelude.{◌≡◌, ℕ, Bool, List, Option, Some}
+use Rattle.cdi_base.specs.declared.reply.Cause.TheVariants as causes
+use Rattle.cdi_shell.specs.declared.ending.Ending.{Ending}
+use Rattle.cdi_shell.specs.declared.ending.Ending.TheVariants as endings
+use Rattle.cdi_shell.specs.Drive.{Streams, Drives}
+use Rattle.cdi_shell.specs.Endings.{status_of, IsFaultOf}
+
+-- no read or write failed, and memory did not run out
+abbrev pub IsSettled : Ending → Type 0
+IsSettled (endings.Fault _) = ⊥
+IsSettled (endings.Halted causes.Memory) = ⊥
+IsSettled _ = Unit {0}
+
+-- the same was written, and the runs ended alike
+pub record SameOutput (s s' : Streams) (e e' : Ending) : Type 0 where
+  pub held_after : s.held_after ≡ s'.held_after
+  pub ending : e ≡ e'
+
+-- two runs with the same limits, on the same deployment and the same input, whose output goes behind the same bytes
+abbrev pub OneOutput : Type 0
+OneOutput =
+    (depth ticks : ℕ) (bytes input held : List ℕ) (s s' : Streams) (e e' : Ending) → IsSettled e → IsSettled e'
+    → s.unread ≡ Some input → s'.unread ≡ Some input → s.held ≡ Some held → s'.held ≡ Some held
+    → Drives depth ticks bytes s e → Drives depth ticks bytes s' e' → SameOutput s s' e e'
+
+-- The program is run, and exits with this status. Where it was not disturbed, what it wrote and how it ended is what
+-- every such run writes, and how it ends.
+pub record DrivesOnce (depth ticks : ℕ) (bytes : List ℕ) (streams : Streams) (read_failed write_failed : Bool) (status : ℕ) : Type 0 where
+  pub ending : Ending
+  pub is_status : status ≡ status_of ending
+  pub drives : Drives depth ticks bytes streams ending
+  pub failed : IsFaultOf ending read_failed write_failed
+  pub only : (input held : List ℕ) (s : Streams) (e : Ending) → IsSettled ending → IsSettled e → streams.unread ≡ Some input → s.unread ≡ Some input → streams.held ≡ Some held → s.held ≡ Some held
+      → Drives depth ticks bytes s e → SameOutput streams s ending e

@@ -1,0 +1,37 @@
+-- A container that answers lines.
+use Rattle.std.specs.Prelude.{◌≡◌, ℕ, List, Option, Result, Ok, Err}
+use Rattle.cdi_base.specs.declared.command.Command.{Command}
+use Rattle.cdi_base.specs.declared.reply.Refusal.TheVariants as refusals
+use Rattle.cdi_base.specs.declared.reply.Reply.{Reply}
+use Rattle.cdi_base.specs.declared.reply.Reply.TheVariants as replies
+use Rattle.cdi_plain.specs.declared.tables.Tables.{Tables}
+use Rattle.cdi_plain.specs.Runs.{Legal}
+use Rattle.cdi_shell.specs.declared.command.BadLine.{BadLine}
+use Rattle.cdi_shell.specs.declared.container.Container.{Container}
+use Rattle.cdi_shell.specs.declared.fault.ServeFault.{ServeFault}
+use Rattle.cdi_shell.specs.declared.fault.ServeFault.TheVariants as faults
+use Rattle.cdi_shell.specs.Command.{command_in}
+use Rattle.cdi_shell.specs.Containers.{state_of, legal_in, SameParts}
+use Rattle.cdi_shell.specs.ReplyText.{reply_line}
+use Rattle.cdi_shell.specs.Served.{Serves}
+use Rattle.cdi_shell.specs.States.{State, asked, Responds}
+
+-- what was read as a command is answered so; a line that is none changes nothing
+abbrev pub AnswersRead : Tables → List ℕ → Legal → Type 0 → Result Command BadLine → State → Reply → State → Type 0
+AnswersRead tables classes legal Starved (Ok command) s reply t = Responds tables legal Starved (asked tables classes s command) s reply t
+AnswersRead tables classes legal Starved (Err _) s reply t = (reply ≡ replies.Refused refusals.BadLine) × (t ≡ s)
+
+-- a line is answered by the line of a reply
+abbrev pub AnswersLine : Tables → List ℕ → Legal → Type 0 → State → List ℕ → List ℕ → State → Type 0
+AnswersLine tables classes legal Starved s line text t =
+    (reply : Reply) × AnswersRead tables classes legal Starved (command_in line) s reply t × (text ≡ reply_line tables.names reply)
+
+-- the same for a container, whose other parts stay
+pub record Answers {X : Type 0} {F : X → Type 0} {g : _} (c : Container X F g) (line text : List ℕ) (d : Container X F g) : Type 0 where
+  pub same : SameParts c d
+  pub answers : AnswersLine c.tables c.classes (legal_in c) (Unit {0}) (state_of c) line text (state_of d)
+
+-- A container was served to an end. Where there is no memory for its first line, nothing is read or written.
+pub data Served {X : Type 0} {F : X → Type 0} {g : _} (limit : ℕ) (c d : Container X F g) (unread unread_after held held_after : Option (List ℕ)) : Result (Unit {0}) ServeFault → Type 0 where
+  silent : d ≡ c → unread_after ≡ unread → held_after ≡ held → Served limit c d unread unread_after held held_after (Err faults.Memory)
+  serves : {result : Result (Unit {0}) ServeFault} → Serves limit Answers (reply_line c.tables.names c.booted) c d result unread unread_after held held_after → Served limit c d unread unread_after held held_after result

@@ -1,0 +1,64 @@
+//! The scripts of a deployment.
+ghost use Rattle.std.specs.Prelude.{◌≡◌, IfOk};
+ghost use Rattle.cdi_base.specs.Reading.{Gives};
+ghost use Rattle.cdi_shell.specs.Places.{name_text};
+ghost use Rattle.cdi_shell.specs.Scripts as spec;
+
+use cdi_base::{Name, Names, ReadError, Text};
+use cdi_deploy::deployment::Script as Declared;
+use cdi_script::{Script, ScriptFault};
+use std::alloc::{AllocError, Global};
+
+/// A script under its name.
+#[derive(Drop)]
+pub struct NamedScript {
+    pub name: Name,
+    pub script: Script,
+}
+
+/// The first script of a deployment that can't be read, by the text of its name.
+#[derive(Drop)]
+pub struct BadScript {
+    pub name: Text,
+    pub fault: ScriptFault,
+}
+
+fn text_of(alloc: Global, names: &Names, name: Name) -> Result<Text, AllocError>
+    ensures { IfOk result (λ text. text ≡ name_text names.now name) }
+{
+    Text::from_str(alloc, names.get(name).unwrap_or(""))
+}
+
+fn read_script(
+    alloc: Global,
+    names: &mut Names,
+    declared: &Declared,
+) -> Result<NamedScript, ReadError<BadScript>>
+    ensures { Gives (λ script. (script, names.new)) result (spec.script_in names.old declared.now) }
+{
+    let name = text_of(alloc, names, declared.name)?;
+    match Script::read(alloc, declared.steps.as_value(), names) {
+        Ok(script) => Ok(NamedScript {
+            name: declared.name,
+            script,
+        }),
+        Err(ReadError::Fault(fault)) => Err(ReadError::Fault(BadScript { name, fault })),
+        Err(ReadError::Memory) => Err(ReadError::Memory),
+    }
+}
+
+/// Reads the scripts of a deployment one after the other, up to the first that can't be read. Their names go into the
+/// table.
+pub fn read_scripts(
+    alloc: Global,
+    names: &mut Names,
+    declared: &[Declared],
+) -> Result<Vec<NamedScript>, ReadError<BadScript>>
+    ensures { Gives (λ scripts. (scripts.items, names.new)) result (spec.scripts_in names.old declared.now) }
+{
+    let mut scripts = Vec::new(alloc);
+    for script in declared {
+        scripts.push(read_script(alloc, names, script)?)?;
+    }
+    Ok(scripts)
+}

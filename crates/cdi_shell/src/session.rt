@@ -1,0 +1,69 @@
+//! A container that answers the lines of an input.
+ghost use Rattle.std.specs.Prelude.{◌≡◌, IfOk};
+ghost use Rattle.cdi_shell.specs.Ends.{reader_of, has_read_failed, writer_of, has_write_failed};
+ghost use Rattle.cdi_shell.specs.Served.{IsFaultOf};
+ghost use Rattle.cdi_shell.specs.Sessions.{Answers, Served};
+
+use crate::command::read_command;
+use crate::container::Container;
+use crate::fault::ServeFault;
+use crate::input::Input;
+use crate::output::Output;
+use crate::reply_text::write_reply;
+use crate::responder::Responder;
+use crate::serving::{MAX_INPUT, serve_lines};
+use cdi_base::{ReadError, Refusal, Reply};
+use std::alloc::{AllocError, Global};
+use std::io::{Read, Write};
+
+impl Container {
+    ghost use Rattle.cdi_shell.specs.Command.{command_in};
+    ghost use Rattle.cdi_shell.specs.Containers.{state_of, legal_in, SameParts};
+    ghost use Rattle.cdi_shell.specs.Sessions.{AnswersRead};
+
+    /// The reply to a line.
+    fn reply_to(&mut self, alloc: Global, line: &[u8]) -> Result<Reply, AllocError>
+        ensures answers { IfOk result (λ reply. AnswersRead self.old.tables self.old.classes (legal_in self.old) (Unit {0}) (command_in line.now) (state_of self.old) reply (state_of self.new)) }
+        ensures same { SameParts self.old self.new }
+    {
+        match read_command(alloc, line) {
+            Ok(command) => Ok(self.command(alloc, command)),
+            Err(ReadError::Fault(_)) => Ok(Reply::Refused(Refusal::BadLine)),
+            Err(ReadError::Memory) => Err(AllocError),
+        }
+    }
+}
+
+impl Responder for Container {
+    ghost answers = { λ c line text d. Answers c line text d };
+
+    fn answer(&mut self, alloc: Global, line: &[u8]) -> Result<Vec<u8>, AllocError> {
+        let reply = self.reply_to(alloc, line)?;
+        write_reply(alloc, self.names(), &reply)
+    }
+}
+
+/// Writes the reply to the container's start, and then reads command lines and writes the reply to each, up to the end
+/// of the input.
+///
+/// Whatever the result is, the lines that stand written are those of a run of the machine for the lines that were read,
+/// under acts that the registered bodies promise: all of them at `Ok`; where a read failed, or more than [`MAX_INPUT`]
+/// bytes came, those to the lines that were complete before; where memory ran out for a line or a reply, none, or whole
+/// lines in front; where a write failed, a front part of the whole. Want of memory within a command is no fault: the
+/// reply then says so, and the container has halted.
+pub fn serve<R: Read, W: Write>(
+    alloc: Global,
+    input: &mut Input<R>,
+    output: &mut Output<W>,
+    container: &mut Container,
+) -> Result<(), ServeFault>
+    ensures served { Served MAX_INPUT container.old container.new
+        (R.remaining (reader_of input.old)) (R.remaining (reader_of input.new))
+        (W.contents (writer_of output.old)) (W.contents (writer_of output.new)) result }
+    ensures failed { IsFaultOf result (has_read_failed input.new) (has_write_failed output.new) }
+{
+    let Ok(greeting) = write_reply(alloc, container.names(), container.boot_reply()) else {
+        return Err(ServeFault::Memory);
+    };
+    serve_lines(alloc, &greeting, input, output, container)
+}

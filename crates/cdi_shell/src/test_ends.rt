@@ -1,0 +1,107 @@
+//! Readers, writers and responders for the tests.
+use crate::Responder;
+use std::alloc::{AllocError, Global};
+use std::io;
+use std::io::{ErrorKind, Read, Write};
+
+/// Gives its bytes in steps, and then its end or a failure.
+#[derive(Drop)]
+pub(crate) struct Steps<'a> {
+    pub(crate) bytes: &'a [u8],
+    pub(crate) step: usize,
+    pub(crate) fails: bool,
+}
+
+impl Read for Steps<'_> {
+    fn read(&mut self, buf: &mut [u8]) -> io::Result<usize> {
+        let all: &[u8] = self.bytes;
+        if all.is_empty() && self.fails {
+            return Err(io::Error::from(ErrorKind::ConnectionReset));
+        }
+        let count = buf.len().min(all.len()).min(self.step);
+        buf[..count].copy_from_slice(&all[..count]);
+        self.bytes = &all[count..];
+        Ok(count)
+    }
+}
+
+/// Takes bytes in steps while there is room, and then fails or takes nothing.
+#[derive(Drop)]
+pub(crate) struct Room {
+    pub(crate) taken: Vec<u8>,
+    pub(crate) step: usize,
+    pub(crate) left: usize,
+    pub(crate) fails: bool,
+}
+
+impl Write for Room {
+    fn write(&mut self, buf: &[u8]) -> io::Result<usize> {
+        if self.left == 0 && self.fails {
+            return Err(io::Error::from(ErrorKind::BrokenPipe));
+        }
+        let count = buf.len().min(self.left).min(self.step);
+        self.taken.extend_from_slice(&buf[..count])?;
+        self.left -= count;
+        Ok(count)
+    }
+
+    fn flush(&mut self) -> io::Result<()> {
+        Ok(())
+    }
+}
+
+/// Takes all, and can't pass it on.
+#[derive(Drop)]
+pub(crate) struct Stuck {
+    pub(crate) taken: Vec<u8>,
+}
+
+impl Write for Stuck {
+    fn write(&mut self, buf: &[u8]) -> io::Result<usize> {
+        self.taken.extend_from_slice(buf)?;
+        Ok(buf.len())
+    }
+
+    fn flush(&mut self) -> io::Result<()> {
+        Err(io::Error::from(ErrorKind::BrokenPipe))
+    }
+}
+
+/// Gives each line back reversed, with a line feed, until it has given so many.
+#[derive(Drop)]
+pub(crate) struct Mirror {
+    pub(crate) left: u32,
+}
+
+impl Responder for Mirror {
+    ghost use Rattle.std.specs.Prelude.{◌≡◌, ◌+◌, ◌∷◌, [], ◌++◌, reverse};
+
+    ghost answers = { λ old line reply new. (reply ≡ reverse line ++ 10 ∷ []) × (new.left + 1 ≡ old.left) };
+
+    fn answer(&mut self, alloc: Global, line: &[u8]) -> Result<Vec<u8>, AllocError> {
+        if self.left == 0 {
+            return Err(AllocError);
+        }
+        let mut reply: Vec<u8> = line.iter().rev().copied().collect(alloc)?;
+        reply.push(b'\n')?;
+        self.left -= 1;
+        Ok(reply)
+    }
+}
+
+/// Remembers how long the last line was, and replies nothing.
+#[derive(Drop)]
+pub(crate) struct Lengths {
+    pub(crate) last: usize,
+}
+
+impl Responder for Lengths {
+    ghost use Rattle.std.specs.Prelude.{◌≡◌, [], length};
+
+    ghost answers = { λ _ line reply new. (reply ≡ []) × (new.last ≡ length line) };
+
+    fn answer(&mut self, alloc: Global, line: &[u8]) -> Result<Vec<u8>, AllocError> {
+        self.last = line.len();
+        Ok(Vec::new(alloc))
+    }
+}
