@@ -1,0 +1,60 @@
+//! The program `cdi`: runs a deployment on the command lines of its standard input.
+#![tactic(auto)]
+
+mod options;
+
+use cdi_base::Limits;
+use cdi_shell::drive::drive;
+use cdi_shell::{Input, Output};
+use std::alloc::Global;
+use std::process::ExitCode;
+use std::{env, fs, io};
+
+/// The exit status where reading, writing or memory failed outside of a command.
+const FAULT: u8 = 3;
+
+/// Runs the deployment in a file, and gives the exit status.
+fn run(rt: &HostRuntime, alloc: Global, file: &str) -> io::Result<u8> {
+    let deployment = match fs::read(rt, file) {
+        Ok(deployment) => deployment,
+        Err(error) => {
+            eprintln!(rt; "cdi: {file}: {error}")?;
+            return Ok(FAULT);
+        }
+    };
+    let mut input = Input::new(rt.reader());
+    let mut output = Output::new(io::writer(rt));
+    let status = drive(
+        alloc,
+        &deployment,
+        Limits::default(),
+        &mut input,
+        &mut output,
+    );
+    if status == FAULT {
+        eprintln!(rt; "cdi: reading, writing or memory failed")?;
+    }
+    Ok(status)
+}
+
+/// Does what the words of the command line ask for, and gives the exit status.
+fn answer(rt: &HostRuntime, alloc: Global) -> io::Result<u8> {
+    let mut words = Vec::new(alloc);
+    for word in env::args(rt)? {
+        words.push(word)?;
+    }
+    match options::file_to_run(alloc, &words) {
+        Ok(file) => run(rt, alloc, file),
+        Err(error) => {
+            error.print(rt)?;
+            Ok(error.exit_code() as u8)
+        }
+    }
+}
+
+fn main(rt: HostRuntime) -> ExitCode {
+    match answer(&rt, rt.alloc()) {
+        Ok(status) => ExitCode::from(status),
+        Err(_) => ExitCode::from(FAULT),
+    }
+}
