@@ -1,5 +1,5 @@
 -- A deployment that was read has at most 1,024 scripts.
-use Rattle.std.proofs.Common.{◌≡◌, ℕ, ◌+◌, ◌≤◌, ◌∙◌, nat_lt, nat_le, not, Bool, true, false, ◌&&◌, List, [], ◌∷◌, ◌++◌, length, length-append, Option, Some, None, Result, Ok, Err, IfOk, if◌then◌else◌, refl, subst, arith}
+use Rattle.std.proofs.Common.{◌≡◌, ℕ, ◌+◌, ◌≤◌, nat_lt, nat_le, not, Bool, true, false, ◌&&◌, List, [], ◌∷◌, ◌++◌, length, length-append, Option, Some, None, Result, Ok, Err, IfOk, if◌then◌else◌, refl, subst, arith}
 use Rattle.std.specs.List.{list_all}
 use Rattle.cdi_base.specs.Reading.{◌>>=◌}
 use Rattle.serde_json.specs.Data.{Data}
@@ -7,7 +7,7 @@ use Rattle.cdi_deploy.specs.declared.fault.ReadFault.{ReadFault}
 use Rattle.cdi_deploy.specs.declared.deployment.Deployment.{Deployment}
 use Rattle.cdi_deploy.specs.declared.deployment.Script.{Script as Declared}
 use Rattle.cdi_deploy.specs.Items.{lists_of}
-use Rattle.cdi_deploy.specs.Limits.{is_class_within, is_within}
+use Rattle.cdi_deploy.specs.Limits.{is_class_within}
 use Rattle.cdi_deploy.specs.Names.{names_fit}
 use Rattle.cdi_deploy.specs.Numbers.{numbers_fit}
 use Rattle.cdi_deploy.specs.Reading.{root, value_in, or_shape, within_limits, deployment_of, deployment_in}
@@ -18,7 +18,7 @@ use Rattle.cdi_script.specs.Build.{script_of}
 use Rattle.cdi_shell.specs.declared.scripts.BadScript.{BadScript}
 use Rattle.cdi_shell.specs.declared.scripts.NamedScript.{NamedScript}
 use Rattle.cdi_shell.specs.Places.{name_text}
-use Rattle.cdi_shell.specs.Scripts.{told, script_in, scripts_after, scripts_in}
+use Rattle.cdi_shell.specs.Scripts.{told, scripts_after, scripts_in}
 
 -- what holds after each of two steps
 after : {A B : Type 0} (P : B → Type 0) (r : Result A ReadFault) (next : A → Result B ReadFault) → ((x : A) → IfOk (next x) P) → IfOk (r >>= next) P

@@ -1,8 +1,6 @@
 -- One schedule gives one output.
-use Rattle.std.proofs.Common.{ℕ, ◌≡◌, ◌≢◌, ◌∙◌, ◌++◌, ◌∷◌, [], List, refl, sym, ap, ap₂, subst, Option, Some, None, Ok, Err, append-nil, slice_get}
-use Rattle.std.specs.Prelude.{Result, MatchOption}
-use Rattle.std.specs.Io.KnownBytes.{Appends, Consumes, IsAtEnd}
-use Rattle.cdi_base.specs.declared.act.Act.{Act}
+use Rattle.std.proofs.Common.{ℕ, ◌≡◌, ◌≢◌, ◌∙◌, ◌++◌, ◌∷◌, [], List, refl, sym, ap, ap₂, subst, Option, Some, Ok, Err}
+use Rattle.std.specs.Prelude.{Result}
 use Rattle.cdi_base.specs.declared.command.Command.{Command}
 use Rattle.cdi_base.specs.declared.reply.Cause.TheVariants as causes
 use Rattle.cdi_base.specs.declared.reply.Cause.{Cause}
@@ -10,7 +8,6 @@ use Rattle.cdi_base.specs.declared.reply.Refusal.TheVariants as refusals
 use Rattle.cdi_base.specs.declared.reply.Reply.{Reply}
 use Rattle.cdi_plain.specs.declared.tables.Tables.{Tables}
 use Rattle.cdi_plain.specs.declared.task.Call.{Call}
-use Rattle.cdi_plain.specs.declared.task.Call.TheVariants as calls
 use Rattle.cdi_plain.specs.declared.task.Outcome.{Outcome}
 use Rattle.cdi_plain.specs.Laws.{SameEnd, IsOne}
 use Rattle.cdi_plain.specs.Machine.{machine}

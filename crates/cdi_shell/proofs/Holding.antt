@@ -1,6 +1,6 @@
 -- A table of bodies that holds these scripts, and what is the same with it as with them.
-use Rattle.std.proofs.Common.{ℕ, zero, suc, ◌≡◌, ◌+◌, ◌≤◌, ◌∙◌, ◌==◌, ◌<◌, ◌&&◌, nat_eq, nat_lt, nat_le, IsTrue, Bool, true, false, cond, not, ◌||◌, List, [], ◌∷◌, ◌++◌, length, length-append, map, slice_get, position, refl, sym, ap, subst, Option, Some, None, Ok, is_some, arith}
-use Rattle.std.specs.Prelude.{option_and_then, option_map, filter, fold, if◌then◌else◌}
+use Rattle.std.proofs.Common.{ℕ, zero, suc, ◌≡◌, ◌+◌, ◌≤◌, ◌∙◌, ◌==◌, ◌<◌, ◌&&◌, nat_lt, nat_le, IsTrue, Bool, true, false, cond, not, ◌||◌, List, [], ◌∷◌, ◌++◌, length, refl, sym, ap, subst, Option, Some, None, Ok, is_some, arith}
+use Rattle.std.specs.Prelude.{option_and_then}
 use Rattle.std.specs.List.{list_any, position_or_len}
 use Rattle.std.specs.Borrow.{Bor}
 use Rattle.std.specs.declared.alloc.Global.{Global}
@@ -11,11 +11,10 @@ use Rattle.cdi_bodies.specs.declared.entry.Entry.{Entry}
 use Rattle.cdi_bodies.specs.declared.shape.Shape.{Shape}
 use Rattle.cdi_bodies.specs.declared.view.View.{View}
 use Rattle.cdi_bodies.specs.Adding.{Adds}
-use Rattle.cdi_bodies.specs.Gives.{Promises, gives, place_of, shape_at as entry_shape}
+use Rattle.cdi_bodies.specs.Gives.{gives, place_of, shape_at as entry_shape}
 use Rattle.cdi_plain.specs.Laws.{IsWithin}
 use Rattle.cdi_plain.specs.Registered.{legal_of}
 use Rattle.cdi_plain.specs.WrongBodies.{shape_of as shape_named}
-use Rattle.cdi_script.specs.declared.step.Step.{Step}
 use Rattle.cdi_script.specs.Follows.{Runs}
 use Rattle.cdi_script.specs.Listed.{shape_of}
 use Rattle.cdi_script.specs.Next.{next_of}

@@ -1,10 +1,10 @@
 -- What is said of a responder holds of what stands for it.
-use Rattle.std.proofs.Common.{◌≡◌, ◌∙◌, ◌++◌, ◌∷◌, [], List, ℕ, ap, Option, Ok, Err}
+use Rattle.std.proofs.Common.{◌∷◌, [], List, ℕ, ap, Option, Ok, Err}
 use Rattle.std.specs.Prelude.{Result}
 use Rattle.cdi_shell.specs.declared.fault.ServeFault.{ServeFault}
 use Rattle.cdi_shell.specs.declared.fault.ServeFault.TheVariants as faults
 use Rattle.cdi_shell.specs.Lines.{complete_lines, all_lines}
-use Rattle.cdi_shell.specs.Served.{Replies, RepliesToFront, Stops, Stands, Serves}
+use Rattle.cdi_shell.specs.Served.{Replies, RepliesToFront, Stands, Serves}
 
 module _ {S T : Type 0} (A : S → List ℕ → List ℕ → S → Type 0) (B : T → List ℕ → List ℕ → T → Type 0) (f : S → T) (Keeps : S → Type 0)
     (keeps : (s : S) (line text : List ℕ) (t : S) → Keeps s → A s line text t → Keeps t)

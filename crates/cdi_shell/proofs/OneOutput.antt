@@ -1,11 +1,10 @@
 -- The program's output is a function of its limits, its deployment and its input.
 use denote.Struct.Props as logic
-use Rattle.std.proofs.Common.{ℕ, ◌≤◌, length, ◌≡◌, ◌≢◌, ◌∙◌, ◌++◌, ◌∷◌, [], List, refl, sym, ap, subst, Option, Some, None, Ok, Err, append-nil, slice_get}
+use Rattle.std.proofs.Common.{ℕ, ◌≤◌, length, ◌≡◌, ◌∙◌, ◌++◌, List, refl, sym, ap, subst, Option, Some, None, Ok, Err, append-nil, slice_get}
 use Rattle.std.specs.Prelude.{Result, MatchOption}
 use Rattle.std.specs.Io.KnownBytes.{Appends, Consumes, IsAtEnd}
 use Rattle.cdi_base.specs.declared.act.Act.{Act}
 use Rattle.cdi_base.specs.declared.reply.Cause.{Cause}
-use Rattle.cdi_base.specs.declared.reply.Cause.TheVariants as causes
 use Rattle.cdi_base.specs.declared.reply.Reply.{Reply}
 use Rattle.cdi_bodies.specs.declared.view.View.{View}
 use Rattle.cdi_plain.specs.declared.bean.Bean.{Bean}
@@ -18,18 +17,17 @@ use Rattle.cdi_script.specs.Next.{next_of}
 use Rattle.cdi_shell.specs.declared.ending.Ending.{Ending}
 use Rattle.cdi_shell.specs.declared.ending.Ending.TheVariants as endings
 use Rattle.cdi_shell.specs.declared.fault.ServeFault.{ServeFault}
-use Rattle.cdi_shell.specs.declared.fault.ServeFault.TheVariants as faults
 use Rattle.cdi_shell.specs.declared.output.WriteFailed.{WriteFailed}
 use Rattle.cdi_shell.specs.declared.request.Request.TheVariants as requests
 use Rattle.cdi_shell.specs.declared.scripts.NamedScript.{NamedScript}
-use Rattle.cdi_shell.specs.Drive.{Readied, Streams, Writes, Refuses, IsSilent, Lives, Plays, PlaysScripts, DrivesReadied, Drives, legal_by, readied}
+use Rattle.cdi_shell.specs.Drive.{Readied, Streams, Writes, Refuses, Lives, Plays, DrivesReadied, Drives, legal_by, readied}
 use Rattle.cdi_shell.specs.Ends.{WritesAll}
 use Rattle.cdi_shell.specs.Endings.{after_serving, after_refusal}
 use Rattle.cdi_shell.specs.Laws.{IsSettled, SameOutput, OneOutput}
 use Rattle.cdi_shell.specs.Lines.{all_lines}
 use Rattle.cdi_shell.specs.ReplyText.{reply_line}
 use Rattle.cdi_shell.specs.Scripts.{registered}
-use Rattle.cdi_shell.specs.Served.{Replies, Stands, Reads, Serves}
+use Rattle.cdi_shell.specs.Served.{Replies, Stands, Reads}
 use Rattle.cdi_shell.specs.Sessions.{AnswersLine}
 use Rattle.cdi_shell.specs.States.{State, Boots, unstarted}
 use Rattle.cdi_shell.proofs.Determined.{IsFed, responds_one, replies_one, replies_halted}
@@ -37,9 +35,9 @@ use Rattle.cdi_shell.proofs.Determined.{IsFed, responds_one, replies_one, replie
 -- scripts leave open neither an act nor a pick
 pub one_by : (scripts : List NamedScript) → IsOne (legal_by scripts)
 one_by scripts = record {
-      act = λ id fields view a b p q. at (slice_get scripts id) fields view a b p q;
-      pick = λ count entries i j p q. p ∙ sym q;
-    }
+  act = λ id fields view a b p q. at (slice_get scripts id) fields view a b p q;
+  pick = λ count entries i j p q. p ∙ sym q;
+}
   where
     at : (o : Option NamedScript) (fields : List (ℕ × _)) (view : View) (a b : Act) → MatchOption o ⊥ (λ s. a ≡ next_of s.script fields view) → MatchOption o ⊥ (λ s. b ≡ next_of s.script fields view) → a ≡ b
     at None fields view a b p q = absurd p

@@ -1,25 +1,21 @@
 -- A container that is served plays its deployment.
-use Rattle.std.proofs.Common.{ℕ, ◌≡◌, ◌∙◌, List, [], refl, sym, ap, subst, Option, Some, None, Ok, Err, map, length}
+use Rattle.std.proofs.Common.{ℕ, ◌≡◌, ◌∙◌, List, refl, Option, map}
 use Rattle.std.specs.Prelude.{Result}
 use Rattle.cdi_bodies.specs.declared.entry.Entry.{Entry}
-use Rattle.cdi_bodies.specs.Table.{entries_of}
 use Rattle.cdi_deploy.specs.declared.deployment.Deployment.{Deployment}
-use Rattle.cdi_base.specs.declared.reply.Reply.{Reply}
-use Rattle.cdi_plain.specs.declared.tables.Tables.{Tables}
 use Rattle.cdi_plain.specs.Build.{beans_of}
 use Rattle.cdi_plain.specs.Check.{problems_of}
 use Rattle.cdi_plain.specs.Registered.{legal_of}
-use Rattle.cdi_plain.specs.Runs.{Legal}
 use Rattle.cdi_shell.specs.declared.container.Container.{Container}
 use Rattle.cdi_shell.specs.declared.ending.Ending.{Ending}
 use Rattle.cdi_shell.specs.declared.fault.ServeFault.{ServeFault}
 use Rattle.cdi_shell.specs.Containers.{state_of, legal_in, SameParts, IsBooted}
-use Rattle.cdi_shell.specs.Drive.{Streams, IsSilent, Lives, Plays, IsServed}
+use Rattle.cdi_shell.specs.Drive.{Streams, Plays, IsServed}
 use Rattle.cdi_shell.specs.Endings.{after_serving}
 use Rattle.cdi_shell.specs.ReplyText.{reply_line}
 use Rattle.cdi_shell.specs.Served.{Serves}
 use Rattle.cdi_shell.specs.Sessions.{AnswersLine, Answers, Served}
-use Rattle.cdi_shell.specs.States.{State, Boots}
+use Rattle.cdi_shell.specs.States.{State}
 use Rattle.cdi_shell.proofs.Mapped.{serves}
 
 module _ {X : Type 0} {F : X → Type 0} {g : _} where

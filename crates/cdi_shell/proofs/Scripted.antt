@@ -1,5 +1,5 @@
 -- Bodies that are scripts play what the scripts do.
-use Rattle.std.proofs.Common.{ℕ, ◌≡◌, ◌∙◌, ◌++◌, ◌∷◌, [], List, Bool, true, false, cond, refl, sym, ap, subst, Option, Some, None, map, is_some}
+use Rattle.std.proofs.Common.{ℕ, ◌≡◌, ◌∙◌, ◌++◌, ◌∷◌, [], List, Bool, cond, refl, ap, subst, Option, Some, None, map, is_some}
 use Rattle.std.specs.Prelude.{filter}
 use Rattle.cdi_base.specs.declared.reply.Reply.{Reply}
 use Rattle.cdi_bodies.specs.declared.entry.Entry.{Entry}
@@ -23,11 +23,10 @@ use Rattle.cdi_plain.specs.Build.{method_before, methods_of, bean_before, beans_
 use Rattle.cdi_plain.specs.Check.{problems_at, too_many, or_else, problems_with, problems_of}
 use Rattle.cdi_plain.specs.Duplicates.{duplicates}
 use Rattle.cdi_plain.specs.Laws.{IsWithin}
-use Rattle.cdi_plain.specs.Machine.{machine}
 use Rattle.cdi_plain.specs.Registered.{legal_of}
-use Rattle.cdi_plain.specs.Runs.{Legal, Runs}
+use Rattle.cdi_plain.specs.Runs.{Legal}
 use Rattle.cdi_plain.specs.World.{World}
-use Rattle.cdi_plain.specs.WrongBodies.{shape_of, is_wrong, problem_at, has_wrong_body, wrong_members, wrong_in, wrong_of_kind, wrong_with}
+use Rattle.cdi_plain.specs.WrongBodies.{shape_of, is_wrong, problem_at, has_wrong_body, wrong_in, wrong_of_kind, wrong_with}
 use Rattle.cdi_plain.proofs.Wider.{wider}
 use Rattle.cdi_shell.specs.declared.command.BadLine.{BadLine}
 use Rattle.cdi_base.specs.declared.command.Command.{Command}
@@ -39,9 +38,8 @@ use Rattle.cdi_shell.specs.declared.scripts.NamedScript.{NamedScript}
 use Rattle.cdi_shell.specs.Command.{command_in}
 use Rattle.cdi_shell.specs.Drive.{Streams, Lives, Plays, PlaysScripts, place_under, shape_under, legal_by}
 use Rattle.cdi_shell.specs.ReplyText.{reply_line}
-use Rattle.cdi_shell.specs.Served.{Serves}
 use Rattle.cdi_shell.specs.Sessions.{AnswersRead, AnswersLine}
-use Rattle.cdi_shell.specs.States.{State, asked, Ends, Responds, Boots, unstarted}
+use Rattle.cdi_shell.specs.States.{State, asked, Ends, Responds, unstarted}
 use Rattle.cdi_shell.proofs.Holding.{Holds, same_place, same_shape, within}
 use Rattle.cdi_shell.proofs.Mapped.{serves}
 

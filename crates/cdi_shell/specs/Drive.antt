@@ -1,11 +1,8 @@
 -- A run of the program, from the bytes of a deployment and of its input to the bytes of its output.
-use Rattle.std.specs.Prelude.{◌≡◌, ◌≢◌, ℕ, ◌==◌, List, [], ◌∷◌, map, Option, Some, None, Result, Ok, Err, slice_get, position, option_map, option_and_then, MatchOption}
-use Rattle.std.specs.Io.KnownBytes.{Appends}
-use Rattle.cdi_base.specs.declared.act.Act.{Act}
+use Rattle.std.specs.Prelude.{◌≡◌, ◌≢◌, ℕ, List, [], map, Option, Result, Ok, Err, slice_get, position, option_map, option_and_then, MatchOption}
 use Rattle.cdi_base.specs.declared.reply.Reply.{Reply}
 use Rattle.cdi_base.specs.Reading.{◌>>=◌}
 use Rattle.cdi_bodies.specs.declared.shape.Shape.{Shape}
-use Rattle.cdi_deploy.specs.declared.deployment.Class.{Class}
 use Rattle.cdi_deploy.specs.declared.deployment.Deployment.{Deployment}
 use Rattle.cdi_deploy.specs.Reading.{deployment_in}
 use Rattle.cdi_plain.specs.declared.bean.Bean.{Bean}

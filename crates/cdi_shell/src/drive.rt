@@ -132,8 +132,12 @@ fn live<R: Read, W: Write>(
     output: &mut Output<W>,
 ) -> Ending
     ensures served { spec.IsServed container
-        (record { unread = R.remaining (reader_of input.old); unread_after = R.remaining (reader_of input.new);
-            held = W.contents (writer_of output.old); held_after = W.contents (writer_of output.new) }) result }
+        (record {
+          unread = R.remaining (reader_of input.old);
+          unread_after = R.remaining (reader_of input.new);
+          held = W.contents (writer_of output.old);
+          held_after = W.contents (writer_of output.new);
+        }) result }
     ensures failed { IsFaultOf result (has_read_failed input.new) (has_write_failed output.new) }
 {
     let mut container = container;
@@ -152,14 +156,21 @@ fn play<R: Read, W: Write>(
 ) -> Ending
     ensures plays { spec.Plays limits.depth limits.ticks deployment.names (problems_of deployment (entries_of bodies))
         (beans_of deployment.classes (entries_of bodies)) (map (λ class. class.name) deployment.classes) (legal_of (entries_of bodies))
-        (record { unread = R.remaining (reader_of input.old); unread_after = R.remaining (reader_of input.new);
-            held = W.contents (writer_of output.old); held_after = W.contents (writer_of output.new) }) result }
+        (record {
+          unread = R.remaining (reader_of input.old);
+          unread_after = R.remaining (reader_of input.new);
+          held = W.contents (writer_of output.old);
+          held_after = W.contents (writer_of output.new);
+        }) result }
     ensures failed { IsFaultOf result (has_read_failed input.new) (has_write_failed output.new) }
 {
     match Container::boot(alloc, deployment, bodies, limits) {
         Ok(container) => live(alloc, container, input, output),
         Err(BootError::Problems { names, problems }) => refuse_problems(
-            alloc, &names, problems.as_slice(), output,
+            alloc,
+            &names,
+            problems.as_slice(),
+            output,
         ),
         Err(BootError::Memory) => Ending::Fault(ServeFault::Memory),
     }
@@ -175,8 +186,12 @@ fn play_scripts<R: Read, W: Write>(
 ) -> Result<Ending, AllocError>
     requires { length prepared.scripts.items ≤ MAX_BODIES }
     ensures plays { IfOk result (spec.PlaysScripts limits.depth limits.ticks prepared.deployment (registered prepared.scripts.items)
-        (record { unread = R.remaining (reader_of input.old); unread_after = R.remaining (reader_of input.new);
-            held = W.contents (writer_of output.old); held_after = W.contents (writer_of output.new) })) }
+        (record {
+          unread = R.remaining (reader_of input.old);
+          unread_after = R.remaining (reader_of input.new);
+          held = W.contents (writer_of output.old);
+          held_after = W.contents (writer_of output.new);
+        })) }
     ensures silent { OnErr result ((input.new ≡ input.old) × (output.new ≡ output.old)) }
     ensures failed { IfOk result (λ ending. IsFaultOf ending (has_read_failed input.new) (has_write_failed output.new)) }
 {
@@ -216,8 +231,12 @@ fn run<R: Read, W: Write>(
     output: &mut Output<W>,
 ) -> Ending
     ensures drives { spec.Drives limits.depth limits.ticks deployment.now
-        (record { unread = R.remaining (reader_of input.old); unread_after = R.remaining (reader_of input.new);
-            held = W.contents (writer_of output.old); held_after = W.contents (writer_of output.new) }) result }
+        (record {
+          unread = R.remaining (reader_of input.old);
+          unread_after = R.remaining (reader_of input.new);
+          held = W.contents (writer_of output.old);
+          held_after = W.contents (writer_of output.new);
+        }) result }
     ensures failed { IsFaultOf result (has_read_failed input.new) (has_write_failed output.new) }
 {
     match prepare(alloc, deployment) {
@@ -245,8 +264,12 @@ pub fn drive<R: Read, W: Write>(
     output: &mut Output<W>,
 ) -> u8
     ensures { DrivesOnce limits.depth limits.ticks deployment.now
-        (record { unread = R.remaining (reader_of input.old); unread_after = R.remaining (reader_of input.new);
-            held = W.contents (writer_of output.old); held_after = W.contents (writer_of output.new) })
+        (record {
+          unread = R.remaining (reader_of input.old);
+          unread_after = R.remaining (reader_of input.new);
+          held = W.contents (writer_of output.old);
+          held_after = W.contents (writer_of output.new);
+        })
         (has_read_failed input.new) (has_write_failed output.new) result }
 {
     run(alloc, deployment, limits, input, output).status()

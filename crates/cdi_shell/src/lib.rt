@@ -13,9 +13,6 @@ mod ends_tests;
 pub mod fault;
 pub mod input;
 pub mod laws;
-pub mod serving;
-#[cfg(test)]
-mod serving_tests;
 pub mod output;
 pub mod places;
 pub mod refusal_text;
@@ -23,6 +20,9 @@ pub mod reply_text;
 pub mod request;
 pub mod responder;
 pub mod scripts;
+pub mod serving;
+#[cfg(test)]
+mod serving_tests;
 pub mod session;
 #[cfg(test)]
 mod test_ends;
@@ -34,7 +34,7 @@ pub use container::{BootError, Container};
 pub use ending::Ending;
 pub use fault::ServeFault;
 pub use input::{Input, ReadFailed};
-pub use serving::{MAX_INPUT, serve_lines};
 pub use output::{Output, WriteFailed};
 pub use responder::Responder;
+pub use serving::{MAX_INPUT, serve_lines};
 pub use session::serve;

@@ -178,14 +178,13 @@ fn writes_faults(rt: HostRuntime) -> Result<(), Fail> {
 
 #[test]
 fn writes_script_faults(rt: HostRuntime) -> Result<(), Fail> {
-    let names = table(&rt, rt.alloc())?;
     let rows = [
         ("up", ScriptFault::BadStep, "script up BadStep\n"),
         ("K", ScriptFault::TooLong, "script K TooLong\n"),
         ("Log_1.x$", ScriptFault::Full, "script Log_1.x$ Full\n"),
     ];
     for (script, fault, expected) in rows {
-        let line = write_script_fault(rt.alloc(), &names, names.name_for(script), fault)?;
+        let line = write_script_fault(rt.alloc(), script, fault)?;
         assert_eq!(rt; line.as_slice(), expected.as_bytes());
     }
     Ok(())

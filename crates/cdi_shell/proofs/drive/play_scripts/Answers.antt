@@ -1,4 +1,4 @@
-use Rattle.std.proofs.Common.{rules, ◌≡◌, ◌<◌, ◌≤◌, ◌+◌, ◌∙◌, ◌++◌, ◌∷◌, [], List, ℕ, Ok, true, false, refl, sym, ap, subst, length, length-append, is_some, arith}
+use Rattle.std.proofs.Common.{rules, ◌≡◌, ◌<◌, ◌∙◌, ◌++◌, ◌∷◌, [], List, Ok, true, false, sym, ap, subst, length, length-append, is_some, arith}
 use Rattle.std.specs.Prelude.{fold}
 use Rattle.cdi_bodies.specs.Table.{entries_of}
 use Rattle.cdi_bodies.specs.Gives.{place_of}
@@ -19,10 +19,12 @@ pub loop-named-preserved-then-is_some : goal.loop-named-preserved-then-is_some
 loop-named-preserved-then-is_some g c =
     let inv = c.loop-named.invariant in
     let there : is_some (place_of (entries_of c.loop-named.bodies) c.in-Some.named.name) ≡ true = search rules in
-    let known : is_some (place_under inv.0 c.in-Some.named.name) ≡ true = sym (ap is_some (same_place (entries_of c.loop-named.bodies) inv.0 c.in-Some.named.name inv.1)) ∙ there in
-    (inv.0, inv.1,
+    let known : is_some (place_under inv.0 c.in-Some.named.name) ≡ true = sym (ap is_some (same_place (entries_of c.loop-named.bodies) inv.0 c.in-Some.named.name inv.1)) ∙ there in (
+      inv.0,
+      inv.1,
       ap (λ (f : List NamedScript). fold added f c.next.new.self.rest.items) (sym (add_known inv.0 c.in-Some.named known)) ∙ ap (λ (t : List NamedScript). fold added inv.0 t) (sym c.in-Some.ensures.steps.0) ∙ inv.2,
-      omega (arith, inv.3, ap (λ (t : List NamedScript). length t) c.in-Some.ensures.steps.0))
+      omega (arith, inv.3, ap (λ (t : List NamedScript). length t) c.in-Some.ensures.steps.0),
+    )
 
 pub add-requires-clause-within : goal.add-requires-clause-within
 add-requires-clause-within g c = λ fields view act h.
@@ -34,12 +36,13 @@ pub loop-named-preserved : goal.loop-named-preserved
 loop-named-preserved g c =
     let inv = c.loop-named.invariant in
     let absent : is_some (place_of (entries_of c.loop-named.bodies) c.in-Some.named.name) ≡ false = search rules in
-    let new : is_some (place_under inv.0 c.in-Some.named.name) ≡ false = sym (ap is_some (same_place (entries_of c.loop-named.bodies) inv.0 c.in-Some.named.name inv.1)) ∙ absent in
-    (inv.0 ++ c.in-Some.named ∷ [],
+    let new : is_some (place_under inv.0 c.in-Some.named.name) ≡ false = sym (ap is_some (same_place (entries_of c.loop-named.bodies) inv.0 c.in-Some.named.name inv.1)) ∙ absent in (
+      inv.0 ++ c.in-Some.named ∷ [],
       holds_add (entries_of c.loop-named.bodies) (entries_of c.add.new.self) inv.0 c.in-Some.named c.in_ok-shape.shape c.into_dyn_box.result inv.1 c.in-Ok.ensures.ok c.in_ok-shape.ensures
-        (λ fields view act q. let given = made_post own-1 at-1-1 c.into_dyn_box.ensures.1 (fields, (view, tt)) (Ok act) q in rw c.in_ok-new.ensures.ok at given),
+          (λ fields view act q. let given = made_post own-1 at-1-1 c.into_dyn_box.ensures.1 (fields, (view, tt)) (Ok act) q in rw c.in_ok-new.ensures.ok at given),
       ap (λ (f : List NamedScript). fold added f c.next.new.self.rest.items) (sym (add_new inv.0 c.in-Some.named new)) ∙ ap (λ (t : List NamedScript). fold added inv.0 t) (sym c.in-Some.ensures.steps.0) ∙ inv.2,
-      omega (arith, inv.3, ap (λ (t : List NamedScript). length t) c.in-Some.ensures.steps.0, length-append inv.0 (c.in-Some.named ∷ [])))
+      omega (arith, inv.3, ap (λ (t : List NamedScript). length t) c.in-Some.ensures.steps.0, length-append inv.0 (c.in-Some.named ∷ [])),
+    )
 
 pub unreachable-requires-in-Err-Full : goal.unreachable-requires-in-Err-Full
 unreachable-requires-in-Err-Full g c =

@@ -1,4 +1,4 @@
-use Rattle.std.proofs.Common.{◌≡◌, ◌+◌, ◌≤◌, ◌++◌, length, List}
+use Rattle.std.proofs.Common.{◌≡◌, ◌+◌, ◌≤◌, length, List}
 use Rattle.std.specs.Prelude.{fold}
 use Rattle.cdi_bodies.specs.Table.{entries_of}
 use Rattle.cdi_shell.specs.declared.scripts.NamedScript.{NamedScript}
