@@ -10,3 +10,4 @@ pub mod Playing
 pub mod Reading
 pub mod Scripted
 pub mod Served
+pub mod WorkedLines

@@ -15,3 +15,4 @@ pub mod Scripts
 pub mod Served
 pub mod Sessions
 pub mod States
+pub mod WorkedLines

@@ -2,6 +2,7 @@
 ghost use Rattle.std.specs.Prelude.{◌≡◌, ℕ, List, [], ◌++◌, All};
 ghost use Rattle.cdi_shell.specs.Laws.{OneOutput};
 ghost use Rattle.cdi_shell.specs.Lines.{begun_line, complete_lines, all_lines, with_line_feeds, IsOneLine};
+ghost use Rattle.cdi_shell.specs.WorkedLines.{WorkedLines};
 
 /// Bytes are their complete lines, each with a line feed behind it, and then what stands behind the last line feed.
 /// No line has a line feed in it.
@@ -14,4 +15,11 @@ pub fn law_lines()
 /// bytes of the deployment and of the bytes of the input, and so is how it ends.
 pub fn law_one_output()
     ensures { OneOutput }
+{}
+
+/// Worked lines of the definitions: each kind of reply, the lines of refused deployments, where lines end, and what calls
+/// of a counter ask.
+#[tactic(auto, using(crate::proofs::WorkedLines::worked_lines))]
+pub fn law_worked_lines()
+    ensures { WorkedLines }
 {}
