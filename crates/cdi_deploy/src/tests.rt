@@ -1,6 +1,7 @@
 use crate::{Bean, Member, Method, Scope, read};
 use cdi_base::{BuiltIn, ReadError, Value};
 use std::alloc::{AllocError, Global};
+use std::process::Abort;
 use std::test::Fail;
 
 /// What is printed for bytes: `ok`, or their first fault.
@@ -12,174 +13,253 @@ fn printed(alloc: Global, bytes: &[u8]) -> Result<String, AllocError> {
     }
 }
 
-#[test]
-fn first_faults(rt: HostRuntime) -> Result<(), Fail> {
-    for (text, expected) in [
-        ("{}", "ok"),
-        (" { \"form\" : 1 } ", "ok"),
-        ("{\"classes\":[],\"scripts\":[]}", "ok"),
-        // The bytes.
-        ("", "NotJson"),
-        ("{", "NotJson"),
-        ("{\"form\":1,}", "NotJson"),
-        ("{}{}", "NotJson"),
-        ("{\"x\":1e400}", "NotJson"),
-        ("{\"x\":\"\\ud800\"}", "NotJson"),
-        // Numbers, wherever they stand.
-        ("{\"x\":1.5}", "BadNumber"),
-        ("[-0]", "BadNumber"),
-        ("[1.0]", "BadNumber"),
-        ("[1e3]", "BadNumber"),
-        ("[9223372036854775808]", "BadNumber"),
-        ("[-9223372036854775809]", "BadNumber"),
-        ("[9223372036854775807,-9223372036854775808]", "Shape "),
-        (
-            "{\"classes\":[{\"name\":\"K\",\"fields\":[{\"name\":\"n\",\"value\":1.5}]}]}",
-            "BadNumber",
-        ),
-        (
-            "{\"scripts\":[{\"name\":\"s\",\"steps\":[[\"give\",1.5]]}]}",
-            "BadNumber",
-        ),
-        ("{\"form\":1.5,\"form\":1}", "ok"),
-        // The root.
-        ("[]", "Shape "),
-        ("null", "Shape "),
-        ("{\"interfaces\":[]}", "Shape "),
-        ("{\"form\":2,\"x\":0}", "Shape "),
-        ("{\"form\":2}", "Shape /form"),
-        ("{\"form\":0}", "Shape /form"),
-        ("{\"form\":-1}", "Shape /form"),
-        ("{\"form\":\"1\"}", "Shape /form"),
-        ("{\"form\":null}", "Shape /form"),
-        ("{\"form\":2,\"form\":1}", "ok"),
-        ("{\"form\":1,\"form\":2}", "Shape /form"),
-        ("{\"form\":3,\"classes\":5}", "Shape /classes"),
-        ("{\"classes\":null}", "Shape /classes"),
-        ("{\"classes\":{}}", "Shape /classes"),
-        // Classes, beans and fields.
-        ("{\"classes\":[{}]}", "Shape /classes/0"),
-        (
-            "{\"classes\":[{\"name\":\"K\"},{\"name\":\"L\",\"extends\":\"K\"}]}",
-            "Shape /classes/1",
-        ),
-        ("{\"classes\":[{\"name\":1},{}]}", "Shape /classes/0/name"),
-        ("{\"classes\":[{\"name\":null}]}", "Shape /classes/0/name"),
-        (
-            "{\"classes\":[{\"name\":\"K\",\"bean\":null}]}",
-            "Shape /classes/0/bean",
-        ),
-        (
-            "{\"classes\":[{\"name\":\"K\",\"bean\":true}]}",
-            "Shape /classes/0/bean",
-        ),
-        (
-            "{\"classes\":[{\"name\":\"K\",\"bean\":{\"quals\":[]}}]}",
-            "Shape /classes/0/bean",
-        ),
-        (
-            "{\"classes\":[{\"name\":\"K\",\"bean\":{\"scope\":\"SessionScoped\"}}]}",
-            "Shape /classes/0/bean/scope",
-        ),
-        (
-            "{\"classes\":[{\"name\":\"K\",\"bean\":{\"scope\":null}}]}",
-            "Shape /classes/0/bean/scope",
-        ),
-        (
-            "{\"classes\":[{\"name\":\"K\",\"bean\":{\"scope\":\"Dependent\"}}]}",
-            "ok",
-        ),
-        (
-            "{\"classes\":[{\"name\":\"K\",\"fields\":[{\"value\":1}]}]}",
-            "Shape /classes/0/fields/0",
-        ),
-        (
-            "{\"classes\":[{\"name\":\"K\",\"fields\":[{\"name\":\"n\",\"value\":[]}]}]}",
-            "Shape /classes/0/fields/0/value",
-        ),
-        (
-            "{\"classes\":[{\"name\":\"K\",\"fields\":[{\"name\":\"n\",\"value\":true}]}]}",
-            "Shape /classes/0/fields/0/value",
-        ),
-        (
-            "{\"classes\":[{\"name\":\"K\",\"fields\":[{\"name\":\"n\",\"value\":null},7]}]}",
-            "Shape /classes/0/fields/1",
-        ),
-        // Members.
-        (
-            "{\"classes\":[{\"name\":\"K\",\"members\":[{\"kind\":\"init\",\"name\":\"i\",\"body\":\"i\"}]}]}",
-            "Shape /classes/0/members/0",
-        ),
-        (
-            "{\"classes\":[{\"name\":\"K\",\"members\":[{\"kind\":null,\"name\":\"m\",\"body\":\"m\"}]}]}",
-            "Shape /classes/0/members/0",
-        ),
-        (
-            "{\"classes\":[{\"name\":\"K\",\"members\":[{\"name\":\"m\",\"body\":\"m\"}]}]}",
-            "Shape /classes/0/members/0",
-        ),
-        (
-            "{\"classes\":[{\"name\":\"K\",\"members\":[{\"kind\":\"method\",\"name\":\"m\"}]}]}",
-            "Shape /classes/0/members/0",
-        ),
-        (
-            "{\"classes\":[{\"name\":\"K\",\"members\":[{\"kind\":\"method\",\"name\":\"m\",\"body\":\"m\",\"bindings\":[]}]}]}",
-            "Shape /classes/0/members/0",
-        ),
-        (
-            "{\"classes\":[{\"name\":\"K\",\"members\":[{\"kind\":\"method\",\"name\":\"m\",\"body\":\"m\",\"args\":9}]}]}",
-            "Shape /classes/0/members/0/args",
-        ),
-        (
-            "{\"classes\":[{\"name\":\"K\",\"members\":[{\"kind\":\"method\",\"name\":\"m\",\"body\":\"m\",\"args\":-1}]}]}",
-            "Shape /classes/0/members/0/args",
-        ),
-        (
-            "{\"classes\":[{\"name\":\"K\",\"members\":[{\"kind\":\"method\",\"name\":\"m\",\"body\":\"m\",\"args\":8}]}]}",
-            "ok",
-        ),
-        // Scripts, whose steps are not looked at.
-        ("{\"scripts\":[{\"name\":\"s\"}]}", "Shape /scripts/0"),
-        (
-            "{\"scripts\":[{\"name\":\"s\",\"steps\":{}}]}",
-            "Shape /scripts/0/steps",
-        ),
-        (
-            "{\"scripts\":[{\"name\":\"s\",\"steps\":[null,{\"x\":\"?\"}]}]}",
-            "ok",
-        ),
-        // Names, after every shape.
-        ("{\"classes\":[{\"name\":\"K-\"}]}", "BadName"),
-        ("{\"classes\":[{\"name\":\"\"}]}", "BadName"),
-        (
-            "{\"classes\":[{\"name\":\"K\",\"fields\":[{\"name\":\"?\"}]}]}",
-            "BadName",
-        ),
-        (
-            "{\"classes\":[{\"name\":\"K\",\"fields\":[{\"name\":\"n\",\"value\":\"?\"}]}]}",
-            "ok",
-        ),
-        (
-            "{\"classes\":[{\"name\":\"K\",\"members\":[{\"kind\":\"method\",\"name\":\"m\",\"body\":\"?\"}]}]}",
-            "BadName",
-        ),
-        ("{\"scripts\":[{\"name\":\"a b\",\"steps\":[]}]}", "BadName"),
-        ("{\"classes\":[{\"name\":\"K-\"},{}]}", "Shape /classes/1"),
-        (
-            "{\"classes\":[{\"name\":\"K-\"},{\"name\":\"L\"}],\"scripts\":[{\"name\":\"s\",\"steps\":1.0}]}",
-            "BadNumber",
-        ),
-    ] {
-        assert_eq!(rt;
-            printed(rt.alloc(), text.as_bytes())?.as_str(),
-            expected,
-            "of {text}"
-        );
+/// Reads each text, and compares what is printed for it.
+fn compare(rt: &impl Abort, alloc: Global, rows: &[(&str, &str)]) -> Result<(), Fail> {
+    for (text, expected) in rows {
+        let found = printed(alloc, text.as_bytes())?;
+        assert_eq!(rt; found.as_str(), *expected, "of {text}");
     }
-    assert_eq!(rt;
-        printed(rt.alloc(), &[b'"', 255, b'"'])?.as_str(),
-        "NotJson"
-    );
+    Ok(())
+}
+
+#[test]
+fn accepts_what_has_no_part(rt: HostRuntime) -> Result<(), Fail> {
+    compare(
+        &rt,
+        rt.alloc(),
+        &[
+            ("{}", "ok"),
+            (" { \"form\" : 1 } ", "ok"),
+            ("{\"classes\":[],\"scripts\":[]}", "ok"),
+        ],
+    )
+}
+
+// The bytes.
+#[test]
+fn refuses_what_is_no_json(rt: HostRuntime) -> Result<(), Fail> {
+    compare(
+        &rt,
+        rt.alloc(),
+        &[
+            ("", "NotJson"),
+            ("{", "NotJson"),
+            ("{\"form\":1,}", "NotJson"),
+            ("{}{}", "NotJson"),
+            ("{\"x\":1e400}", "NotJson"),
+            ("{\"x\":\"\\ud800\"}", "NotJson"),
+        ],
+    )
+}
+
+// Numbers, wherever they stand.
+#[test]
+fn refuses_bad_numbers(rt: HostRuntime) -> Result<(), Fail> {
+    compare(
+        &rt,
+        rt.alloc(),
+        &[
+            ("{\"x\":1.5}", "BadNumber"),
+            ("[-0]", "BadNumber"),
+            ("[1.0]", "BadNumber"),
+            ("[1e3]", "BadNumber"),
+            ("[9223372036854775808]", "BadNumber"),
+            ("[-9223372036854775809]", "BadNumber"),
+            ("[9223372036854775807,-9223372036854775808]", "Shape "),
+            (
+                "{\"classes\":[{\"name\":\"K\",\"fields\":[{\"name\":\"n\",\"value\":1.5}]}]}",
+                "BadNumber",
+            ),
+            (
+                "{\"scripts\":[{\"name\":\"s\",\"steps\":[[\"give\",1.5]]}]}",
+                "BadNumber",
+            ),
+            ("{\"form\":1.5,\"form\":1}", "ok"),
+        ],
+    )
+}
+
+// The root.
+#[test]
+fn looks_at_the_root(rt: HostRuntime) -> Result<(), Fail> {
+    compare(
+        &rt,
+        rt.alloc(),
+        &[
+            ("[]", "Shape "),
+            ("null", "Shape "),
+            ("{\"interfaces\":[]}", "Shape "),
+            ("{\"form\":2,\"x\":0}", "Shape "),
+            ("{\"form\":2}", "Shape /form"),
+            ("{\"form\":0}", "Shape /form"),
+            ("{\"form\":-1}", "Shape /form"),
+            ("{\"form\":\"1\"}", "Shape /form"),
+            ("{\"form\":null}", "Shape /form"),
+            ("{\"form\":2,\"form\":1}", "ok"),
+            ("{\"form\":1,\"form\":2}", "Shape /form"),
+            ("{\"form\":3,\"classes\":5}", "Shape /classes"),
+            ("{\"classes\":null}", "Shape /classes"),
+            ("{\"classes\":{}}", "Shape /classes"),
+        ],
+    )
+}
+
+// Classes, beans and fields.
+#[test]
+fn looks_at_classes(rt: HostRuntime) -> Result<(), Fail> {
+    compare(
+        &rt,
+        rt.alloc(),
+        &[
+            ("{\"classes\":[{}]}", "Shape /classes/0"),
+            (
+                "{\"classes\":[{\"name\":\"K\"},{\"name\":\"L\",\"extends\":\"K\"}]}",
+                "Shape /classes/1",
+            ),
+            ("{\"classes\":[{\"name\":1},{}]}", "Shape /classes/0/name"),
+            ("{\"classes\":[{\"name\":null}]}", "Shape /classes/0/name"),
+            (
+                "{\"classes\":[{\"name\":\"K\",\"bean\":null}]}",
+                "Shape /classes/0/bean",
+            ),
+            (
+                "{\"classes\":[{\"name\":\"K\",\"bean\":true}]}",
+                "Shape /classes/0/bean",
+            ),
+            (
+                "{\"classes\":[{\"name\":\"K\",\"bean\":{\"quals\":[]}}]}",
+                "Shape /classes/0/bean",
+            ),
+            (
+                "{\"classes\":[{\"name\":\"K\",\"bean\":{\"scope\":\"SessionScoped\"}}]}",
+                "Shape /classes/0/bean/scope",
+            ),
+            (
+                "{\"classes\":[{\"name\":\"K\",\"bean\":{\"scope\":null}}]}",
+                "Shape /classes/0/bean/scope",
+            ),
+            (
+                "{\"classes\":[{\"name\":\"K\",\"bean\":{\"scope\":\"Dependent\"}}]}",
+                "ok",
+            ),
+            (
+                "{\"classes\":[{\"name\":\"K\",\"fields\":[{\"value\":1}]}]}",
+                "Shape /classes/0/fields/0",
+            ),
+            (
+                "{\"classes\":[{\"name\":\"K\",\"fields\":[{\"name\":\"n\",\"value\":[]}]}]}",
+                "Shape /classes/0/fields/0/value",
+            ),
+            (
+                "{\"classes\":[{\"name\":\"K\",\"fields\":[{\"name\":\"n\",\"value\":true}]}]}",
+                "Shape /classes/0/fields/0/value",
+            ),
+            (
+                "{\"classes\":[{\"name\":\"K\",\"fields\":[{\"name\":\"n\",\"value\":null},7]}]}",
+                "Shape /classes/0/fields/1",
+            ),
+        ],
+    )
+}
+
+// Members.
+#[test]
+fn looks_at_members(rt: HostRuntime) -> Result<(), Fail> {
+    compare(
+        &rt,
+        rt.alloc(),
+        &[
+            (
+                "{\"classes\":[{\"name\":\"K\",\"members\":[{\"kind\":\"init\",\"name\":\"i\",\"body\":\"i\"}]}]}",
+                "Shape /classes/0/members/0",
+            ),
+            (
+                "{\"classes\":[{\"name\":\"K\",\"members\":[{\"kind\":null,\"name\":\"m\",\"body\":\"m\"}]}]}",
+                "Shape /classes/0/members/0",
+            ),
+            (
+                "{\"classes\":[{\"name\":\"K\",\"members\":[{\"name\":\"m\",\"body\":\"m\"}]}]}",
+                "Shape /classes/0/members/0",
+            ),
+            (
+                "{\"classes\":[{\"name\":\"K\",\"members\":[{\"kind\":\"method\",\"name\":\"m\"}]}]}",
+                "Shape /classes/0/members/0",
+            ),
+            (
+                "{\"classes\":[{\"name\":\"K\",\"members\":[{\"kind\":\"method\",\"name\":\"m\",\"body\":\"m\",\"bindings\":[]}]}]}",
+                "Shape /classes/0/members/0",
+            ),
+            (
+                "{\"classes\":[{\"name\":\"K\",\"members\":[{\"kind\":\"method\",\"name\":\"m\",\"body\":\"m\",\"args\":9}]}]}",
+                "Shape /classes/0/members/0/args",
+            ),
+            (
+                "{\"classes\":[{\"name\":\"K\",\"members\":[{\"kind\":\"method\",\"name\":\"m\",\"body\":\"m\",\"args\":-1}]}]}",
+                "Shape /classes/0/members/0/args",
+            ),
+            (
+                "{\"classes\":[{\"name\":\"K\",\"members\":[{\"kind\":\"method\",\"name\":\"m\",\"body\":\"m\",\"args\":8}]}]}",
+                "ok",
+            ),
+        ],
+    )
+}
+
+// Scripts, whose steps are not looked at.
+#[test]
+fn looks_at_scripts(rt: HostRuntime) -> Result<(), Fail> {
+    compare(
+        &rt,
+        rt.alloc(),
+        &[
+            ("{\"scripts\":[{\"name\":\"s\"}]}", "Shape /scripts/0"),
+            (
+                "{\"scripts\":[{\"name\":\"s\",\"steps\":{}}]}",
+                "Shape /scripts/0/steps",
+            ),
+            (
+                "{\"scripts\":[{\"name\":\"s\",\"steps\":[null,{\"x\":\"?\"}]}]}",
+                "ok",
+            ),
+        ],
+    )
+}
+
+// Names, after every shape.
+#[test]
+fn looks_at_names_last(rt: HostRuntime) -> Result<(), Fail> {
+    compare(
+        &rt,
+        rt.alloc(),
+        &[
+            ("{\"classes\":[{\"name\":\"K-\"}]}", "BadName"),
+            ("{\"classes\":[{\"name\":\"\"}]}", "BadName"),
+            (
+                "{\"classes\":[{\"name\":\"K\",\"fields\":[{\"name\":\"?\"}]}]}",
+                "BadName",
+            ),
+            (
+                "{\"classes\":[{\"name\":\"K\",\"fields\":[{\"name\":\"n\",\"value\":\"?\"}]}]}",
+                "ok",
+            ),
+            (
+                "{\"classes\":[{\"name\":\"K\",\"members\":[{\"kind\":\"method\",\"name\":\"m\",\"body\":\"?\"}]}]}",
+                "BadName",
+            ),
+            ("{\"scripts\":[{\"name\":\"a b\",\"steps\":[]}]}", "BadName"),
+            ("{\"classes\":[{\"name\":\"K-\"},{}]}", "Shape /classes/1"),
+            (
+                "{\"classes\":[{\"name\":\"K-\"},{\"name\":\"L\"}],\"scripts\":[{\"name\":\"s\",\"steps\":1.0}]}",
+                "BadNumber",
+            ),
+        ],
+    )
+}
+
+#[test]
+fn refuses_what_is_not_utf8(rt: HostRuntime) -> Result<(), Fail> {
+    let found = printed(rt.alloc(), &[b'"', 255, b'"'])?;
+    assert_eq!(rt; found.as_str(), "NotJson");
     Ok(())
 }
 
