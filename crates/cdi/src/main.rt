@@ -6,6 +6,8 @@ mod options;
 use cdi_base::Limits;
 use cdi_shell::drive::drive;
 use cdi_shell::{Input, Output};
+use clap::Error;
+use clap::error::ErrorKind;
 use std::alloc::Global;
 use std::process::ExitCode;
 use std::{env, fs, io};
@@ -37,6 +39,16 @@ fn run(rt: &HostRuntime, alloc: Global, file: &str) -> io::Result<u8> {
     Ok(status)
 }
 
+/// The exit status where the words ask for nothing to run: 0 where they ask for help, 2 where they are wrong, and that
+/// of a fault where memory ran out.
+fn status_of(error: &Error) -> u8 {
+    if error.kind() == ErrorKind::OutOfMemory {
+        FAULT
+    } else {
+        error.exit_code() as u8
+    }
+}
+
 /// Does what the words of the command line ask for, and gives the exit status.
 fn answer(rt: &HostRuntime, alloc: Global) -> io::Result<u8> {
     let mut words = Vec::new(alloc);
@@ -47,7 +59,7 @@ fn answer(rt: &HostRuntime, alloc: Global) -> io::Result<u8> {
         Ok(file) => run(rt, alloc, file),
         Err(error) => {
             error.print(rt)?;
-            Ok(error.exit_code() as u8)
+            Ok(status_of(&error))
         }
     }
 }
