@@ -2,8 +2,8 @@
 ghost use Rattle.std.specs.Prelude.{◌≡◌, IfOk, string_bytes};
 ghost use Rattle.cdi_shell.specs.RefusalText as spec;
 
-use crate::places::{name_text, place_text};
-use cdi_base::{Name, Names};
+use crate::places::place_text;
+use cdi_base::Names;
 use cdi_deploy::ReadFault;
 use cdi_plain::problem::Problem;
 use cdi_script::ScriptFault;

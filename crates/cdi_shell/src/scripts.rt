@@ -1,13 +1,12 @@
 //! The scripts of a deployment.
-ghost use Rattle.std.specs.Prelude.{◌≡◌, IfOk};
 ghost use Rattle.cdi_base.specs.Reading.{Gives};
-ghost use Rattle.cdi_shell.specs.Places.{name_text};
 ghost use Rattle.cdi_shell.specs.Scripts as spec;
 
+use crate::places::name_text;
 use cdi_base::{Name, Names, ReadError, Text};
 use cdi_deploy::deployment::Script as Declared;
 use cdi_script::{Script, ScriptFault};
-use std::alloc::{AllocError, Global};
+use std::alloc::Global;
 
 /// A script under its name.
 #[derive(Drop)]
@@ -23,12 +22,6 @@ pub struct BadScript {
     pub fault: ScriptFault,
 }
 
-fn text_of(alloc: Global, names: &Names, name: Name) -> Result<Text, AllocError>
-    ensures { IfOk result (λ text. text ≡ name_text names.now name) }
-{
-    Text::from_str(alloc, names.get(name).unwrap_or(""))
-}
-
 fn read_script(
     alloc: Global,
     names: &mut Names,
@@ -36,7 +29,7 @@ fn read_script(
 ) -> Result<NamedScript, ReadError<BadScript>>
     ensures { Gives (λ script. (script, names.new)) result (spec.script_in names.old declared.now) }
 {
-    let name = text_of(alloc, names, declared.name)?;
+    let name = Text::from_str(alloc, name_text(names, declared.name))?;
     match Script::read(alloc, declared.steps.as_value(), names) {
         Ok(script) => Ok(NamedScript {
             name: declared.name,
