@@ -7,6 +7,10 @@ pub mod command;
 mod command_tests;
 pub mod container;
 pub mod drive;
+#[cfg(test)]
+mod drive_ends_tests;
+#[cfg(test)]
+mod drive_tests;
 pub mod ending;
 #[cfg(test)]
 mod ends_tests;
@@ -16,6 +20,8 @@ pub mod laws;
 pub mod output;
 pub mod places;
 pub mod refusal_text;
+#[cfg(test)]
+mod refused_tests;
 pub mod reply_text;
 pub mod request;
 pub mod responder;
@@ -26,6 +32,8 @@ mod serving_tests;
 pub mod session;
 #[cfg(test)]
 mod test_ends;
+#[cfg(test)]
+mod test_runs;
 #[cfg(test)]
 mod text_tests;
 
