@@ -1,5 +1,5 @@
 -- How a run of the program ends.
-use Rattle.std.specs.Prelude.{ℕ, Bool, IsTrue, Option, Some, None, Result, Ok, Err}
+use Rattle.std.specs.Prelude.{◌≡◌, ℕ, Bool, IsTrue, Option, Some, None, Result, Ok, Err}
 use Rattle.cdi_base.specs.declared.reply.Cause.{Cause}
 use Rattle.cdi_shell.specs.declared.ending.Ending.{Ending}
 use Rattle.cdi_shell.specs.declared.ending.Ending.TheVariants as endings
@@ -29,3 +29,8 @@ abbrev pub IsFaultOf : Ending → Bool → Bool → Type 0
 IsFaultOf (endings.Fault faults.Read) read_failed write_failed = IsTrue read_failed
 IsFaultOf (endings.Fault faults.Write) read_failed write_failed = IsTrue write_failed
 IsFaultOf _ read_failed write_failed = Unit {0}
+
+-- a run that doesn't end with a fault met no read, write or flush that failed
+abbrev pub Heeds : Ending → Bool → Bool → Bool → Bool → Type 0
+Heeds (endings.Fault _) read_failed read_fails write_failed write_fails = Unit {0}
+Heeds _ read_failed read_fails write_failed write_fails = (read_fails ≡ read_failed) × (write_fails ≡ write_failed)

@@ -4,7 +4,7 @@ use Rattle.cdi_base.specs.declared.reply.Cause.TheVariants as causes
 use Rattle.cdi_shell.specs.declared.ending.Ending.{Ending}
 use Rattle.cdi_shell.specs.declared.ending.Ending.TheVariants as endings
 use Rattle.cdi_shell.specs.Drive.{Streams, Drives}
-use Rattle.cdi_shell.specs.Endings.{status_of, IsFaultOf}
+use Rattle.cdi_shell.specs.Endings.{status_of, IsFaultOf, Heeds}
 
 -- no read or write failed, and memory did not run out
 abbrev pub IsSettled : Ending → Type 0
@@ -26,10 +26,11 @@ OneOutput =
 
 -- The program is run, and exits with this status. Where it was not disturbed, what it wrote and how it ended is what
 -- every such run writes, and how it ends.
-pub record DrivesOnce (depth ticks : ℕ) (bytes : List ℕ) (streams : Streams) (read_failed write_failed : Bool) (status : ℕ) : Type 0 where
+pub record DrivesOnce (depth ticks : ℕ) (bytes : List ℕ) (streams : Streams) (read_failed read_fails write_failed write_fails : Bool) (status : ℕ) : Type 0 where
   pub ending : Ending
   pub is_status : status ≡ status_of ending
   pub drives : Drives depth ticks bytes streams ending
-  pub failed : IsFaultOf ending read_failed write_failed
+  pub failed : IsFaultOf ending read_fails write_fails
+  pub heeded : Heeds ending read_failed read_fails write_failed write_fails
   pub only : (input held : List ℕ) (s : Streams) (e : Ending) → IsSettled ending → IsSettled e → streams.unread ≡ Some input → s.unread ≡ Some input → streams.held ≡ Some held → s.held ≡ Some held
       → Drives depth ticks bytes s e → SameOutput streams s ending e

@@ -25,6 +25,7 @@ fn answer_line<W: Write, A: Responder>(
         × Appends (W.contents (writer_of output.old)) (W.contents (writer_of output.new)) out
         × Answered A.answers (line.now ∷ []) responder.old responder.new result out }
     ensures failed { (input : Bool) → IsFaultOf result input (has_write_failed output.new) }
+    ensures heeded { OnOk result (has_write_failed output.new ≡ has_write_failed output.old) }
 {
     let reply = responder.answer(alloc, line)?;
     output.write(&reply)?;
@@ -45,6 +46,7 @@ pub(crate) fn answer_piece<W: Write, A: Responder>(
         × Answered A.answers (ended_lines line.old.items piece.now) responder.old responder.new result out }
     ensures begun { OnOk result (line.new.items ≡ begun_line line.old.items piece.now) }
     ensures failed { (input : Bool) → IsFaultOf result input (has_write_failed output.new) }
+    ensures heeded { OnOk result (has_write_failed output.new ≡ has_write_failed output.old) }
 {
     for byte in piece {
         if *byte == LINE_FEED {
@@ -68,6 +70,7 @@ pub(crate) fn answer_last<W: Write, A: Responder>(
         × Appends (W.contents (writer_of output.old)) (W.contents (writer_of output.new)) out
         × Answered A.answers (last_line line.now) responder.old responder.new result out }
     ensures failed { (input : Bool) → IsFaultOf result input (has_write_failed output.new) }
+    ensures heeded { OnOk result (has_write_failed output.new ≡ has_write_failed output.old) }
 {
     if line.is_empty() {
         return Ok(());

@@ -8,7 +8,7 @@ ghost use Rattle.cdi_script.specs.Next.{next_of};
 ghost use Rattle.cdi_shell.specs.declared.drive.PrepareError.TheVariants as prepare_errors;
 ghost use Rattle.cdi_shell.specs.Drive as spec;
 ghost use Rattle.cdi_shell.specs.Ends.{reader_of, has_read_failed, writer_of, has_write_failed};
-ghost use Rattle.cdi_shell.specs.Endings.{IsFaultOf};
+ghost use Rattle.cdi_shell.specs.Endings.{IsFaultOf, Heeds};
 ghost use Rattle.cdi_shell.specs.Laws.{DrivesOnce};
 ghost use Rattle.cdi_shell.specs.Prepared.{IsRefusal};
 ghost use Rattle.cdi_shell.specs.RefusalText.{problem_lines};
@@ -101,6 +101,7 @@ fn prepare(alloc: Global, bytes: &[u8]) -> Result<Prepared, PrepareError>
 fn refuse<W: Write>(lines: &[u8], output: &mut Output<W>) -> Ending
     ensures refuses { spec.Refuses lines.now (W.contents (writer_of output.old)) (W.contents (writer_of output.new)) result }
     ensures failed { (read_failed : Bool) → IsFaultOf result read_failed (has_write_failed output.new) }
+    ensures heeded { (read_failed : Bool) → Heeds result read_failed read_failed (has_write_failed output.old) (has_write_failed output.new) }
 {
     match output.write(lines) {
         Ok(()) => Ending::Refused,
@@ -117,6 +118,7 @@ fn refuse_problems<W: Write>(
 ) -> Ending
     ensures refuses { spec.RefusesOr (problem_lines names.now problems.now) (W.contents (writer_of output.old)) (W.contents (writer_of output.new)) result }
     ensures failed { (read_failed : Bool) → IsFaultOf result read_failed (has_write_failed output.new) }
+    ensures heeded { (read_failed : Bool) → Heeds result read_failed read_failed (has_write_failed output.old) (has_write_failed output.new) }
 {
     match write_problems(alloc, names, problems) {
         Ok(lines) => refuse(&lines, output),
@@ -139,6 +141,7 @@ fn live<R: Read, W: Write>(
           held_after = W.contents (writer_of output.new);
         }) result }
     ensures failed { IsFaultOf result (has_read_failed input.new) (has_write_failed output.new) }
+    ensures heeded { Heeds result (has_read_failed input.old) (has_read_failed input.new) (has_write_failed output.old) (has_write_failed output.new) }
 {
     let mut container = container;
     let served = serve(alloc, input, output, &mut container);
@@ -163,6 +166,7 @@ fn play<R: Read, W: Write>(
           held_after = W.contents (writer_of output.new);
         }) result }
     ensures failed { IsFaultOf result (has_read_failed input.new) (has_write_failed output.new) }
+    ensures heeded { Heeds result (has_read_failed input.old) (has_read_failed input.new) (has_write_failed output.old) (has_write_failed output.new) }
 {
     match Container::boot(alloc, deployment, bodies, limits) {
         Ok(container) => live(alloc, container, input, output),
@@ -194,6 +198,7 @@ fn play_scripts<R: Read, W: Write>(
         })) }
     ensures silent { OnErr result ((input.new ≡ input.old) × (output.new ≡ output.old)) }
     ensures failed { IfOk result (λ ending. IsFaultOf ending (has_read_failed input.new) (has_write_failed output.new)) }
+    ensures heeded { IfOk result (λ ending. Heeds ending (has_read_failed input.old) (has_read_failed input.new) (has_write_failed output.old) (has_write_failed output.new)) }
 {
     let Prepared {
         deployment,
@@ -238,6 +243,7 @@ fn run<R: Read, W: Write>(
           held_after = W.contents (writer_of output.new);
         }) result }
     ensures failed { IsFaultOf result (has_read_failed input.new) (has_write_failed output.new) }
+    ensures heeded { Heeds result (has_read_failed input.old) (has_read_failed input.new) (has_write_failed output.old) (has_write_failed output.new) }
 {
     match prepare(alloc, deployment) {
         Ok(prepared) => match play_scripts(alloc, prepared, limits, input, output) {
@@ -255,7 +261,8 @@ fn run<R: Read, W: Write>(
 /// a line. Otherwise the scripts are the bodies, the container is started and its command lines are answered, as
 /// [`serve`] does: the lines that stand written are those of a run of the machine for the lines that were read, in which
 /// each body does what its script does next. Where no read or write fails and memory does not run out, they are a
-/// function of the limits, the deployment and the input.
+/// function of the limits, the deployment and the input. A read, a write or a flush that fails is never passed over: the
+/// status is then 3.
 pub fn drive<R: Read, W: Write>(
     alloc: Global,
     deployment: &[u8],
@@ -270,7 +277,7 @@ pub fn drive<R: Read, W: Write>(
           held = W.contents (writer_of output.old);
           held_after = W.contents (writer_of output.new);
         })
-        (has_read_failed input.new) (has_write_failed output.new) result }
+        (has_read_failed input.old) (has_read_failed input.new) (has_write_failed output.old) (has_write_failed output.new) result }
 {
     run(alloc, deployment, limits, input, output).status()
 }

@@ -1,5 +1,5 @@
 //! Serving the lines of an input, from its beginning to its end.
-ghost use Rattle.std.specs.Prelude.{◌≡◌, ◌≢◌, ◌<◌, [], length, Err, MatchResult};
+ghost use Rattle.std.specs.Prelude.{◌≡◌, ◌≢◌, ◌<◌, [], length, Err, OnOk, MatchResult};
 ghost use Rattle.std.specs.Io.{ReadsAtMost};
 ghost use Rattle.std.specs.Io.KnownBytes.{Keeps, ReadConsumes};
 ghost use Rattle.cdi_shell.specs.Ends.{reader_of, has_read_failed, writer_of, has_write_failed};
@@ -30,6 +30,7 @@ fn read_next<R: Read, W: Write>(
     ensures kept { Keeps (W.contents (writer_of output.old)) (W.contents (writer_of output.new)) }
     ensures failed { IsFaultOf result (has_read_failed input.new) (has_write_failed output.new) }
     ensures not_too_long { result ≢ Err ServeFault.TooLong }
+    ensures heeded { OnOk result ((has_read_failed input.new ≡ has_read_failed input.old) × (has_write_failed output.new ≡ has_write_failed output.old)) }
 {
     output.flush()?;
     let count = input.read(buf)?;
@@ -44,6 +45,7 @@ fn expect_end<R: Read, W: Write>(
     ensures read { Reads result (R.remaining (reader_of input.old)) (R.remaining (reader_of input.new)) [] }
     ensures kept { Keeps (W.contents (writer_of output.old)) (W.contents (writer_of output.new)) }
     ensures failed { IsFaultOf result (has_read_failed input.new) (has_write_failed output.new) }
+    ensures heeded { OnOk result ((has_read_failed input.new ≡ has_read_failed input.old) × (has_write_failed output.new ≡ has_write_failed output.old)) }
 {
     let mut next = [0u8; 1];
     if read_next(input, output, &mut next)? > 0 {
@@ -68,6 +70,7 @@ fn answer_ended<R: Read, W: Write, A: Responder>(
         (R.remaining (reader_of input.old)) (R.remaining (reader_of input.new))
         (W.contents (writer_of output.old)) (W.contents (writer_of output.new))) }
     ensures failed { IsFaultOf result (has_read_failed input.new) (has_write_failed output.new) }
+    ensures heeded { OnOk result ((has_read_failed input.new ≡ has_read_failed input.old) × (has_write_failed output.new ≡ has_write_failed output.old)) }
 {
     let mut line = Vec::new(alloc);
     let mut buf = [0u8; PIECE];
@@ -98,6 +101,7 @@ pub(crate) fn serve_up_to<R: Read, W: Write, A: Responder>(
         (R.remaining (reader_of input.old)) (R.remaining (reader_of input.new))
         (W.contents (writer_of output.old)) (W.contents (writer_of output.new)) }
     ensures failed { IsFaultOf result (has_read_failed input.new) (has_write_failed output.new) }
+    ensures heeded { OnOk result ((has_read_failed input.new ≡ has_read_failed input.old) × (has_write_failed output.new ≡ has_write_failed output.old)) }
 {
     output.write(greeting)?;
     let line = answer_ended(alloc, limit, input, output, responder)?;
@@ -122,6 +126,7 @@ pub fn serve_lines<R: Read, W: Write, A: Responder>(
         (R.remaining (reader_of input.old)) (R.remaining (reader_of input.new))
         (W.contents (writer_of output.old)) (W.contents (writer_of output.new)) }
     ensures failed { IsFaultOf result (has_read_failed input.new) (has_write_failed output.new) }
+    ensures heeded { OnOk result ((has_read_failed input.new ≡ has_read_failed input.old) × (has_write_failed output.new ≡ has_write_failed output.old)) }
 {
     serve_up_to(alloc, MAX_INPUT, greeting, input, output, responder)
 }

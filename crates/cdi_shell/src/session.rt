@@ -1,5 +1,5 @@
 //! A container that answers the lines of an input.
-ghost use Rattle.std.specs.Prelude.{◌≡◌, IfOk};
+ghost use Rattle.std.specs.Prelude.{◌≡◌, IfOk, OnOk, OnErr};
 ghost use Rattle.cdi_shell.specs.Ends.{reader_of, has_read_failed, writer_of, has_write_failed};
 ghost use Rattle.cdi_shell.specs.Served.{IsFaultOf};
 ghost use Rattle.cdi_shell.specs.Sessions.{Answers, Served};
@@ -21,10 +21,11 @@ impl Container {
     ghost use Rattle.cdi_shell.specs.Containers.{state_of, legal_in, SameParts};
     ghost use Rattle.cdi_shell.specs.Sessions.{AnswersRead};
 
-    /// The reply to a line.
+    /// The reply to a line. Where memory runs out for reading it, nothing changes.
     fn reply_to(&mut self, alloc: Global, line: &[u8]) -> Result<Reply, AllocError>
         ensures answers { IfOk result (λ reply. AnswersRead self.old.tables self.old.classes (legal_in self.old) (Unit {0}) (command_in line.now) (state_of self.old) reply (state_of self.new)) }
         ensures same { SameParts self.old self.new }
+        ensures err { OnErr result (self.new ≡ self.old) }
     {
         match read_command(alloc, line) {
             Ok(command) => Ok(self.command(alloc, command)),
@@ -61,6 +62,7 @@ pub fn serve<R: Read, W: Write>(
         (R.remaining (reader_of input.old)) (R.remaining (reader_of input.new))
         (W.contents (writer_of output.old)) (W.contents (writer_of output.new)) result }
     ensures failed { IsFaultOf result (has_read_failed input.new) (has_write_failed output.new) }
+    ensures heeded { OnOk result ((has_read_failed input.new ≡ has_read_failed input.old) × (has_write_failed output.new ≡ has_write_failed output.old)) }
 {
     let Ok(greeting) = write_reply(alloc, container.names(), container.boot_reply()) else {
         return Err(ServeFault::Memory);

@@ -25,11 +25,13 @@ loop-byte-preserved g c =
           rw (w.line-is, w.output-is, w.responder-is, w.clear.ensures.items) (
             midway_answered g.A.Responder.answers _ _ _ _ _ _ _ _ _ _ b w.deref.ensures.value midway written replied,
             c.loop-byte.invariant.1 ∙ begun_line-at_end line piece i c.loop-byte-test.true at_end,
+            w.in_ok-answer_line.ensures.heeded ∙ c.loop-byte.invariant.2,
           )
       | else-byte-eq-LINE_FEED+in_ok-push w ↦
           let more = w.if-byte-eq-LINE_FEED.false in
           rw (w.line-is, w.output-is, w.responder-is, w.in_ok-push.ensures.items) (
             rw (ended_lines-at_more line piece i c.loop-byte-test.true more) at c.loop-byte.invariant.0,
             c.loop-byte.invariant.1 ∙ begun_line-at_more line piece i c.loop-byte-test.true more,
+            c.loop-byte.invariant.2,
           )
     ]

@@ -8,5 +8,6 @@ returns g c =
       is_status = c.status.ensures;
       drives = c.run.ensures.drives;
       failed = c.run.ensures.failed;
+      heeded = c.run.ensures.heeded;
       only = λ input held s e settled settled' u u' h h' d. one_output c.args.limits.depth c.args.limits.ticks c.args.deployment.now input held _ s c.run.result e settled settled' u u' h h' c.run.ensures.drives d;
     }
