@@ -103,7 +103,7 @@ fn refuse<W: Write>(lines: &[u8], output: &mut Output<W>) -> Ending
     ensures failed { (read_failed : Bool) → IsFaultOf result read_failed (has_write_failed output.new) }
     ensures heeded { (read_failed : Bool) → Heeds result read_failed read_failed (has_write_failed output.old) (has_write_failed output.new) }
 {
-    match output.write(lines) {
+    match output.write_through(lines) {
         Ok(()) => Ending::Refused,
         Err(_) => Ending::Fault(ServeFault::Write),
     }
@@ -261,8 +261,8 @@ fn run<R: Read, W: Write>(
 /// a line. Otherwise the scripts are the bodies, the container is started and its command lines are answered, as
 /// [`serve`] does: the lines that stand written are those of a run of the machine for the lines that were read, in which
 /// each body does what its script does next. Where no read or write fails and memory does not run out, they are a
-/// function of the limits, the deployment and the input. A read, a write or a flush that fails is never passed over: the
-/// status is then 3.
+/// function of the limits, the deployment and the input. A read, a write or a flush that fails where none
+/// had failed before is never passed over: the status is then 3.
 pub fn drive<R: Read, W: Write>(
     alloc: Global,
     deployment: &[u8],

@@ -1,10 +1,11 @@
 //! Runs over readers and writers that go in small steps, or fail.
-use crate::test_ends::{Room, Steps};
+use crate::test_ends::{Room, Steps, Stuck};
 use crate::test_runs::{COUNTED, COUNTER, COUNTS, DONE, run};
 use cdi_base::Limits;
 use std::alloc::Global;
-use std::io::Read;
+use std::io::{BufWriter, Read};
 use std::process::Abort;
+use std::test::Fail;
 use std::{io, str};
 
 fn room(alloc: Global, step: usize, left: usize, fails: bool) -> Room {
@@ -119,4 +120,24 @@ fn ends_where_a_write_fails(rt: HostRuntime) {
             check_room(&rt, rt.alloc(), deployment, lines.as_bytes(), fails);
         }
     }
+}
+
+/// A buffered writer holds a refusal back until it is flushed.
+#[test]
+fn passes_a_refusal_on(rt: HostRuntime) -> Result<(), Fail> {
+    let alloc = rt.alloc();
+    let writer = BufWriter::new(alloc, Vec::new(alloc))?;
+    let ran = run(alloc, b"{", Limits::default(), b"".as_slice(), writer);
+    assert_eq!(rt; ran.writer.get_ref().as_slice(), b"NotJson\n".as_slice());
+    assert_eq!(rt; ran.status, 1);
+    let taken = Vec::new(alloc);
+    let ran = run(
+        alloc,
+        b"{",
+        Limits::default(),
+        b"".as_slice(),
+        Stuck { taken },
+    );
+    assert_eq!(rt; ran.status, 3);
+    Ok(())
 }

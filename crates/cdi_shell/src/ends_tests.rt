@@ -1,5 +1,6 @@
 use crate::test_ends::{Room, Steps, Stuck};
 use crate::{Input, Output, ReadFailed, ServeFault, WriteFailed};
+use std::io::BufWriter;
 use std::test::Fail;
 
 #[test]
@@ -51,6 +52,20 @@ fn an_output_remembers_that_a_flush_failed(rt: HostRuntime) {
     assert_eq!(rt; output.write(b"b"), Ok(()));
     assert!(rt; output.has_failed());
     assert_eq!(rt; output.into_inner().taken.as_slice(), b"ab".as_slice());
+}
+
+/// A buffered writer holds bytes back until it is flushed.
+#[test]
+fn an_output_passes_on_what_it_writes_through(rt: HostRuntime) -> Result<(), Fail> {
+    let alloc = rt.alloc();
+    let mut output = Output::new(BufWriter::new(alloc, Vec::new(alloc))?);
+    assert_eq!(rt; output.write_through(b"abc"), Ok(()));
+    assert_eq!(rt; output.into_inner().get_ref().as_slice(), b"abc".as_slice());
+    let taken = Vec::new(alloc);
+    let mut stuck = Output::new(Stuck { taken });
+    assert_eq!(rt; stuck.write_through(b"a"), Err(WriteFailed));
+    assert!(rt; stuck.has_failed());
+    Ok(())
 }
 
 #[test]

@@ -70,6 +70,18 @@ impl<W: Write> Output<W> {
         Ok(())
     }
 
+    /// Writes bytes whole, and has the writer pass them on. Where that fails, a front part of them stands in the writer,
+    /// which may be all, and the output remembers it.
+    pub fn write_through(&mut self, bytes: &[u8]) -> Result<(), WriteFailed>
+        ensures bytes { WritesAll (W.contents (writer_of self.old)) (W.contents (writer_of self.new)) result bytes.now }
+        ensures failed { has_write_failed self.new ≡ (has_write_failed self.old || is_err result) }
+    {
+        match self.write(bytes) {
+            Ok(()) => self.flush(),
+            Err(error) => Err(error),
+        }
+    }
+
     /// Has the writer pass on what it still holds back. Where that fails, the output remembers it.
     pub fn flush(&mut self) -> Result<(), WriteFailed>
         ensures bytes { Keeps (W.contents (writer_of self.old)) (W.contents (writer_of self.new)) }
