@@ -249,6 +249,10 @@ module _ (tables : Tables) (legal : Legal) where
   pub starved : {p : Prog Value} {w v : World} → SameTrace w v → Runs tables legal (Unit {0}) p w (outcomes.Cut causes.Memory) v
   starved h = Runs.starves tt h
 
+  -- nothing has changed where memory ran out
+  pub starved_here : {p : Prog Value} {w v : World} → v ≡ w → Runs tables legal (Unit {0}) p w (outcomes.Cut causes.Memory) v
+  starved_here h = starved (record { trace = ap (λ x. x.trace) h; ticks = ap (λ x. x.ticks) h })
+
   pub ran_err : {p : Prog Value} {w : World} (v : World) (r : Result Outcome AllocError) → IsErr r → Runs tables legal (Unit {0}) p w (outcomes.Cut causes.Memory) v → Ran tables legal p w r v
   ran_err v (Ok o) h s = absurd (true≢false (sym h))
   ran_err v (Err x) h s = s

@@ -2,7 +2,6 @@
 ghost use Rattle.std.specs.Prelude.{◌≡◌, [], ◌∷◌, Ok, Err, ℕ, ◌≤◌, IfOk, OnErr};
 ghost use Rattle.cdi_plain.specs.Points.{Leads};
 ghost use Rattle.cdi_plain.specs.Falls.{Falls};
-ghost use Rattle.cdi_plain.specs.Runs.{SameTrace};
 ghost use Rattle.cdi_plain.specs.Points.{rest, waits};
 ghost use Rattle.cdi_plain.specs.Runs.{after};
 ghost use Rattle.cdi_plain.specs.Falls.{rank, frame_rank, back_rank};
@@ -143,7 +142,7 @@ pub fn step<D: Driver>(
     requires { KnowsEach (D.knows driver.now) tables.now.beans }
     ensures leads { IfOk result (λ next. Leads tables.now (D.legal driver.now) task world.old next world.new) }
     ensures falls { IfOk result (λ next. Falls task world.old next world.new) }
-    ensures kept { OnErr result (SameTrace world.old world.new) }
+    ensures kept { OnErr result (world.new ≡ world.old) }
 {
     match task {
         Task::Start(call) => start(alloc, tables, driver, world, call),

@@ -2,7 +2,6 @@
 ghost use Rattle.std.specs.Prelude.{◌≡◌, [], ◌∷◌, IfOk, OnErr};
 ghost use Rattle.cdi_plain.specs.Points.{Leads};
 ghost use Rattle.cdi_plain.specs.Falls.{Falls};
-ghost use Rattle.cdi_plain.specs.Runs.{SameTrace};
 ghost use Rattle.cdi_plain.specs.Beans.{KnowsEach};
 
 use crate::driver::Driver;
@@ -143,7 +142,7 @@ pub(super) fn perform<D: Driver>(
 ) -> Result<Next, AllocError>
     ensures leads { IfOk result (λ next. Leads tables.now (D.legal driver.now) (Task.Do running act) world.old next world.new) }
     ensures falls { IfOk result (λ next. Falls (Task.Do running act) world.old next world.new) }
-    ensures kept { OnErr result (SameTrace world.old world.new) }
+    ensures kept { OnErr result (world.new ≡ world.old) }
 {
     match act {
         Act::Give { value } => Ok(Next::Finished(Outcome::Value(value))),

@@ -2,7 +2,6 @@
 ghost use Rattle.std.specs.Prelude.{◌≡◌, [], ◌∷◌, IfOk, OnErr};
 ghost use Rattle.cdi_plain.specs.Points.{Leads};
 ghost use Rattle.cdi_plain.specs.Falls.{Falls};
-ghost use Rattle.cdi_plain.specs.Runs.{SameTrace};
 
 use crate::bean::Resolution;
 use crate::driver::Driver;
@@ -175,7 +174,7 @@ pub(super) fn ending<D: Driver>(
 ) -> Result<Next, AllocError>
     ensures leads { IfOk result (λ next. Leads tables.now (D.legal driver.now) Task.Ending world.old next world.new) }
     ensures falls { IfOk result (λ next. Falls Task.Ending world.old next world.new) }
-    ensures kept { OnErr result (SameTrace world.old world.new) }
+    ensures kept { OnErr result (world.new ≡ world.old) }
 {
     world.set_status(Status::Ending);
     Ok(Next::Needs(Call::Clear, Frame::Emptying))
@@ -191,7 +190,7 @@ pub(super) fn emptied<D: Driver>(
 ) -> Result<Next, AllocError>
     ensures leads { IfOk result (λ next. Leads tables.now (D.legal driver.now) Task.Emptied world.old next world.new) }
     ensures falls { IfOk result (λ next. Falls Task.Emptied world.old next world.new) }
-    ensures kept { OnErr result (SameTrace world.old world.new) }
+    ensures kept { OnErr result (world.new ≡ world.old) }
 {
     let entry = destroyed(alloc)?;
     world.set_status(Status::Gone);
@@ -207,7 +206,7 @@ pub(super) fn down<D: Driver>(
 ) -> Result<Next, AllocError>
     ensures leads { IfOk result (λ next. Leads tables.now (D.legal driver.now) Task.Down world.old next world.new) }
     ensures falls { IfOk result (λ next. Falls Task.Down world.old next world.new) }
-    ensures kept { OnErr result (SameTrace world.old world.new) }
+    ensures kept { OnErr result (world.new ≡ world.old) }
 {
     world.end();
     Ok(Next::Finished(Outcome::Value(Value::Null)))

@@ -2,7 +2,6 @@
 ghost use Rattle.std.specs.Prelude.{◌≡◌, [], ◌∷◌, IfOk, OnErr};
 ghost use Rattle.cdi_plain.specs.Points.{Leads};
 ghost use Rattle.cdi_plain.specs.Falls.{Falls};
-ghost use Rattle.cdi_plain.specs.Runs.{SameTrace};
 
 use crate::driver::Driver;
 use crate::step::{missing, raised};
@@ -79,7 +78,7 @@ pub(super) fn made<D: Driver>(
 ) -> Result<Next, AllocError>
     ensures leads { IfOk result (λ next. Leads tables.now (D.legal driver.now) (Task.Made number bean) world.old next world.new) }
     ensures falls { IfOk result (λ next. Falls (Task.Made number bean) world.old next world.new) }
-    ensures kept { OnErr result (SameTrace world.old world.new) }
+    ensures kept { OnErr result (world.new ≡ world.old) }
 {
     let Some(plan) = tables.bean(bean) else {
         return missing();
@@ -104,7 +103,7 @@ pub(super) fn stored<D: Driver>(
 ) -> Result<Next, AllocError>
     ensures leads { IfOk result (λ next. Leads tables.now (D.legal driver.now) (Task.Stored number bean) world.old next world.new) }
     ensures falls { IfOk result (λ next. Falls (Task.Stored number bean) world.old next world.new) }
-    ensures kept { OnErr result (SameTrace world.old world.new) }
+    ensures kept { OnErr result (world.new ≡ world.old) }
 {
     if world.instance(number).is_none() {
         return missing();

@@ -2,7 +2,6 @@
 ghost use Rattle.std.specs.Prelude.{◌≡◌, [], ◌∷◌, ◌<◌, IfOk, IfSome, OnErr, length, slice_get};
 ghost use Rattle.cdi_plain.specs.Points.{Leads};
 ghost use Rattle.cdi_plain.specs.Falls.{Falls};
-ghost use Rattle.cdi_plain.specs.Runs.{SameTrace};
 
 use crate::driver::Driver;
 use crate::step::missing;
@@ -31,7 +30,7 @@ pub(super) fn ended<D: Driver>(
 ) -> Result<Next, AllocError>
     ensures leads { IfOk result (λ next. Leads tables.now (D.legal driver.now) (Task.Ended number) world.old next world.new) }
     ensures falls { IfOk result (λ next. Falls (Task.Ended number) world.old next world.new) }
-    ensures kept { OnErr result (SameTrace world.old world.new) }
+    ensures kept { OnErr result (world.new ≡ world.old) }
 {
     let Some(instance) = world.instance(number) else {
         return missing();
@@ -88,7 +87,7 @@ pub(super) fn released<D: Driver>(
 ) -> Result<Next, AllocError>
     ensures leads { IfOk result (λ next. Leads tables.now (D.legal driver.now) (Task.Released number choice) world.old next world.new) }
     ensures falls { IfOk result (λ next. Falls (Task.Released number choice) world.old next world.new) }
-    ensures kept { OnErr result (SameTrace world.old world.new) }
+    ensures kept { OnErr result (world.new ≡ world.old) }
 {
     let Some(instance) = world.instance(number) else {
         return missing();
@@ -113,7 +112,7 @@ pub(super) fn removed<D: Driver>(
 ) -> Result<Next, AllocError>
     ensures leads { IfOk result (λ next. Leads tables.now (D.legal driver.now) (Task.Removed number) world.old next world.new) }
     ensures falls { IfOk result (λ next. Falls (Task.Removed number) world.old next world.new) }
-    ensures kept { OnErr result (SameTrace world.old world.new) }
+    ensures kept { OnErr result (world.new ≡ world.old) }
 {
     world.remove(number);
     Ok(Next::Finished(Outcome::Value(Value::Null)))

@@ -1,10 +1,10 @@
 use Rattle.std.proofs.Common.{◌≤◌, length, rules, arith}
 use Rattle.cdi_plain.proofs.Cost.{after_falls}
-use Rattle.cdi_plain.proofs.Sound.{full, starved, starved_in, ran_needs, ran_err}
+use Rattle.cdi_plain.proofs.Sound.{full, starved, starved_here, starved_in, ran_needs, ran_err}
 use Rattle.cdi_plain.proofs.run.+run_task.Goals as goal
 
 pub returns-in_err-outcome : goal.returns-in_err-outcome
-returns-in_err-outcome g t c = ran_err c.args.tables.now (g.D.Driver.legal c.args.driver.now) c.step.new.world c.from_residual.result (search rules) (starved c.args.tables.now (g.D.Driver.legal c.args.driver.now) c.in_err-outcome.ensures.kept)
+returns-in_err-outcome g t c = ran_err c.args.tables.now (g.D.Driver.legal c.args.driver.now) c.step.new.world c.from_residual.result (search rules) (starved_here c.args.tables.now (g.D.Driver.legal c.args.driver.now) c.in_err-outcome.ensures.kept)
 
 pub returns-in_err-outcome-in-Needs : goal.returns-in_err-outcome-in-Needs
 returns-in_err-outcome-in-Needs g t c =
