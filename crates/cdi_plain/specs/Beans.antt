@@ -32,11 +32,11 @@ all_put fields (f ∷ fs) = all_put (put fields f.name f.value) fs
 abbrev pub first_fields : List Field → List (ℕ × Value)
 first_fields fields = all_put [] fields
 
--- a bean has the type of its class, and that above all
+-- a bean has the type of its class, and Object, which is above all types
 abbrev pub has_type : ℕ → Bean → Bool
 has_type type b = (type == number_of built_in.Object) || (b.class == type)
 
--- what a dependency with these eligible beans is, with one bean more
+-- what a dependency is with one eligible bean more; the code counts so, and `resolve` below is the definition
 abbrev pub with_bean : Resolution → ℕ → Resolution
 with_bean Nothing bean = One bean
 with_bean _ bean = Many
@@ -55,7 +55,7 @@ resolution _ = Many
 abbrev pub resolve : Tables → ℕ → Resolution
 resolve tables type = resolution (eligible_from type 0 tables.beans)
 
--- the body of each method is one of those
+-- the body of each method is known
 abbrev pub KnowsMethods : (ℕ → Type 0) → List Method → Type 0
 KnowsMethods IsBody [] = Unit {0}
 KnowsMethods IsBody (m ∷ ms) = IsBody m.body × KnowsMethods IsBody ms

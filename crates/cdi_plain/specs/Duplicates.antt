@@ -49,6 +49,7 @@ in_classes types (class ∷ classes) = repeated_at types class ++ in_classes (ty
 abbrev pub built_in_types : List ℕ
 built_in_types = number_of built_in.Object ∷ number_of built_in.Startup ∷ number_of built_in.Shutdown ∷ []
 
+-- a script is written by its name alone
 abbrev pub in_scripts : List Script → List Place
 in_scripts scripts = map (λ name. places.Class name) (repeated [] (script_names scripts))
 

@@ -55,7 +55,7 @@ obtain bean = do
 
 -- ---- creation
 
--- the instance is what its context has
+-- the instance is ready, and its context has it
 abbrev pub stored : ℕ → ℕ → Prog Value
 stored n bean = do
   o ← instance n
@@ -79,6 +79,7 @@ create n bean = do
 
 -- ---- bodies
 
+-- a body goes on with one answer more
 abbrev pub told : Running → Answer → Prog Value
 told r a = run (calls.Acts (record r { view = record { args = r.view.args; answers = r.view.answers ++ a ∷ [] } }))
 
@@ -155,7 +156,7 @@ destroy n = do
   note (entries.End n)
   ended n
 
--- instances by falling number, and then as it was told
+-- the last of these instances first, and then as it was told
 abbrev pub dismiss : List ℕ → Completion → Prog Value
 dismiss temporaries c = find (NumberAt temporaries (length temporaries - 1)) (completed c) λ n. do
   attempt (calls.Destroy n)

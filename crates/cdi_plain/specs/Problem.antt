@@ -1,4 +1,4 @@
--- The problems of a deployment as they are written.
+-- The kinds of problems as they are written, with their numbers.
 use Rattle.std.specs.Prelude.{ℕ, List, codes}
 use Rattle.cdi_plain.specs.declared.problem.ProblemKind.{ProblemKind}
 use Rattle.cdi_plain.specs.declared.problem.ProblemKind.TheVariants as kinds

@@ -68,7 +68,7 @@ pub data Prog (A : Type 0) : Type 0 where
   throw : ℕ → Prog A
   -- the end of the command
   cut : Cause → Prog A
-  -- what stands at a place, or the first if nothing does
+  -- what stands at a place, or the first program if nothing does
   find : (p : Place) → Prog A → (Content p → Prog A) → Prog A
   -- the first for a bean of the application, the second for a dependent one
   scoped : Scope → Prog A → Prog A → Prog A
@@ -81,7 +81,7 @@ pub data Prog (A : Type 0) : Type 0 where
   tick : Entry → Prog A → Prog A
   -- the next act of a body, at its fields and view, and its entry
   act : ℕ → List (ℕ × Value) → View → (Act → Prog A) → Prog A
-  -- one of so many, and its entry if there are several; the first if there is none
+  -- one of so many, and its entry if there are several; the first program if there is none
   choose : ℕ → Prog A → (ℕ → Prog A) → Prog A
   -- a call, whose completion is looked at
   nested : Call → (Completion → Prog A) → Prog A
@@ -134,7 +134,8 @@ finished = ret values.Null
 abbrev pub raise : {A : Type 0} → BuiltIn → Prog A
 raise exception = throw (number_of exception)
 
--- a look-up that finds nothing; in an accepted deployment there is none
+-- a look-up that finds nothing, or an act that isn't served: in an accepted deployment a command that isn't refused meets
+-- none
 abbrev pub missing : {A : Type 0} → Prog A
 missing = raise built_in.IllegalStateException
 

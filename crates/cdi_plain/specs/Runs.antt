@@ -33,7 +33,7 @@ after (outcomes.Value v) k = k (completions.Value v)
 after (outcomes.Threw x) k = k (completions.Threw x)
 after (outcomes.Cut cause) k = cut cause
 
--- the command may give so many entries as before, and has given the same
+-- the command may give as many entries as before, and has given the same
 pub record SameTrace (w v : World) : Type 0 where
   pub trace : v.trace ≡ w.trace
   pub ticks : v.ticks ≡ w.ticks
@@ -44,22 +44,31 @@ pub data Runs (tables : Tables) (legal : Legal) (Starved : Type 0) : Prog Value 
   returns : {v : Value} {w : World} → Runs tables legal Starved (ret v) w (outcomes.Value v) w
   throws : {x : ℕ} {w : World} → Runs tables legal Starved (throw x) w (outcomes.Threw x) w
   cuts : {cause : Cause} {w : World} → Runs tables legal Starved (cut cause) w (outcomes.Cut cause) w
+  -- a look-up
   finds : {p : Place} {n : Prog Value} {k : Content p → Prog Value} {w v : World} {o : Outcome} (x : Content p) → content tables w p ≡ Some x → Runs tables legal Starved (k x) w o v → Runs tables legal Starved (find p n k) w o v
   finds_none : {p : Place} {n : Prog Value} {k : Content p → Prog Value} {w v : World} {o : Outcome} → content tables w p ≡ None → Runs tables legal Starved n w o v → Runs tables legal Starved (find p n k) w o v
+  -- a bean of the application, or a dependent one
   shares : {s : Scope} {p q : Prog Value} {w v : World} {o : Outcome} → s ≡ scopes.ApplicationScoped → Runs tables legal Starved p w o v → Runs tables legal Starved (scoped s p q) w o v
   depends : {s : Scope} {p q : Prog Value} {w v : World} {o : Outcome} → s ≡ scopes.Dependent → Runs tables legal Starved q w o v → Runs tables legal Starved (scoped s p q) w o v
+  -- below the last level a body is cut
   too_deep : {d : ℕ} {k : ℕ → Prog Value} {w : World} → d ≡ 0 → Runs tables legal Starved (deeper d k) w (outcomes.Cut causes.Depth) w
   goes_deeper : {d : ℕ} {k : ℕ → Prog Value} {w v : World} {o : Outcome} → 0 < d → Runs tables legal Starved (k (d - 1)) w o v → Runs tables legal Starved (deeper d k) w o v
+  -- without a number left a new instance is cut
   no_number : {k : ℕ → Prog Value} {w : World} → 2 ^ 32 ≤ next_number w → Runs tables legal Starved (fresh k) w (outcomes.Cut causes.Numbers) w
   numbers : {k : ℕ → Prog Value} {w v : World} {o : Outcome} → next_number w < 2 ^ 32 → Runs tables legal Starved (k (next_number w)) w o v → Runs tables legal Starved (fresh k) w o v
   changes : {g : Change} {p : Prog Value} {w v : World} {o : Outcome} → Runs tables legal Starved p (changed g w) o v → Runs tables legal Starved (change g p) w o v
+  -- an entry is written within the budget, and where that is spent the command is cut
   writes : {e : Entry} {p : Prog Value} {w v : World} {o : Outcome} → HasRoom w → Runs tables legal Starved p (written e w) o v → Runs tables legal Starved (tick e p) w o v
   is_full : {e : Entry} {p : Prog Value} {w : World} → w.ticks ≤ length w.trace → Runs tables legal Starved (tick e p) w (outcomes.Cut causes.Ticks) w
+  -- a body gives an act, whose entry is written next
   does : {b : ℕ} {fields : List (ℕ × Value)} {view : View} {k : Act → Prog Value} {w v : World} {o : Outcome} (a : Act) → legal.gives b fields view a → Runs tables legal Starved (tick (entries.Did a) (k a)) w o v → Runs tables legal Starved (act b fields view k) w o v
+  -- of none, of one and of several candidates
   has_none : {n : ℕ} {p : Prog Value} {k : ℕ → Prog Value} {w v : World} {o : Outcome} → n ≡ 0 → Runs tables legal Starved p w o v → Runs tables legal Starved (choose n p k) w o v
   has_one : {n : ℕ} {p : Prog Value} {k : ℕ → Prog Value} {w v : World} {o : Outcome} → n ≡ 1 → Runs tables legal Starved (k 0) w o v → Runs tables legal Starved (choose n p k) w o v
   picks : {n : ℕ} {p : Prog Value} {k : ℕ → Prog Value} {w v : World} {o : Outcome} (i : ℕ) → 2 ≤ n → i < n → legal.picks n (length w.trace) i → Runs tables legal Starved (tick (entries.Pick n i) (k i)) w o v → Runs tables legal Starved (choose n p k) w o v
+  -- another task, and then what waits for it
   calls : {c : Call} {k : Completion → Prog Value} {w u v : World} {o1 o : Outcome} → Runs tables legal Starved (machine c) w o1 u → Runs tables legal Starved (after o1 k) u o v → Runs tables legal Starved (nested c k) w o v
+  -- memory runs out: the entries stay, and of the rest nothing is said
   starves : {p : Prog Value} {w v : World} → Starved → SameTrace w v → Runs tables legal Starved p w (outcomes.Cut causes.Memory) v
 
 -- What the engine answers: a run of the program, or, where memory ran out, a run of it that was cut for that.

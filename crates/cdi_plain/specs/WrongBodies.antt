@@ -37,6 +37,7 @@ lacks_field fields names = list_any (λ name. not (has_field fields name)) names
 abbrev pub lacks_method : List Member → List OwnCall → Bool
 lacks_method ms owns = list_any (λ own. not (has_method ms own)) owns
 
+-- it isn't empty
 abbrev pub is_any : {A : Type 0} → List A → Bool
 is_any xs = nat_lt 0 (length xs)
 
@@ -48,7 +49,7 @@ names_others shape = is_any shape.calls || is_any shape.cells || is_any shape.fi
 abbrev pub is_outside : Class → Shape → Bool
 is_outside class shape = lacks_field class.fields shape.sets || lacks_method class.members shape.owns || names_others shape
 
--- what is wrong with the shape of a member's body
+-- whether a member's body is wrong in this way, by its shape if it is registered
 abbrev pub is_wrong : ProblemKind → Class → Option Shape → Bool
 is_wrong kinds.UnknownBody class None = true
 is_wrong kinds.BodyOutsideShape class (Some shape) = is_outside class shape

@@ -27,7 +27,8 @@ fn raised(exception: BuiltIn) -> Result<Next, AllocError>
     Ok(Next::Finished(Outcome::Threw(exception.name())))
 }
 
-/// Ends a look-up that finds nothing. In an accepted deployment there is none.
+/// Ends a look-up that finds nothing, or an act that isn't served. In an accepted deployment a command that isn't refused
+/// meets none.
 fn missing() -> Result<Next, AllocError>
     ensures { result ≡ Ok (Next.Finished (Outcome.Threw (number_of BuiltIn.IllegalStateException))) }
 {
