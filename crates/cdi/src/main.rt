@@ -1,12 +1,14 @@
 //! The program `cdi`: runs a deployment on the command lines of its standard input.
 #![tactic(auto)]
 
+ghost use Rattle.std.specs.Prelude.{◌≡◌};
+ghost use Rattle.cdi.specs.Statuses as spec;
+
 mod options;
 
 use cdi_base::Limits;
 use cdi_shell::drive::drive;
 use cdi_shell::{Input, Output};
-use clap::Error;
 use clap::error::ErrorKind;
 use std::alloc::Global;
 use std::process::ExitCode;
@@ -41,11 +43,13 @@ fn run(rt: &HostRuntime, alloc: Global, file: &str) -> io::Result<u8> {
 
 /// The exit status where the words ask for nothing to run: 0 where they ask for help, 2 where they are wrong, and that
 /// of a fault where memory ran out.
-fn status_of(error: &Error) -> u8 {
-    if error.kind() == ErrorKind::OutOfMemory {
-        FAULT
-    } else {
-        error.exit_code() as u8
+fn status_of(kind: ErrorKind) -> u8
+    ensures { result ≡ spec.status_of kind }
+{
+    match kind {
+        ErrorKind::DisplayHelp | ErrorKind::DisplayVersion => 0,
+        ErrorKind::OutOfMemory => FAULT,
+        _ => 2,
     }
 }
 
@@ -59,7 +63,7 @@ fn answer(rt: &HostRuntime, alloc: Global) -> io::Result<u8> {
         Ok(file) => run(rt, alloc, file),
         Err(error) => {
             error.print(rt)?;
-            Ok(status_of(&error))
+            Ok(status_of(error.kind()))
         }
     }
 }

@@ -29,8 +29,8 @@ fn accepts_what_has_no_part(rt: HostRuntime) -> Result<(), Fail> {
         rt.alloc(),
         &[
             ("{}", "ok"),
-            (" { \"form\" : 1 } ", "ok"),
-            ("{\"classes\":[],\"scripts\":[]}", "ok"),
+            (r#" { "form" : 1 } "#, "ok"),
+            (r#"{"classes":[],"scripts":[]}"#, "ok"),
         ],
     )
 }
@@ -44,10 +44,10 @@ fn refuses_what_is_no_json(rt: HostRuntime) -> Result<(), Fail> {
         &[
             ("", "NotJson"),
             ("{", "NotJson"),
-            ("{\"form\":1,}", "NotJson"),
+            (r#"{"form":1,}"#, "NotJson"),
             ("{}{}", "NotJson"),
-            ("{\"x\":1e400}", "NotJson"),
-            ("{\"x\":\"\\ud800\"}", "NotJson"),
+            (r#"{"x":1e400}"#, "NotJson"),
+            (r#"{"x":"\ud800"}"#, "NotJson"),
         ],
     )
 }
@@ -59,7 +59,7 @@ fn refuses_bad_numbers(rt: HostRuntime) -> Result<(), Fail> {
         &rt,
         rt.alloc(),
         &[
-            ("{\"x\":1.5}", "BadNumber"),
+            (r#"{"x":1.5}"#, "BadNumber"),
             ("[-0]", "BadNumber"),
             ("[1.0]", "BadNumber"),
             ("[1e3]", "BadNumber"),
@@ -67,14 +67,14 @@ fn refuses_bad_numbers(rt: HostRuntime) -> Result<(), Fail> {
             ("[-9223372036854775809]", "BadNumber"),
             ("[9223372036854775807,-9223372036854775808]", "Shape "),
             (
-                "{\"classes\":[{\"name\":\"K\",\"fields\":[{\"name\":\"n\",\"value\":1.5}]}]}",
+                r#"{"classes":[{"name":"K","fields":[{"name":"n","value":1.5}]}]}"#,
                 "BadNumber",
             ),
             (
-                "{\"scripts\":[{\"name\":\"s\",\"steps\":[[\"give\",1.5]]}]}",
+                r#"{"scripts":[{"name":"s","steps":[["give",1.5]]}]}"#,
                 "BadNumber",
             ),
-            ("{\"form\":1.5,\"form\":1}", "ok"),
+            (r#"{"form":1.5,"form":1}"#, "ok"),
         ],
     )
 }
@@ -88,18 +88,18 @@ fn looks_at_the_root(rt: HostRuntime) -> Result<(), Fail> {
         &[
             ("[]", "Shape "),
             ("null", "Shape "),
-            ("{\"interfaces\":[]}", "Shape "),
-            ("{\"form\":2,\"x\":0}", "Shape "),
-            ("{\"form\":2}", "Shape /form"),
-            ("{\"form\":0}", "Shape /form"),
-            ("{\"form\":-1}", "Shape /form"),
-            ("{\"form\":\"1\"}", "Shape /form"),
-            ("{\"form\":null}", "Shape /form"),
-            ("{\"form\":2,\"form\":1}", "ok"),
-            ("{\"form\":1,\"form\":2}", "Shape /form"),
-            ("{\"form\":3,\"classes\":5}", "Shape /classes"),
-            ("{\"classes\":null}", "Shape /classes"),
-            ("{\"classes\":{}}", "Shape /classes"),
+            (r#"{"interfaces":[]}"#, "Shape "),
+            (r#"{"form":2,"x":0}"#, "Shape "),
+            (r#"{"form":2}"#, "Shape /form"),
+            (r#"{"form":0}"#, "Shape /form"),
+            (r#"{"form":-1}"#, "Shape /form"),
+            (r#"{"form":"1"}"#, "Shape /form"),
+            (r#"{"form":null}"#, "Shape /form"),
+            (r#"{"form":2,"form":1}"#, "ok"),
+            (r#"{"form":1,"form":2}"#, "Shape /form"),
+            (r#"{"form":3,"classes":5}"#, "Shape /classes"),
+            (r#"{"classes":null}"#, "Shape /classes"),
+            (r#"{"classes":{}}"#, "Shape /classes"),
         ],
     )
 }
@@ -111,51 +111,51 @@ fn looks_at_classes(rt: HostRuntime) -> Result<(), Fail> {
         &rt,
         rt.alloc(),
         &[
-            ("{\"classes\":[{}]}", "Shape /classes/0"),
+            (r#"{"classes":[{}]}"#, "Shape /classes/0"),
             (
-                "{\"classes\":[{\"name\":\"K\"},{\"name\":\"L\",\"extends\":\"K\"}]}",
+                r#"{"classes":[{"name":"K"},{"name":"L","extends":"K"}]}"#,
                 "Shape /classes/1",
             ),
-            ("{\"classes\":[{\"name\":1},{}]}", "Shape /classes/0/name"),
-            ("{\"classes\":[{\"name\":null}]}", "Shape /classes/0/name"),
+            (r#"{"classes":[{"name":1},{}]}"#, "Shape /classes/0/name"),
+            (r#"{"classes":[{"name":null}]}"#, "Shape /classes/0/name"),
             (
-                "{\"classes\":[{\"name\":\"K\",\"bean\":null}]}",
+                r#"{"classes":[{"name":"K","bean":null}]}"#,
                 "Shape /classes/0/bean",
             ),
             (
-                "{\"classes\":[{\"name\":\"K\",\"bean\":true}]}",
+                r#"{"classes":[{"name":"K","bean":true}]}"#,
                 "Shape /classes/0/bean",
             ),
             (
-                "{\"classes\":[{\"name\":\"K\",\"bean\":{\"quals\":[]}}]}",
+                r#"{"classes":[{"name":"K","bean":{"quals":[]}}]}"#,
                 "Shape /classes/0/bean",
             ),
             (
-                "{\"classes\":[{\"name\":\"K\",\"bean\":{\"scope\":\"SessionScoped\"}}]}",
+                r#"{"classes":[{"name":"K","bean":{"scope":"SessionScoped"}}]}"#,
                 "Shape /classes/0/bean/scope",
             ),
             (
-                "{\"classes\":[{\"name\":\"K\",\"bean\":{\"scope\":null}}]}",
+                r#"{"classes":[{"name":"K","bean":{"scope":null}}]}"#,
                 "Shape /classes/0/bean/scope",
             ),
             (
-                "{\"classes\":[{\"name\":\"K\",\"bean\":{\"scope\":\"Dependent\"}}]}",
+                r#"{"classes":[{"name":"K","bean":{"scope":"Dependent"}}]}"#,
                 "ok",
             ),
             (
-                "{\"classes\":[{\"name\":\"K\",\"fields\":[{\"value\":1}]}]}",
+                r#"{"classes":[{"name":"K","fields":[{"value":1}]}]}"#,
                 "Shape /classes/0/fields/0",
             ),
             (
-                "{\"classes\":[{\"name\":\"K\",\"fields\":[{\"name\":\"n\",\"value\":[]}]}]}",
+                r#"{"classes":[{"name":"K","fields":[{"name":"n","value":[]}]}]}"#,
                 "Shape /classes/0/fields/0/value",
             ),
             (
-                "{\"classes\":[{\"name\":\"K\",\"fields\":[{\"name\":\"n\",\"value\":true}]}]}",
+                r#"{"classes":[{"name":"K","fields":[{"name":"n","value":true}]}]}"#,
                 "Shape /classes/0/fields/0/value",
             ),
             (
-                "{\"classes\":[{\"name\":\"K\",\"fields\":[{\"name\":\"n\",\"value\":null},7]}]}",
+                r#"{"classes":[{"name":"K","fields":[{"name":"n","value":null},7]}]}"#,
                 "Shape /classes/0/fields/1",
             ),
         ],
@@ -170,35 +170,35 @@ fn looks_at_members(rt: HostRuntime) -> Result<(), Fail> {
         rt.alloc(),
         &[
             (
-                "{\"classes\":[{\"name\":\"K\",\"members\":[{\"kind\":\"init\",\"name\":\"i\",\"body\":\"i\"}]}]}",
+                r#"{"classes":[{"name":"K","members":[{"kind":"init","name":"i","body":"i"}]}]}"#,
                 "Shape /classes/0/members/0",
             ),
             (
-                "{\"classes\":[{\"name\":\"K\",\"members\":[{\"kind\":null,\"name\":\"m\",\"body\":\"m\"}]}]}",
+                r#"{"classes":[{"name":"K","members":[{"kind":null,"name":"m","body":"m"}]}]}"#,
                 "Shape /classes/0/members/0",
             ),
             (
-                "{\"classes\":[{\"name\":\"K\",\"members\":[{\"name\":\"m\",\"body\":\"m\"}]}]}",
+                r#"{"classes":[{"name":"K","members":[{"name":"m","body":"m"}]}]}"#,
                 "Shape /classes/0/members/0",
             ),
             (
-                "{\"classes\":[{\"name\":\"K\",\"members\":[{\"kind\":\"method\",\"name\":\"m\"}]}]}",
+                r#"{"classes":[{"name":"K","members":[{"kind":"method","name":"m"}]}]}"#,
                 "Shape /classes/0/members/0",
             ),
             (
-                "{\"classes\":[{\"name\":\"K\",\"members\":[{\"kind\":\"method\",\"name\":\"m\",\"body\":\"m\",\"bindings\":[]}]}]}",
+                r#"{"classes":[{"name":"K","members":[{"kind":"method","name":"m","body":"m","bindings":[]}]}]}"#,
                 "Shape /classes/0/members/0",
             ),
             (
-                "{\"classes\":[{\"name\":\"K\",\"members\":[{\"kind\":\"method\",\"name\":\"m\",\"body\":\"m\",\"args\":9}]}]}",
+                r#"{"classes":[{"name":"K","members":[{"kind":"method","name":"m","body":"m","args":9}]}]}"#,
                 "Shape /classes/0/members/0/args",
             ),
             (
-                "{\"classes\":[{\"name\":\"K\",\"members\":[{\"kind\":\"method\",\"name\":\"m\",\"body\":\"m\",\"args\":-1}]}]}",
+                r#"{"classes":[{"name":"K","members":[{"kind":"method","name":"m","body":"m","args":-1}]}]}"#,
                 "Shape /classes/0/members/0/args",
             ),
             (
-                "{\"classes\":[{\"name\":\"K\",\"members\":[{\"kind\":\"method\",\"name\":\"m\",\"body\":\"m\",\"args\":8}]}]}",
+                r#"{"classes":[{"name":"K","members":[{"kind":"method","name":"m","body":"m","args":8}]}]}"#,
                 "ok",
             ),
         ],
@@ -212,13 +212,13 @@ fn looks_at_scripts(rt: HostRuntime) -> Result<(), Fail> {
         &rt,
         rt.alloc(),
         &[
-            ("{\"scripts\":[{\"name\":\"s\"}]}", "Shape /scripts/0"),
+            (r#"{"scripts":[{"name":"s"}]}"#, "Shape /scripts/0"),
             (
-                "{\"scripts\":[{\"name\":\"s\",\"steps\":{}}]}",
+                r#"{"scripts":[{"name":"s","steps":{}}]}"#,
                 "Shape /scripts/0/steps",
             ),
             (
-                "{\"scripts\":[{\"name\":\"s\",\"steps\":[null,{\"x\":\"?\"}]}]}",
+                r#"{"scripts":[{"name":"s","steps":[null,{"x":"?"}]}]}"#,
                 "ok",
             ),
         ],
@@ -232,24 +232,24 @@ fn looks_at_names_last(rt: HostRuntime) -> Result<(), Fail> {
         &rt,
         rt.alloc(),
         &[
-            ("{\"classes\":[{\"name\":\"K-\"}]}", "BadName"),
-            ("{\"classes\":[{\"name\":\"\"}]}", "BadName"),
+            (r#"{"classes":[{"name":"K-"}]}"#, "BadName"),
+            (r#"{"classes":[{"name":""}]}"#, "BadName"),
             (
-                "{\"classes\":[{\"name\":\"K\",\"fields\":[{\"name\":\"?\"}]}]}",
+                r#"{"classes":[{"name":"K","fields":[{"name":"?"}]}]}"#,
                 "BadName",
             ),
             (
-                "{\"classes\":[{\"name\":\"K\",\"fields\":[{\"name\":\"n\",\"value\":\"?\"}]}]}",
+                r#"{"classes":[{"name":"K","fields":[{"name":"n","value":"?"}]}]}"#,
                 "ok",
             ),
             (
-                "{\"classes\":[{\"name\":\"K\",\"members\":[{\"kind\":\"method\",\"name\":\"m\",\"body\":\"?\"}]}]}",
+                r#"{"classes":[{"name":"K","members":[{"kind":"method","name":"m","body":"?"}]}]}"#,
                 "BadName",
             ),
-            ("{\"scripts\":[{\"name\":\"a b\",\"steps\":[]}]}", "BadName"),
-            ("{\"classes\":[{\"name\":\"K-\"},{}]}", "Shape /classes/1"),
+            (r#"{"scripts":[{"name":"a b","steps":[]}]}"#, "BadName"),
+            (r#"{"classes":[{"name":"K-"},{}]}"#, "Shape /classes/1"),
             (
-                "{\"classes\":[{\"name\":\"K-\"},{\"name\":\"L\"}],\"scripts\":[{\"name\":\"s\",\"steps\":1.0}]}",
+                r#"{"classes":[{"name":"K-"},{"name":"L"}],"scripts":[{"name":"s","steps":1.0}]}"#,
                 "BadNumber",
             ),
         ],
@@ -263,79 +263,121 @@ fn refuses_what_is_not_utf8(rt: HostRuntime) -> Result<(), Fail> {
     Ok(())
 }
 
-/// A text with one part repeated.
-fn repeated(
-    alloc: Global,
-    before: &str,
-    part: &str,
-    count: usize,
-    after: &str,
-) -> Result<String, AllocError> {
-    let parts = part.repeat(alloc, count)?;
-    format!(in alloc; "{before}{parts}{after}")
+/// A text of which one part is repeated.
+#[derive(Clone, Copy)]
+struct Repeated<'a> {
+    before: &'a str,
+    part: &'a str,
+    after: &'a str,
 }
+
+impl Repeated<'_> {
+    fn text(&self, alloc: Global, count: usize) -> Result<String, AllocError> {
+        let Repeated {
+            before,
+            part,
+            after,
+        } = *self;
+        let parts = part.repeat(alloc, count)?;
+        format!(in alloc; "{before}{parts}{after}")
+    }
+}
+
+const CLASSES: Repeated = Repeated {
+    before: r#"{"classes":["#,
+    part: r#"{"name":"K"},"#,
+    after: r#"{"name":"K"}]}"#,
+};
+
+const SCRIPTS: Repeated = Repeated {
+    before: r#"{"scripts":["#,
+    part: r#"{"name":"s","steps":[]},"#,
+    after: r#"{"name":"s","steps":[]}]}"#,
+};
+
+const FIELDS: Repeated = Repeated {
+    before: r#"{"classes":[{"name":"K","fields":["#,
+    part: r#"{"name":"n"},"#,
+    after: r#"{"name":"n"}]}]}"#,
+};
+
+const MEMBERS: Repeated = Repeated {
+    before: r#"{"classes":[{"name":"K","members":["#,
+    part: r#"{"kind":"method","name":"m","body":"m"},"#,
+    after: r#"{"kind":"method","name":"m","body":"m"}]}]}"#,
+};
+
+const LONG_NAME: Repeated = Repeated {
+    before: r#"{"classes":[{"name":""#,
+    part: "N",
+    after: r#""}]}"#,
+};
+
+/// The last of too many classes has a bad name.
+const BAD_NAME_BEHIND: Repeated = Repeated {
+    before: r#"{"classes":["#,
+    part: r#"{"name":"K"},"#,
+    after: r#"{"name":"?"}]}"#,
+};
+
+/// The last of too many classes has no name.
+const WRONG_CLASS_BEHIND: Repeated = Repeated {
+    before: r#"{"classes":["#,
+    part: r#"{"name":"K"},"#,
+    after: "{}]}",
+};
+
+const BLANKS: Repeated = Repeated {
+    before: "{}",
+    part: " ",
+    after: "",
+};
+
+const BRACKETS: Repeated = Repeated {
+    before: "",
+    part: "[",
+    after: "",
+};
 
 #[test]
 fn limits(rt: HostRuntime) -> Result<(), Fail> {
-    let classes = ("{\"classes\":[", "{\"name\":\"K\"},", "{\"name\":\"K\"}]}");
-    let scripts = (
-        "{\"scripts\":[",
-        "{\"name\":\"s\",\"steps\":[]},",
-        "{\"name\":\"s\",\"steps\":[]}]}",
-    );
-    let fields = (
-        "{\"classes\":[{\"name\":\"K\",\"fields\":[",
-        "{\"name\":\"n\"},",
-        "{\"name\":\"n\"}]}]}",
-    );
-    let members = (
-        "{\"classes\":[{\"name\":\"K\",\"members\":[",
-        "{\"kind\":\"method\",\"name\":\"m\",\"body\":\"m\"},",
-        "{\"kind\":\"method\",\"name\":\"m\",\"body\":\"m\"}]}]}",
-    );
-    for (parts, count, expected) in [
-        (("{}", " ", ""), 1048574, "ok"),
-        (("{}", " ", ""), 1048575, "TooLong"),
-        (("", "[", ""), 1048577, "TooLong"),
-        (("", "[", ""), 127, "NotJson"),
-        (("[[[", "[", "1]]]"), 0, "Shape "),
-        (classes, 1023, "ok"),
-        (classes, 1024, "TooMany"),
-        (scripts, 1023, "ok"),
-        (scripts, 1024, "TooMany"),
-        (fields, 63, "ok"),
-        (fields, 64, "TooMany"),
-        (members, 63, "ok"),
-        (members, 64, "TooMany"),
-        (("{\"classes\":[{\"name\":\"", "N", "\"}]}"), 255, "ok"),
-        (("{\"classes\":[{\"name\":\"", "N", "\"}]}"), 256, "BadName"),
-        (
-            ("{\"classes\":[", "{\"name\":\"K\"},", "{\"name\":\"?\"}]}"),
-            1024,
-            "BadName",
-        ),
-        (
-            ("{\"classes\":[", "{\"name\":\"K\"},", "{}]}"),
-            1024,
-            "Shape /classes/1024",
-        ),
+    for (repeated, count, expected) in [
+        (BLANKS, 1_048_574, "ok"),
+        (BLANKS, 1_048_575, "TooLong"),
+        (BRACKETS, 1_048_577, "TooLong"),
+        (BRACKETS, 127, "NotJson"),
+        (CLASSES, 1_023, "ok"),
+        (CLASSES, 1_024, "TooMany"),
+        (SCRIPTS, 1_023, "ok"),
+        (SCRIPTS, 1_024, "TooMany"),
+        (FIELDS, 63, "ok"),
+        (FIELDS, 64, "TooMany"),
+        (MEMBERS, 63, "ok"),
+        (MEMBERS, 64, "TooMany"),
+        (LONG_NAME, 255, "ok"),
+        (LONG_NAME, 256, "BadName"),
+        (BAD_NAME_BEHIND, 1_024, "BadName"),
+        (WRONG_CLASS_BEHIND, 1_024, "Shape /classes/1024"),
     ] {
-        let (before, part, after) = parts;
-        let text = repeated(rt.alloc(), before, part, count, after)?;
-        assert_eq!(rt;
-            printed(rt.alloc(), text.as_bytes())?.as_str(),
-            expected,
-            "{count} of {part}"
-        );
+        let text = repeated.text(rt.alloc(), count)?;
+        let found = printed(rt.alloc(), text.as_bytes())?;
+        assert_eq!(rt; found.as_str(), expected, "{count} of {}", repeated.part);
     }
+    Ok(())
+}
+
+#[test]
+fn nests_127_deep_and_no_deeper(rt: HostRuntime) -> Result<(), Fail> {
     for (depth, expected) in [(127, "Shape "), (128, "NotJson")] {
         let closed = "]".repeat(rt.alloc(), depth)?;
-        let text = repeated(rt.alloc(), "", "[", depth, closed.as_str())?;
-        assert_eq!(rt;
-            printed(rt.alloc(), text.as_bytes())?.as_str(),
-            expected,
-            "{depth} deep"
-        );
+        let nested = Repeated {
+            before: "",
+            part: "[",
+            after: closed.as_str(),
+        };
+        let text = nested.text(rt.alloc(), depth)?;
+        let found = printed(rt.alloc(), text.as_bytes())?;
+        assert_eq!(rt; found.as_str(), expected, "{depth} deep");
     }
     Ok(())
 }
@@ -343,7 +385,7 @@ fn limits(rt: HostRuntime) -> Result<(), Fail> {
 #[test]
 fn the_counter(rt: HostRuntime) -> Result<(), Fail> {
     let text =
-        "{\"classes\":[{\"name\":\"K\",\"bean\":{\"scope\":\"ApplicationScoped\"},\"fields\":[{\"name\":\"n\",\"value\":0}],\"members\":[{\"kind\":\"method\",\"name\":\"up\",\"body\":\"up\"}]}],\"scripts\":[{\"name\":\"up\",\"steps\":[[\"set\",\"n\",[\"add\",[\"field\",\"n\"],1]],[\"give\",[\"field\",\"n\"]]]}]}";
+        r#"{"classes":[{"name":"K","bean":{"scope":"ApplicationScoped"},"fields":[{"name":"n","value":0}],"members":[{"kind":"method","name":"up","body":"up"}]}],"scripts":[{"name":"up","steps":[["set","n",["add",["field","n"],1]],["give",["field","n"]]]}]}"#;
     let deployment = read(rt.alloc(), text.as_bytes())?;
     let names = &deployment.names;
     assert_eq!(rt; names.len(), 22);
@@ -380,7 +422,7 @@ fn the_counter(rt: HostRuntime) -> Result<(), Fail> {
     assert!(rt; script.name == up);
     let steps = serde_json::Value::from_str(
         rt.alloc(),
-        "[[\"set\",\"n\",[\"add\",[\"field\",\"n\"],1]],[\"give\",[\"field\",\"n\"]]]",
+        r#"[["set","n",["add",["field","n"],1]],["give",["field","n"]]]"#,
     )?;
     assert!(rt; *script.steps.as_value() == steps);
     Ok(())
@@ -389,7 +431,7 @@ fn the_counter(rt: HostRuntime) -> Result<(), Fail> {
 #[test]
 fn what_is_missing(rt: HostRuntime) -> Result<(), Fail> {
     let text =
-        "{\"classes\":[{\"name\":\"K\",\"bean\":{},\"fields\":[{\"name\":\"a\"},{\"name\":\"b\",\"value\":\"?\"},{\"name\":\"c\",\"value\":-7}]},{\"name\":\"Object\",\"members\":[{\"kind\":\"method\",\"name\":\"m\",\"body\":\"a\",\"args\":8}]}]}";
+        r#"{"classes":[{"name":"K","bean":{},"fields":[{"name":"a"},{"name":"b","value":"?"},{"name":"c","value":-7}]},{"name":"Object","members":[{"kind":"method","name":"m","body":"a","args":8}]}]}"#;
     let deployment = read(rt.alloc(), text.as_bytes())?;
     assert_eq!(rt; deployment.classes.len(), 2);
     assert!(rt; deployment.scripts.is_empty());

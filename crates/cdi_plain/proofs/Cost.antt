@@ -1,5 +1,5 @@
 -- Every run ends.
-use Rattle.std.proofs.Common.{ℕ, zero, suc, ◌≡◌, ◌+◌, ◌-◌, ◌*◌, ◌<◌, ◌≤◌, List, [], ◌∷◌, ◌++◌, ◌⊎◌, inl, inr, length, length-append, refl, sym, ◌∙◌, ap, subst, arith, Some, None}
+use Rattle.std.proofs.Common.{ℕ, ◌≡◌, ◌+◌, ◌<◌, ◌≤◌, List, [], ◌∷◌, ◌⊎◌, inl, inr, length, length-append, refl, ◌∙◌, ap, arith}
 use Rattle.cdi_base.specs.declared.value.Value.{Value}
 use Rattle.cdi_base.specs.declared.entry.Entry.{Entry}
 use Rattle.cdi_base.specs.declared.entry.Entry.TheVariants as entries
@@ -16,9 +16,9 @@ use Rattle.cdi_plain.specs.declared.task.Next.TheVariants as nexts
 use Rattle.cdi_plain.specs.World.{World, Change, changed, Make, Put, Remove, Hold, Become, End, written, HasRoom}
 use Rattle.cdi_plain.specs.Programs.{Prog}
 use Rattle.cdi_plain.specs.Machine.{machine}
-use Rattle.cdi_plain.specs.Runs.{Legal, Runs, SameTrace}
+use Rattle.cdi_plain.specs.Runs.{Legal, Runs}
 use Rattle.cdi_plain.specs.Points.{first}
-use Rattle.cdi_plain.specs.Falls.{call_rank, rank, frame_rank, back_rank, left, cost, Back, Falls}
+use Rattle.cdi_plain.specs.Falls.{call_rank, rank, back_rank, left, cost, Back, Falls, SameTrace}
 
 call_below : (c : Call) → call_rank c < 9
 call_below (calls.Obtain bean) = omega arith
@@ -53,6 +53,7 @@ module _ (tables : Tables) (legal : Legal) (Starved : Type 0) where
   grows {w = w} Runs.returns = still w
   grows {w = w} Runs.throws = still w
   grows {w = w} Runs.cuts = still w
+  grows {w = w} Runs.sticks = still w
   grows (Runs.finds x e r) = grows r
   grows (Runs.finds_none e r) = grows r
   grows (Runs.shares e r) = grows r
@@ -69,13 +70,13 @@ module _ (tables : Tables) (legal : Legal) (Starved : Type 0) where
   grows (Runs.has_one e r) = grows r
   grows (Runs.picks i m l c r) = grows r
   grows (Runs.calls r1 r) = let a = grows r1 in let b = grows r in record { ticks = b.ticks ∙ a.ticks; longer = omega (arith, a.longer, b.longer) }
-  grows (Runs.starves s h) = kept h
+  grows {w = w} (Runs.starves s) = still w
 
   -- a destruction is cut or writes an entry
   destroy_writes : {n : ℕ} {v w1 : World} {o : Outcome} → Runs tables legal Starved (machine (calls.Destroy n)) v o w1 → ((k : Frame) → back_rank k o ≡ 0) ⊎ ((length v.trace < length w1.trace) × (length v.trace < v.ticks))
   destroy_writes {n = n} {v = v} (Runs.writes room r) = let h = grows r in let p = length-append v.trace (entries.End n ∷ []) in inr (omega (arith, h.longer), omega arith)
   destroy_writes (Runs.is_full h) = inl (λ k. refl)
-  destroy_writes (Runs.starves s h) = inl (λ k. refl)
+  destroy_writes (Runs.starves s) = inl (λ k. refl)
 
 by_rank : (t t1 : Task) (w w1 : World) → Grows w w1 → rank t1 < rank t → cost t1 w1 < cost t w
 by_rank t t1 w w1 g falls =

@@ -1,7 +1,7 @@
 -- What is resolved so far, and the eligible beans that are left.
 use Rattle.std.proofs.Common.{◌≡◌, ℕ, List, [], ◌∷◌, refl}
 use Rattle.cdi_plain.specs.declared.bean.Resolution.{Resolution}
-use Rattle.cdi_plain.specs.declared.bean.Resolution.TheVariants.{One, Nothing, Many}
+use Rattle.cdi_plain.specs.declared.bean.Resolution.TheVariants.{Nothing, Many}
 use Rattle.cdi_plain.specs.Beans.{resolution, with_bean}
 
 abbrev pub joined : Resolution → List ℕ → Resolution

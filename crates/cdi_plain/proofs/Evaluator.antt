@@ -1,7 +1,6 @@
 -- An evaluator that follows a list of entries and gives the run with its outcome.
-use Rattle.std.proofs.Common.{ℕ, zero, suc, ◌≡◌, ◌≤◌, ◌<◌, ◌-◌, ◌^◌, List, [], ◌∷◌, length, refl, ap, subst, arith, Option, Some, None, Bool, true, false}
-use Rattle.std.specs.Prelude.{slice_get, nat_lt, nat_eq}
-use Rattle.std.proofs.lemmas.Bool.{le-ltb}
+use Rattle.std.proofs.Common.{ℕ, zero, suc, ◌≡◌, ◌≤◌, ◌<◌, ◌-◌, ◌^◌, List, length, refl, ap, subst, arith, Option, Some, None, Bool, true, false}
+use Rattle.std.specs.Prelude.{slice_get, nat_lt}
 use Rattle.cdi_base.specs.declared.value.Value.{Value}
 use Rattle.cdi_base.specs.declared.value.Value.TheVariants as values
 use Rattle.cdi_base.specs.declared.act.Act.{Act}
@@ -9,6 +8,8 @@ use Rattle.cdi_base.specs.declared.act.Act.TheVariants as acts
 use Rattle.cdi_base.specs.declared.entry.Entry.{Entry}
 use Rattle.cdi_base.specs.declared.entry.Entry.TheVariants as entries
 use Rattle.cdi_base.specs.declared.reply.Cause.TheVariants as causes
+use Rattle.cdi_base.specs.declared.built_in.BuiltIn.TheVariants as built_in
+use Rattle.cdi_base.specs.BuiltIn.{number_of}
 use Rattle.cdi_deploy.specs.declared.deployment.Scope.{Scope}
 use Rattle.cdi_deploy.specs.declared.deployment.Scope.TheVariants as scopes
 use Rattle.cdi_plain.specs.declared.tables.Tables.{Tables}
@@ -17,8 +18,8 @@ use Rattle.cdi_plain.specs.declared.task.Outcome.TheVariants as outcomes
 use Rattle.cdi_plain.specs.declared.task.Completion.{Completion}
 use Rattle.cdi_plain.specs.declared.task.Completion.TheVariants as completions
 use Rattle.cdi_plain.specs.declared.task.Call.{Call}
-use Rattle.cdi_plain.specs.World.{World, changed, written, HasRoom, next_number}
-use Rattle.cdi_plain.specs.Programs.{content, Prog, ret, throw, cut, find, scoped, deeper, fresh, change, tick, act, choose, nested}
+use Rattle.cdi_plain.specs.World.{World, changed, written, next_number}
+use Rattle.cdi_plain.specs.Programs.{content, Prog, ret, throw, cut, stuck, find, scoped, deeper, fresh, change, tick, act, choose, nested}
 use Rattle.cdi_plain.specs.Machine.{machine}
 use Rattle.cdi_plain.specs.Runs.{Runs, after}
 use Rattle.cdi_plain.specs.Worked.{anything}
@@ -85,6 +86,7 @@ module _ (tables : Tables) (plan : List Entry) where
   within rec (ret x) w = Some (outcomes.Value x, w, Runs.returns)
   within rec (throw x) w = Some (outcomes.Threw x, w, Runs.throws)
   within rec (cut cause) w = Some (outcomes.Cut cause, w, Runs.cuts)
+  within rec stuck w = Some (outcomes.Threw (number_of built_in.IllegalStateException), w, Runs.sticks)
   within rec (find p n k) w = found (content tables w p) (λ e. on (λ o v s. Runs.finds_none e s) (within rec n w)) (λ x e. on (λ o v s. Runs.finds x e s) (within rec (k x) w))
   within rec (scoped s p q) w = by_scope s (λ e. on (λ o v r. Runs.shares e r) (within rec p w)) (λ e. on (λ o v r. Runs.depends e r) (within rec q w))
   within rec (deeper d k) w = by_depth d (λ e. Some (outcomes.Cut causes.Depth, w, Runs.too_deep e)) (λ h. on (λ o v r. Runs.goes_deeper h r) (within rec (k (d - 1)) w))

@@ -1,7 +1,6 @@
 -- Two runs of one program from one world whose traces agree are one run.
-use Rattle.std.proofs.Common.{ℕ, zero, suc, ◌≡◌, ◌≤◌, ◌<◌, ◌-◌, ◌^◌, List, [], ◌∷◌, ◌++◌, length, append_assoc, append-nil, refl, sym, ◌∙◌, ap, subst, arith, Some, None}
+use Rattle.std.proofs.Common.{◌≡◌, List, [], ◌∷◌, ◌++◌, append_assoc, append-nil, refl, sym, ◌∙◌, subst, arith}
 use Rattle.cdi_base.specs.declared.value.Value.{Value}
-use Rattle.cdi_base.specs.declared.act.Act.{Act}
 use Rattle.cdi_base.specs.declared.entry.Entry.{Entry}
 use Rattle.cdi_base.specs.declared.entry.Entry.TheVariants as entries
 use Rattle.cdi_plain.specs.declared.tables.Tables.{Tables}
@@ -40,6 +39,7 @@ module _ (tables : Tables) (legal : Legal) where
   front {w = w} Runs.returns = front_self w.trace
   front {w = w} Runs.throws = front_self w.trace
   front {w = w} Runs.cuts = front_self w.trace
+  front {w = w} Runs.sticks = front_self w.trace
   front (Runs.finds x e r) = front r
   front (Runs.finds_none e r) = front r
   front (Runs.shares e r) = front r
@@ -56,21 +56,22 @@ module _ (tables : Tables) (legal : Legal) where
   front (Runs.has_one e r) = front r
   front (Runs.picks i m l c r) = front r
   front (Runs.calls r1 r) = front_trans (front r1) (front r)
-  front (Runs.starves s h) = absurd s
+  front (Runs.starves s) = absurd s
 
   wrote : (w : World) {e f : Entry} {p q : Prog Value} {o o' : Outcome} {v v' : World} (zs : List Entry) → Runs tables legal ⊥ p (written e w) o v → Runs tables legal ⊥ q (written f w) o' v' → IsFront v.trace zs → IsFront v'.trace zs → e ≡ f
   wrote w zs r s a b = let f = front_trans (front r) a in let g = front_trans (front s) b in same_entry w.trace f.rest g.rest zs f.is g.is
 
   same : {p : Prog Value} {w v v' : World} {o o' : Outcome} (zs : List Entry) → Runs tables legal ⊥ p w o v → Runs tables legal ⊥ p w o' v' → IsFront v.trace zs → IsFront v'.trace zs → SameEnd o o' v v'
-  same zs (Runs.starves s h) r' a b = absurd s
-  same zs r (Runs.starves s h) a b = absurd s
-  same zs (Runs.does x g (Runs.starves s h)) r' a b = absurd s
-  same zs r (Runs.does x g (Runs.starves s h)) a b = absurd s
-  same zs (Runs.picks i m l c (Runs.starves s h)) r' a b = absurd s
-  same zs r (Runs.picks i m l c (Runs.starves s h)) a b = absurd s
+  same zs (Runs.starves s) r' a b = absurd s
+  same zs r (Runs.starves s) a b = absurd s
+  same zs (Runs.does x g (Runs.starves s)) r' a b = absurd s
+  same zs r (Runs.does x g (Runs.starves s)) a b = absurd s
+  same zs (Runs.picks i m l c (Runs.starves s)) r' a b = absurd s
+  same zs r (Runs.picks i m l c (Runs.starves s)) a b = absurd s
   same zs Runs.returns Runs.returns a b = record { outcome = refl; world = refl }
   same zs Runs.throws Runs.throws a b = record { outcome = refl; world = refl }
   same zs Runs.cuts Runs.cuts a b = record { outcome = refl; world = refl }
+  same zs Runs.sticks Runs.sticks a b = record { outcome = refl; world = refl }
   same {w = w} {v' = v'} {o' = o'} zs (Runs.finds {k = k} x e r) (Runs.finds y e' r') a b = let q : y ≡ x = cc in same zs r (subst (λ z. Runs tables legal ⊥ (k z) w o' v') q r') a b
   same zs (Runs.finds x e r) (Runs.finds_none e' r') a b = absurd (cc)
   same zs (Runs.finds_none e r) (Runs.finds y e' r') a b = absurd (cc)

@@ -1,9 +1,8 @@
 -- The rules by which a step is shown to be the machine's.
-use Rattle.std.proofs.Common.{ℕ, ◌≡◌, ◌<◌, ◌≤◌, ◌-◌, ◌^◌, ◌++◌, ◌∷◌, [], List, length, length-append, take, slice_get, refl, ap, arith, Some, None}
+use Rattle.std.proofs.Common.{ℕ, ◌≡◌, ◌<◌, ◌≤◌, ◌-◌, ◌^◌, ◌++◌, ◌∷◌, [], List, length, length-append, take, slice_get, refl, ap, arith, Some}
 use Rattle.cdi_base.specs.declared.value.Value.{Value}
 use Rattle.cdi_base.specs.declared.act.Act.{Act}
 use Rattle.cdi_base.specs.declared.entry.Entry.TheVariants as entries
-use Rattle.cdi_bodies.specs.declared.view.View.{View}
 use Rattle.cdi_plain.specs.declared.tables.Tables.{Tables}
 use Rattle.cdi_plain.specs.declared.bean.Method.{Method}
 use Rattle.cdi_base.specs.declared.reply.Cause.TheVariants as causes
@@ -18,11 +17,11 @@ use Rattle.cdi_plain.specs.declared.task.Task.TheVariants as tasks
 use Rattle.cdi_plain.specs.declared.task.Next.TheVariants as nexts
 use Rattle.cdi_plain.specs.World.{Instance, World, instance_at, next_number}
 use Rattle.cdi_plain.specs.Beans.{bean_of, method_of, resolve}
-use Rattle.cdi_plain.specs.Programs.{act, nested, cut}
+use Rattle.cdi_plain.specs.Programs.{act, choose, nested, cut}
 use Rattle.cdi_plain.specs.Machine.{perform, released, gone}
 use Rattle.cdi_plain.specs.Runs.{Legal}
 use Rattle.cdi_plain.specs.Points.{Leads, settled, first, waits, if_below}
-use Rattle.cdi_plain.specs.Points.Comes.{same, does, picks}
+use Rattle.cdi_plain.specs.Points.Comes.{same, does, has_none, has_one, picks}
 
 module _ (tables : Tables) (legal : Legal) where
   pub acts_first : (r : Running) {a copy : Act} {m : Method} {o : Instance} (w : World) {fields : List (ℕ × Value)} → method_of tables r.code ≡ Some m → instance_at w r.instance ≡ Some o → legal.gives m.body fields r.view a → fields ≡ o.fields → copy ≡ a
@@ -32,9 +31,20 @@ module _ (tables : Tables) (legal : Legal) where
       let allowed : legal.gives m.body o.fields r.view a = rw k at h in
       rw c (does {k = perform r} here allowed)
 
+  release_at : (i : ℕ) {n : ℕ} {o : Instance} (w : World) → instance_at w i ≡ Some o → n ≡ length o.dependents → settled tables (first (tasks.Start (calls.Release i))) w ≡ (choose n (gone i) (released i), w)
+  release_at i w f e = rw (f, e) refl
+
+  pub release_none : (i : ℕ) {o : Instance} (w : World) → instance_at w i ≡ Some o → length o.dependents ≡ 0
+      → Leads tables legal (tasks.Start (calls.Release i)) w (nexts.Writes (entries.Gone i) (tasks.Removed i)) w
+  release_none i w f none = has_none {p = gone i} {k = released i} (release_at i w f refl) none
+
+  pub release_one : (i : ℕ) {o : Instance} (w : World) → instance_at w i ≡ Some o → length o.dependents ≡ 1
+      → Leads tables legal (tasks.Start (calls.Release i)) w (nexts.Goes (tasks.Released i 0)) w
+  release_one i w f one = has_one {p = gone i} {k = released i} (release_at i w f refl) one
+
   pub release_first : (i : ℕ) {c n : ℕ} {o : Instance} (w : World) → instance_at w i ≡ Some o → n ≡ length o.dependents → 2 ≤ n → c < n → legal.picks n (length w.trace) c
       → Leads tables legal (tasks.Start (calls.Release i)) w (nexts.Writes (entries.Pick n c) (tasks.Released i c)) w
-  release_first i {n = n} {o = o} w e f many within legal_pick = picks {n = n} {p = gone i} {k = released i} (grind (arith, e, f)) many within legal_pick
+  release_first i {n = n} w f e many within legal_pick = picks {n = n} {p = gone i} {k = released i} (release_at i w f e) many within legal_pick
 
   below : {Y : Type 0} (n m : ℕ) (p q : Y) → n < m → if_below n m p q ≡ p
   below n m p q h = grind arith
@@ -62,4 +72,4 @@ module _ (tables : Tables) (legal : Legal) where
       let here : settled tables (first (tasks.Start (calls.Dismiss (numbers ++ n ∷ []) c))) w ≡ (nested (calls.Destroy n) (waits (frames.Dismissing numbers c)), w) = rw (count, last_of numbers n, front_of numbers n) refl in
       rw e (same here)
 
-pub ruleset leads = (same, acts_first, release_first)
+pub ruleset leads = (same, acts_first, release_none, release_one, release_first)

@@ -1,7 +1,6 @@
 -- Where one act and one pick are legal, there is one run.
-use Rattle.std.proofs.Common.{ℕ, zero, suc, ◌≡◌, ◌≤◌, ◌<◌, ◌-◌, ◌^◌, List, length, refl, sym, subst, arith, Some, None}
+use Rattle.std.proofs.Common.{◌≡◌, length, refl, sym, subst, arith}
 use Rattle.cdi_base.specs.declared.value.Value.{Value}
-use Rattle.cdi_base.specs.declared.act.Act.{Act}
 use Rattle.cdi_base.specs.declared.entry.Entry.TheVariants as entries
 use Rattle.cdi_plain.specs.declared.tables.Tables.{Tables}
 use Rattle.cdi_plain.specs.declared.task.Outcome.{Outcome}
@@ -12,11 +11,12 @@ use Rattle.cdi_plain.specs.Laws.{SameEnd, IsOne, OneSchedule}
 
 module _ (tables : Tables) (legal : Legal) (one : IsOne legal) where
   same : {p : Prog Value} {w v v' : World} {o o' : Outcome} → Runs tables legal ⊥ p w o v → Runs tables legal ⊥ p w o' v' → SameEnd o o' v v'
-  same (Runs.starves s h) r' = absurd s
-  same r (Runs.starves s h) = absurd s
+  same (Runs.starves s) r' = absurd s
+  same r (Runs.starves s) = absurd s
   same Runs.returns Runs.returns = record { outcome = refl; world = refl }
   same Runs.throws Runs.throws = record { outcome = refl; world = refl }
   same Runs.cuts Runs.cuts = record { outcome = refl; world = refl }
+  same Runs.sticks Runs.sticks = record { outcome = refl; world = refl }
   same {w = w} {v' = v'} {o' = o'} (Runs.finds {k = k} x e r) (Runs.finds y e' r') = let q : y ≡ x = cc in same r (subst (λ z. Runs tables legal ⊥ (k z) w o' v') q r')
   same (Runs.finds x e r) (Runs.finds_none e' r') = absurd (cc)
   same (Runs.finds_none e r) (Runs.finds y e' r') = absurd (cc)

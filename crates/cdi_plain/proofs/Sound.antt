@@ -1,11 +1,12 @@
 -- A step and the runs after it are a run.
-use Rattle.std.proofs.Common.{ℕ, zero, suc, ◌≡◌, ◌-◌, ◌^◌, ◌<◌, ◌≤◌, ◌∙◌, List, length, refl, sym, ap, subst, arith, Option, Some, None, true, false, true≢false, Bool}
-use Rattle.std.specs.Prelude.{nat_eq, nat_lt, Result, Ok, Err, IsErr}
+use Rattle.std.proofs.Common.{ℕ, zero, suc, ◌≡◌, ◌-◌, ◌^◌, ◌<◌, ◌≤◌, length, refl, sym, subst, arith, Option, Some, None, true, false, true≢false, Bool}
+use Rattle.std.specs.Prelude.{nat_lt, Result, Ok, Err, IsErr}
 use Rattle.std.specs.declared.alloc.AllocError.{AllocError}
-use Rattle.std.proofs.lemmas.Bool.{le-ltb}
 use Rattle.cdi_base.specs.declared.value.Value.{Value}
 use Rattle.cdi_base.specs.declared.entry.Entry.{Entry}
 use Rattle.cdi_base.specs.declared.reply.Cause.TheVariants as causes
+use Rattle.cdi_base.specs.declared.built_in.BuiltIn.TheVariants as built_in
+use Rattle.cdi_base.specs.BuiltIn.{number_of}
 use Rattle.cdi_deploy.specs.declared.deployment.Scope.{Scope}
 use Rattle.cdi_deploy.specs.declared.deployment.Scope.TheVariants as scopes
 use Rattle.cdi_plain.specs.declared.tables.Tables.{Tables}
@@ -17,103 +18,18 @@ use Rattle.cdi_plain.specs.declared.task.Task.TheVariants as tasks
 use Rattle.cdi_plain.specs.declared.task.Frame.{Frame}
 use Rattle.cdi_plain.specs.declared.task.Next.{Next}
 use Rattle.cdi_plain.specs.declared.task.Next.TheVariants as nexts
-use Rattle.cdi_plain.specs.World.{World, Change, changed, Make, Put, Remove, Hold, Become, End, written, HasRoom, next_number}
-use Rattle.cdi_plain.specs.Programs.{Content, content, Prog, ret, throw, cut, find, scoped, deeper, fresh, change, tick, act, choose, nested, completed}
-use Rattle.cdi_plain.specs.Machine.{machine}
-use Rattle.cdi_plain.specs.Runs.{Legal, Runs, Ran, SameTrace, after}
-use Rattle.cdi_plain.specs.Points.{Comes, Leads, first, rest, node, waits, over, settled, if_found, if_scope, if_zero, if_below, if_few}
-
-same_trace : (w : World) → SameTrace w w
-same_trace w = record { trace = refl; ticks = refl }
-
-changed_same : (g : Change) (w : World) {v : World} → SameTrace (changed g w) v → SameTrace w v
-changed_same (Make bean fields) w h = record { trace = h.trace; ticks = h.ticks }
-changed_same (Put n o) w h = record { trace = h.trace; ticks = h.ticks }
-changed_same (Remove n) w h = record { trace = h.trace; ticks = h.ticks }
-changed_same (Hold bean held) w h = record { trace = h.trace; ticks = h.ticks }
-changed_same (Become status) w h = record { trace = h.trace; ticks = h.ticks }
-changed_same End w h = record { trace = h.trace; ticks = h.ticks }
-
-module _ (tables : Tables) where
-  found_same : {X : Type 0} (o : Option X) (n : Prog Value × World) (k : X → Prog Value × World) (w : World) → SameTrace w n.1 → ((x : X) → SameTrace w (k x).1) → SameTrace w (if_found o n k).1
-  found_same None n k w h g = h
-  found_same (Some x) n k w h g = g x
-
-  scope_same : (s : Scope) (p q : Prog Value × World) (w : World) → SameTrace w p.1 → SameTrace w q.1 → SameTrace w (if_scope s p q).1
-  scope_same scopes.ApplicationScoped p q w h g = h
-  scope_same scopes.Dependent p q w h g = g
-
-  zero_same : (b : Bool) (p q : Prog Value × World) (w : World) → SameTrace w p.1 → SameTrace w q.1 → SameTrace w (elim b as (λ _. Prog Value × World) [ true ↦ p | false ↦ q ]).1
-  zero_same true p q w h g = h
-  zero_same false p q w h g = g
-
-  few_same : (a b : Bool) (p q r : Prog Value × World) (w : World) → SameTrace w p.1 → SameTrace w q.1 → SameTrace w r.1
-      → SameTrace w (elim a as (λ _. Prog Value × World) [ true ↦ p | false ↦ elim b as (λ _. Prog Value × World) [ true ↦ q | false ↦ r ] ]).1
-  few_same true b p q r w h g k = h
-  few_same false true p q r w h g k = g
-  few_same false false p q r w h g k = k
-
-  -- what is settled writes nothing
-  settled_same : (p : Prog Value) (w : World) → SameTrace w (settled tables p w).1
-  settled_same (ret v) w = same_trace w
-  settled_same (throw x) w = same_trace w
-  settled_same (cut cause) w = same_trace w
-  settled_same (find p n k) w = found_same (content tables w p) (settled tables n w) (λ x. settled tables (k x) w) w (settled_same n w) (λ x. settled_same (k x) w)
-  settled_same (scoped s p q) w = scope_same s (settled tables p w) (settled tables q w) w (settled_same p w) (settled_same q w)
-  settled_same (deeper d k) w = zero_same (nat_eq d 0) (cut causes.Depth, w) (settled tables (k (d - 1)) w) w (same_trace w) (settled_same (k (d - 1)) w)
-  settled_same (fresh k) w = zero_same (nat_lt (next_number w) (2 ^ 32)) (settled tables (k (next_number w)) w) (cut causes.Numbers, w) w (settled_same (k (next_number w)) w) (same_trace w)
-  settled_same (change g p) w = changed_same g w (settled_same p (changed g w))
-  settled_same (tick e p) w = same_trace w
-  settled_same (act b fields view k) w = same_trace w
-  settled_same (choose n p k) w = few_same (nat_eq n 0) (nat_eq n 1) (settled tables p w) (settled tables (k 0) w) (choose n p k, w) w (settled_same p w) (settled_same (k 0) w) (same_trace w)
-  settled_same (nested c k) w = same_trace w
+use Rattle.cdi_plain.specs.World.{World, written, HasRoom, next_number}
+use Rattle.cdi_plain.specs.Programs.{content, Prog, ret, throw, cut, stuck, find, scoped, deeper, fresh, change, tick, act, choose, nested, completed}
+use Rattle.cdi_plain.specs.Runs.{Legal, Runs, Ran, after}
+use Rattle.cdi_plain.specs.Points.{Comes, Leads, first, rest, node, waits, over, settled, if_found, if_scope, if_zero}
 
 module _ (tables : Tables) (legal : Legal) (Starved : Type 0) where
   -- the runs from a program and a world
   abbrev At : Prog Value × World → Outcome → World → Type 0
   At s o v = Runs tables legal Starved s.0 s.1 o v
 
-  is_zero : {Y : Type 0} (n : ℕ) (p q : Y) → n ≡ 0 → if_zero n p q ≡ p
-  is_zero n p q h = rw h
-
   not_zero : {Y : Type 0} (n : ℕ) (p q : Y) → 0 < n → if_zero n p q ≡ q
   not_zero n p q h = grind arith
-
-  is_below : {Y : Type 0} (n m : ℕ) (p q : Y) → n < m → if_below n m p q ≡ p
-  is_below n m p q h = grind arith
-
-  not_below : {Y : Type 0} (n m : ℕ) (p q : Y) → m ≤ n → if_below n m p q ≡ q
-  not_below {Y} n m p q h = ap (λ (b : Bool). elim b as (λ _. Y) [ true ↦ p | false ↦ q ]) (le-ltb _ _ h)
-
-  many : {Y : Type 0} (n : ℕ) (p q r : Y) → 2 ≤ n → if_few n p q r ≡ r
-  many n p q r h = grind arith
-
-  starved_at : (p : Prog Value) (w : World) {v : World} → Starved → SameTrace w v → At (settled tables p w) (outcomes.Cut causes.Memory) v
-  starved_at p w s h =
-      let k = settled_same tables p w in
-      Runs.starves s (record { trace = h.trace ∙ sym k.trace; ticks = h.ticks ∙ sym k.ticks })
-
-  pub to_settled : {p : Prog Value} {w v : World} {o : Outcome} → Runs tables legal Starved p w o v → At (settled tables p w) o v
-  to_settled Runs.returns = Runs.returns
-  to_settled Runs.throws = Runs.throws
-  to_settled Runs.cuts = Runs.cuts
-  to_settled (Runs.finds x e r) = rw e (to_settled r)
-  to_settled (Runs.finds_none e r) = rw e (to_settled r)
-  to_settled (Runs.shares e r) = rw e (to_settled r)
-  to_settled (Runs.depends e r) = rw e (to_settled r)
-  to_settled {w = w} (Runs.too_deep {d = d} {k = k} e) = subst (λ s. At s (outcomes.Cut causes.Depth) w) (sym (is_zero d (cut causes.Depth, w) (settled tables (k (d - 1)) w) e)) Runs.cuts
-  to_settled {w = w} {v = v} {o = o} (Runs.goes_deeper {d = d} {k = k} h r) = subst (λ s. At s o v) (sym (not_zero d (cut causes.Depth, w) (settled tables (k (d - 1)) w) h)) (to_settled r)
-  to_settled {w = w} (Runs.no_number {k = k} h) = subst (λ s. At s (outcomes.Cut causes.Numbers) w) (sym (not_below (next_number w) (2 ^ 32) (settled tables (k (next_number w)) w) (cut causes.Numbers, w) h)) Runs.cuts
-  to_settled {w = w} {v = v} {o = o} (Runs.numbers {k = k} h r) = subst (λ s. At s o v) (sym (is_below (next_number w) (2 ^ 32) (settled tables (k (next_number w)) w) (cut causes.Numbers, w) h)) (to_settled r)
-  to_settled (Runs.changes r) = to_settled r
-  to_settled (Runs.writes h r) = Runs.writes h r
-  to_settled (Runs.is_full h) = Runs.is_full h
-  to_settled (Runs.does a h r) = Runs.does a h r
-  to_settled (Runs.has_none e r) = rw e (to_settled r)
-  to_settled (Runs.has_one e r) = rw e (to_settled r)
-  to_settled {w = w} {v = v} {o = o} (Runs.picks {n = n} {p = p} {k = k} i h l c r) = subst (λ s. At s o v) (sym (many n (settled tables p w) (settled tables (k 0) w) (choose n p k, w) h)) (Runs.picks i h l c r)
-  to_settled (Runs.calls r1 r) = Runs.calls r1 r
-  to_settled {p = p} {w = w} (Runs.starves s h) = starved_at p w s h
 
   find_from : {X : Type 0} (c : Option X) {n p : Prog Value} {k : X → Prog Value} {w v : World} {o : Outcome}
       → (c ≡ None → Runs tables legal Starved n w o v → Runs tables legal Starved p w o v)
@@ -135,12 +51,12 @@ module _ (tables : Tables) (legal : Legal) (Starved : Type 0) where
       → (At (settled tables (k (d - 1)) w) o v → Runs tables legal Starved (k (d - 1)) w o v)
       → At (if_zero d (cut causes.Depth, w) (settled tables (k (d - 1)) w)) o v → Runs tables legal Starved (deeper d k) w o v
   deep_from zero k f Runs.cuts = Runs.too_deep refl
-  deep_from zero k f (Runs.starves s h) = Runs.starves s h
+  deep_from zero k f (Runs.starves s) = Runs.starves s
   deep_from (suc d) k {w = w} {v = v} {o = o} f r = Runs.goes_deeper (omega arith) (f (subst (λ s. At s o v) (not_zero (suc d) (cut causes.Depth, w) (settled tables (k (suc d - 1)) w) (omega arith)) r))
 
   ended_from : {k : ℕ → Prog Value} {w v : World} {o : Outcome} → 2 ^ 32 ≤ next_number w → Runs tables legal Starved (cut causes.Numbers) w o v → Runs tables legal Starved (fresh k) w o v
   ended_from h Runs.cuts = Runs.no_number h
-  ended_from h (Runs.starves s e) = Runs.starves s e
+  ended_from h (Runs.starves s) = Runs.starves s
 
   number_from : (b : Bool) (k : ℕ → Prog Value) {w v : World} {o : Outcome} → nat_lt (next_number w) (2 ^ 32) ≡ b
       → (At (settled tables (k (next_number w)) w) o v → Runs tables legal Starved (k (next_number w)) w o v)
@@ -148,18 +64,15 @@ module _ (tables : Tables) (legal : Legal) (Starved : Type 0) where
   number_from true k e f r = Runs.numbers (grind arith) (f r)
   number_from false k e f r = ended_from (grind arith) r
 
-  few_from : (n : ℕ) (p : Prog Value) (k : ℕ → Prog Value) {w v : World} {o : Outcome}
-      → (At (settled tables p w) o v → Runs tables legal Starved p w o v)
-      → (At (settled tables (k 0) w) o v → Runs tables legal Starved (k 0) w o v)
-      → At (if_few n (settled tables p w) (settled tables (k 0) w) (choose n p k, w)) o v → Runs tables legal Starved (choose n p k) w o v
-  few_from zero p k f g r = Runs.has_none refl (f r)
-  few_from (suc zero) p k f g r = Runs.has_one refl (g r)
-  few_from (suc (suc n)) p k {w = w} {v = v} {o = o} f g r = subst (λ s. At s o v) (many (suc (suc n)) (settled tables p w) (settled tables (k 0) w) (choose (suc (suc n)) p k, w) (omega arith)) r
+  stuck_from : {w v : World} {o : Outcome} → Runs tables legal Starved (throw (number_of built_in.IllegalStateException)) w o v → Runs tables legal Starved stuck w o v
+  stuck_from Runs.throws = Runs.sticks
+  stuck_from (Runs.starves s) = Runs.starves s
 
   pub from_settled : (p : Prog Value) {w v : World} {o : Outcome} → At (settled tables p w) o v → Runs tables legal Starved p w o v
   from_settled (ret x) r = r
   from_settled (throw x) r = r
   from_settled (cut cause) r = r
+  from_settled stuck r = stuck_from r
   from_settled (find p n k) {w = w} r = find_from (content tables w p) {n = n} {p = find p n k} {k = k} (λ e h. Runs.finds_none e h) (λ x e h. Runs.finds x e h) (λ h. from_settled n h) (λ x h. from_settled (k x) h) r
   from_settled (scoped s p q) r = scope_from s p q (λ h. from_settled p h) (λ h. from_settled q h) r
   from_settled (deeper d k) r = deep_from d k (λ h. from_settled (k (d - 1)) h) r
@@ -167,17 +80,19 @@ module _ (tables : Tables) (legal : Legal) (Starved : Type 0) where
   from_settled (change g p) r = Runs.changes (from_settled p r)
   from_settled (tick e p) r = r
   from_settled (act b fields view k) r = r
-  from_settled (choose n p k) r = few_from n p k (λ h. from_settled p h) (λ h. from_settled (k 0) h) r
+  from_settled (choose n p k) r = r
   from_settled (nested c k) r = r
 
   -- every run of what is left after a step is one of the task
   comes_runs : {s t : Prog Value × World} {o : Outcome} {v : World} → Comes legal s t → At t o v → At s o v
   comes_runs {o = o} {v = v} (Comes.same e) r = subst (λ s. At s o v) (sym e) r
   comes_runs {o = o} {v = v} (Comes.does {a = a} e h) r = subst (λ s. At s o v) (sym e) (Runs.does a h r)
+  comes_runs {o = o} {v = v} (Comes.has_none e z) r = subst (λ s. At s o v) (sym e) (Runs.has_none z r)
+  comes_runs {o = o} {v = v} (Comes.has_one e z) r = subst (λ s. At s o v) (sym e) (Runs.has_one z r)
   comes_runs {o = o} {v = v} (Comes.picks {i = i} e m l c) r = subst (λ s. At s o v) (sym e) (Runs.picks i m l c r)
 
   pub leads_runs : (t : Task) (n : Next) (w u : World) {v : World} {o : Outcome} → Leads tables legal t w n u → Runs tables legal Starved (node n) u o v → Runs tables legal Starved (first t) w o v
-  leads_runs t n w u h r = from_settled (first t) (comes_runs h (to_settled r))
+  leads_runs t n w u h r = from_settled (first t) (comes_runs h r)
 
   -- a call whose outcome goes on
   over_runs : (o : Outcome) {w : World} → Runs tables legal Starved (over o) w o w
@@ -210,6 +125,10 @@ module _ (tables : Tables) (legal : Legal) (Starved : Type 0) where
   pub full : (t t1 : Task) (e : Entry) (w u : World) → Leads tables legal t w (nexts.Writes e t1) u → u.ticks ≤ length u.trace → Runs tables legal Starved (first t) w (outcomes.Cut causes.Ticks) u
   full t t1 e w u s h = leads_runs t (nexts.Writes e t1) w u s (Runs.is_full h)
 
+  -- memory runs out before an entry is written
+  pub starved_before : (t t1 : Task) (e : Entry) (w u : World) → Starved → Leads tables legal t w (nexts.Writes e t1) u → Runs tables legal Starved (first t) w (outcomes.Cut causes.Memory) u
+  starved_before t t1 e w u starved s = leads_runs t (nexts.Writes e t1) w u s (Runs.starves starved)
+
   -- memory runs out in a call
   pub starved_in : (t : Task) (c : Call) (k : Frame) (w u : World) {v : World} → Leads tables legal t w (nexts.Needs c k) u → Runs tables legal Starved (first (tasks.Start c)) u (outcomes.Cut causes.Memory) v → Runs tables legal Starved (first t) w (outcomes.Cut causes.Memory) v
   starved_in t c k w u s r = leads_runs t (nexts.Needs c k) w u s (Runs.calls r Runs.cuts)
@@ -220,6 +139,7 @@ module _ (tables : Tables) (legal : Legal) where
   spared Runs.returns = Runs.returns
   spared Runs.throws = Runs.throws
   spared Runs.cuts = Runs.cuts
+  spared Runs.sticks = Runs.sticks
   spared (Runs.finds x e r) = Runs.finds x e (spared r)
   spared (Runs.finds_none e r) = Runs.finds_none e (spared r)
   spared (Runs.shares e r) = Runs.shares e (spared r)
@@ -236,7 +156,7 @@ module _ (tables : Tables) (legal : Legal) where
   spared (Runs.has_one e r) = Runs.has_one e (spared r)
   spared (Runs.picks i m l c r) = Runs.picks i m l c (spared r)
   spared (Runs.calls r1 r) = Runs.calls (spared r1) (spared r)
-  spared (Runs.starves s h) = absurd s
+  spared (Runs.starves s) = absurd s
 
 pub ruleset runs = (ends, goes, needs, writes, full)
 
@@ -246,12 +166,9 @@ module _ (tables : Tables) (legal : Legal) where
   ran_needs t t1 c k w u v (Ok o) s r1 e h = needs tables legal ⊥ t t1 c k w u s r1 e h
   ran_needs t t1 c k w u v (Err x) s r1 e h = needs tables legal (Unit {0}) t t1 c k w u s (spared tables legal r1) e h
 
-  pub starved : {p : Prog Value} {w v : World} → SameTrace w v → Runs tables legal (Unit {0}) p w (outcomes.Cut causes.Memory) v
-  starved h = Runs.starves tt h
-
-  -- nothing has changed where memory ran out
+  -- memory runs out, and nothing has changed
   pub starved_here : {p : Prog Value} {w v : World} → v ≡ w → Runs tables legal (Unit {0}) p w (outcomes.Cut causes.Memory) v
-  starved_here h = starved (record { trace = ap (λ x. x.trace) h; ticks = ap (λ x. x.ticks) h })
+  starved_here {p = p} {w = w} h = subst (λ u. Runs tables legal (Unit {0}) p w (outcomes.Cut causes.Memory) u) (sym h) (Runs.starves tt)
 
   pub ran_err : {p : Prog Value} {w : World} (v : World) (r : Result Outcome AllocError) → IsErr r → Runs tables legal (Unit {0}) p w (outcomes.Cut causes.Memory) v → Ran tables legal p w r v
   ran_err v (Ok o) h s = absurd (true≢false (sym h))

@@ -1,5 +1,5 @@
 -- A run stays one where more is legal.
-use Rattle.std.proofs.Common.{◌≡◌, length}
+use Rattle.std.proofs.Common.{length}
 use Rattle.cdi_base.specs.declared.value.Value.{Value}
 use Rattle.cdi_plain.specs.declared.tables.Tables.{Tables}
 use Rattle.cdi_plain.specs.declared.task.Outcome.{Outcome}
@@ -13,6 +13,7 @@ module _ (tables : Tables) (small large : Legal) (within : IsWithin small large)
   wider Runs.returns = Runs.returns
   wider Runs.throws = Runs.throws
   wider Runs.cuts = Runs.cuts
+  wider Runs.sticks = Runs.sticks
   wider (Runs.finds x e r) = Runs.finds x e (wider r)
   wider (Runs.finds_none e r) = Runs.finds_none e (wider r)
   wider (Runs.shares e r) = Runs.shares e (wider r)
@@ -29,7 +30,7 @@ module _ (tables : Tables) (small large : Legal) (within : IsWithin small large)
   wider (Runs.has_one e r) = Runs.has_one e (wider r)
   wider {w = w} (Runs.picks {n = n} i m l c r) = Runs.picks i m l (within.pick n (length w.trace) i c) (wider r)
   wider (Runs.calls r1 r) = Runs.calls (wider r1) (wider r)
-  wider (Runs.starves s h) = Runs.starves (starved s) h
+  wider (Runs.starves s) = Runs.starves (starved s)
 
 pub widens : (tables : Tables) (small large : Legal) → Widens tables small large
 widens tables small large within p w v o r = wider tables small large within ⊥ ⊥ (λ x. x) r

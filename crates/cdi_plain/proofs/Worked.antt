@@ -1,14 +1,12 @@
 -- The worked runs, by the evaluator.
-use Rattle.std.proofs.Common.{ℕ, ◌≡◌, ◌∷◌, ◌++◌, [], List, Option, Some, take, refl, pos}
-use Rattle.cdi_base.specs.declared.value.Value.TheVariants as values
-use Rattle.cdi_base.specs.declared.entry.Entry.{Entry}
+use Rattle.std.proofs.Common.{◌∷◌, ◌++◌, [], refl}
 use Rattle.cdi_base.specs.declared.entry.Entry.TheVariants as entries
 use Rattle.cdi_base.specs.declared.place.Place.TheVariants as places
 use Rattle.cdi_deploy.specs.declared.deployment.Scope.TheVariants as scopes
 use Rattle.cdi_plain.specs.declared.tables.Tables.{Tables}
 use Rattle.cdi_plain.specs.declared.task.Call.TheVariants as calls
 use Rattle.cdi_plain.specs.Events.{initialized, startup}
-use Rattle.cdi_plain.specs.Worked.{K, tables_of, start, counting, counted, first_call, call, self_call, borrowing, shutting, Counts, CutAt, CutsByTicks, CutsByDepth, Borrows, ShutsDown, WorkedRuns}
+use Rattle.cdi_plain.specs.Worked.{K, tables_of, start, counting, counted, first_call, call, self_call, borrowing, shutting, Counts, CutsByTicks, CutsByDepth, Borrows, ShutsDown, WorkedRuns}
 use Rattle.cdi_plain.proofs.Evaluator.{exec, came}
 
 abbrev shared : Tables

@@ -1,7 +1,6 @@
 -- What a step lowers, so that every run ends.
-use Rattle.std.specs.Prelude.{ℕ, ◌≡◌, ◌+◌, ◌-◌, ◌*◌, ◌<◌, List, [], ◌∷◌, length}
+use Rattle.std.specs.Prelude.{ℕ, ◌≡◌, ◌+◌, ◌-◌, ◌*◌, ◌<◌, length}
 use Rattle.cdi_plain.specs.World.{World}
-use Rattle.cdi_plain.specs.Runs.{SameTrace}
 use Rattle.cdi_plain.specs.declared.task.Outcome.{Outcome}
 use Rattle.cdi_plain.specs.declared.task.Outcome.TheVariants as outcomes
 use Rattle.cdi_plain.specs.declared.task.Call.{Call}
@@ -65,6 +64,11 @@ left w = w.ticks - length w.trace
 
 abbrev pub cost : Task → World → ℕ
 cost t w = 9 * left w + rank t
+
+-- the command may give as many entries as before, and has given the same
+pub record SameTrace (w v : World) : Type 0 where
+  pub trace : v.trace ≡ w.trace
+  pub ticks : v.ticks ≡ w.ticks
 
 -- a frame goes on with less, or a destruction comes first, which writes an entry
 abbrev pub Back : Task → Call → Frame → Type 0

@@ -11,8 +11,6 @@ use Rattle.cdi_base.specs.declared.entry.Entry.TheVariants as entries
 use Rattle.cdi_base.specs.declared.place.Place.TheVariants as places
 use Rattle.cdi_base.specs.declared.built_in.BuiltIn.TheVariants as built_in
 use Rattle.cdi_base.specs.Fields.{set}
-use Rattle.cdi_bodies.specs.declared.view.View.{View}
-use Rattle.cdi_plain.specs.declared.bean.Method.{Method}
 use Rattle.cdi_plain.specs.declared.bean.Resolution.{Resolution}
 use Rattle.cdi_plain.specs.declared.bean.Resolution.TheVariants as resolutions
 use Rattle.cdi_plain.specs.declared.world.Phase.TheVariants as phases
@@ -28,9 +26,9 @@ use Rattle.cdi_plain.specs.declared.task.Running.{Running}
 use Rattle.cdi_plain.specs.declared.task.Call.{Call}
 use Rattle.cdi_plain.specs.declared.task.Call.TheVariants as calls
 use Rattle.cdi_plain.specs.Beans.{first_fields}
-use Rattle.cdi_plain.specs.World.{Instance, Make, Put, Remove, Hold, Become, End}
+use Rattle.cdi_plain.specs.World.{Make, Put, Remove, Hold, Become, End}
 use Rattle.cdi_plain.specs.Events.{initialized, startup, shutting_down, before_destroyed, destroyed}
-use Rattle.cdi_plain.specs.Programs.{NumberAt, TextOf, GreatestHeld, Prog, ret, throw, find, scoped, deeper, fresh, act, choose, ◌>>=◌, ◌>>◌, attempt, completed, run, done, finished, raise, missing, note, alter, bean_at, method_at, instance, held_at, status, resolved, levels}
+use Rattle.cdi_plain.specs.Programs.{NumberAt, TextOf, GreatestHeld, Prog, ret, throw, find, scoped, deeper, fresh, act, choose, ◌>>=◌, ◌>>◌, attempt, completed, run, finished, raise, missing, note, alter, bean_at, method_at, instance, held_at, status, resolved, levels}
 
 -- ---- contextual instances
 

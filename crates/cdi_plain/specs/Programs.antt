@@ -1,12 +1,11 @@
 -- Programs of the machine: what they may look up, change, write and call.
-use Rattle.std.specs.Prelude.{ℕ, ◌≡◌, ◌-◌, List, Option, Some, slice_get, length}
+use Rattle.std.specs.Prelude.{ℕ, List, Option, Some, slice_get}
 use Rattle.cdi_base.specs.declared.value.Value.{Value}
 use Rattle.cdi_base.specs.declared.value.Value.TheVariants as values
 use Rattle.cdi_base.specs.declared.act.Act.{Act}
 use Rattle.cdi_base.specs.declared.entry.Entry.{Entry}
 use Rattle.cdi_base.specs.declared.reply.Cause.{Cause}
 use Rattle.cdi_base.specs.declared.built_in.BuiltIn.{BuiltIn}
-use Rattle.cdi_base.specs.declared.built_in.BuiltIn.TheVariants as built_in
 use Rattle.cdi_base.specs.BuiltIn.{number_of}
 use Rattle.cdi_bodies.specs.declared.view.View.{View}
 use Rattle.cdi_deploy.specs.declared.deployment.Scope.{Scope}
@@ -68,6 +67,8 @@ pub data Prog (A : Type 0) : Type 0 where
   throw : ℕ → Prog A
   -- the end of the command
   cut : Cause → Prog A
+  -- what has to be there is missing
+  stuck : Prog A
   -- what stands at a place, or the first program if nothing does
   find : (p : Place) → Prog A → (Content p → Prog A) → Prog A
   -- the first for a bean of the application, the second for a dependent one
@@ -91,6 +92,7 @@ abbrev pub handle : {A B : Type 0} → Prog A → (A → Prog B) → (ℕ → Pr
 handle (ret a) f h = f a
 handle (throw x) f h = h x
 handle (cut c) f h = cut c
+handle stuck f h = stuck
 handle (find p n k) f h = find p (handle n f h) (λ x. handle (k x) f h)
 handle (scoped s p q) f h = scoped s (handle p f h) (handle q f h)
 handle (deeper d k) f h = deeper d (λ x. handle (k x) f h)
@@ -137,7 +139,7 @@ raise exception = throw (number_of exception)
 -- a look-up that finds nothing, or an act that isn't served: in an accepted deployment a command that isn't refused meets
 -- none
 abbrev pub missing : {A : Type 0} → Prog A
-missing = raise built_in.IllegalStateException
+missing = stuck
 
 abbrev pub note : Entry → Prog (Unit {0})
 note e = tick e done

@@ -1,5 +1,5 @@
 -- The runs of a program.
-use Rattle.std.specs.Prelude.{ℕ, ◌≡◌, ◌-◌, ◌^◌, ◌<◌, ◌≤◌, List, length, Option, Some, None, Result, Ok, Err}
+use Rattle.std.specs.Prelude.{ℕ, ◌≡◌, ◌-◌, ◌^◌, ◌<◌, ◌≤◌, List, length, Some, None, Result, Ok, Err}
 use Rattle.std.specs.declared.alloc.AllocError.{AllocError}
 use Rattle.cdi_base.specs.declared.value.Value.{Value}
 use Rattle.cdi_base.specs.declared.act.Act.{Act}
@@ -7,6 +7,8 @@ use Rattle.cdi_base.specs.declared.entry.Entry.{Entry}
 use Rattle.cdi_base.specs.declared.entry.Entry.TheVariants as entries
 use Rattle.cdi_base.specs.declared.reply.Cause.{Cause}
 use Rattle.cdi_base.specs.declared.reply.Cause.TheVariants as causes
+use Rattle.cdi_base.specs.declared.built_in.BuiltIn.TheVariants as built_in
+use Rattle.cdi_base.specs.BuiltIn.{number_of}
 use Rattle.cdi_bodies.specs.declared.view.View.{View}
 use Rattle.cdi_deploy.specs.declared.deployment.Scope.{Scope}
 use Rattle.cdi_deploy.specs.declared.deployment.Scope.TheVariants as scopes
@@ -17,7 +19,7 @@ use Rattle.cdi_plain.specs.declared.task.Completion.TheVariants as completions
 use Rattle.cdi_plain.specs.declared.task.Outcome.{Outcome}
 use Rattle.cdi_plain.specs.declared.task.Outcome.TheVariants as outcomes
 use Rattle.cdi_plain.specs.World.{World, Change, changed, written, HasRoom, next_number}
-use Rattle.cdi_plain.specs.Programs.{Place, Content, content, Prog, ret, throw, cut, find, scoped, deeper, fresh, change, tick, act, choose, nested}
+use Rattle.cdi_plain.specs.Programs.{Place, Content, content, Prog, ret, throw, cut, stuck, find, scoped, deeper, fresh, change, tick, act, choose, nested}
 use Rattle.cdi_plain.specs.Machine.{machine}
 
 -- what is legal where the rules leave it open
@@ -33,17 +35,14 @@ after (outcomes.Value v) k = k (completions.Value v)
 after (outcomes.Threw x) k = k (completions.Threw x)
 after (outcomes.Cut cause) k = cut cause
 
--- the command may give as many entries as before, and has given the same
-pub record SameTrace (w v : World) : Type 0 where
-  pub trace : v.trace ≡ w.trace
-  pub ticks : v.ticks ≡ w.ticks
-
 -- The program may come to this outcome, from the one world to the other. A body gives any act that is
 -- legal, and of several candidates any one is picked that is. Where `Starved` holds, memory may run out at any point.
 pub data Runs (tables : Tables) (legal : Legal) (Starved : Type 0) : Prog Value → World → Outcome → World → Type 0 where
   returns : {v : Value} {w : World} → Runs tables legal Starved (ret v) w (outcomes.Value v) w
   throws : {x : ℕ} {w : World} → Runs tables legal Starved (throw x) w (outcomes.Threw x) w
   cuts : {cause : Cause} {w : World} → Runs tables legal Starved (cut cause) w (outcomes.Cut cause) w
+  -- what is missing is told as an exception
+  sticks : {w : World} → Runs tables legal Starved stuck w (outcomes.Threw (number_of built_in.IllegalStateException)) w
   -- a look-up
   finds : {p : Place} {n : Prog Value} {k : Content p → Prog Value} {w v : World} {o : Outcome} (x : Content p) → content tables w p ≡ Some x → Runs tables legal Starved (k x) w o v → Runs tables legal Starved (find p n k) w o v
   finds_none : {p : Place} {n : Prog Value} {k : Content p → Prog Value} {w v : World} {o : Outcome} → content tables w p ≡ None → Runs tables legal Starved n w o v → Runs tables legal Starved (find p n k) w o v
@@ -68,8 +67,8 @@ pub data Runs (tables : Tables) (legal : Legal) (Starved : Type 0) : Prog Value 
   picks : {n : ℕ} {p : Prog Value} {k : ℕ → Prog Value} {w v : World} {o : Outcome} (i : ℕ) → 2 ≤ n → i < n → legal.picks n (length w.trace) i → Runs tables legal Starved (tick (entries.Pick n i) (k i)) w o v → Runs tables legal Starved (choose n p k) w o v
   -- another task, and then what waits for it
   calls : {c : Call} {k : Completion → Prog Value} {w u v : World} {o1 o : Outcome} → Runs tables legal Starved (machine c) w o1 u → Runs tables legal Starved (after o1 k) u o v → Runs tables legal Starved (nested c k) w o v
-  -- memory runs out: the entries stay, and of the rest nothing is said
-  starves : {p : Prog Value} {w v : World} → Starved → SameTrace w v → Runs tables legal Starved p w (outcomes.Cut causes.Memory) v
+  -- memory runs out, and nothing is changed any more
+  starves : {p : Prog Value} {w : World} → Starved → Runs tables legal Starved p w (outcomes.Cut causes.Memory) w
 
 -- What the engine answers: a run of the program, or, where memory ran out, a run of it that was cut for that.
 abbrev pub Ran : Tables → Legal → Prog Value → World → Result Outcome AllocError → World → Type 0

@@ -1,15 +1,12 @@
 -- Worked runs: a counter, a bean that calls itself without end, and a bean without scope.
-use Rattle.std.specs.Prelude.{ℕ, ℤ, pos, ◌≡◌, ◌+◌, ◌≤◌, List, [], ◌∷◌, ◌++◌, Option, Some, None, true, false, take, length, replicate}
+use Rattle.std.specs.Prelude.{ℕ, pos, ◌≡◌, List, [], ◌∷◌, ◌++◌, Some, None, true, take}
 use Rattle.std.proofs.Common.{lit≤}
-use Rattle.cdi_base.specs.declared.value.Value.{Value}
 use Rattle.cdi_base.specs.declared.value.Value.TheVariants as values
-use Rattle.cdi_base.specs.declared.act.Act.{Act}
 use Rattle.cdi_base.specs.declared.act.Act.TheVariants as acts
 use Rattle.cdi_base.specs.declared.entry.Entry.{Entry}
 use Rattle.cdi_base.specs.declared.entry.Entry.TheVariants as entries
 use Rattle.cdi_base.specs.declared.place.Place.TheVariants as places
 use Rattle.cdi_base.specs.declared.reply.Cause.TheVariants as causes
-use Rattle.cdi_base.specs.BuiltIn.{built_in_names}
 use Rattle.cdi_deploy.specs.declared.deployment.Scope.{Scope}
 use Rattle.cdi_deploy.specs.declared.deployment.Scope.TheVariants as scopes
 use Rattle.cdi_plain.specs.declared.bean.Bean.{Bean}
@@ -17,12 +14,11 @@ use Rattle.cdi_plain.specs.declared.bean.Method.{Method}
 use Rattle.cdi_plain.specs.declared.tables.Tables.{Tables}
 use Rattle.cdi_plain.specs.declared.task.Call.{Call}
 use Rattle.cdi_plain.specs.declared.task.Call.TheVariants as calls
-use Rattle.cdi_plain.specs.declared.task.Outcome.{Outcome}
 use Rattle.cdi_plain.specs.declared.task.Outcome.TheVariants as outcomes
 use Rattle.cdi_plain.specs.declared.world.Phase.TheVariants as phases
 use Rattle.cdi_plain.specs.declared.world.Status.TheVariants as statuses
 use Rattle.cdi_plain.specs.declared.world.Held.TheVariants as held
-use Rattle.cdi_plain.specs.World.{Instance, World, before_boot, begun}
+use Rattle.cdi_plain.specs.World.{World, before_boot}
 use Rattle.cdi_plain.specs.Events.{initialized, startup, shutting_down, before_destroyed, destroyed}
 use Rattle.cdi_plain.specs.Machine.{machine}
 use Rattle.cdi_plain.specs.Runs.{Legal, Runs}

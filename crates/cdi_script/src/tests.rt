@@ -79,54 +79,10 @@ fn read(alloc: Global, names: &mut Names, text: &str) -> Result<Result<Script, S
     }
 }
 
-#[test]
-fn refuses_what_is_no_step(rt: HostRuntime) -> Result<(), Fail> {
-    let alloc = rt.alloc();
+/// Checks that none of the texts is a script, and that no name of theirs is kept.
+fn refuse(rt: &impl Abort, alloc: Global, texts: &[&str]) -> Result<(), Fail> {
     let mut names = Names::new(alloc);
-    for text in [
-        "null",
-        "{}",
-        "\"give\"",
-        "[1]",
-        "[[]]",
-        "[[\"give\"]]",
-        "[[\"give\",1,2]]",
-        "[[\"give\",true]]",
-        "[[\"give\",{}]]",
-        "[[\"give\",[]]]",
-        "[[\"give\",1.5]]",
-        "[[\"give\",9223372036854775808]]",
-        "[[\"give\",[\"field\",\"a b\"]]]",
-        "[[\"give\",[\"field\",1]]]",
-        "[[\"give\",[\"arg\",-1]]]",
-        "[[\"give\",[\"arg\",65536]]]",
-        "[[\"give\",[\"ans\",-1]]]",
-        "[[\"give\",[\"ans\",65536]]]",
-        "[[\"give\",[\"ans\",\"0\"]]]",
-        "[[\"give\",[\"last\",0]]]",
-        "[[\"give\",[\"add\",1]]]",
-        "[[\"give\",[\"add\",1,false]]]",
-        "[[\"give\",[\"add\",1,2,3]]]",
-        "[[\"give\",[\"sub\",1,2]]]",
-        "[[\"set\",\"f\"]]",
-        "[[\"set\",\"\",1]]",
-        "[[\"set\",1,1]]",
-        "[[\"set\",\"f\",1,2]]",
-        "[[\"own\",\"m\"]]",
-        "[[\"own\",\"m\",1]]",
-        "[[\"own\",\"m\",[true]]]",
-        "[[\"own\",\"m n\",[]]]",
-        "[[\"call\",[\"field\",\"f\"],\"m\",[]]]",
-        "[[\"read\",[\"field\",\"f\"]]]",
-        "[[\"write\",[\"param\",0],1]]",
-        "[[\"fire\",\"C\",[],1]]",
-        "[[\"proceed\"]]",
-        "[[\"find\",\"T\",[]]]",
-        "[[\"keep\",\"k\",1]]",
-        "[[\"peek\",\"k\"]]",
-        "[[\"throw\",\"X\"]]",
-        "[[\"catch\",[\"give\",1]]]",
-    ] {
+    for text in texts {
         match read(alloc, &mut names, text)? {
             Ok(_) => panic!(rt; "{text} is no script"),
             Err(fault) => assert_eq!(rt; fault, ScriptFault::BadStep, "at {text}"),
@@ -137,22 +93,85 @@ fn refuses_what_is_no_step(rt: HostRuntime) -> Result<(), Fail> {
 }
 
 #[test]
+fn refuses_what_is_no_step(rt: HostRuntime) -> Result<(), Fail> {
+    let texts = ["null", "{}", r#""give""#, "[1]", "[[]]", r#"[["give"]]"#];
+    refuse(&rt, rt.alloc(), &texts)
+}
+
+#[test]
+fn refuses_bad_expressions(rt: HostRuntime) -> Result<(), Fail> {
+    let texts = [
+        r#"[["give",1,2]]"#,
+        r#"[["give",true]]"#,
+        r#"[["give",{}]]"#,
+        r#"[["give",[]]]"#,
+        r#"[["give",1.5]]"#,
+        r#"[["give",9223372036854775808]]"#,
+        r#"[["give",["field","a b"]]]"#,
+        r#"[["give",["field",1]]]"#,
+        r#"[["give",["arg",-1]]]"#,
+        r#"[["give",["arg",65536]]]"#,
+        r#"[["give",["ans",-1]]]"#,
+        r#"[["give",["ans",65536]]]"#,
+        r#"[["give",["ans","0"]]]"#,
+        r#"[["give",["last",0]]]"#,
+        r#"[["give",["add",1]]]"#,
+        r#"[["give",["add",1,false]]]"#,
+        r#"[["give",["add",1,2,3]]]"#,
+        r#"[["give",["sub",1,2]]]"#,
+    ];
+    refuse(&rt, rt.alloc(), &texts)
+}
+
+#[test]
+fn refuses_bad_parts(rt: HostRuntime) -> Result<(), Fail> {
+    let texts = [
+        r#"[["set","f"]]"#,
+        r#"[["set","",1]]"#,
+        r#"[["set",1,1]]"#,
+        r#"[["set","f",1,2]]"#,
+        r#"[["own","m"]]"#,
+        r#"[["own","m",1]]"#,
+        r#"[["own","m",[true]]]"#,
+        r#"[["own","m n",[]]]"#,
+    ];
+    refuse(&rt, rt.alloc(), &texts)
+}
+
+#[test]
+fn refuses_steps_that_are_not_served(rt: HostRuntime) -> Result<(), Fail> {
+    let texts = [
+        r#"[["call",["field","f"],"m",[]]]"#,
+        r#"[["read",["field","f"]]]"#,
+        r#"[["write",["param",0],1]]"#,
+        r#"[["fire","C",[],1]]"#,
+        r#"[["proceed"]]"#,
+        r#"[["find","T",[]]]"#,
+        r#"[["keep","k",1]]"#,
+        r#"[["peek","k"]]"#,
+        r#"[["throw","X"]]"#,
+        r#"[["catch",["give",1]]]"#,
+    ];
+    refuse(&rt, rt.alloc(), &texts)
+}
+
+#[test]
 fn counts_the_steps(rt: HostRuntime) -> Result<(), Fail> {
     let alloc = rt.alloc();
     let mut names = Names::new(alloc);
     for (count, last, fault) in [
         (0, "", None),
-        (255, ",[\"give\",1]", None),
-        (256, ",[\"give\",1]", Some(ScriptFault::TooLong)),
-        (299, ",[\"give\",1]", Some(ScriptFault::TooLong)),
-        (299, ",[\"give\",true]", Some(ScriptFault::BadStep)),
+        (255, r#",["give",1]"#, None),
+        (256, r#",["give",1]"#, Some(ScriptFault::TooLong)),
+        (299, r#",["give",1]"#, Some(ScriptFault::TooLong)),
+        (299, r#",["give",true]"#, Some(ScriptFault::BadStep)),
     ] {
         let mut text = String::from_str(alloc, "[")?;
         for index in 0..count {
             text.push_str(if index == 0 {
-                "[\"give\",1]"
+                r#"["give",1]"#
             } else {
-                ",[\"give\",1]"
+                r#",["give",1]"#
             })?;
         }
         text.push_str(last)?;
@@ -191,7 +210,7 @@ fn seen(alloc: Global) -> Result<View, Fail> {
 /// The value of an expression where the field `f` is 7.
 fn value_of(rt: &impl Abort, alloc: Global, text: &str, view: &View) -> Result<Value, Fail> {
     let mut names = Names::new(alloc);
-    let text = format!(in alloc; "[[\"set\",\"f\",{text}]]")?;
+    let text = format!(in alloc; r#"[["set","f",{text}]]"#)?;
     let Ok(script) = read(alloc, &mut names, text.as_str())? else {
         panic!(rt; "{text} is no script");
     };
@@ -210,57 +229,63 @@ fn value_of(rt: &impl Abort, alloc: Global, text: &str, view: &View) -> Result<V
 }
 
 #[test]
-fn has_values(rt: HostRuntime) -> Result<(), Fail> {
+fn has_numbers(rt: HostRuntime) -> Result<(), Fail> {
     let view = seen(rt.alloc())?;
     for (text, wanted) in [
         ("-4", -4),
-        ("[\"field\",\"f\"]", 7),
-        ("[\"arg\",0]", 1),
-        ("[\"ans\",0]", 5),
+        (r#"["field","f"]"#, 7),
+        (r#"["arg",0]"#, 1),
+        (r#"["ans",0]"#, 5),
+        (r#"["add",["field","f"],["add",["arg",0],["ans",0]]]"#, 13),
         (
-            "[\"add\",[\"field\",\"f\"],[\"add\",[\"arg\",0],[\"ans\",0]]]",
-            13,
+            r#"["add",9223372036854775806,1]"#,
+            9_223_372_036_854_775_807,
         ),
-        ("[\"add\",9223372036854775806,1]", 9_223_372_036_854_775_807),
         (
-            "[\"add\",-9223372036854775807,-1]",
+            r#"["add",-9223372036854775807,-1]"#,
             -9_223_372_036_854_775_808,
         ),
     ] {
-        assert_eq!(rt;
-            value_of(&rt, rt.alloc(), text, &view)?,
-            Value::Int(wanted),
-            "at {text}"
-        );
+        let found = value_of(&rt, rt.alloc(), text, &view)?;
+        assert_eq!(rt; found, Value::Int(wanted), "at {text}");
     }
+    Ok(())
+}
+
+#[test]
+fn has_texts(rt: HostRuntime) -> Result<(), Fail> {
+    let view = seen(rt.alloc())?;
     for (text, wanted) in [
-        ("\"abc\"", "abc"),
-        ("[\"arg\",1]", "two"),
-        ("[\"ans\",1]", "NullPointerException"),
+        (r#""abc""#, "abc"),
+        (r#"["arg",1]"#, "two"),
+        (r#"["ans",1]"#, "NullPointerException"),
     ] {
         let Value::Text(found) = value_of(&rt, rt.alloc(), text, &view)? else {
             panic!(rt; "{text} is no text");
         };
         assert_eq!(rt; found.as_str(), wanted, "at {text}");
     }
+    Ok(())
+}
+
+#[test]
+fn is_null_otherwise(rt: HostRuntime) -> Result<(), Fail> {
+    let view = seen(rt.alloc())?;
     for text in [
         "null",
-        "[\"field\",\"g\"]",
-        "[\"arg\",2]",
-        "[\"arg\",65535]",
-        "[\"ans\",2]",
-        "[\"ans\",3]",
-        "[\"last\"]",
-        "[\"add\",1,\"1\"]",
-        "[\"add\",null,1]",
-        "[\"add\",9223372036854775807,1]",
-        "[\"add\",-9223372036854775808,-1]",
+        r#"["field","g"]"#,
+        r#"["arg",2]"#,
+        r#"["arg",65535]"#,
+        r#"["ans",2]"#,
+        r#"["ans",3]"#,
+        r#"["last"]"#,
+        r#"["add",1,"1"]"#,
+        r#"["add",null,1]"#,
+        r#"["add",9223372036854775807,1]"#,
+        r#"["add",-9223372036854775808,-1]"#,
     ] {
-        assert_eq!(rt;
-            value_of(&rt, rt.alloc(), text, &view)?,
-            Value::Null,
-            "at {text}"
-        );
+        let found = value_of(&rt, rt.alloc(), text, &view)?;
+        assert_eq!(rt; found, Value::Null, "at {text}");
     }
     Ok(())
 }
@@ -278,7 +303,7 @@ fn after(alloc: Global, script: &Script, answers: Vec<Answer>) -> Result<Act, Fa
 fn goes_on_step_by_step(rt: HostRuntime) -> Result<(), Fail> {
     let alloc = rt.alloc();
     let mut names = Names::new(alloc);
-    let text = "[[\"set\",\"f\",1],[\"own\",\"m\",[[\"last\"]]],[\"give\",[\"ans\",1]]]";
+    let text = r#"[["set","f",1],["own","m",[["last"]]],["give",["ans",1]]]"#;
     let Ok(script) = read(alloc, &mut names, text)? else {
         panic!(rt; "three steps are a script");
     };
@@ -316,7 +341,7 @@ fn throws_on_what_no_step_catches(rt: HostRuntime) -> Result<(), Fail> {
     let mut names = Names::new(alloc);
     let exception = BuiltIn::IllegalStateException.name();
     for (catches, given) in [(false, None), (true, Some(8))] {
-        let text = "[[\"give\",1],[\"give\",8]]";
+        let text = r#"[["give",1],["give",8]]"#;
         let Ok(script) = read(alloc, &mut names, text)? else {
             panic!(rt; "two steps are a script");
         };
@@ -350,7 +375,7 @@ fn runs_registered_scripts(rt: HostRuntime) -> Result<(), Fail> {
     let called = [BuiltIn::Named.name(), BuiltIn::Value.name()];
     for (which, wanted) in [(0, 10), (1, 20)] {
         let mut scripts = Vec::new(alloc);
-        for text in ["[[\"give\",10]]", "[[\"give\",20]]"] {
+        for text in [r#"[["give",10]]"#, r#"[["give",20]]"#] {
             let Ok(script) = read(alloc, &mut names, text)? else {
                 panic!(rt; "{text} is a script");
             };

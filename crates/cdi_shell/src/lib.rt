@@ -6,6 +6,8 @@ pub mod command;
 #[cfg(test)]
 mod command_tests;
 pub mod container;
+#[cfg(test)]
+mod container_tests;
 pub mod drive;
 #[cfg(test)]
 mod drive_ends_tests;

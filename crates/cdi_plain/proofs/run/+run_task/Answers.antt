@@ -1,6 +1,6 @@
-use Rattle.std.proofs.Common.{◌≤◌, length, rules, arith}
+use Rattle.std.proofs.Common.{◌≤◌, length, rules}
 use Rattle.cdi_plain.proofs.Cost.{after_falls}
-use Rattle.cdi_plain.proofs.Sound.{full, starved, starved_here, starved_in, ran_needs, ran_err}
+use Rattle.cdi_plain.proofs.Sound.{full, starved_here, starved_before, starved_in, ran_needs, ran_err}
 use Rattle.cdi_plain.proofs.run.+run_task.Goals as goal
 
 pub returns-in_err-outcome : goal.returns-in_err-outcome
@@ -30,5 +30,6 @@ returns-then-not-has_room g t c =
 
 pub returns-in_err-write-in-Writes : goal.returns-in_err-write-in-Writes
 returns-in_err-write-in-Writes g t c =
-    let same = rw c.in-Writes.is at c.in_ok-outcome.ensures.falls in
-    ran_err c.args.tables.now (g.D.Driver.legal c.args.driver.now) c.write.new.self c.from_residual-in_err-write-in-Writes.result (search rules) (rw c.in_err-write-in-Writes.ensures.err (starved c.args.tables.now (g.D.Driver.legal c.args.driver.now) same))
+    let leads = rw c.in-Writes.is at c.in_ok-outcome.ensures.leads in
+    let before = starved_before c.args.tables.now (g.D.Driver.legal c.args.driver.now) (Unit {0}) c.args.task c.in-Writes.next c.in-Writes.entry c.args.world.now c.step.new.world tt leads in
+    ran_err c.args.tables.now (g.D.Driver.legal c.args.driver.now) c.write.new.self c.from_residual-in_err-write-in-Writes.result (search rules) (rw c.in_err-write-in-Writes.ensures.err before)

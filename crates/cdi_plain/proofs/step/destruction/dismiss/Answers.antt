@@ -1,4 +1,3 @@
-use Rattle.std.proofs.Common.{rules}
 use Rattle.cdi_plain.proofs.Rules.{dismiss_first}
 use Rattle.cdi_plain.proofs.step.destruction.dismiss.Goals as goal
 
