@@ -7,6 +7,7 @@ pub mod Runs
 pub mod Points
 pub mod Falls
 pub mod Laws
+pub mod Missing
 pub mod Worked
 pub mod Build
 pub mod Problem
