@@ -11,8 +11,6 @@ mod container_tests;
 pub mod drive;
 #[cfg(test)]
 mod drive_ends_tests;
-#[cfg(test)]
-mod drive_tests;
 pub mod ending;
 #[cfg(test)]
 mod ends_tests;
@@ -22,8 +20,6 @@ pub mod laws;
 pub mod output;
 pub mod places;
 pub mod refusal_text;
-#[cfg(test)]
-mod refused_tests;
 pub mod reply_text;
 pub mod request;
 pub mod responder;
