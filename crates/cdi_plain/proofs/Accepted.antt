@@ -20,7 +20,7 @@ use Rattle.cdi_plain.specs.Check.{bean_count, too_many, or_else, problems_of}
 use Rattle.cdi_plain.specs.Duplicates.{member_name}
 use Rattle.cdi_plain.specs.WrongBodies.{shape_of, is_wrong, problem_at, has_wrong_body, wrong_members, wrong_in, wrong_of_kind, wrong_bodies}
 
-neither : (ps others : List Problem) → or_else ps others ≡ [] → others ≡ []
+pub neither : (ps others : List Problem) → or_else ps others ≡ [] → others ≡ []
 neither [] others e = e
 neither (p ∷ ps) others e = absurd cc
 
@@ -28,11 +28,11 @@ neither_first : (ps others : List Problem) → or_else ps others ≡ [] → ps �
 neither_first [] others e = refl
 neither_first (p ∷ ps) others e = absurd cc
 
-empty_first : (xs ys : List Problem) → xs ++ ys ≡ [] → xs ≡ []
+pub empty_first : (xs ys : List Problem) → xs ++ ys ≡ [] → xs ≡ []
 empty_first [] ys e = refl
 empty_first (x ∷ xs) ys e = absurd cc
 
-empty_second : (xs ys : List Problem) → xs ++ ys ≡ [] → ys ≡ []
+pub empty_second : (xs ys : List Problem) → xs ++ ys ≡ [] → ys ≡ []
 empty_second [] ys e = e
 empty_second (x ∷ xs) ys e = absurd cc
 

@@ -9,7 +9,7 @@ use Rattle.cdi_plain.specs.declared.task.Code.TheVariants as codes
 use Rattle.cdi_plain.specs.Beans.{find_method, method_of, KnowsMethods, KnowsEach}
 
 module _ (IsBody : ℕ → Type 0) where
-  known_in : (ms : List Method) (name : ℕ) {m : Method} → KnowsMethods IsBody ms → find_method ms name ≡ Some m → IsBody m.body
+  pub known_in : (ms : List Method) (name : ℕ) {m : Method} → KnowsMethods IsBody ms → find_method ms name ≡ Some m → IsBody m.body
   known_in [] name h e = absurd cc
   known_in (x ∷ ms) name {m = m} h e = by (nat_eq x.name name) (known_in ms name h.1) e
     where

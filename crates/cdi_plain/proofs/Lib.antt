@@ -11,3 +11,9 @@ pub mod Checked
 pub mod Accepted
 pub mod Schedule
 pub mod Wider
+pub mod Found
+pub mod Whole
+pub mod Safe
+pub mod Calls
+pub mod Missing
+pub mod Serving

@@ -3,7 +3,9 @@ use Rattle.std.specs.Prelude.{ℕ, ◌≡◌, List, length, Some}
 use Rattle.cdi_base.specs.declared.value.Value.{Value}
 use Rattle.cdi_base.specs.declared.act.Act.{Act}
 use Rattle.cdi_base.specs.declared.act.Act.TheVariants as acts
+use Rattle.cdi_bodies.specs.declared.entry.Entry.{Entry}
 use Rattle.cdi_bodies.specs.declared.view.View.{View}
+use Rattle.cdi_deploy.specs.declared.deployment.Deployment.{Deployment}
 use Rattle.cdi_plain.specs.declared.bean.Method.{Method}
 use Rattle.cdi_plain.specs.declared.bean.Resolution.TheVariants as resolutions
 use Rattle.cdi_plain.specs.declared.tables.Tables.{Tables}
@@ -13,6 +15,8 @@ use Rattle.cdi_plain.specs.declared.task.Call.TheVariants as calls
 use Rattle.cdi_plain.specs.declared.task.Outcome.{Outcome}
 use Rattle.cdi_plain.specs.declared.task.Outcome.TheVariants as outcomes
 use Rattle.cdi_plain.specs.Beans.{method_of, resolve}
+use Rattle.cdi_plain.specs.Build.{beans_of}
+use Rattle.cdi_plain.specs.Registered.{legal_of}
 use Rattle.cdi_plain.specs.World.{World, before_boot, begun}
 use Rattle.cdi_plain.specs.Programs.{Prog}
 use Rattle.cdi_plain.specs.Machine.{machine}
@@ -79,3 +83,7 @@ pub data Rests (tables : Tables) (legal : Legal) : World → Type 0 where
 abbrev pub MissesNothing : Tables → Legal → Type 0 → Type 0
 MissesNothing tables legal Starved =
     GivesServed tables legal → (w : World) → Rests tables legal w → (c : Call) → IsAdmitted tables c → (o : Outcome) (v : World) (r : Runs tables legal Starved (machine c) (begun w) o v) → NothingMissing r
+
+-- the bodies of an accepted deployment give only acts that are served
+abbrev pub AcceptedServes : {X : Type 0} {F : X → Type 0} {g : _} → Deployment → List (Entry X F g) → Type 0
+AcceptedServes deployment entries = (tables : Tables) → tables.beans ≡ beans_of deployment.classes entries → GivesServed tables (legal_of entries)

@@ -1,9 +1,15 @@
 //! Laws of the machine. A call of one of these does nothing: its contract is the law.
+ghost use Rattle.std.specs.Prelude.{◌≡◌, []};
+ghost use Rattle.cdi_bodies.specs.Table.{entries_of};
+ghost use Rattle.cdi_plain.specs.Check.{problems_of};
 ghost use Rattle.cdi_plain.specs.Laws.{OneRun, OneSchedule, Widens};
+ghost use Rattle.cdi_plain.specs.Missing.{MissesNothing, AcceptedServes};
 ghost use Rattle.cdi_plain.specs.Worked.{WorkedRuns};
 
 use crate::driver::Driver;
 use crate::tables::Tables;
+use cdi_bodies::Bodies;
+use cdi_deploy::Deployment;
 
 /// What the machine may do is told by its entries: two runs of one program from one world that write the same
 /// entries have the same outcome and leave the same world.
@@ -33,6 +39,30 @@ pub fn law_widens<D: Driver, E: Driver>(tables: &Tables, driver: &D, wider: &E)
     let _tables = tables;
     let _driver = driver;
     let _wider = wider;
+}
+
+/// No look-up fails: where the bodies give only acts that are served, a command that isn't refused never comes to a
+/// point at which a bean, a method, an instance or what is held for a bean isn't there. So no exception in a trace
+/// tells a fault of the machine. That holds of every command, in every world that commands lead to, and also where
+/// memory runs out on the way.
+#[tactic(auto, using(crate::proofs::Missing::misses_nothing))]
+pub fn law_nothing_missing<D: Driver>(tables: &Tables, driver: &D)
+    ensures with_memory { MissesNothing tables.now (D.legal driver.now) ⊥ }
+    ensures short_of_memory { MissesNothing tables.now (D.legal driver.now) (Unit {0}) }
+{
+    let _tables = tables;
+    let _driver = driver;
+}
+
+/// The bodies of an accepted deployment give only acts that are served: nothing but what the check lets through, and
+/// of the methods of their own instance only those that its bean has. So in an accepted deployment no look-up fails.
+#[tactic(auto, using(crate::proofs::Serving::accepted_serves))]
+pub fn law_accepted_serves(deployment: &Deployment, bodies: &Bodies)
+    requires { problems_of deployment.now (entries_of bodies.now) ≡ [] }
+    ensures { AcceptedServes deployment.now (entries_of bodies.now) }
+{
+    let _deployment = deployment;
+    Bodies::gives_in_shape(bodies);
 }
 
 /// Worked runs of the definition: a counter that is called twice, the same call within each budget of entries, a
