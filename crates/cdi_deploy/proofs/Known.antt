@@ -6,6 +6,7 @@ use Rattle.std.specs.List.{All, list_any, position_or_len}
 use Rattle.cdi_base.specs.BuiltIn.{built_in_names}
 use Rattle.cdi_base.specs.Name.{is_name, has_room, number_of, is_known, with_name}
 use Rattle.cdi_base.specs.Reading.{◌>>=◌}
+use Rattle.cdi_json.specs.Json.{json_in}
 use Rattle.serde_json.specs.Data.{Data, Items, no_items, item}
 use Rattle.serde_json.specs.Find.{get}
 use Rattle.cdi_deploy.specs.declared.fault.ReadFault.{ReadFault}
@@ -20,7 +21,7 @@ use Rattle.cdi_deploy.specs.Limits.{is_within}
 use Rattle.cdi_deploy.specs.Names.{names_fit}
 use Rattle.cdi_deploy.specs.Numbers.{numbers_fit}
 use Rattle.cdi_deploy.specs.Parts.{text_of, list_of}
-use Rattle.cdi_deploy.specs.Reading.{root, value_in, or_shape, within_limits, deployment_of, deployment_in}
+use Rattle.cdi_deploy.specs.Reading.{or_not_json, root, or_shape, within_limits, deployment_of, deployment_in}
 use Rattle.cdi_deploy.specs.Shape.{wrong}
 
 -- what holds after each of two steps
@@ -182,9 +183,9 @@ pub deployment-knows : (bytes : List ℕ) → IfOk (deployment_in bytes) KnowsNa
 unfolding deployment_in
 deployment-knows bytes = by (nat_lt 1048576 (length bytes))
   where
-    by : (long : Bool) → IfOk (if long then Err ReadFault.TooLong else value_in bytes >>= deployment_of) KnowsNames
+    by : (long : Bool) → IfOk (if long then Err ReadFault.TooLong else or_not_json (json_in bytes) >>= deployment_of) KnowsNames
     by true = tt
-    by false = both_hold (λ d. Unit {0}) KnowsNames (value_in bytes) deployment_of (any (value_in bytes)) (λ d known. value-knows d)
+    by false = both_hold (λ d. Unit {0}) KnowsNames (or_not_json (json_in bytes)) deployment_of (any (or_not_json (json_in bytes))) (λ d known. value-knows d)
       where
         any : (r : Result Data ReadFault) → IfOk r (λ d. Unit {0})
         any (Ok d) = tt

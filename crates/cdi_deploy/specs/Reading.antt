@@ -1,9 +1,8 @@
 -- Bytes to the deployment that they are, or to their first fault.
 use Rattle.std.specs.Prelude.{ℕ, not, List, length, Option, Some, None, Result, Ok, Err, nat_lt, if◌then◌else◌}
-use Rattle.std.specs.Str.{is_utf8}
 use Rattle.cdi_base.specs.Reading.{◌>>=◌}
+use Rattle.cdi_json.specs.Json.{json_in}
 use Rattle.serde_json.specs.Data.{Data}
-use Rattle.serde_json.specs.Read as json
 use Rattle.cdi_deploy.specs.declared.fault.ReadFault.{ReadFault}
 use Rattle.cdi_deploy.specs.declared.fault.ReadFault.TheVariants as faults
 use Rattle.cdi_deploy.specs.declared.deployment.Deployment.{Deployment}
@@ -19,10 +18,6 @@ use Rattle.cdi_deploy.specs.Limits.{is_within}
 abbrev pub or_not_json : Option Data → Result Data ReadFault
 or_not_json None = Err faults.NotJson
 or_not_json (Some d) = Ok d
-
--- the JSON value of a text in UTF-8
-unfoldable pub value_in : List ℕ → Result Data ReadFault
-value_in bytes = if is_utf8 bytes then or_not_json (json.read bytes) else Err faults.NotJson
 
 abbrev pub root : Part
 root = parts.Object kinds.Deployment
@@ -43,4 +38,4 @@ deployment_of d =
 
 -- the deployment that bytes are, or their first fault: more than 1,048,576 are not looked at
 unfoldable pub deployment_in : List ℕ → Result Deployment ReadFault
-deployment_in bytes = if nat_lt 1048576 (length bytes) then Err faults.TooLong else value_in bytes >>= deployment_of
+deployment_in bytes = if nat_lt 1048576 (length bytes) then Err faults.TooLong else or_not_json (json_in bytes) >>= deployment_of

@@ -13,6 +13,7 @@ use crate::names::names_fit;
 use crate::numbers::numbers_fit;
 use crate::shape::wrong;
 use cdi_base::ReadError;
+use cdi_json::read_json;
 use serde_json::Value as Json;
 use std::alloc::Global;
 
@@ -21,23 +22,6 @@ pub const MAX_BYTES: usize = 1_048_576;
 
 /// What stands at the root.
 const ROOT: Part = Part::Object(Kind::Deployment);
-
-#[tactic(auto, unfolding(crate::specs::Reading::value_in))]
-fn value_in(alloc: Global, bytes: &[u8]) -> Result<Json, ReadError<ReadFault>>
-    ensures { Gives view result (spec.value_in bytes.now) }
-{
-    let Ok(text) = std::str::from_utf8(bytes) else {
-        return Err(ReadError::Fault(ReadFault::NotJson));
-    };
-    match Json::from_str(alloc, text) {
-        Ok(value) => Ok(value),
-        Err(error) => if error.is_memory() {
-            Err(ReadError::Memory)
-        } else {
-            Err(ReadError::Fault(ReadFault::NotJson))
-        },
-    }
-}
 
 #[tactic(auto, unfolding(crate::specs::Reading::deployment_of))]
 fn deployment_of(alloc: Global, value: &Json) -> Result<Deployment, ReadError<ReadFault>>
@@ -68,6 +52,8 @@ pub fn read(alloc: Global, bytes: &[u8]) -> Result<Deployment, ReadError<ReadFau
     if bytes.len() > MAX_BYTES {
         return Err(ReadError::Fault(ReadFault::TooLong));
     }
-    let value = value_in(alloc, bytes)?;
+    let Some(value) = read_json(alloc, bytes)? else {
+        return Err(ReadError::Fault(ReadFault::NotJson));
+    };
     deployment_of(alloc, &value)
 }

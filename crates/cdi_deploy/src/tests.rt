@@ -104,7 +104,7 @@ fn looks_at_the_root(rt: HostRuntime) -> Result<(), Fail> {
     )
 }
 
-// Classes, beans and fields.
+// Classes.
 #[test]
 fn looks_at_classes(rt: HostRuntime) -> Result<(), Fail> {
     compare(
@@ -118,6 +118,17 @@ fn looks_at_classes(rt: HostRuntime) -> Result<(), Fail> {
             ),
             (r#"{"classes":[{"name":1},{}]}"#, "Shape /classes/0/name"),
             (r#"{"classes":[{"name":null}]}"#, "Shape /classes/0/name"),
+        ],
+    )
+}
+
+// Beans.
+#[test]
+fn looks_at_beans(rt: HostRuntime) -> Result<(), Fail> {
+    compare(
+        &rt,
+        rt.alloc(),
+        &[
             (
                 r#"{"classes":[{"name":"K","bean":null}]}"#,
                 "Shape /classes/0/bean",
@@ -142,6 +153,17 @@ fn looks_at_classes(rt: HostRuntime) -> Result<(), Fail> {
                 r#"{"classes":[{"name":"K","bean":{"scope":"Dependent"}}]}"#,
                 "ok",
             ),
+        ],
+    )
+}
+
+// Fields.
+#[test]
+fn looks_at_fields(rt: HostRuntime) -> Result<(), Fail> {
+    compare(
+        &rt,
+        rt.alloc(),
+        &[
             (
                 r#"{"classes":[{"name":"K","fields":[{"value":1}]}]}"#,
                 "Shape /classes/0/fields/0",

@@ -2,6 +2,7 @@
 use Rattle.std.specs.Prelude.{ℕ, List, [], ◌∷◌, codes, nat_le, Option, Some, None, Result, Ok, Err, false, if◌then◌else◌}
 use Rattle.cdi_base.specs.Name.{is_name, has_room, number_of, with_name}
 use Rattle.cdi_base.specs.Reading.{◌>>=◌}
+use Rattle.cdi_json.specs.Json.{is_word}
 use Rattle.serde_json.specs.Data.{Num, unsigned, negative, float, Data, null, boolean, number, string, array, object, Items, no_items, item}
 use Rattle.serde_json.specs.Events.{items_len}
 use Rattle.serde_json.specs.Find.{as_i64}
@@ -10,7 +11,7 @@ use Rattle.cdi_script.specs.declared.fault.ScriptFault.TheVariants.{BadStep, Too
 use Rattle.cdi_script.specs.declared.step.Action.{Action}
 use Rattle.cdi_script.specs.declared.step.Action.TheVariants.{Set, Own, Give}
 use Rattle.cdi_script.specs.declared.step.Step.{Step}
-use Rattle.cdi_script.specs.Form.{is_word, all_items, is_step}
+use Rattle.cdi_script.specs.Form.{all_items, is_step}
 use Rattle.cdi_script.specs.Term as terms
 
 abbrev pub Reads : Type 0 → Type 0

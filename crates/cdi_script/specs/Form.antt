@@ -1,14 +1,10 @@
 -- Which values are scripts.
-use Rattle.std.specs.Prelude.{ℕ, List, Bool, true, false, ◌&&◌, codes, bytes_eq, nat_le, is_some, if◌then◌else◌}
+use Rattle.std.specs.Prelude.{Bool, true, false, ◌&&◌, codes, nat_le, is_some, if◌then◌else◌}
 use Rattle.cdi_base.specs.Name.{is_name}
+use Rattle.cdi_json.specs.Json.{is_word}
 use Rattle.serde_json.specs.Data.{Num, unsigned, negative, float, Data, null, boolean, number, string, array, object, Items, no_items, item}
 use Rattle.serde_json.specs.Events.{items_len}
 use Rattle.serde_json.specs.Find.{as_i64}
-
--- the value is this text
-abbrev pub is_word : Data → List ℕ → Bool
-is_word (string text) word = bytes_eq text word
-is_word _ word = false
 
 abbrev pub is_named : Data → Bool
 is_named (string text) = is_name text

@@ -7,9 +7,9 @@ ghost use Rattle.cdi_script.specs.Build as spec;
 
 use crate::expression::{Expression, Node};
 use crate::fault::ScriptFault;
-use crate::form::is_word;
 use crate::step::{Action, Step};
 use cdi_base::{InternError, Name, Names, ReadError, Seq, Text, is_name};
+use cdi_json::is_word;
 use serde_json::Value as Json;
 use std::alloc::Global;
 

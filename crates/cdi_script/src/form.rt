@@ -4,20 +4,11 @@ ghost use Rattle.serde_json.specs.View.{view, items_view};
 ghost use Rattle.cdi_script.specs.Form as spec;
 
 use cdi_base::is_name;
+use cdi_json::is_word;
 use serde_json::Value as Json;
 
 /// The most that a parameter or an answer is counted to.
 const MAX_COUNT: u64 = 65_535;
-
-/// Whether a value is this text.
-pub(crate) fn is_word(value: &Json, word: &str) -> bool
-    ensures { result ≡ spec.is_word (view value.now) word.now }
-{
-    match value {
-        Json::String(text) => text.as_str() == word,
-        _ => false,
-    }
-}
 
 fn is_named(value: &Json) -> bool
     ensures { result ≡ spec.is_named (view value.now) }

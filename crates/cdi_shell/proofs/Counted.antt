@@ -3,6 +3,7 @@ use Rattle.std.proofs.Common.{◌≡◌, ℕ, ◌+◌, ◌≤◌, nat_lt, nat_le
 use Rattle.std.specs.List.{list_all}
 use Rattle.cdi_base.specs.Reading.{◌>>=◌}
 use Rattle.serde_json.specs.Data.{Data}
+use Rattle.cdi_json.specs.Json.{json_in}
 use Rattle.cdi_deploy.specs.declared.fault.ReadFault.{ReadFault}
 use Rattle.cdi_deploy.specs.declared.deployment.Deployment.{Deployment}
 use Rattle.cdi_deploy.specs.declared.deployment.Script.{Script as Declared}
@@ -10,7 +11,7 @@ use Rattle.cdi_deploy.specs.Items.{lists_of}
 use Rattle.cdi_deploy.specs.Limits.{is_class_within}
 use Rattle.cdi_deploy.specs.Names.{names_fit}
 use Rattle.cdi_deploy.specs.Numbers.{numbers_fit}
-use Rattle.cdi_deploy.specs.Reading.{root, value_in, or_shape, within_limits, deployment_of, deployment_in}
+use Rattle.cdi_deploy.specs.Reading.{or_not_json, root, or_shape, within_limits, deployment_of, deployment_in}
 use Rattle.cdi_deploy.specs.Shape.{wrong}
 use Rattle.cdi_script.specs.declared.fault.ScriptFault.{ScriptFault}
 use Rattle.cdi_script.specs.declared.step.Step.{Step}
@@ -49,9 +50,9 @@ pub deployment-few : (bytes : List ℕ) → IfOk (deployment_in bytes) (λ d. le
 unfolding deployment_in
 deployment-few bytes = by (nat_lt 1048576 (length bytes))
   where
-    by : (long : Bool) → IfOk (if long then Err ReadFault.TooLong else value_in bytes >>= deployment_of) (λ d. length d.scripts ≤ 1024)
+    by : (long : Bool) → IfOk (if long then Err ReadFault.TooLong else or_not_json (json_in bytes) >>= deployment_of) (λ d. length d.scripts ≤ 1024)
     by true = tt
-    by false = after (λ d. length d.scripts ≤ 1024) (value_in bytes) deployment_of value-few
+    by false = after (λ d. length d.scripts ≤ 1024) (or_not_json (json_in bytes)) deployment_of value-few
 
 -- as many scripts are read as are declared
 after-count : (ds : List Declared) (done : List NamedScript) (names : List (List ℕ)) → IfOk (scripts_after done names ds) (λ read. length read.0 ≡ length done + length ds)

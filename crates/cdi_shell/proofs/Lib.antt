@@ -4,6 +4,7 @@ pub mod Holding
 pub mod Lengths
 pub mod Lines
 pub mod Mapped
+pub mod Missing
 pub mod NoFloats
 pub mod OneOutput
 pub mod Playing

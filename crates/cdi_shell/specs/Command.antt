@@ -1,6 +1,5 @@
 -- The command that a line is.
-use Rattle.std.specs.Prelude.{ℕ, List, [], ◌∷◌, codes, bytes_eq, Bool, false, Option, Some, None, Result, Ok, Err, if◌then◌else◌}
-use Rattle.std.specs.Str.{is_utf8}
+use Rattle.std.specs.Prelude.{ℕ, List, [], ◌∷◌, codes, Option, Some, None, Result, Ok, Err, if◌then◌else◌}
 use Rattle.cdi_base.specs.Name.{is_name}
 use Rattle.cdi_base.specs.Reading.{◌>>=◌}
 use Rattle.cdi_base.specs.declared.command.Command.{Command}
@@ -8,9 +7,9 @@ use Rattle.cdi_base.specs.declared.command.Command.TheVariants.{Call, Shutdown}
 use Rattle.cdi_base.specs.declared.uses.WrittenUse.{WrittenUse}
 use Rattle.cdi_base.specs.declared.value.Value.{Value}
 use Rattle.cdi_base.specs.declared.value.Value.TheVariants as values
+use Rattle.cdi_json.specs.Json.{is_word, json_in}
 use Rattle.serde_json.specs.Data.{Data, null, number, string, array, Items, no_items, item}
 use Rattle.serde_json.specs.Find.{as_i64}
-use Rattle.serde_json.specs.Read as json
 use Rattle.cdi_shell.specs.declared.command.BadLine.{BadLine}
 
 abbrev pub Reads : Type 0 → Type 0
@@ -22,11 +21,6 @@ bad = Err (record {})
 abbrev pub or_bad : {X : Type 0} → Option X → Reads X
 or_bad (Some x) = Ok x
 or_bad None = bad
-
--- the value is this text
-abbrev pub is_word : Data → List ℕ → Bool
-is_word (string text) word = bytes_eq text word
-is_word _ word = false
 
 -- a text that is a name
 abbrev pub name_of : Data → Reads (List ℕ)
@@ -90,10 +84,6 @@ abbrev pub command_of : Data → Reads Command
 command_of (array (item word ds)) = command_named word ds
 command_of _ = bad
 
--- the JSON value of a text in UTF-8
-unfoldable pub value_in : List ℕ → Reads Data
-value_in bytes = if is_utf8 bytes then or_bad (json.read bytes) else bad
-
 -- the command that the bytes of a line are
 unfoldable pub command_in : List ℕ → Reads Command
-command_in bytes = value_in bytes >>= command_of
+command_in bytes = or_bad (json_in bytes) >>= command_of

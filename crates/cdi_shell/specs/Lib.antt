@@ -6,6 +6,7 @@ pub mod Ends
 pub mod Known
 pub mod Laws
 pub mod Lines
+pub mod Missing
 pub mod Places
 pub mod Prepared
 pub mod RefusalText

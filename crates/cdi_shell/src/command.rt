@@ -5,6 +5,7 @@ ghost use Rattle.serde_json.specs.View.{view, items_view};
 ghost use Rattle.cdi_shell.specs.Command as spec;
 
 use cdi_base::{Command, ReadError, Seq, Text, Value, WrittenUse, is_name};
+use cdi_json::{is_word, read_json};
 use serde_json::Value as Json;
 use std::alloc::Global;
 use thiserror::Error;
@@ -18,15 +19,6 @@ fn bad<T>() -> Result<T, ReadError<BadLine>>
     ensures { result ≡ Err (ReadError.Fault (record {})) }
 {
     Err(ReadError::Fault(BadLine))
-}
-
-fn is_word(value: &Json, word: &str) -> bool
-    ensures { result ≡ spec.is_word (view value.now) word.now }
-{
-    match value {
-        Json::String(text) => text.as_str() == word,
-        _ => false,
-    }
 }
 
 fn name_of(alloc: Global, value: &Json) -> Result<Text, ReadError<BadLine>>
@@ -167,23 +159,6 @@ fn command_of(alloc: Global, value: &Json) -> Result<Command, ReadError<BadLine>
     }
 }
 
-#[tactic(auto, unfolding(crate::specs::Command::value_in))]
-fn value_in(alloc: Global, bytes: &[u8]) -> Result<Json, ReadError<BadLine>>
-    ensures { Gives view result (spec.value_in bytes.now) }
-{
-    let Ok(text) = std::str::from_utf8(bytes) else {
-        return bad();
-    };
-    match Json::from_str(alloc, text) {
-        Ok(value) => Ok(value),
-        Err(error) => if error.is_memory() {
-            Err(ReadError::Memory)
-        } else {
-            bad()
-        },
-    }
-}
-
 /// Reads the command that a line is. The line is one JSON array with JSON white space round it, if any:
 ///
 /// - `["call",R,type,[],method,args]` calls a method. R is null or the name of a request. The type and the method are
@@ -197,6 +172,8 @@ fn value_in(alloc: Global, bytes: &[u8]) -> Result<Json, ReadError<BadLine>>
 pub fn read_command(alloc: Global, line: &[u8]) -> Result<Command, ReadError<BadLine>>
     ensures { Gives (λ c. c) result (spec.command_in line.now) }
 {
-    let value = value_in(alloc, line)?;
+    let Some(value) = read_json(alloc, line)? else {
+        return bad();
+    };
     command_of(alloc, &value)
 }

@@ -4,17 +4,17 @@ use Rattle.std.proofs.lemmas.Str.{IsUtf8-from_is_utf8, is_utf8-from_IsUtf8}
 use Rattle.std.specs.Str.{is_utf8}
 use Rattle.serde_json.specs.Read.{read}
 use Rattle.serde_json.specs.View.{view}
-use Rattle.cdi_shell.specs.Command.{value_in}
-use Rattle.cdi_shell.proofs.command.value_in.Goals as goal
+use Rattle.cdi_json.specs.Json.{json_in}
+use Rattle.cdi_json.proofs.read_json.Goals as goal
 
 pub returns-in_default : goal.returns-in_default
-unfolding value_in
+unfolding json_in
 returns-in_default c =
-    let invalid : is_utf8 c.args.bytes.now ≡ false = false_from_ne_true _ (λ e. c.in_default.ensures.cases.0 (IsUtf8-from_is_utf8 _ e)) in
-    rw (invalid, c.bad.ensures) refl
+    let bad : is_utf8 c.args.bytes.now ≡ false = false_from_ne_true _ (λ e. c.in_default.ensures.cases.0 (IsUtf8-from_is_utf8 _ e)) in
+    rw bad refl
 
 pub returns-in-Ok-from_str : goal.returns-in-Ok-from_str
-unfolding value_in
+unfolding json_in
 returns-in-Ok-from_str c =
     let good : is_utf8 c.args.bytes.now ≡ true = is_utf8-from_IsUtf8 _ c.in-Ok.ensures.cases.1 in
     let found : read c.args.bytes.now ≡ Some (view c.in-Ok-from_str.value) = ap read (sym c.in-Ok.ensures.cases.0) ∙ c.in-Ok-from_str.ensures.ok in
