@@ -41,10 +41,9 @@ pub fn law_widens<D: Driver, E: Driver>(tables: &Tables, driver: &D, wider: &E)
     let _wider = wider;
 }
 
-/// No look-up fails: where the bodies give only acts that are served, a command that isn't refused never comes to a
-/// point at which a bean, a method, an instance or what is held for a bean isn't there. So no exception in a trace
-/// tells a fault of the machine. That holds of every command, in every world that commands lead to, and also where
-/// memory runs out on the way.
+/// No look-up fails: where the bodies give only acts that are served, a command never comes to a point at which a bean,
+/// a method, an instance or what is held for a bean isn't there, if the bean that it calls has the method. That holds in
+/// every world that commands lead to which aren't cut, and also where memory runs out on the way.
 #[tactic(auto, using(crate::proofs::Missing::misses_nothing))]
 pub fn law_nothing_missing<D: Driver>(tables: &Tables, driver: &D)
     ensures with_memory { MissesNothing tables.now (D.legal driver.now) ⊥ }
@@ -54,8 +53,8 @@ pub fn law_nothing_missing<D: Driver>(tables: &Tables, driver: &D)
     let _driver = driver;
 }
 
-/// The bodies of an accepted deployment give only acts that are served: nothing but what the check lets through, and
-/// of the methods of their own instance only those that its bean has. So in an accepted deployment no look-up fails.
+/// The bodies of an accepted deployment give only acts that are served, and so what `law_nothing_missing` asks of them: of
+/// the methods of its own instance a body calls only those that its bean has.
 #[tactic(auto, using(crate::proofs::Serving::accepted_serves))]
 pub fn law_accepted_serves(deployment: &Deployment, bodies: &Bodies)
     requires { problems_of deployment.now (entries_of bodies.now) ≡ [] }

@@ -65,6 +65,7 @@ module _ (tables : Tables) where
   requested_admits classes (commands.Call None type [] method args) c e = called_admits classes (number_of tables.names type) (number_of tables.names method) args c e
   requested_admits classes (commands.Call None type (one ∷ more) method args) c e = absurd (cc)
   requested_admits classes commands.Shutdown c e = let q : calls.Shutdown ≡ c = cc in subst (λ call. IsAdmitted tables call) q tt
+  requested_admits classes _ c e = absurd (cc)
 
   pub asked_admits : (classes : List ℕ) (s : State) (command : Command) (c : Call) → asked tables classes s command ≡ requests.Runs c → IsAdmitted tables c
   asked_admits classes s command c e = by (is_some s.halted) s.world.down e

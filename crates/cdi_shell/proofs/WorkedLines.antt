@@ -2,7 +2,7 @@
 use Rattle.std.proofs.Common.{refl}
 use Rattle.std.specs.Fmt.{digits}
 use Rattle.json.specs.Print.{escape_byte}
-use Rattle.cdi_shell.specs.WorkedLines.{Replied, RefusedBy, Split, Asked, WorkedLines}
+use Rattle.cdi_shell.specs.WorkedLines.{WorkedLines}
 
 pub worked_lines : WorkedLines
 unfolding escape_byte digits

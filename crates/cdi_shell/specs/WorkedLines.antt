@@ -1,6 +1,5 @@
 -- Worked lines: what is read and written for the counter.
-use Rattle.std.specs.Prelude.{ℕ, ℤ, pos, ◌≡◌, List, [], ◌∷◌, codes, Some, None, Ok, Err}
-use Rattle.cdi_base.specs.declared.command.Command.TheVariants as commands
+use Rattle.std.specs.Prelude.{ℕ, pos, ◌≡◌, List, [], ◌∷◌, codes, Some, None}
 use Rattle.cdi_base.specs.declared.place.Place.TheVariants as places
 use Rattle.cdi_base.specs.declared.reply.Cause.TheVariants as causes
 use Rattle.cdi_base.specs.declared.reply.Refusal.TheVariants as refusals
