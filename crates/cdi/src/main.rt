@@ -10,11 +10,13 @@ mod options;
 #[cfg(test)]
 mod refused_tests;
 #[cfg(test)]
+mod stream_tests;
+#[cfg(test)]
 mod test_runs;
 
 use cdi_base::Limits;
+use cdi_lines::{Input, Output};
 use cdi_shell::drive::drive;
-use cdi_shell::{Input, Output};
 use clap::error::ErrorKind;
 use std::alloc::Global;
 use std::process::ExitCode;

@@ -1,7 +1,7 @@
 //! Deployments, lines and runs for the tests of the program.
 use cdi_base::Limits;
+use cdi_lines::{Input, Output};
 use cdi_shell::drive::drive;
-use cdi_shell::{Input, Output};
 use std::alloc::Global;
 use std::io::{Read, Write};
 use std::process::Abort;

@@ -1,5 +1,5 @@
 -- Places in a list of texts, and entries of a map.
-use Rattle.std.proofs.Common.{◌≡◌, ℕ, zero, suc, ◌+◌, ◌<◌, ◌≤◌, Bool, true, false, cond, not, ◌||◌, List, [], ◌∷◌, ◌++◌, length, map, get_or, slice_get, position, Option, Some, None, nat_eq, refl, sym, ap, ◌∙◌, arith}
+use Rattle.std.proofs.Common.{◌≡◌, ℕ, zero, suc, ◌+◌, ◌<◌, ◌≤◌, Bool, true, false, cond, not, ◌||◌, List, [], ◌∷◌, ◌++◌, length, map, get_or, slice_get, position, Option, Some, None, nat_eq, refl, sym, ap, ◌∙◌, append_assoc, append-nil, arith}
 use Rattle.std.proofs.lemmas.List.{length-map}
 use Rattle.std.proofs.lemmas.List.Sums.{position_or_len_is, prefix_len-le-length}
 use Rattle.std.proofs.lemmas.Map.Keys.{apart_from_distinct}
@@ -14,6 +14,7 @@ use Rattle.indexmap.specs.Layout.{set_value_at}
 use Rattle.cdi_base.specs.declared.value.Value.{Value}
 use Rattle.cdi_base.specs.declared.value.Value.TheVariants.{Null}
 use Rattle.cdi_base.specs.Fields.{get, put, set}
+use Rattle.cdi_base.specs.Name.{Extends, is_known, with_name}
 
 module _ {X Y : Type 0} (p : Y → Bool) (f : X → Y) where
   pub position_or_len-map : (xs : List X) → position_or_len p (map f xs) ≡ position_or_len (λ x. p (f x)) xs
@@ -86,3 +87,16 @@ past_all p xs h = by (nat_lt (position_or_len p xs) (length xs)) refl h
     by : (b : Bool) → nat_lt (position_or_len p xs) (length xs) ≡ b → None ≡ cond b (Some (position_or_len p xs)) None → length xs ≡ position_or_len p xs
     by true e h = absurd cc
     by false e h = omega (arith, within, not_below e)
+
+pub stays : (names : List (List ℕ)) → Extends names names
+stays names = record { more = []; is = sym (append-nil names) }
+
+pub joins : {before between after : List (List ℕ)} → Extends before between → Extends between after → Extends before after
+joins {before} first second = record { more = first.more ++ second.more; is = second.is ∙ ap (λ ns. ns ++ second.more) first.is ∙ append_assoc before first.more second.more }
+
+pub with_one : (names : List (List ℕ)) (text : List ℕ) → Extends names (with_name names text)
+with_one names text = by (is_known names text)
+  where
+    by : (known : Bool) → Extends names (cond known names (names ++ text ∷ []))
+    by true = stays names
+    by false = record { more = text ∷ []; is = refl }

@@ -61,7 +61,7 @@ pub fn law_accepted_serves(deployment: &Deployment, bodies: &Bodies)
     ensures { AcceptedServes deployment.now (entries_of bodies.now) }
 {
     let _deployment = deployment;
-    Bodies::gives_in_shape(bodies);
+    let _bodies = bodies;
 }
 
 /// Worked runs of the definition: a counter that is called twice, the same call within each budget of entries, a

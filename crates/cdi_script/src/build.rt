@@ -1,5 +1,6 @@
 //! Steps and expressions, read from JSON.
 ghost use Rattle.std.specs.Prelude.{◌≡◌, ℕ, List, length, Err, IfOk};
+ghost use Rattle.cdi_base.specs.Name.{Extends};
 ghost use Rattle.cdi_base.specs.Reading.{Gives};
 ghost use Rattle.serde_json.specs.Data.{Data};
 ghost use Rattle.serde_json.specs.View.{view, items_view};
@@ -19,7 +20,8 @@ pub(crate) trait Item: Sized + Drop {
 
     /// The item that a value is.
     fn read(alloc: Global, names: &mut Names, value: &Json) -> Result<Self, ReadError<ScriptFault>>
-        ensures { Gives (λ x. (x, names.new)) result (form names.old (view value.now)) };
+        ensures gives { Gives (λ x. (x, names.new)) result (form names.old (view value.now)) }
+        ensures kept { Extends names.old names.new };
 }
 
 /// The fault of a value that is no step.
@@ -31,7 +33,8 @@ pub(crate) fn bad<T>() -> Result<T, ReadError<ScriptFault>>
 
 #[tactic(auto, unfolding(crate::specs::Build::named))]
 fn named(names: &mut Names, text: &str) -> Result<Name, ReadError<ScriptFault>>
-    ensures { Gives (λ name. (name, names.new)) result (spec.named names.old text.now) }
+    ensures gives { Gives (λ name. (name, names.new)) result (spec.named names.old text.now) }
+    ensures kept { Extends names.old names.new }
 {
     if !is_name(text) {
         return bad();
@@ -44,7 +47,8 @@ fn named(names: &mut Names, text: &str) -> Result<Name, ReadError<ScriptFault>>
 }
 
 fn name_of(names: &mut Names, value: &Json) -> Result<Name, ReadError<ScriptFault>>
-    ensures { Gives (λ name. (name, names.new)) result (spec.name_of names.old (view value.now)) }
+    ensures gives { Gives (λ name. (name, names.new)) result (spec.name_of names.old (view value.now)) }
+    ensures kept { Extends names.old names.new }
 {
     match value {
         Json::String(text) => named(names, text.as_str()),
@@ -68,7 +72,8 @@ fn count_of(value: &Json) -> Option<u32>
 }
 
 fn field_of(names: &mut Names, value: &Json) -> Result<Expression, ReadError<ScriptFault>>
-    ensures { Gives (λ x. (x, names.new)) result (spec.field_of names.old (view value.now)) }
+    ensures gives { Gives (λ x. (x, names.new)) result (spec.field_of names.old (view value.now)) }
+    ensures kept { Extends names.old names.new }
 {
     let name = name_of(names, value)?;
     Ok(Expression {
@@ -82,7 +87,8 @@ fn pair_of(
     word: &Json,
     value: &Json,
 ) -> Result<Expression, ReadError<ScriptFault>>
-    ensures { Gives (λ x. (x, names.new)) result (spec.pair_of names.old (view word.now) (view value.now)) }
+    ensures gives { Gives (λ x. (x, names.new)) result (spec.pair_of names.old (view word.now) (view value.now)) }
+    ensures kept { Extends names.old names.new }
 {
     if is_word(word, "field") {
         return field_of(names, value);
@@ -111,7 +117,8 @@ fn expression_of(
     names: &mut Names,
     value: &Json,
 ) -> Result<Expression, ReadError<ScriptFault>>
-    ensures { Gives (λ x. (x, names.new)) result (spec.expression_of names.old (view value.now)) }
+    ensures gives { Gives (λ x. (x, names.new)) result (spec.expression_of names.old (view value.now)) }
+    ensures kept { Extends names.old names.new }
 {
     match value {
         Json::Null => Ok(Expression { node: Node::Null }),
@@ -167,6 +174,7 @@ pub(crate) fn each<T: Item>(
     items: &[Json],
 ) -> Result<Seq<T>, ReadError<ScriptFault>>
     ensures gives { Gives (λ xs. (xs, names.new)) result (spec.each T.form names.old (items_view items.now)) }
+    ensures kept { Extends names.old names.new }
     ensures count { IfOk result (λ xs. length xs ≡ length items.now) }
 {
     let mut read = Vec::new(alloc);
@@ -201,7 +209,8 @@ fn set_of(
     first: &Json,
     second: &Json,
 ) -> Result<Step, ReadError<ScriptFault>>
-    ensures { Gives (λ x. (x, names.new)) result (spec.set_of names.old (view first.now) (view second.now)) }
+    ensures gives { Gives (λ x. (x, names.new)) result (spec.set_of names.old (view first.now) (view second.now)) }
+    ensures kept { Extends names.old names.new }
 {
     let field = name_of(names, first)?;
     let value = expression_of(alloc, names, second)?;
@@ -215,7 +224,8 @@ fn own_of(
     first: &Json,
     second: &Json,
 ) -> Result<Step, ReadError<ScriptFault>>
-    ensures { Gives (λ x. (x, names.new)) result (spec.own_of names.old (view first.now) (view second.now)) }
+    ensures gives { Gives (λ x. (x, names.new)) result (spec.own_of names.old (view first.now) (view second.now)) }
+    ensures kept { Extends names.old names.new }
 {
     let method = name_of(names, first)?;
     let args = each::<Expression>(alloc, names, items_in(second))?;
@@ -224,7 +234,8 @@ fn own_of(
 
 #[tactic(auto, unfolding(crate::specs::Build::give_of))]
 fn give_of(alloc: Global, names: &mut Names, value: &Json) -> Result<Step, ReadError<ScriptFault>>
-    ensures { Gives (λ x. (x, names.new)) result (spec.give_of names.old (view value.now)) }
+    ensures gives { Gives (λ x. (x, names.new)) result (spec.give_of names.old (view value.now)) }
+    ensures kept { Extends names.old names.new }
 {
     let value = expression_of(alloc, names, value)?;
     Ok(plain(Action::Give { value }))
@@ -238,7 +249,8 @@ fn step_of_three(
     first: &Json,
     second: &Json,
 ) -> Result<Step, ReadError<ScriptFault>>
-    ensures { Gives (λ x. (x, names.new)) result (spec.step_of_three names.old (view word.now) (view first.now) (view second.now)) }
+    ensures gives { Gives (λ x. (x, names.new)) result (spec.step_of_three names.old (view word.now) (view first.now) (view second.now)) }
+    ensures kept { Extends names.old names.new }
 {
     if is_word(word, "set") {
         return set_of(alloc, names, first, second);
@@ -250,7 +262,8 @@ fn step_of_three(
 }
 
 fn step_in(alloc: Global, names: &mut Names, items: &[Json]) -> Result<Step, ReadError<ScriptFault>>
-    ensures { Gives (λ x. (x, names.new)) result (spec.step_in names.old (items_view items.now)) }
+    ensures gives { Gives (λ x. (x, names.new)) result (spec.step_in names.old (items_view items.now)) }
+    ensures kept { Extends names.old names.new }
 {
     match items {
         [] => bad(),

@@ -1,5 +1,6 @@
 //! Scripts, and reading them.
 ghost use Rattle.std.specs.Prelude.{◌≡◌, ◌≤◌, ◌↔◌, [], length, false, IsTrue, IfOk};
+ghost use Rattle.cdi_base.specs.Name.{Extends};
 ghost use Rattle.cdi_base.specs.Reading.{Gives};
 ghost use Rattle.serde_json.specs.Data.{array};
 ghost use Rattle.serde_json.specs.View.{view, items_view};
@@ -48,6 +49,7 @@ fn steps_of(
     ensures gives { Gives (λ steps. (steps, names.new)) result (spec.steps_of names.old (items_view items.now)) }
     ensures within { IfOk result (λ steps. length steps ≤ MAX_STEPS) }
     ensures refused { is_script (array (items_view items.now)) ≡ false → names.new ≡ names.old }
+    ensures kept { Extends names.old names.new }
 {
     if !are_steps(items) {
         return bad();
@@ -61,7 +63,7 @@ fn steps_of(
 impl Script {
     /// The script that a value is: an array of at most [`MAX_STEPS`] steps. Its names go into the table. A value that
     /// is no script, or one that is too long, leaves the table as it was; where the table is full or memory runs out,
-    /// the table may have got some names of the script.
+    /// the table may have got some names of the script. The names that were in it keep their numbers.
     pub fn read(
         alloc: Global,
         value: &Json,
@@ -69,6 +71,7 @@ impl Script {
     ) -> Result<Script, ReadError<ScriptFault>>
         ensures gives { Gives (λ script. (script, names.new)) result (spec.script_of names.old (view value.now)) }
         ensures refused { is_script (view value.now) ≡ false → names.new ≡ names.old }
+        ensures kept { Extends names.old names.new }
     {
         let Json::Array(items) = value else {
             return bad();

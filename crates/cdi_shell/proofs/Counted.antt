@@ -18,7 +18,7 @@ use Rattle.cdi_script.specs.declared.step.Step.{Step}
 use Rattle.cdi_script.specs.Build.{script_of}
 use Rattle.cdi_shell.specs.declared.scripts.BadScript.{BadScript}
 use Rattle.cdi_shell.specs.declared.scripts.NamedScript.{NamedScript}
-use Rattle.cdi_shell.specs.Places.{name_text}
+use Rattle.cdi_text.specs.Places.{name_text}
 use Rattle.cdi_shell.specs.Scripts.{told, scripts_after, scripts_in}
 
 -- what holds after each of two steps

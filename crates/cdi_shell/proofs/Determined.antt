@@ -14,12 +14,12 @@ use Rattle.cdi_plain.specs.Machine.{machine}
 use Rattle.cdi_plain.specs.Runs.{Legal}
 use Rattle.cdi_plain.specs.World.{World, begun}
 use Rattle.cdi_plain.proofs.Schedule.{one_schedule}
-use Rattle.cdi_shell.specs.declared.command.BadLine.{BadLine}
+use Rattle.cdi_text.specs.declared.command.BadLine.{BadLine}
 use Rattle.cdi_shell.specs.declared.request.Request.{Request}
 use Rattle.cdi_shell.specs.declared.request.Request.TheVariants as requests
-use Rattle.cdi_shell.specs.Command.{command_in}
-use Rattle.cdi_shell.specs.ReplyText.{reply_line}
-use Rattle.cdi_shell.specs.Served.{Replies}
+use Rattle.cdi_text.specs.Command.{command_in}
+use Rattle.cdi_text.specs.ReplyText.{reply_line}
+use Rattle.cdi_lines.specs.Served.{Replies}
 use Rattle.cdi_shell.specs.Sessions.{AnswersRead, AnswersLine}
 use Rattle.cdi_shell.specs.States.{State, asked, Ends, Responds, has_value, reply_of, halted_by}
 

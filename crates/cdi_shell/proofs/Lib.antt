@@ -1,14 +1,8 @@
 pub mod Counted
 pub mod Determined
 pub mod Holding
-pub mod Lengths
-pub mod Lines
-pub mod Mapped
 pub mod Missing
-pub mod NoFloats
 pub mod OneOutput
 pub mod Playing
-pub mod Reading
 pub mod Scripted
-pub mod Served
 pub mod WorkedLines

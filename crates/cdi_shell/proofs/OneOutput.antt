@@ -16,18 +16,18 @@ use Rattle.cdi_plain.specs.Runs.{Legal}
 use Rattle.cdi_script.specs.Next.{next_of}
 use Rattle.cdi_shell.specs.declared.ending.Ending.{Ending}
 use Rattle.cdi_shell.specs.declared.ending.Ending.TheVariants as endings
-use Rattle.cdi_shell.specs.declared.fault.ServeFault.{ServeFault}
-use Rattle.cdi_shell.specs.declared.output.WriteFailed.{WriteFailed}
+use Rattle.cdi_lines.specs.declared.fault.ServeFault.{ServeFault}
+use Rattle.cdi_lines.specs.declared.output.WriteFailed.{WriteFailed}
 use Rattle.cdi_shell.specs.declared.request.Request.TheVariants as requests
 use Rattle.cdi_shell.specs.declared.scripts.NamedScript.{NamedScript}
 use Rattle.cdi_shell.specs.Drive.{Readied, Streams, Writes, Refuses, Lives, Plays, DrivesReadied, Drives, legal_by, readied}
-use Rattle.cdi_shell.specs.Ends.{WritesAll}
+use Rattle.cdi_lines.specs.Ends.{WritesAll}
 use Rattle.cdi_shell.specs.Endings.{after_serving, after_refusal}
 use Rattle.cdi_shell.specs.Laws.{IsSettled, SameOutput, OneOutput}
-use Rattle.cdi_shell.specs.Lines.{all_lines}
-use Rattle.cdi_shell.specs.ReplyText.{reply_line}
+use Rattle.cdi_lines.specs.Lines.{all_lines}
+use Rattle.cdi_text.specs.ReplyText.{reply_line}
 use Rattle.cdi_shell.specs.Scripts.{registered}
-use Rattle.cdi_shell.specs.Served.{Replies, Stands, Reads}
+use Rattle.cdi_lines.specs.Served.{Replies, Stands, Reads}
 use Rattle.cdi_shell.specs.Sessions.{AnswersLine}
 use Rattle.cdi_shell.specs.States.{State, Boots, unstarted}
 use Rattle.cdi_shell.proofs.Determined.{IsFed, responds_one, replies_one, replies_halted}

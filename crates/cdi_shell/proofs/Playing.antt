@@ -8,15 +8,15 @@ use Rattle.cdi_plain.specs.Check.{problems_of}
 use Rattle.cdi_plain.specs.Registered.{legal_of}
 use Rattle.cdi_shell.specs.declared.container.Container.{Container}
 use Rattle.cdi_shell.specs.declared.ending.Ending.{Ending}
-use Rattle.cdi_shell.specs.declared.fault.ServeFault.{ServeFault}
+use Rattle.cdi_lines.specs.declared.fault.ServeFault.{ServeFault}
 use Rattle.cdi_shell.specs.Containers.{state_of, legal_in, SameParts, IsBooted}
 use Rattle.cdi_shell.specs.Drive.{Streams, Plays, IsServed}
 use Rattle.cdi_shell.specs.Endings.{after_serving}
-use Rattle.cdi_shell.specs.ReplyText.{reply_line}
-use Rattle.cdi_shell.specs.Served.{Serves}
+use Rattle.cdi_text.specs.ReplyText.{reply_line}
+use Rattle.cdi_lines.specs.Served.{Serves}
 use Rattle.cdi_shell.specs.Sessions.{AnswersLine, Answers, Served}
 use Rattle.cdi_shell.specs.States.{State}
-use Rattle.cdi_shell.proofs.Mapped.{serves}
+use Rattle.cdi_lines.proofs.Mapped.{serves}
 
 module _ {X : Type 0} {F : X → Type 0} {g : _} where
   same_parts : (a b c : Container X F g) → SameParts a b → SameParts b c → SameParts a c

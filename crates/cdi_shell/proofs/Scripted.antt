@@ -28,20 +28,20 @@ use Rattle.cdi_plain.specs.Runs.{Legal}
 use Rattle.cdi_plain.specs.World.{World}
 use Rattle.cdi_plain.specs.WrongBodies.{shape_of, is_wrong, problem_at, has_wrong_body, wrong_in, wrong_of_kind, wrong_with}
 use Rattle.cdi_plain.proofs.Wider.{wider}
-use Rattle.cdi_shell.specs.declared.command.BadLine.{BadLine}
+use Rattle.cdi_text.specs.declared.command.BadLine.{BadLine}
 use Rattle.cdi_base.specs.declared.command.Command.{Command}
 use Rattle.std.specs.Prelude.{Result, Ok, Err}
 use Rattle.cdi_shell.specs.declared.ending.Ending.{Ending}
 use Rattle.cdi_shell.specs.declared.request.Request.{Request}
 use Rattle.cdi_shell.specs.declared.request.Request.TheVariants as requests
 use Rattle.cdi_shell.specs.declared.scripts.NamedScript.{NamedScript}
-use Rattle.cdi_shell.specs.Command.{command_in}
+use Rattle.cdi_text.specs.Command.{command_in}
 use Rattle.cdi_shell.specs.Drive.{Streams, Lives, Plays, PlaysScripts, place_under, shape_under, legal_by}
-use Rattle.cdi_shell.specs.ReplyText.{reply_line}
+use Rattle.cdi_text.specs.ReplyText.{reply_line}
 use Rattle.cdi_shell.specs.Sessions.{AnswersRead, AnswersLine}
 use Rattle.cdi_shell.specs.States.{State, asked, Ends, Responds, unstarted}
 use Rattle.cdi_shell.proofs.Holding.{Holds, same_place, same_shape, within}
-use Rattle.cdi_shell.proofs.Mapped.{serves}
+use Rattle.cdi_lines.proofs.Mapped.{serves}
 
 -- ---- tables and problems by what is registered under each name
 

@@ -16,17 +16,17 @@ use Rattle.cdi_script.specs.Next.{next_of}
 use Rattle.cdi_shell.specs.declared.container.Container.{Container}
 use Rattle.cdi_shell.specs.declared.ending.Ending.{Ending}
 use Rattle.cdi_shell.specs.declared.ending.Ending.TheVariants as endings
-use Rattle.cdi_shell.specs.declared.fault.ServeFault.{ServeFault}
-use Rattle.cdi_shell.specs.declared.fault.ServeFault.TheVariants as faults
-use Rattle.cdi_shell.specs.declared.output.WriteFailed.{WriteFailed}
+use Rattle.cdi_lines.specs.declared.fault.ServeFault.{ServeFault}
+use Rattle.cdi_lines.specs.declared.fault.ServeFault.TheVariants as faults
+use Rattle.cdi_lines.specs.declared.output.WriteFailed.{WriteFailed}
 use Rattle.cdi_shell.specs.declared.scripts.BadScript.{BadScript}
 use Rattle.cdi_shell.specs.declared.scripts.NamedScript.{NamedScript}
 use Rattle.cdi_shell.specs.Endings.{after_serving, after_refusal}
-use Rattle.cdi_shell.specs.Ends.{WritesAll}
+use Rattle.cdi_lines.specs.Ends.{WritesAll}
 use Rattle.cdi_shell.specs.RefusalText.{fault_line, script_line, problem_lines}
-use Rattle.cdi_shell.specs.ReplyText.{reply_line}
+use Rattle.cdi_text.specs.ReplyText.{reply_line}
 use Rattle.cdi_shell.specs.Scripts.{is_named, registered, scripts_in}
-use Rattle.cdi_shell.specs.Served.{Serves}
+use Rattle.cdi_lines.specs.Served.{Serves}
 use Rattle.cdi_shell.specs.Sessions.{AnswersLine, Served}
 use Rattle.cdi_shell.specs.States.{State, Boots}
 

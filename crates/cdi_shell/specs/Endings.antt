@@ -3,8 +3,8 @@ use Rattle.std.specs.Prelude.{◌≡◌, ℕ, Bool, IsTrue, Option, Some, None, 
 use Rattle.cdi_base.specs.declared.reply.Cause.{Cause}
 use Rattle.cdi_shell.specs.declared.ending.Ending.{Ending}
 use Rattle.cdi_shell.specs.declared.ending.Ending.TheVariants as endings
-use Rattle.cdi_shell.specs.declared.fault.ServeFault.{ServeFault}
-use Rattle.cdi_shell.specs.declared.fault.ServeFault.TheVariants as faults
+use Rattle.cdi_lines.specs.declared.fault.ServeFault.{ServeFault}
+use Rattle.cdi_lines.specs.declared.fault.ServeFault.TheVariants as faults
 
 -- the exit status
 abbrev pub status_of : Ending → ℕ

@@ -8,7 +8,7 @@ use Rattle.cdi_script.specs.declared.fault.ScriptFault.{ScriptFault}
 use Rattle.cdi_script.specs.declared.fault.ScriptFault.TheVariants as script_faults
 use Rattle.cdi_plain.specs.declared.problem.Problem.{Problem}
 use Rattle.cdi_plain.specs.Problem.{problem_word}
-use Rattle.cdi_shell.specs.Places.{place_text}
+use Rattle.cdi_text.specs.Places.{place_text}
 
 -- a text and a line feed
 abbrev pub line : List ℕ → List ℕ

@@ -8,7 +8,7 @@ use Rattle.cdi_script.specs.declared.step.Step.{Step}
 use Rattle.cdi_script.specs.Build.{script_of}
 use Rattle.cdi_shell.specs.declared.scripts.BadScript.{BadScript}
 use Rattle.cdi_shell.specs.declared.scripts.NamedScript.{NamedScript}
-use Rattle.cdi_shell.specs.Places.{name_text}
+use Rattle.cdi_text.specs.Places.{name_text}
 
 -- a fault is told with the name of its script
 abbrev pub told : List ℕ → ℕ → Result (List Step × List (List ℕ)) ScriptFault → Result (NamedScript × List (List ℕ)) BadScript

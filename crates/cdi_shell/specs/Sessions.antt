@@ -6,14 +6,14 @@ use Rattle.cdi_base.specs.declared.reply.Reply.{Reply}
 use Rattle.cdi_base.specs.declared.reply.Reply.TheVariants as replies
 use Rattle.cdi_plain.specs.declared.tables.Tables.{Tables}
 use Rattle.cdi_plain.specs.Runs.{Legal}
-use Rattle.cdi_shell.specs.declared.command.BadLine.{BadLine}
+use Rattle.cdi_text.specs.declared.command.BadLine.{BadLine}
 use Rattle.cdi_shell.specs.declared.container.Container.{Container}
-use Rattle.cdi_shell.specs.declared.fault.ServeFault.{ServeFault}
-use Rattle.cdi_shell.specs.declared.fault.ServeFault.TheVariants as faults
-use Rattle.cdi_shell.specs.Command.{command_in}
+use Rattle.cdi_lines.specs.declared.fault.ServeFault.{ServeFault}
+use Rattle.cdi_lines.specs.declared.fault.ServeFault.TheVariants as faults
+use Rattle.cdi_text.specs.Command.{command_in}
 use Rattle.cdi_shell.specs.Containers.{state_of, legal_in, SameParts}
-use Rattle.cdi_shell.specs.ReplyText.{reply_line}
-use Rattle.cdi_shell.specs.Served.{Serves}
+use Rattle.cdi_text.specs.ReplyText.{reply_line}
+use Rattle.cdi_lines.specs.Served.{Serves}
 use Rattle.cdi_shell.specs.States.{State, asked, Responds}
 
 -- what was read as a command is answered so; a line that is none changes nothing

@@ -12,9 +12,9 @@ use Rattle.cdi_deploy.specs.declared.deployment.Scope.TheVariants as scopes
 use Rattle.cdi_plain.specs.Worked.{K, n, up, tables_of}
 use Rattle.cdi_script.specs.declared.fault.ScriptFault.TheVariants as script_faults
 use Rattle.cdi_shell.specs.declared.request.Request.TheVariants as requests
-use Rattle.cdi_shell.specs.Lines.{complete_lines, all_lines}
+use Rattle.cdi_lines.specs.Lines.{complete_lines, all_lines}
 use Rattle.cdi_shell.specs.RefusalText.{fault_line, script_line, problem_line}
-use Rattle.cdi_shell.specs.ReplyText.{reply_line}
+use Rattle.cdi_text.specs.ReplyText.{reply_line}
 use Rattle.cdi_shell.specs.Requests.{called}
 
 -- the names of the counter at 0, 1 and 2

@@ -2,8 +2,8 @@
 ghost use Rattle.std.specs.Prelude.{◌≡◌};
 ghost use Rattle.cdi_shell.specs.Endings as spec;
 
-use crate::fault::ServeFault;
 use cdi_base::Cause;
+use cdi_lines::ServeFault;
 
 /// How a run of the program ended.
 #[derive(Clone, Copy, Debug, PartialEq, Eq)]

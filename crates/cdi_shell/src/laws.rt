@@ -1,22 +1,14 @@
 //! Laws of the definitions that the contracts cite. A call of one of these does nothing: its contract is the law.
-ghost use Rattle.std.specs.Prelude.{◌≡◌, ℕ, List, [], ◌++◌, All};
+ghost use Rattle.std.specs.Prelude.{◌≡◌, []};
 ghost use Rattle.cdi_bodies.specs.Table.{entries_of};
 ghost use Rattle.cdi_plain.specs.Check.{problems_of};
 ghost use Rattle.cdi_shell.specs.Laws.{OneOutput};
-ghost use Rattle.cdi_shell.specs.Lines.{begun_line, complete_lines, all_lines, with_line_feeds, IsOneLine};
 ghost use Rattle.cdi_shell.specs.Missing.{NoneMissed};
 ghost use Rattle.cdi_shell.specs.WorkedLines.{WorkedLines};
 
 use cdi_bodies::Bodies;
 use cdi_deploy::Deployment;
 use cdi_plain::laws::law_accepted_serves;
-
-/// Bytes are their complete lines, each with a line feed behind it, and then what stands behind the last line feed.
-/// No line has a line feed in it.
-pub fn law_lines()
-    ensures joined { (bytes : List ℕ) → with_line_feeds (complete_lines bytes) ++ begun_line [] bytes ≡ bytes }
-    ensures apart { (bytes : List ℕ) → All IsOneLine (all_lines bytes) }
-{}
 
 /// Where no read or write fails and memory does not run out, what the program writes is a function of its limits, of the
 /// bytes of the deployment and of the bytes of the input, and so is how it ends.

@@ -2,11 +2,11 @@
 ghost use Rattle.std.specs.Prelude.{◌≡◌, IfOk, string_bytes};
 ghost use Rattle.cdi_shell.specs.RefusalText as spec;
 
-use crate::places::place_text;
 use cdi_base::Names;
 use cdi_deploy::ReadFault;
 use cdi_plain::problem::Problem;
 use cdi_script::ScriptFault;
+use cdi_text::places::place_text;
 use std::alloc::{AllocError, Global};
 
 fn fault_text(alloc: Global, fault: &ReadFault) -> Result<String, AllocError>

@@ -1,11 +1,12 @@
 //! The scripts of a deployment.
+ghost use Rattle.cdi_base.specs.Name.{Extends};
 ghost use Rattle.cdi_base.specs.Reading.{Gives};
 ghost use Rattle.cdi_shell.specs.Scripts as spec;
 
-use crate::places::name_text;
 use cdi_base::{Name, Names, ReadError, Text};
 use cdi_deploy::deployment::Script as Declared;
 use cdi_script::{Script, ScriptFault};
+use cdi_text::places::name_text;
 use std::alloc::Global;
 
 /// A script under its name.
@@ -27,7 +28,8 @@ fn read_script(
     names: &mut Names,
     declared: &Declared,
 ) -> Result<NamedScript, ReadError<BadScript>>
-    ensures { Gives (λ script. (script, names.new)) result (spec.script_in names.old declared.now) }
+    ensures gives { Gives (λ script. (script, names.new)) result (spec.script_in names.old declared.now) }
+    ensures kept { Extends names.old names.new }
 {
     let name = Text::from_str(alloc, name_text(names, declared.name))?;
     match Script::read(alloc, declared.steps.as_value(), names) {
@@ -47,7 +49,8 @@ pub fn read_scripts(
     names: &mut Names,
     declared: &[Declared],
 ) -> Result<Vec<NamedScript>, ReadError<BadScript>>
-    ensures { Gives (λ scripts. (scripts.items, names.new)) result (spec.scripts_in names.old declared.now) }
+    ensures gives { Gives (λ scripts. (scripts.items, names.new)) result (spec.scripts_in names.old declared.now) }
+    ensures kept { Extends names.old names.new }
 {
     let mut scripts = Vec::new(alloc);
     for script in declared {

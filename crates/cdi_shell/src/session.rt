@@ -1,23 +1,18 @@
 //! A container that answers the lines of an input.
 ghost use Rattle.std.specs.Prelude.{◌≡◌, IfOk, OnOk, OnErr};
-ghost use Rattle.cdi_shell.specs.Ends.{reader_of, has_read_failed, writer_of, has_write_failed};
-ghost use Rattle.cdi_shell.specs.Served.{IsFaultOf};
+ghost use Rattle.cdi_lines.specs.Ends.{reader_of, has_read_failed, writer_of, has_write_failed};
+ghost use Rattle.cdi_lines.specs.Served.{IsFaultOf};
 ghost use Rattle.cdi_shell.specs.Sessions.{Answers, Served};
 
-use crate::command::read_command;
 use crate::container::Container;
-use crate::fault::ServeFault;
-use crate::input::Input;
-use crate::output::Output;
-use crate::reply_text::write_reply;
-use crate::responder::Responder;
-use crate::serving::{MAX_INPUT, serve_lines};
 use cdi_base::{ReadError, Refusal, Reply};
+use cdi_lines::{Input, MAX_INPUT, Output, Responder, ServeFault, serve_lines};
+use cdi_text::{read_command, write_reply};
 use std::alloc::{AllocError, Global};
 use std::io::{Read, Write};
 
 impl Container {
-    ghost use Rattle.cdi_shell.specs.Command.{command_in};
+    ghost use Rattle.cdi_text.specs.Command.{command_in};
     ghost use Rattle.cdi_shell.specs.Containers.{state_of, legal_in, SameParts};
     ghost use Rattle.cdi_shell.specs.Sessions.{AnswersRead};
 

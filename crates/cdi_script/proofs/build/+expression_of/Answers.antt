@@ -6,8 +6,8 @@ use Rattle.cdi_script.specs.declared.fault.ScriptFault.TheVariants.{BadStep}
 use Rattle.cdi_script.proofs.Long.{none_read}
 use Rattle.cdi_script.proofs.build.+expression_of.Goals as goal
 
-pub returns-in-len4-up : goal.returns-in-len4-up
-returns-in-len4-up t c =
+pub returns-in-len4-up-clause-gives : goal.returns-in-len4-up-clause-gives
+returns-in-len4-up-clause-gives t c =
     let seen = ap view c.in-Array.is ∙ view-Array c.in-Array.items in
     let gone : expression_of c.args.names.now (view c.args.value.now) ≡ Err BadStep =
     ap (λ d. expression_of c.args.names.now d) seen ∙ none_read c.in-Array.items.items c.args.names.now (omega (arith, c.as_slice.ensures.len)) in

@@ -8,7 +8,7 @@ use Rattle.cdi_script.proofs.Following.{nil_of}
 use Rattle.cdi_script.proofs.Within.{lies}
 use Rattle.cdi_shell.specs.declared.scripts.NamedScript.{NamedScript}
 use Rattle.cdi_shell.specs.Drive.{place_under}
-use Rattle.cdi_shell.specs.Ends.{reader_of, writer_of}
+use Rattle.cdi_lines.specs.Ends.{reader_of, writer_of}
 use Rattle.cdi_shell.specs.Scripts.{added, registered}
 use Rattle.cdi_shell.proofs.Holding.{Holds, holds_add, same_length, same_place, add_known, add_new, not_full}
 use Rattle.cdi_shell.proofs.Scripted.{scripts_play}

@@ -1,4 +1,4 @@
-use Rattle.std.proofs.Common.{◌≡◌, ◌∙◌, sym, ap}
+use Rattle.std.proofs.Common.{◌∙◌, sym, ap}
 use Rattle.std.specs.Option.{unwrap_or}
 use Rattle.cdi_base.proofs.Tables.{get-lookup}
 use Rattle.cdi_base.specs.declared.value.Value.TheVariants.{Null}

@@ -1,4 +1,4 @@
-use Rattle.std.proofs.Common.{◌≡◌, ◌∙◌, sym, ap, string_bytes, position, bytes_eq}
+use Rattle.std.proofs.Common.{◌∙◌, sym, ap, string_bytes, position, bytes_eq}
 use Rattle.cdi_base.proofs.Tables.{position-map}
 use Rattle.cdi_base.proofs.name.Names.find.Goals as goal
 

@@ -1,9 +1,9 @@
-use Rattle.std.proofs.Common.{◌≡◌, ◌∙◌, sym, ap, refl, true, false, true≢false, ◌||◌, ◌≤◌, List, ℕ, String, Global, if◌then◌else◌, ◌++◌, ◌∷◌, [], map, length, string_bytes, bytes_eq, slice_get, Some, arith}
+use Rattle.std.proofs.Common.{◌≡◌, ◌∙◌, sym, ap, refl, true, false, true≢false, ◌||◌, ◌≤◌, List, ℕ, String, Global, if◌then◌else◌, ◌++◌, ◌∷◌, [], map, length, string_bytes, bytes_eq, arith}
 use Rattle.std.proofs.lemmas.List.{map_push, length-map}
 use Rattle.std.proofs.lemmas.Bool.{le-ltb}
 use Rattle.std.specs.Bool.{nat_lt}
 use Rattle.std.specs.List.{list_any, position_or_len}
-use Rattle.cdi_base.specs.Name.{number_of, is_known, with_name}
+use Rattle.cdi_base.specs.Name.{number_of, is_known}
 use Rattle.cdi_base.proofs.Tables.{position_or_len-map, list_any-map, place_of}
 use Rattle.cdi_base.proofs.name.Names.intern.Goals as goal
 

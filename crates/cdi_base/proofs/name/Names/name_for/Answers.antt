@@ -1,4 +1,4 @@
-use Rattle.std.proofs.Common.{◌≡◌, ◌∙◌, sym, ap, length, List, ℕ, String, Global, map, string_bytes, bytes_eq}
+use Rattle.std.proofs.Common.{◌≡◌, ◌∙◌, sym, ap, List, ℕ, String, Global, map, string_bytes, bytes_eq}
 use Rattle.std.specs.List.{position_or_len}
 use Rattle.cdi_base.specs.Name.{number_of}
 use Rattle.cdi_base.proofs.Tables.{position_or_len-map, place_of, past_all}

@@ -1,6 +1,5 @@
 use Rattle.std.proofs.Common.{◌≡◌, ◌∙◌, sym, ap, string_bytes, bytes_eq, slice_get, Some, map, rules}
 use Rattle.std.specs.String.{string_eq, string_eq_equiv}
-use Rattle.std.specs.List.{position_or_len}
 use Rattle.cdi_base.specs.Name.{number_of}
 use Rattle.cdi_base.proofs.Tables.{position_or_len-map, first_of_distinct}
 use Rattle.cdi_base.proofs.name.Names.text.Goals as goal

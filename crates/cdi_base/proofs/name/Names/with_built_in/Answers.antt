@@ -1,4 +1,4 @@
-use Rattle.std.proofs.Common.{◌≡◌, rules, refl, arith}
+use Rattle.std.proofs.Common.{refl, arith}
 use Rattle.cdi_base.specs.BuiltIn.{all_built_in, built_in_names}
 use Rattle.cdi_base.proofs.BuiltIns.{all_added-all, goes_on_at, length-with_name}
 use Rattle.cdi_base.proofs.name.Names.with_built_in.Goals as goal

@@ -1,0 +1,4 @@
+pub mod Lines
+pub mod Mapped
+pub mod Reading
+pub mod Served

@@ -1,0 +1,22 @@
+//! Serves the lines of an input: each is answered by a responder, and the replies go to an output.
+#![tactic(auto)]
+
+mod answer;
+#[cfg(test)]
+mod ends_tests;
+pub mod fault;
+pub mod input;
+pub mod laws;
+pub mod output;
+pub mod responder;
+pub mod serving;
+#[cfg(test)]
+mod serving_tests;
+#[cfg(test)]
+mod test_ends;
+
+pub use fault::ServeFault;
+pub use input::{Input, ReadFailed};
+pub use output::{Output, WriteFailed};
+pub use responder::Responder;
+pub use serving::{MAX_INPUT, serve_lines};

@@ -1,0 +1,198 @@
+//! Replies and places that were written by hand.
+use crate::places::place_text;
+use crate::write_reply;
+use cdi_base::{
+    BuiltIn, Cause, InterceptorMethod, Names, Place, Refusal, Reply, Seq, Text, Value, is_name,
+};
+use std::alloc::Global;
+use std::process::Abort;
+use std::test::Fail;
+
+/// The built-in names, a class, a member and an interceptor.
+fn table(rt: &impl Abort, alloc: Global) -> Result<Names, Fail> {
+    let mut names = Names::with_built_in(alloc)?;
+    for text in ["K", "up", "Log_1.x$"] {
+        assert!(rt; is_name(text));
+        names.intern(text)?;
+    }
+    Ok(names)
+}
+
+#[test]
+fn writes_texts(rt: HostRuntime) -> Result<(), Fail> {
+    let names = Names::new(rt.alloc());
+    let rows = [
+        ("", "[\"value\",\"\"]\n"),
+        ("a b/c", "[\"value\",\"a b/c\"]\n"),
+        ("say \"hi\"", "[\"value\",\"say \\\"hi\\\"\"]\n"),
+        ("a\\b", "[\"value\",\"a\\\\b\"]\n"),
+        ("\n\t", "[\"value\",\"\\n\\t\"]\n"),
+        ("\u{1}\u{1f}", "[\"value\",\"\\u0001\\u001f\"]\n"),
+        ("é中😀\u{7f}", "[\"value\",\"é中😀\u{7f}\"]\n"),
+    ];
+    for (text, expected) in rows {
+        let reply = Reply::Value(Value::Text(Text::from_str(rt.alloc(), text)?));
+        let line = write_reply(rt.alloc(), &names, &reply)?;
+        assert_eq!(rt; line.as_slice(), expected.as_bytes(), "{text:?}");
+    }
+    Ok(())
+}
+
+#[test]
+fn writes_whole_numbers(rt: HostRuntime) -> Result<(), Fail> {
+    let names = Names::new(rt.alloc());
+    let rows = [
+        (0, "[\"value\",0]\n"),
+        (42, "[\"value\",42]\n"),
+        (-1, "[\"value\",-1]\n"),
+        (
+            9_223_372_036_854_775_807,
+            "[\"value\",9223372036854775807]\n",
+        ),
+        (
+            -9_223_372_036_854_775_808,
+            "[\"value\",-9223372036854775808]\n",
+        ),
+    ];
+    for (number, expected) in rows {
+        let reply = Reply::Value(Value::Int(number));
+        let line = write_reply(rt.alloc(), &names, &reply)?;
+        assert_eq!(rt; line.as_slice(), expected.as_bytes(), "{number}");
+    }
+    Ok(())
+}
+
+#[test]
+fn writes_live_numbers(rt: HostRuntime) -> Result<(), Fail> {
+    let names = Names::new(rt.alloc());
+    let rows: [(&[u32], &str); 3] = [
+        (&[], "[\"live\",[]]\n"),
+        (&[1], "[\"live\",[1]]\n"),
+        (&[1, 20, 4_294_967_295], "[\"live\",[1,20,4294967295]]\n"),
+    ];
+    for (numbers, expected) in rows {
+        let mut live = Seq::empty(rt.alloc());
+        for number in numbers {
+            live.push(*number)?;
+        }
+        let line = write_reply(rt.alloc(), &names, &Reply::Live(live))?;
+        assert_eq!(rt; line.as_slice(), expected.as_bytes());
+    }
+    Ok(())
+}
+
+#[test]
+fn writes_exceptions(rt: HostRuntime) -> Result<(), Fail> {
+    let names = table(&rt, rt.alloc())?;
+    let rows = [
+        (
+            BuiltIn::CreationException.name(),
+            "[\"threw\",\"CreationException\"]\n",
+        ),
+        (
+            BuiltIn::NullPointerException.name(),
+            "[\"threw\",\"NullPointerException\"]\n",
+        ),
+        (names.name_for("Log_1.x$"), "[\"threw\",\"Log_1.x$\"]\n"),
+        (names.name_for("of no table"), "[\"threw\",\"\"]\n"),
+    ];
+    for (class, expected) in rows {
+        let line = write_reply(rt.alloc(), &names, &Reply::Threw(class))?;
+        assert_eq!(rt; line.as_slice(), expected.as_bytes());
+    }
+    Ok(())
+}
+
+#[test]
+fn writes_refusals(rt: HostRuntime) -> Result<(), Fail> {
+    let names = Names::new(rt.alloc());
+    let rows = [
+        (Refusal::BadLine, "[\"refused\",\"BadLine\"]\n"),
+        (Refusal::Halted, "[\"refused\",\"Halted\"]\n"),
+        (Refusal::Down, "[\"refused\",\"Down\"]\n"),
+        (Refusal::Busy, "[\"refused\",\"Busy\"]\n"),
+        (Refusal::NoRequest, "[\"refused\",\"NoRequest\"]\n"),
+        (Refusal::RequestOpen, "[\"refused\",\"RequestOpen\"]\n"),
+        (Refusal::NoSession, "[\"refused\",\"NoSession\"]\n"),
+        (Refusal::SessionEnding, "[\"refused\",\"SessionEnding\"]\n"),
+        (
+            Refusal::TooManyRequests,
+            "[\"refused\",\"TooManyRequests\"]\n",
+        ),
+        (
+            Refusal::TooManySessions,
+            "[\"refused\",\"TooManySessions\"]\n",
+        ),
+        (Refusal::UnknownName, "[\"refused\",\"UnknownName\"]\n"),
+        (Refusal::NoMethod, "[\"refused\",\"NoMethod\"]\n"),
+        (Refusal::WrongCount, "[\"refused\",\"WrongCount\"]\n"),
+    ];
+    for (refusal, expected) in rows {
+        let line = write_reply(rt.alloc(), &names, &Reply::Refused(refusal))?;
+        assert_eq!(rt; line.as_slice(), expected.as_bytes());
+    }
+    Ok(())
+}
+
+#[test]
+fn writes_other_replies(rt: HostRuntime) -> Result<(), Fail> {
+    let names = Names::new(rt.alloc());
+    let rows = [
+        (Reply::Value(Value::Null), "[\"value\",null]\n"),
+        (Reply::Done, "[\"done\"]\n"),
+        (Reply::Halted(Cause::Ticks), "[\"halted\",\"ticks\"]\n"),
+        (Reply::Halted(Cause::Depth), "[\"halted\",\"depth\"]\n"),
+        (Reply::Halted(Cause::Numbers), "[\"halted\",\"numbers\"]\n"),
+        (Reply::Halted(Cause::Memory), "[\"halted\",\"memory\"]\n"),
+    ];
+    for (reply, expected) in rows {
+        let line = write_reply(rt.alloc(), &names, &reply)?;
+        assert_eq!(rt; line.as_slice(), expected.as_bytes());
+    }
+    Ok(())
+}
+
+/// A method of the interceptor of the table.
+fn of_interceptor(names: &Names, method: InterceptorMethod) -> Place {
+    Place::Interceptor {
+        interceptor: names.name_for("Log_1.x$"),
+        method,
+    }
+}
+
+/// Each kind of place, as it is written.
+fn places(names: &Names) -> [(Place, &'static str); 7] {
+    let class = names.name_for("K");
+    let member = names.name_for("up");
+    [
+        (Place::Class(class), "K"),
+        (Place::Member { class, member }, "K#up"),
+        (Place::Constructor(class), "K#"),
+        (
+            of_interceptor(names, InterceptorMethod::AroundInvoke),
+            "Log_1.x$#invoke",
+        ),
+        (
+            of_interceptor(names, InterceptorMethod::AroundConstruct),
+            "Log_1.x$#construct",
+        ),
+        (
+            of_interceptor(names, InterceptorMethod::PostConstruct),
+            "Log_1.x$#post",
+        ),
+        (
+            of_interceptor(names, InterceptorMethod::PreDestroy),
+            "Log_1.x$#pre",
+        ),
+    ]
+}
+
+#[test]
+fn writes_places(rt: HostRuntime) -> Result<(), Fail> {
+    let names = table(&rt, rt.alloc())?;
+    for (place, expected) in places(&names) {
+        let text = place_text(rt.alloc(), &names, place)?;
+        assert_eq!(rt; text.as_str(), expected);
+    }
+    Ok(())
+}
