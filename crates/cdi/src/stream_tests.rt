@@ -1,7 +1,7 @@
 //! Runs over readers and writers that go in steps, or fail.
 use crate::test_runs::{COUNTED, COUNTER, COUNTS, DONE, run};
 use cdi_base::Limits;
-use std::alloc::Global;
+use std::alloc::{AllocError, Global};
 use std::io::{BufWriter, ErrorKind, Read, Write};
 use std::process::Abort;
 use std::test::Fail;
@@ -105,23 +105,29 @@ fn reads_sixteen_mebibytes(rt: HostRuntime) {
 }
 
 /// Checks that a front part of the lines is written where there is no room for more.
-fn check_room(rt: &impl Abort, alloc: Global, deployment: &str, lines: &[u8]) {
+fn check_room(
+    rt: &impl Abort,
+    alloc: Global,
+    deployment: &str,
+    lines: &[u8],
+) -> Result<(), AllocError> {
     for left in 0..lines.len() {
-        let mut room = [0u8; 64];
+        let mut room = vec![in alloc; 0u8; left]?;
         let ran = run(
             alloc,
             deployment.as_bytes(),
             Limits::default(),
             COUNTED.as_bytes(),
-            &mut room[..left],
+            room.as_mut_slice(),
         );
         assert_eq!(rt; ran.status, 3, "at {left}");
-        assert_eq!(rt; &room[..left], &lines[..left], "at {left}");
+        assert_eq!(rt; room.as_slice(), &lines[..left], "at {left}");
     }
+    Ok(())
 }
 
 #[test]
-fn ends_where_there_is_no_room(rt: HostRuntime) {
+fn ends_where_there_is_no_room(rt: HostRuntime) -> Result<(), Fail> {
     for (deployment, lines) in [
         (COUNTER, COUNTS),
         ("{", "NotJson\n"),
@@ -134,8 +140,9 @@ fn ends_where_there_is_no_room(rt: HostRuntime) {
             "P1 DuplicateName K\nP1 DuplicateName Object\n",
         ),
     ] {
-        check_room(&rt, rt.alloc(), deployment, lines.as_bytes());
+        check_room(&rt, rt.alloc(), deployment, lines.as_bytes())?;
     }
+    Ok(())
 }
 
 /// A buffered writer holds a refusal back until it is flushed.

@@ -2,15 +2,23 @@
 use crate::command::{BadLine, read_command};
 use cdi_base::{Command, ReadError, Seq, Text, Value};
 use std::alloc::{AllocError, Global};
+use std::process::Abort;
 use std::test::Fail;
 
-/// The command that a line is, if it is one.
-fn read(alloc: Global, line: &[u8]) -> Result<Option<Command>, Fail> {
-    match read_command(alloc, line) {
-        Ok(command) => Ok(Some(command)),
-        Err(ReadError::Fault(BadLine)) => Ok(None),
-        Err(ReadError::Memory) => Err(AllocError)?,
-    }
+/// Checks that a line is this command, or none.
+fn check_line(
+    rt: &impl Abort,
+    alloc: Global,
+    line: &[u8],
+    wanted: Option<Command>,
+) -> Result<(), AllocError> {
+    let command = match read_command(alloc, line) {
+        Ok(command) => Some(command),
+        Err(ReadError::Fault(BadLine)) => None,
+        Err(ReadError::Memory) => return Err(AllocError),
+    };
+    assert_eq!(rt; command, wanted, "at {line:?}");
+    Ok(())
 }
 
 /// The command to call `up` of `K` with these values.
@@ -74,7 +82,7 @@ fn refuses_what_is_no_command(rt: HostRuntime) -> Result<(), Fail> {
         "[\"read\",null,\"K\",[]]",
         "[\"fire\",null,\"K\",[],1]",
     ] {
-        assert_eq!(rt; read(rt.alloc(), line.as_bytes())?, None, "at {line}");
+        check_line(&rt, rt.alloc(), line.as_bytes(), None)?;
     }
     Ok(())
 }
@@ -108,7 +116,7 @@ fn refuses_calls_with_a_wrong_part(rt: HostRuntime) -> Result<(), Fail> {
         "[\"call\",null,\"K\",[],\"up\",{}]",
         "[[\"call\",null,\"K\",[],\"up\",[]]]",
     ] {
-        assert_eq!(rt; read(rt.alloc(), line.as_bytes())?, None, "at {line}");
+        check_line(&rt, rt.alloc(), line.as_bytes(), None)?;
     }
     Ok(())
 }
@@ -151,7 +159,7 @@ fn refuses_what_is_no_value(rt: HostRuntime) -> Result<(), Fail> {
         "1 2",
     ] {
         let line = format!(in alloc; "[\"call\",null,\"K\",[],\"up\",[{value}]]")?;
-        assert_eq!(rt; read(alloc, line.as_bytes())?, None, "at {value}");
+        check_line(&rt, alloc, line.as_bytes(), None)?;
     }
     Ok(())
 }
@@ -166,7 +174,7 @@ fn refuses_what_is_not_utf8(rt: HostRuntime) -> Result<(), Fail> {
         b"[\"call\",null,\"K\",[],\"up\",[\"\xed\xa0\x80\"]]".as_slice(),
         b"[\"call\",null,\"K\",[],\"up\",[\"\xc0\xaf\"]]".as_slice(),
     ] {
-        assert_eq!(rt; read(rt.alloc(), line)?, None, "at {line:?}");
+        check_line(&rt, rt.alloc(), line, None)?;
     }
     Ok(())
 }
@@ -179,11 +187,7 @@ fn reads_a_shutdown(rt: HostRuntime) -> Result<(), Fail> {
         " \t\r\n[ \"shutdown\"\t] \n",
         "[\"\\u0073hutdown\"]",
     ] {
-        assert_eq!(rt;
-            read(rt.alloc(), line.as_bytes())?,
-            Some(Command::Shutdown),
-            "at {line}"
-        );
+        check_line(&rt, rt.alloc(), line.as_bytes(), Some(Command::Shutdown))?;
     }
     Ok(())
 }
@@ -198,11 +202,8 @@ fn reads_a_call_without_values(rt: HostRuntime) -> Result<(), Fail> {
         "[\"call\",null,\"\\u004b\",[],\"u\\u0070\",[]]",
         "[\"\\u0063all\",null,\"\\u004B\",[],\"up\",[]]",
     ] {
-        assert_eq!(rt;
-            read(alloc, line.as_bytes())?,
-            Some(up(alloc, None, Vec::new(alloc))?),
-            "at {line}"
-        );
+        let wanted = up(alloc, None, Vec::new(alloc))?;
+        check_line(&rt, alloc, line.as_bytes(), Some(wanted))?;
     }
     Ok(())
 }
@@ -217,7 +218,7 @@ fn reads_a_call_with_all_parts(rt: HostRuntime) -> Result<(), Fail> {
     args.push(Value::Text(Text::from_str(alloc, "two words")?))?;
     let wanted = up(alloc, Some(request), args)?;
     let line = "[\"call\",\"R.1_$\",\"K\",[],\"up\",[null,7,\"two words\"]]";
-    assert_eq!(rt; read(alloc, line.as_bytes())?, Some(wanted));
+    check_line(&rt, alloc, line.as_bytes(), Some(wanted))?;
     Ok(())
 }
 
@@ -233,7 +234,7 @@ fn reads_whole_numbers(rt: HostRuntime) -> Result<(), Fail> {
     ] {
         let line = format!(in alloc; "[\"call\",null,\"K\",[],\"up\",[{number}]]")?;
         let wanted = up_with(alloc, Value::Int(wanted))?;
-        assert_eq!(rt; read(alloc, line.as_bytes())?, Some(wanted), "at {number}");
+        check_line(&rt, alloc, line.as_bytes(), Some(wanted))?;
     }
     Ok(())
 }
@@ -254,7 +255,7 @@ fn reads_texts(rt: HostRuntime) -> Result<(), Fail> {
     ] {
         let line = format!(in alloc; "[\"call\",null,\"K\",[],\"up\",[{text}]]")?;
         let wanted = up_with(alloc, Value::Text(Text::from_str(alloc, wanted)?))?;
-        assert_eq!(rt; read(alloc, line.as_bytes())?, Some(wanted), "at {text}");
+        check_line(&rt, alloc, line.as_bytes(), Some(wanted))?;
     }
     Ok(())
 }

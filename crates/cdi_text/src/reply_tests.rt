@@ -4,8 +4,9 @@ use crate::write_reply;
 use cdi_base::{
     BuiltIn, Cause, InterceptorMethod, Names, Place, Refusal, Reply, Seq, Text, Value, is_name,
 };
-use std::alloc::Global;
+use std::alloc::{AllocError, Global};
 use std::process::Abort;
+use std::str;
 use std::test::Fail;
 
 /// The built-in names, a class, a member and an interceptor.
@@ -16,6 +17,19 @@ fn table(rt: &impl Abort, alloc: Global) -> Result<Names, Fail> {
         names.intern(text)?;
     }
     Ok(names)
+}
+
+/// Checks that a reply is written as this line.
+fn check_reply(
+    rt: &impl Abort,
+    alloc: Global,
+    names: &Names,
+    reply: &Reply,
+    expected: &str,
+) -> Result<(), AllocError> {
+    let line = write_reply(alloc, names, reply)?;
+    assert_eq!(rt; str::from_utf8(&line), Ok(expected));
+    Ok(())
 }
 
 #[test]
@@ -32,8 +46,7 @@ fn writes_texts(rt: HostRuntime) -> Result<(), Fail> {
     ];
     for (text, expected) in rows {
         let reply = Reply::Value(Value::Text(Text::from_str(rt.alloc(), text)?));
-        let line = write_reply(rt.alloc(), &names, &reply)?;
-        assert_eq!(rt; line.as_slice(), expected.as_bytes(), "{text:?}");
+        check_reply(&rt, rt.alloc(), &names, &reply, expected)?;
     }
     Ok(())
 }
@@ -56,8 +69,7 @@ fn writes_whole_numbers(rt: HostRuntime) -> Result<(), Fail> {
     ];
     for (number, expected) in rows {
         let reply = Reply::Value(Value::Int(number));
-        let line = write_reply(rt.alloc(), &names, &reply)?;
-        assert_eq!(rt; line.as_slice(), expected.as_bytes(), "{number}");
+        check_reply(&rt, rt.alloc(), &names, &reply, expected)?;
     }
     Ok(())
 }
@@ -75,8 +87,7 @@ fn writes_live_numbers(rt: HostRuntime) -> Result<(), Fail> {
         for number in numbers {
             live.push(*number)?;
         }
-        let line = write_reply(rt.alloc(), &names, &Reply::Live(live))?;
-        assert_eq!(rt; line.as_slice(), expected.as_bytes());
+        check_reply(&rt, rt.alloc(), &names, &Reply::Live(live), expected)?;
     }
     Ok(())
 }
@@ -97,8 +108,7 @@ fn writes_exceptions(rt: HostRuntime) -> Result<(), Fail> {
         (names.name_for("of no table"), "[\"threw\",\"\"]\n"),
     ];
     for (class, expected) in rows {
-        let line = write_reply(rt.alloc(), &names, &Reply::Threw(class))?;
-        assert_eq!(rt; line.as_slice(), expected.as_bytes());
+        check_reply(&rt, rt.alloc(), &names, &Reply::Threw(class), expected)?;
     }
     Ok(())
 }
@@ -128,8 +138,7 @@ fn writes_refusals(rt: HostRuntime) -> Result<(), Fail> {
         (Refusal::WrongCount, "[\"refused\",\"WrongCount\"]\n"),
     ];
     for (refusal, expected) in rows {
-        let line = write_reply(rt.alloc(), &names, &Reply::Refused(refusal))?;
-        assert_eq!(rt; line.as_slice(), expected.as_bytes());
+        check_reply(&rt, rt.alloc(), &names, &Reply::Refused(refusal), expected)?;
     }
     Ok(())
 }
@@ -146,8 +155,7 @@ fn writes_other_replies(rt: HostRuntime) -> Result<(), Fail> {
         (Reply::Halted(Cause::Memory), "[\"halted\",\"memory\"]\n"),
     ];
     for (reply, expected) in rows {
-        let line = write_reply(rt.alloc(), &names, &reply)?;
-        assert_eq!(rt; line.as_slice(), expected.as_bytes());
+        check_reply(&rt, rt.alloc(), &names, &reply, expected)?;
     }
     Ok(())
 }
