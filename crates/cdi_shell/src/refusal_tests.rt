@@ -55,10 +55,8 @@ fn writes_script_faults(rt: HostRuntime) -> Result<(), Fail> {
 #[test]
 fn writes_each_problem(rt: HostRuntime) -> Result<(), Fail> {
     let names = table(&rt, rt.alloc())?;
-    let place = Place::Member {
-        class: names.name_for("K"),
-        member: names.name_for("up"),
-    };
+    let class = names.name_for("K");
+    let member = names.name_for("up");
     let rows = [
         (ProblemKind::DuplicateName, "P1 DuplicateName K#up\n"),
         (ProblemKind::UnknownBody, "P12 UnknownBody K#up\n"),
@@ -72,7 +70,7 @@ fn writes_each_problem(rt: HostRuntime) -> Result<(), Fail> {
     for (kind, expected) in rows {
         let problem = Problem {
             kind,
-            place: Some(place),
+            place: Some(Place::Member { class, member }),
         };
         let lines = write_problems(rt.alloc(), &names, &[problem])?;
         assert_eq!(rt; lines.as_slice(), expected.as_bytes());
