@@ -8,23 +8,23 @@ use Rattle.cdi_base.specs.declared.act.Act.TheVariants as acts
 use Rattle.cdi_base.specs.declared.act.Answer.{Answer}
 use Rattle.cdi_base.specs.Fields.{set}
 use Rattle.cdi_deploy.specs.declared.deployment.Scope.TheVariants as scopes
-use Rattle.cdi_plain.specs.declared.bean.Bean.{Bean}
-use Rattle.cdi_plain.specs.declared.bean.Resolution.{Resolution}
-use Rattle.cdi_plain.specs.declared.bean.Resolution.TheVariants as resolutions
-use Rattle.cdi_plain.specs.declared.tables.Tables.{Tables}
+use Rattle.cdi_beans.specs.declared.bean.Bean.{Bean}
+use Rattle.cdi_beans.specs.declared.bean.Resolution.{Resolution}
+use Rattle.cdi_beans.specs.declared.bean.Resolution.TheVariants as resolutions
+use Rattle.cdi_beans.specs.declared.tables.Tables.{Tables}
 use Rattle.cdi_plain.specs.declared.world.Phase.TheVariants as phases
 use Rattle.cdi_plain.specs.declared.world.Status.{Status}
 use Rattle.cdi_plain.specs.declared.world.Status.TheVariants as statuses
 use Rattle.cdi_plain.specs.declared.world.Held.{Held}
 use Rattle.cdi_plain.specs.declared.world.Held.TheVariants as helds
-use Rattle.cdi_plain.specs.declared.task.Code.{Code}
-use Rattle.cdi_plain.specs.declared.task.Code.TheVariants as codes
+use Rattle.cdi_beans.specs.declared.bean.Code.{Code}
+use Rattle.cdi_beans.specs.declared.bean.Code.TheVariants as codes
 use Rattle.cdi_plain.specs.declared.task.Running.{Running}
 use Rattle.cdi_plain.specs.declared.task.Call.{Call}
 use Rattle.cdi_plain.specs.declared.task.Call.TheVariants as calls
 use Rattle.cdi_plain.specs.declared.task.Completion.{Completion}
 use Rattle.cdi_plain.specs.declared.task.Completion.TheVariants as completions
-use Rattle.cdi_plain.specs.Beans.{bean_of, method_of, resolve, first_fields}
+use Rattle.cdi_beans.specs.Beans.{bean_of, method_of, resolve, first_fields}
 use Rattle.cdi_plain.specs.World.{Instance, World, Put, Hold, changed, next_number, flattened, greatest_held}
 use Rattle.cdi_plain.specs.World as worlds
 use Rattle.cdi_plain.specs.Programs.{Prog, ◌>>=◌, ◌>>◌, attempt, completed, run, held_at}

@@ -1,12 +1,12 @@
 -- The body of each method that is found is known.
 use Rattle.std.proofs.Common.{◌≡◌, ℕ, zero, suc, Bool, true, false, cond, List, [], ◌∷◌, Some, slice_get, subst, nat_eq}
 use Rattle.std.specs.Prelude.{option_and_then}
-use Rattle.cdi_plain.specs.declared.tables.Tables.{Tables}
-use Rattle.cdi_plain.specs.declared.bean.Bean.{Bean}
-use Rattle.cdi_plain.specs.declared.bean.Method.{Method}
-use Rattle.cdi_plain.specs.declared.task.Code.{Code}
-use Rattle.cdi_plain.specs.declared.task.Code.TheVariants as codes
-use Rattle.cdi_plain.specs.Beans.{find_method, method_of, KnowsMethods, KnowsEach}
+use Rattle.cdi_beans.specs.declared.tables.Tables.{Tables}
+use Rattle.cdi_beans.specs.declared.bean.Bean.{Bean}
+use Rattle.cdi_beans.specs.declared.bean.Method.{Method}
+use Rattle.cdi_beans.specs.declared.bean.Code.{Code}
+use Rattle.cdi_beans.specs.declared.bean.Code.TheVariants as codes
+use Rattle.cdi_beans.specs.Beans.{find_method, method_of, KnowsMethods, KnowsEach}
 
 module _ (IsBody : ℕ → Type 0) where
   pub known_in : (ms : List Method) (name : ℕ) {m : Method} → KnowsMethods IsBody ms → find_method ms name ≡ Some m → IsBody m.body

@@ -1,4 +1,3 @@
-pub mod Eligible
 pub mod Rules
 pub mod Known
 pub mod Sound
@@ -6,9 +5,6 @@ pub mod Cost
 pub mod Order
 pub mod Evaluator
 pub mod Worked
-pub mod Built
-pub mod Checked
-pub mod Accepted
 pub mod Schedule
 pub mod Wider
 pub mod Found

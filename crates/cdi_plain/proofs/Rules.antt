@@ -3,12 +3,12 @@ use Rattle.std.proofs.Common.{ℕ, ◌≡◌, ◌<◌, ◌≤◌, ◌-◌, ◌^�
 use Rattle.cdi_base.specs.declared.value.Value.{Value}
 use Rattle.cdi_base.specs.declared.act.Act.{Act}
 use Rattle.cdi_base.specs.declared.entry.Entry.TheVariants as entries
-use Rattle.cdi_plain.specs.declared.tables.Tables.{Tables}
-use Rattle.cdi_plain.specs.declared.bean.Method.{Method}
+use Rattle.cdi_beans.specs.declared.tables.Tables.{Tables}
+use Rattle.cdi_beans.specs.declared.bean.Method.{Method}
 use Rattle.cdi_base.specs.declared.reply.Cause.TheVariants as causes
 use Rattle.cdi_deploy.specs.declared.deployment.Scope.TheVariants as scopes
-use Rattle.cdi_plain.specs.declared.bean.Bean.{Bean}
-use Rattle.cdi_plain.specs.declared.bean.Resolution.TheVariants.{One}
+use Rattle.cdi_beans.specs.declared.bean.Bean.{Bean}
+use Rattle.cdi_beans.specs.declared.bean.Resolution.TheVariants.{One}
 use Rattle.cdi_plain.specs.declared.task.Completion.{Completion}
 use Rattle.cdi_plain.specs.declared.task.Frame.TheVariants as frames
 use Rattle.cdi_plain.specs.declared.task.Running.{Running}
@@ -16,7 +16,7 @@ use Rattle.cdi_plain.specs.declared.task.Call.TheVariants as calls
 use Rattle.cdi_plain.specs.declared.task.Task.TheVariants as tasks
 use Rattle.cdi_plain.specs.declared.task.Next.TheVariants as nexts
 use Rattle.cdi_plain.specs.World.{Instance, World, instance_at, next_number}
-use Rattle.cdi_plain.specs.Beans.{bean_of, method_of, resolve}
+use Rattle.cdi_beans.specs.Beans.{bean_of, method_of, resolve}
 use Rattle.cdi_plain.specs.Programs.{act, choose, nested, cut}
 use Rattle.cdi_plain.specs.Machine.{perform, released, gone}
 use Rattle.cdi_plain.specs.Runs.{Legal}

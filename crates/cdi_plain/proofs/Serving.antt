@@ -18,17 +18,17 @@ use Rattle.cdi_deploy.specs.declared.deployment.Class.{Class}
 use Rattle.cdi_deploy.specs.declared.deployment.Deployment.{Deployment}
 use Rattle.cdi_deploy.specs.declared.deployment.Member.{Member}
 use Rattle.cdi_deploy.specs.declared.deployment.Member.TheVariants as members
-use Rattle.cdi_plain.specs.declared.bean.Bean.{Bean}
-use Rattle.cdi_plain.specs.declared.bean.Method.{Method}
-use Rattle.cdi_plain.specs.declared.problem.Problem.{Problem}
-use Rattle.cdi_plain.specs.declared.problem.ProblemKind.TheVariants as kinds
-use Rattle.cdi_plain.specs.declared.tables.Tables.{Tables}
-use Rattle.cdi_plain.specs.Beans.{find_method, KnowsMethods}
-use Rattle.cdi_plain.specs.Build.{method_before, methods_of, bean_before, beans_in, beans_of}
-use Rattle.cdi_plain.specs.Check.{too_many, or_else, problems_of}
+use Rattle.cdi_beans.specs.declared.bean.Bean.{Bean}
+use Rattle.cdi_beans.specs.declared.bean.Method.{Method}
+use Rattle.cdi_beans.specs.declared.problem.Problem.{Problem}
+use Rattle.cdi_beans.specs.declared.problem.ProblemKind.TheVariants as kinds
+use Rattle.cdi_beans.specs.declared.tables.Tables.{Tables}
+use Rattle.cdi_beans.specs.Beans.{find_method, KnowsMethods}
+use Rattle.cdi_beans.specs.Build.{method_before, methods_of, bean_before, beans_in, beans_of}
+use Rattle.cdi_beans.specs.Check.{too_many, or_else, problems_of}
 use Rattle.cdi_plain.specs.Missing.{IsServed, AcceptedServes}
-use Rattle.cdi_plain.specs.WrongBodies.{has_method, lacks_field, lacks_method, names_others, is_any, is_outside, is_wrong, problem_at, has_wrong_body, wrong_members, wrong_in, wrong_of_kind, wrong_bodies}
-use Rattle.cdi_plain.proofs.Accepted.{neither, empty_first, empty_second}
+use Rattle.cdi_beans.specs.WrongBodies.{has_method, lacks_field, lacks_method, names_others, is_any, is_outside, is_wrong, problem_at, has_wrong_body, wrong_members, wrong_in, wrong_of_kind, wrong_bodies}
+use Rattle.cdi_beans.proofs.Accepted.{neither, empty_first, empty_second}
 use Rattle.cdi_plain.proofs.Evaluator.{is_less, is_least}
 use Rattle.cdi_plain.proofs.Known.{known_in}
 use Rattle.cdi_plain.proofs.Whole.{has_bean}

@@ -5,12 +5,12 @@ use Rattle.std.proofs.lemmas.Option.{slice_get_within}
 use Rattle.std.proofs.lemmas.List.{length-set}
 use Rattle.std.proofs.Math.Nat.{max-zero, zero-max, suc-max-suc}
 use Rattle.cdi_deploy.specs.declared.deployment.Scope.TheVariants as scopes
-use Rattle.cdi_plain.specs.declared.bean.Bean.{Bean}
-use Rattle.cdi_plain.specs.declared.bean.Method.{Method}
-use Rattle.cdi_plain.specs.declared.tables.Tables.{Tables}
+use Rattle.cdi_beans.specs.declared.bean.Bean.{Bean}
+use Rattle.cdi_beans.specs.declared.bean.Method.{Method}
+use Rattle.cdi_beans.specs.declared.tables.Tables.{Tables}
 use Rattle.cdi_plain.specs.declared.world.Held.{Held}
 use Rattle.cdi_plain.specs.declared.world.Held.TheVariants as helds
-use Rattle.cdi_plain.specs.Beans.{bean_of, find_method}
+use Rattle.cdi_beans.specs.Beans.{bean_of, find_method}
 use Rattle.cdi_plain.specs.World.{Instance, greater, greatest_held}
 use Rattle.cdi_plain.proofs.Found.{set_here, set_found, set_kept, append_kept, append_found}
 

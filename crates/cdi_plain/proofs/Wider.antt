@@ -1,7 +1,7 @@
 -- A run stays one where more is legal.
 use Rattle.std.proofs.Common.{length}
 use Rattle.cdi_base.specs.declared.value.Value.{Value}
-use Rattle.cdi_plain.specs.declared.tables.Tables.{Tables}
+use Rattle.cdi_beans.specs.declared.tables.Tables.{Tables}
 use Rattle.cdi_plain.specs.declared.task.Outcome.{Outcome}
 use Rattle.cdi_plain.specs.World.{World}
 use Rattle.cdi_plain.specs.Programs.{Prog}

@@ -3,7 +3,7 @@ use Rattle.std.proofs.Common.{◌∷◌, ◌++◌, [], refl}
 use Rattle.cdi_base.specs.declared.entry.Entry.TheVariants as entries
 use Rattle.cdi_base.specs.declared.place.Place.TheVariants as places
 use Rattle.cdi_deploy.specs.declared.deployment.Scope.TheVariants as scopes
-use Rattle.cdi_plain.specs.declared.tables.Tables.{Tables}
+use Rattle.cdi_beans.specs.declared.tables.Tables.{Tables}
 use Rattle.cdi_plain.specs.declared.task.Call.TheVariants as calls
 use Rattle.cdi_plain.specs.Events.{initialized, startup}
 use Rattle.cdi_plain.specs.Worked.{K, tables_of, start, counting, counted, first_call, call, self_call, borrowing, shutting, Counts, CutsByTicks, CutsByDepth, Borrows, ShutsDown, WorkedRuns}

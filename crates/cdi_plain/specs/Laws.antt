@@ -3,7 +3,7 @@ use Rattle.std.specs.Prelude.{ℕ, ◌≡◌, List}
 use Rattle.cdi_base.specs.declared.act.Act.{Act}
 use Rattle.cdi_base.specs.declared.value.Value.{Value}
 use Rattle.cdi_bodies.specs.declared.view.View.{View}
-use Rattle.cdi_plain.specs.declared.tables.Tables.{Tables}
+use Rattle.cdi_beans.specs.declared.tables.Tables.{Tables}
 use Rattle.cdi_plain.specs.declared.task.Outcome.{Outcome}
 use Rattle.cdi_plain.specs.World.{World}
 use Rattle.cdi_plain.specs.Programs.{Prog}

@@ -1,5 +1,4 @@
 pub mod World
-pub mod Beans
 pub mod Events
 pub mod Programs
 pub mod Machine
@@ -9,10 +8,4 @@ pub mod Falls
 pub mod Laws
 pub mod Missing
 pub mod Worked
-pub mod Build
-pub mod Problem
-pub mod Duplicates
-pub mod WrongBodies
-pub mod Check
-pub mod Accepted
 pub mod Registered

@@ -11,21 +11,21 @@ use Rattle.cdi_base.specs.declared.entry.Entry.TheVariants as entries
 use Rattle.cdi_base.specs.declared.place.Place.TheVariants as places
 use Rattle.cdi_base.specs.declared.built_in.BuiltIn.TheVariants as built_in
 use Rattle.cdi_base.specs.Fields.{set}
-use Rattle.cdi_plain.specs.declared.bean.Resolution.{Resolution}
-use Rattle.cdi_plain.specs.declared.bean.Resolution.TheVariants as resolutions
+use Rattle.cdi_beans.specs.declared.bean.Resolution.{Resolution}
+use Rattle.cdi_beans.specs.declared.bean.Resolution.TheVariants as resolutions
 use Rattle.cdi_plain.specs.declared.world.Phase.TheVariants as phases
 use Rattle.cdi_plain.specs.declared.world.Status.{Status}
 use Rattle.cdi_plain.specs.declared.world.Status.TheVariants as statuses
 use Rattle.cdi_plain.specs.declared.world.Held.{Held}
 use Rattle.cdi_plain.specs.declared.world.Held.TheVariants as held
-use Rattle.cdi_plain.specs.declared.task.Code.{Code}
-use Rattle.cdi_plain.specs.declared.task.Code.TheVariants as codes
+use Rattle.cdi_beans.specs.declared.bean.Code.{Code}
+use Rattle.cdi_beans.specs.declared.bean.Code.TheVariants as codes
 use Rattle.cdi_plain.specs.declared.task.Completion.{Completion}
 use Rattle.cdi_plain.specs.declared.task.Completion.TheVariants as completions
 use Rattle.cdi_plain.specs.declared.task.Running.{Running}
 use Rattle.cdi_plain.specs.declared.task.Call.{Call}
 use Rattle.cdi_plain.specs.declared.task.Call.TheVariants as calls
-use Rattle.cdi_plain.specs.Beans.{first_fields}
+use Rattle.cdi_beans.specs.Beans.{first_fields}
 use Rattle.cdi_plain.specs.World.{Make, Put, Remove, Hold, Become, End}
 use Rattle.cdi_plain.specs.Events.{initialized, startup, shutting_down, before_destroyed, destroyed}
 use Rattle.cdi_plain.specs.Programs.{NumberAt, TextOf, GreatestHeld, Prog, ret, throw, find, scoped, deeper, fresh, act, choose, ◌>>=◌, ◌>>◌, attempt, completed, run, finished, raise, missing, note, alter, bean_at, method_at, instance, held_at, status, resolved, levels}

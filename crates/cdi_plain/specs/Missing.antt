@@ -6,16 +6,16 @@ use Rattle.cdi_base.specs.declared.act.Act.TheVariants as acts
 use Rattle.cdi_bodies.specs.declared.entry.Entry.{Entry}
 use Rattle.cdi_bodies.specs.declared.view.View.{View}
 use Rattle.cdi_deploy.specs.declared.deployment.Deployment.{Deployment}
-use Rattle.cdi_plain.specs.declared.bean.Method.{Method}
-use Rattle.cdi_plain.specs.declared.bean.Resolution.TheVariants as resolutions
-use Rattle.cdi_plain.specs.declared.tables.Tables.{Tables}
-use Rattle.cdi_plain.specs.declared.task.Code.TheVariants as codes
+use Rattle.cdi_beans.specs.declared.bean.Method.{Method}
+use Rattle.cdi_beans.specs.declared.bean.Resolution.TheVariants as resolutions
+use Rattle.cdi_beans.specs.declared.tables.Tables.{Tables}
+use Rattle.cdi_beans.specs.declared.bean.Code.TheVariants as codes
 use Rattle.cdi_plain.specs.declared.task.Call.{Call}
 use Rattle.cdi_plain.specs.declared.task.Call.TheVariants as calls
 use Rattle.cdi_plain.specs.declared.task.Outcome.{Outcome}
 use Rattle.cdi_plain.specs.declared.task.Outcome.TheVariants as outcomes
-use Rattle.cdi_plain.specs.Beans.{method_of, resolve}
-use Rattle.cdi_plain.specs.Build.{beans_of}
+use Rattle.cdi_beans.specs.Beans.{method_of, resolve}
+use Rattle.cdi_beans.specs.Build.{beans_of}
 use Rattle.cdi_plain.specs.Registered.{legal_of}
 use Rattle.cdi_plain.specs.World.{World, before_boot, begun}
 use Rattle.cdi_plain.specs.Programs.{Prog}

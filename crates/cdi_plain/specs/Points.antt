@@ -9,7 +9,7 @@ use Rattle.cdi_base.specs.BuiltIn.{number_of}
 use Rattle.cdi_bodies.specs.declared.view.View.{View}
 use Rattle.cdi_deploy.specs.declared.deployment.Scope.{Scope}
 use Rattle.cdi_deploy.specs.declared.deployment.Scope.TheVariants as scopes
-use Rattle.cdi_plain.specs.declared.tables.Tables.{Tables}
+use Rattle.cdi_beans.specs.declared.tables.Tables.{Tables}
 use Rattle.cdi_plain.specs.declared.task.Call.TheVariants as calls
 use Rattle.cdi_plain.specs.declared.task.Completion.{Completion}
 use Rattle.cdi_plain.specs.declared.task.Outcome.{Outcome}

@@ -9,17 +9,17 @@ use Rattle.cdi_base.specs.declared.built_in.BuiltIn.{BuiltIn}
 use Rattle.cdi_base.specs.BuiltIn.{number_of}
 use Rattle.cdi_bodies.specs.declared.view.View.{View}
 use Rattle.cdi_deploy.specs.declared.deployment.Scope.{Scope}
-use Rattle.cdi_plain.specs.declared.bean.Bean.{Bean}
-use Rattle.cdi_plain.specs.declared.bean.Method.{Method}
-use Rattle.cdi_plain.specs.declared.tables.Tables.{Tables}
-use Rattle.cdi_plain.specs.declared.bean.Resolution.{Resolution}
+use Rattle.cdi_beans.specs.declared.bean.Bean.{Bean}
+use Rattle.cdi_beans.specs.declared.bean.Method.{Method}
+use Rattle.cdi_beans.specs.declared.tables.Tables.{Tables}
+use Rattle.cdi_beans.specs.declared.bean.Resolution.{Resolution}
 use Rattle.cdi_plain.specs.declared.world.Status.{Status}
 use Rattle.cdi_plain.specs.declared.world.Held.{Held}
-use Rattle.cdi_plain.specs.declared.task.Code.{Code}
+use Rattle.cdi_beans.specs.declared.bean.Code.{Code}
 use Rattle.cdi_plain.specs.declared.task.Call.{Call}
 use Rattle.cdi_plain.specs.declared.task.Completion.{Completion}
 use Rattle.cdi_plain.specs.declared.task.Completion.TheVariants as completions
-use Rattle.cdi_plain.specs.Beans.{bean_of, method_of, resolve}
+use Rattle.cdi_beans.specs.Beans.{bean_of, method_of, resolve}
 use Rattle.cdi_plain.specs.World.{Instance, World, Change, instance_at, greatest_held}
 
 -- where something may be found

@@ -1,13 +1,13 @@
 //! Laws of the machine. A call of one of these does nothing: its contract is the law.
 ghost use Rattle.std.specs.Prelude.{◌≡◌, []};
 ghost use Rattle.cdi_bodies.specs.Table.{entries_of};
-ghost use Rattle.cdi_plain.specs.Check.{problems_of};
+ghost use Rattle.cdi_beans.specs.Check.{problems_of};
 ghost use Rattle.cdi_plain.specs.Laws.{OneRun, OneSchedule, Widens};
 ghost use Rattle.cdi_plain.specs.Missing.{MissesNothing, AcceptedServes};
 ghost use Rattle.cdi_plain.specs.Worked.{WorkedRuns};
 
 use crate::driver::Driver;
-use crate::tables::Tables;
+use cdi_beans::tables::Tables;
 use cdi_bodies::Bodies;
 use cdi_deploy::Deployment;
 

@@ -1,16 +1,16 @@
 //! The recursive engine.
 ghost use Rattle.std.specs.Prelude.{◌≡◌};
-ghost use Rattle.cdi_plain.specs.Beans.{KnowsEach};
+ghost use Rattle.cdi_beans.specs.Beans.{KnowsEach};
 ghost use Rattle.cdi_plain.specs.Machine.{machine};
 ghost use Rattle.cdi_plain.specs.Points.{first};
 ghost use Rattle.cdi_plain.specs.Runs.{Ran};
 
 use crate::driver::Driver;
 use crate::step::{resume, step};
-use crate::tables::Tables;
 use crate::task::{Call, Next, Outcome, Task};
 use crate::world::World;
 use cdi_base::{Cause, Entry};
+use cdi_beans::tables::Tables;
 use std::alloc::{AllocError, Global};
 
 /// Drops what a cut leaves.

@@ -5,7 +5,7 @@ ghost use Rattle.cdi_plain.specs.Falls.{Falls};
 ghost use Rattle.cdi_plain.specs.Points.{rest, waits};
 ghost use Rattle.cdi_plain.specs.Runs.{after};
 ghost use Rattle.cdi_plain.specs.Falls.{rank, frame_rank, back_rank};
-ghost use Rattle.cdi_plain.specs.Beans.{KnowsEach};
+ghost use Rattle.cdi_beans.specs.Beans.{KnowsEach};
 ghost use Rattle.cdi_base.specs.BuiltIn.{number_of};
 
 mod bodies;
@@ -14,10 +14,10 @@ mod creation;
 mod destruction;
 
 use crate::driver::Driver;
-use crate::tables::Tables;
 use crate::task::{Call, Completion, Frame, Next, Outcome, Task};
 use crate::world::World;
 use cdi_base::{BuiltIn, Entry};
+use cdi_beans::tables::Tables;
 use std::alloc::{AllocError, Global};
 
 /// Ends with a built-in exception.

@@ -1,5 +1,6 @@
 //! What the machine does: its recursive tasks, the points at which it may stand, and what waits for a task.
 use cdi_base::{Act, Answer, Cause, Entry, Name, Place, Seq, Value};
+use cdi_beans::bean::Code;
 use cdi_bodies::View;
 
 /// How a task ended.
@@ -18,13 +19,6 @@ pub enum Outcome {
 pub enum Completion {
     Value(Value),
     Threw(Name),
-}
-
-/// A code of the deployment that can run as a body.
-#[derive(Clone, Copy, Debug, PartialEq, Eq)]
-pub enum Code {
-    /// A business method of a bean.
-    Method { bean: u32, method: Name },
 }
 
 /// A body that is running: on which instance, which code, how many levels may lie below it, its parameters and

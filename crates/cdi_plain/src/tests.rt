@@ -1,17 +1,17 @@
 //! Runs of the engine under drivers of the tests' own.
 ghost use Rattle.std.specs.Prelude.{◌≡◌, IfOk};
 ghost use Rattle.cdi_base.specs.declared.act.Act.TheVariants.{Give};
-ghost use Rattle.cdi_plain.specs.Beans.{KnowsEach};
+ghost use Rattle.cdi_beans.specs.Beans.{KnowsEach};
 ghost use Rattle.cdi_plain.specs.Worked.{anything};
 ghost use Rattle.cdi_base.specs.declared.value.Value.TheVariants.{Null};
 
-use crate::bean::{Bean, Method};
 use crate::driver::Driver;
 use crate::run::run;
-use crate::tables::Tables;
 use crate::task::{Call, Outcome};
 use crate::world::World;
 use cdi_base::{Act, BuiltIn, Cause, Fields, Limits, Name, Names, Place, Seq, Value, is_name};
+use cdi_beans::bean::{Bean, Method};
+use cdi_beans::tables::Tables;
 use cdi_bodies::{Bodies, Body, BodyId, Shape, View};
 use cdi_deploy::deployment::{Field, Scope};
 use std::alloc::{AllocError, Global};

@@ -14,7 +14,7 @@ use Rattle.cdi_bodies.specs.Adding.{Adds}
 use Rattle.cdi_bodies.specs.Gives.{gives, place_of, shape_at as entry_shape}
 use Rattle.cdi_plain.specs.Laws.{IsWithin}
 use Rattle.cdi_plain.specs.Registered.{legal_of}
-use Rattle.cdi_plain.specs.WrongBodies.{shape_of as shape_named}
+use Rattle.cdi_beans.specs.WrongBodies.{shape_of as shape_named}
 use Rattle.cdi_script.specs.Follows.{Runs}
 use Rattle.cdi_script.specs.Listed.{shape_of}
 use Rattle.cdi_script.specs.Next.{next_of}

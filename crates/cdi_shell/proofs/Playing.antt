@@ -3,8 +3,8 @@ use Rattle.std.proofs.Common.{ℕ, ◌≡◌, ◌∙◌, List, refl, Option, map
 use Rattle.std.specs.Prelude.{Result}
 use Rattle.cdi_bodies.specs.declared.entry.Entry.{Entry}
 use Rattle.cdi_deploy.specs.declared.deployment.Deployment.{Deployment}
-use Rattle.cdi_plain.specs.Build.{beans_of}
-use Rattle.cdi_plain.specs.Check.{problems_of}
+use Rattle.cdi_beans.specs.Build.{beans_of}
+use Rattle.cdi_beans.specs.Check.{problems_of}
 use Rattle.cdi_plain.specs.Registered.{legal_of}
 use Rattle.cdi_shell.specs.declared.container.Container.{Container}
 use Rattle.cdi_shell.specs.declared.ending.Ending.{Ending}

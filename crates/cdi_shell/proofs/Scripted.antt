@@ -10,23 +10,23 @@ use Rattle.cdi_deploy.specs.declared.deployment.Class.{Class}
 use Rattle.cdi_deploy.specs.declared.deployment.Deployment.{Deployment}
 use Rattle.cdi_deploy.specs.declared.deployment.Member.{Member}
 use Rattle.cdi_deploy.specs.declared.deployment.Member.TheVariants as members
-use Rattle.cdi_plain.specs.declared.bean.Bean.{Bean}
-use Rattle.cdi_plain.specs.declared.bean.Method.{Method}
-use Rattle.cdi_plain.specs.declared.problem.Problem.{Problem}
-use Rattle.cdi_plain.specs.declared.problem.ProblemKind.{ProblemKind}
-use Rattle.cdi_plain.specs.declared.problem.ProblemKind.TheVariants as kinds
-use Rattle.cdi_plain.specs.declared.tables.Tables.{Tables}
+use Rattle.cdi_beans.specs.declared.bean.Bean.{Bean}
+use Rattle.cdi_beans.specs.declared.bean.Method.{Method}
+use Rattle.cdi_beans.specs.declared.problem.Problem.{Problem}
+use Rattle.cdi_beans.specs.declared.problem.ProblemKind.{ProblemKind}
+use Rattle.cdi_beans.specs.declared.problem.ProblemKind.TheVariants as kinds
+use Rattle.cdi_beans.specs.declared.tables.Tables.{Tables}
 use Rattle.cdi_plain.specs.declared.task.Call.{Call}
 use Rattle.cdi_plain.specs.declared.task.Call.TheVariants as calls
 use Rattle.cdi_plain.specs.declared.task.Outcome.{Outcome}
-use Rattle.cdi_plain.specs.Build.{method_before, methods_of, bean_before, beans_in, beans_of}
-use Rattle.cdi_plain.specs.Check.{problems_at, too_many, or_else, problems_with, problems_of}
-use Rattle.cdi_plain.specs.Duplicates.{duplicates}
+use Rattle.cdi_beans.specs.Build.{method_before, methods_of, bean_before, beans_in, beans_of}
+use Rattle.cdi_beans.specs.Check.{problems_at, too_many, or_else, problems_with, problems_of}
+use Rattle.cdi_beans.specs.Duplicates.{duplicates}
 use Rattle.cdi_plain.specs.Laws.{IsWithin}
 use Rattle.cdi_plain.specs.Registered.{legal_of}
 use Rattle.cdi_plain.specs.Runs.{Legal}
 use Rattle.cdi_plain.specs.World.{World}
-use Rattle.cdi_plain.specs.WrongBodies.{shape_of, is_wrong, problem_at, has_wrong_body, wrong_in, wrong_of_kind, wrong_with}
+use Rattle.cdi_beans.specs.WrongBodies.{shape_of, is_wrong, problem_at, has_wrong_body, wrong_in, wrong_of_kind, wrong_with}
 use Rattle.cdi_plain.proofs.Wider.{wider}
 use Rattle.cdi_text.specs.declared.command.BadLine.{BadLine}
 use Rattle.cdi_base.specs.declared.command.Command.{Command}

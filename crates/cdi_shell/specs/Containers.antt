@@ -4,9 +4,9 @@ use Rattle.cdi_bodies.specs.declared.entry.Entry.{Entry}
 use Rattle.cdi_bodies.specs.Table.{entries_of}
 use Rattle.cdi_bodies.specs.declared.table.Bodies.{Bodies}
 use Rattle.cdi_deploy.specs.declared.deployment.Deployment.{Deployment}
-use Rattle.cdi_plain.specs.declared.tables.Tables.{Tables}
-use Rattle.cdi_plain.specs.Build.{beans_of}
-use Rattle.cdi_plain.specs.Check.{problems_of}
+use Rattle.cdi_beans.specs.declared.tables.Tables.{Tables}
+use Rattle.cdi_beans.specs.Build.{beans_of}
+use Rattle.cdi_beans.specs.Check.{problems_of}
 use Rattle.cdi_plain.specs.Registered.{legal_of}
 use Rattle.cdi_plain.specs.Runs.{Legal}
 use Rattle.cdi_shell.specs.declared.container.Container.{Container}

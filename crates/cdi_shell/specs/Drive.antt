@@ -5,11 +5,11 @@ use Rattle.cdi_base.specs.Reading.{◌>>=◌}
 use Rattle.cdi_bodies.specs.declared.shape.Shape.{Shape}
 use Rattle.cdi_deploy.specs.declared.deployment.Deployment.{Deployment}
 use Rattle.cdi_deploy.specs.Reading.{deployment_in}
-use Rattle.cdi_plain.specs.declared.bean.Bean.{Bean}
-use Rattle.cdi_plain.specs.declared.problem.Problem.{Problem}
-use Rattle.cdi_plain.specs.declared.tables.Tables.{Tables}
-use Rattle.cdi_plain.specs.Build.{beans_in}
-use Rattle.cdi_plain.specs.Check.{problems_with}
+use Rattle.cdi_beans.specs.declared.bean.Bean.{Bean}
+use Rattle.cdi_beans.specs.declared.problem.Problem.{Problem}
+use Rattle.cdi_beans.specs.declared.tables.Tables.{Tables}
+use Rattle.cdi_beans.specs.Build.{beans_in}
+use Rattle.cdi_beans.specs.Check.{problems_with}
 use Rattle.cdi_plain.specs.Runs.{Legal}
 use Rattle.cdi_script.specs.Listed.{shape_of}
 use Rattle.cdi_script.specs.Next.{next_of}

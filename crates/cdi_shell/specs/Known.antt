@@ -2,9 +2,9 @@
 use Rattle.std.specs.Prelude.{ℕ, ◌<◌, List, [], ◌∷◌}
 use denote.Struct.Props as logic
 use mathlib.Core.HLevel.{Unit-prop, ×_prop}
-use Rattle.cdi_plain.specs.declared.bean.Bean.{Bean}
-use Rattle.cdi_plain.specs.declared.bean.Method.{Method}
-use Rattle.cdi_plain.specs.Beans.{KnowsMethods, KnowsEach}
+use Rattle.cdi_beans.specs.declared.bean.Bean.{Bean}
+use Rattle.cdi_beans.specs.declared.bean.Method.{Method}
+use Rattle.cdi_beans.specs.Beans.{KnowsMethods, KnowsEach}
 
 below_prop : (m n : ℕ) → IsProp (m < n)
 below_prop m n = Prim.hlevel logic.props

@@ -4,10 +4,10 @@ use Rattle.cdi_base.specs.declared.command.Command.{Command}
 use Rattle.cdi_base.specs.declared.reply.Reply.{Reply}
 use Rattle.cdi_bodies.specs.declared.entry.Entry.{Entry}
 use Rattle.cdi_deploy.specs.declared.deployment.Deployment.{Deployment}
-use Rattle.cdi_plain.specs.declared.tables.Tables.{Tables}
+use Rattle.cdi_beans.specs.declared.tables.Tables.{Tables}
 use Rattle.cdi_plain.specs.declared.task.Call.{Call}
 use Rattle.cdi_plain.specs.declared.task.Outcome.{Outcome}
-use Rattle.cdi_plain.specs.Build.{beans_of}
+use Rattle.cdi_beans.specs.Build.{beans_of}
 use Rattle.cdi_plain.specs.Machine.{machine}
 use Rattle.cdi_plain.specs.Missing.{NothingMissing}
 use Rattle.cdi_plain.specs.Registered.{legal_of}

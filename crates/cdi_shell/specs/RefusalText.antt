@@ -6,8 +6,8 @@ use Rattle.cdi_deploy.specs.declared.fault.ReadFault.{ReadFault}
 use Rattle.cdi_deploy.specs.declared.fault.ReadFault.TheVariants as faults
 use Rattle.cdi_script.specs.declared.fault.ScriptFault.{ScriptFault}
 use Rattle.cdi_script.specs.declared.fault.ScriptFault.TheVariants as script_faults
-use Rattle.cdi_plain.specs.declared.problem.Problem.{Problem}
-use Rattle.cdi_plain.specs.Problem.{problem_word}
+use Rattle.cdi_beans.specs.declared.problem.Problem.{Problem}
+use Rattle.cdi_beans.specs.Problem.{problem_word}
 use Rattle.cdi_text.specs.Places.{place_text}
 
 -- a text and a line feed

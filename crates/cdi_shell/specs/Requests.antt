@@ -8,14 +8,14 @@ use Rattle.cdi_base.specs.declared.reply.Refusal.TheVariants as refusals
 use Rattle.cdi_base.specs.declared.value.Value.{Value}
 use Rattle.cdi_base.specs.BuiltIn as names
 use Rattle.cdi_base.specs.Name.{number_of}
-use Rattle.cdi_plain.specs.declared.bean.Method.{Method}
-use Rattle.cdi_plain.specs.declared.bean.Resolution.{Resolution}
-use Rattle.cdi_plain.specs.declared.bean.Resolution.TheVariants as resolutions
-use Rattle.cdi_plain.specs.declared.tables.Tables.{Tables}
+use Rattle.cdi_beans.specs.declared.bean.Method.{Method}
+use Rattle.cdi_beans.specs.declared.bean.Resolution.{Resolution}
+use Rattle.cdi_beans.specs.declared.bean.Resolution.TheVariants as resolutions
+use Rattle.cdi_beans.specs.declared.tables.Tables.{Tables}
 use Rattle.cdi_plain.specs.declared.task.Call.{Call}
 use Rattle.cdi_plain.specs.declared.task.Call.TheVariants as calls
-use Rattle.cdi_plain.specs.declared.task.Code.TheVariants as codes
-use Rattle.cdi_plain.specs.Beans.{method_of, resolve}
+use Rattle.cdi_beans.specs.declared.bean.Code.TheVariants as codes
+use Rattle.cdi_beans.specs.Beans.{method_of, resolve}
 use Rattle.cdi_shell.specs.declared.request.Request.{Request}
 use Rattle.cdi_shell.specs.declared.request.Request.TheVariants as requests
 

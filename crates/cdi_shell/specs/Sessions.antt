@@ -4,7 +4,7 @@ use Rattle.cdi_base.specs.declared.command.Command.{Command}
 use Rattle.cdi_base.specs.declared.reply.Refusal.TheVariants as refusals
 use Rattle.cdi_base.specs.declared.reply.Reply.{Reply}
 use Rattle.cdi_base.specs.declared.reply.Reply.TheVariants as replies
-use Rattle.cdi_plain.specs.declared.tables.Tables.{Tables}
+use Rattle.cdi_beans.specs.declared.tables.Tables.{Tables}
 use Rattle.cdi_plain.specs.Runs.{Legal}
 use Rattle.cdi_text.specs.declared.command.BadLine.{BadLine}
 use Rattle.cdi_shell.specs.declared.container.Container.{Container}

@@ -6,7 +6,7 @@ use Rattle.cdi_base.specs.declared.reply.Cause.TheVariants as causes
 use Rattle.cdi_base.specs.declared.reply.Refusal.TheVariants as refusals
 use Rattle.cdi_base.specs.declared.reply.Reply.{Reply}
 use Rattle.cdi_base.specs.declared.reply.Reply.TheVariants as replies
-use Rattle.cdi_plain.specs.declared.tables.Tables.{Tables}
+use Rattle.cdi_beans.specs.declared.tables.Tables.{Tables}
 use Rattle.cdi_plain.specs.declared.task.Call.{Call}
 use Rattle.cdi_plain.specs.declared.task.Call.TheVariants as calls
 use Rattle.cdi_plain.specs.declared.task.Outcome.{Outcome}

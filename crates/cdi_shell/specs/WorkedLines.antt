@@ -6,7 +6,7 @@ use Rattle.cdi_base.specs.declared.reply.Refusal.TheVariants as refusals
 use Rattle.cdi_base.specs.declared.reply.Reply.TheVariants as replies
 use Rattle.cdi_base.specs.declared.value.Value.TheVariants as values
 use Rattle.cdi_deploy.specs.declared.fault.ReadFault.TheVariants as faults
-use Rattle.cdi_plain.specs.declared.problem.ProblemKind.TheVariants as kinds
+use Rattle.cdi_beans.specs.declared.problem.ProblemKind.TheVariants as kinds
 use Rattle.cdi_plain.specs.declared.task.Call.TheVariants as calls
 use Rattle.cdi_deploy.specs.declared.deployment.Scope.TheVariants as scopes
 use Rattle.cdi_plain.specs.Worked.{K, n, up, tables_of}

@@ -1,7 +1,7 @@
 //! The container: it carries out commands, one after the other.
 ghost use Rattle.std.specs.Prelude.{◌≡◌, ◌<◌, length, map, [], IfOk, IfErr};
 ghost use Rattle.cdi_bodies.specs.Table.{entries_of};
-ghost use Rattle.cdi_plain.specs.Beans.{KnowsEach};
+ghost use Rattle.cdi_beans.specs.Beans.{KnowsEach};
 ghost use Rattle.cdi_plain.specs.Registered.{legal_of};
 ghost use Rattle.cdi_plain.specs.World.{begun};
 ghost use Rattle.cdi_shell.specs.Known.{knows_prop};
@@ -10,13 +10,13 @@ ghost use Rattle.cdi_shell.specs.declared.container.BootError.TheVariants.{Memor
 
 use crate::request::{Request, requested};
 use cdi_base::{Cause, Command, Limits, Name, Names, Refusal, Reply, Seq};
+use cdi_beans::build::build;
+use cdi_beans::check::{accepted_fits, problems};
+use cdi_beans::problem::Problem;
+use cdi_beans::tables::Tables;
 use cdi_bodies::Bodies;
 use cdi_deploy::{Class, Deployment};
-use cdi_plain::build::build;
-use cdi_plain::check::{accepted_fits, problems};
-use cdi_plain::problem::Problem;
 use cdi_plain::run::run;
-use cdi_plain::tables::Tables;
 use cdi_plain::task::{Call, Outcome};
 use cdi_plain::world::World;
 use std::alloc::{AllocError, Global};

@@ -1,8 +1,8 @@
 //! A run of the program, from the bytes of a deployment and of its input to the bytes of its output.
 ghost use Rattle.std.specs.Prelude.{◌≡◌, ◌≤◌, length, map, Bool, Ok, IfOk, IfErr, OnErr};
 ghost use Rattle.cdi_bodies.specs.Table.{entries_of};
-ghost use Rattle.cdi_plain.specs.Build.{beans_of};
-ghost use Rattle.cdi_plain.specs.Check.{problems_of};
+ghost use Rattle.cdi_beans.specs.Build.{beans_of};
+ghost use Rattle.cdi_beans.specs.Check.{problems_of};
 ghost use Rattle.cdi_plain.specs.Registered.{legal_of};
 ghost use Rattle.cdi_script.specs.Next.{next_of};
 ghost use Rattle.cdi_shell.specs.declared.drive.PrepareError.TheVariants as prepare_errors;
@@ -20,10 +20,10 @@ use crate::refusal_text::{write_fault, write_problems, write_script_fault};
 use crate::scripts::{NamedScript, read_scripts};
 use crate::session::serve;
 use cdi_base::{Act, Fields, Limits, Names, ReadError};
+use cdi_beans::problem::Problem;
 use cdi_bodies::{AddError, Bodies, Body, MAX_BODIES, View};
 use cdi_deploy::{Deployment, read};
 use cdi_lines::{Input, Output, ServeFault};
-use cdi_plain::problem::Problem;
 use std::alloc::{AllocError, Global};
 use std::io::{Read, Write};
 

@@ -1,7 +1,7 @@
 //! Laws of the definitions that the contracts cite. A call of one of these does nothing: its contract is the law.
 ghost use Rattle.std.specs.Prelude.{◌≡◌, []};
 ghost use Rattle.cdi_bodies.specs.Table.{entries_of};
-ghost use Rattle.cdi_plain.specs.Check.{problems_of};
+ghost use Rattle.cdi_beans.specs.Check.{problems_of};
 ghost use Rattle.cdi_shell.specs.Laws.{OneOutput};
 ghost use Rattle.cdi_shell.specs.Missing.{NoneMissed};
 ghost use Rattle.cdi_shell.specs.WorkedLines.{WorkedLines};

@@ -3,8 +3,8 @@ ghost use Rattle.std.specs.Prelude.{◌≡◌, IfOk, string_bytes};
 ghost use Rattle.cdi_shell.specs.RefusalText as spec;
 
 use cdi_base::Names;
+use cdi_beans::problem::Problem;
 use cdi_deploy::ReadFault;
-use cdi_plain::problem::Problem;
 use cdi_script::ScriptFault;
 use cdi_text::places::place_text;
 use std::alloc::{AllocError, Global};

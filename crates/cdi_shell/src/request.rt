@@ -4,9 +4,9 @@ ghost use Rattle.std.specs.List.{list_any};
 ghost use Rattle.cdi_shell.specs.Requests as spec;
 
 use cdi_base::{BuiltIn, Command, Name, Refusal, Seq, Text, Value};
-use cdi_plain::bean::{Method, Resolution};
-use cdi_plain::tables::Tables;
-use cdi_plain::task::{Call, Code};
+use cdi_beans::bean::{Code, Method, Resolution};
+use cdi_beans::tables::Tables;
+use cdi_plain::task::Call;
 
 /// What a command comes to.
 #[derive(Drop)]

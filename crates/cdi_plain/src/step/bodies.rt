@@ -2,14 +2,15 @@
 ghost use Rattle.std.specs.Prelude.{◌≡◌, [], ◌∷◌, IfOk, OnErr};
 ghost use Rattle.cdi_plain.specs.Points.{Leads};
 ghost use Rattle.cdi_plain.specs.Falls.{Falls};
-ghost use Rattle.cdi_plain.specs.Beans.{KnowsEach};
+ghost use Rattle.cdi_beans.specs.Beans.{KnowsEach};
 
 use crate::driver::Driver;
 use crate::step::missing;
-use crate::tables::Tables;
-use crate::task::{Call, Code, Completion, Frame, Next, Outcome, Running, Task};
+use crate::task::{Call, Completion, Frame, Next, Outcome, Running, Task};
 use crate::world::World;
 use cdi_base::{Act, Answer, Cause, Entry, Seq, Text, Value};
+use cdi_beans::bean::Code;
+use cdi_beans::tables::Tables;
 use cdi_bodies::View;
 use std::alloc::{AllocError, Global};
 

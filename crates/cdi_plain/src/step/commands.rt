@@ -3,14 +3,14 @@ ghost use Rattle.std.specs.Prelude.{◌≡◌, [], ◌∷◌, IfOk, OnErr};
 ghost use Rattle.cdi_plain.specs.Points.{Leads};
 ghost use Rattle.cdi_plain.specs.Falls.{Falls};
 
-use crate::bean::Resolution;
 use crate::driver::Driver;
 use crate::events::{before_destroyed, destroyed, initialized, shutting_down, startup};
 use crate::step::{missing, raised};
-use crate::tables::Tables;
-use crate::task::{Call, Code, Frame, Next, Outcome, Task};
+use crate::task::{Call, Frame, Next, Outcome, Task};
 use crate::world::{Held, Status, World};
 use cdi_base::{BuiltIn, Cause, Name, Seq, Value};
+use cdi_beans::bean::{Code, Resolution};
+use cdi_beans::tables::Tables;
 use cdi_deploy::deployment::Scope;
 use std::alloc::{AllocError, Global};
 

@@ -5,10 +5,10 @@ ghost use Rattle.cdi_plain.specs.Falls.{Falls};
 
 use crate::driver::Driver;
 use crate::step::{missing, raised};
-use crate::tables::Tables;
 use crate::task::{Call, Next, Outcome, Task};
 use crate::world::{Held, Phase, Status, World};
 use cdi_base::{BuiltIn, Cause, Entry, Place, Value};
+use cdi_beans::tables::Tables;
 use cdi_deploy::deployment::Scope;
 use std::alloc::{AllocError, Global};
 

@@ -5,10 +5,10 @@ ghost use Rattle.cdi_plain.specs.Falls.{Falls};
 
 use crate::driver::Driver;
 use crate::step::missing;
-use crate::tables::Tables;
 use crate::task::{Call, Completion, Frame, Next, Outcome, Task};
 use crate::world::{Held, Instance, Phase, World};
 use cdi_base::{Entry, Seq, Value};
+use cdi_beans::tables::Tables;
 use cdi_deploy::deployment::Scope;
 use std::alloc::AllocError;
 

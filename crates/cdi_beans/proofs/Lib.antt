@@ -1,0 +1,4 @@
+pub mod Eligible
+pub mod Built
+pub mod Checked
+pub mod Accepted

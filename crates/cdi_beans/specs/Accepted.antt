@@ -1,0 +1,22 @@
+-- What holds of an accepted deployment.
+use Rattle.std.specs.Prelude.{◌≡◌, ℕ, ◌≤◌, List, [], ◌∷◌, length, map, Option, is_some, IsTrue}
+use Rattle.cdi_bodies.specs.declared.entry.Entry.{Entry}
+use Rattle.cdi_bodies.specs.Gives.{place_of}
+use Rattle.cdi_deploy.specs.declared.deployment.Class.{Class}
+use Rattle.cdi_deploy.specs.declared.deployment.Deployment.{Deployment}
+use Rattle.cdi_beans.specs.Build.{methods_of, beans_of}
+use Rattle.cdi_beans.specs.Duplicates.{member_name}
+
+-- the methods of a class, as the machine knows them, are those that it declares
+abbrev pub KeepsMethods : (ℕ → Option ℕ) → Class → Type 0
+KeepsMethods registered class = map (λ m. m.name) (methods_of registered class.name class.members) ≡ map member_name class.members
+
+-- no bean loses a method
+abbrev pub KeepsAll : (ℕ → Option ℕ) → List Class → Type 0
+KeepsAll registered [] = Unit {0}
+KeepsAll registered (class ∷ classes) = (IsTrue (is_some class.bean) → KeepsMethods registered class) × KeepsAll registered classes
+
+-- there are no more beans than the tables hold, and the tables leave no method out
+pub record Fits {X : Type 0} {F : X → Type 0} {g : _} (deployment : Deployment) (entries : List (Entry X F g)) : Type 0 where
+  pub few : length (beans_of deployment.classes entries) ≤ 4096
+  pub whole : KeepsAll (place_of entries) deployment.classes

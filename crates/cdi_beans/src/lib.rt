@@ -1,0 +1,10 @@
+//! The beans of a deployment: their list, what a type resolves to, and what is wrong with the deployment.
+#![tactic(auto)]
+
+pub mod bean;
+pub mod build;
+#[cfg(test)]
+mod build_tests;
+pub mod check;
+pub mod problem;
+pub mod tables;
