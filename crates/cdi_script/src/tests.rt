@@ -6,7 +6,7 @@ use crate::fault::ScriptFault;
 use crate::script::{MAX_STEPS, Script};
 use crate::step::{Action, Step};
 use cdi_base::{Act, Answer, BuiltIn, Fields, Name, Names, ReadError, Seq, Text, Value};
-use cdi_bodies::{AddError, Bodies, Body, View};
+use cdi_bodies::{Bodies, Body, View};
 use serde_json::Value as Json;
 use std::alloc::{AllocError, AllocFailed, Global};
 use std::process::Abort;
@@ -28,15 +28,6 @@ impl From<AllocError> for AskError {
 impl<T: Drop> From<AllocFailed<T>> for AskError {
     fn from(_error: AllocFailed<T>) -> AskError {
         AskError::Memory
-    }
-}
-
-impl From<AddError> for AskError {
-    fn from(error: AddError) -> AskError {
-        match error {
-            AddError::Memory(_) => AskError::Memory,
-            AddError::Repeated(_) | AddError::Full(_) => AskError::Refused,
-        }
     }
 }
 
@@ -65,7 +56,9 @@ fn ask_one(
                 ensures { IfOk result (λ act. act ≡ next_of script fields.now view.now) }
             { script.next(alloc, fields, view) },
         )?;
-        let id = bodies.add(*name, shape, runner)?;
+        let Ok(id) = bodies.add(*name, shape, runner) else {
+            return Err(AskError::Refused);
+        };
         if bodies.len() == which + 1 {
             asked = Some(id);
         }
