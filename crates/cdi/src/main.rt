@@ -4,15 +4,7 @@
 ghost use Rattle.std.specs.Prelude.{◌≡◌};
 ghost use Rattle.cdi.specs.Statuses as spec;
 
-#[cfg(test)]
-mod drive_tests;
 mod options;
-#[cfg(test)]
-mod refused_tests;
-#[cfg(test)]
-mod stream_tests;
-#[cfg(test)]
-mod test_runs;
 
 use cdi_base::Limits;
 use cdi_lines::{Input, Output};

@@ -40,7 +40,7 @@ pub enum BuiltIn {
 }
 
 /// The built-in names, each at its number.
-pub(crate) const ALL: [BuiltIn; 19] = [
+pub const ALL: [BuiltIn; 19] = [
     BuiltIn::Object,
     BuiltIn::Startup,
     BuiltIn::Shutdown,

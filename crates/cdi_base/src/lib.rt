@@ -12,8 +12,6 @@ pub mod place;
 pub mod reading;
 pub mod reply;
 pub mod seq;
-#[cfg(test)]
-mod tests;
 pub mod text;
 pub mod uses;
 pub mod value;

@@ -3,8 +3,6 @@
 
 pub mod bean;
 pub mod build;
-#[cfg(test)]
-mod build_tests;
 pub mod check;
 pub mod problem;
 pub mod tables;

@@ -6,8 +6,6 @@ pub mod entry;
 pub mod error;
 pub mod shape;
 pub mod table;
-#[cfg(test)]
-mod tests;
 pub mod view;
 
 pub use chooser::{Choice, Chooser};

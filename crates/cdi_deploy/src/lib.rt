@@ -13,8 +13,6 @@ mod parts;
 pub mod reading;
 mod shape;
 pub mod steps;
-#[cfg(test)]
-mod tests;
 
 pub use deployment::{Bean, Class, Deployment, Field, Member, Method, Scope, Script};
 pub use fault::ReadFault;

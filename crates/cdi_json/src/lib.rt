@@ -8,9 +8,6 @@ ghost use Rattle.cdi_json.specs.Json as spec;
 use serde_json::Value as Json;
 use std::alloc::{AllocError, Global};
 
-#[cfg(test)]
-mod tests;
-
 /// The JSON value that these bytes are, or `None` where they are no JSON text in UTF-8. White space may stand round the
 /// value, and nothing else. An error where a growth was refused, whatever the bytes are.
 #[tactic(auto, unfolding(crate::specs::Json::json_in))]

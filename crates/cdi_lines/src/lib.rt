@@ -2,18 +2,12 @@
 #![tactic(auto)]
 
 mod answer;
-#[cfg(test)]
-mod ends_tests;
 pub mod fault;
 pub mod input;
 pub mod laws;
 pub mod output;
 pub mod responder;
 pub mod serving;
-#[cfg(test)]
-mod serving_tests;
-#[cfg(test)]
-mod test_ends;
 
 pub use fault::ServeFault;
 pub use input::{Input, ReadFailed};

@@ -89,7 +89,7 @@ fn answer_ended<R: Read, W: Write, A: Responder>(
 }
 
 /// The same as [`serve_lines`], for at most `limit` bytes.
-pub(crate) fn serve_up_to<R: Read, W: Write, A: Responder>(
+pub fn serve_up_to<R: Read, W: Write, A: Responder>(
     alloc: Global,
     limit: usize,
     greeting: &[u8],

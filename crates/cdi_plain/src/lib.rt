@@ -7,6 +7,4 @@ pub mod laws;
 pub mod run;
 pub mod step;
 pub mod task;
-#[cfg(test)]
-mod tests;
 pub mod world;

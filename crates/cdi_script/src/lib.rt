@@ -9,8 +9,6 @@ pub mod next;
 pub mod script;
 pub mod shape;
 pub mod step;
-#[cfg(test)]
-mod tests;
 pub mod value;
 
 pub use expression::Expression;

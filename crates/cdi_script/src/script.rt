@@ -1,5 +1,5 @@
 //! Scripts, and reading them.
-ghost use Rattle.std.specs.Prelude.{◌≡◌, ◌≤◌, ◌↔◌, [], length, false, IsTrue, IfOk};
+ghost use Rattle.std.specs.Prelude.{◌≡◌, ◌≤◌, ◌↔◌, [], length, false, IsTrue, IsSome, IfOk, IfSome};
 ghost use Rattle.cdi_base.specs.Name.{Extends};
 ghost use Rattle.cdi_base.specs.Reading.{Gives};
 ghost use Rattle.serde_json.specs.Data.{array};
@@ -61,6 +61,24 @@ fn steps_of(
 }
 
 impl Script {
+    /// The script of these steps, or `None` where there are more than [`MAX_STEPS`].
+    pub fn new(steps: Seq<Step>) -> Option<Script>
+        ensures within { IsSome result ↔ (length steps ≤ MAX_STEPS) }
+        ensures value { IfSome result (λ script. script ≡ steps) }
+    {
+        if steps.len() > MAX_STEPS {
+            return None;
+        }
+        Some(Script { steps })
+    }
+
+    /// Its steps, in order.
+    pub fn steps(&self) -> &[Step]
+        ensures { result.now ≡ self.now }
+    {
+        self.steps.as_slice()
+    }
+
     /// The script that a value is: an array of at most [`MAX_STEPS`] steps. Its names go into the table. A value that
     /// is no script, or one that is too long, leaves the table as it was; where the table is full or memory runs out,
     /// the table may have got some names of the script. The names that were in it keep their numbers.

@@ -2,13 +2,9 @@
 #![tactic(auto)]
 
 pub mod container;
-#[cfg(test)]
-mod container_tests;
 pub mod drive;
 pub mod ending;
 pub mod laws;
-#[cfg(test)]
-mod refusal_tests;
 pub mod refusal_text;
 pub mod request;
 pub mod scripts;

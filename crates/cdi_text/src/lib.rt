@@ -2,11 +2,7 @@
 #![tactic(auto)]
 
 pub mod command;
-#[cfg(test)]
-mod command_tests;
 pub mod places;
-#[cfg(test)]
-mod reply_tests;
 pub mod reply_text;
 
 pub use command::{BadLine, read_command};

@@ -1,6 +1,6 @@
 //! Replies and places that were written by hand.
-use crate::places::place_text;
-use crate::write_reply;
+use cdi_text::places::place_text;
+use cdi_text::write_reply;
 use cdi_base::{
     BuiltIn, Cause, InterceptorMethod, Names, Place, Refusal, Reply, Seq, Text, Value, is_name,
 };

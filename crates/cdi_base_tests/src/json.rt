@@ -1,4 +1,4 @@
-use crate::{is_word, read_json};
+use cdi_json::{is_word, read_json};
 use serde_json::{Value as Json, json};
 use std::alloc::Global;
 use std::process::Abort;

@@ -1,6 +1,6 @@
-use crate::serving::serve_up_to;
+use cdi_lines::serving::serve_up_to;
 use crate::test_ends::{Lengths, Mirror, Room, Steps, Stuck};
-use crate::{Input, Output, ServeFault, serve_lines};
+use cdi_lines::{Input, Output, ServeFault, serve_lines};
 use std::alloc::Global;
 use std::io;
 use std::io::{BufWriter, Read};

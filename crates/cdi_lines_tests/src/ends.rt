@@ -1,5 +1,5 @@
 use crate::test_ends::{Room, Steps, Stuck};
-use crate::{Input, Output, ReadFailed, ServeFault, WriteFailed};
+use cdi_lines::{Input, Output, ReadFailed, ServeFault, WriteFailed};
 use std::io::BufWriter;
 use std::test::Fail;
 

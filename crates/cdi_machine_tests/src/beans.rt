@@ -1,7 +1,7 @@
 //! Problems and tables of small deployments.
-use crate::build::build;
-use crate::check::{accepted_fits, problems};
-use crate::problem::ProblemKind;
+use cdi_beans::build::build;
+use cdi_beans::check::{accepted_fits, problems};
+use cdi_beans::problem::ProblemKind;
 use cdi_base::BuiltIn;
 use cdi_bodies::Bodies;
 use cdi_deploy::read;

@@ -1,7 +1,7 @@
 use Rattle.std.proofs.Common.{◌≡◌, ◌<◌, ◌++◌, length, IfSome}
 use Rattle.cdi_bodies.specs.Table.{entries_of}
 use Rattle.cdi_script.specs.Follows.{Follows}
-use Rattle.cdi_script.proofs.tests.ask_one.Given as goal
+use Rattle.cdi_readers_tests.proofs.script.ask_one.Given as goal
 
 abbrev pub invariant-loop-script : goal.invariant-loop-script
 invariant-loop-script l = record {

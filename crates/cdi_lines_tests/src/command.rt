@@ -1,5 +1,5 @@
 //! Tests of reading command lines.
-use crate::command::{BadLine, read_command};
+use cdi_text::{BadLine, read_command};
 use cdi_base::{Command, ReadError, Seq, Text, Value};
 use std::alloc::{AllocError, Global};
 use std::process::Abort;

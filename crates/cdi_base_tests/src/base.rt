@@ -1,6 +1,6 @@
-use crate::built_in::ALL;
-use crate::{
-    Act, Answer, BuiltIn, Cause, Fields, InternError, Limits, MemberValue, Name, Names, Refusal,
+use cdi_base::built_in::ALL;
+use cdi_base::{
+    Act, Answer, BuiltIn, Cause, Fields, InternError, Limits, MemberValue, Name, Names, ReadError, Refusal,
     Seq, Text, Use, Value, Via, is_name,
 };
 use std::alloc::Global;
@@ -200,7 +200,7 @@ fn writes_words(rt: HostRuntime) -> Result<(), Fail> {
     );
     assert_eq!(rt; Refusal::TooManySessions.word(), "TooManySessions");
     assert_eq!(rt; format!(in alloc; "{}", Cause::Memory)?.as_str(), "memory");
-    let error: crate::ReadError<Cause> = crate::ReadError::Fault(Cause::Depth);
+    let error: ReadError<Cause> = ReadError::Fault(Cause::Depth);
     assert_eq!(rt; format!(in alloc; "{error}")?.as_str(), "depth");
     Ok(())
 }

@@ -6,8 +6,8 @@ use Rattle.cdi_script.specs.Next.{next_of}
 use Rattle.cdi_script.proofs.Boxed.{made_post}
 use Rattle.cdi_script.proofs.Following.{follows_add, gives_next, length-add, nil_of}
 use Rattle.cdi_script.proofs.Within.{lies}
-use Rattle.cdi_script.proofs.tests.ask_one.OwnLists.{own-1, at-1-1}
-use Rattle.cdi_script.proofs.tests.ask_one.Goals as goal
+use Rattle.cdi_readers_tests.proofs.script.ask_one.OwnLists.{own-1, at-1-1}
+use Rattle.cdi_readers_tests.proofs.script.ask_one.Goals as goal
 
 pub add-requires-clause-within : goal.add-requires-clause-within
 add-requires-clause-within c = λ fields view act h.

@@ -5,10 +5,10 @@ ghost use Rattle.cdi_beans.specs.Beans.{KnowsEach};
 ghost use Rattle.cdi_plain.specs.Worked.{anything};
 ghost use Rattle.cdi_base.specs.declared.value.Value.TheVariants.{Null};
 
-use crate::driver::Driver;
-use crate::run::run;
-use crate::task::{Call, Outcome};
-use crate::world::World;
+use cdi_plain::driver::Driver;
+use cdi_plain::run::run;
+use cdi_plain::task::{Call, Outcome};
+use cdi_plain::world::World;
 use cdi_base::{Act, BuiltIn, Cause, Fields, Limits, Name, Names, Place, Seq, Value, is_name};
 use cdi_beans::bean::{Bean, Method};
 use cdi_beans::tables::Tables;
@@ -154,7 +154,7 @@ struct Ended {
     entries: usize,
 }
 
-#[tactic(auto, using(crate::proofs::Known::all_known))]
+#[tactic(auto, using(cdi_plain::proofs::Known::all_known))]
 fn make_ended<D: Driver>(
     alloc: Global,
     tables: &Tables,
@@ -171,7 +171,7 @@ fn make_ended<D: Driver>(
 }
 
 #[test]
-#[tactic(auto, using(crate::proofs::Known::all_known))]
+#[tactic(auto, using(cdi_plain::proofs::Known::all_known))]
 fn counts(rt: HostRuntime) -> Result<(), Fail> {
     let alloc = rt.alloc();
     let deployed = deploy(&rt, alloc, Scope::ApplicationScoped, 1)?;
@@ -189,7 +189,7 @@ fn counts(rt: HostRuntime) -> Result<(), Fail> {
 }
 
 #[test]
-#[tactic(auto, using(crate::proofs::Known::all_known))]
+#[tactic(auto, using(cdi_plain::proofs::Known::all_known))]
 fn shuts_down(rt: HostRuntime) -> Result<(), Fail> {
     let alloc = rt.alloc();
     let deployed = deploy(&rt, alloc, Scope::ApplicationScoped, 1)?;
@@ -206,7 +206,7 @@ fn shuts_down(rt: HostRuntime) -> Result<(), Fail> {
 }
 
 #[test]
-#[tactic(auto, using(crate::proofs::Known::all_known))]
+#[tactic(auto, using(cdi_plain::proofs::Known::all_known))]
 fn cuts_below_the_last_level(rt: HostRuntime) -> Result<(), Fail> {
     let alloc = rt.alloc();
     let deployed = deploy(&rt, alloc, Scope::Dependent, 1)?;

@@ -3,7 +3,7 @@ ghost use Rattle.std.specs.Prelude.{◌≡◌, ◌<◌, ◌%◌, pos, IfOk};
 ghost use Rattle.cdi_base.specs.declared.act.Act.TheVariants.{Give};
 ghost use Rattle.cdi_base.specs.declared.value.Value.TheVariants.{Null, Int, Text as AnyText};
 
-use crate::{AddError, Bodies, Body, Choice, Chooser, MAX_BODIES, Shape, View};
+use cdi_bodies::{AddError, Bodies, Body, Choice, Chooser, MAX_BODIES, Shape, View};
 use cdi_base::{Act, BuiltIn, Fields, Names, Seq, Text, Value, is_name};
 use std::alloc::{AllocError, Global};
 use std::test::Fail;

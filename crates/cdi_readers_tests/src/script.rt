@@ -2,9 +2,9 @@
 ghost use Rattle.std.specs.Prelude.{◌≡◌, ◌<◌, IfOk, IfSome, length, slice_get};
 ghost use Rattle.cdi_script.specs.Next.{next_of};
 
-use crate::fault::ScriptFault;
-use crate::script::{MAX_STEPS, Script};
-use crate::step::{Action, Step};
+use cdi_script::ScriptFault;
+use cdi_script::{MAX_STEPS, Script};
+use cdi_script::{Action, Step};
 use cdi_base::{Act, Answer, BuiltIn, Fields, Name, Names, ReadError, Seq, Text, Value};
 use cdi_bodies::{Bodies, Body, View};
 use serde_json::Value as Json;
@@ -219,7 +219,7 @@ fn value_of(rt: &impl Abort, alloc: Global, text: &str, view: &View) -> Result<V
             action: Action::Set { field, value },
             ..
         },
-    ) = script.steps.get(0)
+    ) = script.steps().first()
     else {
         panic!(rt; "a step was lost");
     };
@@ -335,37 +335,44 @@ fn goes_on_step_by_step(rt: HostRuntime) -> Result<(), Fail> {
     Ok(())
 }
 
+/// A script that throws, and behind that looks at context data, in a catch or not.
+fn throwing(alloc: Global, is_catch: bool) -> Result<Script, Fail> {
+    let exception = BuiltIn::NullPointerException.name();
+    let key = BuiltIn::Value.name();
+    let steps = Vec::from_array(
+        alloc,
+        [
+            Step {
+                is_catch: false,
+                action: Action::Throw { exception },
+            },
+            Step {
+                is_catch,
+                action: Action::Peek { key },
+            },
+        ],
+    )?;
+    Ok(Script::new(Seq::new(steps)).ok_or("two steps are few")?)
+}
+
+/// Checks what follows an exception.
+fn check_after_threw(rt: &impl Abort, alloc: Global, is_catch: bool, wanted: &Act) -> Result<(), Fail> {
+    let mut answers = Vec::new(alloc);
+    answers.push(Answer::Threw {
+        exception: BuiltIn::IllegalStateException.name(),
+        text: Text::from_str(alloc, "IllegalStateException")?,
+    })?;
+    let act = after(alloc, &throwing(alloc, is_catch)?, answers)?;
+    assert!(rt; act == *wanted, "{act:?}");
+    Ok(())
+}
+
 #[test]
 fn throws_on_what_no_step_catches(rt: HostRuntime) -> Result<(), Fail> {
-    let alloc = rt.alloc();
-    let mut names = Names::new(alloc);
     let exception = BuiltIn::IllegalStateException.name();
-    for (catches, given) in [(false, None), (true, Some(8))] {
-        let text = r#"[["give",1],["give",8]]"#;
-        let Ok(script) = read(alloc, &mut names, text)? else {
-            panic!(rt; "two steps are a script");
-        };
-        let mut steps = script.steps.into_vec();
-        if let Some(last) = steps.last_mut() {
-            last.is_catch = catches;
-        }
-        let script = Script {
-            steps: Seq::new(steps),
-        };
-        let mut answers = Vec::new(alloc);
-        answers.push(Answer::Threw {
-            exception,
-            text: Text::from_str(alloc, "IllegalStateException")?,
-        })?;
-        let wanted = match given {
-            Some(n) => Act::Give {
-                value: Value::Int(n),
-            },
-            None => Act::Throw { exception },
-        };
-        assert_eq!(rt; after(alloc, &script, answers)?, wanted);
-    }
-    Ok(())
+    let key = BuiltIn::Value.name();
+    check_after_threw(&rt, rt.alloc(), false, &Act::Throw { exception })?;
+    check_after_threw(&rt, rt.alloc(), true, &Act::Peek { key })
 }
 
 #[test]

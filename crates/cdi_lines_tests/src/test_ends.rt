@@ -1,5 +1,5 @@
 //! Readers, writers and responders for the tests.
-use crate::Responder;
+use cdi_lines::Responder;
 use std::alloc::{AllocError, Global};
 use std::io;
 use std::io::{ErrorKind, Read, Write};

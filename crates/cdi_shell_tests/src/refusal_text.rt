@@ -1,5 +1,5 @@
 //! Lines of refused deployments that were written by hand.
-use crate::refusal_text::{write_fault, write_problems, write_script_fault};
+use cdi_shell::refusal_text::{write_fault, write_problems, write_script_fault};
 use cdi_base::{Names, Place, Text, is_name};
 use cdi_beans::problem::{Problem, ProblemKind};
 use cdi_deploy::ReadFault;

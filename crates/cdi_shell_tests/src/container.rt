@@ -1,5 +1,5 @@
 //! A container that isn't started.
-use crate::{BootError, Container};
+use cdi_shell::{BootError, Container};
 use cdi_base::{Limits, ReadError};
 use cdi_beans::problem::ProblemKind;
 use cdi_bodies::Bodies;

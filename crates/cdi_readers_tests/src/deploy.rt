@@ -1,4 +1,4 @@
-use crate::{Bean, Member, Method, Scope, read};
+use cdi_deploy::{Bean, Member, Method, Scope, read};
 use cdi_base::{BuiltIn, ReadError, Value};
 use std::alloc::{AllocError, Global};
 use std::process::Abort;

@@ -1,0 +1,13 @@
+//! Tests of serving lines, and of commands and replies as lines.
+#![tactic(auto)]
+
+#[cfg(test)]
+mod command;
+#[cfg(test)]
+mod ends;
+#[cfg(test)]
+mod reply;
+#[cfg(test)]
+mod serving;
+#[cfg(test)]
+mod test_ends;

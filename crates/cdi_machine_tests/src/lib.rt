@@ -1,0 +1,7 @@
+//! Tests of the bean list and of the machine.
+#![tactic(auto)]
+
+#[cfg(test)]
+mod beans;
+#[cfg(test)]
+mod plain;

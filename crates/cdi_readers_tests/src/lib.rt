@@ -1,0 +1,7 @@
+//! Tests of the readers: deployments and scripts.
+#![tactic(auto)]
+
+#[cfg(test)]
+mod deploy;
+#[cfg(test)]
+mod script;

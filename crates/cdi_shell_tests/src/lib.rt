@@ -1,0 +1,15 @@
+//! Tests of the container and of whole runs, from a deployment and its command lines to the bytes written.
+#![tactic(auto)]
+
+#[cfg(test)]
+mod container;
+#[cfg(test)]
+mod drive;
+#[cfg(test)]
+mod refusal_text;
+#[cfg(test)]
+mod refused;
+#[cfg(test)]
+mod streams;
+#[cfg(test)]
+mod test_runs;
