@@ -1,9 +1,11 @@
+//! Tests of names, fields, sequences, acts and words.
 use cdi_base::built_in::ALL;
 use cdi_base::{
     Act, Answer, BuiltIn, Cause, Fields, InternError, Limits, MemberValue, Name, Names, ReadError, Refusal,
     Seq, Text, Use, Value, Via, is_name,
 };
 use std::alloc::Global;
+use std::fmt::Display;
 use std::process::Abort;
 use std::test::Fail;
 
@@ -41,13 +43,12 @@ fn tells_names(rt: HostRuntime) -> Result<(), Fail> {
     Ok(())
 }
 
-#[test]
-fn interns_each_text_once(rt: HostRuntime) -> Result<(), Fail> {
-    let mut names = Names::new(rt.alloc());
+/// Checks a table that begins with no name.
+fn check_interning(rt: &impl Abort, names: &mut Names) -> Result<(), Fail> {
     assert!(rt; names.is_empty());
-    let first = interned(&rt, &mut names, "K")?;
-    let second = interned(&rt, &mut names, "k")?;
-    assert_eq!(rt; interned(&rt, &mut names, "K")?, first);
+    let first = interned(rt, names, "K")?;
+    let second = interned(rt, names, "k")?;
+    assert_eq!(rt; interned(rt, names, "K")?, first);
     assert_ne!(rt; first, second);
     assert_eq!(rt; names.len(), 2);
     assert_eq!(rt; names.find("K"), Some(first));
@@ -55,8 +56,14 @@ fn interns_each_text_once(rt: HostRuntime) -> Result<(), Fail> {
     assert_eq!(rt; names.find("kk"), None);
     assert_eq!(rt; names.name_for("k"), second);
     let next = names.name_for("kk");
-    assert_eq!(rt; interned(&rt, &mut names, "kk")?, next);
+    assert_eq!(rt; interned(rt, names, "kk")?, next);
     Ok(())
+}
+
+#[test]
+fn interns_each_text_once(rt: HostRuntime) -> Result<(), Fail> {
+    let mut names = Names::new(rt.alloc());
+    check_interning(&rt, &mut names)
 }
 
 #[test]
@@ -71,27 +78,41 @@ fn knows_the_built_in_names(rt: HostRuntime) -> Result<(), Fail> {
     Ok(())
 }
 
-#[test]
-fn changes_the_named_field_alone(rt: HostRuntime) -> Result<(), Fail> {
-    let mut names = Names::new(rt.alloc());
-    let n = interned(&rt, &mut names, "n")?;
-    let m = interned(&rt, &mut names, "m")?;
-    let absent = interned(&rt, &mut names, "absent")?;
-    let mut fields = Fields::new(rt.alloc());
-    for (field, value) in [(n, 0), (m, 1)] {
-        let before = fields.len();
-        if let Err(error) = fields.put(field, Value::Int(value)) {
+/// Gives a field a whole number; where that fails, the fields have to be as before.
+fn put(rt: &impl Abort, fields: &mut Fields, name: Name, number: i64) -> Result<(), Fail> {
+    let before = fields.len();
+    match fields.put(name, Value::Int(number)) {
+        Ok(()) => Ok(()),
+        Err(error) => {
             assert_eq!(rt; fields.len(), before);
-            return Err(error)?;
+            Err(error)?
         }
     }
-    fields.put(n, Value::Int(7))?;
+}
+
+/// Checks what a field has.
+fn check_field(rt: &impl Abort, fields: &Fields, name: Name, wanted: Value) {
+    let found = fields.get(name);
+    assert!(rt; *found == wanted, "{found:?}");
+}
+
+#[test]
+fn changes_the_named_field_alone(rt: HostRuntime) -> Result<(), Fail> {
+    let (n, m, absent) = (
+        BuiltIn::Named.name(),
+        BuiltIn::Value.name(),
+        BuiltIn::Any.name(),
+    );
+    let mut fields = Fields::new(rt.alloc());
+    put(&rt, &mut fields, n, 0)?;
+    put(&rt, &mut fields, m, 1)?;
+    put(&rt, &mut fields, n, 7)?;
     fields.set(absent, Value::Int(8));
-    assert_eq!(rt; fields.get(absent), &Value::Null);
+    check_field(&rt, &fields, absent, Value::Null);
     fields.set(m, Value::Null);
     assert_eq!(rt; fields.len(), 2);
-    assert_eq!(rt; fields.get(n), &Value::Int(7));
-    assert_eq!(rt; fields.get(m), &Value::Null);
+    check_field(&rt, &fields, n, Value::Int(7));
+    check_field(&rt, &fields, m, Value::Null);
     Ok(())
 }
 
@@ -119,52 +140,73 @@ fn proceeding(alloc: Global) -> Result<Act, Fail> {
     Ok(Act::Proceed { args: Some(args) })
 }
 
-#[test]
-fn clones_are_equal(rt: HostRuntime) -> Result<(), Fail> {
-    let alloc = rt.alloc();
-    let name = BuiltIn::Named.name();
-    let acts = Vec::from_array(
-        alloc,
-        [
-            fired(alloc, name)?,
-            proceeding(alloc)?,
-            Act::Proceed { args: None },
-            Act::Read {
-                via: Via::Param(65_535),
-            },
-            Act::Own {
-                method: name,
-                args: Seq::empty(alloc),
-            },
-        ],
-    )?;
-    for act in &acts {
-        assert!(rt; act.clone()? == *act, "{act:?}");
-    }
-    assert!(rt; fired(alloc, name)? != fired(alloc, BuiltIn::Any.name())?);
-    let threw = Answer::Threw {
-        exception: name,
-        text: Text::from_str(alloc, "Named")?,
-    };
-    assert!(rt; threw.clone()? == threw);
-    assert!(rt; threw != Answer::Found(0));
+/// Checks that a copy of an act equals it.
+fn check_copy(rt: &impl Abort, act: &Act) -> Result<(), Fail> {
+    let copy = act.clone()?;
+    assert!(rt; copy == *act, "{act:?}");
     Ok(())
 }
 
 #[test]
-fn gives_a_sequence_back(rt: HostRuntime) -> Result<(), Fail> {
-    let mut sequence = Seq::new(Vec::from_array(rt.alloc(), [3u8, 1])?);
+fn copies_of_acts_are_equal(rt: HostRuntime) -> Result<(), Fail> {
+    let alloc = rt.alloc();
+    let name = BuiltIn::Named.name();
+    check_copy(&rt, &fired(alloc, name)?)?;
+    check_copy(&rt, &proceeding(alloc)?)?;
+    check_copy(&rt, &Act::Proceed { args: None })?;
+    let via = Via::Param(65_535);
+    check_copy(&rt, &Act::Read { via })?;
+    let args = Seq::empty(alloc);
+    check_copy(&rt, &Act::Own { method: name, args })
+}
+
+#[test]
+fn tells_acts_apart(rt: HostRuntime) -> Result<(), Fail> {
+    let named = fired(rt.alloc(), BuiltIn::Named.name())?;
+    let any = fired(rt.alloc(), BuiltIn::Any.name())?;
+    assert!(rt; named != any);
+    Ok(())
+}
+
+#[test]
+fn copies_of_answers_are_equal(rt: HostRuntime) -> Result<(), Fail> {
+    let threw = Answer::Threw {
+        exception: BuiltIn::Named.name(),
+        text: Text::from_str(rt.alloc(), "Named")?,
+    };
+    let copy = threw.clone()?;
+    assert!(rt; copy == threw);
+    assert!(rt; threw != Answer::Found(0));
+    Ok(())
+}
+
+/// Adds an item; where that fails, it comes back, and the sequence has to be as before.
+fn push(rt: &impl Abort, sequence: &mut Seq<u8>, item: u8) -> Result<(), Fail> {
     let before = sequence.len();
-    if let Err(failed) = sequence.push(2) {
-        assert_eq!(rt; failed.value, 2);
-        assert_eq!(rt; sequence.len(), before);
-        return Err(failed)?;
+    match sequence.push(item) {
+        Ok(()) => Ok(()),
+        Err(failed) => {
+            assert_eq!(rt; failed.value, item);
+            assert_eq!(rt; sequence.len(), before);
+            Err(failed)?
+        }
     }
+}
+
+/// Checks a sequence of 3, 1 and 2.
+fn check_sequence(rt: &impl Abort, sequence: &Seq<u8>) {
     assert!(rt; !sequence.is_empty());
     assert_eq!(rt; sequence.get(0), Some(&3));
     assert_eq!(rt; sequence.get(3), None);
     assert_eq!(rt; sequence.iter().copied().max(), Some(3));
     assert_eq!(rt; sequence.as_slice(), [3, 1, 2].as_slice());
+}
+
+#[test]
+fn gives_a_sequence_back(rt: HostRuntime) -> Result<(), Fail> {
+    let mut sequence = Seq::new(Vec::from_array(rt.alloc(), [3u8, 1])?);
+    push(&rt, &mut sequence, 2)?;
+    check_sequence(&rt, &sequence);
     assert_eq!(rt; sequence.into_vec().as_slice(), [3, 1, 2].as_slice());
     Ok(())
 }
@@ -191,16 +233,18 @@ fn keeps_limits_in_range(rt: HostRuntime) {
     assert_eq!(rt; Some(Limits::default()), Limits::new(32, 100_000));
 }
 
+/// Checks how something is printed.
+fn check_text(rt: &impl Abort, alloc: Global, it: &impl Display, wanted: &str) -> Result<(), Fail> {
+    let text = it.to_string(alloc)?;
+    assert_eq!(rt; text.as_str(), wanted);
+    Ok(())
+}
+
 #[test]
 fn writes_words(rt: HostRuntime) -> Result<(), Fail> {
     let alloc = rt.alloc();
-    assert_eq!(rt;
-        format!(in alloc; "{}", Refusal::BadLine)?.as_str(),
-        "BadLine"
-    );
+    check_text(&rt, alloc, &Refusal::BadLine, "BadLine")?;
     assert_eq!(rt; Refusal::TooManySessions.word(), "TooManySessions");
-    assert_eq!(rt; format!(in alloc; "{}", Cause::Memory)?.as_str(), "memory");
-    let error: ReadError<Cause> = ReadError::Fault(Cause::Depth);
-    assert_eq!(rt; format!(in alloc; "{error}")?.as_str(), "depth");
-    Ok(())
+    check_text(&rt, alloc, &Cause::Memory, "memory")?;
+    check_text(&rt, alloc, &ReadError::Fault(Cause::Depth), "depth")
 }

@@ -1,11 +1,13 @@
 //! Tests of the table of bodies and of the chooser.
-ghost use Rattle.std.specs.Prelude.{◌≡◌, ◌<◌, ◌%◌, pos, IfOk};
+ghost use Rattle.std.specs.Prelude.{◌≡◌, ◌<◌, ◌%◌, length, pos, IfOk};
+ghost use Rattle.cdi_bodies.specs.Table.{entries_of};
 ghost use Rattle.cdi_base.specs.declared.act.Act.TheVariants.{Give};
 ghost use Rattle.cdi_base.specs.declared.value.Value.TheVariants.{Null, Int, Text as AnyText};
 
-use cdi_bodies::{AddError, Bodies, Body, Choice, Chooser, MAX_BODIES, Shape, View};
-use cdi_base::{Act, BuiltIn, Fields, Names, Seq, Text, Value, is_name};
+use cdi_bodies::{AddError, Bodies, Body, BodyId, Choice, Chooser, MAX_BODIES, Shape, View};
+use cdi_base::{Act, BuiltIn, Fields, Name, Names, Seq, Text, Value, is_name};
 use std::alloc::{AllocError, Global};
+use std::process::Abort;
 use std::test::Fail;
 
 /// The view of a body that has begun with no parameters.
@@ -16,12 +18,10 @@ fn begun(alloc: Global) -> View {
     }
 }
 
-#[test]
-fn registers_and_asks(rt: HostRuntime) -> Result<(), Fail> {
-    let alloc = rt.alloc();
-    let name = BuiltIn::Named.name();
-    let mut bodies = Bodies::new(alloc);
-    assert!(rt; bodies.is_empty());
+/// Adds a body that gives 7.
+fn add_seven(alloc: Global, bodies: &mut Bodies, name: Name) -> Result<BodyId, Fail>
+    ensures { IfOk result (λ id. id < length (entries_of bodies.new)) }
+{
     let body: Body = Box::new(
         alloc,
         |_fields: &Fields, _view: &View| -> Result<Act, AllocError>
@@ -32,16 +32,31 @@ fn registers_and_asks(rt: HostRuntime) -> Result<(), Fail> {
             })
         },
     )?;
-    let id = bodies.add(name, Shape::new(alloc), body)?;
-    assert_eq!(rt; bodies.len(), 1);
+    Ok(bodies.add(name, Shape::new(alloc), body)?)
+}
+
+/// Checks what is known of a body, and that it gives 7.
+fn check_seven(rt: &impl Abort, alloc: Global, bodies: &Bodies, id: BodyId) -> Result<(), Fail>
+    requires { id < length (entries_of bodies.now) }
+{
+    let name = BuiltIn::Named.name();
     assert_eq!(rt; bodies.find(name), Some(id));
     assert_eq!(rt; bodies.find(BuiltIn::Value.name()), None);
     assert_eq!(rt; bodies.name(id), name);
     assert_eq!(rt; *bodies.shape(id), Shape::new(alloc));
-    let seven = Act::Give {
-        value: Value::Int(7),
-    };
-    assert_eq!(rt; bodies.next(id, &Fields::new(alloc), &begun(alloc))?, seven);
+    let act = bodies.next(id, &Fields::new(alloc), &begun(alloc))?;
+    let value = Value::Int(7);
+    assert_eq!(rt; act, Act::Give { value });
+    Ok(())
+}
+
+#[test]
+fn registers_and_asks(rt: HostRuntime) -> Result<(), Fail> {
+    let mut bodies = Bodies::new(rt.alloc());
+    assert!(rt; bodies.is_empty());
+    let id = add_seven(rt.alloc(), &mut bodies, BuiltIn::Named.name())?;
+    assert_eq!(rt; bodies.len(), 1);
+    check_seven(&rt, rt.alloc(), &bodies, id)?;
     Bodies::gives_in_shape(&bodies);
     Ok(())
 }
@@ -73,50 +88,67 @@ fn asks_what_was_captured(rt: HostRuntime) -> Result<(), Fail> {
     Ok(())
 }
 
+/// What came of adding a body.
+#[derive(Clone, Copy, Debug, PartialEq, Eq)]
+enum Added {
+    Well,
+    Repeated,
+    Full,
+}
+
+/// Adds a body that gives null; one that is refused comes back, and has to be one that can be added under another name.
+fn add(alloc: Global, bodies: &mut Bodies, name: Name, other: Option<Name>) -> Result<Added, Fail> {
+    let body: Body = Box::new(
+        alloc,
+        |_fields: &Fields, _view: &View| -> Result<Act, AllocError>
+            ensures { IfOk result (λ act. act ≡ Give Null) }
+        { Ok(Act::Give { value: Value::Null }) },
+    )?;
+    match bodies.add(name, Shape::new(alloc), body) {
+        Ok(_) => Ok(Added::Well),
+        Err(AddError::Repeated(body)) => {
+            if let Some(other) = other {
+                bodies.add(other, Shape::new(alloc), body)?;
+            }
+            Ok(Added::Repeated)
+        }
+        Err(AddError::Full(_)) => Ok(Added::Full),
+        Err(error) => Err(error)?,
+    }
+}
+
 #[test]
 fn hands_a_repeated_body_back(rt: HostRuntime) -> Result<(), Fail> {
-    let alloc = rt.alloc();
-    let mut bodies = Bodies::new(alloc);
-    for name in [BuiltIn::Named, BuiltIn::Value, BuiltIn::Named] {
-        let body: Body = Box::new(
-            alloc,
-            |_fields: &Fields, _view: &View| -> Result<Act, AllocError>
-                ensures { IfOk result (λ act. act ≡ Give Null) }
-            { Ok(Act::Give { value: Value::Null }) },
-        )?;
-        match bodies.add(name.name(), Shape::new(alloc), body) {
-            Ok(_) => {}
-            Err(AddError::Repeated(body)) => {
-                assert_eq!(rt; bodies.len(), 2);
-                bodies.add(BuiltIn::Any.name(), Shape::new(alloc), body)?;
-            }
-            Err(error) => return Err(error)?,
-        }
+    let (named, value) = (BuiltIn::Named.name(), BuiltIn::Value.name());
+    let other = Some(BuiltIn::Any.name());
+    let mut bodies = Bodies::new(rt.alloc());
+    for (name, wanted, count) in [
+        (named, Added::Well, 1),
+        (value, Added::Well, 2),
+        (named, Added::Repeated, 3),
+    ] {
+        assert_eq!(rt; add(rt.alloc(), &mut bodies, name, other)?, wanted);
+        assert_eq!(rt; bodies.len(), count);
     }
-    assert_eq!(rt; bodies.len(), 3);
     Ok(())
+}
+
+/// The name of a number.
+fn numbered(rt: &impl Abort, alloc: Global, names: &mut Names, number: u32) -> Result<Name, Fail> {
+    let text = format!(in alloc; "b{number}")?;
+    assert!(rt; is_name(text.as_str()), "{text} is no name");
+    Ok(names.intern(text.as_str())?)
 }
 
 #[test]
 fn holds_4096_bodies(rt: HostRuntime) -> Result<(), Fail> {
-    let alloc = rt.alloc();
-    let mut names = Names::new(alloc);
-    let mut bodies = Bodies::new(alloc);
+    let mut names = Names::new(rt.alloc());
+    let mut bodies = Bodies::new(rt.alloc());
     for number in 0..4_100u32 {
-        let text = format!(in alloc; "b{number}")?;
-        assert!(rt; is_name(text.as_str()), "{text} is no name");
-        let name = names.intern(text.as_str())?;
-        let body: Body = Box::new(
-            alloc,
-            |_fields: &Fields, _view: &View| -> Result<Act, AllocError>
-                ensures { IfOk result (λ act. act ≡ Give Null) }
-            { Ok(Act::Give { value: Value::Null }) },
-        )?;
-        match bodies.add(name, Shape::new(alloc), body) {
-            Ok(_) => assert!(rt; number < 4_096, "{number} is one too many"),
-            Err(AddError::Full(_)) => assert!(rt; number >= 4_096, "{number} has room"),
-            Err(error) => panic!(rt; "{error} at {number}"),
-        }
+        let name = numbered(&rt, rt.alloc(), &mut names, number)?;
+        let added = add(rt.alloc(), &mut bodies, name, None)?;
+        let wanted = if number < 4_096 { Added::Well } else { Added::Full };
+        assert_eq!(rt; added, wanted, "{number}");
     }
     assert_eq!(rt; bodies.len(), MAX_BODIES);
     Ok(())

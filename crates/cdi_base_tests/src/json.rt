@@ -1,3 +1,4 @@
+//! Tests of reading JSON values.
 use cdi_json::{is_word, read_json};
 use serde_json::{Value as Json, json};
 use std::alloc::Global;
@@ -53,6 +54,12 @@ fn passes_white_space_round_a_value(rt: HostRuntime) -> Result<(), Fail> {
     expect(&rt, alloc, " [ 1 , 2 ] ", &json!(in alloc; [1, 2])?)
 }
 
+/// Reads bytes that are to be no value.
+fn refuse(rt: &impl Abort, alloc: Global, bytes: &[u8]) -> Result<(), Fail> {
+    assert!(rt; read_json(alloc, bytes)?.is_none(), "of {bytes:?}");
+    Ok(())
+}
+
 #[test]
 fn finds_no_value(rt: HostRuntime) -> Result<(), Fail> {
     let texts: [&[u8]; 18] = [
@@ -76,24 +83,34 @@ fn finds_no_value(rt: HostRuntime) -> Result<(), Fail> {
         b"null\xff",
     ];
     for text in texts {
-        assert!(rt; read_json(rt.alloc(), text)?.is_none(), "of {text:?}");
+        refuse(&rt, rt.alloc(), text)?;
     }
     Ok(())
 }
 
+/// Checks that a value is no word.
+fn check_no_word(rt: &impl Abort, value: &Json, word: &str) {
+    assert!(rt; !is_word(value, word), "{word:?}");
+}
+
 #[test]
 fn tells_words(rt: HostRuntime) -> Result<(), Fail> {
-    let alloc = rt.alloc();
-    let call = json!(in alloc; "call")?;
+    let call = json!(in rt.alloc(); "call")?;
     assert!(rt; is_word(&call, "call"));
     for other in ["", "cal", "calls", "Call", "ball"] {
-        assert!(rt; !is_word(&call, other), "at {other:?}");
+        check_no_word(&rt, &call, other);
     }
-    assert!(rt; is_word(&json!(in alloc; "")?, ""));
-    assert!(rt; !is_word(&Json::Null, "null"));
-    assert!(rt; !is_word(&Json::Bool(true), "true"));
-    assert!(rt; !is_word(&Json::from(7), "7"));
-    assert!(rt; !is_word(&json!(in alloc; ["call"])?, "call"));
-    assert!(rt; !is_word(&json!(in alloc; {"call": "call"})?, "call"));
+    assert!(rt; is_word(&json!(in rt.alloc(); "")?, ""));
+    Ok(())
+}
+
+#[test]
+fn only_texts_are_words(rt: HostRuntime) -> Result<(), Fail> {
+    let alloc = rt.alloc();
+    check_no_word(&rt, &Json::Null, "null");
+    check_no_word(&rt, &Json::Bool(true), "true");
+    check_no_word(&rt, &Json::from(7), "7");
+    check_no_word(&rt, &json!(in alloc; ["call"])?, "call");
+    check_no_word(&rt, &json!(in alloc; {"call": "call"})?, "call");
     Ok(())
 }

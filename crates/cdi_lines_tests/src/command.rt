@@ -34,9 +34,7 @@ fn up(alloc: Global, request: Option<Text>, args: Vec<Value>) -> Result<Command,
 
 /// The command to call `up` of `K` with this value alone.
 fn up_with(alloc: Global, value: Value) -> Result<Command, Fail> {
-    let mut args = Vec::new(alloc);
-    args.push(value)?;
-    up(alloc, None, args)
+    up(alloc, None, Vec::from_array(alloc, [value])?)
 }
 
 #[test]
@@ -208,14 +206,17 @@ fn reads_a_call_without_values(rt: HostRuntime) -> Result<(), Fail> {
     Ok(())
 }
 
+/// Null, 7 and a text of two words.
+fn three_values(alloc: Global) -> Result<Vec<Value>, AllocError> {
+    let words = Value::Text(Text::from_str(alloc, "two words")?);
+    Vec::from_array(alloc, [Value::Null, Value::Int(7), words])
+}
+
 #[test]
 fn reads_a_call_with_all_parts(rt: HostRuntime) -> Result<(), Fail> {
     let alloc = rt.alloc();
+    let args = three_values(alloc)?;
     let request = Text::from_str(alloc, "R.1_$")?;
-    let mut args = Vec::new(alloc);
-    args.push(Value::Null)?;
-    args.push(Value::Int(7))?;
-    args.push(Value::Text(Text::from_str(alloc, "two words")?))?;
     let wanted = up(alloc, Some(request), args)?;
     let line = "[\"call\",\"R.1_$\",\"K\",[],\"up\",[null,7,\"two words\"]]";
     check_line(&rt, alloc, line.as_bytes(), Some(wanted))?;

@@ -83,10 +83,7 @@ fn writes_live_numbers(rt: HostRuntime) -> Result<(), Fail> {
         (&[1, 20, 4_294_967_295], "[\"live\",[1,20,4294967295]]\n"),
     ];
     for (numbers, expected) in rows {
-        let mut live = Seq::empty(rt.alloc());
-        for number in numbers {
-            live.push(*number)?;
-        }
+        let live = Seq::new(Vec::from_slice(rt.alloc(), numbers)?);
         check_reply(&rt, rt.alloc(), &names, &Reply::Live(live), expected)?;
     }
     Ok(())
@@ -145,17 +142,17 @@ fn writes_refusals(rt: HostRuntime) -> Result<(), Fail> {
 
 #[test]
 fn writes_other_replies(rt: HostRuntime) -> Result<(), Fail> {
-    let names = Names::new(rt.alloc());
-    let rows = [
-        (Reply::Value(Value::Null), "[\"value\",null]\n"),
-        (Reply::Done, "[\"done\"]\n"),
-        (Reply::Halted(Cause::Ticks), "[\"halted\",\"ticks\"]\n"),
-        (Reply::Halted(Cause::Depth), "[\"halted\",\"depth\"]\n"),
-        (Reply::Halted(Cause::Numbers), "[\"halted\",\"numbers\"]\n"),
-        (Reply::Halted(Cause::Memory), "[\"halted\",\"memory\"]\n"),
-    ];
-    for (reply, expected) in rows {
-        check_reply(&rt, rt.alloc(), &names, &reply, expected)?;
+    let (alloc, names) = (rt.alloc(), Names::new(rt.alloc()));
+    let null = Reply::Value(Value::Null);
+    check_reply(&rt, alloc, &names, &null, "[\"value\",null]\n")?;
+    check_reply(&rt, alloc, &names, &Reply::Done, "[\"done\"]\n")?;
+    for (cause, expected) in [
+        (Cause::Ticks, "[\"halted\",\"ticks\"]\n"),
+        (Cause::Depth, "[\"halted\",\"depth\"]\n"),
+        (Cause::Numbers, "[\"halted\",\"numbers\"]\n"),
+        (Cause::Memory, "[\"halted\",\"memory\"]\n"),
+    ] {
+        check_reply(&rt, alloc, &names, &Reply::Halted(cause), expected)?;
     }
     Ok(())
 }
@@ -195,12 +192,24 @@ fn places(names: &Names) -> [(Place, &'static str); 7] {
     ]
 }
 
+/// Checks that a place is written as this text.
+fn check_place(
+    rt: &impl Abort,
+    alloc: Global,
+    names: &Names,
+    place: Place,
+    expected: &str,
+) -> Result<(), AllocError> {
+    let text = place_text(alloc, names, place)?;
+    assert_eq!(rt; text.as_str(), expected);
+    Ok(())
+}
+
 #[test]
 fn writes_places(rt: HostRuntime) -> Result<(), Fail> {
     let names = table(&rt, rt.alloc())?;
     for (place, expected) in places(&names) {
-        let text = place_text(rt.alloc(), &names, place)?;
-        assert_eq!(rt; text.as_str(), expected);
+        check_place(&rt, rt.alloc(), &names, place, expected)?;
     }
     Ok(())
 }

@@ -1,5 +1,7 @@
-use cdi_deploy::{Bean, Member, Method, Scope, read};
-use cdi_base::{BuiltIn, ReadError, Value};
+//! Tests of reading deployments.
+use cdi_base::{BuiltIn, Names, ReadError, Value};
+use cdi_deploy::{Bean, Class, Deployment, Member, Scope, Script, read};
+use serde_json::Value as Json;
 use std::alloc::{AllocError, Global};
 use std::process::Abort;
 use std::test::Fail;
@@ -13,11 +15,23 @@ fn printed(alloc: Global, bytes: &[u8]) -> Result<String, AllocError> {
     }
 }
 
+/// Reads a text, and compares what is printed for it.
+fn check(
+    rt: &impl Abort,
+    alloc: Global,
+    text: &str,
+    told_as: &str,
+    expected: &str,
+) -> Result<(), Fail> {
+    let found = printed(alloc, text.as_bytes())?;
+    assert_eq!(rt; found.as_str(), expected, "of {told_as}");
+    Ok(())
+}
+
 /// Reads each text, and compares what is printed for it.
 fn compare(rt: &impl Abort, alloc: Global, rows: &[(&str, &str)]) -> Result<(), Fail> {
     for (text, expected) in rows {
-        let found = printed(alloc, text.as_bytes())?;
-        assert_eq!(rt; found.as_str(), *expected, "of {text}");
+        check(rt, alloc, text, text, expected)?;
     }
     Ok(())
 }
@@ -382,102 +396,118 @@ fn limits(rt: HostRuntime) -> Result<(), Fail> {
         (WRONG_CLASS_BEHIND, 1_024, "Shape /classes/1024"),
     ] {
         let text = repeated.text(rt.alloc(), count)?;
-        let found = printed(rt.alloc(), text.as_bytes())?;
-        assert_eq!(rt; found.as_str(), expected, "{count} of {}", repeated.part);
+        check(&rt, rt.alloc(), text.as_str(), repeated.part, expected)?;
     }
     Ok(())
+}
+
+/// So many arrays, each in the one before.
+fn nested(alloc: Global, depth: usize) -> Result<String, AllocError> {
+    let closed = "]".repeat(alloc, depth)?;
+    let nested = Repeated {
+        after: closed.as_str(),
+        ..BRACKETS
+    };
+    nested.text(alloc, depth)
 }
 
 #[test]
 fn nests_127_deep_and_no_deeper(rt: HostRuntime) -> Result<(), Fail> {
     for (depth, expected) in [(127, "Shape "), (128, "NotJson")] {
-        let closed = "]".repeat(rt.alloc(), depth)?;
-        let nested = Repeated {
-            before: "",
-            part: "[",
-            after: closed.as_str(),
-        };
-        let text = nested.text(rt.alloc(), depth)?;
-        let found = printed(rt.alloc(), text.as_bytes())?;
-        assert_eq!(rt; found.as_str(), expected, "{depth} deep");
+        let text = nested(rt.alloc(), depth)?;
+        check(&rt, rt.alloc(), text.as_str(), "brackets", expected)?;
     }
+    Ok(())
+}
+
+const COUNTER: &str = r#"{"classes":[{"name":"K","bean":{"scope":"ApplicationScoped"},"fields":[{"name":"n","value":0}],"members":[{"kind":"method","name":"up","body":"up"}]}],"scripts":[{"name":"up","steps":[["set","n",["add",["field","n"],1]],["give",["field","n"]]]}]}"#;
+
+/// Checks the class of the counter.
+fn check_class(rt: &impl Abort, names: &Names, class: &Class) -> Result<(), Fail> {
+    assert!(rt; names.find("K") == Some(class.name));
+    let scope = Scope::ApplicationScoped;
+    assert!(rt; class.bean == Some(Bean { scope }));
+    assert_eq!(rt; class.fields.len(), 1);
+    let first = class.fields.get(0).ok_or("a field")?;
+    assert!(rt; names.find("n") == Some(first.name) && first.value == Value::Int(0));
+    assert_eq!(rt; class.members.len(), 1);
+    let Some(Member::Method(method)) = class.members.get(0) else {
+        return Err(Fail::from("a method"));
+    };
+    let up = names.find("up").ok_or("up")?;
+    assert!(rt; method.name == up && method.body == up);
+    assert_eq!(rt; method.args, 0);
+    Ok(())
+}
+
+/// Checks the script of the counter.
+fn check_script(rt: &impl Abort, names: &Names, script: &Script, steps: &Json) {
+    assert!(rt; names.find("up") == Some(script.name));
+    assert!(rt; script.steps.as_value() == steps);
+}
+
+/// Checks the parts of the counter.
+fn check_counter(rt: &impl Abort, deployment: &Deployment, steps: &Json) -> Result<(), Fail> {
+    let names = &deployment.names;
+    assert_eq!(rt; names.len(), 22);
+    assert!(rt; names.find("Startup") == Some(BuiltIn::Startup.name()));
+    assert_eq!(rt; deployment.classes.len(), 1);
+    check_class(rt, names, deployment.classes.get(0).ok_or("a class")?)?;
+    assert_eq!(rt; deployment.scripts.len(), 1);
+    let script = deployment.scripts.get(0).ok_or("a script")?;
+    check_script(rt, names, script, steps);
     Ok(())
 }
 
 #[test]
 fn the_counter(rt: HostRuntime) -> Result<(), Fail> {
-    let text =
-        r#"{"classes":[{"name":"K","bean":{"scope":"ApplicationScoped"},"fields":[{"name":"n","value":0}],"members":[{"kind":"method","name":"up","body":"up"}]}],"scripts":[{"name":"up","steps":[["set","n",["add",["field","n"],1]],["give",["field","n"]]]}]}"#;
-    let deployment = read(rt.alloc(), text.as_bytes())?;
-    let names = &deployment.names;
-    assert_eq!(rt; names.len(), 22);
-    assert!(rt; names.find("Startup") == Some(BuiltIn::Startup.name()));
-    let counter = names.find("K").ok_or("K")?;
-    let field = names.find("n").ok_or("n")?;
-    let up = names.find("up").ok_or("up")?;
+    let deployment = read(rt.alloc(), COUNTER.as_bytes())?;
+    let text = r#"[["set","n",["add",["field","n"],1]],["give",["field","n"]]]"#;
+    let steps = Json::from_str(rt.alloc(), text)?;
+    check_counter(&rt, &deployment, &steps)
+}
 
-    assert_eq!(rt; deployment.classes.len(), 1);
-    let class = deployment.classes.get(0).ok_or("a class")?;
-    assert!(rt; class.name == counter);
-    assert!(rt;
-        class.bean
-            == Some(Bean {
-                scope: Scope::ApplicationScoped
-            })
-    );
-    assert_eq!(rt; class.fields.len(), 1);
-    let first = class.fields.get(0).ok_or("a field")?;
-    assert!(rt; first.name == field && first.value == Value::Int(0));
-    assert_eq!(rt; class.members.len(), 1);
-    let member = class.members.get(0).ok_or("a member")?;
-    assert!(rt;
-        *member
-            == Member::Method(Method {
-                name: up,
-                body: up,
-                args: 0
-            })
-    );
+/// A bean with a field of each kind, and a class of a built-in name.
+const SPARSE: &str = r#"{"classes":[{"name":"K","bean":{},"fields":[{"name":"a"},{"name":"b","value":"?"},{"name":"c","value":-7}]},{"name":"Object","members":[{"kind":"method","name":"m","body":"a","args":8}]}]}"#;
 
-    assert_eq!(rt; deployment.scripts.len(), 1);
-    let script = deployment.scripts.get(0).ok_or("a script")?;
-    assert!(rt; script.name == up);
-    let steps = serde_json::Value::from_str(
-        rt.alloc(),
-        r#"[["set","n",["add",["field","n"],1]],["give",["field","n"]]]"#,
-    )?;
-    assert!(rt; *script.steps.as_value() == steps);
+/// Checks the fields of the bean.
+fn check_bean(rt: &impl Abort, bean: &Class) -> Result<(), Fail> {
+    let scope = Scope::Dependent;
+    assert!(rt; bean.bean == Some(Bean { scope }));
+    assert!(rt; bean.members.is_empty());
+    let (null, number) = (bean.fields.get(0), bean.fields.get(2));
+    assert!(rt; null.ok_or("a")?.value == Value::Null);
+    assert!(rt; number.ok_or("c")?.value == Value::Int(-7));
+    let Value::Text(text) = &bean.fields.get(1).ok_or("b")?.value else {
+        return Err(Fail::from("a text"));
+    };
+    assert_eq!(rt; text.as_str(), "?");
     Ok(())
 }
 
-#[test]
-fn what_is_missing(rt: HostRuntime) -> Result<(), Fail> {
-    let text =
-        r#"{"classes":[{"name":"K","bean":{},"fields":[{"name":"a"},{"name":"b","value":"?"},{"name":"c","value":-7}]},{"name":"Object","members":[{"kind":"method","name":"m","body":"a","args":8}]}]}"#;
-    let deployment = read(rt.alloc(), text.as_bytes())?;
-    assert_eq!(rt; deployment.classes.len(), 2);
-    assert!(rt; deployment.scripts.is_empty());
-    let bean = deployment.classes.get(0).ok_or("a bean")?;
-    assert!(rt;
-        bean.bean
-            == Some(Bean {
-                scope: Scope::Dependent
-            })
-    );
-    assert!(rt; bean.members.is_empty());
-    for (index, expected) in [(0, "Null"), (1, "Text"), (2, "Int(-7)")] {
-        let field = bean.fields.get(index).ok_or("a field")?;
-        let value = &field.value;
-        let shown = format!(in rt.alloc(); "{value:?}")?;
-        assert!(rt; shown.as_str().starts_with(expected), "{shown}");
-    }
-    let class = deployment.classes.get(1).ok_or("a class")?;
+/// Checks the class that is no bean.
+fn check_other(rt: &impl Abort, names: &Names, class: &Class) -> Result<(), Fail> {
     assert!(rt; class.name == BuiltIn::Object.name());
     assert!(rt; class.bean.is_none() && class.fields.is_empty());
     let Some(Member::Method(method)) = class.members.get(0) else {
         return Err(Fail::from("a method"));
     };
     assert_eq!(rt; method.args, 8);
-    assert!(rt; Some(method.body) == deployment.names.find("a"));
+    assert!(rt; Some(method.body) == names.find("a"));
     Ok(())
+}
+
+/// Checks both classes.
+fn check_sparse(rt: &impl Abort, deployment: &Deployment) -> Result<(), Fail> {
+    assert_eq!(rt; deployment.classes.len(), 2);
+    assert!(rt; deployment.scripts.is_empty());
+    check_bean(rt, deployment.classes.get(0).ok_or("a bean")?)?;
+    let other = deployment.classes.get(1).ok_or("a class")?;
+    check_other(rt, &deployment.names, other)
+}
+
+#[test]
+fn what_is_missing(rt: HostRuntime) -> Result<(), Fail> {
+    let deployment = read(rt.alloc(), SPARSE.as_bytes())?;
+    check_sparse(&rt, &deployment)
 }

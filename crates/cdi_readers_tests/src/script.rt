@@ -6,7 +6,7 @@ use cdi_script::ScriptFault;
 use cdi_script::{MAX_STEPS, Script};
 use cdi_script::{Action, Step};
 use cdi_base::{Act, Answer, BuiltIn, Fields, Name, Names, ReadError, Seq, Text, Value};
-use cdi_bodies::{Bodies, Body, View};
+use cdi_bodies::{AddError, Bodies, Body, View};
 use serde_json::Value as Json;
 use std::alloc::{AllocError, AllocFailed, Global};
 use std::process::Abort;
@@ -28,6 +28,15 @@ impl From<AllocError> for AskError {
 impl<T: Drop> From<AllocFailed<T>> for AskError {
     fn from(_error: AllocFailed<T>) -> AskError {
         AskError::Memory
+    }
+}
+
+impl From<AddError> for AskError {
+    fn from(error: AddError) -> AskError {
+        match error {
+            AddError::Memory(_) => AskError::Memory,
+            AddError::Repeated(_) | AddError::Full(_) => AskError::Refused,
+        }
     }
 }
 
@@ -56,9 +65,7 @@ fn ask_one(
                 ensures { IfOk result (λ act. act ≡ next_of script fields.now view.now) }
             { script.next(alloc, fields, view) },
         )?;
-        let Ok(id) = bodies.add(*name, shape, runner) else {
-            return Err(AskError::Refused);
-        };
+        let id = bodies.add(*name, shape, runner)?;
         if bodies.len() == which + 1 {
             asked = Some(id);
         }
@@ -155,10 +162,33 @@ fn refuses_steps_that_are_not_served(rt: HostRuntime) -> Result<(), Fail> {
     refuse(&rt, rt.alloc(), &texts)
 }
 
+/// So many steps that give 1, and behind them what stands last.
+fn steps_text(alloc: Global, count: usize, last: &str) -> Result<String, Fail> {
+    let first = if count == 0 { "" } else { r#"["give",1]"# };
+    let others = r#",["give",1]"#.repeat(alloc, count.saturating_sub(1))?;
+    Ok(format!(in alloc; "[{first}{others}{last}]")?)
+}
+
+/// Checks what a text of so many steps is: a script, or none for this fault.
+fn check_count(
+    rt: &impl Abort,
+    found: &Result<Script, ScriptFault>,
+    count: usize,
+    fault: Option<ScriptFault>,
+) {
+    match found {
+        Ok(script) => {
+            assert_eq!(rt; fault, None, "{count} steps");
+            assert_eq!(rt; script.is_empty(), count == 0);
+            assert!(rt; script.len() <= MAX_STEPS);
+        }
+        Err(found) => assert_eq!(rt; fault, Some(*found), "{count} steps"),
+    }
+}
+
 #[test]
 fn counts_the_steps(rt: HostRuntime) -> Result<(), Fail> {
-    let alloc = rt.alloc();
-    let mut names = Names::new(alloc);
+    let mut names = Names::new(rt.alloc());
     for (count, last, fault) in [
         (0, "", None),
         (255, r#",["give",1]"#, None),
@@ -166,66 +196,65 @@ fn counts_the_steps(rt: HostRuntime) -> Result<(), Fail> {
         (299, r#",["give",1]"#, Some(ScriptFault::TooLong)),
         (299, r#",["give",true]"#, Some(ScriptFault::BadStep)),
     ] {
-        let mut text = String::from_str(alloc, "[")?;
-        for index in 0..count {
-            text.push_str(if index == 0 {
-                r#"["give",1]"#
-            } else {
-                r#",["give",1]"#
-            })?;
-        }
-        text.push_str(last)?;
-        text.push_str("]")?;
-        match read(alloc, &mut names, text.as_str())? {
-            Ok(script) => {
-                assert_eq!(rt; fault, None, "{count} steps");
-                assert_eq!(rt; script.is_empty(), count == 0);
-                assert!(rt; script.len() <= MAX_STEPS);
-            }
-            Err(found) => assert_eq!(rt; fault, Some(found), "{count} steps"),
-        }
+        let text = steps_text(rt.alloc(), count, last)?;
+        let found = read(rt.alloc(), &mut names, text.as_str())?;
+        check_count(&rt, &found, count, fault);
     }
     Ok(())
 }
 
+/// What was answered: a value, an exception and a reference.
+fn answered(alloc: Global) -> Result<Seq<Answer>, Fail> {
+    let text = Text::from_str(alloc, "NullPointerException")?;
+    let exception = BuiltIn::NullPointerException.name();
+    let threw = Answer::Threw { exception, text };
+    let answers = [Answer::Done(Value::Int(5)), threw, Answer::Found(0)];
+    Ok(Seq::new(Vec::from_array(alloc, answers)?))
+}
+
 /// A view with two parameters, and a value, an exception and a reference as answers.
 fn seen(alloc: Global) -> Result<View, Fail> {
-    let mut args = Vec::new(alloc);
-    args.push(Value::Int(1))?;
-    args.push(Value::Text(Text::from_str(alloc, "two")?))?;
-    let mut answers = Vec::new(alloc);
-    answers.push(Answer::Done(Value::Int(5)))?;
-    let text = Text::from_str(alloc, "NullPointerException")?;
-    answers.push(Answer::Threw {
-        exception: BuiltIn::NullPointerException.name(),
-        text,
-    })?;
-    answers.push(Answer::Found(0))?;
-    Ok(View {
-        args: Seq::new(args),
-        answers: Seq::new(answers),
-    })
+    let answers = answered(alloc)?;
+    let two = Value::Text(Text::from_str(alloc, "two")?);
+    let args = Seq::new(Vec::from_array(alloc, [Value::Int(1), two])?);
+    Ok(View { args, answers })
+}
+
+/// A script that sets a field to an expression.
+fn setting(rt: &impl Abort, alloc: Global, expression: &str) -> Result<Script, Fail> {
+    let mut names = Names::new(alloc);
+    let text = format!(in alloc; r#"[["set","f",{expression}]]"#)?;
+    match read(alloc, &mut names, text.as_str())? {
+        Ok(script) => Ok(script),
+        Err(fault) => panic!(rt; "{expression}: {fault}"),
+    }
 }
 
 /// The value of an expression where the field `f` is 7.
 fn value_of(rt: &impl Abort, alloc: Global, text: &str, view: &View) -> Result<Value, Fail> {
-    let mut names = Names::new(alloc);
-    let text = format!(in alloc; r#"[["set","f",{text}]]"#)?;
-    let Ok(script) = read(alloc, &mut names, text.as_str())? else {
-        panic!(rt; "{text} is no script");
-    };
-    let Some(
-        Step {
-            action: Action::Set { field, value },
-            ..
-        },
-    ) = script.steps().first()
-    else {
+    let script = setting(rt, alloc, text)?;
+    let Some(step) = script.steps().first() else {
         panic!(rt; "a step was lost");
+    };
+    let Action::Set { field, value } = &step.action else {
+        panic!(rt; "{text} is set");
     };
     let mut fields = Fields::new(alloc);
     fields.put(*field, Value::Int(7))?;
     Ok(value.value(alloc, &fields, view)?)
+}
+
+/// Checks the value of an expression.
+fn check_value(
+    rt: &impl Abort,
+    alloc: Global,
+    text: &str,
+    view: &View,
+    wanted: &Value,
+) -> Result<(), Fail> {
+    let found = value_of(rt, alloc, text, view)?;
+    assert!(rt; found == *wanted, "{text} is {found:?}");
+    Ok(())
 }
 
 #[test]
@@ -246,8 +275,7 @@ fn has_numbers(rt: HostRuntime) -> Result<(), Fail> {
             -9_223_372_036_854_775_808,
         ),
     ] {
-        let found = value_of(&rt, rt.alloc(), text, &view)?;
-        assert_eq!(rt; found, Value::Int(wanted), "at {text}");
+        check_value(&rt, rt.alloc(), text, &view, &Value::Int(wanted))?;
     }
     Ok(())
 }
@@ -260,10 +288,8 @@ fn has_texts(rt: HostRuntime) -> Result<(), Fail> {
         (r#"["arg",1]"#, "two"),
         (r#"["ans",1]"#, "NullPointerException"),
     ] {
-        let Value::Text(found) = value_of(&rt, rt.alloc(), text, &view)? else {
-            panic!(rt; "{text} is no text");
-        };
-        assert_eq!(rt; found.as_str(), wanted, "at {text}");
+        let wanted = Value::Text(Text::from_str(rt.alloc(), wanted)?);
+        check_value(&rt, rt.alloc(), text, &view, &wanted)?;
     }
     Ok(())
 }
@@ -284,54 +310,64 @@ fn is_null_otherwise(rt: HostRuntime) -> Result<(), Fail> {
         r#"["add",9223372036854775807,1]"#,
         r#"["add",-9223372036854775808,-1]"#,
     ] {
-        let found = value_of(&rt, rt.alloc(), text, &view)?;
-        assert_eq!(rt; found, Value::Null, "at {text}");
+        check_value(&rt, rt.alloc(), text, &view, &Value::Null)?;
     }
     Ok(())
 }
 
-/// The act of a script after these answers.
-fn after(alloc: Global, script: &Script, answers: Vec<Answer>) -> Result<Act, Fail> {
-    let view = View {
-        args: Seq::empty(alloc),
-        answers: Seq::new(answers),
-    };
-    Ok(script.next(alloc, &Fields::new(alloc), &view)?)
+/// Checks the act of a script after these answers.
+fn check_next(
+    rt: &impl Abort,
+    alloc: Global,
+    script: &Script,
+    answers: Vec<Answer>,
+    wanted: &Act,
+) -> Result<(), Fail> {
+    let args = Seq::empty(alloc);
+    let answers = Seq::new(answers);
+    let act = script.next(alloc, &Fields::new(alloc), &View { args, answers })?;
+    assert!(rt; act == *wanted, "{act:?}");
+    Ok(())
+}
+
+/// The answers 3, 5 and null, as far as there are so many.
+fn first_answers(alloc: Global, count: usize) -> Result<Vec<Answer>, Fail> {
+    let mut answers = Vec::new(alloc);
+    for value in [Value::Int(3), Value::Int(5), Value::Null] {
+        if answers.len() < count {
+            answers.push(Answer::Done(value))?;
+        }
+    }
+    Ok(answers)
+}
+
+/// An act of a script for each of its steps, in turn, and the one behind the last.
+fn stepwise(alloc: Global, names: &Names, at: usize) -> Result<Act, Fail> {
+    let (field, method) = (names.name_for("f"), names.name_for("m"));
+    let value = Value::Int(if at == 0 { 1 } else { 5 });
+    Ok(match at {
+        0 => Act::Set { field, value },
+        1 => Act::Own {
+            method,
+            args: Seq::new(Vec::from_array(alloc, [Value::Int(3)])?),
+        },
+        2 => Act::Give { value },
+        _ => Act::Give { value: Value::Null },
+    })
 }
 
 #[test]
 fn goes_on_step_by_step(rt: HostRuntime) -> Result<(), Fail> {
-    let alloc = rt.alloc();
-    let mut names = Names::new(alloc);
+    let mut names = Names::new(rt.alloc());
     let text = r#"[["set","f",1],["own","m",[["last"]]],["give",["ans",1]]]"#;
-    let Ok(script) = read(alloc, &mut names, text)? else {
+    let Ok(script) = read(rt.alloc(), &mut names, text)? else {
         panic!(rt; "three steps are a script");
     };
-    let mut answers = Vec::new(alloc);
-    let act = after(alloc, &script, answers.clone()?)?;
-    assert!(rt;
-        matches!(
-            &act,
-            Act::Set {
-                value: Value::Int(1),
-                ..
-            }
-        ),
-        "{act:?}"
-    );
-    answers.push(Answer::Done(Value::Int(3)))?;
-    let Act::Own { args, .. } = after(alloc, &script, answers.clone()?)? else {
-        panic!(rt; "the second step is a call");
-    };
-    assert_eq!(rt; args.as_slice(), [Value::Int(3)].as_slice());
-    answers.push(Answer::Done(Value::Int(5)))?;
-    let given = Act::Give {
-        value: Value::Int(5),
-    };
-    assert_eq!(rt; after(alloc, &script, answers.clone()?)?, given);
-    answers.push(Answer::Done(Value::Null))?;
-    let ended = Act::Give { value: Value::Null };
-    assert_eq!(rt; after(alloc, &script, answers)?, ended);
+    for at in 0..4 {
+        let wanted = stepwise(rt.alloc(), &names, at)?;
+        let answers = first_answers(rt.alloc(), at)?;
+        check_next(&rt, rt.alloc(), &script, answers, &wanted)?;
+    }
     Ok(())
 }
 
@@ -362,9 +398,7 @@ fn check_after_threw(rt: &impl Abort, alloc: Global, is_catch: bool, wanted: &Ac
         exception: BuiltIn::IllegalStateException.name(),
         text: Text::from_str(alloc, "IllegalStateException")?,
     })?;
-    let act = after(alloc, &throwing(alloc, is_catch)?, answers)?;
-    assert!(rt; act == *wanted, "{act:?}");
-    Ok(())
+    check_next(rt, alloc, &throwing(alloc, is_catch)?, answers, wanted)
 }
 
 #[test]

@@ -21,19 +21,19 @@ longer None which m n h p = p
 
 pub loop-script-preserved-then-len-which : goal.loop-script-preserved-then-len-which
 loop-script-preserved-then-len-which c =
-    let more = length-add (entries_of c.loop-script.bodies) (entries_of c.add.new.self) c.in-Some-get.name.now c.in_ok-shape.shape c.into_dyn_box.result c.in-Ok.ensures.ok in
+    let more = length-add (entries_of c.loop-script.bodies) (entries_of c.add.new.self) c.in-Some-get.name.now c.in_ok-shape.shape c.into_dyn_box.result c.in_ok-id.ensures.ok in
     record {
-      follows = follows_add (entries_of c.loop-script.bodies) (entries_of c.add.new.self) c.loop-script.yielded c.in-Some.script c.in-Some-get.name.now c.in_ok-shape.shape c.into_dyn_box.result c.loop-script.invariant.follows c.in-Ok.ensures.ok
+      follows = follows_add (entries_of c.loop-script.bodies) (entries_of c.add.new.self) c.loop-script.yielded c.in-Some.script c.in-Some-get.name.now c.in_ok-shape.shape c.into_dyn_box.result c.loop-script.invariant.follows c.in_ok-id.ensures.ok
           (λ fields view act q. let given = made_post own-1 at-1-1 c.into_dyn_box.ensures.1 (fields, (view, tt)) (Ok act) q in rw c.in_ok-new.ensures.ok at given);
       rest = append_assoc c.loop-script.yielded (c.in-Some.script ∷ []) c.next.new.self.rest.items ∙ ap (λ (t : List (List Step)). c.loop-script.yielded ++ t) (sym c.in-Some.ensures.steps.0) ∙ c.loop-script.invariant.rest;
-      is_asked = (omega (arith, more, c.in-Ok.ensures.number, c.len-in-loop-script.ensures, c.if-len-which.true), omega (arith, more, c.in-Ok.ensures.number));
+      is_asked = (omega (arith, more, c.in_ok-id.ensures.number, c.len-in-loop-script.ensures, c.if-len-which.true), omega (arith, more, c.in_ok-id.ensures.number));
     }
 
 pub loop-script-preserved : goal.loop-script-preserved
 loop-script-preserved c =
-    let more = length-add (entries_of c.loop-script.bodies) (entries_of c.add.new.self) c.in-Some-get.name.now c.in_ok-shape.shape c.into_dyn_box.result c.in-Ok.ensures.ok in
+    let more = length-add (entries_of c.loop-script.bodies) (entries_of c.add.new.self) c.in-Some-get.name.now c.in_ok-shape.shape c.into_dyn_box.result c.in_ok-id.ensures.ok in
     record {
-      follows = follows_add (entries_of c.loop-script.bodies) (entries_of c.add.new.self) c.loop-script.yielded c.in-Some.script c.in-Some-get.name.now c.in_ok-shape.shape c.into_dyn_box.result c.loop-script.invariant.follows c.in-Ok.ensures.ok
+      follows = follows_add (entries_of c.loop-script.bodies) (entries_of c.add.new.self) c.loop-script.yielded c.in-Some.script c.in-Some-get.name.now c.in_ok-shape.shape c.into_dyn_box.result c.loop-script.invariant.follows c.in_ok-id.ensures.ok
           (λ fields view act q. let given = made_post own-1 at-1-1 c.into_dyn_box.ensures.1 (fields, (view, tt)) (Ok act) q in rw c.in_ok-new.ensures.ok at given);
       rest = append_assoc c.loop-script.yielded (c.in-Some.script ∷ []) c.next.new.self.rest.items ∙ ap (λ (t : List (List Step)). c.loop-script.yielded ++ t) (sym c.in-Some.ensures.steps.0) ∙ c.loop-script.invariant.rest;
       is_asked = longer c.loop-script.asked c.args.which (length (entries_of c.loop-script.bodies)) (length (entries_of c.add.new.self)) (omega (arith, more)) c.loop-script.invariant.is_asked;

@@ -1,0 +1,287 @@
+#!/usr/bin/env python3
+"""Tries planted bugs that the gate does not try: planted/NAME/*.edit, in the form of the must-fail edits.
+
+  planted/planted.py fast                      each edit, here and in must-fail/, still applies: a second, no proof
+  planted/planted.py together NAME.. | --since COMMIT | --all
+                                               all edits, here and in must-fail/, many in one check: each in a function of
+                                               its own, and refused if a complaint stands at that function
+  planted/planted.py run NAME.. | --since COMMIT | --all
+                                               the edits here one after the other, by rt must-fail in a copy of the repository
+
+together takes --jobs N in front of the names, and then tries so many crates at a time. Both take what `rt all check` kept in
+out/. The last line is 'N refused, M failed'; the status is 0 if M is 0.
+"""
+import importlib.machinery
+import importlib.util
+import os
+import re
+import shutil
+import subprocess
+import sys
+import tempfile
+from concurrent.futures import ThreadPoolExecutor
+
+sys.dont_write_bytecode = True
+TOP = os.path.dirname(os.path.dirname(os.path.realpath(__file__)))
+ONE = ["--jobs", "1"]
+
+
+def kits_rt():
+    """Returns the kit's own rt as a module; the one on the PATH may be a link or a short script."""
+    first_page = subprocess.run(["rt", "doc"], check=True, capture_output=True, text=True).stdout.strip()
+    loader = importlib.machinery.SourceFileLoader("rt", f"{os.path.dirname(first_page)}/bin/rt")
+    made = importlib.util.module_from_spec(importlib.util.spec_from_loader("rt", loader))
+    loader.exec_module(made)
+    return made
+
+
+rt = kits_rt()
+
+
+def git(*words):
+    return subprocess.run(["git", "-C", TOP, *words], check=True, capture_output=True, text=True).stdout
+
+
+def read(file):
+    with open(file, encoding="utf-8") as it:
+        return it.read()
+
+
+def write(file, text):
+    with open(file, "w", encoding="utf-8") as it:
+        it.write(text)
+
+
+def planted(name):
+    folder = f"{TOP}/planted/{name}"
+    found = os.listdir(folder) if os.path.isdir(folder) else []
+    return sorted(f"{folder}/{it}" for it in found if it.endswith(".edit"))
+
+
+def all_edits(crate):
+    return [*rt.edits_of(crate)[0], *planted(crate.name)]
+
+
+# ---- fast
+
+
+def fast(crates):
+    failed, count, seen = 0, 0, {}
+    for name in sorted(os.listdir(f"{TOP}/planted")):
+        if os.path.isdir(f"{TOP}/planted/{name}") and name not in crates:
+            print(f"planted/{name}: crates.txt names no such crate")
+            failed += 1
+    for crate in crates.values():
+        for edit in all_edits(crate):
+            why = rt.read_edit(edit, crate.folder)[1] or repeated(seen, crate.name, edit)
+            if why:
+                print(f"{os.path.relpath(edit, TOP)}: {why}")
+            count, failed = count + 1, failed + bool(why)
+    print(f"{count} edits looked at, {failed} failed")
+    return failed
+
+
+def repeated(seen, name, edit):
+    """Returns what an edit repeats of one of its crate that was seen, and has it seen."""
+    why = None
+    for key in ((name, os.path.basename(edit)), (name, read(edit))):
+        why = why or (f"the same name or text as {seen[key]}" if key in seen else None)
+        seen[key] = os.path.relpath(edit, TOP)
+    return why
+
+
+def changed_since(commit, crates):
+    """Returns the crates whose files or edits changed, or that stand on a changed text: an edit is proved over the contracts below."""
+    files = (git("diff", "--name-only", commit) + git("ls-files", "--others", "--exclude-standard")).split("\n")
+    own = {it.split("/")[1] for it in files if re.match(r"(crates|planted)/[^/]+/", it)}
+    stated = {it.split("/")[1] for it in files if re.match(r"crates/[^/]+/(src|specs)/", it)}
+    return [name for name, it in crates.items() if name in own or stated & {dep.name for dep in it.below()}]
+
+
+# ---- together
+
+
+def functions(text):
+    """Returns the first and last line of each function, with its attributes and comments, in rt fmt's layout."""
+    lines, found = text.split("\n"), []
+    for at, line in enumerate(lines):
+        head = re.match(r"( *)(?:pub(?:\([^)]*\))? )?(?:const |unsafe )*fn (\w+)", line)
+        if head:
+            top = at
+            while top and re.match(r" *(#\[|///)", lines[top - 1]):
+                top -= 1
+            end = next((i for i in range(at, len(lines)) if lines[i] == head[1] + "}" or i == at and line.endswith("}")), at)
+            found.append((top + 1, end + 1, head[2]))
+    return found
+
+
+def places(crate, edit):
+    """Returns what the edit turns, as file, first line, last line and function."""
+    path, found = "", set()
+    for line in read(edit).split("\n"):
+        path = line[len("file: ") :].strip() if line.startswith("file: ") else path
+        if line.startswith("old: "):
+            text = read(f"{crate.folder}/{path}")
+            at = text[: max(text.find(line[len("old: ") :]), 0)].count("\n") + 1
+            around = [it for it in functions(text) if it[0] <= at <= it[1]]
+            found.add((path, *(around[-1] if around else (at, at, ""))))
+    return found
+
+
+def complains(line, place):
+    """Returns whether the line is a complaint at the function: at its own text, or in a file of its proof that does not only name what is gone."""
+    at = re.match(r"(?:note: )?(?:\./)?(\S+?):(\d+):\d+: (.*)", line)
+    path, first, last, name = place
+    if not at or not name:
+        return False
+    if at[1] == path:
+        return first <= int(at[2]) <= last and ("it is not proved" in at[3] or "error" in at[3])
+    own = rf"proofs/{re.sub(r'(^|/)(lib|main|mod)$', '', path[len('src/') : -len('.rt')])}/?([\w+]+/)*\+?{name}/"
+    is_gone = re.search(r"has no field|is not in scope|has no `|was not admitted", at[3])
+    return bool(re.match(own, at[1])) and "error" in at[3] and not is_gone
+
+
+def apart(crate, edits):
+    """Returns those of the edits that turn functions of their own, and the others."""
+    group, others, turned = [], [], set()
+    for edit in edits:
+        at = places(crate, edit)
+        (others if turned & at else group).append(edit)
+        turned |= at
+    return group, others
+
+
+def with_edits(crate, edits):
+    """Returns the texts of the crate's files with all of the edits, which are applied to a copy one after the other: each new text is one line, so no line moves."""
+    texts = {}
+    with tempfile.TemporaryDirectory(prefix="planted-") as room:
+        shutil.copytree(crate.folder, room, dirs_exist_ok=True, ignore=shutil.ignore_patterns("out"))
+        for edit in edits:
+            for path, text in (rt.read_edit(edit, room)[0] or {}).items():
+                texts[path] = text
+                write(f"{room}/{path}", text)
+    return texts
+
+
+def in_one(crate, edits, kept):
+    """Returns those of the edits that one check with all of them refuses, each at a function of its own; None if the check says nothing."""
+    texts = with_edits(crate, edits)
+    # (what a check with edits keeps would take the place of what the crate's own check kept)
+    with tempfile.TemporaryDirectory(prefix="planted-once-") as once:
+        shutil.copytree(kept, once, dirs_exist_ok=True)
+        ran = rt.checked(crate, texts, ONE, once)
+    lines = ran.stdout.rstrip("\n").split("\n")
+    if ran.returncode != 1 or not lines[-1].startswith("logic=not-proved") or any(rt.unread(it, texts) for it in lines):
+        return None
+    return [edit for edit in edits if any(complains(line, place) for line in lines for place in places(crate, edit))]
+
+
+def in_groups(crate, edits, kept):
+    """Tries the edits many in a check. Returns those that were refused so, and how many checks it took. A group of which a check says nothing is halved."""
+    told, checks, left, groups = [], 0, edits, []
+    while left or groups:
+        if not groups:
+            group, left = apart(crate, left)
+            groups = [group]
+        group = groups.pop()
+        if len(group) < 2:
+            continue
+        found, checks = in_one(crate, group, kept), checks + 1
+        if found is None:
+            groups += [group[: len(group) // 2], group[len(group) // 2 :]]
+        else:
+            told += found
+    return told, checks
+
+
+def try_crate(crate):
+    """Tries all edits of a crate, those alone that no check of many refuses. Returns how many were refused, how many not, and what to print."""
+    edits = all_edits(crate)
+    good = [it for it in edits if not rt.read_edit(it, crate.folder)[1]]
+    with tempfile.TemporaryDirectory(prefix="planted-kept-") as kept:
+        if crate.has_kept():
+            shutil.copytree(f"{crate.folder}/out/incremental", kept, dirs_exist_ok=True)
+        if rt.checked(crate, {}, ONE, kept).returncode:
+            return 0, len(edits), [f"planted: {crate.name} is not proved"]
+        told, checks = in_groups(crate, good, kept)
+        alone = [it for it in edits if it not in told]
+        tried = [rt.must_fail(crate, it, ONE, kept) for it in alone]
+    refused = len(told) + sum(well for well, _ in tried)
+    said = [f"rt: {text}" for _, text in tried]
+    said.append(f"planted: {crate.name}: {len(edits)} edits, {checks} checks of many, {len(alone)} of one")
+    return refused, len(edits) - refused, said
+
+
+def together(crates, at_once):
+    refused, failed, _held = 0, 0, rt.rtlib.lock(crates)
+    with_edits_here = [it for it in crates if all_edits(it)]
+    for crate in with_edits_here:
+        if any(dep.build_rlib(ONE, anew=False) for dep in crate.below()):
+            print(f"planted: what {crate.name} stands on is not proved")
+            return 1
+    with ThreadPoolExecutor(at_once) as pool:
+        for well, ill, said in pool.map(try_crate, with_edits_here):
+            refused, failed = refused + well, failed + ill
+            print("\n".join(said), flush=True)
+    print(f"{refused} refused, {failed} failed")
+    return failed
+
+
+# ---- run
+
+
+def copy_without_edits(room):
+    for path in filter(None, git("ls-files", "-z", "--cached", "--others", "--exclude-standard").split("\0")):
+        if os.path.isfile(f"{TOP}/{path}") and not re.match(r"planted/|crates/[^/]+/must-fail/", path):
+            os.makedirs(os.path.dirname(f"{room}/{path}"), exist_ok=True)
+            shutil.copyfile(f"{TOP}/{path}", f"{room}/{path}")
+    subprocess.run(["git", "init", "-q", room], check=True)
+
+
+def run_one(room, crate):
+    """Returns how many of the crate's edits the kit's own way refuses, tried one after the other in a copy of the repository."""
+    for dep in crate.below():
+        if os.path.isdir(f"{dep.folder}/out/rlib"):
+            shutil.copytree(f"{dep.folder}/out/rlib", f"{room}/crates/{dep.name}/out/rlib", dirs_exist_ok=True)
+    os.makedirs(f"{room}/crates/{crate.name}/must-fail")
+    for edit in planted(crate.name):
+        shutil.copy(edit, f"{room}/crates/{crate.name}/must-fail")
+    words = ["rt", "must-fail", crate.name]
+    ran = subprocess.run(words, cwd=room, stdin=subprocess.DEVNULL, stdout=subprocess.PIPE, text=True, errors="replace")
+    print(ran.stdout, end="", flush=True)
+    return len(re.findall(r"^rt: must-fail \S+: refused, as it must be", ran.stdout, re.M))
+
+
+def run(crates):
+    refused = failed = 0
+    with tempfile.TemporaryDirectory(prefix="planted-") as room:
+        copy_without_edits(room)
+        for crate in crates:
+            edits = planted(crate.name)
+            well = run_one(room, crate) if edits else 0
+            refused, failed = refused + well, failed + len(edits) - well
+    print(f"{refused} refused, {failed} failed")
+    return failed
+
+
+def main(words):
+    os.chdir(TOP)
+    rt.rtlib.guarded()
+    crates = {it.name: it for it in rt.rtlib.crates_below(TOP)}
+    verb, names, at_once = "".join(words[:1]), words[1:], 1
+    if verb == "fast" and not names:
+        return 1 if fast(crates) else 0
+    if verb == "together" and names[:1] == ["--jobs"] and re.fullmatch(r"[1-9]\d?", "".join(names[1:2])):
+        names, at_once = names[2:], int(names[1])
+    if names[:1] == ["--all"]:
+        names = [*crates]
+    elif names[:1] == ["--since"] and len(names) == 2:
+        names = changed_since(names[1], crates)
+    if verb not in ("run", "together") or any(it not in crates for it in names):
+        sys.exit(__doc__)
+    chosen = [crates[it] for it in names]
+    return 1 if (run(chosen) if verb == "run" else together(chosen, at_once)) else 0
+
+
+if __name__ == "__main__":
+    sys.exit(main(sys.argv[1:]))

@@ -1,0 +1,126 @@
+#!/usr/bin/env python3
+"""Tests planted.py on a small repository of one crate: an edit that is refused, one that is proved, one that doesn't compile and
+one that no longer applies. Run it as planted/test_planted.py; it takes about two minutes."""
+import os
+import shutil
+import subprocess
+import tempfile
+import unittest
+
+HERE = os.path.dirname(os.path.realpath(__file__))
+CODE = """//! Two numbers.
+#![tactic(auto)]
+
+ghost use Rattle.std.specs.Prelude.{◌≡◌, ◌≤◌};
+
+/// The larger of two numbers.
+pub fn larger(a: u8, b: u8) -> u8
+    ensures a_in { a ≤ result }
+    ensures b_in { b ≤ result }
+{
+    if a < b { b } else { a }
+}
+
+/// Zero.
+pub fn zero() -> u8
+    ensures { result ≡ 0 }
+{
+    0
+}
+"""
+SMALLER = "file: src/lib.rt\nold: if a < b { b } else { a }\nnew: if a < b { a } else { b }\n"
+ONE = "file: src/lib.rt\nold:     0\nnew:     1\n"
+TOP_OF_ALL = "file: src/lib.rt\nold: if a < b { b } else { a }\nnew: if a < b { b } else if a > b { 255 } else { a }\n"
+NO_CODE = "file: src/lib.rt\nold: if a < b { b } else { a }\nnew: if a < b { c } else { a }\n"
+GONE = "file: src/lib.rt\nold: if a <= b { b } else { a }\nnew: a\n"
+
+
+class Planted(unittest.TestCase):
+    def setUp(self):
+        self.top = tempfile.mkdtemp(prefix="planted-test-")
+        for folder in ("planted/small", "crates/small/src", "crates/small/must-fail"):
+            os.makedirs(f"{self.top}/{folder}")
+        shutil.copy(f"{HERE}/planted.py", f"{self.top}/planted")
+        self.write("crates.txt", "small:\n")
+        self.write("HANDLES", "Handles allowed: none.\n")
+        self.write(".gitignore", "out/\n")
+        self.write("crates/small/src/lib.rt", CODE)
+        subprocess.run(["git", "init", "-q", self.top], check=True)
+        subprocess.run(["git", "-C", self.top, "add", "-A"], check=True)
+
+    def tearDown(self):
+        shutil.rmtree(self.top)
+
+    def write(self, path, text):
+        with open(f"{self.top}/{path}", "w", encoding="utf-8") as it:
+            it.write(text)
+
+    def edit(self, name, text, folder="planted/small"):
+        self.write(f"{folder}/{name}.edit", text)
+
+    def tried(self, *words):
+        """Returns the status, the last line and the whole of what planted.py says."""
+        ran = subprocess.run(["python3", f"{self.top}/planted/planted.py", *words], capture_output=True, text=True)
+        return ran.returncode, ran.stdout.rstrip("\n").split("\n")[-1], ran.stdout + ran.stderr
+
+    def test_edits_apply(self):
+        self.edit("smaller", SMALLER)
+        self.edit("one", ONE, "crates/small/must-fail")
+        self.assertEqual(self.tried("fast")[:2], (0, "2 edits looked at, 0 failed"))
+
+    def test_an_edit_that_no_longer_applies(self):
+        self.edit("gone", GONE)
+        status, last, said = self.tried("fast")
+        self.assertEqual((status, last), (1, "1 edits looked at, 1 failed"))
+        self.assertIn("planted/small/gone.edit", said)
+        status, last, _ = self.tried("together", "small")
+        self.assertEqual((status, last), (1, "0 refused, 1 failed"))
+
+    def test_the_same_edit_twice(self):
+        self.edit("smaller", SMALLER)
+        self.edit("again", SMALLER)
+        self.assertEqual(self.tried("fast")[:2], (1, "2 edits looked at, 1 failed"))
+
+    def test_a_folder_of_no_crate(self):
+        os.makedirs(f"{self.top}/planted/large")
+        self.assertEqual(self.tried("fast")[:2], (1, "0 edits looked at, 1 failed"))
+
+    def test_refused_in_one_check(self):
+        self.edit("smaller", SMALLER)
+        self.edit("one", ONE, "crates/small/must-fail")
+        status, last, said = self.tried("together", "--jobs", "2", "--all")
+        self.assertEqual((status, last), (0, "2 refused, 0 failed"))
+        self.assertIn("small: 2 edits, 1 checks of many, 0 of one", said)
+
+    def test_one_that_is_proved_is_told(self):
+        self.edit("proved", TOP_OF_ALL)
+        self.edit("one", ONE)
+        status, last, said = self.tried("together", "small")
+        self.assertEqual((status, last), (1, "1 refused, 1 failed"))
+        self.assertIn("small/proved.edit: NOT REFUSED", said)
+
+    def test_one_that_does_not_compile_is_told(self):
+        self.edit("no_code", NO_CODE)
+        self.edit("one", ONE)
+        status, last, said = self.tried("together", "small")
+        self.assertEqual((status, last), (1, "1 refused, 1 failed"))
+        self.assertIn("small/no_code.edit: BAD EDIT", said)
+
+    def test_the_kits_own_way(self):
+        self.edit("smaller", SMALLER)
+        self.edit("proved", TOP_OF_ALL)
+        self.assertEqual(self.tried("run", "small")[:2], (1, "1 refused, 1 failed"))
+
+    def test_what_changed(self):
+        subprocess.run(["git", "-C", self.top, "-c", "user.name=t", "-c", "user.email=t@t", "commit", "-qm", "a"], check=True)
+        self.assertEqual(self.tried("together", "--since", "HEAD")[:2], (0, "0 refused, 0 failed"))
+        self.edit("one", ONE)
+        self.assertEqual(self.tried("together", "--since", "HEAD")[:2], (0, "1 refused, 0 failed"))
+
+    def test_wrong_words(self):
+        for words in ((), ("faster",), ("together", "large"), ("fast", "small")):
+            self.assertEqual(self.tried(*words)[0], 1)
+
+
+if __name__ == "__main__":
+    unittest.main()
