@@ -1,11 +1,11 @@
 //! Tests of names, fields, sequences, acts and words.
+use crate::checks::{expect_same, expect_text};
 use cdi_base::built_in::ALL;
 use cdi_base::{
     Act, Answer, BuiltIn, Cause, Fields, InternError, Limits, MemberValue, Name, Names, ReadError, Refusal,
     Seq, Text, Use, Value, Via, is_name,
 };
 use std::alloc::Global;
-use std::fmt::Display;
 use std::process::Abort;
 use std::test::Fail;
 
@@ -43,38 +43,42 @@ fn tells_names(rt: HostRuntime) -> Result<(), Fail> {
     Ok(())
 }
 
-/// Checks a table that begins with no name.
-fn check_interning(rt: &impl Abort, names: &mut Names) -> Result<(), Fail> {
-    assert!(rt; names.is_empty());
-    let first = interned(rt, names, "K")?;
-    let second = interned(rt, names, "k")?;
-    assert_eq!(rt; interned(rt, names, "K")?, first);
-    assert_ne!(rt; first, second);
-    assert_eq!(rt; names.len(), 2);
-    assert_eq!(rt; names.find("K"), Some(first));
-    assert_eq!(rt; names.find("k"), Some(second));
-    assert_eq!(rt; names.find("kk"), None);
-    assert_eq!(rt; names.name_for("k"), second);
-    let next = names.name_for("kk");
-    assert_eq!(rt; interned(rt, names, "kk")?, next);
+/// Interns a text, after which the table has to hold so many names.
+fn check_interned(
+    rt: &impl Abort,
+    names: &mut Names,
+    text: &str,
+    count: usize,
+) -> Result<(), Fail> {
+    let foreseen = names.name_for(text);
+    expect_same(rt, &names.find(text).is_some(), &(names.len() == count));
+    let name = interned(rt, names, text)?;
+    expect_same(rt, &name, &foreseen);
+    expect_same(rt, &names.find(text), &Some(name));
+    expect_same(rt, &names.len(), &count);
     Ok(())
 }
 
 #[test]
 fn interns_each_text_once(rt: HostRuntime) -> Result<(), Fail> {
     let mut names = Names::new(rt.alloc());
-    check_interning(&rt, &mut names)
+    expect_same(&rt, &names.is_empty(), &true);
+    for (text, count) in [("K", 1), ("k", 2), ("K", 2), ("k", 2), ("kk", 3)] {
+        check_interned(&rt, &mut names, text, count)?;
+    }
+    expect_same(&rt, &(names.find("K") == names.find("k")), &false);
+    Ok(())
 }
 
 #[test]
 fn knows_the_built_in_names(rt: HostRuntime) -> Result<(), Fail> {
     let names = Names::with_built_in(rt.alloc())?;
-    assert_eq!(rt; names.len(), 19);
+    expect_same(&rt, &names.len(), &19);
     for built_in in ALL {
-        assert_eq!(rt; names.find(built_in.text()), Some(built_in.name()));
+        expect_same(&rt, &names.find(built_in.text()), &Some(built_in.name()));
     }
-    assert_eq!(rt; names.find("Object"), Some(BuiltIn::Object.name()));
-    assert_eq!(rt; names.find("value"), Some(BuiltIn::Value.name()));
+    expect_same(&rt, &names.find("Object"), &Some(BuiltIn::Object.name()));
+    expect_same(&rt, &names.find("value"), &Some(BuiltIn::Value.name()));
     Ok(())
 }
 
@@ -90,12 +94,6 @@ fn put(rt: &impl Abort, fields: &mut Fields, name: Name, number: i64) -> Result<
     }
 }
 
-/// Checks what a field has.
-fn check_field(rt: &impl Abort, fields: &Fields, name: Name, wanted: Value) {
-    let found = fields.get(name);
-    assert!(rt; *found == wanted, "{found:?}");
-}
-
 #[test]
 fn changes_the_named_field_alone(rt: HostRuntime) -> Result<(), Fail> {
     let (n, m, absent) = (
@@ -104,15 +102,15 @@ fn changes_the_named_field_alone(rt: HostRuntime) -> Result<(), Fail> {
         BuiltIn::Any.name(),
     );
     let mut fields = Fields::new(rt.alloc());
-    put(&rt, &mut fields, n, 0)?;
-    put(&rt, &mut fields, m, 1)?;
-    put(&rt, &mut fields, n, 7)?;
+    for (field, number) in [(n, 0), (m, 1), (n, 7)] {
+        put(&rt, &mut fields, field, number)?;
+    }
     fields.set(absent, Value::Int(8));
-    check_field(&rt, &fields, absent, Value::Null);
+    expect_same(&rt, fields.get(absent), &Value::Null);
     fields.set(m, Value::Null);
-    assert_eq!(rt; fields.len(), 2);
-    check_field(&rt, &fields, n, Value::Int(7));
-    check_field(&rt, &fields, m, Value::Null);
+    expect_same(&rt, &fields.len(), &2);
+    expect_same(&rt, fields.get(n), &Value::Int(7));
+    expect_same(&rt, fields.get(m), &Value::Null);
     Ok(())
 }
 
@@ -142,41 +140,50 @@ fn proceeding(alloc: Global) -> Result<Act, Fail> {
 
 /// Checks that a copy of an act equals it.
 fn check_copy(rt: &impl Abort, act: &Act) -> Result<(), Fail> {
-    let copy = act.clone()?;
-    assert!(rt; copy == *act, "{act:?}");
+    expect_same(rt, &act.clone()?, act);
     Ok(())
+}
+
+/// Acts of different kinds, some with parts in memory of their own.
+fn act_at(alloc: Global, at: usize) -> Result<Act, Fail> {
+    let name = BuiltIn::Named.name();
+    let via = Via::Param(65_535);
+    match at {
+        0 => fired(alloc, name),
+        1 => fired(alloc, BuiltIn::Any.name()),
+        2 => proceeding(alloc),
+        3 => Ok(Act::Proceed { args: None }),
+        4 => Ok(Act::Read { via }),
+        _ => Ok(Act::Own {
+            method: name,
+            args: Seq::empty(alloc),
+        }),
+    }
 }
 
 #[test]
 fn copies_of_acts_are_equal(rt: HostRuntime) -> Result<(), Fail> {
-    let alloc = rt.alloc();
-    let name = BuiltIn::Named.name();
-    check_copy(&rt, &fired(alloc, name)?)?;
-    check_copy(&rt, &proceeding(alloc)?)?;
-    check_copy(&rt, &Act::Proceed { args: None })?;
-    let via = Via::Param(65_535);
-    check_copy(&rt, &Act::Read { via })?;
-    let args = Seq::empty(alloc);
-    check_copy(&rt, &Act::Own { method: name, args })
+    for at in 0..6 {
+        check_copy(&rt, &act_at(rt.alloc(), at)?)?;
+    }
+    Ok(())
 }
 
 #[test]
 fn tells_acts_apart(rt: HostRuntime) -> Result<(), Fail> {
-    let named = fired(rt.alloc(), BuiltIn::Named.name())?;
-    let any = fired(rt.alloc(), BuiltIn::Any.name())?;
-    assert!(rt; named != any);
+    let named = act_at(rt.alloc(), 0)?;
+    let any = act_at(rt.alloc(), 1)?;
+    expect_same(&rt, &(named == any), &false);
     Ok(())
 }
 
 #[test]
 fn copies_of_answers_are_equal(rt: HostRuntime) -> Result<(), Fail> {
-    let threw = Answer::Threw {
-        exception: BuiltIn::Named.name(),
-        text: Text::from_str(rt.alloc(), "Named")?,
-    };
-    let copy = threw.clone()?;
-    assert!(rt; copy == threw);
-    assert!(rt; threw != Answer::Found(0));
+    let exception = BuiltIn::Named.name();
+    let text = Text::from_str(rt.alloc(), "Named")?;
+    let threw = Answer::Threw { exception, text };
+    expect_same(&rt, &threw.clone()?, &threw);
+    expect_same(&rt, &(threw == Answer::Found(0)), &false);
     Ok(())
 }
 
@@ -195,11 +202,11 @@ fn push(rt: &impl Abort, sequence: &mut Seq<u8>, item: u8) -> Result<(), Fail> {
 
 /// Checks a sequence of 3, 1 and 2.
 fn check_sequence(rt: &impl Abort, sequence: &Seq<u8>) {
-    assert!(rt; !sequence.is_empty());
-    assert_eq!(rt; sequence.get(0), Some(&3));
-    assert_eq!(rt; sequence.get(3), None);
-    assert_eq!(rt; sequence.iter().copied().max(), Some(3));
-    assert_eq!(rt; sequence.as_slice(), [3, 1, 2].as_slice());
+    expect_same(rt, &sequence.is_empty(), &false);
+    expect_same(rt, &sequence.get(0), &Some(&3));
+    expect_same(rt, &sequence.get(3), &None);
+    expect_same(rt, &sequence.iter().copied().max(), &Some(3));
+    expect_same(rt, &sequence.as_slice(), &[3, 1, 2].as_slice());
 }
 
 #[test]
@@ -207,7 +214,8 @@ fn gives_a_sequence_back(rt: HostRuntime) -> Result<(), Fail> {
     let mut sequence = Seq::new(Vec::from_array(rt.alloc(), [3u8, 1])?);
     push(&rt, &mut sequence, 2)?;
     check_sequence(&rt, &sequence);
-    assert_eq!(rt; sequence.into_vec().as_slice(), [3, 1, 2].as_slice());
+    let items = sequence.into_vec();
+    expect_same(&rt, &items.as_slice(), &[3, 1, 2].as_slice());
     Ok(())
 }
 
@@ -222,29 +230,18 @@ fn keeps_limits_in_range(rt: HostRuntime) {
         (1, 100_001, false),
     ];
     for (depth, ticks, valid) in cases {
-        match Limits::new(depth, ticks) {
-            Some(limits) => {
-                assert!(rt; valid, "at {depth} and {ticks}");
-                assert_eq!(rt; (limits.depth, limits.ticks), (depth, ticks));
-            }
-            None => assert!(rt; !valid, "at {depth} and {ticks}"),
-        }
+        let found = Limits::new(depth, ticks).map(|limits| (limits.depth, limits.ticks));
+        let wanted = if valid { Some((depth, ticks)) } else { None };
+        expect_same(&rt, &found, &wanted);
     }
-    assert_eq!(rt; Some(Limits::default()), Limits::new(32, 100_000));
-}
-
-/// Checks how something is printed.
-fn check_text(rt: &impl Abort, alloc: Global, it: &impl Display, wanted: &str) -> Result<(), Fail> {
-    let text = it.to_string(alloc)?;
-    assert_eq!(rt; text.as_str(), wanted);
-    Ok(())
+    expect_same(&rt, &Some(Limits::default()), &Limits::new(32, 100_000));
 }
 
 #[test]
 fn writes_words(rt: HostRuntime) -> Result<(), Fail> {
     let alloc = rt.alloc();
-    check_text(&rt, alloc, &Refusal::BadLine, "BadLine")?;
-    assert_eq!(rt; Refusal::TooManySessions.word(), "TooManySessions");
-    check_text(&rt, alloc, &Cause::Memory, "memory")?;
-    check_text(&rt, alloc, &ReadError::Fault(Cause::Depth), "depth")
+    expect_text(&rt, alloc, &Refusal::BadLine, "BadLine")?;
+    expect_same(&rt, &Refusal::TooManySessions.word(), &"TooManySessions");
+    expect_text(&rt, alloc, &Cause::Memory, "memory")?;
+    expect_text(&rt, alloc, &ReadError::Fault(Cause::Depth), "depth")
 }

@@ -4,6 +4,7 @@ ghost use Rattle.cdi_bodies.specs.Table.{entries_of};
 ghost use Rattle.cdi_base.specs.declared.act.Act.TheVariants.{Give};
 ghost use Rattle.cdi_base.specs.declared.value.Value.TheVariants.{Null, Int, Text as AnyText};
 
+use crate::checks::expect_same;
 use cdi_bodies::{AddError, Bodies, Body, BodyId, Choice, Chooser, MAX_BODIES, Shape, View};
 use cdi_base::{Act, BuiltIn, Fields, Name, Names, Seq, Text, Value, is_name};
 use std::alloc::{AllocError, Global};
@@ -35,28 +36,40 @@ fn add_seven(alloc: Global, bodies: &mut Bodies, name: Name) -> Result<BodyId, F
     Ok(bodies.add(name, Shape::new(alloc), body)?)
 }
 
-/// Checks what is known of a body, and that it gives 7.
-fn check_seven(rt: &impl Abort, alloc: Global, bodies: &Bodies, id: BodyId) -> Result<(), Fail>
+/// Checks what a body of a table gives.
+fn check_given(
+    rt: &impl Abort,
+    alloc: Global,
+    bodies: &Bodies,
+    id: BodyId,
+    value: Value,
+) -> Result<(), Fail>
+    requires { id < length (entries_of bodies.now) }
+{
+    let act = bodies.next(id, &Fields::new(alloc), &begun(alloc))?;
+    expect_same(rt, &act, &Act::Give { value });
+    Ok(())
+}
+
+/// Checks what is known of a body of a table.
+fn check_known(rt: &impl Abort, alloc: Global, bodies: &Bodies, id: BodyId)
     requires { id < length (entries_of bodies.now) }
 {
     let name = BuiltIn::Named.name();
-    assert_eq!(rt; bodies.find(name), Some(id));
-    assert_eq!(rt; bodies.find(BuiltIn::Value.name()), None);
-    assert_eq!(rt; bodies.name(id), name);
-    assert_eq!(rt; *bodies.shape(id), Shape::new(alloc));
-    let act = bodies.next(id, &Fields::new(alloc), &begun(alloc))?;
-    let value = Value::Int(7);
-    assert_eq!(rt; act, Act::Give { value });
-    Ok(())
+    expect_same(rt, &bodies.find(name), &Some(id));
+    expect_same(rt, &bodies.find(BuiltIn::Value.name()), &None);
+    expect_same(rt, &bodies.name(id), &name);
+    expect_same(rt, bodies.shape(id), &Shape::new(alloc));
 }
 
 #[test]
 fn registers_and_asks(rt: HostRuntime) -> Result<(), Fail> {
     let mut bodies = Bodies::new(rt.alloc());
-    assert!(rt; bodies.is_empty());
+    expect_same(&rt, &bodies.is_empty(), &true);
     let id = add_seven(rt.alloc(), &mut bodies, BuiltIn::Named.name())?;
-    assert_eq!(rt; bodies.len(), 1);
-    check_seven(&rt, rt.alloc(), &bodies, id)?;
+    expect_same(&rt, &bodies.len(), &1);
+    check_known(&rt, rt.alloc(), &bodies, id);
+    check_given(&rt, rt.alloc(), &bodies, id, Value::Int(7))?;
     Bodies::gives_in_shape(&bodies);
     Ok(())
 }
@@ -77,15 +90,8 @@ fn asks_what_was_captured(rt: HostRuntime) -> Result<(), Fail> {
         },
     )?;
     let id = bodies.add(BuiltIn::Named.name(), Shape::new(alloc), body)?;
-    let act = bodies.next(id, &Fields::new(alloc), &begun(alloc))?;
-    let Act::Give {
-        value: Value::Text(text),
-    } = act
-    else {
-        panic!(rt; "the body gives its text");
-    };
-    assert_eq!(rt; text.as_str(), "kept");
-    Ok(())
+    let wanted = Value::Text(Text::from_str(alloc, "kept")?);
+    check_given(&rt, alloc, &bodies, id, wanted)
 }
 
 /// What came of adding a body.
@@ -120,15 +126,16 @@ fn add(alloc: Global, bodies: &mut Bodies, name: Name, other: Option<Name>) -> R
 #[test]
 fn hands_a_repeated_body_back(rt: HostRuntime) -> Result<(), Fail> {
     let (named, value) = (BuiltIn::Named.name(), BuiltIn::Value.name());
-    let other = Some(BuiltIn::Any.name());
     let mut bodies = Bodies::new(rt.alloc());
     for (name, wanted, count) in [
         (named, Added::Well, 1),
         (value, Added::Well, 2),
         (named, Added::Repeated, 3),
     ] {
-        assert_eq!(rt; add(rt.alloc(), &mut bodies, name, other)?, wanted);
-        assert_eq!(rt; bodies.len(), count);
+        let other = Some(BuiltIn::Any.name());
+        let added = add(rt.alloc(), &mut bodies, name, other)?;
+        expect_same(&rt, &added, &wanted);
+        expect_same(&rt, &bodies.len(), &count);
     }
     Ok(())
 }
@@ -148,9 +155,9 @@ fn holds_4096_bodies(rt: HostRuntime) -> Result<(), Fail> {
         let name = numbered(&rt, rt.alloc(), &mut names, number)?;
         let added = add(rt.alloc(), &mut bodies, name, None)?;
         let wanted = if number < 4_096 { Added::Well } else { Added::Full };
-        assert_eq!(rt; added, wanted, "{number}");
+        expect_same(&rt, &added, &wanted);
     }
-    assert_eq!(rt; bodies.len(), MAX_BODIES);
+    expect_same(&rt, &bodies.len(), &MAX_BODIES);
     Ok(())
 }
 
@@ -165,11 +172,7 @@ fn chooses_below_the_count(rt: HostRuntime) -> Result<(), Fail> {
     )?;
     let chooser = Chooser::new(choice);
     for (count, entries, chosen) in [(1, 9, 0), (3, 7, 1), (4, 3, 3)] {
-        assert_eq!(rt;
-            chooser.choose(count, entries),
-            chosen,
-            "{count} at {entries}"
-        );
+        expect_same(&rt, &chooser.choose(count, entries), &chosen);
     }
     Ok(())
 }

@@ -1,57 +1,43 @@
 //! Tests of reading JSON values.
+use crate::checks::{expect_same, expect_text};
 use cdi_json::{is_word, read_json};
-use serde_json::{Value as Json, json};
 use std::alloc::Global;
 use std::process::Abort;
 use std::test::Fail;
 
-/// Reads a text that is to be this value.
-fn expect(rt: &impl Abort, alloc: Global, text: &str, expected: &Json) -> Result<(), Fail> {
-    let found = read_json(alloc, text.as_bytes())?;
-    assert!(rt; found.as_ref() == Some(expected), "of {text:?}");
+/// Reads a text that is to be a value, which is written so.
+fn expect(rt: &impl Abort, alloc: Global, text: &str, written: &str) -> Result<(), Fail> {
+    let Some(found) = read_json(alloc, text.as_bytes())? else {
+        panic!(rt; "{text} is a value");
+    };
+    expect_text(rt, alloc, &found, written)
+}
+
+#[test]
+fn reads_values(rt: HostRuntime) -> Result<(), Fail> {
+    for (text, written) in [
+        ("null", "null"),
+        ("true", "true"),
+        ("false", "false"),
+        ("7", "7"),
+        ("-7", "-7"),
+        ("1.5", "1.5"),
+        (r#""""#, r#""""#),
+        (r#""a\n\u00e9""#, r#""a\né""#),
+        ("\"é\"", "\"é\""),
+        ("[]", "[]"),
+        ("{}", "{}"),
+        (r#"["a",[1,null]]"#, r#"["a",[1,null]]"#),
+        (r#"{"b":[true],"a":{}}"#, r#"{"a":{},"b":[true]}"#),
+        // The last value of a key stays.
+        (r#"{"a":1,"a":2}"#, r#"{"a":2}"#),
+        // White space may stand round each.
+        (" \t\r\n7\n\r\t ", "7"),
+        (" [ 1 , 2 ] ", "[1,2]"),
+    ] {
+        expect(&rt, rt.alloc(), text, written)?;
+    }
     Ok(())
-}
-
-#[test]
-fn reads_single_values(rt: HostRuntime) -> Result<(), Fail> {
-    let alloc = rt.alloc();
-    expect(&rt, alloc, "null", &Json::Null)?;
-    expect(&rt, alloc, "true", &Json::Bool(true))?;
-    expect(&rt, alloc, "false", &Json::Bool(false))?;
-    expect(&rt, alloc, "7", &Json::from(7))?;
-    expect(&rt, alloc, "-7", &Json::from(-7))?;
-    expect(&rt, alloc, "1.5", &Json::from(1.5))?;
-    expect(&rt, alloc, r#""""#, &json!(in alloc; "")?)?;
-    expect(&rt, alloc, r#""a\n\u00e9""#, &json!(in alloc; "a\né")?)?;
-    expect(&rt, alloc, "\"é\"", &json!(in alloc; "é")?)
-}
-
-#[test]
-fn reads_arrays_and_objects(rt: HostRuntime) -> Result<(), Fail> {
-    let alloc = rt.alloc();
-    expect(&rt, alloc, "[]", &json!(in alloc; [])?)?;
-    expect(&rt, alloc, "{}", &json!(in alloc; {})?)?;
-    expect(
-        &rt,
-        alloc,
-        r#"["a",[1,null]]"#,
-        &json!(in alloc; ["a", [1, null]])?,
-    )?;
-    expect(
-        &rt,
-        alloc,
-        r#"{"b":[true],"a":{}}"#,
-        &json!(in alloc; {"a": {}, "b": [true]})?,
-    )?;
-    // The last value of a key stays.
-    expect(&rt, alloc, r#"{"a":1,"a":2}"#, &json!(in alloc; {"a": 2})?)
-}
-
-#[test]
-fn passes_white_space_round_a_value(rt: HostRuntime) -> Result<(), Fail> {
-    let alloc = rt.alloc();
-    expect(&rt, alloc, " \t\r\n7\n\r\t ", &Json::from(7))?;
-    expect(&rt, alloc, " [ 1 , 2 ] ", &json!(in alloc; [1, 2])?)
 }
 
 /// Reads bytes that are to be no value.
@@ -88,29 +74,38 @@ fn finds_no_value(rt: HostRuntime) -> Result<(), Fail> {
     Ok(())
 }
 
-/// Checks that a value is no word.
-fn check_no_word(rt: &impl Abort, value: &Json, word: &str) {
-    assert!(rt; !is_word(value, word), "{word:?}");
-}
-
-#[test]
-fn tells_words(rt: HostRuntime) -> Result<(), Fail> {
-    let call = json!(in rt.alloc(); "call")?;
-    assert!(rt; is_word(&call, "call"));
-    for other in ["", "cal", "calls", "Call", "ball"] {
-        check_no_word(&rt, &call, other);
-    }
-    assert!(rt; is_word(&json!(in rt.alloc(); "")?, ""));
+/// Checks whether a text that is a value is a word.
+fn check_word(
+    rt: &impl Abort,
+    alloc: Global,
+    text: &str,
+    word: &str,
+    wanted: bool,
+) -> Result<(), Fail> {
+    let Some(value) = read_json(alloc, text.as_bytes())? else {
+        panic!(rt; "{text} is a value");
+    };
+    expect_same(rt, &is_word(&value, word), &wanted);
     Ok(())
 }
 
 #[test]
-fn only_texts_are_words(rt: HostRuntime) -> Result<(), Fail> {
-    let alloc = rt.alloc();
-    check_no_word(&rt, &Json::Null, "null");
-    check_no_word(&rt, &Json::Bool(true), "true");
-    check_no_word(&rt, &Json::from(7), "7");
-    check_no_word(&rt, &json!(in alloc; ["call"])?, "call");
-    check_no_word(&rt, &json!(in alloc; {"call": "call"})?, "call");
+fn tells_words(rt: HostRuntime) -> Result<(), Fail> {
+    for (text, word, wanted) in [
+        (r#""call""#, "call", true),
+        (r#""call""#, "", false),
+        (r#""call""#, "cal", false),
+        (r#""call""#, "calls", false),
+        (r#""call""#, "Call", false),
+        (r#""call""#, "ball", false),
+        (r#""""#, "", true),
+        ("null", "null", false),
+        ("true", "true", false),
+        ("7", "7", false),
+        (r#"["call"]"#, "call", false),
+        (r#"{"call":"call"}"#, "call", false),
+    ] {
+        check_word(&rt, rt.alloc(), text, word, wanted)?;
+    }
     Ok(())
 }

@@ -6,4 +6,6 @@ mod base;
 #[cfg(test)]
 mod bodies;
 #[cfg(test)]
+mod checks;
+#[cfg(test)]
 mod json;

@@ -74,7 +74,7 @@ impl Driver for Recursive {
     }
 }
 
-/// The deployment of a class K with a field n and a method up, several times under one name.
+/// The deployment of a class K with a field n and a method up.
 #[derive(Drop)]
 struct Deployed {
     tables: Tables,
@@ -100,42 +100,47 @@ fn a_body(alloc: Global, name: Name) -> Result<BodyId, Fail> {
     Ok(bodies.add(name, Shape::new(alloc), body)?)
 }
 
-fn deploy(rt: &impl Abort, alloc: Global, scope: Scope, beans: usize) -> Result<Deployed, Fail> {
+/// A bean of the class, with its field and its method.
+fn bean_of(
+    alloc: Global,
+    scope: Scope,
+    class: Name,
+    field: Field,
+    method: Method,
+) -> Result<Bean, AllocError> {
+    let methods = Seq::new(Vec::from_array(alloc, [method])?);
+    let fields = Seq::new(Vec::from_array(alloc, [field])?);
+    Ok(Bean {
+        class,
+        scope,
+        fields,
+        methods,
+    })
+}
+
+fn deploy(rt: &impl Abort, alloc: Global, scope: Scope) -> Result<Deployed, Fail> {
     let mut names = Names::with_built_in(alloc)?;
     let class = name_of(rt, &mut names, "K")?;
-    let field = name_of(rt, &mut names, "n")?;
-    let method = name_of(rt, &mut names, "up")?;
-    let body = a_body(alloc, method)?;
-    let mut list = Seq::empty(alloc);
-    for _ in 0..beans {
-        let mut fields = Seq::empty(alloc);
-        fields.push(Field {
-            name: field,
-            value: Value::Int(0),
-        })?;
-        let mut methods = Seq::empty(alloc);
-        methods.push(Method {
-            name: method,
-            place: Place::Member {
-                class,
-                member: method,
-            },
-            count: 0,
-            body,
-        })?;
-        list.push(Bean {
-            class,
-            scope,
-            fields,
-            methods,
-        })?;
-    }
-    assert!(rt; list.len() <= 4_096);
+    let name = name_of(rt, &mut names, "n")?;
+    let member = name_of(rt, &mut names, "up")?;
+    let field = Field {
+        name,
+        value: Value::Int(0),
+    };
+    let method = Method {
+        name: member,
+        place: Place::Member { class, member },
+        count: 0,
+        body: a_body(alloc, member)?,
+    };
+    let bean = bean_of(alloc, scope, class, field, method)?;
+    let beans = Seq::new(Vec::from_array(alloc, [bean])?);
+    assert!(rt; beans.len() <= 4_096);
     Ok(Deployed {
-        tables: Tables { names, beans: list },
+        tables: Tables { names, beans },
         class,
-        field,
-        method,
+        field: name,
+        method: member,
     })
 }
 
@@ -174,7 +179,7 @@ fn make_ended<D: Driver>(
 #[tactic(auto, using(cdi_plain::proofs::Known::all_known))]
 fn counts(rt: HostRuntime) -> Result<(), Fail> {
     let alloc = rt.alloc();
-    let deployed = deploy(&rt, alloc, Scope::ApplicationScoped, 1)?;
+    let deployed = deploy(&rt, alloc, Scope::ApplicationScoped)?;
     let driver = Counting {
         field: deployed.field,
     };
@@ -192,7 +197,7 @@ fn counts(rt: HostRuntime) -> Result<(), Fail> {
 #[tactic(auto, using(cdi_plain::proofs::Known::all_known))]
 fn shuts_down(rt: HostRuntime) -> Result<(), Fail> {
     let alloc = rt.alloc();
-    let deployed = deploy(&rt, alloc, Scope::ApplicationScoped, 1)?;
+    let deployed = deploy(&rt, alloc, Scope::ApplicationScoped)?;
     let driver = Counting {
         field: deployed.field,
     };
@@ -209,7 +214,7 @@ fn shuts_down(rt: HostRuntime) -> Result<(), Fail> {
 #[tactic(auto, using(cdi_plain::proofs::Known::all_known))]
 fn cuts_below_the_last_level(rt: HostRuntime) -> Result<(), Fail> {
     let alloc = rt.alloc();
-    let deployed = deploy(&rt, alloc, Scope::Dependent, 1)?;
+    let deployed = deploy(&rt, alloc, Scope::Dependent)?;
     let driver = Recursive {
         alloc,
         method: deployed.method,
