@@ -1,5 +1,5 @@
 -- Every run ends.
-use Rattle.std.proofs.Common.{ℕ, ◌≡◌, ◌+◌, ◌<◌, ◌≤◌, List, [], ◌∷◌, ◌⊎◌, inl, inr, length, length-append, refl, ◌∙◌, ap, arith}
+use Rattle.std.proofs.Common.{ℕ, ◌≡◌, ◌+◌, ◌<◌, ◌≤◌, List, [], ◌∷◌, ◌⊎◌, Some, inl, inr, length, length-append, refl, ◌∙◌, ap, arith}
 use Rattle.cdi_base.specs.declared.value.Value.{Value}
 use Rattle.cdi_base.specs.declared.entry.Entry.{Entry}
 use Rattle.cdi_base.specs.declared.entry.Entry.TheVariants as entries
@@ -17,6 +17,7 @@ use Rattle.cdi_plain.specs.World.{World, Change, changed, Make, Put, Remove, Hol
 use Rattle.cdi_plain.specs.Programs.{Prog}
 use Rattle.cdi_plain.specs.Machine.{machine}
 use Rattle.cdi_plain.specs.Runs.{Legal, Runs}
+use Rattle.cdi_plain.specs.Noting.{Notes}
 use Rattle.cdi_plain.specs.Points.{first}
 use Rattle.cdi_plain.specs.Falls.{call_rank, rank, back_rank, left, cost, Back, Falls, SameTrace}
 
@@ -91,10 +92,7 @@ by_entry t t1 w w1 longer room alike =
 pub goes_falls : (t t1 : Task) (w v : World) → Falls t w (nexts.Goes t1) v → cost t1 v < cost t w
 goes_falls t t1 w v h = by_rank t t1 w v (kept h.0) h.1
 
-pub part_falls : (t : Task) (c : Call) (k : Frame) (w v : World) → Falls t w (nexts.Needs c k) v → cost (tasks.Start c) v < cost t w
-part_falls t c k w v h = by_rank t (tasks.Start c) w v (kept h.0) h.1
-
-pub entry_falls : (t t1 : Task) (e : Entry) (w v : World) → Falls t w (nexts.Writes e t1) v → HasRoom v → cost t1 (written e v) < cost t w
+entry_falls : (t t1 : Task) (e : Entry) (w v : World) → Falls t w (nexts.Writes e t1) v → HasRoom v → cost t1 (written e v) < cost t w
 entry_falls t t1 e w v h room =
     let same = ap (λ (x : List Entry). length x) h.trace in
     let l = h.ticks in
@@ -138,4 +136,6 @@ module _ (tables : Tables) (legal : Legal) where
   pub after_falls : (t t1 : Task) (c : Call) (k : Frame) {o1 : Outcome} (w v : World) {w1 : World} → Falls t w (nexts.Needs c k) v → Runs tables legal ⊥ (first (tasks.Start c)) v o1 w1 → rank t1 ≤ back_rank k o1 → cost t1 w1 < cost t w
   after_falls t t1 c k w v h r q = after_back t t1 c k w v h.0 h.2 (omega (arith, h.1)) r q
 
-pub ruleset costs = (goes_falls, part_falls, entry_falls, after_falls)
+-- an entry that is written is one less that may be
+pub noted_falls : (t t1 t2 : Task) (e : Entry) (u v x : World) → Falls t u (nexts.Writes e t1) v → Notes e t1 v (Some t2) x → cost t2 x < cost t u
+noted_falls t t1 t2 e u v x h n = rw (n.0, n.2) (entry_falls t t1 e u v h n.1)

@@ -21,6 +21,7 @@ use Rattle.cdi_plain.specs.declared.task.Next.TheVariants as nexts
 use Rattle.cdi_plain.specs.World.{World, written, HasRoom, next_number}
 use Rattle.cdi_plain.specs.Programs.{content, Prog, ret, throw, cut, stuck, find, scoped, deeper, fresh, change, tick, act, choose, nested, completed}
 use Rattle.cdi_plain.specs.Runs.{Legal, Runs, Ran, after}
+use Rattle.cdi_plain.specs.Noting.{Notes}
 use Rattle.cdi_plain.specs.Points.{Comes, Leads, first, rest, node, waits, over, settled, if_found, if_scope, if_zero}
 
 module _ (tables : Tables) (legal : Legal) (Starved : Type 0) where
@@ -158,18 +159,61 @@ module _ (tables : Tables) (legal : Legal) where
   spared (Runs.calls r1 r) = Runs.calls (spared r1) (spared r)
   spared (Runs.starves s) = absurd s
 
-pub ruleset runs = (ends, goes, needs, writes, full)
-
+-- One answer of the engine is what it answers before a move too.
 module _ (tables : Tables) (legal : Legal) where
-  pub ran_needs : (t t1 : Task) (c : Call) (k : Frame) (w u : World) {w1 : World} (v : World) {o1 : Outcome} (r : Result Outcome AllocError) → Leads tables legal t w (nexts.Needs c k) u → Runs tables legal ⊥ (first (tasks.Start c)) u o1 w1 → rest t1 ≡ after o1 (waits k)
+  ran_goes : (t t1 : Task) (w u : World) (r : Result Outcome AllocError) (v : World) → Leads tables legal t w (nexts.Goes t1) u → Ran tables legal (first t1) u r v → Ran tables legal (first t) w r v
+  ran_goes t t1 w u (Ok o) v s h = goes tables legal ⊥ t t1 w u s h
+  ran_goes t t1 w u (Err x) v s h = goes tables legal (Unit {0}) t t1 w u s h
+
+  ran_writes : (t t1 : Task) (e : Entry) (w u : World) (r : Result Outcome AllocError) (v : World) → Leads tables legal t w (nexts.Writes e t1) u → HasRoom u → Ran tables legal (first t1) (written e u) r v → Ran tables legal (first t) w r v
+  ran_writes t t1 e w u (Ok o) v s room h = writes tables legal ⊥ t t1 e w u s room h
+  ran_writes t t1 e w u (Err x) v s room h = writes tables legal (Unit {0}) t t1 e w u s room h
+
+  ran_needs : (t t1 : Task) (c : Call) (k : Frame) (w u w1 : World) (o1 : Outcome) (r : Result Outcome AllocError) (v : World) → Leads tables legal t w (nexts.Needs c k) u → Runs tables legal ⊥ (first (tasks.Start c)) u o1 w1 → rest t1 ≡ after o1 (waits k)
       → Ran tables legal (first t1) w1 r v → Ran tables legal (first t) w r v
-  ran_needs t t1 c k w u v (Ok o) s r1 e h = needs tables legal ⊥ t t1 c k w u s r1 e h
-  ran_needs t t1 c k w u v (Err x) s r1 e h = needs tables legal (Unit {0}) t t1 c k w u s (spared tables legal r1) e h
+  ran_needs t t1 c k w u w1 o1 (Ok o) v s r1 e h = needs tables legal ⊥ t t1 c k w u s r1 e h
+  ran_needs t t1 c k w u w1 o1 (Err x) v s r1 e h = needs tables legal (Unit {0}) t t1 c k w u s (spared tables legal r1) e h
+
+  ran_err : {p : Prog Value} {w : World} (r : Result Outcome AllocError) (v : World) → IsErr r → Runs tables legal (Unit {0}) p w (outcomes.Cut causes.Memory) v → Ran tables legal p w r v
+  ran_err (Ok o) v h s = absurd (true≢false (sym h))
+  ran_err (Err x) v h s = s
 
   -- memory runs out, and nothing has changed
-  pub starved_here : {p : Prog Value} {w v : World} → v ≡ w → Runs tables legal (Unit {0}) p w (outcomes.Cut causes.Memory) v
+  starved_here : {p : Prog Value} {w v : World} → v ≡ w → Runs tables legal (Unit {0}) p w (outcomes.Cut causes.Memory) v
   starved_here {p = p} {w = w} h = subst (λ u. Runs tables legal (Unit {0}) p w (outcomes.Cut causes.Memory) u) (sym h) (Runs.starves tt)
 
-  pub ran_err : {p : Prog Value} {w : World} (v : World) (r : Result Outcome AllocError) → IsErr r → Runs tables legal (Unit {0}) p w (outcomes.Cut causes.Memory) v → Ran tables legal p w r v
-  ran_err v (Ok o) h s = absurd (true≢false (sym h))
-  ran_err v (Err x) h s = s
+-- Whatever the engine answers from the second program and world on, it answers from the first on: so the second is what is
+-- left of the first.
+pub record Remains (tables : Tables) (legal : Legal) (p : Prog Value) (w : World) (q : Prog Value) (u : World) : Type 0 where
+  pub ran : (r : Result Outcome AllocError) (v : World) → Ran tables legal q u r v → Ran tables legal p w r v
+
+-- the moves of the loop
+module _ (tables : Tables) (legal : Legal) where
+  pub remains_goes : {p : Prog Value} {w : World} (t t1 : Task) (u v : World) → Remains tables legal p w (first t) u → Leads tables legal t u (nexts.Goes t1) v → Remains tables legal p w (first t1) v
+  remains_goes t t1 u v k s = record { ran = λ r x h. k.ran r x (ran_goes tables legal t t1 u v r x s h) }
+
+  remains_writes : {p : Prog Value} {w : World} (t t1 : Task) (e : Entry) (u v : World) → Remains tables legal p w (first t) u → Leads tables legal t u (nexts.Writes e t1) v → HasRoom v → Remains tables legal p w (first t1) (written e v)
+  remains_writes t t1 e u v k s room = record { ran = λ r x h. k.ran r x (ran_writes tables legal t t1 e u v r x s room h) }
+
+  pub remains_noted : {p : Prog Value} {w : World} (t t1 t2 : Task) (e : Entry) (u v x : World) → Remains tables legal p w (first t) u → Leads tables legal t u (nexts.Writes e t1) v → Notes e t1 v (Some t2) x → Remains tables legal p w (first t2) x
+  remains_noted t t1 t2 e u v x k s n = rw (n.0, n.2) (remains_writes t t1 e u v k s n.1)
+
+  pub remains_needs : {p : Prog Value} {w : World} (t t1 : Task) (c : Call) (f : Frame) (o1 : Outcome) (u v w1 : World) → Remains tables legal p w (first t) u → Leads tables legal t u (nexts.Needs c f) v → Runs tables legal ⊥ (first (tasks.Start c)) v o1 w1 → rest t1 ≡ after o1 (waits f)
+      → Remains tables legal p w (first t1) w1
+  remains_needs t t1 c f o1 u v w1 k s r1 e = record { ran = λ r x h. k.ran r x (ran_needs tables legal t t1 c f u v w1 o1 r x s r1 e h) }
+
+  -- the ends of the loop
+  pub remains_ends : {p : Prog Value} {w : World} (t : Task) (o : Outcome) (u v : World) → Remains tables legal p w (first t) u → Leads tables legal t u (nexts.Finished o) v → Ran tables legal p w (Ok o) v
+  remains_ends t o u v k s = k.ran (Ok o) v (ends tables legal ⊥ t u v s)
+
+  pub remains_full : {p : Prog Value} {w : World} (t t1 : Task) (e : Entry) (u v x : World) → Remains tables legal p w (first t) u → Leads tables legal t u (nexts.Writes e t1) v → Notes e t1 v None x → Ran tables legal p w (Ok (outcomes.Cut causes.Ticks)) x
+  remains_full t t1 e u v x k s n = k.ran (Ok (outcomes.Cut causes.Ticks)) x (rw n.1 (full tables legal ⊥ t t1 e u v s n.0))
+
+  pub remains_starved : {p : Prog Value} {w : World} (t : Task) (u v : World) (r : Result Outcome AllocError) → IsErr r → Remains tables legal p w (first t) u → v ≡ u → Ran tables legal p w r v
+  remains_starved t u v r failed k e = k.ran r v (ran_err tables legal r v failed (starved_here tables legal e))
+
+  pub remains_starved_before : {p : Prog Value} {w : World} (t t1 : Task) (e : Entry) (u v x : World) (r : Result Outcome AllocError) → IsErr r → Remains tables legal p w (first t) u → Leads tables legal t u (nexts.Writes e t1) v → x ≡ v → Ran tables legal p w r x
+  remains_starved_before t t1 e u v x r failed k s same = k.ran r x (ran_err tables legal r x failed (subst (λ y. Runs tables legal (Unit {0}) (first t) u (outcomes.Cut causes.Memory) y) (sym same) (starved_before tables legal (Unit {0}) t t1 e u v tt s)))
+
+  pub remains_starved_in : {p : Prog Value} {w : World} (t : Task) (c : Call) (f : Frame) (u v x : World) (r : Result Outcome AllocError) → IsErr r → Remains tables legal p w (first t) u → Leads tables legal t u (nexts.Needs c f) v → Runs tables legal (Unit {0}) (first (tasks.Start c)) v (outcomes.Cut causes.Memory) x → Ran tables legal p w r x
+  remains_starved_in t c f u v x r failed k s h = k.ran r x (ran_err tables legal r x failed (starved_in tables legal (Unit {0}) t c f u v s h))

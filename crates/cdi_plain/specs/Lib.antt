@@ -3,6 +3,7 @@ pub mod Events
 pub mod Programs
 pub mod Machine
 pub mod Runs
+pub mod Noting
 pub mod Points
 pub mod Falls
 pub mod Laws

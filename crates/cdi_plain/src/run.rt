@@ -1,9 +1,10 @@
-//! The recursive engine.
-ghost use Rattle.std.specs.Prelude.{◌≡◌};
+//! The engine: a loop over the steps of a task, which calls itself where a step makes a call.
+ghost use Rattle.std.specs.Prelude.{◌≡◌, IfOk, OnErr};
 ghost use Rattle.cdi_beans.specs.Beans.{KnowsEach};
 ghost use Rattle.cdi_plain.specs.Machine.{machine};
 ghost use Rattle.cdi_plain.specs.Points.{first};
 ghost use Rattle.cdi_plain.specs.Runs.{Ran};
+ghost use Rattle.cdi_plain.specs.Noting.{Notes};
 
 use crate::driver::Driver;
 use crate::step::{resume, step};
@@ -13,11 +14,29 @@ use cdi_base::{Cause, Entry};
 use cdi_beans::tables::Tables;
 use std::alloc::{AllocError, Global};
 
-/// Drops what a cut leaves.
-fn let_go(_entry: Entry, _next: Task) {}
+/// Drops what is left where a run ends early.
+fn let_go<T: Drop>(_left: T) {}
 
-/// Carries a task out to its end.
-#[tactic(auto, using(crate::proofs::Sound::runs, crate::proofs::Cost::costs))]
+/// Writes an entry before a task goes on, or gives no task where the budget is spent.
+fn note(world: &mut World, entry: Entry, next: Task) -> Result<Option<Task>, AllocError>
+    ensures ok { IfOk result (λ going. Notes entry next world.old going world.new) }
+    ensures err { OnErr result (world.new ≡ world.old) }
+{
+    if !world.has_room() {
+        let_go(entry);
+        let_go(next);
+        return Ok(None);
+    }
+    match world.write(entry) {
+        Ok(()) => Ok(Some(next)),
+        Err(error) => {
+            let_go(next);
+            Err(error)
+        }
+    }
+}
+
+/// Carries a task out to its end: a loop over its steps, which calls itself only where a step makes a call.
 fn run_task<D: Driver>(
     alloc: Global,
     tables: &Tables,
@@ -28,20 +47,28 @@ fn run_task<D: Driver>(
     requires { KnowsEach (D.knows driver.now) tables.now.beans }
     ensures { Ran tables.now (D.legal driver.now) (first task) world.old result world.new }
 {
-    match step(alloc, tables, driver, world, task)? {
-        Next::Finished(outcome) => Ok(outcome),
-        Next::Goes(next) => run_task(alloc, tables, driver, world, next),
-        Next::Needs(call, frame) => {
-            let outcome = run_task(alloc, tables, driver, world, Task::Start(call))?;
-            run_task(alloc, tables, driver, world, resume(frame, outcome))
-        }
-        Next::Writes(entry, next) => {
-            if !world.has_room() {
-                let_go(entry, next);
-                return Ok(Outcome::Cut(Cause::Ticks));
-            }
-            world.write(entry)?;
-            run_task(alloc, tables, driver, world, next)
+    let mut point = task;
+    'moves: loop {
+        match step(alloc, tables, driver, world, point)? {
+            Next::Finished(outcome) => return Ok(outcome),
+            Next::Goes(next) => point = next,
+            Next::Needs(call, frame) => match run_task(
+                alloc,
+                tables,
+                driver,
+                world,
+                Task::Start(call),
+            ) {
+                Ok(outcome) => point = resume(frame, outcome),
+                Err(error) => {
+                    let_go(frame);
+                    return Err(error);
+                }
+            },
+            Next::Writes(entry, next) => match note(world, entry, next)? {
+                Some(next) => point = next,
+                None => return Ok(Outcome::Cut(Cause::Ticks)),
+            },
         }
     }
 }

@@ -1,35 +1,67 @@
-use Rattle.std.proofs.Common.{◌≤◌, length, rules}
-use Rattle.cdi_plain.proofs.Cost.{after_falls}
-use Rattle.cdi_plain.proofs.Sound.{full, starved_here, starved_before, starved_in, ran_needs, ran_err}
+use Rattle.std.proofs.Common.{Err, rules, arith}
+use Rattle.cdi_plain.proofs.Sound.{remains_ends, remains_goes, remains_needs, remains_noted, remains_full, remains_starved, remains_starved_in, remains_starved_before}
+use Rattle.cdi_plain.proofs.Cost.{goes_falls, noted_falls, after_falls}
 use Rattle.cdi_plain.proofs.run.+run_task.Goals as goal
 
 pub returns-in_err-outcome : goal.returns-in_err-outcome
-returns-in_err-outcome g t c = ran_err c.args.tables.now (g.D.Driver.legal c.args.driver.now) c.step.new.world c.from_residual.result (search rules) (starved_here c.args.tables.now (g.D.Driver.legal c.args.driver.now) c.in_err-outcome.ensures.kept)
+returns-in_err-outcome g t c = remains_starved c.args.tables.now (g.D.Driver.legal c.args.driver.now) c.moves.point c.moves.world c.step.new.world c.from_residual.result (search rules) c.moves.invariant.left c.in_err-outcome.ensures.kept
 
-pub returns-in_err-outcome-in-Needs : goal.returns-in_err-outcome-in-Needs
-returns-in_err-outcome-in-Needs g t c =
+pub returns-in-Finished : goal.returns-in-Finished
+returns-in-Finished g t c =
+    let leads = rw c.in-Finished.is at c.in_ok-outcome.ensures.leads in
+    remains_ends c.args.tables.now (g.D.Driver.legal c.args.driver.now) c.moves.point c.in-Finished.outcome c.moves.world c.step.new.world c.moves.invariant.left leads
+
+pub moves-preserved-in-Goes : goal.moves-preserved-in-Goes
+moves-preserved-in-Goes g t c =
+    let leads = rw c.in-Goes.is at c.in_ok-outcome.ensures.leads in
+    let falls = rw c.in-Goes.is at c.in_ok-outcome.ensures.falls in
+    let less = goes_falls c.moves.point c.in-Goes.next c.moves.world c.step.new.world falls in
+    let so_far = c.moves.invariant.cheaper in
+    record {
+      left = remains_goes c.args.tables.now (g.D.Driver.legal c.args.driver.now) c.moves.point c.in-Goes.next c.moves.world c.step.new.world c.moves.invariant.left leads;
+      cheaper = omega (arith, less, so_far);
+    }
+
+pub moves-smaller-in-Ok : goal.moves-smaller-in-Ok
+moves-smaller-in-Ok g t c =
+    let falls = rw c.in-Needs.is at c.in_ok-outcome.ensures.falls in
+    after_falls c.args.tables.now (g.D.Driver.legal c.args.driver.now) c.moves.point c.resume-point.result c.in-Needs.call c.in-Needs.frame c.moves.world c.step.new.world falls c.in-Ok.ensures c.resume-point.ensures.falls
+
+pub moves-preserved-in-Ok : goal.moves-preserved-in-Ok
+moves-preserved-in-Ok g t c =
     let leads = rw c.in-Needs.is at c.in_ok-outcome.ensures.leads in
-    ran_err c.args.tables.now (g.D.Driver.legal c.args.driver.now) c.run_task-in-Needs.new.world c.from_residual-in_err-outcome-in-Needs.result (search rules) (starved_in c.args.tables.now (g.D.Driver.legal c.args.driver.now) (Unit {0}) c.args.task c.in-Needs.call c.in-Needs.frame c.args.world.now c.step.new.world leads c.in_err-outcome-in-Needs.ensures)
+    let falls = rw c.in-Needs.is at c.in_ok-outcome.ensures.falls in
+    let less = after_falls c.args.tables.now (g.D.Driver.legal c.args.driver.now) c.moves.point c.resume-point.result c.in-Needs.call c.in-Needs.frame c.moves.world c.step.new.world falls c.in-Ok.ensures c.resume-point.ensures.falls in
+    let so_far = c.moves.invariant.cheaper in
+    record {
+      left = remains_needs c.args.tables.now (g.D.Driver.legal c.args.driver.now) c.moves.point c.resume-point.result c.in-Needs.call c.in-Needs.frame c.in-Ok.outcome c.moves.world c.step.new.world c.run_task.new.world c.moves.invariant.left leads c.in-Ok.ensures c.resume-point.ensures.left;
+      cheaper = omega (arith, less, so_far);
+    }
 
-pub run_task-requires-in-Needs-2 : goal.run_task-requires-in-Needs-2
-run_task-requires-in-Needs-2 g t c =
-    let f = rw c.in-Needs.is at c.in_ok-outcome.ensures.falls in
-    let h = after_falls c.args.tables.now (g.D.Driver.legal c.args.driver.now) c.args.task c.resume.result c.in-Needs.call c.in-Needs.frame c.args.world.now c.step.new.world f c.in_ok-outcome-in-Needs.ensures c.resume.ensures.falls in
-    search rules
-
-pub returns-in_ok-outcome-in-Needs : goal.returns-in_ok-outcome-in-Needs
-returns-in_ok-outcome-in-Needs g t c =
+pub returns-in-Err : goal.returns-in-Err
+returns-in-Err g t c =
     let leads = rw c.in-Needs.is at c.in_ok-outcome.ensures.leads in
-    ran_needs c.args.tables.now (g.D.Driver.legal c.args.driver.now) c.args.task c.resume.result c.in-Needs.call c.in-Needs.frame c.args.world.now c.step.new.world _ c.run_task-in-Needs-2.result leads c.in_ok-outcome-in-Needs.ensures c.resume.ensures.left c.run_task-in-Needs-2.ensures
+    remains_starved_in c.args.tables.now (g.D.Driver.legal c.args.driver.now) c.moves.point c.in-Needs.call c.in-Needs.frame c.moves.world c.step.new.world c.run_task.new.world (Err c.in-Err.error) (search rules) c.moves.invariant.left leads c.in-Err.ensures
 
-pub returns-then-not-has_room : goal.returns-then-not-has_room
-returns-then-not-has_room g t c =
+pub returns-in_err-next-in-Writes : goal.returns-in_err-next-in-Writes
+returns-in_err-next-in-Writes g t c =
     let leads = rw c.in-Writes.is at c.in_ok-outcome.ensures.leads in
-    let no_room : c.step.new.world.ticks ≤ length c.step.new.world.trace = search rules in
-    full c.args.tables.now (g.D.Driver.legal c.args.driver.now) ⊥ c.args.task c.in-Writes.next c.in-Writes.entry c.args.world.now c.step.new.world leads no_room
+    remains_starved_before c.args.tables.now (g.D.Driver.legal c.args.driver.now) c.moves.point c.in-Writes.next c.in-Writes.entry c.moves.world c.step.new.world c.note.new.world c.from_residual-in_err-next-in-Writes.result (search rules) c.moves.invariant.left leads c.in_err-next-in-Writes.ensures.err
 
-pub returns-in_err-write-in-Writes : goal.returns-in_err-write-in-Writes
-returns-in_err-write-in-Writes g t c =
+pub moves-preserved : goal.moves-preserved
+moves-preserved g t c =
     let leads = rw c.in-Writes.is at c.in_ok-outcome.ensures.leads in
-    let before = starved_before c.args.tables.now (g.D.Driver.legal c.args.driver.now) (Unit {0}) c.args.task c.in-Writes.next c.in-Writes.entry c.args.world.now c.step.new.world tt leads in
-    ran_err c.args.tables.now (g.D.Driver.legal c.args.driver.now) c.write.new.self c.from_residual-in_err-write-in-Writes.result (search rules) (rw c.in_err-write-in-Writes.ensures.err before)
+    let falls = rw c.in-Writes.is at c.in_ok-outcome.ensures.falls in
+    let noted = rw c.in-Some.is at c.in_ok-next-in-Writes.ensures.ok in
+    let less = noted_falls c.moves.point c.in-Writes.next c.in-Some.next c.in-Writes.entry c.moves.world c.step.new.world c.note.new.world falls noted in
+    let so_far = c.moves.invariant.cheaper in
+    record {
+      left = remains_noted c.args.tables.now (g.D.Driver.legal c.args.driver.now) c.moves.point c.in-Writes.next c.in-Some.next c.in-Writes.entry c.moves.world c.step.new.world c.note.new.world c.moves.invariant.left leads noted;
+      cheaper = omega (arith, less, so_far);
+    }
+
+pub returns-in-None : goal.returns-in-None
+returns-in-None g t c =
+    let leads = rw c.in-Writes.is at c.in_ok-outcome.ensures.leads in
+    let noted = rw c.in-None.is at c.in_ok-next-in-Writes.ensures.ok in
+    remains_full c.args.tables.now (g.D.Driver.legal c.args.driver.now) c.moves.point c.in-Writes.next c.in-Writes.entry c.moves.world c.step.new.world c.note.new.world c.moves.invariant.left leads noted
