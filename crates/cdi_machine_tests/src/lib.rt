@@ -4,4 +4,6 @@
 #[cfg(test)]
 mod beans;
 #[cfg(test)]
+mod budgets;
+#[cfg(test)]
 mod plain;

@@ -4,6 +4,8 @@
 #[cfg(test)]
 mod container;
 #[cfg(test)]
+mod deep;
+#[cfg(test)]
 mod drive;
 #[cfg(test)]
 mod refusal_text;
