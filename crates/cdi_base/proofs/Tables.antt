@@ -1,5 +1,5 @@
 -- Places in a list of texts, and entries of a map.
-use Rattle.std.proofs.Common.{◌≡◌, ℕ, zero, suc, ◌+◌, ◌<◌, ◌≤◌, Bool, true, false, cond, not, ◌||◌, List, [], ◌∷◌, ◌++◌, length, map, get_or, slice_get, position, Option, Some, None, nat_eq, refl, sym, ap, ◌∙◌, append_assoc, append-nil, arith}
+use Rattle.std.proofs.Common.{◌≡◌, ℕ, suc, ◌+◌, ◌<◌, ◌≤◌, Bool, true, false, cond, not, ◌||◌, List, [], ◌∷◌, ◌++◌, length, map, get_or, slice_get, position, Some, None, nat_eq, refl, sym, ap, ◌∙◌, append_assoc, append-nil, arith}
 use Rattle.std.proofs.lemmas.List.{length-map}
 use Rattle.std.proofs.lemmas.List.Sums.{position_or_len_is, prefix_len-le-length}
 use Rattle.std.proofs.lemmas.Map.Keys.{apart_from_distinct}
@@ -13,7 +13,7 @@ use Rattle.indexmap.specs.IndexMap.{insert_entry}
 use Rattle.indexmap.specs.Layout.{set_value_at}
 use Rattle.cdi_base.specs.declared.value.Value.{Value}
 use Rattle.cdi_base.specs.declared.value.Value.TheVariants.{Null}
-use Rattle.cdi_base.specs.Fields.{get, put, set}
+use Rattle.cdi_base.specs.Fields.{has, get, put, set}
 use Rattle.cdi_base.specs.Name.{Extends, is_known, with_name}
 
 module _ {X Y : Type 0} (p : Y → Bool) (f : X → Y) where
@@ -56,6 +56,14 @@ get-lookup [] k = refl
 get-lookup (e ∷ es) k = by (get-lookup es k) (nat_eq k e.0)
   where
     by : get es k ≡ unwrap_or (lookup (nat_eq k) es) Null → (b : Bool) → cond b e.1 (get es k) ≡ unwrap_or (cond b (Some e.1) (lookup (nat_eq k) es)) Null
+    by later true = refl
+    by later false = later
+
+pub has-lookup : (es : List (ℕ × Value)) (k : ℕ) → has es k ≡ is_some (lookup (nat_eq k) es)
+has-lookup [] k = refl
+has-lookup (e ∷ es) k = by (has-lookup es k) (nat_eq k e.0)
+  where
+    by : has es k ≡ is_some (lookup (nat_eq k) es) → (b : Bool) → (b || has es k) ≡ is_some (cond b (Some e.1) (lookup (nat_eq k) es))
     by later true = refl
     by later false = later
 

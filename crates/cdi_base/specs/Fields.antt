@@ -1,7 +1,12 @@
 -- A finite map from names to values, in the order in which the names came.
-use Rattle.std.specs.Prelude.{ℕ, ◌==◌, List, [], ◌∷◌, if◌then◌else◌}
+use Rattle.std.specs.Prelude.{ℕ, ◌==◌, ◌||◌, Bool, false, List, [], ◌∷◌, if◌then◌else◌}
 use Rattle.cdi_base.specs.declared.value.Value.{Value}
 use Rattle.cdi_base.specs.declared.value.Value.TheVariants.{Null}
+
+-- whether a field is there
+abbrev pub has : List (ℕ × Value) → ℕ → Bool
+has [] name = false
+has (f ∷ fs) name = (name == f.0) || has fs name
 
 -- the value of a field, or null
 abbrev pub get : List (ℕ × Value) → ℕ → Value

@@ -1,5 +1,5 @@
 //! The fields of an instance.
-ghost use Rattle.std.specs.Prelude.{◌≡◌, [], length, OnOk, OnErr};
+ghost use Rattle.std.specs.Prelude.{◌≡◌, [], length, IsTrue, IsOk, OnOk, OnErr};
 ghost use Rattle.cdi_base.specs.Fields as spec;
 
 use crate::name::Name;
@@ -45,10 +45,12 @@ impl Fields {
         self.entries.len()
     }
 
-    /// Gives a field a value. A field that isn't there yet goes last. On an error nothing changes.
+    /// Gives a field a value. A field that isn't there yet goes last, and only there memory can be wanting. On an error
+    /// nothing changes.
     pub fn put(&mut self, name: Name, value: Value) -> Result<(), AllocError>
         ensures ok { OnOk result (self.new ≡ spec.put self.old name value) }
         ensures err { OnErr result (self.new ≡ self.old) }
+        ensures there { IsTrue (spec.has self.old name) → IsOk result }
     {
         self.entries.insert(name, value)?;
         Ok(())

@@ -1,5 +1,5 @@
 //! Names, and the table that numbers them.
-ghost use Rattle.std.specs.Prelude.{◌≡◌, [], ◌<◌, ◌≤◌, ◌↔◌, false, length, slice_get, option_map, position, bytes_eq, Some, IsTrue, IfOk, OnOk, OnErr, IsErrOf};
+ghost use Rattle.std.specs.Prelude.{◌≡◌, [], ◌<◌, ◌≤◌, ◌↔◌, false, length, slice_get, option_map, position, bytes_eq, Some, IsTrue, IsOk, IfOk, OnOk, OnErr, IsErrOf};
 ghost use Rattle.std.specs.List.{list_all};
 ghost use Rattle.cdi_base.specs.Name as spec;
 ghost use Rattle.cdi_base.specs.declared.name.InternError.TheVariants.{Memory};
@@ -135,12 +135,14 @@ impl Names {
         self.texts.is_empty()
     }
 
-    /// The name of a text, which a text that is new to the table is given. On an error nothing changes.
+    /// The name of a text, which a text that is new to the table is given. A text that is known is never refused. On an
+    /// error nothing changes.
     pub fn intern(&mut self, text: &str) -> Result<Name, InternError>
         requires { IsTrue (spec.is_name text.now) }
         ensures number { IfOk result (λ name. name ≡ spec.number_of self.old text.now) }
         ensures added { OnOk result (self.new ≡ spec.with_name self.old text.now) }
         ensures within { IfOk result (λ name. name < length self.new) }
+        ensures known { IsTrue (spec.is_known self.old text.now) → IsOk result }
         ensures full { IsErrOf result InternError.Full ↔ (spec.has_room self.old text.now ≡ false) }
         ensures err { OnErr result (self.new ≡ self.old) }
     {

@@ -1,4 +1,4 @@
-use Rattle.std.proofs.Common.{◌≡◌, ◌∙◌, sym, ap, refl, true, false, true≢false, ◌||◌, ◌≤◌, List, ℕ, String, Global, if◌then◌else◌, ◌++◌, ◌∷◌, [], map, length, string_bytes, bytes_eq, arith}
+use Rattle.std.proofs.Common.{◌≡◌, IsTrue, ◌∙◌, sym, ap, refl, true, false, true≢false, ◌||◌, ◌≤◌, List, ℕ, String, Global, if◌then◌else◌, ◌++◌, ◌∷◌, [], map, length, string_bytes, bytes_eq, arith}
 use Rattle.std.proofs.lemmas.List.{map_push, length-map}
 use Rattle.std.proofs.lemmas.Bool.{le-ltb}
 use Rattle.std.specs.Bool.{nat_lt}
@@ -55,3 +55,19 @@ returns-clause-added c =
     let seen : map string_bytes c.insert_full.new.self.keys ≡ c.args.self.now ++ text ∷ [] =
     ap (map string_bytes) pushed ∙ map_push string_bytes ks copy ∙ ap (λ ns. ns ++ string_bytes copy ∷ []) c.self.view_is ∙ ap (λ t. c.args.self.now ++ t ∷ []) named in
     rw absent seen
+
+absent : (ks : List (String Global)) (names : List (List ℕ)) (text : List ℕ) → map string_bytes ks ≡ names
+    → list_any (λ k. bytes_eq text (string_bytes k)) ks ≡ false → IsTrue (is_known names text) → ⊥
+absent ks names text seen out h = true≢false (sym h ∙ known ks names text seen ∙ out)
+
+pub returns-then-len-ge-MAX_NAMES-clause-known : goal.returns-then-len-ge-MAX_NAMES-clause-known
+returns-then-len-ge-MAX_NAMES-clause-known c = λ h.
+    absurd (absent c.self.inside.texts.keys c.args.self.now c.args.text.now c.self.view_is (sym c.in_default.ensures.found) h)
+
+pub returns-in_err-copy-clause-known : goal.returns-in_err-copy-clause-known
+returns-in_err-copy-clause-known c = λ h.
+    absurd (absent c.self.inside.texts.keys c.args.self.now c.args.text.now c.self.view_is (sym c.in_default.ensures.found) h)
+
+pub returns-in_err-index-clause-known : goal.returns-in_err-index-clause-known
+returns-in_err-index-clause-known c = λ h.
+    absurd (absent c.self.inside.texts.keys c.args.self.now c.args.text.now c.self.view_is (sym c.in_default.ensures.found) h)
