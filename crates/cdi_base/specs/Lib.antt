@@ -4,3 +4,4 @@ pub mod Reading
 pub mod BuiltIn
 pub mod Words
 pub mod Limits
+pub mod Plain

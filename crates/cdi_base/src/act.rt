@@ -1,5 +1,5 @@
 //! What a body does, and what it is answered.
-ghost use Rattle.std.specs.Prelude.{◌≡◌, IfOk};
+ghost use Rattle.std.specs.Prelude.{◌≡◌, IsOk, IfOk};
 
 use crate::name::Name;
 use crate::seq::Seq;
@@ -95,7 +95,12 @@ pub enum Answer {
 }
 
 impl Clone for Act {
+    ghost use Rattle.std.specs.Prelude.{IsTrue};
+    ghost use Rattle.cdi_base.specs.Plain.{is_plain_act};
+
     ghost is_clone = { λ act copy. copy ≡ act };
+
+    ghost is_infallible = { λ act. IsTrue (is_plain_act act) };
 
     #[tactic(auto, using(crate::proofs::Clones::same_items))]
     fn clone(&self) -> Result<Act, AllocError> {
@@ -147,7 +152,12 @@ impl Clone for Act {
 }
 
 impl Clone for Answer {
+    ghost use Rattle.std.specs.Prelude.{IsTrue};
+    ghost use Rattle.cdi_base.specs.Plain.{is_plain_answer};
+
     ghost is_clone = { λ answer copy. copy ≡ answer };
+
+    ghost is_infallible = { λ answer. IsTrue (is_plain_answer answer) };
 
     fn clone(&self) -> Result<Answer, AllocError> {
         Ok(match self {
@@ -163,7 +173,8 @@ impl Clone for Answer {
 
 #[tactic(auto, using(crate::proofs::Clones::same_items))]
 fn clone_of(args: &Option<Seq<Value>>) -> Result<Option<Seq<Value>>, AllocError>
-    ensures { IfOk result (λ copy. copy ≡ args.now) }
+    ensures copied { IfOk result (λ copy. copy ≡ args.now) }
+    ensures none { args.now ≡ None → IsOk result }
 {
     match args {
         Some(args) => Ok(Some(args.clone()?)),

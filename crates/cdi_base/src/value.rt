@@ -11,9 +11,12 @@ pub enum Value {
 }
 
 impl Clone for Value {
-    ghost use Rattle.std.specs.Prelude.{◌≡◌};
+    ghost use Rattle.std.specs.Prelude.{◌≡◌, IsTrue};
+    ghost use Rattle.cdi_base.specs.Plain.{is_plain_value};
 
     ghost is_clone = { λ v copy. copy ≡ v };
+
+    ghost is_infallible = { λ v. IsTrue (is_plain_value v) };
 
     fn clone(&self) -> Result<Value, AllocError> {
         match self {
