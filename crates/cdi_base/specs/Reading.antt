@@ -17,3 +17,7 @@ Fails (errors.Fault fault) read = read ≡ Err fault
 abbrev pub Gives : {A B F : Type 0} → (A → B) → Result A (ReadError F) → Result B F → Type 0
 Gives view (Ok x) read = read ≡ Ok (view x)
 Gives view (Err error) read = Fails error read
+
+-- the answer is this fault, and no want of memory
+abbrev pub IsFault : {A F : Type 0} → Result A (ReadError F) → F → Type 0
+IsFault answer fault = answer ≡ Err (errors.Fault fault)

@@ -1,7 +1,8 @@
 //! What the readers of JSON share: the value that bytes are, and whether a value is a word.
 #![tactic(auto)]
 
-ghost use Rattle.std.specs.Prelude.{◌≡◌, IfOk, option_map};
+ghost use Rattle.std.specs.Prelude.{◌≡◌, false, IfOk, option_map};
+ghost use Rattle.std.specs.Str.{is_utf8};
 ghost use Rattle.serde_json.specs.View.{view};
 ghost use Rattle.cdi_json.specs.Json as spec;
 
@@ -9,10 +10,11 @@ use serde_json::Value as Json;
 use std::alloc::{AllocError, Global};
 
 /// The JSON value that these bytes are, or `None` where they are no JSON text in UTF-8. White space may stand round the
-/// value, and nothing else. An error where a growth was refused, whatever the bytes are.
+/// value, and nothing else. An error where a growth was refused, which can be only where the bytes are UTF-8.
 #[tactic(auto, unfolding(crate::specs::Json::json_in))]
 pub fn read_json(alloc: Global, bytes: &[u8]) -> Result<Option<Json>, AllocError>
-    ensures { IfOk result (λ value. option_map view value ≡ spec.json_in bytes.now) }
+    ensures read { IfOk result (λ value. option_map view value ≡ spec.json_in bytes.now) }
+    ensures no_text { is_utf8 bytes.now ≡ false → result ≡ Ok None }
 {
     let Ok(text) = std::str::from_utf8(bytes) else {
         return Ok(None);
