@@ -1,5 +1,6 @@
 -- Bytes to the deployment that they are, or to their first fault.
-use Rattle.std.specs.Prelude.{ℕ, not, List, length, Option, Some, None, Result, Ok, Err, nat_lt, if◌then◌else◌}
+use Rattle.std.specs.Prelude.{ℕ, Bool, not, ◌&&◌, List, length, Option, Some, None, Result, Ok, Err, nat_lt, if◌then◌else◌}
+use Rattle.std.specs.Str.{is_utf8}
 use Rattle.cdi_base.specs.Reading.{◌>>=◌}
 use Rattle.cdi_json.specs.Json.{json_in}
 use Rattle.serde_json.specs.Data.{Data}
@@ -36,6 +37,14 @@ deployment_of d =
     if not (numbers_fit d) then Err faults.BadNumber
     else or_shape (wrong d root) (if not (names_fit d root) then Err faults.BadName else lists_of d >>= within_limits)
 
--- the deployment that bytes are, or their first fault: more than 1,048,576 are not looked at
+-- more than 1,048,576 bytes
+abbrev pub is_too_long : List ℕ → Bool
+is_too_long bytes = nat_lt 1048576 (length bytes)
+
+-- not so many, but no text
+abbrev pub is_no_text : List ℕ → Bool
+is_no_text bytes = not (is_too_long bytes) && not (is_utf8 bytes)
+
+-- the deployment that bytes are, or their first fault: too many are not looked at
 unfoldable pub deployment_in : List ℕ → Result Deployment ReadFault
-deployment_in bytes = if nat_lt 1048576 (length bytes) then Err faults.TooLong else or_not_json (json_in bytes) >>= deployment_of
+deployment_in bytes = if is_too_long bytes then Err faults.TooLong else or_not_json (json_in bytes) >>= deployment_of

@@ -1,7 +1,7 @@
 //! Reading a deployment: its faults in their order, and then its lists.
-ghost use Rattle.std.specs.Prelude.{◌≡◌};
+ghost use Rattle.std.specs.Prelude.{◌≡◌, IsTrue};
 ghost use Rattle.serde_json.specs.View.{view};
-ghost use Rattle.cdi_base.specs.Reading.{Gives};
+ghost use Rattle.cdi_base.specs.Reading.{Gives, IsFault};
 ghost use Rattle.cdi_deploy.specs.Reading as spec;
 
 use crate::deployment::Deployment;
@@ -44,10 +44,13 @@ fn deployment_of(alloc: Global, value: &Json) -> Result<Deployment, ReadError<Re
 }
 
 /// Reads a deployment: gives what the bytes declare, or the first fault that holds of them in the order of
-/// [`ReadFault`]. An error is [`ReadError::Memory`] where a growth was refused, whatever the bytes are.
+/// [`ReadFault`]. An error is [`ReadError::Memory`] where a growth was refused: it never is in place of
+/// [`ReadFault::TooLong`], nor of [`ReadFault::NotJson`] for bytes that aren't UTF-8, as nothing grows there.
 #[tactic(auto, unfolding(crate::specs::Reading::deployment_in))]
 pub fn read(alloc: Global, bytes: &[u8]) -> Result<Deployment, ReadError<ReadFault>>
-    ensures { Gives (λ d. d) result (spec.deployment_in bytes.now) }
+    ensures gives { Gives (λ d. d) result (spec.deployment_in bytes.now) }
+    ensures too_long { IsTrue (spec.is_too_long bytes.now) → IsFault result ReadFault.TooLong }
+    ensures no_text { IsTrue (spec.is_no_text bytes.now) → IsFault result ReadFault.NotJson }
 {
     if bytes.len() > MAX_BYTES {
         return Err(ReadError::Fault(ReadFault::TooLong));

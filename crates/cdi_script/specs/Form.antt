@@ -1,5 +1,5 @@
 -- Which values are scripts.
-use Rattle.std.specs.Prelude.{Bool, true, false, ◌&&◌, codes, nat_le, is_some, if◌then◌else◌}
+use Rattle.std.specs.Prelude.{Bool, true, false, ◌&&◌, codes, nat_le, nat_lt, is_some, if◌then◌else◌}
 use Rattle.cdi_base.specs.Name.{is_name}
 use Rattle.cdi_json.specs.Json.{is_word}
 use Rattle.serde_json.specs.Data.{Num, unsigned, negative, float, Data, null, boolean, number, string, array, object, Items, no_items, item}
@@ -62,7 +62,25 @@ abbrev pub is_step : Data → Bool
 is_step (array items) = is_step_in items
 is_step _ = false
 
+-- each is a step
+abbrev pub are_steps : Items → Bool
+are_steps items = all_items is_step items
+
+-- steps, but more than 256
+abbrev pub are_too_many : Items → Bool
+are_too_many items = are_steps items && nat_lt 256 (items_len items)
+
+-- an array of steps
+abbrev pub has_steps : Data → Bool
+has_steps (array items) = are_steps items
+has_steps _ = false
+
 -- an array of at most 256 steps
 abbrev pub is_script : Data → Bool
-is_script (array items) = all_items is_step items && nat_le (items_len items) 256
+is_script (array items) = are_steps items && nat_le (items_len items) 256
 is_script _ = false
+
+-- an array of more steps than that
+abbrev pub is_too_long : Data → Bool
+is_too_long (array items) = are_too_many items
+is_too_long _ = false

@@ -1,5 +1,5 @@
 -- The step that a script reaches.
-use Rattle.std.specs.Prelude.{List, [], ◌∷◌, Bool, true, false, not, fold, if◌then◌else◌}
+use Rattle.std.specs.Prelude.{◌≡◌, List, [], ◌∷◌, Bool, true, false, not, fold, if◌then◌else◌}
 use Rattle.cdi_base.specs.declared.act.Answer.{Answer}
 use Rattle.cdi_base.specs.declared.act.Answer.TheVariants.{Threw}
 use Rattle.cdi_script.specs.declared.step.Step.{Step}
@@ -30,3 +30,7 @@ after_answer left answer = from_next (threw answer) (passed left)
 -- the steps from the one reached on, after these answers: no step is passed twice
 abbrev pub reached : List Step → List Answer → List Step
 reached steps answers = fold after_answer (from_next false steps) answers
+
+-- these answers lead to the end: no step is left
+abbrev pub HasEnded : List Step → List Answer → Type 0
+HasEnded steps answers = reached steps answers ≡ []

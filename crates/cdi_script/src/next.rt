@@ -1,5 +1,5 @@
 //! What a script does next.
-ghost use Rattle.std.specs.Prelude.{◌≡◌, ◌≤◌, ◌<◌, ◌^◌, length, IfOk, option_map};
+ghost use Rattle.std.specs.Prelude.{◌≡◌, ◌≤◌, ◌<◌, ◌^◌, length, IsOk, IfOk, option_map};
 ghost use Rattle.cdi_base.specs.declared.act.Act.TheVariants as acts;
 ghost use Rattle.cdi_script.specs.Next as spec;
 ghost use Rattle.cdi_script.specs.Reached as reaching;
@@ -229,9 +229,10 @@ impl Script {
     /// What a body with this script does next. At the start, and after an answer that is no exception, it takes the
     /// next step that is no catch; after an exception it takes the next catch, and where there is none it throws the
     /// exception on. Where no step is left otherwise, it gives null. The place in the script only moves forward, so
-    /// that no step is taken twice.
+    /// that no step is taken twice. At the end of the script memory is never wanting.
     pub fn next(&self, alloc: Global, fields: &Fields, view: &View) -> Result<Act, AllocError>
-        ensures { IfOk result (λ act. act ≡ spec.next_of self.now fields.now view.now) }
+        ensures act { IfOk result (λ act. act ≡ spec.next_of self.now fields.now view.now) }
+        ensures ended { reaching.HasEnded self.now view.now.answers → IsOk result }
     {
         let steps = self.steps.as_slice();
         let left = reached(steps, view.answers.as_slice());

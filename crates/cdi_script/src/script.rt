@@ -1,11 +1,12 @@
 //! Scripts, and reading them.
 ghost use Rattle.std.specs.Prelude.{◌≡◌, ◌≤◌, ◌↔◌, [], length, false, IsTrue, IsSome, IfOk, IfSome};
 ghost use Rattle.cdi_base.specs.Name.{Extends};
-ghost use Rattle.cdi_base.specs.Reading.{Gives};
+ghost use Rattle.cdi_base.specs.Reading.{Gives, IsFault};
 ghost use Rattle.serde_json.specs.Data.{array};
 ghost use Rattle.serde_json.specs.View.{view, items_view};
 ghost use Rattle.cdi_script.specs.Build as spec;
-ghost use Rattle.cdi_script.specs.Form.{is_script};
+ghost use Rattle.cdi_script.specs.Form.{are_steps, are_too_many, has_steps, is_script, is_too_long};
+ghost use Rattle.cdi_script.specs.declared.fault.ScriptFault.TheVariants.{BadStep, TooLong};
 
 use crate::build::{bad, each};
 use crate::fault::ScriptFault;
@@ -48,6 +49,8 @@ fn steps_of(
 ) -> Result<Seq<Step>, ReadError<ScriptFault>>
     ensures gives { Gives (λ steps. (steps, names.new)) result (spec.steps_of names.old (items_view items.now)) }
     ensures within { IfOk result (λ steps. length steps ≤ MAX_STEPS) }
+    ensures bad_step { are_steps (items_view items.now) ≡ false → IsFault result BadStep }
+    ensures too_long { IsTrue (are_too_many (items_view items.now)) → IsFault result TooLong }
     ensures refused { is_script (array (items_view items.now)) ≡ false → names.new ≡ names.old }
     ensures kept { Extends names.old names.new }
 {
@@ -80,14 +83,17 @@ impl Script {
     }
 
     /// The script that a value is: an array of at most [`MAX_STEPS`] steps. Its names go into the table. A value that
-    /// is no script, or one that is too long, leaves the table as it was; where the table is full or memory runs out,
-    /// the table may have got some names of the script. The names that were in it keep their numbers.
+    /// is no script, or one that is too long, leaves the table as it was, and memory is never wanting for it; where the
+    /// table is full or memory runs out, the table may have got some names of the script. The names that were in it keep
+    /// their numbers.
     pub fn read(
         alloc: Global,
         value: &Json,
         names: &mut Names,
     ) -> Result<Script, ReadError<ScriptFault>>
         ensures gives { Gives (λ script. (script, names.new)) result (spec.script_of names.old (view value.now)) }
+        ensures bad_step { has_steps (view value.now) ≡ false → IsFault result BadStep }
+        ensures too_long { IsTrue (is_too_long (view value.now)) → IsFault result TooLong }
         ensures refused { is_script (view value.now) ≡ false → names.new ≡ names.old }
         ensures kept { Extends names.old names.new }
     {

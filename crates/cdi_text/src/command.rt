@@ -1,6 +1,7 @@
 //! Reading a command line.
-ghost use Rattle.std.specs.Prelude.{◌≡◌, Err};
-ghost use Rattle.cdi_base.specs.Reading.{Gives};
+ghost use Rattle.std.specs.Prelude.{◌≡◌, false, Err};
+ghost use Rattle.std.specs.Str.{is_utf8};
+ghost use Rattle.cdi_base.specs.Reading.{Gives, IsFault};
 ghost use Rattle.serde_json.specs.View.{view, items_view};
 ghost use Rattle.cdi_text.specs.Command as spec;
 
@@ -166,11 +167,12 @@ fn command_of(alloc: Global, value: &Json) -> Result<Command, ReadError<BadLine>
 ///   or a text.
 /// - `["shutdown"]` shuts the container down.
 ///
-/// Every other line is a [`BadLine`]. An error is [`ReadError::Memory`] where a growth was refused, whatever the line
-/// is.
+/// Every other line is a [`BadLine`]. An error is [`ReadError::Memory`] where a growth was refused, which can be only
+/// where the line is UTF-8.
 #[tactic(auto, unfolding(crate::specs::Command::command_in))]
 pub fn read_command(alloc: Global, line: &[u8]) -> Result<Command, ReadError<BadLine>>
-    ensures { Gives (λ c. c) result (spec.command_in line.now) }
+    ensures gives { Gives (λ c. c) result (spec.command_in line.now) }
+    ensures no_text { is_utf8 line.now ≡ false → IsFault result (record {}) }
 {
     let Some(value) = read_json(alloc, line)? else {
         return bad();
