@@ -33,6 +33,10 @@ place_of entries name = position (λ e. e.name == name) entries
 abbrev pub is_named : {X : Type 0} {F : X → Type 0} {g : _} → List (Entry X F g) → ℕ → Bool
 is_named entries name = is_some (place_of entries name)
 
+-- the act lies in the shape of the body under this number
+abbrev pub LiesInShape : {X : Type 0} {F : X → Type 0} {g : _} → List (Entry X F g) → ℕ → View → Act → Type 0
+LiesInShape entries id view act = IfSome (shape_at entries id) (λ shape. in_shape shape view act ≡ true)
+
 -- whatever a body may give lies in its shape
 abbrev pub LieInShape : {X : Type 0} {F : X → Type 0} {g : _} → List (Entry X F g) → Type 0
-LieInShape entries = (id : ℕ) (fields : Fields) (view : View) (act : Act) → gives entries id fields view act → IfSome (shape_at entries id) (λ shape. in_shape shape view act ≡ true)
+LieInShape entries = (id : ℕ) (fields : Fields) (view : View) (act : Act) → gives entries id fields view act → LiesInShape entries id view act

@@ -2,4 +2,5 @@ pub mod Shape
 pub mod Gives
 pub mod Adding
 pub mod Table
+pub mod Choices
 pub mod Picks

@@ -1,14 +1,17 @@
 -- Which acts lie in a shape.
-use Rattle.std.specs.Prelude.{ℕ, Bool, true, false, [], ◌-◌, ◌==◌, ◌&&◌, ◌||◌, length, nat_lt, slice_get, Option, Some, bytes_eq}
+use Rattle.std.specs.Prelude.{◌≡◌, ℕ, Bool, true, false, [], ◌-◌, ◌==◌, ◌&&◌, ◌||◌, length, nat_lt, slice_get, Option, Some, Result, Ok, bytes_eq}
+use Rattle.std.specs.Borrow.{Bor}
 use Rattle.std.specs.Cmp.Lexicographic.{pointwise}
 use Rattle.std.specs.List.{list_any}
 use Rattle.std.specs.Ordering.{int_eq}
+use Rattle.std.specs.declared.alloc.AllocError.{AllocError}
 use Rattle.cdi_base.specs.declared.act.Act.{Act}
 use Rattle.cdi_base.specs.declared.act.Act.TheVariants as acts
 use Rattle.cdi_base.specs.declared.act.Answer.{Answer}
 use Rattle.cdi_base.specs.declared.act.Answer.TheVariants as answers
 use Rattle.cdi_base.specs.declared.act.Via.{Via}
 use Rattle.cdi_base.specs.declared.act.Via.TheVariants as vias
+use Rattle.cdi_base.specs.declared.fields.Fields.{Fields}
 use Rattle.cdi_base.specs.declared.uses.MemberValue.{MemberValue}
 use Rattle.cdi_base.specs.declared.uses.Use.{Use}
 use Rattle.cdi_base.specs.declared.value.Value.{Value}
@@ -61,3 +64,7 @@ in_shape shape view (acts.Throw exception) = list_any (λ x. x == exception) sha
 -- nothing is listed
 abbrev pub no_acts : Shape
 no_acts = record { sets = []; calls = []; owns = []; cells = []; fires = []; lookups = []; throws = []; chain = false }
+
+-- each act that a body with this promise may answer, at any fields and any view, lies in the shape
+abbrev pub KeepsShape : (Bor Fields → Bor View → Result Act AllocError → Type 0) → Shape → Type 0
+KeepsShape promise shape = (fields : Bor Fields) (view : Bor View) (act : Act) → promise fields view (Ok act) → in_shape shape view.now act ≡ true

@@ -1,5 +1,6 @@
 //! The chooser, which decides where the rules leave an order open.
-ghost use Rattle.std.specs.Prelude.{◌≡◌, ◌<◌, ◌^◌, ℕ};
+ghost use Rattle.std.specs.Prelude.{◌≡◌, ◌<◌};
+ghost use Rattle.cdi_bodies.specs.Choices.{IsAskable, AnswersBelow};
 
 /// A choice: of so many candidates, and after so many entries of the trace, the index of one of them.
 pub type Choice = Box<dyn Fn(u32, u64) -> u32>;
@@ -8,8 +9,8 @@ pub type Choice = Box<dyn Fn(u32, u64) -> u32>;
 #[derive(Drop)]
 pub struct Chooser {
     choice: Choice,
-    ghost callable: { (count entries : ℕ) → 0 < count → count < 2 ^ 32 → entries < 2 ^ 64 → Choice.pre choice count entries },
-    ghost below: { (count entries answer : ℕ) → 0 < count → count < 2 ^ 32 → entries < 2 ^ 64 → Choice.post choice count entries answer → answer < count },
+    ghost callable: { IsAskable (Choice.pre choice) },
+    ghost below: { AnswersBelow (Choice.post choice) },
 }
 
 impl Chooser {
@@ -18,8 +19,8 @@ impl Chooser {
     /// The chooser of a choice that may be called for any number of candidates that isn't 0, and whose answer is then
     /// below it.
     pub fn new(choice: Choice) -> Chooser
-        requires callable { (count entries : ℕ) → 0 < count → count < 2 ^ 32 → entries < 2 ^ 64 → Choice.pre choice count entries }
-        requires below { (count entries answer : ℕ) → 0 < count → count < 2 ^ 32 → entries < 2 ^ 64 → Choice.post choice count entries answer → answer < count }
+        requires callable { IsAskable (Choice.pre choice) }
+        requires below { AnswersBelow (Choice.post choice) }
         ensures { choice_of result ≡ choice }
     {
         Chooser { choice }

@@ -1,10 +1,5 @@
 //! A registered body.
-ghost use Rattle.std.specs.Prelude.{◌≡◌, Ok, true};
-ghost use Rattle.std.specs.Borrow.{Bor};
-ghost use Rattle.cdi_base.specs.declared.fields.Fields.{Fields as AnyFields};
-ghost use Rattle.cdi_base.specs.declared.act.Act.{Act as AnyAct};
-ghost use Rattle.cdi_bodies.specs.declared.view.View.{View as AnyView};
-ghost use Rattle.cdi_bodies.specs.Shape.{in_shape};
+ghost use Rattle.cdi_bodies.specs.Shape.{KeepsShape};
 
 use crate::shape::Shape;
 use crate::view::View;
@@ -21,5 +16,5 @@ pub struct Entry {
     pub(crate) shape: Shape,
     pub(crate) body: Body,
     pub(crate) ghost callable: { Body.IsAlwaysCallable body },
-    pub(crate) ghost within: { (fields : Bor AnyFields) (view : Bor AnyView) (act : AnyAct) → Body.post body fields view (Ok act) → in_shape shape view.now act ≡ true },
+    pub(crate) ghost within: { KeepsShape (Body.post body) shape },
 }

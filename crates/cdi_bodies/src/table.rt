@@ -1,12 +1,8 @@
 //! The table of bodies.
-ghost use Rattle.std.specs.Prelude.{◌≡◌, ◌<◌, ◌≤◌, ◌↔◌, ◌&&◌, [], length, not, nat_le, true, Ok, Some, IsTrue, IfOk, OnOk, OnErr, IfErr, IsErrAnd, slice_get, IfSome};
-ghost use Rattle.std.specs.Borrow.{Bor};
-ghost use Rattle.cdi_base.specs.declared.fields.Fields.{Fields as AnyFields};
-ghost use Rattle.cdi_base.specs.declared.act.Act.{Act as AnyAct};
-ghost use Rattle.cdi_bodies.specs.declared.view.View.{View as AnyView};
-ghost use Rattle.cdi_bodies.specs.Shape.{in_shape};
-ghost use Rattle.cdi_bodies.specs.Gives.{Promises, gives, place_of, is_named, shape_at, name_at, LieInShape};
-ghost use Rattle.cdi_bodies.specs.Adding.{Adds, body_of, is_repeated, is_full};
+ghost use Rattle.std.specs.Prelude.{◌≡◌, ◌<◌, ◌↔◌, [], length, true, Some, IsTrue, IfOk, OnOk, OnErr, IfErr};
+ghost use Rattle.cdi_bodies.specs.Shape.{in_shape, KeepsShape};
+ghost use Rattle.cdi_bodies.specs.Gives.{Promises, gives, place_of, is_named, shape_at, name_at, LiesInShape, LieInShape};
+ghost use Rattle.cdi_bodies.specs.Adding.{Adds, IsRefused, body_of, is_repeated, is_full, lacks_room};
 
 use crate::entry::{Body, Entry};
 use crate::error::AddError;
@@ -124,13 +120,14 @@ impl Bodies {
     /// where the table is full.
     pub fn add(&mut self, name: Name, shape: Shape, body: Body) -> Result<BodyId, AddError>
         requires callable { Body.IsAlwaysCallable body }
-        requires within { (fields : Bor AnyFields) (view : Bor AnyView) (act : AnyAct) → Body.post body fields view (Ok act) → in_shape shape view.now act ≡ true }
+        requires within { KeepsShape (Body.post body) shape }
 
         ensures number { IfOk result (λ id. id ≡ length (entries_of self.old)) }
-        ensures ok { OnOk result (Adds (entries_of self.old) (entries_of self.new) name shape body) }
+        ensures ok { OnOk result
+            (Adds (entries_of self.old) (entries_of self.new) name shape body) }
 
-        ensures repeated { IsErrAnd result (λ error. IsTrue (is_repeated error)) ↔ IsTrue (is_named (entries_of self.old) name) }
-        ensures full { IsErrAnd result (λ error. IsTrue (is_full error)) ↔ IsTrue (not (is_named (entries_of self.old) name) && nat_le MAX_BODIES (length (entries_of self.old))) }
+        ensures repeated { IsRefused is_repeated result ↔ IsTrue (is_named (entries_of self.old) name) }
+        ensures full { IsRefused is_full result ↔ IsTrue (lacks_room (entries_of self.old) name) }
         ensures handed_back { IfErr result (λ error. body_of error ≡ body) }
         ensures err { OnErr result (entries_of self.new ≡ entries_of self.old) }
     {
@@ -156,8 +153,8 @@ impl Bodies {
     /// its shape. The closure may answer that no memory is left.
     pub fn next(&self, id: BodyId, fields: &Fields, view: &View) -> Result<Act, AllocError>
         requires { id < length (entries_of self.now) }
-        ensures given { IfOk result (λ act. gives (entries_of self.now) id fields.now view.now act) }
-        ensures within { IfOk result (λ act. IfSome (shape_at (entries_of self.now) id) (λ shape. in_shape shape view.now act ≡ true)) }
+        ensures given { IfOk result (gives (entries_of self.now) id fields.now view.now) }
+        ensures within { IfOk result (LiesInShape (entries_of self.now) id view.now) }
     {
         next_of(&self.entries[id.number], fields, view)
     }
