@@ -1,10 +1,10 @@
 -- Lines that are answered one part after another.
-use Rattle.std.proofs.Common.{◌≡◌, ℕ, List, [], ◌∷◌, ◌++◌, Option, Err, refl, sym, ap, ◌∙◌, subst, append_assoc, append-nil}
+use Rattle.std.proofs.Common.{◌≡◌, inl, inr, ℕ, List, [], ◌∷◌, ◌++◌, Option, Err, refl, sym, ap, ◌∙◌, subst, append_assoc, append-nil}
 use Rattle.std.proofs.KnownBytes.{Appends-trans}
 use Rattle.std.specs.Io.KnownBytes.{Appends}
 use Rattle.cdi_lines.specs.declared.fault.ServeFault.{ServeFault}
 use Rattle.cdi_lines.specs.declared.fault.ServeFault.TheVariants as faults
-use Rattle.cdi_lines.specs.Served.{Replies, RepliesToFront, Answered}
+use Rattle.cdi_lines.specs.Served.{Replies, RepliesToFront, LosesReply, LosesNext, StarvesWithin, Answered}
 
 module _ {S : Type 0} (answers : S → List ℕ → List ℕ → S → Type 0) where
   pub Replies-then : (xs ys : List (List ℕ)) (s m t : S) (a b : List ℕ)
@@ -35,10 +35,38 @@ module _ {S : Type 0} (answers : S → List ℕ → List ℕ → S → Type 0) w
       let (lines, more, split, replied) = y in
       (xs ++ lines, more, ap (λ (l : List (List ℕ)). xs ++ l) split ∙ sym (append_assoc xs lines more), Replies-then xs lines s m t a b x replied)
 
+  -- the reply to the first of the lines may be lost
+  pub loses_first : (line : List ℕ) (later : List (List ℕ)) (s t : S) → LosesReply answers s line t → LosesNext answers (line ∷ later) s t
+  loses_first line later s t (inl same) = inl same
+  loses_first line later s t (inr x) = inr (line, later, x.0, refl, x.1)
+
+  loses_before : (xs ys : List (List ℕ)) (s t : S) → LosesNext answers xs s t → LosesNext answers (xs ++ ys) s t
+  loses_before xs ys s t (inl same) = inl same
+  loses_before xs ys s t (inr x) = inr (x.0, x.1 ++ ys, x.2, ap (λ (l : List (List ℕ)). l ++ ys) x.3, x.4)
+
+  -- none of the lines is answered but for the first, and the reply to that is lost
+  pub starves_first : (line : List ℕ) (s t : S) → LosesReply answers s line t → StarvesWithin answers (line ∷ []) s [] t
+  starves_first line s t x = ([], line ∷ [], s, refl, (refl, refl), loses_first line [] s t x)
+
+  -- all are answered, and no reply is lost
+  pub starves_after : (xs : List (List ℕ)) (s t : S) (a : List ℕ) → Replies answers xs s a t → StarvesWithin answers xs s a t
+  starves_after xs s t a x = (xs, [], t, sym (append-nil xs), x, inl refl)
+
+  starves_before : (xs ys : List (List ℕ)) (s t : S) (a : List ℕ) → StarvesWithin answers xs s a t → StarvesWithin answers (xs ++ ys) s a t
+  starves_before xs ys s t a x =
+      let (lines, more, mid, split, replied, lost) = x in
+      (lines, more ++ ys, mid, ap (λ (l : List (List ℕ)). l ++ ys) split ∙ append_assoc lines more ys, replied, loses_before more ys mid t lost)
+
+  starves_then : (xs ys : List (List ℕ)) (s m t : S) (a b : List ℕ)
+      → Replies answers xs s a m → StarvesWithin answers ys m b t → StarvesWithin answers (xs ++ ys) s (a ++ b) t
+  starves_then xs ys s m t a b x y =
+      let (lines, more, mid, split, replied, lost) = y in
+      (xs ++ lines, more, mid, ap (λ (l : List (List ℕ)). xs ++ l) split ∙ sym (append_assoc xs lines more), Replies-then xs lines s m mid a b x replied, lost)
+
   -- answering ended within ys, after all of xs
   pub fails_then : (xs ys : List (List ℕ)) (s m t : S) (fault : ServeFault) (a b : List ℕ)
       → Replies answers xs s a m → Answered answers ys m t (Err fault) b → Answered answers (xs ++ ys) s t (Err fault) (a ++ b)
-  fails_then xs ys s m t faults.Memory a b x y = (y.0, front_then xs ys s m y.0 a b x y.1)
+  fails_then xs ys s m t faults.Memory a b x y = starves_then xs ys s m t a b x y
   fails_then xs ys s m t faults.Write a b x y =
       let (replies, unwritten, front, split) = y in
       (a ++ replies, unwritten, front_then xs ys s m t a replies x front, ap (λ (l : List ℕ). a ++ l) split ∙ sym (append_assoc a b unwritten))
@@ -48,7 +76,7 @@ module _ {S : Type 0} (answers : S → List ℕ → List ℕ → S → Type 0) w
   -- and then nothing later is answered
   pub fails_before : (xs ys : List (List ℕ)) (s t : S) (fault : ServeFault) (a : List ℕ)
       → Answered answers xs s t (Err fault) a → Answered answers (xs ++ ys) s t (Err fault) a
-  fails_before xs ys s t faults.Memory a x = (x.0, front_more xs ys s x.0 a x.1)
+  fails_before xs ys s t faults.Memory a x = starves_before xs ys s t a x
   fails_before xs ys s t faults.Write a x =
       let (replies, unwritten, front, split) = x in (replies, unwritten, front_more xs ys s t replies front, split)
   fails_before xs ys s t faults.Read a x = x
@@ -82,3 +110,8 @@ module _ {S : Type 0} (answers : S → List ℕ → List ℕ → S → Type 0) w
         Appends-trans u v w x.out b x.written grows,
         subst (λ (l : List (List ℕ)). Answered answers l s t (Err fault) (x.out ++ b)) (sym x.split) whole,
       )
+
+  -- where there is no memory for what goes on in the line that has begun, no reply is lost
+  pub midway_starves : (all later : List (List ℕ)) (s t : S) (u v : Option (List ℕ)) → Midway all later s t u v
+      → (out : List ℕ) × Appends u v out × StarvesWithin answers all s out t
+  midway_starves all later s t u v x = (x.out, x.written, (x.front, later, t, x.split, x.replied, inl refl))

@@ -2,8 +2,8 @@
 ghost use Rattle.std.specs.Prelude.{◌≡◌};
 ghost use Rattle.cdi_lines.specs.declared.fault.ServeFault.TheVariants as faults;
 
-use crate::input::ReadFailed;
-use crate::output::WriteFailed;
+use crate::sink::WriteFailed;
+use crate::source::ReadFailed;
 use std::alloc::{AllocError, AllocFailed};
 use thiserror::Error;
 
@@ -16,10 +16,11 @@ pub enum ServeFault {
     /// The input has more bytes than may be read. Each line that ends in what was read is answered.
     #[error("the input is too long")]
     TooLong,
-    /// A write or a flush failed. Some lines in front are answered, and a front part of their replies is written.
+    /// A write or a flush failed. Some whole lines in front are answered, and a front part of their replies is written.
     #[error("the output could not be written")]
     Write,
-    /// A growth was refused. Some lines in front are answered, and their replies are written.
+    /// A growth was refused. Some whole lines in front are answered, and their replies are written. One line more may be
+    /// answered, whose reply is lost.
     #[error("out of memory")]
     Memory,
 }

@@ -1,18 +1,12 @@
-//! A reader that remembers whether it failed.
-ghost use Rattle.std.specs.Prelude.{◌≡◌, ◌||◌, false, is_err};
-ghost use Rattle.std.specs.Io.{ReadsAtMost};
-ghost use Rattle.std.specs.Io.KnownBytes.{ReadConsumes};
-ghost use Rattle.cdi_lines.specs.Ends.{reader_of, has_read_failed};
+//! A reader of the standard library as a source.
+ghost use Rattle.std.specs.Prelude.{◌≡◌, false};
+ghost use Rattle.cdi_lines.specs.Streams.{reader_of, has_read_failed};
 
+use crate::sink::Sink;
+use crate::source::{ReadFailed, Source};
 use std::io::Read;
-use thiserror::Error;
 
-/// A read failed. What was read before is consumed, and nothing more.
-#[derive(Clone, Copy, Debug, PartialEq, Eq, Error)]
-#[error("a read failed")]
-pub struct ReadFailed;
-
-/// A reader that remembers whether one of its reads failed.
+/// A reader as a source. After its first failure the reader isn't asked again.
 #[derive(Drop)]
 pub struct Input<R> {
     reader: R,
@@ -31,7 +25,7 @@ impl<R> Input<R> {
         }
     }
 
-    /// Whether one of its reads failed.
+    /// Whether a read of it failed.
     pub fn has_failed(&self) -> bool
         ensures { result ≡ has_read_failed self.now }
     {
@@ -46,14 +40,15 @@ impl<R> Input<R> {
     }
 }
 
-impl<R: Read> Input<R> {
-    /// Reads once, into the front of a buffer, and gives how many bytes came. None in a buffer with room is the end.
-    /// Where the reader fails, nothing is consumed, and the input remembers it.
-    pub fn read(&mut self, buf: &mut [u8]) -> Result<usize, ReadFailed>
-        ensures bound { ReadsAtMost result buf.new }
-        ensures bytes { ReadConsumes (R.remaining (reader_of self.old)) (R.remaining (reader_of self.new)) result buf.new }
-        ensures failed { has_read_failed self.new ≡ (has_read_failed self.old || is_err result) }
-    {
+impl<R: Read> Source for Input<R> {
+    ghost unread = { λ input. R.remaining (reader_of input) };
+
+    ghost has_failed = { λ input. has_read_failed input };
+
+    fn read<W: Sink>(&mut self, buf: &mut [u8], _output: &W) -> Result<usize, ReadFailed> {
+        if self.has_failed {
+            return Err(ReadFailed);
+        }
         match self.reader.read(buf) {
             Ok(count) => Ok(count),
             Err(_error) => {

@@ -8,9 +8,13 @@ pub mod laws;
 pub mod output;
 pub mod responder;
 pub mod serving;
+pub mod sink;
+pub mod source;
 
 pub use fault::ServeFault;
-pub use input::{Input, ReadFailed};
-pub use output::{Output, WriteFailed};
+pub use input::Input;
+pub use output::Output;
 pub use responder::Responder;
 pub use serving::{MAX_INPUT, serve_lines};
+pub use sink::{Sink, WriteFailed};
+pub use source::{ReadFailed, Source};

@@ -1,21 +1,18 @@
-//! A writer that remembers whether it failed.
-ghost use Rattle.std.specs.Prelude.{◌≡◌, ◌||◌, false, is_err, IsTrue};
+//! A writer of the standard library as a sink.
+ghost use Rattle.std.specs.Prelude.{◌≡◌, false, true};
 ghost use Rattle.std.specs.Io.KnownBytes.{Keeps};
-ghost use Rattle.cdi_lines.specs.Ends.{writer_of, has_write_failed, WritesAll};
+ghost use Rattle.cdi_lines.specs.Ends.{WritesAll};
+ghost use Rattle.cdi_lines.specs.Streams.{writer_of, has_write_failed, is_flushed};
 
+use crate::sink::{Sink, WriteFailed};
 use std::io::Write;
-use thiserror::Error;
 
-/// A write failed, or the writer took nothing. Of what was to be written, a front part stands in the writer.
-#[derive(Clone, Copy, Debug, PartialEq, Eq, Error)]
-#[error("a write failed")]
-pub struct WriteFailed;
-
-/// A writer that remembers whether one of its writes or flushes failed.
+/// A writer as a sink. After its first failure the writer isn't asked again.
 #[derive(Drop)]
 pub struct Output<W> {
     writer: W,
     has_failed: bool,
+    is_flushed: bool,
 }
 
 impl<W> Output<W> {
@@ -27,10 +24,11 @@ impl<W> Output<W> {
         Output {
             writer,
             has_failed: false,
+            is_flushed: false,
         }
     }
 
-    /// Whether one of its writes or flushes failed.
+    /// Whether a write or a flush of it failed.
     pub fn has_failed(&self) -> bool
         ensures { result ≡ has_write_failed self.now }
     {
@@ -43,53 +41,53 @@ impl<W> Output<W> {
     {
         self.writer
     }
-
-    fn fail(&mut self) -> WriteFailed
-        ensures writer { writer_of self.new ≡ writer_of self.old }
-        ensures failed { IsTrue (has_write_failed self.new) }
-    {
-        self.has_failed = true;
-        WriteFailed
-    }
 }
 
-impl<W: Write> Output<W> {
-    /// Writes bytes whole, in as many writes as the writer needs. Where a write fails, or takes nothing while bytes
-    /// are left, a front part of them stands in the writer, and the output remembers it.
-    pub fn write(&mut self, bytes: &[u8]) -> Result<(), WriteFailed>
-        ensures bytes { WritesAll (W.contents (writer_of self.old)) (W.contents (writer_of self.new)) result bytes.now }
-        ensures failed { has_write_failed self.new ≡ (has_write_failed self.old || is_err result) }
-    {
-        let mut rest = bytes;
-        while !rest.is_empty() {
-            match self.writer.write(rest) {
-                Ok(0) | Err(_) => return Err(self.fail()),
-                Ok(count) => rest = &rest[count..],
-            }
-        }
-        Ok(())
-    }
-
-    /// Writes bytes whole, and has the writer pass them on. Where that fails, a front part of them stands in the writer,
-    /// which may be all, and the output remembers it.
-    pub fn write_through(&mut self, bytes: &[u8]) -> Result<(), WriteFailed>
-        ensures bytes { WritesAll (W.contents (writer_of self.old)) (W.contents (writer_of self.new)) result bytes.now }
-        ensures failed { has_write_failed self.new ≡ (has_write_failed self.old || is_err result) }
-    {
-        match self.write(bytes) {
-            Ok(()) => self.flush(),
-            Err(error) => Err(error),
+/// Writes bytes whole, in as many writes as the writer needs. Where a write fails, or takes nothing while bytes are left,
+/// a front part of them stands in the writer.
+fn write_whole<W: Write>(writer: &mut W, bytes: &[u8]) -> Result<(), WriteFailed>
+    ensures { WritesAll (W.contents writer.old) (W.contents writer.new) result bytes.now }
+{
+    let mut rest = bytes;
+    while !rest.is_empty() {
+        match writer.write(rest) {
+            Ok(0) | Err(_) => return Err(WriteFailed),
+            Ok(count) => rest = &rest[count..],
         }
     }
+    Ok(())
+}
 
-    /// Has the writer pass on what it still holds back. Where that fails, the output remembers it.
-    pub fn flush(&mut self) -> Result<(), WriteFailed>
-        ensures bytes { Keeps (W.contents (writer_of self.old)) (W.contents (writer_of self.new)) }
-        ensures failed { has_write_failed self.new ≡ (has_write_failed self.old || is_err result) }
-    {
+impl<W: Write> Sink for Output<W> {
+    ghost written = { λ output. W.contents (writer_of output) };
+
+    ghost has_failed = { λ output. has_write_failed output };
+
+    ghost is_passed_on = { λ output. is_flushed output };
+
+    fn write(&mut self, bytes: &[u8]) -> Result<(), WriteFailed> {
+        if self.has_failed {
+            return Err(WriteFailed);
+        }
+        self.is_flushed = false;
+        let result = write_whole(&mut self.writer, bytes);
+        self.has_failed = result.is_err();
+        result
+    }
+
+    fn flush(&mut self) -> Result<(), WriteFailed> {
+        if self.has_failed {
+            return Err(WriteFailed);
+        }
         match self.writer.flush() {
-            Ok(()) => Ok(()),
-            Err(_error) => Err(self.fail()),
+            Ok(()) => {
+                self.is_flushed = true;
+                Ok(())
+            }
+            Err(_error) => {
+                self.has_failed = true;
+                Err(WriteFailed)
+            }
         }
     }
 }

@@ -1,8 +1,16 @@
-use Rattle.std.proofs.Common.{drop, ◌≡◌, arith, ◌∙◌}
+use Rattle.std.proofs.Common.{drop, ◌≡◌, Err, true, ap, arith, ◌∙◌}
 use Rattle.std.proofs.lemmas.List.{length-take}
-use Rattle.cdi_lines.proofs.Reading.{reading_stops, reading_waits, reading_goes_on, reading_fails, piece_read}
+use Rattle.cdi_lines.proofs.Reading.{reading_stops, reading_waits, reading_goes_on, reading_fails, reads_none, piece_read}
 use Rattle.std.proofs.lemmas.Result.{err_from_is_err_and}
+use Rattle.cdi_lines.specs.declared.fault.ServeFault.TheVariants as faults
 use Rattle.cdi_lines.proofs.serving.answer_ended.Goals as goal
+
+pub returns-in_err-count-clause-ended : goal.returns-in_err-count-clause-ended
+returns-in_err-count-clause-ended g c =
+    let p = err_from_is_err_and c.from_residual.result c.from_residual.ensures.1 in
+    let read = c.in_err-count.ensures in
+    let short = λ (is : c.in_err-count.field-0.0 ≡ faults.TooLong). read.not_too_long (ap Err is) in
+    rw (p.1, p.2) (reading_stops g.A.Responder.answers _ _ _ _ _ _ _ _ _ _ _ _ c.loop-left.invariant.0 (λ is. absurd (short is)) (reads_none _ _ _ short read.bytes) read.kept)
 
 pub returns-in_err-answer_piece-clause-ended : goal.returns-in_err-answer_piece-clause-ended
 returns-in_err-answer_piece-clause-ended g c =
@@ -22,8 +30,8 @@ loop-left-preserved g c =
     let (out, written, replied) = c.in_ok-answer_piece.ensures.answered in
     let waits = reading_waits g.A.Responder.answers _ _ _ _ _ _ _ _ _ _ c.loop-left.invariant.0 count.kept in (
       reading_goes_on g.A.Responder.answers _ _ _ _ _ _ _ _ _ _ _ _ _ _ out _ waits came counts within written replied c.in_ok-answer_piece.ensures.begun,
-      count.heeded.0 ∙ c.loop-left.invariant.1,
-      c.in_ok-answer_piece.ensures.heeded ∙ count.heeded.1 ∙ c.loop-left.invariant.2,
+      count.blames.0 ∙ c.loop-left.invariant.1,
+      (c.in_ok-answer_piece.ensures.blames true).1 ∙ count.blames.1 ∙ c.loop-left.invariant.2,
     )
 
 pub returns-in_err-expect_end-clause-ended : goal.returns-in_err-expect_end-clause-ended
