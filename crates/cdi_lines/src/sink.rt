@@ -31,4 +31,16 @@ pub trait Sink {
         ensures bytes { Keeps (written self.old) (written self.new) }
         ensures failed { Tells result (has_failed self.old) (has_failed self.new) }
         ensures passed_on { OnOk result (IsTrue (is_passed_on self.new)) };
+
+    /// Writes bytes whole and passes them on. Where that fails, a front part of them is written, which may be all.
+    final fn write_through(&mut self, bytes: &[u8]) -> Result<(), WriteFailed>
+        ensures bytes { WritesAll (written self.old) (written self.new) result bytes.now }
+        ensures failed { Tells result (has_failed self.old) (has_failed self.new) }
+        ensures passed_on { OnOk result (IsTrue (is_passed_on self.new)) }
+    {
+        match self.write(bytes) {
+            Ok(()) => self.flush(),
+            Err(error) => Err(error),
+        }
+    }
 }

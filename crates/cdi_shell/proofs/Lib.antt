@@ -1,3 +1,4 @@
+pub mod Attended
 pub mod Counted
 pub mod Determined
 pub mod Holding

@@ -1,6 +1,7 @@
 -- The program's output is a function of its limits, its deployment and its input.
 use denote.Struct.Props as logic
-use Rattle.std.proofs.Common.{ℕ, ◌≤◌, length, ◌≡◌, ◌∙◌, ◌++◌, List, refl, sym, ap, subst, Option, Some, None, Ok, Err, append-nil, slice_get}
+use Rattle.std.proofs.Common.{ℕ, ◌≤◌, length, take, ◌≡◌, ◌∙◌, ◌++◌, ◌∷◌, [], List, refl, sym, ap, subst, Option, Some, None, Ok, Err, append-nil, append_assoc, length-append, slice_get, arith}
+use lib.Seq.{take-append_seam}
 use Rattle.std.specs.Prelude.{Result, MatchOption}
 use Rattle.std.specs.Io.KnownBytes.{Appends, Consumes, IsAtEnd}
 use Rattle.cdi_base.specs.declared.act.Act.{Act}
@@ -17,18 +18,19 @@ use Rattle.cdi_script.specs.Next.{next_of}
 use Rattle.cdi_shell.specs.declared.ending.Ending.{Ending}
 use Rattle.cdi_shell.specs.declared.ending.Ending.TheVariants as endings
 use Rattle.cdi_lines.specs.declared.fault.ServeFault.{ServeFault}
-use Rattle.cdi_lines.specs.declared.output.WriteFailed.{WriteFailed}
+use Rattle.cdi_lines.specs.declared.fault.ServeFault.TheVariants as faults
+use Rattle.cdi_lines.specs.declared.sink.WriteFailed.{WriteFailed}
 use Rattle.cdi_shell.specs.declared.request.Request.TheVariants as requests
 use Rattle.cdi_shell.specs.declared.scripts.NamedScript.{NamedScript}
 use Rattle.cdi_shell.specs.Drive.{Readied, Streams, Writes, Refuses, Lives, Plays, DrivesReadied, Drives, legal_by, readied}
 use Rattle.cdi_lines.specs.Ends.{WritesAll}
 use Rattle.cdi_shell.specs.Endings.{after_serving, after_refusal}
 use Rattle.cdi_shell.specs.Laws.{IsSettled, SameOutput, OneOutput}
-use Rattle.cdi_lines.specs.Lines.{all_lines}
+use Rattle.cdi_lines.specs.Lines.{complete_lines, all_lines}
 use Rattle.cdi_text.specs.ReplyText.{reply_line}
 use Rattle.cdi_shell.specs.Scripts.{registered}
-use Rattle.cdi_lines.specs.Served.{Replies, Stands, Reads}
-use Rattle.cdi_shell.specs.Sessions.{AnswersLine}
+use Rattle.cdi_lines.specs.Served.{Replies, Serves}
+use Rattle.cdi_shell.specs.Sessions.{AnswersLine, Served}
 use Rattle.cdi_shell.specs.States.{State, Boots, unstarted}
 use Rattle.cdi_shell.proofs.Determined.{IsFed, responds_one, replies_one, replies_halted}
 
@@ -85,60 +87,117 @@ writes_one lines held s s' e e' settled settled' h h' w w' =
 
 -- ---- a container that is served
 
-abbrev served : Result (Unit {0}) ServeFault
-served = Ok tt
-
-consumed_all : (input : List ℕ) (unread after : Option (List ℕ)) (read : List ℕ) → unread ≡ Some input → Consumes unread after read → IsAtEnd after → read ≡ input
-consumed_all input unread after read e c end = by after (subst (λ (x : Option (List ℕ)). Consumes x after read) e c) end
+consumed_of : (input : List ℕ) (unread after : Option (List ℕ)) (read : List ℕ) → unread ≡ Some input → Consumes unread after read → (rest : List ℕ) × (input ≡ read ++ rest) × (IsAtEnd after → rest ≡ [])
+consumed_of input unread after read e c = by after (subst (λ (x : Option (List ℕ)). Consumes x after read) e c)
   where
-    by : (after : Option (List ℕ)) → Consumes (Some input) after read → IsAtEnd after → read ≡ input
-    by None c end = absurd c
-    by (Some ys) c end = sym (c ∙ ap (λ (y : List ℕ). read ++ y) end ∙ append-nil read)
+    by : (after : Option (List ℕ)) → Consumes (Some input) after read → (rest : List ℕ) × (input ≡ read ++ rest) × (IsAtEnd after → rest ≡ [])
+    by None c = absurd c
+    by (Some ys) c = (ys, c, λ end. end)
 
--- what a container that lived to the end of its input did
+-- how far serving an input goes, with this result: to its end, or as far as may be read
+data Reaches (input : List ℕ) : Result (Unit {0}) ServeFault → List (List ℕ) → Type 0 where
+  to_end : length input ≤ 16777216 → Reaches input (Ok tt) (all_lines input)
+  too_long : (read rest : List ℕ) (byte : ℕ) → input ≡ read ++ byte ∷ rest → length read ≡ 16777216 → Reaches input (Err faults.TooLong) (complete_lines read)
+
+record SameReach (r r' : Result (Unit {0}) ServeFault) (lines lines' : List (List ℕ)) : Type 0 where
+  pub result : r ≡ r'
+  pub lines_are : lines ≡ lines'
+
+longer : (input read rest : List ℕ) (byte : ℕ) → input ≡ read ++ byte ∷ rest → length read ≡ 16777216 → length input ≤ 16777216 → ⊥
+longer input read rest byte is long short = let sum = ap length is ∙ length-append read (byte ∷ rest) in omega arith
+
+front_of : (input read rest : List ℕ) (byte : ℕ) → input ≡ read ++ byte ∷ rest → length read ≡ 16777216 → take 16777216 input ≡ read
+front_of input read rest byte is long = subst (λ (n : ℕ). take n input ≡ read) long (ap (λ (xs : List ℕ). take (length read) xs) is ∙ take-append_seam read (byte ∷ rest))
+
+reach_one : (input : List ℕ) (r r' : Result (Unit {0}) ServeFault) (lines lines' : List (List ℕ)) → Reaches input r lines → Reaches input r' lines' → SameReach r r' lines lines'
+reach_one input _ _ _ _ (Reaches.to_end short) (Reaches.to_end short') = record { result = refl; lines_are = refl }
+reach_one input _ _ _ _ (Reaches.to_end short) (Reaches.too_long read rest byte is long) = absurd (longer input read rest byte is long short)
+reach_one input _ _ _ _ (Reaches.too_long read rest byte is long) (Reaches.to_end short) = absurd (longer input read rest byte is long short)
+reach_one input _ _ _ _ (Reaches.too_long read rest byte is long) (Reaches.too_long read' rest' byte' is' long') =
+    record { result = refl; lines_are = ap complete_lines (sym (front_of input read rest byte is long) ∙ front_of input read' rest' byte' is' long') }
+
+-- what a container that lived as long as its input let it did
 record Whole (depth ticks : ℕ) (tables : Tables) (classes : List ℕ) (legal : Legal) (input : List ℕ) (streams : Streams) (ending : Ending) : Type 0 where
   pub reply : Reply
   pub started : State
   pub ended : State
+  pub result : Result (Unit {0}) ServeFault
+  pub lines : List (List ℕ)
   pub out : List ℕ
+  pub reaches : Reaches input result lines
   pub boots : Boots tables legal (Unit {0}) depth ticks reply started
-  pub replies : Replies (AnswersLine tables classes legal (Unit {0})) (all_lines input) started out ended
+  pub replies : Replies (AnswersLine tables classes legal (Unit {0})) lines started out ended
   pub written : Appends streams.held streams.held_after (reply_line tables.names reply ++ out)
-  pub is_ending : ending ≡ after_serving served ended.halted
+  pub is_ending : ending ≡ after_serving result ended.halted
   pub fed : IsFed ended
 
 whole_of : (depth ticks : ℕ) (names : List (List ℕ)) (beans : List Bean) (classes : List ℕ) (legal : Legal) (input : List ℕ) (streams : Streams) (e : Ending) → IsSettled e → streams.unread ≡ Some input
     → (l : Lives depth ticks names beans classes legal streams e) → Whole depth ticks l.tables classes legal input streams e
-whole_of depth ticks names beans classes legal input streams e settled u l = by l.result l.serves.consumed l.serves.stands l.is_ending
+whole_of depth ticks names beans classes legal input streams e settled u l = by l.result l.served l.is_ending
   where
-    by : (r : Result (Unit {0}) ServeFault) → Reads r streams.unread streams.unread_after l.serves.read → Stands 16777216 (AnswersLine l.tables classes legal (Unit {0})) (reply_line l.tables.names l.reply) l.started l.ended r l.serves.read l.serves.out
-        → e ≡ after_serving r l.ended.halted → Whole depth ticks l.tables classes legal input streams e
-    by (Err fault) c h is = absurd (subst IsSettled is settled)
-    by (Ok x) c h is =
-        let all = consumed_all input streams.unread streams.unread_after l.serves.read u c.0 c.1 in
+    to_end : (h : Serves 16777216 (AnswersLine l.tables classes legal (Unit {0})) (reply_line l.tables.names l.reply) l.started l.ended (Ok tt) streams.unread streams.unread_after streams.held streams.held_after) → e ≡ after_serving {T = Unit {0}} (Ok tt) l.ended.halted → Whole depth ticks l.tables classes legal input streams e
+    to_end h is =
+        let (rest, split, none) = consumed_of input streams.unread streams.unread_after h.read u h.consumed.0 in
+        let all : input ≡ h.read = split ∙ ap (λ (x : List ℕ). h.read ++ x) (none h.consumed.1) ∙ append-nil h.read in
+        let few = h.within in
         record {
           reply = l.reply;
           started = l.started;
           ended = l.ended;
-          out = h.0;
+          result = Ok tt;
+          lines = all_lines input;
+          out = h.stands.0;
+          reaches = Reaches.to_end (subst (λ (b : List ℕ). length b ≤ 16777216) (sym all) few);
           boots = l.boots;
-          replies = subst (λ (b : List ℕ). Replies (AnswersLine l.tables classes legal (Unit {0})) (all_lines b) l.started h.0 l.ended) all h.1;
-          written = subst (λ (b : List ℕ). Appends streams.held streams.held_after b) h.2 l.serves.written;
+          replies = subst (λ (b : List ℕ). Replies (AnswersLine l.tables classes legal (Unit {0})) (all_lines b) l.started h.stands.0 l.ended) (sym all) h.stands.1;
+          written = subst (λ (b : List ℕ). Appends streams.held streams.held_after b) h.stands.2 h.written;
           is_ending = is;
-          fed = λ q. subst IsSettled (is ∙ ap (λ (o : Option Cause). after_serving served o) q) settled;
+          fed = λ q. subst IsSettled (is ∙ ap (λ (o : Option Cause). after_serving {T = Unit {0}} (Ok tt) o) q) settled;
         }
+
+    too_long : (h : Serves 16777216 (AnswersLine l.tables classes legal (Unit {0})) (reply_line l.tables.names l.reply) l.started l.ended (Err faults.TooLong) streams.unread streams.unread_after streams.held streams.held_after) → e ≡ after_serving {T = Unit {0}} (Err faults.TooLong) l.ended.halted → Whole depth ticks l.tables classes legal input streams e
+    too_long h is =
+        let (byte, consumed) = h.consumed in
+        let (rest, split, none) = consumed_of input streams.unread streams.unread_after (h.read ++ byte ∷ []) u consumed in
+        record {
+          reply = l.reply;
+          started = l.started;
+          ended = l.ended;
+          result = Err faults.TooLong;
+          lines = complete_lines h.read;
+          out = h.stands.0;
+          reaches = Reaches.too_long h.read rest byte (split ∙ append_assoc h.read (byte ∷ []) rest) h.stands.3;
+          boots = l.boots;
+          replies = h.stands.1;
+          written = subst (λ (b : List ℕ). Appends streams.held streams.held_after b) h.stands.2 h.written;
+          is_ending = is;
+          fed = λ q. subst IsSettled (is ∙ ap (λ (o : Option Cause). after_serving {T = Unit {0}} (Err faults.TooLong) o) q) settled;
+        }
+
+    served : (r : Result (Unit {0}) ServeFault) → Serves 16777216 (AnswersLine l.tables classes legal (Unit {0})) (reply_line l.tables.names l.reply) l.started l.ended r streams.unread streams.unread_after streams.held streams.held_after → e ≡ after_serving r l.ended.halted → Whole depth ticks l.tables classes legal input streams e
+    served (Ok tt) h is = to_end h is
+    served (Err faults.TooLong) h is = too_long h is
+    served (Err faults.Read) h is = absurd (subst IsSettled is settled)
+    served (Err faults.Write) h is = absurd (subst IsSettled is settled)
+    served (Err faults.Memory) h is = absurd (subst IsSettled is settled)
+
+    by : (r : Result (Unit {0}) ServeFault) → Served 16777216 (AnswersLine l.tables classes legal (Unit {0})) (reply_line l.tables.names l.reply) l.started l.ended streams.unread streams.unread_after streams.held streams.held_after r → e ≡ after_serving r l.ended.halted → Whole depth ticks l.tables classes legal input streams e
+    by _ (Served.silent same unread held) is = absurd (subst IsSettled is settled)
+    by r (Served.serves h) is = served r h is
 
 whole_one : (depth ticks : ℕ) (tables : Tables) (classes : List ℕ) (legal : Legal) → IsOne legal → (input held : List ℕ) (s s' : Streams) (e e' : Ending) → s.held ≡ Some held → s'.held ≡ Some held
     → Whole depth ticks tables classes legal input s e → Whole depth ticks tables classes legal input s' e' → SameOutput s s' e e'
 whole_one depth ticks tables classes legal one input held s s' e e' h h' w w' =
-    let halts = replies_halted tables classes legal one (all_lines input) in
-    let boot = responds_one tables classes legal one (requests.Runs calls.Boot) (unstarted tables depth ticks) w.reply w'.reply w.started w'.started w.boots w'.boots (λ q. w.fed (halts w.started w.out w.ended w.replies q)) (λ q. w'.fed (halts w'.started w'.out w'.ended w'.replies q)) in
-    let there = subst (λ (m : State). Replies (AnswersLine tables classes legal (Unit {0})) (all_lines input) m w'.out w'.ended) (sym boot.state) w'.replies in
-    let same = replies_one tables classes legal one (all_lines input) w.started w.out w'.out w.ended w'.ended w.replies there w.fed w'.fed in
+    let reach = reach_one input w.result w'.result w.lines w'.lines w.reaches w'.reaches in
+    let boot = responds_one tables classes legal one (requests.Runs calls.Boot) (unstarted tables depth ticks) w.reply w'.reply w.started w'.started w.boots w'.boots
+    (λ q. w.fed (replies_halted tables classes legal one w.lines w.started w.out w.ended w.replies q)) (λ q. w'.fed (replies_halted tables classes legal one w'.lines w'.started w'.out w'.ended w'.replies q)) in
+    let there = subst (λ (m : State). Replies (AnswersLine tables classes legal (Unit {0})) w.lines m w'.out w'.ended) (sym boot.state)
+    (subst (λ (ls : List (List ℕ)). Replies (AnswersLine tables classes legal (Unit {0})) ls w'.started w'.out w'.ended) (sym reach.lines_are) w'.replies) in
+    let same = replies_one tables classes legal one w.lines w.started w.out w'.out w.ended w'.ended w.replies there w.fed w'.fed in
     let bytes : reply_line tables.names w.reply ++ w.out ≡ reply_line tables.names w'.reply ++ w'.out = ap (λ (r : Reply). reply_line tables.names r ++ w.out) boot.reply ∙ ap (λ (x : List ℕ). reply_line tables.names w'.reply ++ x) same.text in
     record {
       held_after = appended_one held s.held s.held_after s'.held_after _ _ h bytes w.written (subst (λ (x : Option (List ℕ)). Appends x s'.held_after (reply_line tables.names w'.reply ++ w'.out)) (h' ∙ sym h) w'.written);
-      ending = w.is_ending ∙ ap (λ (t : State). after_serving served t.halted) same.state ∙ sym w'.is_ending;
+      ending = w.is_ending ∙ ap (λ (r : Result (Unit {0}) ServeFault). after_serving r w.ended.halted) reach.result ∙ ap (λ (t : State). after_serving w'.result t.halted) same.state ∙ sym w'.is_ending;
     }
 
 module _ (depth ticks : ℕ) (input held : List ℕ) (s s' : Streams) (e e' : Ending) (settled : IsSettled e) (settled' : IsSettled e')

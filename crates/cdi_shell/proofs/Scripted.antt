@@ -41,7 +41,7 @@ use Rattle.cdi_text.specs.ReplyText.{reply_line}
 use Rattle.cdi_shell.specs.Sessions.{AnswersRead, AnswersLine}
 use Rattle.cdi_shell.specs.States.{State, asked, Ends, Responds, unstarted}
 use Rattle.cdi_shell.proofs.Holding.{Holds, same_place, same_shape, within}
-use Rattle.cdi_lines.proofs.Mapped.{serves}
+use Rattle.cdi_shell.proofs.Attended.{attended}
 
 -- ---- tables and problems by what is registered under each name
 
@@ -110,8 +110,8 @@ lives depth ticks names beans classes small large streams e more l =
       ended = l.ended;
       result = l.result;
       boots = responds l.tables classes small large more (requests.Runs calls.Boot) (unstarted l.tables depth ticks) l.reply l.started l.boots;
-      serves = serves (AnswersLine l.tables classes small (Unit {0})) (AnswersLine l.tables classes large (Unit {0})) (λ s. s) (λ s. Unit {0}) (λ s line text t k h. tt) (lines l.tables classes small large more)
-          16777216 (reply_line l.tables.names l.reply) l.started l.ended l.result streams.unread streams.unread_after streams.held streams.held_after tt l.serves;
+      served = attended (AnswersLine l.tables classes small (Unit {0})) (AnswersLine l.tables classes large (Unit {0})) (λ s. s) (λ s. Unit {0}) (λ s line text t k h. tt) (lines l.tables classes small large more)
+          16777216 (reply_line l.tables.names l.reply) l.started l.ended streams.unread streams.unread_after streams.held streams.held_after tt l.result l.served;
       is_ending = l.is_ending;
     }
 

@@ -15,19 +15,16 @@ use Rattle.cdi_script.specs.Listed.{shape_of}
 use Rattle.cdi_script.specs.Next.{next_of}
 use Rattle.cdi_shell.specs.declared.container.Container.{Container}
 use Rattle.cdi_shell.specs.declared.ending.Ending.{Ending}
-use Rattle.cdi_shell.specs.declared.ending.Ending.TheVariants as endings
 use Rattle.cdi_lines.specs.declared.fault.ServeFault.{ServeFault}
-use Rattle.cdi_lines.specs.declared.fault.ServeFault.TheVariants as faults
-use Rattle.cdi_lines.specs.declared.output.WriteFailed.{WriteFailed}
+use Rattle.cdi_lines.specs.declared.sink.WriteFailed.{WriteFailed}
 use Rattle.cdi_shell.specs.declared.scripts.BadScript.{BadScript}
 use Rattle.cdi_shell.specs.declared.scripts.NamedScript.{NamedScript}
-use Rattle.cdi_shell.specs.Endings.{after_serving, after_refusal}
+use Rattle.cdi_shell.specs.Endings.{after_serving, after_refusal, starved}
 use Rattle.cdi_lines.specs.Ends.{WritesAll}
 use Rattle.cdi_shell.specs.RefusalText.{fault_line, script_line, problem_lines}
 use Rattle.cdi_text.specs.ReplyText.{reply_line}
 use Rattle.cdi_shell.specs.Scripts.{is_named, registered, scripts_in}
-use Rattle.cdi_lines.specs.Served.{Serves}
-use Rattle.cdi_shell.specs.Sessions.{AnswersLine, Served}
+use Rattle.cdi_shell.specs.Sessions.{AnswersLine, Served, ServedBy}
 use Rattle.cdi_shell.specs.States.{State, Boots}
 
 -- a fault, as the line that tells it
@@ -72,7 +69,7 @@ legal_by scripts =
 
 -- ---- the run
 
--- where the known bytes of the reader and of the writer are these, before and after
+-- the known bytes of the source and of the sink, before and after
 pub record Streams : Type 0 where
   pub unread : Option (List ℕ)
   pub unread_after : Option (List ℕ)
@@ -94,7 +91,7 @@ pub record Writes (lines : List ℕ) (streams : Streams) (ending : Ending) : Typ
 pub record IsSilent (streams : Streams) (ending : Ending) : Type 0 where
   pub unread : streams.unread_after ≡ streams.unread
   pub held : streams.held_after ≡ streams.held
-  pub is_ending : ending ≡ endings.Fault faults.Memory
+  pub is_ending : ending ≡ starved
 
 -- The container of these tables, which takes so many levels and entries, is started and served: the lines written are
 -- those of a run of the machine for the lines read, in which all that happens is legal.
@@ -107,7 +104,7 @@ pub record Lives (depth ticks : ℕ) (names : List (List ℕ)) (beans : List Bea
   pub ended : State
   pub result : Result (Unit {0}) ServeFault
   pub boots : Boots tables legal (Unit {0}) depth ticks reply started
-  pub serves : Serves 16777216 (AnswersLine tables classes legal (Unit {0})) (reply_line tables.names reply) started ended result streams.unread streams.unread_after streams.held streams.held_after
+  pub served : Served 16777216 (AnswersLine tables classes legal (Unit {0})) (reply_line tables.names reply) started ended streams.unread streams.unread_after streams.held streams.held_after result
   pub is_ending : ending ≡ after_serving result ended.halted
 
 -- a deployment is run: its problems are written, or, if it has none, its container lives
@@ -135,12 +132,12 @@ pub data Drives (depth ticks : ℕ) (bytes : List ℕ) (streams : Streams) (endi
 
 -- these lines are written, or memory ran out before
 pub data RefusesOr (lines : List ℕ) (held held_after : Option (List ℕ)) (ending : Ending) : Type 0 where
-  starves : held_after ≡ held → ending ≡ endings.Fault faults.Memory → RefusesOr lines held held_after ending
+  starves : held_after ≡ held → ending ≡ starved → RefusesOr lines held held_after ending
   refuses : Refuses lines held held_after ending → RefusesOr lines held held_after ending
 
 -- a container is served to an end
 pub record IsServed {X : Type 0} {F : X → Type 0} {g : _} (c : Container X F g) (streams : Streams) (ending : Ending) : Type 0 where
   pub after : Container X F g
   pub result : Result (Unit {0}) ServeFault
-  pub served : Served 16777216 c after streams.unread streams.unread_after streams.held streams.held_after result
+  pub served : ServedBy 16777216 c after streams.unread streams.unread_after streams.held streams.held_after result
   pub is_ending : ending ≡ after_serving result after.halted

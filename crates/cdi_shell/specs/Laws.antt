@@ -1,14 +1,18 @@
 -- A run of the program is told by its limits, its deployment and its input.
-use Rattle.std.specs.Prelude.{◌≡◌, ℕ, Bool, List, Some}
+use Rattle.std.specs.Prelude.{◌≡◌, ℕ, Bool, IsTrue, List, Some, OnOk}
 use Rattle.cdi_base.specs.declared.reply.Cause.TheVariants as causes
+use Rattle.cdi_lines.specs.declared.fault.ServeFault.TheVariants as faults
+use Rattle.cdi_lines.specs.Served.{Blames}
 use Rattle.cdi_shell.specs.declared.ending.Ending.{Ending}
 use Rattle.cdi_shell.specs.declared.ending.Ending.TheVariants as endings
 use Rattle.cdi_shell.specs.Drive.{Streams, Drives}
-use Rattle.cdi_shell.specs.Endings.{status_of, IsFaultOf, Heeds}
+use Rattle.cdi_shell.specs.Endings.{status_of, outcome_of}
 
 -- no read or write failed, and memory did not run out
 abbrev pub IsSettled : Ending → Type 0
-IsSettled (endings.Fault _) = ⊥
+IsSettled (endings.Fault faults.TooLong (Some causes.Memory)) = ⊥
+IsSettled (endings.Fault faults.TooLong _) = Unit {0}
+IsSettled (endings.Fault _ _) = ⊥
 IsSettled (endings.Halted causes.Memory) = ⊥
 IsSettled _ = Unit {0}
 
@@ -26,11 +30,11 @@ OneOutput =
 
 -- The program is run, and exits with this status. Where it was not disturbed, what it wrote and how it ended is what
 -- every such run writes, and how it ends.
-pub record DrivesOnce (depth ticks : ℕ) (bytes : List ℕ) (streams : Streams) (read_failed read_fails write_failed write_fails : Bool) (status : ℕ) : Type 0 where
+pub record DrivesOnce (depth ticks : ℕ) (bytes : List ℕ) (streams : Streams) (source source_after sink sink_after is_passed_on : Bool) (status : ℕ) : Type 0 where
   pub ending : Ending
   pub is_status : status ≡ status_of ending
   pub drives : Drives depth ticks bytes streams ending
-  pub failed : IsFaultOf ending read_fails write_fails
-  pub heeded : Heeds ending read_failed read_fails write_failed write_fails
+  pub blames : Blames (outcome_of ending) source source_after sink sink_after
+  pub passed_on : OnOk (outcome_of ending) (IsTrue is_passed_on)
   pub only : (input held : List ℕ) (s : Streams) (e : Ending) → IsSettled ending → IsSettled e → streams.unread ≡ Some input → s.unread ≡ Some input → streams.held ≡ Some held → s.held ≡ Some held
       → Drives depth ticks bytes s e → SameOutput streams s ending e

@@ -210,6 +210,15 @@ impl Container {
         reply_of(valued, outcome)
     }
 
+    /// Refuses a command: all stays as it was, but for the trace, which is empty.
+    pub(crate) fn refuse(&mut self, refusal: Refusal) -> Reply
+        ensures responds { spec.Responds self.old.tables (legal_in self.old) (Unit {0}) (Request.Refused refusal) (state_of self.old) result (state_of self.new) }
+        ensures same { SameParts self.old self.new }
+    {
+        self.world.begin();
+        Reply::Refused(refusal)
+    }
+
     /// Carries a command out, or refuses it: the first refusal that holds, in the order of [`Refusal`]. A refused
     /// command leaves all as it was, but for the trace, which is empty. A command that is cut, for want of memory
     /// too, is answered as halted with the cause, and every later one is refused.
@@ -218,10 +227,7 @@ impl Container {
         ensures same { SameParts self.old self.new }
     {
         match self.asked(command) {
-            Request::Refused(refusal) => {
-                self.world.begin();
-                Reply::Refused(refusal)
-            }
+            Request::Refused(refusal) => self.refuse(refusal),
             Request::Runs(call) => self.run(alloc, call),
         }
     }

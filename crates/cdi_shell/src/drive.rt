@@ -1,5 +1,5 @@
 //! A run of the program, from the bytes of a deployment and of its input to the bytes of its output.
-ghost use Rattle.std.specs.Prelude.{◌≡◌, ◌≤◌, length, map, Bool, Ok, IfOk, IfErr, OnErr};
+ghost use Rattle.std.specs.Prelude.{◌≡◌, ◌≤◌, length, map, Bool, Ok, IfOk, IfErr, OnOk, OnErr, IsTrue};
 ghost use Rattle.cdi_bodies.specs.Table.{entries_of};
 ghost use Rattle.cdi_beans.specs.Build.{beans_of};
 ghost use Rattle.cdi_beans.specs.Check.{problems_of};
@@ -7,8 +7,8 @@ ghost use Rattle.cdi_plain.specs.Registered.{legal_of};
 ghost use Rattle.cdi_script.specs.Next.{next_of};
 ghost use Rattle.cdi_shell.specs.declared.drive.PrepareError.TheVariants as prepare_errors;
 ghost use Rattle.cdi_shell.specs.Drive as spec;
-ghost use Rattle.cdi_lines.specs.Ends.{reader_of, has_read_failed, writer_of, has_write_failed};
-ghost use Rattle.cdi_shell.specs.Endings.{IsFaultOf, Heeds};
+ghost use Rattle.cdi_lines.specs.Served.{Blames};
+ghost use Rattle.cdi_shell.specs.Endings.{outcome_of};
 ghost use Rattle.cdi_shell.specs.Laws.{DrivesOnce};
 ghost use Rattle.cdi_shell.specs.Prepared.{IsRefusal};
 ghost use Rattle.cdi_shell.specs.RefusalText.{problem_lines};
@@ -23,9 +23,8 @@ use cdi_base::{Act, Fields, Limits, Names, ReadError};
 use cdi_beans::problem::Problem;
 use cdi_bodies::{AddError, Bodies, Body, MAX_BODIES, View};
 use cdi_deploy::{Deployment, read};
-use cdi_lines::{Input, Output, ServeFault};
+use cdi_lines::{ServeFault, Sink, Source};
 use std::alloc::{AllocError, Global};
-use std::io::{Read, Write};
 
 /// A deployment with its scripts.
 #[derive(Drop)]
@@ -95,51 +94,67 @@ fn prepare(alloc: Global, bytes: &[u8]) -> Result<Prepared, PrepareError>
     }
 }
 
+/// Memory ran out where no container was served.
+const STARVED: Ending = Ending::Fault {
+    fault: ServeFault::Memory,
+    halted: None,
+};
+
+/// The lines of a refusal could not be written.
+const UNWRITTEN: Ending = Ending::Fault {
+    fault: ServeFault::Write,
+    halted: None,
+};
+
 /// Writes why a deployment is refused.
-fn refuse<W: Write>(lines: &[u8], output: &mut Output<W>) -> Ending
-    ensures refuses { spec.Refuses lines.now (W.contents (writer_of output.old)) (W.contents (writer_of output.new)) result }
-    ensures failed { (read_failed : Bool) → IsFaultOf result read_failed (has_write_failed output.new) }
-    ensures heeded { (read_failed : Bool) → Heeds result read_failed read_failed (has_write_failed output.old) (has_write_failed output.new) }
+fn refuse<W: Sink>(lines: &[u8], output: &mut W) -> Ending
+    ensures refuses { spec.Refuses lines.now (W.written output.old) (W.written output.new) result }
+    ensures passed_on { OnOk (outcome_of result) (IsTrue (W.is_passed_on output.new)) }
+    ensures blames { (source : Bool)
+        → Blames (outcome_of result) source source (W.has_failed output.old) (W.has_failed output.new) }
 {
     match output.write_through(lines) {
         Ok(()) => Ending::Refused,
-        Err(_) => Ending::Fault(ServeFault::Write),
+        Err(_) => UNWRITTEN,
     }
 }
 
 /// Writes the problems of a deployment.
-fn refuse_problems<W: Write>(
+fn refuse_problems<W: Sink>(
     alloc: Global,
     names: &Names,
     problems: &[Problem],
-    output: &mut Output<W>,
+    output: &mut W,
 ) -> Ending
-    ensures refuses { spec.RefusesOr (problem_lines names.now problems.now) (W.contents (writer_of output.old)) (W.contents (writer_of output.new)) result }
-    ensures failed { (read_failed : Bool) → IsFaultOf result read_failed (has_write_failed output.new) }
-    ensures heeded { (read_failed : Bool) → Heeds result read_failed read_failed (has_write_failed output.old) (has_write_failed output.new) }
+    ensures refuses { spec.RefusesOr (problem_lines names.now problems.now) (W.written output.old) (W.written output.new) result }
+    ensures passed_on { OnOk (outcome_of result) (IsTrue (W.is_passed_on output.new)) }
+    ensures blames { (source : Bool)
+        → Blames (outcome_of result) source source (W.has_failed output.old) (W.has_failed output.new) }
 {
     match write_problems(alloc, names, problems) {
         Ok(lines) => refuse(&lines, output),
-        Err(_) => Ending::Fault(ServeFault::Memory),
+        Err(_) => STARVED,
     }
 }
 
 /// Serves a container up to the end of the input.
-fn live<R: Read, W: Write>(
+fn live<R: Source, W: Sink>(
     alloc: Global,
     container: Container,
-    input: &mut Input<R>,
-    output: &mut Output<W>,
+    input: &mut R,
+    output: &mut W,
 ) -> Ending
     ensures served { spec.IsServed container
         (record {
-          unread = R.remaining (reader_of input.old);
-          unread_after = R.remaining (reader_of input.new);
-          held = W.contents (writer_of output.old);
-          held_after = W.contents (writer_of output.new);
+          unread = R.unread input.old;
+          unread_after = R.unread input.new;
+          held = W.written output.old;
+          held_after = W.written output.new;
         }) result }
-    ensures failed { IsFaultOf result (has_read_failed input.new) (has_write_failed output.new) }
-    ensures heeded { Heeds result (has_read_failed input.old) (has_read_failed input.new) (has_write_failed output.old) (has_write_failed output.new) }
+    ensures passed_on { OnOk (outcome_of result) (IsTrue (W.is_passed_on output.new)) }
+    ensures blames { Blames (outcome_of result)
+        (R.has_failed input.old) (R.has_failed input.new)
+        (W.has_failed output.old) (W.has_failed output.new) }
 {
     let mut container = container;
     let served = serve(alloc, input, output, &mut container);
@@ -147,24 +162,26 @@ fn live<R: Read, W: Write>(
 }
 
 /// Runs a deployment with its bodies.
-fn play<R: Read, W: Write>(
+fn play<R: Source, W: Sink>(
     alloc: Global,
     deployment: Deployment,
     bodies: Bodies,
     limits: Limits,
-    input: &mut Input<R>,
-    output: &mut Output<W>,
+    input: &mut R,
+    output: &mut W,
 ) -> Ending
     ensures plays { spec.Plays limits.depth limits.ticks deployment.names (problems_of deployment (entries_of bodies))
         (beans_of deployment.classes (entries_of bodies)) (map (λ class. class.name) deployment.classes) (legal_of (entries_of bodies))
         (record {
-          unread = R.remaining (reader_of input.old);
-          unread_after = R.remaining (reader_of input.new);
-          held = W.contents (writer_of output.old);
-          held_after = W.contents (writer_of output.new);
+          unread = R.unread input.old;
+          unread_after = R.unread input.new;
+          held = W.written output.old;
+          held_after = W.written output.new;
         }) result }
-    ensures failed { IsFaultOf result (has_read_failed input.new) (has_write_failed output.new) }
-    ensures heeded { Heeds result (has_read_failed input.old) (has_read_failed input.new) (has_write_failed output.old) (has_write_failed output.new) }
+    ensures passed_on { OnOk (outcome_of result) (IsTrue (W.is_passed_on output.new)) }
+    ensures blames { Blames (outcome_of result)
+        (R.has_failed input.old) (R.has_failed input.new)
+        (W.has_failed output.old) (W.has_failed output.new) }
 {
     match Container::boot(alloc, deployment, bodies, limits) {
         Ok(container) => live(alloc, container, input, output),
@@ -174,29 +191,31 @@ fn play<R: Read, W: Write>(
             problems.as_slice(),
             output,
         ),
-        Err(BootError::Memory) => Ending::Fault(ServeFault::Memory),
+        Err(BootError::Memory) => STARVED,
     }
 }
 
 /// Registers the scripts of a deployment as bodies, each under its name unless that is taken, and runs it.
-fn play_scripts<R: Read, W: Write>(
+fn play_scripts<R: Source, W: Sink>(
     alloc: Global,
     prepared: Prepared,
     limits: Limits,
-    input: &mut Input<R>,
-    output: &mut Output<W>,
+    input: &mut R,
+    output: &mut W,
 ) -> Result<Ending, AllocError>
     requires { length prepared.scripts.items ≤ MAX_BODIES }
     ensures plays { IfOk result (spec.PlaysScripts limits.depth limits.ticks prepared.deployment (registered prepared.scripts.items)
         (record {
-          unread = R.remaining (reader_of input.old);
-          unread_after = R.remaining (reader_of input.new);
-          held = W.contents (writer_of output.old);
-          held_after = W.contents (writer_of output.new);
+          unread = R.unread input.old;
+          unread_after = R.unread input.new;
+          held = W.written output.old;
+          held_after = W.written output.new;
         })) }
     ensures silent { OnErr result ((input.new ≡ input.old) × (output.new ≡ output.old)) }
-    ensures failed { IfOk result (λ ending. IsFaultOf ending (has_read_failed input.new) (has_write_failed output.new)) }
-    ensures heeded { IfOk result (λ ending. Heeds ending (has_read_failed input.old) (has_read_failed input.new) (has_write_failed output.old) (has_write_failed output.new)) }
+    ensures passed_on { IfOk result (λ ending. OnOk (outcome_of ending) (IsTrue (W.is_passed_on output.new))) }
+    ensures blames { IfOk result (λ ending. Blames (outcome_of ending)
+        (R.has_failed input.old) (R.has_failed input.new)
+        (W.has_failed output.old) (W.has_failed output.new)) }
 {
     let Prepared {
         deployment,
@@ -226,30 +245,32 @@ fn play_scripts<R: Read, W: Write>(
 }
 
 /// Runs the program on a deployment: gives how it ended.
-fn run<R: Read, W: Write>(
+fn run<R: Source, W: Sink>(
     alloc: Global,
     deployment: &[u8],
     limits: Limits,
-    input: &mut Input<R>,
-    output: &mut Output<W>,
+    input: &mut R,
+    output: &mut W,
 ) -> Ending
     ensures drives { spec.Drives limits.depth limits.ticks deployment.now
         (record {
-          unread = R.remaining (reader_of input.old);
-          unread_after = R.remaining (reader_of input.new);
-          held = W.contents (writer_of output.old);
-          held_after = W.contents (writer_of output.new);
+          unread = R.unread input.old;
+          unread_after = R.unread input.new;
+          held = W.written output.old;
+          held_after = W.written output.new;
         }) result }
-    ensures failed { IsFaultOf result (has_read_failed input.new) (has_write_failed output.new) }
-    ensures heeded { Heeds result (has_read_failed input.old) (has_read_failed input.new) (has_write_failed output.old) (has_write_failed output.new) }
+    ensures passed_on { OnOk (outcome_of result) (IsTrue (W.is_passed_on output.new)) }
+    ensures blames { Blames (outcome_of result)
+        (R.has_failed input.old) (R.has_failed input.new)
+        (W.has_failed output.old) (W.has_failed output.new) }
 {
     match prepare(alloc, deployment) {
         Ok(prepared) => match play_scripts(alloc, prepared, limits, input, output) {
             Ok(ending) => ending,
-            Err(_) => Ending::Fault(ServeFault::Memory),
+            Err(_) => STARVED,
         },
         Err(PrepareError::Refused(lines)) => refuse(&lines, output),
-        Err(PrepareError::Memory) => Ending::Fault(ServeFault::Memory),
+        Err(PrepareError::Memory) => STARVED,
     }
 }
 
@@ -259,23 +280,25 @@ fn run<R: Read, W: Write>(
 /// a line. Otherwise the scripts are the bodies, the container is started and its command lines are answered, as
 /// [`serve`] does: the lines that stand written are those of a run of the machine for the lines that were read, in which
 /// each body does what its script does next. Where no read or write fails and memory does not run out, they are a
-/// function of the limits, the deployment and the input. A read, a write or a flush that fails where none
-/// had failed before is never passed over: the status is then 3.
-pub fn drive<R: Read, W: Write>(
+/// function of the limits, the deployment and the input, also where that is too long. Before each read, and where the run
+/// ends without a fault, all that was written is passed on. The status is 3 where a read, a write or a flush failed, and
+/// none of these is told that didn't.
+pub fn drive<R: Source, W: Sink>(
     alloc: Global,
     deployment: &[u8],
     limits: Limits,
-    input: &mut Input<R>,
-    output: &mut Output<W>,
+    input: &mut R,
+    output: &mut W,
 ) -> u8
     ensures { DrivesOnce limits.depth limits.ticks deployment.now
         (record {
-          unread = R.remaining (reader_of input.old);
-          unread_after = R.remaining (reader_of input.new);
-          held = W.contents (writer_of output.old);
-          held_after = W.contents (writer_of output.new);
+          unread = R.unread input.old;
+          unread_after = R.unread input.new;
+          held = W.written output.old;
+          held_after = W.written output.new;
         })
-        (has_read_failed input.old) (has_read_failed input.new) (has_write_failed output.old) (has_write_failed output.new) result }
+        (R.has_failed input.old) (R.has_failed input.new)
+        (W.has_failed output.old) (W.has_failed output.new) (W.is_passed_on output.new) result }
 {
     run(alloc, deployment, limits, input, output).status()
 }

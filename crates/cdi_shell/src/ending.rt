@@ -12,8 +12,12 @@ pub enum Ending {
     Fine,
     /// The deployment is refused: its first fault is written, or its problems.
     Refused,
-    /// Reading or writing failed, or memory ran out outside of a command.
-    Fault(ServeFault),
+    /// Reading or writing failed, the input was too long, or memory ran out outside of a command; and a command may have
+    /// been cut before, so that the container has halted.
+    Fault {
+        fault: ServeFault,
+        halted: Option<Cause>,
+    },
     /// All lines are answered, and a command was cut: the container has halted.
     Halted(Cause),
 }
@@ -26,7 +30,7 @@ impl Ending {
         match self {
             Ending::Fine => 0,
             Ending::Refused => 1,
-            Ending::Fault(_) => 3,
+            Ending::Fault { .. } => 3,
             Ending::Halted(_) => 4,
         }
     }
@@ -37,7 +41,7 @@ pub(crate) fn after_serving(served: Result<(), ServeFault>, halted: Option<Cause
     ensures { result ≡ spec.after_serving served halted }
 {
     if let Err(fault) = served {
-        return Ending::Fault(fault);
+        return Ending::Fault { fault, halted };
     }
     match halted {
         Some(cause) => Ending::Halted(cause),

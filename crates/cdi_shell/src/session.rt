@@ -1,30 +1,30 @@
 //! A container that answers the lines of an input.
-ghost use Rattle.std.specs.Prelude.{◌≡◌, IfOk, OnOk, OnErr};
-ghost use Rattle.cdi_lines.specs.Ends.{reader_of, has_read_failed, writer_of, has_write_failed};
-ghost use Rattle.cdi_lines.specs.Served.{IsFaultOf};
-ghost use Rattle.cdi_shell.specs.Sessions.{Answers, Served};
+ghost use Rattle.std.specs.Prelude.{IfOk, IsTrue, OnOk};
+ghost use Rattle.cdi_lines.specs.Served.{Blames};
+ghost use Rattle.cdi_shell.specs.Sessions.{Answers, ServedBy};
 
 use crate::container::Container;
 use cdi_base::{ReadError, Refusal, Reply};
-use cdi_lines::{Input, MAX_INPUT, Output, Responder, ServeFault, serve_lines};
+use cdi_lines::{MAX_INPUT, Responder, ServeFault, Sink, Source, serve_lines};
 use cdi_text::{read_command, write_reply};
 use std::alloc::{AllocError, Global};
-use std::io::{Read, Write};
 
 impl Container {
+    ghost use Rattle.std.specs.Prelude.{◌≡◌, OnErr};
     ghost use Rattle.cdi_text.specs.Command.{command_in};
     ghost use Rattle.cdi_shell.specs.Containers.{state_of, legal_in, SameParts};
     ghost use Rattle.cdi_shell.specs.Sessions.{AnswersRead};
 
     /// The reply to a line. Where memory runs out for reading it, nothing changes.
     fn reply_to(&mut self, alloc: Global, line: &[u8]) -> Result<Reply, AllocError>
-        ensures answers { IfOk result (λ reply. AnswersRead self.old.tables self.old.classes (legal_in self.old) (Unit {0}) (command_in line.now) (state_of self.old) reply (state_of self.new)) }
+        ensures answers { IfOk result (λ reply. AnswersRead self.old.tables self.old.classes (legal_in self.old) (Unit {0})
+            (command_in line.now) (state_of self.old) reply (state_of self.new)) }
         ensures same { SameParts self.old self.new }
         ensures err { OnErr result (self.new ≡ self.old) }
     {
         match read_command(alloc, line) {
             Ok(command) => Ok(self.command(alloc, command)),
-            Err(ReadError::Fault(_)) => Ok(Reply::Refused(Refusal::BadLine)),
+            Err(ReadError::Fault(_)) => Ok(self.refuse(Refusal::BadLine)),
             Err(ReadError::Memory) => Err(AllocError),
         }
     }
@@ -42,22 +42,24 @@ impl Responder for Container {
 /// Writes the reply to the container's start, and then reads command lines and writes the reply to each, up to the end
 /// of the input.
 ///
-/// Whatever the result is, the lines that stand written are those of a run of the machine for the lines that were read,
-/// under acts that the registered bodies promise: all of them at `Ok`; where a read failed, or more than [`MAX_INPUT`]
-/// bytes came, those to the lines that were complete before; where memory ran out for a line or a reply, none, or whole
-/// lines in front; where a write failed, a front part of the whole. Want of memory within a command is no fault: the
-/// reply then says so, and the container has halted.
-pub fn serve<R: Read, W: Write>(
+/// Whatever the result is, the lines that stand written are those of a run of the machine for the whole lines that were
+/// read, under acts that the registered bodies promise: all of them at `Ok`; where a read failed, or more than
+/// [`MAX_INPUT`] bytes came, those to the lines that were complete before; where memory ran out for a line or a reply,
+/// none, or whole lines in front, and the container is as these commands left it, or as the next one did, whose reply
+/// is lost; where a write failed, a front part of the whole. Want of memory within a command is no fault: the reply then
+/// says so, and the container has halted.
+pub fn serve<R: Source, W: Sink>(
     alloc: Global,
-    input: &mut Input<R>,
-    output: &mut Output<W>,
+    input: &mut R,
+    output: &mut W,
     container: &mut Container,
 ) -> Result<(), ServeFault>
-    ensures served { Served MAX_INPUT container.old container.new
-        (R.remaining (reader_of input.old)) (R.remaining (reader_of input.new))
-        (W.contents (writer_of output.old)) (W.contents (writer_of output.new)) result }
-    ensures failed { IsFaultOf result (has_read_failed input.new) (has_write_failed output.new) }
-    ensures heeded { OnOk result ((has_read_failed input.new ≡ has_read_failed input.old) × (has_write_failed output.new ≡ has_write_failed output.old)) }
+    ensures served { ServedBy MAX_INPUT container.old container.new
+        (R.unread input.old) (R.unread input.new) (W.written output.old) (W.written output.new) result }
+    ensures passed_on { OnOk result (IsTrue (W.is_passed_on output.new)) }
+    ensures blames { Blames result
+        (R.has_failed input.old) (R.has_failed input.new)
+        (W.has_failed output.old) (W.has_failed output.new) }
 {
     let Ok(greeting) = write_reply(alloc, container.names(), container.boot_reply()) else {
         return Err(ServeFault::Memory);

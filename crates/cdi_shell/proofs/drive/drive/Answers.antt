@@ -7,7 +7,7 @@ returns g c =
       ending = c.run.result;
       is_status = c.status.ensures;
       drives = c.run.ensures.drives;
-      failed = c.run.ensures.failed;
-      heeded = c.run.ensures.heeded;
+      blames = c.run.ensures.blames;
+      passed_on = c.run.ensures.passed_on;
       only = λ input held s e settled settled' u u' h h' d. one_output c.args.limits.depth c.args.limits.ticks c.args.deployment.now input held _ s c.run.result e settled settled' u u' h h' c.run.ensures.drives d;
     }

@@ -8,7 +8,6 @@ use Rattle.cdi_script.proofs.Following.{nil_of}
 use Rattle.cdi_script.proofs.Within.{lies}
 use Rattle.cdi_shell.specs.declared.scripts.NamedScript.{NamedScript}
 use Rattle.cdi_shell.specs.Drive.{place_under}
-use Rattle.cdi_lines.specs.Ends.{reader_of, writer_of}
 use Rattle.cdi_shell.specs.Scripts.{added, registered}
 use Rattle.cdi_shell.proofs.Holding.{Holds, holds_add, same_length, same_place, add_known, add_new, not_full}
 use Rattle.cdi_shell.proofs.Scripted.{scripts_play}
@@ -57,5 +56,5 @@ returns-clause-plays g c =
     let found : inv.0 ≡ registered c.args.prepared.scripts.items = sym (ap (λ (t : List NamedScript). fold added inv.0 t) all) ∙ inv.2 in
     let holds = subst (λ (ss : List NamedScript). Holds (entries_of c.loop-named.bodies) ss) found inv.1 in
     scripts_play c.args.limits.depth c.args.limits.ticks c.args.prepared.deployment (entries_of c.loop-named.bodies) (registered c.args.prepared.scripts.items)
-    (record { unread = g.R.Read.remaining (reader_of c.args.input.now); unread_after = g.R.Read.remaining (reader_of c.play.new.input); held = g.W.Write.contents (writer_of c.args.output.now); held_after = g.W.Write.contents (writer_of c.play.new.output) })
+    (record { unread = g.R.Source.unread c.args.input.now; unread_after = g.R.Source.unread c.play.new.input; held = g.W.Sink.written c.args.output.now; held_after = g.W.Sink.written c.play.new.output })
     c.play.result holds c.play.ensures.plays
