@@ -126,7 +126,8 @@ pub(crate) fn part_at(kind: Kind, key: &str) -> Option<Part>
 
 /// The member of an object at a key.
 fn member<'v>(members: &'v Map<String, Json>, key: &str) -> Option<&'v Json>
-    ensures { option_map (λ v. view v.now) result ≡ get_member key.now (members_view members.now.entries) }
+    ensures { option_map (λ v. view v.now) result
+        ≡ get_member key.now (members_view members.now.entries) }
 {
     members.get(key)
 }

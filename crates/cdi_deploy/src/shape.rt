@@ -112,7 +112,8 @@ fn wrong_members(
     members: &Map<String, Value>,
     kind: Kind,
 ) -> Result<Option<Text>, AllocError>
-    ensures { IfOk result (λ place. place ≡ spec.wrong_members (members_view members.now.entries) kind) }
+    ensures { IfOk result
+        (λ place. place ≡ spec.wrong_members (members_view members.now.entries) kind) }
 {
     for (key, member) in members.iter() {
         let Some(part) = part_at(kind, key.as_str()) else {

@@ -6,6 +6,8 @@ mod command;
 #[cfg(test)]
 mod ends;
 #[cfg(test)]
+mod large;
+#[cfg(test)]
 mod reply;
 #[cfg(test)]
 mod serving;

@@ -5,5 +5,6 @@
 mod beans;
 #[cfg(test)]
 mod budgets;
+mod many_beans;
 #[cfg(test)]
 mod plain;

@@ -4,4 +4,6 @@
 #[cfg(test)]
 mod deploy;
 #[cfg(test)]
+mod large;
+#[cfg(test)]
 mod script;

@@ -47,7 +47,8 @@ fn named(names: &mut Names, text: &str) -> Result<Name, ReadError<ScriptFault>>
 }
 
 fn name_of(names: &mut Names, value: &Json) -> Result<Name, ReadError<ScriptFault>>
-    ensures gives { Gives (λ name. (name, names.new)) result (spec.name_of names.old (view value.now)) }
+    ensures gives { Gives (λ name. (name, names.new)) result
+        (spec.name_of names.old (view value.now)) }
     ensures kept { Extends names.old names.new }
 {
     match value {
@@ -87,7 +88,8 @@ fn pair_of(
     word: &Json,
     value: &Json,
 ) -> Result<Expression, ReadError<ScriptFault>>
-    ensures gives { Gives (λ x. (x, names.new)) result (spec.pair_of names.old (view word.now) (view value.now)) }
+    ensures gives { Gives (λ x. (x, names.new)) result
+        (spec.pair_of names.old (view word.now) (view value.now)) }
     ensures kept { Extends names.old names.new }
 {
     if is_word(word, "field") {
@@ -117,7 +119,8 @@ fn expression_of(
     names: &mut Names,
     value: &Json,
 ) -> Result<Expression, ReadError<ScriptFault>>
-    ensures gives { Gives (λ x. (x, names.new)) result (spec.expression_of names.old (view value.now)) }
+    ensures gives { Gives (λ x. (x, names.new)) result
+        (spec.expression_of names.old (view value.now)) }
     ensures kept { Extends names.old names.new }
 {
     match value {
@@ -173,7 +176,8 @@ pub(crate) fn each<T: Item>(
     names: &mut Names,
     items: &[Json],
 ) -> Result<Seq<T>, ReadError<ScriptFault>>
-    ensures gives { Gives (λ xs. (xs, names.new)) result (spec.each T.form names.old (items_view items.now)) }
+    ensures gives { Gives (λ xs. (xs, names.new)) result
+        (spec.each T.form names.old (items_view items.now)) }
     ensures kept { Extends names.old names.new }
     ensures count { IfOk result (λ xs. length xs ≡ length items.now) }
 {
@@ -209,7 +213,8 @@ fn set_of(
     first: &Json,
     second: &Json,
 ) -> Result<Step, ReadError<ScriptFault>>
-    ensures gives { Gives (λ x. (x, names.new)) result (spec.set_of names.old (view first.now) (view second.now)) }
+    ensures gives { Gives (λ x. (x, names.new)) result
+        (spec.set_of names.old (view first.now) (view second.now)) }
     ensures kept { Extends names.old names.new }
 {
     let field = name_of(names, first)?;
@@ -224,7 +229,8 @@ fn own_of(
     first: &Json,
     second: &Json,
 ) -> Result<Step, ReadError<ScriptFault>>
-    ensures gives { Gives (λ x. (x, names.new)) result (spec.own_of names.old (view first.now) (view second.now)) }
+    ensures gives { Gives (λ x. (x, names.new)) result
+        (spec.own_of names.old (view first.now) (view second.now)) }
     ensures kept { Extends names.old names.new }
 {
     let method = name_of(names, first)?;
@@ -249,7 +255,8 @@ fn step_of_three(
     first: &Json,
     second: &Json,
 ) -> Result<Step, ReadError<ScriptFault>>
-    ensures gives { Gives (λ x. (x, names.new)) result (spec.step_of_three names.old (view word.now) (view first.now) (view second.now)) }
+    ensures gives { Gives (λ x. (x, names.new)) result
+        (spec.step_of_three names.old (view word.now) (view first.now) (view second.now)) }
     ensures kept { Extends names.old names.new }
 {
     if is_word(word, "set") {
@@ -262,7 +269,8 @@ fn step_of_three(
 }
 
 fn step_in(alloc: Global, names: &mut Names, items: &[Json]) -> Result<Step, ReadError<ScriptFault>>
-    ensures gives { Gives (λ x. (x, names.new)) result (spec.step_in names.old (items_view items.now)) }
+    ensures gives { Gives (λ x. (x, names.new)) result
+        (spec.step_in names.old (items_view items.now)) }
     ensures kept { Extends names.old names.new }
 {
     match items {

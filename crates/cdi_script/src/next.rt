@@ -114,7 +114,8 @@ fn call_act(
     fields: &Fields,
     view: &View,
 ) -> Result<Act, AllocError>
-    ensures { IfOk result (λ act. act ≡ acts.Call via method (spec.values_of args.now fields.now view.now)) }
+    ensures { IfOk result
+        (λ act. act ≡ acts.Call via method (spec.values_of args.now fields.now view.now)) }
 {
     let args = values_of(alloc, args, fields, view)?;
     Ok(Act::Call { via, method, args })
@@ -127,7 +128,8 @@ fn own_act(
     fields: &Fields,
     view: &View,
 ) -> Result<Act, AllocError>
-    ensures { IfOk result (λ act. act ≡ acts.Own method (spec.values_of args.now fields.now view.now)) }
+    ensures { IfOk result
+        (λ act. act ≡ acts.Own method (spec.values_of args.now fields.now view.now)) }
 {
     let args = values_of(alloc, args, fields, view)?;
     Ok(Act::Own { method, args })
@@ -154,7 +156,8 @@ fn fire_act(
     fields: &Fields,
     view: &View,
 ) -> Result<Act, AllocError>
-    ensures { IfOk result (λ act. act ≡ acts.Fire class qualifiers.now (value_of value.now fields.now view.now)) }
+    ensures { IfOk result
+        (λ act. act ≡ acts.Fire class qualifiers.now (value_of value.now fields.now view.now)) }
 {
     Ok(Act::Fire {
         class,

@@ -47,7 +47,8 @@ fn steps_of(
     names: &mut Names,
     items: &[Json],
 ) -> Result<Seq<Step>, ReadError<ScriptFault>>
-    ensures gives { Gives (λ steps. (steps, names.new)) result (spec.steps_of names.old (items_view items.now)) }
+    ensures gives { Gives (λ steps. (steps, names.new)) result
+        (spec.steps_of names.old (items_view items.now)) }
     ensures within { IfOk result (λ steps. length steps ≤ MAX_STEPS) }
     ensures bad_step { are_steps (items_view items.now) ≡ false → IsFault result BadStep }
     ensures too_long { IsTrue (are_too_many (items_view items.now)) → IsFault result TooLong }
@@ -91,7 +92,8 @@ impl Script {
         value: &Json,
         names: &mut Names,
     ) -> Result<Script, ReadError<ScriptFault>>
-        ensures gives { Gives (λ script. (script, names.new)) result (spec.script_of names.old (view value.now)) }
+        ensures gives { Gives (λ script. (script, names.new)) result
+            (spec.script_of names.old (view value.now)) }
         ensures bad_step { has_steps (view value.now) ≡ false → IsFault result BadStep }
         ensures too_long { IsTrue (is_too_long (view value.now)) → IsFault result TooLong }
         ensures refused { is_script (view value.now) ≡ false → names.new ≡ names.old }
