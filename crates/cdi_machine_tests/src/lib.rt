@@ -5,6 +5,7 @@
 mod beans;
 #[cfg(test)]
 mod budgets;
+#[cfg(test)]
 mod many_beans;
 #[cfg(test)]
 mod plain;
