@@ -1,5 +1,10 @@
 -- The lines of bytes that come one part after another.
-use Rattle.std.proofs.Common.{◌≡◌, ◌≢◌, All, sym, ◌∙◌, append_assoc, append-nil, eqb-true, ℕ, ◌+◌, ◌<◌, ◌==◌, true, false, List, [], ◌∷◌, ◌++◌, length, drop, get_or, refl, ap, add-one, drop-cons, ne_eqb, if◌then◌else◌}
+use Rattle.std.proofs.Common.{◌≡◌, ◌≢◌, All, sym, ◌∙◌, append_assoc, append-nil, eqb-true, ℕ, zero, suc, ◌+◌, ◌<◌, ◌≤◌, ◌==◌, nat_lt, Bool, true, false, cond, Some, None, List, [], ◌∷◌, ◌++◌, length, take, drop, get_or, refl, ap, add-one, drop-cons, arith, if◌then◌else◌}
+use Rattle.std.specs.Prelude.{position}
+use Rattle.std.specs.List.{position_or_len}
+use Rattle.std.proofs.Math.Seq.{take-length, drop-length}
+use Rattle.std.proofs.lemmas.List.Quantifiers.{position-Some}
+use Rattle.std.proofs.lemmas.List.Sums.{fails_before_first}
 use Rattle.std.proofs.lemmas.Bool.{eqb-false}
 use Rattle.std.proofs.lemmas.List.Elements.{All-nil, All-cons, All-push, All-append}
 use Rattle.cdi_lines.specs.Lines.{ended_lines, begun_line, last_line, complete_lines, all_lines, with_line_feeds, IsOneLine}
@@ -29,28 +34,56 @@ pub complete_lines-append : (read piece : List ℕ)
     → complete_lines (read ++ piece) ≡ complete_lines read ++ ended_lines (begun_line [] read) piece
 complete_lines-append read piece = ended_lines-append [] read piece
 
--- a line feed at this place ends the line that has begun
-pub ended_lines-at_end : (begun piece : List ℕ) (i : ℕ) → i < length piece → get_or piece i 0 ≡ 10
-    → ended_lines begun (drop i piece) ≡ begun ∷ ended_lines [] (drop (i + 1) piece)
-ended_lines-at_end begun piece i within is =
-    rw (add-one, drop-cons piece i 0, is) refl
+record Skips (begun bytes : List ℕ) (n : ℕ) : Type 0 where
+  pub ended : ended_lines begun bytes ≡ ended_lines (begun ++ take n bytes) (drop n bytes)
+  pub goes_on : begun_line begun bytes ≡ begun_line (begun ++ take n bytes) (drop n bytes)
 
-pub begun_line-at_end : (begun piece : List ℕ) (i : ℕ) → i < length piece → get_or piece i 0 ≡ 10
-    → begun_line begun (drop i piece) ≡ begun_line [] (drop (i + 1) piece)
-begun_line-at_end begun piece i within is = rw (add-one, drop-cons piece i 0, is) refl
+-- bytes in front that are no line feeds are part of the line that has begun
+skips : (begun bytes : List ℕ) (n : ℕ) → n ≤ length bytes → ((k : ℕ) → k < n → (get_or bytes k 0 == 10) ≡ false) → Skips begun bytes n
+skips begun bytes zero fits none =
+    record {
+      ended = ap (λ (l : List ℕ). ended_lines l bytes) (sym (append-nil begun));
+      goes_on = ap (λ (l : List ℕ). begun_line l bytes) (sym (append-nil begun));
+    }
+skips begun [] (suc n) fits none = absurd (omega arith)
+skips begun (byte ∷ bytes) (suc n) fits none =
+    let no : (byte == 10) ≡ false = none 0 (omega arith) in
+    let later = skips (begun ++ byte ∷ []) bytes n (omega arith) (λ k below. none (suc k) (omega arith)) in
+    let same = append_assoc begun (byte ∷ []) (take n bytes) in
+    record {
+      ended = rw no (later.ended ∙ ap (λ (l : List ℕ). ended_lines l (drop n bytes)) same);
+      goes_on = rw no (later.goes_on ∙ ap (λ (l : List ℕ). begun_line l (drop n bytes)) same);
+    }
 
--- and any other byte is part of it
-pub ended_lines-at_more : (begun piece : List ℕ) (i : ℕ) → i < length piece → (get_or piece i 0 ≡ 10 → ⊥)
-    → ended_lines begun (drop i piece) ≡ ended_lines (begun ++ get_or piece i 0 ∷ []) (drop (i + 1) piece)
-ended_lines-at_more begun piece i within isnt =
-    let no : (get_or piece i 0 == 10) ≡ false = ne_eqb _ _ isnt in
-    rw (add-one, drop-cons piece i 0, no) refl
+-- the first line feed ends the line that has begun
+pub ended_lines-at_end : (begun bytes : List ℕ) (n : ℕ) → position (λ byte. byte == 10) bytes ≡ Some n
+    → ended_lines begun bytes ≡ (begun ++ take n bytes) ∷ ended_lines [] (drop (n + 1) bytes)
+ended_lines-at_end begun bytes n is =
+    let (within, at, before) = position-Some (λ byte. byte == 10) bytes n 0 is in
+    (skips begun bytes n (omega arith) before).ended ∙ rw (add-one, drop-cons bytes n 0, eqb-true _ _ at) refl
 
-pub begun_line-at_more : (begun piece : List ℕ) (i : ℕ) → i < length piece → (get_or piece i 0 ≡ 10 → ⊥)
-    → begun_line begun (drop i piece) ≡ begun_line (begun ++ get_or piece i 0 ∷ []) (drop (i + 1) piece)
-begun_line-at_more begun piece i within isnt =
-    let no : (get_or piece i 0 == 10) ≡ false = ne_eqb _ _ isnt in
-    rw (add-one, drop-cons piece i 0, no) refl
+pub begun_line-at_end : (begun bytes : List ℕ) (n : ℕ) → position (λ byte. byte == 10) bytes ≡ Some n
+    → begun_line begun bytes ≡ begun_line [] (drop (n + 1) bytes)
+begun_line-at_end begun bytes n is =
+    let (within, at, before) = position-Some (λ byte. byte == 10) bytes n 0 is in
+    (skips begun bytes n (omega arith) before).goes_on ∙ rw (add-one, drop-cons bytes n 0, eqb-true _ _ at) refl
+
+-- where there is none, no line ends
+none_before : (bytes : List ℕ) → position (λ byte. byte == 10) bytes ≡ None → (k : ℕ) → k < length bytes → (get_or bytes k 0 == 10) ≡ false
+none_before bytes is k below = fails_before_first (λ byte. byte == 10) bytes k 0 (by (nat_lt (position_or_len (λ byte. byte == 10) bytes) (length bytes)) refl is)
+  where
+    by : (b : Bool) → nat_lt (position_or_len (λ byte. byte == 10) bytes) (length bytes) ≡ b → cond b (Some (position_or_len (λ byte. byte == 10) bytes)) None ≡ None → k < position_or_len (λ byte. byte == 10) bytes
+    by true e is = absurd cc
+    by false e is = grind arith
+
+pub ended_lines-none : (begun bytes : List ℕ) → position (λ byte. byte == 10) bytes ≡ None → ended_lines begun bytes ≡ []
+ended_lines-none begun bytes is =
+    (skips begun bytes (length bytes) (omega arith) (none_before bytes is)).ended ∙ ap (λ (l : List ℕ). ended_lines (begun ++ take (length bytes) bytes) l) (drop-length bytes)
+
+pub begun_line-none : (begun bytes : List ℕ) → position (λ byte. byte == 10) bytes ≡ None → begun_line begun bytes ≡ begun ++ bytes
+begun_line-none begun bytes is =
+    (skips begun bytes (length bytes) (omega arith) (none_before bytes is)).goes_on
+    ∙ ap (λ (l : List ℕ). begun_line (begun ++ take (length bytes) bytes) l) (drop-length bytes) ∙ ap (λ (l : List ℕ). begun ++ l) (take-length bytes)
 
 pub last_line-some : (line : List ℕ) → (length line ≡ 0 → ⊥) → last_line line ≡ line ∷ []
 last_line-some [] isnt = absurd (isnt refl)

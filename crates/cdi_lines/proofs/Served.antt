@@ -111,7 +111,8 @@ module _ {S : Type 0} (answers : S → List ℕ → List ℕ → S → Type 0) w
         subst (λ (l : List (List ℕ)). Answered answers l s t (Err fault) (x.out ++ b)) (sym x.split) whole,
       )
 
-  -- where there is no memory for what goes on in the line that has begun, no reply is lost
-  pub midway_starves : (all later : List (List ℕ)) (s t : S) (u v : Option (List ℕ)) → Midway all later s t u v
-      → (out : List ℕ) × Appends u v out × StarvesWithin answers all s out t
-  midway_starves all later s t u v x = (x.out, x.written, (x.front, later, t, x.split, x.replied, inl refl))
+  -- where no line is left, all are answered
+  pub midway_ends : (all later : List (List ℕ)) (s t : S) (u v : Option (List ℕ)) → later ≡ [] → Midway all later s t u v
+      → (out : List ℕ) × Appends u v out × Replies answers all s out t
+  midway_ends all later s t u v none x =
+      (x.out, x.written, subst (λ (l : List (List ℕ)). Replies answers l s x.out t) (sym (x.split ∙ ap (λ (l : List (List ℕ)). x.front ++ l) none ∙ append-nil x.front)) x.replied)

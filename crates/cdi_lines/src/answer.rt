@@ -1,5 +1,5 @@
 //! Lines to their replies.
-ghost use Rattle.std.specs.Prelude.{◌≡◌, ◌∷◌, [], ℕ, Bool, List, IsTrue, OnOk};
+ghost use Rattle.std.specs.Prelude.{◌≡◌, ◌==◌, ◌∷◌, [], ℕ, Bool, List, position, IsTrue, OnOk};
 ghost use Rattle.std.specs.Io.KnownBytes.{Appends};
 ghost use Rattle.cdi_lines.specs.Lines.{ended_lines, begun_line, last_line};
 ghost use Rattle.cdi_lines.specs.Served.{Answered, Blames};
@@ -30,6 +30,13 @@ fn answer_line<W: Sink, A: Responder>(
     Ok(())
 }
 
+/// Where the first line ends.
+fn line_end(bytes: &[u8]) -> Option<usize>
+    ensures { result ≡ position (λ byte. byte == 10) bytes.now }
+{
+    bytes.iter().position(|byte| *byte == LINE_FEED)
+}
+
 /// Answers each line that ends in a piece of the input. The line that has begun before it stands in `line`, and
 /// afterwards the one that has begun in it does.
 pub(crate) fn answer_piece<W: Sink, A: Responder>(
@@ -46,14 +53,14 @@ pub(crate) fn answer_piece<W: Sink, A: Responder>(
     ensures blames { (source : Bool)
         → Blames result source source (W.has_failed output.old) (W.has_failed output.new) }
 {
-    for byte in piece {
-        if *byte == LINE_FEED {
-            answer_line(alloc, line, output, responder)?;
-            line.clear();
-        } else {
-            line.push(*byte)?;
-        }
+    let mut rest = piece;
+    while let Some(end) = line_end(rest) {
+        line.extend_from_slice(&rest[..end])?;
+        answer_line(alloc, line, output, responder)?;
+        line.clear();
+        rest = &rest[end + 1..];
     }
+    line.extend_from_slice(rest)?;
     Ok(())
 }
 
