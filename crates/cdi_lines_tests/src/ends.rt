@@ -1,5 +1,5 @@
-use crate::test_ends::{Room, Steps, Stuck};
-use cdi_lines::{Input, Output, ReadFailed, ServeFault, WriteFailed};
+use crate::test_ends::{Room, Steps, Stuck, Sunk};
+use cdi_lines::{Input, Output, ReadFailed, ServeFault, Sink, Source, WriteFailed};
 use std::io::BufWriter;
 use std::test::Fail;
 
@@ -9,13 +9,14 @@ fn an_input_remembers_that_it_failed(rt: HostRuntime) {
     for (fails, last) in [(false, Ok(0)), (true, Err(ReadFailed))] {
         let mut input = Input::new(Steps { bytes, step, fails });
         let mut buf = [0u8; 3];
-        assert_eq!(rt; input.read(&mut buf), Ok(2));
+        assert_eq!(rt; input.read(&mut buf, &Sunk), Ok(2));
         assert_eq!(rt; &buf, b"ab\0");
-        assert_eq!(rt; input.read(&mut buf), Ok(1));
+        assert_eq!(rt; input.read(&mut buf, &Sunk), Ok(1));
         assert_eq!(rt; &buf, b"cb\0");
         assert!(rt; !input.has_failed());
-        assert_eq!(rt; input.read(&mut buf), last);
+        assert_eq!(rt; input.read(&mut buf, &Sunk), last);
         assert_eq!(rt; input.has_failed(), fails);
+        assert_eq!(rt; input.read(&mut buf, &Sunk), last);
         assert_eq!(rt; input.into_inner().bytes.len(), 0);
     }
 }
@@ -37,7 +38,7 @@ fn an_output_writes_all_or_remembers(rt: HostRuntime) {
         });
         assert_eq!(rt; output.write(b"abc"), wanted, "at {left}");
         assert_eq!(rt; output.has_failed(), wanted.is_err(), "at {left}");
-        assert_eq!(rt; output.flush(), Ok(()));
+        assert_eq!(rt; output.flush(), wanted, "at {left}");
         assert_eq!(rt; output.into_inner().taken.as_slice(), written, "at {left}");
     }
 }
@@ -49,9 +50,9 @@ fn an_output_remembers_that_a_flush_failed(rt: HostRuntime) {
     assert_eq!(rt; output.write(b"a"), Ok(()));
     assert!(rt; !output.has_failed());
     assert_eq!(rt; output.flush(), Err(WriteFailed));
-    assert_eq!(rt; output.write(b"b"), Ok(()));
+    assert_eq!(rt; output.write(b"b"), Err(WriteFailed));
     assert!(rt; output.has_failed());
-    assert_eq!(rt; output.into_inner().taken.as_slice(), b"ab".as_slice());
+    assert_eq!(rt; output.into_inner().taken.as_slice(), b"a".as_slice());
 }
 
 /// A buffered writer holds bytes back until it is flushed.

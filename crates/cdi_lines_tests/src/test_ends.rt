@@ -1,5 +1,5 @@
 //! Readers, writers and responders for the tests.
-use cdi_lines::Responder;
+use cdi_lines::{Responder, Sink, WriteFailed};
 use std::alloc::{AllocError, Global};
 use std::io;
 use std::io::{ErrorKind, Read, Write};
@@ -64,6 +64,27 @@ impl Write for Stuck {
 
     fn flush(&mut self) -> io::Result<()> {
         Err(io::Error::from(ErrorKind::BrokenPipe))
+    }
+}
+
+/// Takes all, and holds nothing back.
+pub(crate) struct Sunk;
+
+impl Sink for Sunk {
+    ghost use Rattle.std.specs.Prelude.{None, false, true};
+
+    ghost written = { λ _. None };
+
+    ghost has_failed = { λ _. false };
+
+    ghost is_passed_on = { λ _. true };
+
+    fn write(&mut self, _bytes: &[u8]) -> Result<(), WriteFailed> {
+        Ok(())
+    }
+
+    fn flush(&mut self) -> Result<(), WriteFailed> {
+        Ok(())
     }
 }
 
