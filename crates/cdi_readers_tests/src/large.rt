@@ -125,9 +125,8 @@ fn deployment_text(alloc: Global, value: &str, bytes: usize) -> Result<String, F
         text.push_str(class.as_str())?;
     }
     text.push_str("]}")?;
-    while text.len() < bytes {
-        text.push(' ')?;
-    }
+    let blanks = " ".repeat(alloc, bytes.saturating_sub(text.len()))?;
+    text.push_str(blanks.as_str())?;
     Ok(text)
 }
 
