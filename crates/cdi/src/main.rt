@@ -7,10 +7,11 @@ ghost use Rattle.cdi.specs.Statuses as spec;
 mod options;
 
 use cdi_base::Limits;
-use cdi_lines::{Input, Output};
+use cdi_lines::{Input, Output, Sink};
 use cdi_shell::drive::drive;
 use clap::error::ErrorKind;
 use std::alloc::Global;
+use std::io::BufWriter;
 use std::process::ExitCode;
 use std::{env, fs, io};
 
@@ -27,7 +28,7 @@ fn run(rt: &HostRuntime, alloc: Global, file: &str) -> io::Result<u8> {
         }
     };
     let mut input = Input::new(rt.reader());
-    let mut output = Output::new(io::writer(rt));
+    let mut output = Output::new(BufWriter::new(alloc, io::writer(rt))?);
     let status = drive(
         alloc,
         &deployment,
@@ -36,6 +37,8 @@ fn run(rt: &HostRuntime, alloc: Global, file: &str) -> io::Result<u8> {
         &mut output,
     );
     if status == FAULT {
+        // A run without a fault has passed all on; after one, what is held back still goes out if it can.
+        let _ = output.flush();
         eprintln!(rt; "cdi: reading, writing or memory failed")?;
     }
     Ok(status)

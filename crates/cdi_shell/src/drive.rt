@@ -280,9 +280,9 @@ fn run<R: Source, W: Sink>(
 /// a line. Otherwise the scripts are the bodies, the container is started and its command lines are answered, as
 /// [`serve`] does: the lines that stand written are those of a run of the machine for the lines that were read, in which
 /// each body does what its script does next. Where no read or write fails and memory does not run out, they are a
-/// function of the limits, the deployment and the input, also where that is too long. Before each read, and where the run
-/// ends without a fault, all that was written is passed on. The status is 3 where a read, a write or a flush failed, and
-/// none of these is told that didn't.
+/// function of the limits, the deployment and the input, also where that is too long. All is passed on before each read,
+/// and where the run ends without a fault. A read, a write or a flush that fails is never passed over: the status is
+/// then 3.
 pub fn drive<R: Source, W: Sink>(
     alloc: Global,
     deployment: &[u8],

@@ -11,7 +11,8 @@ use cdi_deploy::Deployment;
 use cdi_plain::laws::law_accepted_serves;
 
 /// Where no read or write fails and memory does not run out, what the program writes is a function of its limits, of the
-/// bytes of the deployment and of the bytes of the input, and so is how it ends.
+/// bytes of the deployment and of the bytes of the input, and so is how it ends. That holds of an input that is too long,
+/// too.
 pub fn law_one_output()
     ensures { OneOutput }
 {}
