@@ -2,8 +2,8 @@
 use crate::checks::{expect_same, expect_text};
 use cdi_base::built_in::ALL;
 use cdi_base::{
-    Act, Answer, BuiltIn, Cause, Fields, InternError, Limits, MemberValue, Name, Names, ReadError, Refusal,
-    Seq, Text, Use, Value, Via, is_name,
+    Act, Answer, BuiltIn, Cause, Fields, InternError, Limits, MemberValue, Name, Names, ReadError,
+    Refusal, Seq, Text, Use, Value, Via, is_name,
 };
 use std::alloc::Global;
 use std::process::Abort;

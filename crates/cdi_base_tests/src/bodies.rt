@@ -5,8 +5,8 @@ ghost use Rattle.cdi_base.specs.declared.act.Act.TheVariants.{Give};
 ghost use Rattle.cdi_base.specs.declared.value.Value.TheVariants.{Null, Int, Text as AnyText};
 
 use crate::checks::expect_same;
-use cdi_bodies::{AddError, Bodies, Body, BodyId, Choice, Chooser, MAX_BODIES, Shape, View};
 use cdi_base::{Act, BuiltIn, Fields, Name, Names, Seq, Text, Value, is_name};
+use cdi_bodies::{AddError, Bodies, Body, BodyId, Choice, Chooser, MAX_BODIES, Shape, View};
 use std::alloc::{AllocError, Global};
 use std::process::Abort;
 use std::test::Fail;
@@ -154,7 +154,11 @@ fn holds_4096_bodies(rt: HostRuntime) -> Result<(), Fail> {
     for number in 0..4_100u32 {
         let name = numbered(&rt, rt.alloc(), &mut names, number)?;
         let added = add(rt.alloc(), &mut bodies, name, None)?;
-        let wanted = if number < 4_096 { Added::Well } else { Added::Full };
+        let wanted = if number < 4_096 {
+            Added::Well
+        } else {
+            Added::Full
+        };
         expect_same(&rt, &added, &wanted);
     }
     expect_same(&rt, &bodies.len(), &MAX_BODIES);

@@ -1,6 +1,6 @@
 //! Tests of reading command lines.
-use cdi_text::{BadLine, read_command};
 use cdi_base::{Command, ReadError, Seq, Text, Value};
+use cdi_text::{BadLine, read_command};
 use std::alloc::{AllocError, Global};
 use std::process::Abort;
 use std::test::Fail;
@@ -209,7 +209,7 @@ fn reads_a_call_without_values(rt: HostRuntime) -> Result<(), Fail> {
 /// Null, 7 and a text of two words.
 fn three_values(alloc: Global) -> Result<Vec<Value>, AllocError> {
     let words = Value::Text(Text::from_str(alloc, "two words")?);
-    Vec::from_array(alloc, [Value::Null, Value::Int(7), words])
+    Ok(Vec::from_array(alloc, [Value::Null, Value::Int(7), words])?)
 }
 
 #[test]

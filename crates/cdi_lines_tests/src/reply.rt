@@ -1,9 +1,9 @@
 //! Replies and places that were written by hand.
-use cdi_text::places::place_text;
-use cdi_text::write_reply;
 use cdi_base::{
     BuiltIn, Cause, InterceptorMethod, Names, Place, Refusal, Reply, Seq, Text, Value, is_name,
 };
+use cdi_text::places::place_text;
+use cdi_text::write_reply;
 use std::alloc::{AllocError, Global};
 use std::process::Abort;
 use std::str;

@@ -1,5 +1,5 @@
-use cdi_lines::serving::serve_up_to;
 use crate::test_ends::{Lengths, Mirror, Room, Steps, Stuck};
+use cdi_lines::serving::serve_up_to;
 use cdi_lines::{Input, Output, ServeFault, serve_lines};
 use std::alloc::Global;
 use std::io;

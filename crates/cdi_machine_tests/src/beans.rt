@@ -1,8 +1,8 @@
 //! Problems and tables of small deployments.
+use cdi_base::BuiltIn;
 use cdi_beans::build::build;
 use cdi_beans::check::{accepted_fits, problems};
 use cdi_beans::problem::ProblemKind;
-use cdi_base::BuiltIn;
 use cdi_bodies::Bodies;
 use cdi_deploy::read;
 use std::alloc::Global;

@@ -420,7 +420,8 @@ fn nests_127_deep_and_no_deeper(rt: HostRuntime) -> Result<(), Fail> {
     Ok(())
 }
 
-const COUNTER: &str = r#"{"classes":[{"name":"K","bean":{"scope":"ApplicationScoped"},"fields":[{"name":"n","value":0}],"members":[{"kind":"method","name":"up","body":"up"}]}],"scripts":[{"name":"up","steps":[["set","n",["add",["field","n"],1]],["give",["field","n"]]]}]}"#;
+const COUNTER: &str =
+    r#"{"classes":[{"name":"K","bean":{"scope":"ApplicationScoped"},"fields":[{"name":"n","value":0}],"members":[{"kind":"method","name":"up","body":"up"}]}],"scripts":[{"name":"up","steps":[["set","n",["add",["field","n"],1]],["give",["field","n"]]]}]}"#;
 
 /// Checks the class of the counter.
 fn check_class(rt: &impl Abort, names: &Names, class: &Class) -> Result<(), Fail> {
@@ -468,7 +469,8 @@ fn the_counter(rt: HostRuntime) -> Result<(), Fail> {
 }
 
 /// A bean with a field of each kind, and a class of a built-in name.
-const SPARSE: &str = r#"{"classes":[{"name":"K","bean":{},"fields":[{"name":"a"},{"name":"b","value":"?"},{"name":"c","value":-7}]},{"name":"Object","members":[{"kind":"method","name":"m","body":"a","args":8}]}]}"#;
+const SPARSE: &str =
+    r#"{"classes":[{"name":"K","bean":{},"fields":[{"name":"a"},{"name":"b","value":"?"},{"name":"c","value":-7}]},{"name":"Object","members":[{"kind":"method","name":"m","body":"a","args":8}]}]}"#;
 
 /// Checks the fields of the bean.
 fn check_bean(rt: &impl Abort, bean: &Class) -> Result<(), Fail> {

@@ -2,11 +2,9 @@
 ghost use Rattle.std.specs.Prelude.{◌≡◌, ◌<◌, IfOk, IfSome, length, slice_get};
 ghost use Rattle.cdi_script.specs.Next.{next_of};
 
-use cdi_script::ScriptFault;
-use cdi_script::{MAX_STEPS, Script};
-use cdi_script::{Action, Step};
 use cdi_base::{Act, Answer, BuiltIn, Fields, Name, Names, ReadError, Seq, Text, Value};
 use cdi_bodies::{AddError, Bodies, Body, View};
+use cdi_script::{Action, MAX_STEPS, Script, ScriptFault, Step};
 use serde_json::Value as Json;
 use std::alloc::{AllocError, AllocFailed, Global};
 use std::process::Abort;
@@ -392,7 +390,12 @@ fn throwing(alloc: Global, is_catch: bool) -> Result<Script, Fail> {
 }
 
 /// Checks what follows an exception.
-fn check_after_threw(rt: &impl Abort, alloc: Global, is_catch: bool, wanted: &Act) -> Result<(), Fail> {
+fn check_after_threw(
+    rt: &impl Abort,
+    alloc: Global,
+    is_catch: bool,
+    wanted: &Act,
+) -> Result<(), Fail> {
     let mut answers = Vec::new(alloc);
     answers.push(Answer::Threw {
         exception: BuiltIn::IllegalStateException.name(),

@@ -1,9 +1,9 @@
 //! A container that isn't started.
-use cdi_shell::{BootError, Container};
 use cdi_base::{Limits, ReadError};
 use cdi_beans::problem::ProblemKind;
 use cdi_bodies::Bodies;
 use cdi_deploy::{Deployment, read};
+use cdi_shell::{BootError, Container};
 use std::alloc::{AllocError, Global};
 use std::process::Abort;
 use std::test::Fail;

@@ -1,9 +1,9 @@
 //! Lines of refused deployments that were written by hand.
-use cdi_shell::refusal_text::{write_fault, write_problems, write_script_fault};
 use cdi_base::{Names, Place, Text, is_name};
 use cdi_beans::problem::{Problem, ProblemKind};
 use cdi_deploy::ReadFault;
 use cdi_script::ScriptFault;
+use cdi_shell::refusal_text::{write_fault, write_problems, write_script_fault};
 use std::alloc::Global;
 use std::process::Abort;
 use std::test::Fail;
