@@ -1,0 +1,43 @@
+-- What the words of the command line ask for.
+use Rattle.std.specs.Prelude.{◌≡◌, ℕ, true, List, [], ◌∷◌, Option, Some, option_and_then, unwrap_or, codes}
+use Rattle.clap.specs.Words.{App, Kinds, Row, Rule, Shape, Text, app_of, fault_of, first_of, new_app, new_rule, subcommand_of, with_rule, with_subcommand}
+use Rattle.clap.specs.declared.builder.action.ArgAction.TheVariants.{Set}
+use Rattle.clap.specs.declared.builder.command.Command.{Command}
+
+-- the file of the deployment, which has to be given
+abbrev pub file_rule : Rule
+file_rule = record (new_rule (codes "FILE")) { required = true; action = Some Set }
+
+-- `run FILE`
+abbrev pub run_form : App
+run_form = with_rule (new_app (codes "run")) file_rule
+
+-- `cdi`, of which one subcommand has to be given, and which tells its version
+abbrev pub bare_form : App
+bare_form = let app = new_app (codes "cdi") in record app { top = record app.top { subcommand_required = true; has_version = true } }
+
+-- the words that the program takes: `cdi run FILE`
+abbrev pub form : App
+form = with_subcommand bare_form run_form.top
+
+abbrev pub IsCommand : Command → Type 0
+IsCommand c = app_of c ≡ form
+
+-- what is asked for or wrong in the words: none where they are of the form
+abbrev pub faults_in : List Text → Kinds
+faults_in words = fault_of form words
+
+-- the file in the words of a subcommand
+abbrev pub file_of : Option (Text × List Row) → Option Text
+file_of = option_and_then (λ found. first_of (codes "FILE") found.1)
+
+-- the file that the words name
+abbrev pub file_in : List Text → Text
+file_in words = unwrap_or (file_of (subcommand_of form words)) []
+
+-- the words are of the form, name this file, and leave the limits at 32 levels and 100,000 entries
+pub record AsksFor (words : List Text) (file : Text) (depth ticks : ℕ) : Type 0 where
+  pub is_fit : faults_in words ≡ []
+  pub names : file ≡ file_in words
+  pub default_depth : depth ≡ 32
+  pub default_ticks : ticks ≡ 100000

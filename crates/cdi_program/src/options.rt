@@ -1,0 +1,58 @@
+//! The words of the command line.
+ghost use Rattle.std.specs.Prelude.{◌≡◌, map, option_map, IfOk, IfErr};
+ghost use Rattle.clap.specs.Words.{HasKind, subcommand_rows_of};
+ghost use Rattle.cdi_program.specs.Options as spec;
+
+use cdi_base::Limits;
+use clap::{Arg, ArgAction, ArgMatches, Command, Error};
+use std::alloc::{AllocError, Global};
+use std::convert::AsStr;
+
+/// What the words of the command line ask for.
+#[derive(Drop)]
+pub struct Options<'a> {
+    /// The file of the deployment to run.
+    pub file: &'a str,
+    /// How far each command may go.
+    pub limits: Limits,
+}
+
+fn command<'a>(alloc: Global) -> Result<Command<'a>, AllocError>
+    ensures { IfOk result (λ c. spec.IsCommand c) }
+{
+    let file = Arg::new(alloc, "FILE")
+        .help("The deployment, as JSON")
+        .required(true)
+        .action(ArgAction::Set);
+    let run = Command::new(alloc, "run")
+        .about("Runs a deployment on the command lines of the standard input")
+        .arg(file)?;
+    Command::new(alloc, "cdi")
+        .about("A container for Jakarta Contexts and Dependency Injection")
+        .version("0.1")
+        .subcommand_required(true)
+        .subcommand(run)
+}
+
+/// The file that the words of the one subcommand name.
+fn file_in<'a>(matches: &ArgMatches<'a>) -> Option<&'a str>
+    ensures { option_map (λ file. file.now) result ≡ spec.file_of (subcommand_rows_of matches.now) }
+{
+    let (_run, words) = matches.subcommand()?;
+    words.get_str("FILE")
+}
+
+impl<'a> Options<'a> {
+    /// What the words ask for, of which the first is the program's name. An error is a request for help or for the
+    /// version, a mistake in the words, or want of memory, and has the text for the user.
+    pub fn parse<S: AsStr>(alloc: Global, words: &'a [S]) -> Result<Options<'a>, Error>
+        ensures ok { IfOk result (λ o. spec.AsksFor (map S.text words.entry.now) o.file.now o.limits.depth o.limits.ticks) }
+        ensures err { IfErr result (HasKind (spec.faults_in (map S.text words.entry.now))) }
+    {
+        let matches = command(alloc)?.try_get_matches_from(words)?;
+        Ok(Options {
+            file: file_in(&matches).unwrap_or(""),
+            limits: Limits::default(),
+        })
+    }
+}
