@@ -6,7 +6,7 @@ use Rattle.cdi_lines.specs.Served.{Blames}
 use Rattle.cdi_shell.specs.declared.ending.Ending.{Ending}
 use Rattle.cdi_shell.specs.declared.ending.Ending.TheVariants as endings
 use Rattle.cdi_shell.specs.Drive.{Streams, Drives}
-use Rattle.cdi_shell.specs.Endings.{status_of, outcome_of}
+use Rattle.cdi_shell.specs.Endings.{outcome_of}
 
 -- no read or write failed, and memory did not run out
 abbrev pub IsSettled : Ending → Type 0
@@ -28,11 +28,9 @@ OneOutput =
     → s.unread ≡ Some input → s'.unread ≡ Some input → s.held ≡ Some held → s'.held ≡ Some held
     → Drives depth ticks bytes s e → Drives depth ticks bytes s' e' → SameOutput s s' e e'
 
--- The program is run, and exits with this status. Where it was not disturbed, what it wrote and how it ended is what
--- every such run writes, and how it ends.
-pub record DrivesOnce (depth ticks : ℕ) (bytes : List ℕ) (streams : Streams) (source source_after sink sink_after is_passed_on : Bool) (status : ℕ) : Type 0 where
-  pub ending : Ending
-  pub is_status : status ≡ status_of ending
+-- The program is run, and ends so. Where it was not disturbed, what it wrote and how it ended is what every such run
+-- writes, and how it ends.
+pub record DrivesOnce (depth ticks : ℕ) (bytes : List ℕ) (streams : Streams) (source source_after sink sink_after is_passed_on : Bool) (ending : Ending) : Type 0 where
   pub drives : Drives depth ticks bytes streams ending
   pub blames : Blames (outcome_of ending) source source_after sink sink_after
   pub passed_on : OnOk (outcome_of ending) (IsTrue is_passed_on)

@@ -274,22 +274,22 @@ fn run<R: Source, W: Sink>(
     }
 }
 
-/// Runs the program from the bytes of a deployment on, and gives its exit status, as [`Ending::status`] has it.
+/// Runs the program from the bytes of a deployment on, and gives how it ended.
 ///
 /// A refused deployment is told by its first fault, by the first of its scripts that is bad, or by its problems, each on
 /// a line. Otherwise the scripts are the bodies, the container is started and its command lines are answered, as
 /// [`serve`] does: the lines that stand written are those of a run of the machine for the lines that were read, in which
 /// each body does what its script does next. Where no read or write fails and memory does not run out, they are a
 /// function of the limits, the deployment and the input, also where that is too long. All is passed on before each read,
-/// and where the run ends without a fault. A read, a write or a flush that fails is never passed over: the status is
-/// then 3.
+/// and where the run ends without a fault. A read, a write or a flush that fails is never passed over: the run ends then
+/// with a fault, whose status is 3.
 pub fn drive<R: Source, W: Sink>(
     alloc: Global,
     deployment: &[u8],
     limits: Limits,
     input: &mut R,
     output: &mut W,
-) -> u8
+) -> Ending
     ensures { DrivesOnce limits.depth limits.ticks deployment.now
         (record {
           unread = R.unread input.old;
@@ -300,5 +300,5 @@ pub fn drive<R: Source, W: Sink>(
         (R.has_failed input.old) (R.has_failed input.new)
         (W.has_failed output.old) (W.has_failed output.new) (W.is_passed_on output.new) result }
 {
-    run(alloc, deployment, limits, input, output).status()
+    run(alloc, deployment, limits, input, output)
 }

@@ -4,8 +4,6 @@ use Rattle.cdi_shell.proofs.drive.drive.Goals as goal
 pub returns : goal.returns
 returns g c =
     record {
-      ending = c.run.result;
-      is_status = c.status.ensures;
       drives = c.run.ensures.drives;
       blames = c.run.ensures.blames;
       passed_on = c.run.ensures.passed_on;
