@@ -1,6 +1,14 @@
 //! The program below `main`: from the words of the command line to the exit status.
 #![tactic(auto)]
 
+pub mod files;
 pub mod options;
+pub mod program;
+pub mod status;
+mod telling;
+pub mod words;
 
+pub use files::{Files, HostFiles};
 pub use options::Options;
+pub use program::run_program;
+pub use words::{WordsError, host_words};

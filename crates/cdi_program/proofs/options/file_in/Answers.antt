@@ -2,7 +2,7 @@ use Rattle.std.proofs.Common.{◌∙◌}
 use Rattle.clap.specs.Words.{found_of}
 use Rattle.clap.specs.declared.parser.matches.ArgMatches.TheViews.{out-ArgMatches}
 use Rattle.clap.specs.Simple.{subcommand_rows}
-use Rattle.cdi_program.proofs.Words.{file_of_found}
+use Rattle.cdi_program.proofs.Found.{file_of_found}
 use Rattle.cdi_program.proofs.options.file_in.Goals as goal
 
 pub returns : goal.returns

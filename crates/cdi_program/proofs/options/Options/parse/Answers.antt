@@ -3,7 +3,7 @@ use Rattle.std.specs.Prelude.{unwrap_or}
 use Rattle.clap.specs.Words.{App, Text, app_of, fault_of, is_simple, subcommand_of, subcommand_rows_of}
 use Rattle.clap.specs.Faults.{is_simple_and_free}
 use Rattle.cdi_program.specs.Options as spec
-use Rattle.cdi_program.proofs.Words.{now_or_empty}
+use Rattle.cdi_program.proofs.Found.{now_or_empty}
 use Rattle.cdi_program.proofs.options.Options.parse.Goals as goal
 
 pub returns-clause-ok : goal.returns-clause-ok

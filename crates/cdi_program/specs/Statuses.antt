@@ -1,9 +1,15 @@
 -- The exit status where the words ask for nothing to run.
-use Rattle.std.specs.Prelude.{ℕ}
+use Rattle.std.specs.Prelude.{ℕ, Bool, true, false}
 use Rattle.clap.specs.declared.error.kind.ErrorKind.{ErrorKind}
 use Rattle.clap.specs.declared.error.kind.ErrorKind.TheVariants as kinds
 
--- 0 where they ask for help, and 2 where they are wrong; where memory ran out, that of a fault
+-- they ask for help or for the version
+abbrev pub is_shown : ErrorKind → Bool
+is_shown kinds.DisplayHelp = true
+is_shown kinds.DisplayVersion = true
+is_shown _ = false
+
+-- 0 where they ask for help or the version, and 2 where they are wrong; where memory ran out, that of a fault
 abbrev pub status_of : ErrorKind → ℕ
 status_of kinds.DisplayHelp = 0
 status_of kinds.DisplayVersion = 0

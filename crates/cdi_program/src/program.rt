@@ -1,0 +1,181 @@
+//! The program: from the words of the command line to the exit status.
+ghost use Rattle.std.specs.Prelude.{◌≡◌, map};
+ghost use Rattle.clap.specs.Words.{kind_of};
+ghost use Rattle.cdi_shell.specs.Endings.{outcome_of};
+ghost use Rattle.cdi_program.specs.Program as spec;
+
+use crate::files::Files;
+use crate::options::Options;
+use crate::status::{FAULT, is_shown, status_of};
+use crate::telling::{tell, tell_of_file};
+use crate::words::WordsError;
+use cdi_base::Limits;
+use cdi_lines::{ServeFault, Sink, Source};
+use cdi_shell::Ending;
+use cdi_shell::drive::drive;
+use clap::Error;
+use std::alloc::Global;
+use std::convert::AsStr;
+
+/// The most bytes that are read of a file: one more than a deployment has at most, so that a longer one is told as that.
+pub const MAX_READ: usize = 1_048_577;
+
+/// Writes what the words ask for, or tells what is wrong with them.
+fn answer_usage<R: Source, W: Sink, E: Sink>(
+    alloc: Global,
+    error: &Error,
+    input: &R,
+    output: &mut W,
+    errors: &mut E,
+) -> u8
+    ensures { spec.AnswersUsage (kind_of error.now)
+        (record {
+          unread = R.unread input.now;
+          unread_after = R.unread input.now;
+          held = W.written output.old;
+          held_after = W.written output.new;
+          source = R.has_failed input.now;
+          source_after = R.has_failed input.now;
+          sink = W.has_failed output.old;
+          sink_after = W.has_failed output.new;
+          is_passed_on = W.is_passed_on output.new;
+        }) result }
+{
+    let Ok(text) = error.to_string(alloc) else {
+        tell(alloc, errors, &ServeFault::Memory);
+        return FAULT;
+    };
+    if !is_shown(error.kind()) {
+        let _ = errors.write_through(text.as_bytes());
+        return status_of(error.kind());
+    }
+    match output.write_through(text.as_bytes()) {
+        Ok(()) => 0,
+        Err(_) => {
+            tell(alloc, errors, &ServeFault::Write);
+            FAULT
+        }
+    }
+}
+
+/// Tells the cause of a fault. A run without one has passed all on; after a fault, what is held back still goes out if it
+/// can.
+fn tell_ending<W: Sink, E: Sink>(alloc: Global, ending: Ending, output: &mut W, errors: &mut E)
+    ensures { spec.IsLeft (outcome_of ending)
+        (record {
+          held = W.written output.old;
+          has_failed = W.has_failed output.old;
+          is_passed_on = W.is_passed_on output.old;
+        })
+        (record {
+          held = W.written output.new;
+          has_failed = W.has_failed output.new;
+          is_passed_on = W.is_passed_on output.new;
+        }) }
+{
+    if let Ending::Fault { fault, .. } = ending {
+        let _ = output.flush();
+        tell(alloc, errors, &fault);
+    }
+}
+
+/// Runs a deployment.
+fn run_bytes<R: Source, W: Sink, E: Sink>(
+    alloc: Global,
+    bytes: &[u8],
+    limits: Limits,
+    input: &mut R,
+    output: &mut W,
+    errors: &mut E,
+) -> u8
+    requires { (limits.depth ≡ 32) × (limits.ticks ≡ 100000) }
+    ensures { spec.RunsBytes bytes.now
+        (record {
+          unread = R.unread input.old;
+          unread_after = R.unread input.new;
+          held = W.written output.old;
+          held_after = W.written output.new;
+          source = R.has_failed input.old;
+          source_after = R.has_failed input.new;
+          sink = W.has_failed output.old;
+          sink_after = W.has_failed output.new;
+          is_passed_on = W.is_passed_on output.new;
+        }) result }
+{
+    let ending = drive(alloc, bytes, limits, input, output);
+    tell_ending(alloc, ending, output, errors);
+    ending.status()
+}
+
+/// Runs what the words ask for.
+fn run_options<F: Files, R: Source, W: Sink, E: Sink>(
+    alloc: Global,
+    options: &Options<'_>,
+    files: &F,
+    input: &mut R,
+    output: &mut W,
+    errors: &mut E,
+) -> u8
+    requires { (options.now.limits.depth ≡ 32) × (options.now.limits.ticks ≡ 100000) }
+    ensures { spec.RunsFile (F.gives files.now) (F.refuses files.now) options.now.file.now
+        (record {
+          unread = R.unread input.old;
+          unread_after = R.unread input.new;
+          held = W.written output.old;
+          held_after = W.written output.new;
+          source = R.has_failed input.old;
+          source_after = R.has_failed input.new;
+          sink = W.has_failed output.old;
+          sink_after = W.has_failed output.new;
+          is_passed_on = W.is_passed_on output.new;
+        }) result }
+{
+    match files.front(alloc, options.file, MAX_READ) {
+        Ok(bytes) => run_bytes(alloc, &bytes, options.limits, input, output, errors),
+        Err(error) => {
+            tell_of_file(alloc, errors, options.file, &error);
+            FAULT
+        }
+    }
+}
+
+/// Runs the program, from what came of asking for its words to the exit status.
+///
+/// Words that ask for a run name the file of a deployment, which is read up to [`MAX_READ`] bytes and run as
+/// [`drive`] does, under the default limits. Then the status is that of how the run ended ([`Ending::status`]). Help and
+/// the version go to the output, with status 0. Wrong words are status 2, and a file that can't be read, and want of memory
+/// outside of a command, status 3: nothing is read or written then. Each status 2 and 3 has words on `errors` that name
+/// the cause, as far as these can be written.
+pub fn run_program<S: AsStr, F: Files, R: Source, W: Sink, E: Sink>(
+    alloc: Global,
+    words: Result<&[S], WordsError>,
+    files: &F,
+    input: &mut R,
+    output: &mut W,
+    errors: &mut E,
+) -> u8
+    ensures { spec.RunsProgram (F.gives files.now) (F.refuses files.now)
+        (spec.texts_of S.text words.entry)
+        (record {
+          unread = R.unread input.old;
+          unread_after = R.unread input.new;
+          held = W.written output.old;
+          held_after = W.written output.new;
+          source = R.has_failed input.old;
+          source_after = R.has_failed input.new;
+          sink = W.has_failed output.old;
+          sink_after = W.has_failed output.new;
+          is_passed_on = W.is_passed_on output.new;
+        }) result }
+{
+    match words {
+        Ok(words) => match Options::parse(alloc, words) {
+            Ok(options) => run_options(alloc, &options, files, input, output, errors),
+            Err(error) => answer_usage(alloc, &error, input, output, errors),
+        },
+        Err(error) => {
+            tell(alloc, errors, &error);
+            error.status()
+        }
+    }
+}

@@ -1,0 +1,30 @@
+//! The exit status where the words of the command line ask for nothing to run.
+ghost use Rattle.std.specs.Prelude.{◌≡◌};
+ghost use Rattle.cdi_program.specs.Statuses as spec;
+
+use clap::error::ErrorKind;
+
+/// The exit status where the words are wrong.
+pub const USAGE: u8 = 2;
+
+/// The exit status where reading, writing or memory failed outside of a command.
+pub const FAULT: u8 = 3;
+
+/// Whether the words ask for help or for the version.
+pub fn is_shown(kind: ErrorKind) -> bool
+    ensures { result ≡ spec.is_shown kind }
+{
+    matches!(kind, ErrorKind::DisplayHelp | ErrorKind::DisplayVersion)
+}
+
+/// The exit status where the words ask for nothing to run: 0 where they ask for help or the version, 2 where they are
+/// wrong, and that of a fault where memory ran out.
+pub fn status_of(kind: ErrorKind) -> u8
+    ensures { result ≡ spec.status_of kind }
+{
+    match kind {
+        ErrorKind::DisplayHelp | ErrorKind::DisplayVersion => 0,
+        ErrorKind::OutOfMemory => FAULT,
+        _ => USAGE,
+    }
+}
