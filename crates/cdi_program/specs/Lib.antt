@@ -1,3 +1,4 @@
 pub mod Options
 pub mod Program
 pub mod Statuses
+pub mod WorkedWords

@@ -2,6 +2,7 @@
 #![tactic(auto)]
 
 pub mod files;
+pub mod laws;
 pub mod options;
 pub mod program;
 pub mod status;

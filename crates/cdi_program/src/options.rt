@@ -17,6 +17,28 @@ pub struct Options<'a> {
     pub limits: Limits,
 }
 
+/// The version that `--version` tells.
+const VERSION: &str = "0.1.0";
+
+/// What stands below the list of subcommands in the help.
+const NOTES: &str = "\
+Example:
+  cdi run counter.json < commands
+
+  starts the deployment in counter.json, and answers that and each line of commands by a line:
+    [\"call\",null,\"K\",[],\"up\",[]]    answered by  [\"value\",1]
+    [\"shutdown\"]                    answered by  [\"done\"]
+
+Exit status:
+  0  each line is answered
+  1  the deployment is refused; the output says why
+  2  the words of the command line are wrong
+  3  a file can't be read, or reading, writing or memory failed
+  4  each line is answered, but a command was cut, and the container has halted
+
+docs/FORMS.md in the repository describes deployments, command lines and replies.";
+
+/// The words that the program takes.
 fn command<'a>(alloc: Global) -> Result<Command<'a>, AllocError>
     ensures { IfOk result (λ c. spec.IsCommand c) }
 {
@@ -29,7 +51,8 @@ fn command<'a>(alloc: Global) -> Result<Command<'a>, AllocError>
         .arg(file)?;
     Command::new(alloc, "cdi")
         .about("A container for Jakarta Contexts and Dependency Injection")
-        .version("0.1")
+        .version(VERSION)
+        .after_help(NOTES)
         .subcommand_required(true)
         .subcommand(run)
 }

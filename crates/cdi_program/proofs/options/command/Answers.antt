@@ -16,6 +16,7 @@ returns c =
     let bare_run : app_of c.about.result ≡ new_app (codes "run") = ap app_of_fields c.about.ensures ∙ c.new-2.ensures.app in
     let run_is : app_of c.in_ok-run.run' ≡ spec.run_form = c.in_ok-run.ensures.shape (search rules) ∙ ap₂ with_rule bare_run file_is in
     let bare_is : app_of c.subcommand_required.result ≡ spec.bare_form =
-    ap app_of_fields c.subcommand_required.ensures ∙ ap (λ (f : Command-F Command). app_of_fields (record f { subcommand_required = true })) (c.version.ensures)
+    ap app_of_fields c.subcommand_required.ensures ∙ ap (λ (f : Command-F Command). app_of_fields (record f { subcommand_required = true })) (c.after_help.ensures)
+    ∙ ap (λ (f : Command-F Command). app_of_fields (record f { subcommand_required = true })) c.version.ensures
     ∙ ap (λ (f : Command-F Command). told (app_of_fields f)) c.about-2.ensures ∙ ap told c.new-3.ensures.app in
     IfOk-weaker c.subcommand.result _ _ (λ app added. added.shape (search rules) ∙ ap₂ with_subcommand bare_is (ap (λ (a : App). a.top) run_is)) c.subcommand.ensures

@@ -1,0 +1,19 @@
+-- The worked words, computed.
+use Rattle.std.proofs.Common.{refl}
+use Rattle.clap.proofs.OnLiterals.{clap_on_literals}
+use Rattle.cdi_program.specs.WorkedWords.{WorkedWords}
+
+pub worked_words : WorkedWords
+unfolding clap_on_literals
+worked_words = record {
+  fit = refl;
+  file = refl;
+  behind_dashes = refl;
+  help = refl;
+  help_of_run = refl;
+  version = refl;
+  none = refl;
+  no_file = refl;
+  two_files = refl;
+  unknown = refl;
+}
