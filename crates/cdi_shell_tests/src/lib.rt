@@ -8,6 +8,8 @@ mod deep;
 #[cfg(test)]
 mod drive;
 #[cfg(test)]
+mod program;
+#[cfg(test)]
 mod refusal_text;
 #[cfg(test)]
 mod refused;

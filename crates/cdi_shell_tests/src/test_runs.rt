@@ -155,7 +155,7 @@ pub(crate) fn run<R: Read, W: Write>(
 ) -> Ran<R, W> {
     let mut input = Input::new(reader);
     let mut output = Output::new(writer);
-    let status = drive(alloc, deployment, limits, &mut input, &mut output);
+    let status = drive(alloc, deployment, limits, &mut input, &mut output).status();
     Ran {
         reader: input.into_inner(),
         writer: output.into_inner(),

@@ -1,0 +1,352 @@
+//! The program, from the words of its command line to its status, with all that it writes.
+use crate::test_runs::{COUNTED, COUNTER, COUNTS, DONE, ENDLESS};
+use cdi_lines::{Input, Output};
+use cdi_program::program::MAX_READ;
+use cdi_program::{Files, HostFiles, WordsError, run_program};
+use std::alloc::Global;
+use std::io::{ErrorKind, Read, Write};
+use std::process::Abort;
+use std::test::Fail;
+use std::{io, str};
+
+const RUN: [&str; 3] = ["cdi", "run", "k.json"];
+
+/// One file, under the name `k.json`.
+#[derive(Drop)]
+struct OneFile<'a> {
+    bytes: &'a [u8],
+}
+
+impl Files for OneFile<'_> {
+    ghost gives = { λ files path most bytes. Unit {0} };
+
+    ghost refuses = { λ files path. Unit {0} };
+
+    fn front(&self, alloc: Global, path: &str, most: usize) -> io::Result<Vec<u8>> {
+        if path != "k.json" {
+            return Err(io::Error::from(ErrorKind::NotFound));
+        }
+        let count = most.min(self.bytes.len());
+        let mut bytes = Vec::new(alloc);
+        bytes.extend_from_slice(&self.bytes[..count])?;
+        Ok(bytes)
+    }
+}
+
+/// How a run of the program ended, with what it wrote.
+#[derive(Drop)]
+struct Ran<W> {
+    status: u8,
+    writer: W,
+    errors: Vec<u8>,
+}
+
+fn run<R: Read + Drop, W: Write>(
+    alloc: Global,
+    words: Result<&[&str], WordsError>,
+    files: &impl Files,
+    reader: R,
+    writer: W,
+) -> Ran<W> {
+    let mut input = Input::new(reader);
+    let mut output = Output::new(writer);
+    let mut errors = Output::new(Vec::new(alloc));
+    let status = run_program(
+        alloc,
+        words,
+        files,
+        &mut input,
+        &mut output,
+        &mut errors,
+    );
+    Ran {
+        status,
+        writer: output.into_inner(),
+        errors: errors.into_inner(),
+    }
+}
+
+/// What a run has to come to: its status, and what it writes to the output and to standard error.
+#[derive(Clone, Copy, Drop)]
+struct Wanted<'a> {
+    status: u8,
+    output: &'a str,
+    errors: &'a str,
+}
+
+/// Ends the test unless the run came to what is wanted. A long text on standard error only has to begin as wanted.
+fn expect_ran(rt: &impl Abort, ran: &Ran<Vec<u8>>, wanted: &Wanted) {
+    let output = str::from_utf8(&ran.writer).unwrap_or("no text");
+    let errors = str::from_utf8(&ran.errors).unwrap_or("no text");
+    let is_same = ran.status == wanted.status
+        && output == wanted.output
+        && errors.starts_with(wanted.errors)
+        && errors.is_empty() == wanted.errors.is_empty();
+    let status = ran.status;
+    assert!(rt; is_same, "status {status}, output {output}, errors {errors}");
+}
+
+fn check(rt: &impl Abort, alloc: Global, words: &[&str], deployment: &str, wanted: &Wanted) {
+    let files = OneFile {
+        bytes: deployment.as_bytes(),
+    };
+    let ran = run(
+        alloc,
+        Ok(words),
+        &files,
+        COUNTED.as_bytes(),
+        Vec::new(alloc),
+    );
+    expect_ran(rt, &ran, wanted);
+}
+
+#[test]
+fn runs_the_file_that_the_words_name(rt: HostRuntime) {
+    for (deployment, status, output, errors) in [
+        (COUNTER, 0, COUNTS, ""),
+        (
+            r#"{"classes":[{"name":"K"},{"name":"K"}]}"#,
+            1,
+            "P1 DuplicateName K\n",
+            "",
+        ),
+        (
+            ENDLESS,
+            0,
+            "[\"done\"]\n[\"refused\",\"NoMethod\"]\n[\"refused\",\"NoMethod\"]\n[\"done\"]\n",
+            "",
+        ),
+    ] {
+        let wanted = Wanted {
+            status,
+            output,
+            errors,
+        };
+        check(&rt, rt.alloc(), &RUN, deployment, &wanted);
+    }
+}
+
+#[test]
+fn tells_what_is_wrong_with_the_words(rt: HostRuntime) {
+    for (words, errors) in [
+        (
+            ["cdi"].as_slice(),
+            "error: 'cdi' requires a subcommand but one was not provided\n",
+        ),
+        (
+            &["cdi", "walk"],
+            "error: unrecognized subcommand 'walk'\n",
+        ),
+        (
+            &["cdi", "run"],
+            "error: the following required arguments were not provided:\n  <FILE>\n",
+        ),
+        (
+            &["cdi", "run", "k.json", "k.json"],
+            "error: unexpected argument 'k.json' found\n",
+        ),
+        (
+            &["cdi", "run", "k.json", "--fast"],
+            "error: unexpected argument '--fast' found\n",
+        ),
+    ] {
+        let wanted = Wanted {
+            status: 2,
+            output: "",
+            errors,
+        };
+        check(&rt, rt.alloc(), words, COUNTER, &wanted);
+    }
+}
+
+#[test]
+fn tells_why_the_words_are_not_known(rt: HostRuntime) {
+    let alloc = rt.alloc();
+    let files = OneFile { bytes: b"" };
+    for (error, status, errors) in [
+        (
+            WordsError::NotText,
+            2,
+            "cdi: a word of the command line is not UTF-8\n",
+        ),
+        (WordsError::Memory, 3, "cdi: out of memory\n"),
+    ] {
+        let ran = run(
+            alloc,
+            Err(error),
+            &files,
+            COUNTED.as_bytes(),
+            Vec::new(alloc),
+        );
+        let wanted = Wanted {
+            status,
+            output: "",
+            errors,
+        };
+        expect_ran(&rt, &ran, &wanted);
+    }
+}
+
+#[test]
+fn shows_the_version(rt: HostRuntime) {
+    for words in [["cdi", "--version"], ["cdi", "-V"]] {
+        let wanted = Wanted {
+            status: 0,
+            output: "cdi 0.1.0\n",
+            errors: "",
+        };
+        check(&rt, rt.alloc(), &words, COUNTER, &wanted);
+    }
+}
+
+/// The parts of the help that a stranger looks for.
+#[test]
+fn shows_the_help(rt: HostRuntime) {
+    let alloc = rt.alloc();
+    let files = OneFile { bytes: b"" };
+    let words = ["cdi", "--help"];
+    let ran = run(alloc, Ok(&words), &files, b"".as_slice(), Vec::new(alloc));
+    let text = str::from_utf8(&ran.writer).unwrap_or("");
+    for part in [
+        "Usage: cdi <COMMAND>",
+        "cdi run counter.json < commands",
+        "Exit status:",
+        "docs/FORMS.md",
+    ] {
+        assert!(rt; ran.status == 0 && text.contains(part), "{part} in {text}");
+    }
+}
+
+#[test]
+fn tells_that_a_file_is_not_there(rt: HostRuntime) {
+    let wanted = Wanted {
+        status: 3,
+        output: "",
+        errors: "cdi: other.json: entity not found\n",
+    };
+    let words = ["cdi", "run", "other.json"];
+    check(&rt, rt.alloc(), &words, COUNTER, &wanted);
+}
+
+/// A container that was cut is told by the status alone.
+#[test]
+fn ends_halted(rt: HostRuntime) {
+    let alloc = rt.alloc();
+    let files = OneFile {
+        bytes: ENDLESS.as_bytes(),
+    };
+    let line = b"[\"call\",null,\"K\",[],\"a\",[]]";
+    let ran = run(alloc, Ok(&RUN), &files, line.as_slice(), Vec::new(alloc));
+    let wanted = Wanted {
+        status: 4,
+        output: "[\"done\"]\n[\"halted\",\"depth\"]\n",
+        errors: "",
+    };
+    expect_ran(&rt, &ran, &wanted);
+}
+
+/// Fails at each read.
+#[derive(Drop)]
+struct Broken;
+
+impl Read for Broken {
+    fn read(&mut self, _buf: &mut [u8]) -> io::Result<usize> {
+        Err(io::Error::from(ErrorKind::ConnectionReset))
+    }
+}
+
+#[test]
+fn tells_that_the_input_failed(rt: HostRuntime) {
+    let alloc = rt.alloc();
+    let files = OneFile {
+        bytes: COUNTER.as_bytes(),
+    };
+    let ran = run(alloc, Ok(&RUN), &files, Broken, Vec::new(alloc));
+    let wanted = Wanted {
+        status: 3,
+        output: DONE,
+        errors: "cdi: the input could not be read\n",
+    };
+    expect_ran(&rt, &ran, &wanted);
+    let reader = io::repeat(b' ').take(16_777_217);
+    let ran = run(alloc, Ok(&RUN), &files, reader, Vec::new(alloc));
+    let wanted = Wanted {
+        status: 3,
+        output: DONE,
+        errors: "cdi: the input is too long\n",
+    };
+    expect_ran(&rt, &ran, &wanted);
+}
+
+/// An output without room fails, whatever is written to it.
+#[test]
+fn tells_that_the_output_failed(rt: HostRuntime) {
+    let alloc = rt.alloc();
+    let files = OneFile {
+        bytes: COUNTER.as_bytes(),
+    };
+    let missing = OneFile { bytes: b"{" };
+    for (words, files) in [
+        (RUN.as_slice(), &files),
+        (&RUN, &missing),
+        (&["cdi", "--help"], &files),
+        (&["cdi", "--version"], &files),
+    ] {
+        let mut room = [0u8; 3];
+        let ran = run(
+            alloc,
+            Ok(words),
+            files,
+            COUNTED.as_bytes(),
+            room.as_mut_slice(),
+        );
+        let errors = str::from_utf8(&ran.errors);
+        let is_told = errors == Ok("cdi: the output could not be written\n");
+        assert!(rt; ran.status == 3 && is_told);
+    }
+}
+
+/// Spaces behind a deployment belong to it: at most 1,048,576 bytes are read as one.
+#[test]
+fn reads_a_file_up_to_its_limit(rt: HostRuntime) -> Result<(), Fail> {
+    let alloc = rt.alloc();
+    let mut long = Vec::new(alloc);
+    long.extend_from_slice(COUNTER.as_bytes())?;
+    long.resize(MAX_READ, b' ')?;
+    for (count, status, output) in [
+        (MAX_READ - 1, 0, COUNTS),
+        (MAX_READ, 1, "TooLong\n"),
+    ] {
+        let files = OneFile {
+            bytes: &long[..count],
+        };
+        let ran = run(
+            alloc,
+            Ok(&RUN),
+            &files,
+            COUNTED.as_bytes(),
+            Vec::new(alloc),
+        );
+        let wanted = Wanted {
+            status,
+            output,
+            errors: "",
+        };
+        expect_ran(&rt, &ran, &wanted);
+    }
+    Ok(())
+}
+
+fn front_of(rt: &HostRuntime, path: &str) -> io::Result<usize> {
+    Ok(HostFiles::new(rt).front(rt.alloc(), path, MAX_READ)?.len())
+}
+
+/// A file without an end is read up to the limit.
+#[test]
+fn reads_the_files_of_the_machine(rt: HostRuntime) {
+    let endless = front_of(&rt, "/dev/zero");
+    assert!(rt; matches!(endless, Ok(MAX_READ)));
+    let empty = front_of(&rt, "/dev/null");
+    assert!(rt; matches!(empty, Ok(0)));
+    assert!(rt; front_of(&rt, "/dev/nothing").is_err());
+}
