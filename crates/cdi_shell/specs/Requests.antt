@@ -41,7 +41,7 @@ addressed tables _ type method args = requests.Runs (calls.CallBean type method 
 abbrev pub called : Tables → List ℕ → ℕ → ℕ → List Value → Request
 called tables classes type method args = if is_type classes type then addressed tables (resolve tables type) type method args else requests.Refused refusals.UnknownName
 
--- no request is open; a command that isn't served is no command
+-- No request is open. Only commands that are served are asked for.
 abbrev pub requested : Tables → List ℕ → Command → Request
 requested tables classes (commands.Call (Some request) type qualifiers method args) = requests.Refused refusals.NoRequest
 requested tables classes (commands.Call None type [] method args) = called tables classes (number_of tables.names type) (number_of tables.names method) args

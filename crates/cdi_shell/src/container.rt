@@ -1,9 +1,10 @@
 //! The container: it carries out commands, one after the other.
-ghost use Rattle.std.specs.Prelude.{◌≡◌, ◌<◌, length, map, [], IfOk, IfErr};
+ghost use Rattle.std.specs.Prelude.{◌≡◌, ◌<◌, length, map, [], IfOk, IfErr, IsTrue};
 ghost use Rattle.cdi_bodies.specs.Table.{entries_of};
 ghost use Rattle.cdi_beans.specs.Beans.{KnowsEach};
 ghost use Rattle.cdi_plain.specs.Registered.{legal_of};
 ghost use Rattle.cdi_plain.specs.World.{begun};
+ghost use Rattle.cdi_text.specs.Command.{is_served};
 ghost use Rattle.cdi_shell.specs.Known.{knows_prop};
 ghost use Rattle.cdi_shell.specs.States as spec;
 ghost use Rattle.cdi_shell.specs.declared.container.BootError.TheVariants.{Memory};
@@ -188,6 +189,7 @@ impl Container {
 
     /// What a command asks of the machine.
     fn asked(&self, command: Command) -> Request
+        requires { IsTrue (is_served command) }
         ensures { result ≡ spec.asked self.now.tables self.now.classes (state_of self.now) command }
     {
         if self.halted.is_some() {
@@ -221,8 +223,10 @@ impl Container {
 
     /// Carries a command out, or refuses it: the first refusal that holds, in the order of [`Refusal`]. A refused
     /// command leaves all as it was, but for the trace, which is empty. A command that is cut, for want of memory
-    /// too, is answered as halted with the cause, and every later one is refused.
+    /// too, is answered as halted with the cause, and every later one is refused. The command has to be one that is
+    /// served, as what [`read_command`](cdi_text::read_command) gives is.
     pub fn command(&mut self, alloc: Global, command: Command) -> Reply
+        requires { IsTrue (is_served command) }
         ensures responds { spec.Responds self.old.tables (legal_in self.old) (Unit {0}) (spec.asked self.old.tables self.old.classes (state_of self.old) command) (state_of self.old) result (state_of self.new) }
         ensures same { SameParts self.old self.new }
     {

@@ -1,7 +1,8 @@
 //! What a command asks of the machine.
-ghost use Rattle.std.specs.Prelude.{◌≡◌, length, option_map};
+ghost use Rattle.std.specs.Prelude.{◌≡◌, length, option_map, IsTrue};
 ghost use Rattle.std.specs.List.{list_any};
 ghost use Rattle.cdi_shell.specs.Requests as spec;
+ghost use Rattle.cdi_text.specs.Command.{is_served};
 
 use cdi_base::{BuiltIn, Command, Name, Refusal, Seq, Text, Value};
 use cdi_beans::bean::{Code, Method, Resolution};
@@ -73,30 +74,27 @@ fn called(
 }
 
 /// What a command asks of the machine, or why it is refused: the first refusal that holds, in the order of
-/// [`Refusal`]. No request is ever open, and no event can be fired: a command that isn't served is refused as
-/// [`Refusal::BadLine`].
+/// [`Refusal`]. No request is ever open. The command has to be one that is served: no line is read as another.
 pub fn requested(tables: &Tables, classes: &[Name], command: Command) -> Request
+    requires { IsTrue (is_served command) }
     ensures { result ≡ spec.requested tables.now classes.now command }
 {
     match command {
         Command::Call {
             request,
             bean_type,
-            qualifiers,
             method,
             args,
+            ..
         } => {
             if request.is_some() {
                 return Request::Refused(Refusal::NoRequest);
-            }
-            if !qualifiers.is_empty() {
-                return Request::Refused(Refusal::BadLine);
             }
             let bean_type = tables.names.name_for(bean_type.as_str());
             let method = tables.names.name_for(method.as_str());
             called(tables, classes, bean_type, method, args)
         }
         Command::Shutdown => Request::Runs(Call::Shutdown),
-        _ => Request::Refused(Refusal::BadLine),
+        _ => unreachable!(),
     }
 }

@@ -51,14 +51,7 @@ fn run<R: Read + Drop, W: Write>(
     let mut input = Input::new(reader);
     let mut output = Output::new(writer);
     let mut errors = Output::new(Vec::new(alloc));
-    let status = run_program(
-        alloc,
-        words,
-        files,
-        &mut input,
-        &mut output,
-        &mut errors,
-    );
+    let status = run_program(alloc, words, files, &mut input, &mut output, &mut errors);
     Ran {
         status,
         writer: output.into_inner(),
@@ -83,7 +76,10 @@ fn expect_ran(rt: &impl Abort, ran: &Ran<Vec<u8>>, wanted: &Wanted) {
         && errors.starts_with(wanted.errors)
         && errors.is_empty() == wanted.errors.is_empty();
     let status = ran.status;
-    assert!(rt; is_same, "status {status}, output {output}, errors {errors}");
+    assert!(rt;
+        is_same,
+        "status {status}, output {output}, errors {errors}"
+    );
 }
 
 fn check(rt: &impl Abort, alloc: Global, words: &[&str], deployment: &str, wanted: &Wanted) {
@@ -133,10 +129,7 @@ fn tells_what_is_wrong_with_the_words(rt: HostRuntime) {
             ["cdi"].as_slice(),
             "error: 'cdi' requires a subcommand but one was not provided\n",
         ),
-        (
-            &["cdi", "walk"],
-            "error: unrecognized subcommand 'walk'\n",
-        ),
+        (&["cdi", "walk"], "error: unrecognized subcommand 'walk'\n"),
         (
             &["cdi", "run"],
             "error: the following required arguments were not provided:\n  <FILE>\n",
@@ -313,20 +306,11 @@ fn reads_a_file_up_to_its_limit(rt: HostRuntime) -> Result<(), Fail> {
     let mut long = Vec::new(alloc);
     long.extend_from_slice(COUNTER.as_bytes())?;
     long.resize(MAX_READ, b' ')?;
-    for (count, status, output) in [
-        (MAX_READ - 1, 0, COUNTS),
-        (MAX_READ, 1, "TooLong\n"),
-    ] {
+    for (count, status, output) in [(MAX_READ - 1, 0, COUNTS), (MAX_READ, 1, "TooLong\n")] {
         let files = OneFile {
             bytes: &long[..count],
         };
-        let ran = run(
-            alloc,
-            Ok(&RUN),
-            &files,
-            COUNTED.as_bytes(),
-            Vec::new(alloc),
-        );
+        let ran = run(alloc, Ok(&RUN), &files, COUNTED.as_bytes(), Vec::new(alloc));
         let wanted = Wanted {
             status,
             output,

@@ -1,5 +1,5 @@
 -- The command that a line is.
-use Rattle.std.specs.Prelude.{ℕ, List, [], ◌∷◌, codes, Option, Some, None, Result, Ok, Err, if◌then◌else◌}
+use Rattle.std.specs.Prelude.{ℕ, Bool, true, false, List, [], ◌∷◌, codes, Option, Some, None, Result, Ok, Err, if◌then◌else◌}
 use Rattle.cdi_base.specs.Name.{is_name}
 use Rattle.cdi_base.specs.Reading.{◌>>=◌}
 use Rattle.cdi_base.specs.declared.command.Command.{Command}
@@ -11,6 +11,12 @@ use Rattle.cdi_json.specs.Json.{is_word, json_in}
 use Rattle.serde_json.specs.Data.{Data, null, number, string, array, Items, no_items, item}
 use Rattle.serde_json.specs.Find.{as_i64}
 use Rattle.cdi_text.specs.declared.command.BadLine.{BadLine}
+
+-- a command that is served: a call without qualifiers, or the shutdown
+abbrev pub is_served : Command → Bool
+is_served (Call request type [] method args) = true
+is_served Shutdown = true
+is_served _ = false
 
 abbrev pub Reads : Type 0 → Type 0
 Reads X = Result X BadLine

@@ -1,5 +1,5 @@
 //! Reading a command line.
-ghost use Rattle.std.specs.Prelude.{◌≡◌, false, Err};
+ghost use Rattle.std.specs.Prelude.{◌≡◌, false, Err, IfOk, IsTrue};
 ghost use Rattle.std.specs.Str.{is_utf8};
 ghost use Rattle.cdi_base.specs.Reading.{Gives, IsFault};
 ghost use Rattle.serde_json.specs.View.{view, items_view};
@@ -172,6 +172,7 @@ fn command_of(alloc: Global, value: &Json) -> Result<Command, ReadError<BadLine>
 #[tactic(auto, unfolding(crate::specs::Command::command_in))]
 pub fn read_command(alloc: Global, line: &[u8]) -> Result<Command, ReadError<BadLine>>
     ensures gives { Gives (λ c. c) result (spec.command_in line.now) }
+    ensures served { IfOk result (λ c. IsTrue (spec.is_served c)) }
     ensures no_text { is_utf8 line.now ≡ false → IsFault result (record {}) }
 {
     let Some(value) = read_json(alloc, line)? else {
