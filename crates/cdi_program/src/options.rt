@@ -69,7 +69,8 @@ impl<'a> Options<'a> {
     /// What the words ask for, of which the first is the program's name. An error is a request for help or for the
     /// version, a mistake in the words, or want of memory, and has the text for the user.
     pub fn parse<S: AsStr>(alloc: Global, words: &'a [S]) -> Result<Options<'a>, Error>
-        ensures ok { IfOk result (λ o. spec.AsksFor (map S.text words.entry.now) o.file.now o.limits.depth o.limits.ticks) }
+        ensures ok { IfOk result (λ o. spec.AsksFor (map S.text words.entry.now) o.file.now
+            o.limits.depth o.limits.ticks) }
         ensures err { IfErr result (HasKind (spec.faults_in (map S.text words.entry.now))) }
     {
         let matches = command(alloc)?.try_get_matches_from(words)?;
