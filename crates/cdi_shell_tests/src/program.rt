@@ -271,31 +271,34 @@ fn tells_that_the_input_failed(rt: HostRuntime) {
     expect_ran(&rt, &ran, &wanted);
 }
 
-/// An output without room fails, whatever is written to it.
+/// Checks that a run is a fault where its output has room for three bytes, and that this is told.
+fn check_unwritten(rt: &impl Abort, alloc: Global, words: &[&str], deployment: &str) {
+    let files = OneFile {
+        bytes: deployment.as_bytes(),
+    };
+    let mut room = [0u8; 3];
+    let ran = run(
+        alloc,
+        Ok(words),
+        &files,
+        COUNTED.as_bytes(),
+        room.as_mut_slice(),
+    );
+    let errors = str::from_utf8(&ran.errors);
+    let is_told = errors == Ok("cdi: the output could not be written\n");
+    assert!(rt; ran.status == 3 && is_told, "for {deployment}");
+}
+
+/// The start's reply, a refusal, the help and the version.
 #[test]
 fn tells_that_the_output_failed(rt: HostRuntime) {
-    let alloc = rt.alloc();
-    let files = OneFile {
-        bytes: COUNTER.as_bytes(),
-    };
-    let missing = OneFile { bytes: b"{" };
-    for (words, files) in [
-        (RUN.as_slice(), &files),
-        (&RUN, &missing),
-        (&["cdi", "--help"], &files),
-        (&["cdi", "--version"], &files),
+    for (words, deployment) in [
+        (RUN.as_slice(), COUNTER),
+        (&RUN, "{"),
+        (&["cdi", "--help"], ""),
+        (&["cdi", "--version"], ""),
     ] {
-        let mut room = [0u8; 3];
-        let ran = run(
-            alloc,
-            Ok(words),
-            files,
-            COUNTED.as_bytes(),
-            room.as_mut_slice(),
-        );
-        let errors = str::from_utf8(&ran.errors);
-        let is_told = errors == Ok("cdi: the output could not be written\n");
-        assert!(rt; ran.status == 3 && is_told);
+        check_unwritten(&rt, rt.alloc(), words, deployment);
     }
 }
 
