@@ -111,7 +111,7 @@ fn script_part(key: &str) -> Option<Part>
 }
 
 /// What stands at a key of an object, or `None` where the key is not listed.
-pub(crate) fn part_at(kind: Kind, key: &str) -> Option<Part>
+pub fn part_at(kind: Kind, key: &str) -> Option<Part>
     ensures { result ≡ spec.part_at kind key.now }
 {
     match kind {
@@ -189,7 +189,7 @@ fn kind_word(members: &Map<String, Json>) -> Option<&str>
 }
 
 /// The kind of the object at a part, or `None` where no object may stand there, and where a member names no kind.
-pub(crate) fn kind_of(part: Part, members: &Map<String, Json>) -> Option<Kind>
+pub fn kind_of(part: Part, members: &Map<String, Json>) -> Option<Kind>
     ensures { result ≡ spec.kind_of part (members_view members.now.entries) }
 {
     match part {

@@ -160,7 +160,7 @@ impl Item for Script {
 
 /// The lists of a deployment of the right form.
 #[tactic(auto, unfolding(crate::specs::Items::lists_of))]
-pub(crate) fn lists_of(alloc: Global, value: &Json) -> Result<Deployment, ReadError<ReadFault>>
+pub fn lists_of(alloc: Global, value: &Json) -> Result<Deployment, ReadError<ReadFault>>
     ensures { Gives (λ d. d) result (spec.lists_of (view value.now)) }
 {
     let mut names = Names::with_built_in(alloc)?;

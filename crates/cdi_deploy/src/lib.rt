@@ -16,5 +16,6 @@ pub mod steps;
 
 pub use deployment::{Bean, Class, Deployment, Field, Member, Method, Scope, Script};
 pub use fault::ReadFault;
-pub use reading::read;
+pub use items::lists_of;
+pub use reading::{deployment_of, read};
 pub use steps::Steps;

@@ -23,8 +23,10 @@ pub const MAX_BYTES: usize = 1_048_576;
 /// What stands at the root.
 const ROOT: Part = Part::Object(Kind::Deployment);
 
+/// The deployment that a JSON value declares, or its first fault in the order of [`ReadFault`]. An error is
+/// [`ReadError::Memory`] where a growth was refused.
 #[tactic(auto, unfolding(crate::specs::Reading::deployment_of))]
-fn deployment_of(alloc: Global, value: &Json) -> Result<Deployment, ReadError<ReadFault>>
+pub fn deployment_of(alloc: Global, value: &Json) -> Result<Deployment, ReadError<ReadFault>>
     ensures { Gives (λ d. d) result (spec.deployment_of (view value.now)) }
 {
     if !numbers_fit(value) {

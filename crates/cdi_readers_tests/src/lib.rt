@@ -4,6 +4,8 @@
 #[cfg(test)]
 mod deploy;
 #[cfg(test)]
+mod hints;
+#[cfg(test)]
 mod large;
 #[cfg(test)]
 mod script;

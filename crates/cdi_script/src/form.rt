@@ -110,7 +110,8 @@ fn is_step_in(items: &[Json]) -> bool
     }
 }
 
-fn is_step(value: &Json) -> bool
+/// Whether a value is a step.
+pub fn is_step(value: &Json) -> bool
     ensures { result ≡ spec.is_step (view value.now) }
 {
     match value {
@@ -120,7 +121,7 @@ fn is_step(value: &Json) -> bool
 }
 
 /// Whether each of these values is a step.
-pub(crate) fn are_steps(items: &[Json]) -> bool
+pub fn are_steps(items: &[Json]) -> bool
     ensures { result ≡ spec.all_items spec.is_step (items_view items.now) }
 {
     for item in items {

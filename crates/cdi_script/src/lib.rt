@@ -13,5 +13,6 @@ pub mod value;
 
 pub use expression::Expression;
 pub use fault::ScriptFault;
+pub use form::{are_steps, is_step};
 pub use script::{MAX_STEPS, Script};
 pub use step::{Action, Step};

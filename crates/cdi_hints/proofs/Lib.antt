@@ -1,0 +1,4 @@
+pub mod Options
+pub mod Items
+pub mod BadNames
+pub mod LongLists

@@ -1,0 +1,7 @@
+use Rattle.cdi_hints.proofs.hint.HintDisplay.fmt.Goals as goal
+
+pub returns-in-List-clause-writes : goal.returns-in-List-clause-writes
+returns-in-List-clause-writes g c = rw (c.in-List.is, ← c.as_str-path.ensures) c.write-in-List.ensures.writes
+
+pub returns-in-Step-clause-writes : goal.returns-in-Step-clause-writes
+returns-in-Step-clause-writes g c = rw (c.in-Step.is, ← c.as_str-script.ensures) c.write-in-Step.ensures.writes

@@ -1,0 +1,32 @@
+//! Laws of the definitions that the contracts cite.
+ghost use Rattle.std.specs.Prelude.{◌≡◌, ◌↔◌, ℕ, List, None, Some, IsTrue, false};
+ghost use Rattle.cdi_base.specs.Name.{is_name};
+ghost use Rattle.serde_json.specs.Data.{Data, Items};
+ghost use Rattle.cdi_deploy.specs.declared.deployment.Deployment.{Deployment as AnyDeployment};
+ghost use Rattle.cdi_deploy.specs.declared.form.Part.{Part as AnyPart};
+ghost use Rattle.cdi_deploy.specs.Limits.{is_within};
+ghost use Rattle.cdi_deploy.specs.NamePlaces.{StandsAsName};
+ghost use Rattle.cdi_deploy.specs.Names.{names_fit};
+ghost use Rattle.cdi_script.specs.Form.{are_steps};
+ghost use Rattle.cdi_hints.specs.BadName.{first_bad_name};
+ghost use Rattle.cdi_hints.specs.BadStep.{bad_item_from};
+ghost use Rattle.cdi_hints.specs.LongList.{first_long_list};
+
+/// No bad name is found exactly where the names fit, as [`cdi_deploy::read`] tests it; and one that is found stands in
+/// the place of a name and is none.
+pub fn law_bad_name()
+    ensures none { (d : Data) (part : AnyPart) → (first_bad_name d part ≡ None)
+        ↔ IsTrue (names_fit d part) }
+    ensures some { (d : Data) (part : AnyPart) (s : List ℕ) → first_bad_name d part ≡ Some s
+        → StandsAsName s part d × (is_name s ≡ false) }
+{}
+
+/// No long list is found exactly where a deployment is within the limits, as [`cdi_deploy::read`] tests it.
+pub fn law_long_list()
+    ensures { (d : AnyDeployment) → (first_long_list d ≡ None) ↔ IsTrue (is_within d) }
+{}
+
+/// No item of an array is found to be no step exactly where all are steps.
+pub fn law_bad_step()
+    ensures { (items : Items) → (bad_item_from 0 items ≡ None) ↔ IsTrue (are_steps items) }
+{}

@@ -1,0 +1,13 @@
+//! Hints: what is wrong with a refused deployment, beyond the one line that tells its fault.
+#![tactic(auto)]
+
+pub mod hint;
+pub mod laws;
+mod lists;
+mod names;
+mod position;
+pub mod reading;
+mod steps;
+
+pub use hint::Hint;
+pub use reading::hint_for;
