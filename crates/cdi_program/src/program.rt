@@ -9,7 +9,7 @@ use crate::options::Options;
 use crate::status::{FAULT, is_shown, status_of};
 use crate::telling::{tell, tell_of_file};
 use crate::words::WordsError;
-use cdi_base::Limits;
+use cdi_hints::hint_for;
 use cdi_lines::{ServeFault, Sink, Source};
 use cdi_shell::Ending;
 use cdi_shell::drive::drive;
@@ -79,16 +79,26 @@ fn tell_ending<W: Sink, E: Sink>(alloc: Global, ending: Ending, output: &mut W, 
     }
 }
 
+/// Tells what is wrong with a refused deployment beyond what its line says, where there is more to say.
+fn tell_hint<E: Sink>(alloc: Global, ending: Ending, file: &str, bytes: &[u8], errors: &mut E) {
+    if ending != Ending::Refused {
+        return;
+    }
+    if let Ok(Some(hint)) = hint_for(alloc, bytes) {
+        tell_of_file(alloc, errors, file, &hint);
+    }
+}
+
 /// Runs a deployment.
 fn run_bytes<R: Source, W: Sink, E: Sink>(
     alloc: Global,
+    options: &Options<'_>,
     bytes: &[u8],
-    limits: Limits,
     input: &mut R,
     output: &mut W,
     errors: &mut E,
 ) -> u8
-    requires { (limits.depth ≡ 32) × (limits.ticks ≡ 100000) }
+    requires { (options.now.limits.depth ≡ 32) × (options.now.limits.ticks ≡ 100000) }
     ensures { spec.RunsBytes bytes.now
         (record {
           unread = R.unread input.old;
@@ -102,8 +112,9 @@ fn run_bytes<R: Source, W: Sink, E: Sink>(
           is_passed_on = W.is_passed_on output.new;
         }) result }
 {
-    let ending = drive(alloc, bytes, limits, input, output);
+    let ending = drive(alloc, bytes, options.limits, input, output);
     tell_ending(alloc, ending, output, errors);
+    tell_hint(alloc, ending, options.file, bytes, errors);
     ending.status()
 }
 
@@ -131,7 +142,7 @@ fn run_options<F: Files, R: Source, W: Sink, E: Sink>(
         }) result }
 {
     match files.front(alloc, options.file, MAX_READ) {
-        Ok(bytes) => run_bytes(alloc, &bytes, options.limits, input, output, errors),
+        Ok(bytes) => run_bytes(alloc, options, &bytes, input, output, errors),
         Err(error) => {
             tell_of_file(alloc, errors, options.file, &error);
             FAULT
@@ -145,7 +156,7 @@ fn run_options<F: Files, R: Source, W: Sink, E: Sink>(
 /// [`drive`] does, under the default limits. Then the status is that of how the run ended ([`Ending::status`]). Help and
 /// the version go to the output, with status 0. Wrong words are status 2, and a file that can't be read, and want of memory
 /// outside of a command, status 3: nothing is read or written then. Each status 2 and 3 has words on `errors` that name
-/// the cause, as far as these can be written.
+/// the cause, as far as these can be written, and a refused deployment may have a hint there.
 pub fn run_program<S: AsStr, F: Files, R: Source, W: Sink, E: Sink>(
     alloc: Global,
     words: Result<&[S], WordsError>,
