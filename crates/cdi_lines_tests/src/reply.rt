@@ -1,6 +1,8 @@
 //! Replies and places that were written by hand.
+use crate::checks::expect_same;
 use cdi_base::{
-    BuiltIn, Cause, InterceptorMethod, Names, Place, Refusal, Reply, Seq, Text, Value, is_name,
+    BuiltIn, Cause, InterceptorMethod, Name, Names, Place, Refusal, Reply, Seq, Text, Value,
+    is_name,
 };
 use cdi_text::places::place_text;
 use cdi_text::write_reply;
@@ -12,11 +14,17 @@ use std::test::Fail;
 /// The built-in names, a class, a member and an interceptor.
 fn table(rt: &impl Abort, alloc: Global) -> Result<Names, Fail> {
     let mut names = Names::with_built_in(alloc)?;
-    for text in ["K", "up", "Log_1.x$"] {
-        assert!(rt; is_name(text));
-        names.intern(text)?;
+    const TEXTS: &[&str] = &["K", "up", "Log_1.x$"];
+    for text in TEXTS {
+        add_name(rt, &mut names, text)?;
     }
     Ok(names)
+}
+
+fn add_name(rt: &impl Abort, names: &mut Names, text: &str) -> Result<(), Fail> {
+    assert!(rt; is_name(text));
+    names.intern(text)?;
+    Ok(())
 }
 
 /// Checks that a reply is written as this line.
@@ -28,14 +36,55 @@ fn check_reply(
     expected: &str,
 ) -> Result<(), AllocError> {
     let line = write_reply(alloc, names, reply)?;
-    assert_eq!(rt; str::from_utf8(&line), Ok(expected));
+    expect_same(rt, &str::from_utf8(&line), &Ok(expected));
     Ok(())
+}
+
+/// Checks that a reply without names is written as this line.
+fn check_nameless(
+    rt: &impl Abort,
+    alloc: Global,
+    reply: &Reply,
+    expected: &str,
+) -> Result<(), AllocError> {
+    check_reply(rt, alloc, &Names::new(alloc), reply, expected)
+}
+
+/// Checks that a value is written as this line.
+fn check_value(
+    rt: &impl Abort,
+    alloc: Global,
+    value: Value,
+    expected: &str,
+) -> Result<(), AllocError> {
+    check_nameless(rt, alloc, &Reply::Value(value), expected)
+}
+
+/// Checks that a text is written as this line.
+fn check_text(
+    rt: &impl Abort,
+    alloc: Global,
+    text: &str,
+    expected: &str,
+) -> Result<(), AllocError> {
+    let text = Text::from_str(alloc, text)?;
+    check_value(rt, alloc, Value::Text(text), expected)
+}
+
+/// Checks that numbers of live instances are written as this line.
+fn check_live(
+    rt: &impl Abort,
+    alloc: Global,
+    numbers: &[u32],
+    expected: &str,
+) -> Result<(), AllocError> {
+    let live = Seq::new(Vec::from_slice(alloc, numbers)?);
+    check_nameless(rt, alloc, &Reply::Live(live), expected)
 }
 
 #[test]
 fn writes_texts(rt: HostRuntime) -> Result<(), Fail> {
-    let names = Names::new(rt.alloc());
-    let rows = [
+    const ROWS: &[(&str, &str)] = &[
         ("", "[\"value\",\"\"]\n"),
         ("a b/c", "[\"value\",\"a b/c\"]\n"),
         ("say \"hi\"", "[\"value\",\"say \\\"hi\\\"\"]\n"),
@@ -44,17 +93,15 @@ fn writes_texts(rt: HostRuntime) -> Result<(), Fail> {
         ("\u{1}\u{1f}", "[\"value\",\"\\u0001\\u001f\"]\n"),
         ("é中😀\u{7f}", "[\"value\",\"é中😀\u{7f}\"]\n"),
     ];
-    for (text, expected) in rows {
-        let reply = Reply::Value(Value::Text(Text::from_str(rt.alloc(), text)?));
-        check_reply(&rt, rt.alloc(), &names, &reply, expected)?;
+    for &(text, expected) in ROWS {
+        check_text(&rt, rt.alloc(), text, expected)?;
     }
     Ok(())
 }
 
 #[test]
 fn writes_whole_numbers(rt: HostRuntime) -> Result<(), Fail> {
-    let names = Names::new(rt.alloc());
-    let rows = [
+    const ROWS: &[(i64, &str)] = &[
         (0, "[\"value\",0]\n"),
         (42, "[\"value\",42]\n"),
         (-1, "[\"value\",-1]\n"),
@@ -67,53 +114,72 @@ fn writes_whole_numbers(rt: HostRuntime) -> Result<(), Fail> {
             "[\"value\",-9223372036854775808]\n",
         ),
     ];
-    for (number, expected) in rows {
-        let reply = Reply::Value(Value::Int(number));
-        check_reply(&rt, rt.alloc(), &names, &reply, expected)?;
+    for &(number, expected) in ROWS {
+        check_value(&rt, rt.alloc(), Value::Int(number), expected)?;
     }
     Ok(())
 }
 
 #[test]
 fn writes_live_numbers(rt: HostRuntime) -> Result<(), Fail> {
-    let names = Names::new(rt.alloc());
-    let rows: [(&[u32], &str); 3] = [
+    const ROWS: &[(&[u32], &str)] = &[
         (&[], "[\"live\",[]]\n"),
         (&[1], "[\"live\",[1]]\n"),
         (&[1, 20, 4_294_967_295], "[\"live\",[1,20,4294967295]]\n"),
     ];
-    for (numbers, expected) in rows {
-        let live = Seq::new(Vec::from_slice(rt.alloc(), numbers)?);
-        check_reply(&rt, rt.alloc(), &names, &Reply::Live(live), expected)?;
+    for &(numbers, expected) in ROWS {
+        check_live(&rt, rt.alloc(), numbers, expected)?;
+    }
+    Ok(())
+}
+
+/// Checks that an exception is written as this line.
+fn check_exception(
+    rt: &impl Abort,
+    alloc: Global,
+    names: &Names,
+    class: Name,
+    expected: &str,
+) -> Result<(), AllocError> {
+    check_reply(rt, alloc, names, &Reply::Threw(class), expected)
+}
+
+#[test]
+fn writes_built_in_exceptions(rt: HostRuntime) -> Result<(), Fail> {
+    const ROWS: &[(BuiltIn, &str)] = &[
+        (
+            BuiltIn::CreationException,
+            "[\"threw\",\"CreationException\"]\n",
+        ),
+        (
+            BuiltIn::NullPointerException,
+            "[\"threw\",\"NullPointerException\"]\n",
+        ),
+    ];
+    let names = table(&rt, rt.alloc())?;
+    for &(class, expected) in ROWS {
+        check_exception(&rt, rt.alloc(), &names, class.name(), expected)?;
     }
     Ok(())
 }
 
 #[test]
 fn writes_exceptions(rt: HostRuntime) -> Result<(), Fail> {
-    let names = table(&rt, rt.alloc())?;
-    let rows = [
-        (
-            BuiltIn::CreationException.name(),
-            "[\"threw\",\"CreationException\"]\n",
-        ),
-        (
-            BuiltIn::NullPointerException.name(),
-            "[\"threw\",\"NullPointerException\"]\n",
-        ),
-        (names.name_for("Log_1.x$"), "[\"threw\",\"Log_1.x$\"]\n"),
-        (names.name_for("of no table"), "[\"threw\",\"\"]\n"),
+    const ROWS: &[(&str, &str)] = &[
+        ("Log_1.x$", "[\"threw\",\"Log_1.x$\"]\n"),
+        ("of no table", "[\"threw\",\"\"]\n"),
     ];
-    for (class, expected) in rows {
-        check_reply(&rt, rt.alloc(), &names, &Reply::Threw(class), expected)?;
+    let names = table(&rt, rt.alloc())?;
+    for &(class, expected) in ROWS {
+        let class = names.name_for(class);
+        check_exception(&rt, rt.alloc(), &names, class, expected)?;
     }
     Ok(())
 }
 
 #[test]
 fn writes_refusals(rt: HostRuntime) -> Result<(), Fail> {
-    let names = Names::new(rt.alloc());
-    let rows = [
+    const ROWS: &[(Refusal, &str)] = &[
         (Refusal::BadLine, "[\"refused\",\"BadLine\"]\n"),
         (Refusal::Halted, "[\"refused\",\"Halted\"]\n"),
         (Refusal::Down, "[\"refused\",\"Down\"]\n"),
@@ -134,25 +200,24 @@ fn writes_refusals(rt: HostRuntime) -> Result<(), Fail> {
         (Refusal::NoMethod, "[\"refused\",\"NoMethod\"]\n"),
         (Refusal::WrongCount, "[\"refused\",\"WrongCount\"]\n"),
     ];
-    for (refusal, expected) in rows {
-        check_reply(&rt, rt.alloc(), &names, &Reply::Refused(refusal), expected)?;
+    for &(refusal, expected) in ROWS {
+        check_nameless(&rt, rt.alloc(), &Reply::Refused(refusal), expected)?;
     }
     Ok(())
 }
 
 #[test]
 fn writes_other_replies(rt: HostRuntime) -> Result<(), Fail> {
-    let (alloc, names) = (rt.alloc(), Names::new(rt.alloc()));
-    let null = Reply::Value(Value::Null);
-    check_reply(&rt, alloc, &names, &null, "[\"value\",null]\n")?;
-    check_reply(&rt, alloc, &names, &Reply::Done, "[\"done\"]\n")?;
-    for (cause, expected) in [
+    check_value(&rt, rt.alloc(), Value::Null, "[\"value\",null]\n")?;
+    check_nameless(&rt, rt.alloc(), &Reply::Done, "[\"done\"]\n")?;
+    const ROWS: &[(Cause, &str)] = &[
         (Cause::Ticks, "[\"halted\",\"ticks\"]\n"),
         (Cause::Depth, "[\"halted\",\"depth\"]\n"),
         (Cause::Numbers, "[\"halted\",\"numbers\"]\n"),
         (Cause::Memory, "[\"halted\",\"memory\"]\n"),
-    ] {
-        check_reply(&rt, alloc, &names, &Reply::Halted(cause), expected)?;
+    ];
+    for &(cause, expected) in ROWS {
+        check_nameless(&rt, rt.alloc(), &Reply::Halted(cause), expected)?;
     }
     Ok(())
 }

@@ -1,228 +1,244 @@
+use crate::checks::{expect_bytes, expect_same};
 use crate::test_ends::{Lengths, Mirror, Room, Steps, Stuck};
 use cdi_lines::serving::serve_up_to;
 use cdi_lines::{Input, Output, ServeFault, serve_lines};
 use std::alloc::Global;
 use std::io;
 use std::io::{BufWriter, Read};
+use std::process::Abort;
 use std::test::Fail;
 
-/// Bytes, and what is written for them behind the greeting.
-const CASES: [(&[u8], &[u8]); 8] = [
-    (b"", b""),
-    (b"ab\ncd\n", b"ba\ndc\n"),
-    (b"ab\ncd", b"ba\ndc\n"),
-    (b"\n\n", b"\n\n"),
-    (b"a\n\nbc", b"a\n\ncb\n"),
-    (b"\n", b"\n"),
-    (b"ab\r\n", b"\rba\n"),
-    (b"a\x0bb\0\n\xff", b"\0b\x0ba\n\xff\n"),
+/// Bytes, and what is written for them behind the greeting, which is `hi`.
+const CASES: &[(&[u8], &[u8])] = &[
+    (b"", b"hi\n"),
+    (b"ab\ncd\n", b"hi\nba\ndc\n"),
+    (b"ab\ncd", b"hi\nba\ndc\n"),
+    (b"\n\n", b"hi\n\n\n"),
+    (b"a\n\nbc", b"hi\na\n\ncb\n"),
+    (b"\n", b"hi\n\n"),
+    (b"ab\r\n", b"hi\n\rba\n"),
+    (b"a\x0bb\0\n\xff", b"hi\n\0b\x0ba\n\xff\n"),
 ];
 
-fn greeted(alloc: Global, replies: &[u8]) -> Result<Vec<u8>, Fail> {
-    let mut text = Vec::from_slice(alloc, b"hi\n")?;
-    text.extend_from_slice(replies)?;
-    Ok(text)
+/// Checks how serving ended: of the input and the output only the one that is to blame has failed.
+fn check_end<R, W>(
+    rt: &impl Abort,
+    input: &Input<R>,
+    output: &Output<W>,
+    ended: Result<(), ServeFault>,
+    wanted: Result<(), ServeFault>,
+) {
+    expect_same(rt, &ended, &wanted);
+    expect_same(rt, &input.has_failed(), &(wanted == Err(ServeFault::Read)));
+    expect_same(
+        rt,
+        &output.has_failed(),
+        &(wanted == Err(ServeFault::Write)),
+    );
 }
 
-fn endless(taken: Vec<u8>, step: usize) -> Output<Room> {
-    Output::new(Room {
-        taken,
-        step,
-        left: usize::MAX,
-        fails: false,
-    })
+/// Serves bytes that come at once, to the end, and checks what is written.
+fn check_whole(rt: &impl Abort, alloc: Global, bytes: &[u8], written: &[u8]) {
+    let mut input = Input::new(bytes);
+    let mut output = Output::new(Vec::new(alloc));
+    let mut mirror = Mirror { left: 9 };
+    let result = serve_lines(alloc, b"hi\n", &mut input, &mut output, &mut mirror);
+    check_end(rt, &input, &output, result, Ok(()));
+    expect_same(rt, &input.into_inner().len(), &0);
+    expect_bytes(rt, output.into_inner().as_slice(), written);
 }
 
 #[test]
-fn answers_each_line(rt: HostRuntime) -> Result<(), Fail> {
-    let alloc = rt.alloc();
-    for (bytes, replies) in CASES {
-        let (mut input, mut output) = (Input::new(bytes), Output::new(Vec::new(alloc)));
-        let mut mirror = Mirror { left: 9 };
-        let result = serve_lines(alloc, b"hi\n", &mut input, &mut output, &mut mirror);
-        assert_eq!(rt; result, Ok(()), "at {bytes:?}");
-        assert!(rt; !input.has_failed() && !output.has_failed());
-        assert_eq!(rt; input.into_inner().len(), 0);
-        assert_eq!(rt;
-            output.into_inner().as_slice(),
-            greeted(alloc, replies)?.as_slice(),
-            "at {bytes:?}"
-        );
+fn answers_each_line(rt: HostRuntime) {
+    for &(bytes, written) in CASES {
+        check_whole(&rt, rt.alloc(), bytes, written);
     }
-    Ok(())
+}
+
+/// Serves what comes in steps, into a room, and checks how that ends and what is written.
+fn check_steps(
+    rt: &impl Abort,
+    alloc: Global,
+    steps: Steps,
+    room: Room,
+    wanted: Result<(), ServeFault>,
+    written: &[u8],
+) {
+    let mut input = Input::new(steps);
+    let mut output = Output::new(room);
+    let mut mirror = Mirror { left: 9 };
+    let result = serve_lines(alloc, b"hi\n", &mut input, &mut output, &mut mirror);
+    check_end(rt, &input, &output, result, wanted);
+    expect_bytes(rt, output.into_inner().taken.as_slice(), written);
 }
 
 #[test]
-fn answers_alike_in_small_steps(rt: HostRuntime) -> Result<(), Fail> {
-    let alloc = rt.alloc();
-    for (bytes, replies) in CASES {
+fn answers_alike_in_small_steps(rt: HostRuntime) {
+    let fails = false;
+    for &(bytes, written) in CASES {
         for step in 1..4 {
-            let fails = false;
-            let mut input = Input::new(Steps { bytes, step, fails });
-            let mut output = endless(Vec::new(alloc), step);
-            let mut mirror = Mirror { left: 9 };
-            let result = serve_lines(alloc, b"hi\n", &mut input, &mut output, &mut mirror);
-            assert_eq!(rt; result, Ok(()), "at {bytes:?}");
-            let taken = output.into_inner().taken;
-            assert_eq!(rt;
-                taken.as_slice(),
-                greeted(alloc, replies)?.as_slice(),
-                "at {bytes:?}"
-            );
+            let room = Room::new(rt.alloc(), step, usize::MAX, fails);
+            let steps = Steps { bytes, step, fails };
+            check_steps(&rt, rt.alloc(), steps, room, Ok(()), written);
         }
     }
-    Ok(())
+}
+
+/// Serves bytes, and checks how many lines they are.
+fn check_count(rt: &impl Abort, alloc: Global, bytes: &[u8], lines: u32) {
+    let (mut input, mut output) = (Input::new(bytes), Output::new(Vec::new(alloc)));
+    let mut mirror = Mirror { left: lines };
+    let result = serve_lines(alloc, b"", &mut input, &mut output, &mut mirror);
+    expect_same(rt, &result, &Ok(()));
+    expect_same(rt, &mirror.left, &0);
 }
 
 #[test]
 fn counts_the_lines(rt: HostRuntime) {
-    for (bytes, lines) in [
-        (b"".as_slice(), 0),
+    const ROWS: &[(&[u8], u32)] = &[
+        (b"", 0),
         (b"a", 1),
         (b"a\n", 1),
         (b"\n\n", 2),
         (b"\n\na", 3),
-    ] {
-        let (mut input, mut output) = (Input::new(bytes), Output::new(Vec::new(rt.alloc())));
-        let mut mirror = Mirror { left: 9 };
-        let result = serve_lines(rt.alloc(), b"", &mut input, &mut output, &mut mirror);
-        assert_eq!(rt; result, Ok(()), "at {bytes:?}");
-        assert_eq!(rt; mirror.left, 9 - lines, "at {bytes:?}");
+    ];
+    for &(bytes, lines) in ROWS {
+        check_count(&rt, rt.alloc(), bytes, lines);
     }
 }
 
 #[test]
-fn answers_what_came_before_a_read_failed(rt: HostRuntime) -> Result<(), Fail> {
-    let alloc = rt.alloc();
-    let cases = [
-        (b"".as_slice(), b"".as_slice()),
-        (b"ab", b""),
-        (b"ab\ncd", b"ba\n"),
-        (b"ab\ncd\n", b"ba\ndc\n"),
+fn answers_what_came_before_a_read_failed(rt: HostRuntime) {
+    const ROWS: &[(&[u8], &[u8])] = &[
+        (b"", b"hi\n"),
+        (b"ab", b"hi\n"),
+        (b"ab\ncd", b"hi\nba\n"),
+        (b"ab\ncd\n", b"hi\nba\ndc\n"),
     ];
-    for (bytes, replies) in cases {
+    for &(bytes, written) in ROWS {
         let (step, fails) = (3, true);
-        let mut input = Input::new(Steps { bytes, step, fails });
-        let mut output = endless(Vec::new(alloc), 9);
-        let mut mirror = Mirror { left: 9 };
-        let result = serve_lines(alloc, b"hi\n", &mut input, &mut output, &mut mirror);
-        assert_eq!(rt; result, Err(ServeFault::Read), "at {bytes:?}");
-        assert!(rt; input.has_failed() && !output.has_failed());
-        assert_eq!(rt;
-            output.into_inner().taken.as_slice(),
-            greeted(alloc, replies)?.as_slice(),
-            "at {bytes:?}"
-        );
+        let room = Room::new(rt.alloc(), 9, usize::MAX, false);
+        let steps = Steps { bytes, step, fails };
+        check_steps(&rt, rt.alloc(), steps, room, Err(ServeFault::Read), written);
     }
-    Ok(())
 }
 
-/// What a writer with so little room has taken.
-fn cut(rt: &impl std::process::Abort, alloc: Global, left: usize, fails: bool) -> Vec<u8> {
-    let mut input = Input::new(b"ab\ncd".as_slice());
-    let (taken, step) = (Vec::new(alloc), 2);
-    let mut output = Output::new(Room {
-        taken,
-        step,
-        left,
-        fails,
-    });
-    let mut mirror = Mirror { left: 9 };
-    let result = serve_lines(alloc, b"hi\n", &mut input, &mut output, &mut mirror);
-    assert_eq!(rt; result, Err(ServeFault::Write), "at {left}");
-    assert!(rt; output.has_failed() && !input.has_failed());
-    output.into_inner().taken
+/// Serves two lines into a room that takes these bytes alone.
+fn check_cut(rt: &impl Abort, alloc: Global, written: &[u8], fails: bool) {
+    let room = Room::new(alloc, 2, written.len(), fails);
+    let steps = Steps {
+        bytes: b"ab\ncd",
+        step: 9,
+        fails: false,
+    };
+    check_steps(rt, alloc, steps, room, Err(ServeFault::Write), written);
 }
 
 #[test]
 fn stops_where_the_writer_does(rt: HostRuntime) {
     let whole = b"hi\nba\ndc\n";
     for left in 0..9 {
-        assert_eq!(rt;
-            cut(&rt, rt.alloc(), left, false).as_slice(),
-            &whole[..left]
-        );
-        assert_eq!(rt; cut(&rt, rt.alloc(), left, true).as_slice(), &whole[..left]);
+        check_cut(&rt, rt.alloc(), &whole[..left], false);
+        check_cut(&rt, rt.alloc(), &whole[..left], true);
     }
 }
 
 #[test]
 fn stops_where_a_flush_fails(rt: HostRuntime) {
-    let taken = Vec::new(rt.alloc());
-    let (mut input, mut output) = (Input::new(b"ab\n".as_slice()), Output::new(Stuck { taken }));
+    let mut input = Input::new(b"ab\n".as_slice());
+    let mut output = Output::new(Stuck::new(rt.alloc()));
     let mut mirror = Mirror { left: 9 };
     let result = serve_lines(rt.alloc(), b"hi\n", &mut input, &mut output, &mut mirror);
-    assert_eq!(rt; result, Err(ServeFault::Write));
-    assert!(rt; output.has_failed() && !input.has_failed());
-    assert_eq!(rt; output.into_inner().taken.as_slice(), b"hi\n".as_slice());
+    check_end(&rt, &input, &output, result, Err(ServeFault::Write));
+    expect_bytes(&rt, output.into_inner().taken.as_slice(), b"hi\n");
 }
 
 #[test]
 fn stops_where_memory_does(rt: HostRuntime) {
-    let (mut input, mut output) = (
-        Input::new(b"ab\ncd\ne".as_slice()),
-        Output::new(Vec::new(rt.alloc())),
-    );
+    let mut input = Input::new(b"ab\ncd\ne".as_slice());
+    let mut output = Output::new(Vec::new(rt.alloc()));
     let mut mirror = Mirror { left: 1 };
     let result = serve_lines(rt.alloc(), b"", &mut input, &mut output, &mut mirror);
-    assert_eq!(rt; result, Err(ServeFault::Memory));
-    assert!(rt; !input.has_failed() && !output.has_failed());
-    assert_eq!(rt; output.into_inner().as_slice(), b"ba\n".as_slice());
+    check_end(&rt, &input, &output, result, Err(ServeFault::Memory));
+    expect_bytes(&rt, output.into_inner().as_slice(), b"ba\n");
+}
+
+/// Serves bytes of which four may be read, and checks how that ends and what is written.
+fn check_four(
+    rt: &impl Abort,
+    alloc: Global,
+    bytes: &[u8],
+    wanted: Result<(), ServeFault>,
+    written: &[u8],
+) {
+    let (step, fails) = (3, false);
+    let mut input = Input::new(Steps { bytes, step, fails });
+    let mut output = Output::new(Room::new(alloc, 9, usize::MAX, false));
+    let mut mirror = Mirror { left: 9 };
+    let result = serve_up_to(alloc, 4, b"", &mut input, &mut output, &mut mirror);
+    check_end(rt, &input, &output, result, wanted);
+    expect_bytes(rt, output.into_inner().taken.as_slice(), written);
 }
 
 #[test]
 fn reads_so_many_bytes_and_no_more(rt: HostRuntime) {
-    let cases = [
-        (b"abcd".as_slice(), Ok(()), b"dcba\n".as_slice()),
+    const ROWS: &[(&[u8], Result<(), ServeFault>, &[u8])] = &[
+        (b"abcd", Ok(()), b"dcba\n"),
         (b"ab\nc", Ok(()), b"ba\nc\n"),
         (b"abc\n", Ok(()), b"cba\n"),
         (b"abcde", Err(ServeFault::TooLong), b""),
         (b"abc\n\n", Err(ServeFault::TooLong), b"cba\n"),
         (b"a\nbcd\n", Err(ServeFault::TooLong), b"a\n"),
     ];
-    for (bytes, wanted, replies) in cases {
-        let (step, fails) = (3, false);
-        let mut input = Input::new(Steps { bytes, step, fails });
-        let mut output = endless(Vec::new(rt.alloc()), 9);
-        let mut mirror = Mirror { left: 9 };
-        let result = serve_up_to(rt.alloc(), 4, b"", &mut input, &mut output, &mut mirror);
-        assert_eq!(rt; result, wanted, "at {bytes:?}");
-        assert_eq!(rt;
-            output.into_inner().taken.as_slice(),
-            replies,
-            "at {bytes:?}"
-        );
+    for &(bytes, wanted, written) in ROWS {
+        check_four(&rt, rt.alloc(), bytes, wanted, written);
     }
+}
+
+/// Serves a line of so many bytes, and checks how that ends and how long the last line is that was answered.
+fn check_length(
+    rt: &impl Abort,
+    alloc: Global,
+    count: u64,
+    wanted: Result<(), ServeFault>,
+    last: usize,
+) {
+    let mut input = Input::new(io::repeat(b'a').take(count));
+    let mut output = Output::new(Vec::new(alloc));
+    let mut lengths = Lengths { last: 0 };
+    let result = serve_lines(alloc, b"", &mut input, &mut output, &mut lengths);
+    expect_same(rt, &result, &wanted);
+    expect_same(rt, &lengths.last, &last);
 }
 
 #[test]
 fn reads_sixteen_mebibytes_and_no_more(rt: HostRuntime) {
-    let cases = [
-        (16_777_216, Ok(()), 16_777_216),
-        (16_777_217, Err(ServeFault::TooLong), 0),
-    ];
-    for (count, wanted, last) in cases {
-        let mut input = Input::new(io::repeat(b'a').take(count));
-        let mut output = Output::new(Vec::new(rt.alloc()));
-        let mut lengths = Lengths { last: 0 };
-        let result = serve_lines(rt.alloc(), b"", &mut input, &mut output, &mut lengths);
-        assert_eq!(rt; result, wanted, "at {count}");
-        assert_eq!(rt; lengths.last, last, "at {count}");
-    }
+    let too_long = Err(ServeFault::TooLong);
+    check_length(&rt, rt.alloc(), 16_777_216, Ok(()), 16_777_216);
+    check_length(&rt, rt.alloc(), 16_777_217, too_long, 0);
 }
 
-/// A buffered writer holds replies back until it is flushed.
+/// Serves two lines into a buffered writer, which holds replies back until it is flushed, and checks how that ends and what
+/// was passed on.
+fn check_passed_on(
+    rt: &impl Abort,
+    alloc: Global,
+    fails: bool,
+    wanted: Result<(), ServeFault>,
+    passed_on: &[u8],
+) -> Result<(), Fail> {
+    let (bytes, step) = (b"ab\nc".as_slice(), 4);
+    let mut output = Output::new(BufWriter::new(alloc, Vec::new(alloc))?);
+    let mut input = Input::new(Steps { bytes, step, fails });
+    let mut mirror = Mirror { left: 9 };
+    let result = serve_lines(alloc, b"", &mut input, &mut output, &mut mirror);
+    check_end(rt, &input, &output, result, wanted);
+    expect_bytes(rt, output.into_inner().get_ref().as_slice(), passed_on);
+    Ok(())
+}
+
 #[test]
 fn passes_replies_on_before_it_reads(rt: HostRuntime) -> Result<(), Fail> {
-    let alloc = rt.alloc();
-    for (fails, passed_on) in [(true, b"ba\n".as_slice()), (false, b"ba\nc\n")] {
-        let (bytes, step) = (b"ab\nc".as_slice(), 4);
-        let mut input = Input::new(Steps { bytes, step, fails });
-        let mut output = Output::new(BufWriter::new(alloc, Vec::new(alloc))?);
-        let mut mirror = Mirror { left: 9 };
-        let result = serve_lines(alloc, b"", &mut input, &mut output, &mut mirror);
-        assert_eq!(rt; result.is_err(), fails);
-        assert_eq!(rt; output.into_inner().get_ref().as_slice(), passed_on);
-    }
-    Ok(())
+    check_passed_on(&rt, rt.alloc(), true, Err(ServeFault::Read), b"ba\n")?;
+    check_passed_on(&rt, rt.alloc(), false, Ok(()), b"ba\nc\n")
 }

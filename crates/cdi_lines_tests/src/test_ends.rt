@@ -34,6 +34,17 @@ pub(crate) struct Room {
     pub(crate) fails: bool,
 }
 
+impl Room {
+    pub(crate) fn new(alloc: Global, step: usize, left: usize, fails: bool) -> Room {
+        Room {
+            taken: Vec::new(alloc),
+            step,
+            left,
+            fails,
+        }
+    }
+}
+
 impl Write for Room {
     fn write(&mut self, buf: &[u8]) -> io::Result<usize> {
         if self.left == 0 && self.fails {
@@ -54,6 +65,13 @@ impl Write for Room {
 #[derive(Drop)]
 pub(crate) struct Stuck {
     pub(crate) taken: Vec<u8>,
+}
+
+impl Stuck {
+    pub(crate) fn new(alloc: Global) -> Stuck {
+        let taken = Vec::new(alloc);
+        Stuck { taken }
+    }
 }
 
 impl Write for Stuck {

@@ -1,0 +1,39 @@
+//! What the tests share: each compares by a call, since an assertion in a test makes its proof longer than a call does.
+use std::alloc::{AllocError, Global};
+use std::fmt::{Debug, Display};
+use std::process::Abort;
+
+/// Ends the test unless what was found is what is wanted.
+pub(crate) fn expect_same<T: PartialEq + Debug>(rt: &impl Abort, found: &T, wanted: &T) {
+    assert!(rt; found == wanted, "{found:?} in place of {wanted:?}");
+}
+
+/// The same, where a case says of what it was found.
+pub(crate) fn expect_same_at<C: Debug, T: PartialEq + Debug>(
+    rt: &impl Abort,
+    case: &C,
+    found: &T,
+    wanted: &T,
+) {
+    assert!(rt;
+        found == wanted,
+        "{found:?} in place of {wanted:?}, at {case:?}"
+    );
+}
+
+/// Ends the test unless these bytes were written.
+pub(crate) fn expect_bytes(rt: &impl Abort, found: &[u8], wanted: &[u8]) {
+    assert!(rt; found == wanted, "{found:?} in place of {wanted:?}");
+}
+
+/// Ends the test unless something is printed so.
+pub(crate) fn expect_text(
+    rt: &impl Abort,
+    alloc: Global,
+    it: &impl Display,
+    wanted: &str,
+) -> Result<(), AllocError> {
+    let text = it.to_string(alloc)?;
+    assert_eq!(rt; text.as_str(), wanted);
+    Ok(())
+}
