@@ -1,6 +1,7 @@
 //! A container that isn't started.
-use cdi_base::{Limits, ReadError};
-use cdi_beans::problem::ProblemKind;
+use crate::checks::expect_same;
+use cdi_base::{Limits, Names, ReadError};
+use cdi_beans::problem::{Problem, ProblemKind};
 use cdi_bodies::Bodies;
 use cdi_deploy::{Deployment, read};
 use cdi_shell::{BootError, Container};
@@ -16,20 +17,26 @@ fn deployed(rt: &impl Abort, alloc: Global, text: &str) -> Result<Deployment, Al
     }
 }
 
+/// Checks that the only problem is a method without its body, and that the names came back.
+fn check_problems(rt: &impl Abort, names: &Names, problems: &[Problem]) {
+    expect_same(rt, &names.len(), &21);
+    expect_same(rt, &problems.len(), &1);
+    let kind = problems.get(0).map(|problem| problem.kind);
+    expect_same(rt, &kind, &Some(ProblemKind::UnknownBody));
+}
+
 #[test]
 fn tells_its_problems(rt: HostRuntime) -> Result<(), Fail> {
     let alloc = rt.alloc();
     let text =
         r#"{"classes": [{"name": "K", "bean": {}, "members": [{"kind": "method", "name": "up", "body": "up"}]}]}"#;
     let deployment = deployed(&rt, alloc, text)?;
-    let bodies = Bodies::new(alloc);
-    match Container::boot(alloc, deployment, bodies, Limits::default()) {
-        Err(BootError::Problems { names, problems }) => {
-            assert_eq!(rt; names.len(), 21);
-            assert_eq!(rt; problems.len(), 1);
-            let kind = problems.get(0).map(|problem| problem.kind);
-            assert_eq!(rt; kind, Some(ProblemKind::UnknownBody));
-        }
+    match Container::boot(alloc, deployment, Bodies::new(alloc), Limits::default()) {
+        Err(BootError::Problems { names, problems }) => check_problems(
+            &rt,
+            &names,
+            problems.as_slice(),
+        ),
         Err(BootError::Memory) => return Err(AllocError)?,
         Ok(_) => panic!(rt; "a method has no body"),
     }

@@ -1,6 +1,6 @@
 //! Runs of the program with long bodies, many levels of them and many instances, under default limits and on the stack
 //! that a process gets by default. What must come out is counted by hand, at each row.
-use crate::test_runs::{DONE, DOWN, HALTED, Row, check_row, check_talk};
+use crate::test_runs::{DONE, DOWN, HALTED, Row, check_row, check_talk, push_line};
 use cdi_base::Limits;
 use std::alloc::{AllocError, Global};
 use std::process::Abort;
@@ -40,12 +40,8 @@ impl Written {
 
     /// Adds a method with the steps of its script.
     fn add(&mut self, alloc: Global, method: &str, steps: &str) -> Result<(), AllocError> {
-        let member = format!(in alloc;
-            r#"{{"kind":"method","name":"{method}","body":"{method}"}}"#
-        )?;
-        let script = format!(in alloc; r#"{{"name":"{method}","steps":[{steps}]}}"#)?;
-        append(&mut self.members, member.as_str())?;
-        append(&mut self.scripts, script.as_str())
+        append_member(alloc, &mut self.members, method)?;
+        append_script(alloc, &mut self.scripts, method, steps)
     }
 
     fn deployment(&self, alloc: Global) -> Result<String, AllocError> {
@@ -67,6 +63,26 @@ fn append(list: &mut String, item: &str) -> Result<(), AllocError> {
     list.push_str(item)
 }
 
+fn append_member(alloc: Global, members: &mut String, method: &str) -> Result<(), AllocError> {
+    let member = format!(in alloc; r#"{{"kind":"method","name":"{method}","body":"{method}"}}"#)?;
+    append(members, member.as_str())
+}
+
+fn append_script(
+    alloc: Global,
+    scripts: &mut String,
+    method: &str,
+    steps: &str,
+) -> Result<(), AllocError> {
+    let script = format!(in alloc; r#"{{"name":"{method}","steps":[{steps}]}}"#)?;
+    append(scripts, script.as_str())
+}
+
+fn append_call(alloc: Global, steps: &mut String, method: &str) -> Result<(), AllocError> {
+    let own = format!(in alloc; r#"["own","{method}",[]]"#)?;
+    append(steps, own.as_str())
+}
+
 /// A step, so many times.
 fn times(alloc: Global, count: u32, step: &str) -> Result<String, AllocError> {
     let mut steps = String::new(alloc);
@@ -85,8 +101,7 @@ fn calling(
     end: &str,
 ) -> Result<String, AllocError> {
     let mut steps = times(alloc, count, step)?;
-    let own = format!(in alloc; r#"["own","{method}",[]]"#)?;
-    append(&mut steps, own.as_str())?;
+    append_call(alloc, &mut steps, method)?;
     append(&mut steps, end)?;
     Ok(steps)
 }
@@ -94,11 +109,6 @@ fn calling(
 /// The method of a level.
 fn level_name(alloc: Global, level: u32) -> Result<String, AllocError> {
     format!(in alloc; "m{level}")
-}
-
-/// The method of the level below one.
-fn name_below(alloc: Global, level: u32) -> Result<String, AllocError> {
-    level_name(alloc, level.saturating_add(1))
 }
 
 // ---- levels of long bodies
@@ -117,45 +127,78 @@ struct Levels<'a> {
     status: u8,
 }
 
-fn deployment_of(alloc: Global, shape: &Levels) -> Result<String, AllocError> {
+impl Levels<'_> {
+    /// The steps of a level but the last.
+    fn steps(&self, alloc: Global, level: u32) -> Result<String, AllocError> {
+        let below = level_name(alloc, level.saturating_add(1))?;
+        calling(alloc, self.count, self.step, below.as_str(), self.end)
+    }
+
+    /// The steps of the last level.
+    fn last_steps(&self, alloc: Global) -> Result<String, AllocError> {
+        let mut steps = times(alloc, self.sets, SET)?;
+        append(&mut steps, self.last)?;
+        Ok(steps)
+    }
+}
+
+/// Adds the method of a level.
+fn add_level(
+    alloc: Global,
+    written: &mut Written,
+    level: u32,
+    steps: &str,
+) -> Result<(), AllocError> {
+    let name = level_name(alloc, level)?;
+    written.add(alloc, name.as_str(), steps)
+}
+
+fn write_levels(alloc: Global, shape: &Levels) -> Result<Written, AllocError> {
     let mut written = Written::new(alloc);
     for level in 1..shape.levels {
-        let next = name_below(alloc, level)?;
-        let steps = calling(alloc, shape.count, shape.step, next.as_str(), shape.end)?;
-        written.add(alloc, level_name(alloc, level)?.as_str(), steps.as_str())?;
+        let steps = shape.steps(alloc, level)?;
+        add_level(alloc, &mut written, level, steps.as_str())?;
     }
-    let mut steps = times(alloc, shape.sets, SET)?;
-    append(&mut steps, shape.last)?;
-    written.add(
-        alloc,
-        level_name(alloc, shape.levels)?.as_str(),
-        steps.as_str(),
-    )?;
+    let steps = shape.last_steps(alloc)?;
+    add_level(alloc, &mut written, shape.levels, steps.as_str())?;
+    Ok(written)
+}
+
+fn deployment_of(alloc: Global, shape: &Levels) -> Result<String, AllocError> {
+    let written = write_levels(alloc, shape)?;
     written.deployment(alloc)
 }
 
 /// Checks the reply to a call of the first level, and to a second one: the budget of a command begins anew, unless the
 /// container has halted.
-fn check_levels(rt: &impl Abort, alloc: Global, shape: &Levels) -> Result<(), Fail> {
+fn check_levels(rt: &impl Abort, alloc: Global, shape: &Levels) -> Result<(), AllocError> {
+    let (reply, status) = (shape.reply, shape.status);
+    let again = if status == 0 { reply } else { HALTED };
+    let talk = [(CALL, reply), (CALL, again)];
     let deployment = deployment_of(alloc, shape)?;
-    check_calls(rt, alloc, deployment.as_str(), shape.reply, shape.status)
+    check_talk(rt, alloc, deployment.as_str(), &talk, status)
 }
 
-fn check_calls(
-    rt: &impl Abort,
-    alloc: Global,
-    deployment: &str,
-    reply: &str,
+/// Levels that set their field so many times each before they call the next.
+fn sets_above(
+    levels: u32,
+    count: u32,
+    end: &'static str,
+    sets: u32,
+    last: &'static str,
+    reply: &'static str,
     status: u8,
-) -> Result<(), Fail> {
-    let again = if status == 0 { reply } else { HALTED };
-    check_talk(
-        rt,
-        alloc,
-        deployment,
-        &[(CALL, reply), (CALL, again)],
+) -> Levels<'static> {
+    Levels {
+        levels,
+        count,
+        step: SET,
+        end,
+        sets,
+        last,
+        reply,
         status,
-    )
+    }
 }
 
 /// A set is one entry, and a body gives one where it starts and one where it ends; the call of the next level is one, and
@@ -171,26 +214,35 @@ fn check_calls(
 /// it starts, behind all the steps of the 32 above it.
 #[test]
 fn goes_down_from_the_end_of_long_bodies(rt: HostRuntime) -> Result<(), Fail> {
-    for (levels, count, end, sets, last, reply, status) in [
-        (4, 255, "", 255, "", NULL, 0),
-        (32, 254, GIVE_LAST, 255, GIVE, SEVEN, 0),
-        (32, 255, "", 255, GIVE, NULL, 0),
-        (33, 254, GIVE_LAST, 0, GIVE, NO_DEPTH, 4),
-        (33, 255, "", 0, GIVE, NO_DEPTH, 4),
-    ] {
-        let shape = Levels {
-            levels,
-            count,
-            step: SET,
-            end,
-            sets,
-            last,
-            reply,
-            status,
-        };
-        check_levels(&rt, rt.alloc(), &shape)?;
-    }
+    let alloc = rt.alloc();
+    check_levels(&rt, alloc, &sets_above(4, 255, "", 255, "", NULL, 0))?;
+    check_levels(
+        &rt,
+        alloc,
+        &sets_above(32, 254, GIVE_LAST, 255, GIVE, SEVEN, 0),
+    )?;
+    check_levels(&rt, alloc, &sets_above(32, 255, "", 255, GIVE, NULL, 0))?;
+    check_levels(
+        &rt,
+        alloc,
+        &sets_above(33, 254, GIVE_LAST, 0, GIVE, NO_DEPTH, 4),
+    )?;
+    check_levels(&rt, alloc, &sets_above(33, 255, "", 0, GIVE, NO_DEPTH, 4))?;
     Ok(())
+}
+
+/// 32 levels, each of which calls the last 254 times before it calls the next. The last one sets its field so many times.
+fn calls_above(sets: u32, reply: &str, status: u8) -> Levels<'_> {
+    Levels {
+        levels: 32,
+        count: 254,
+        step: r#"["own","m32",[]]"#,
+        end: GIVE_LAST,
+        sets,
+        last: GIVE,
+        reply,
+        status,
+    }
 }
 
 /// Each of 31 levels makes 255 calls: 254 of the last level, and one of the next. With s sets in the last level one of its
@@ -202,40 +254,58 @@ fn goes_down_from_the_end_of_long_bodies(rt: HostRuntime) -> Result<(), Fail> {
 /// level, since each level gives 1 + 254 * 13 + 1 = 3,304 entries before the next one starts.
 #[test]
 fn goes_down_between_many_calls(rt: HostRuntime) -> Result<(), Fail> {
-    for (sets, reply, status) in [(0, SEVEN, 0), (9, SEVEN, 0), (10, NO_TICKS, 4)] {
-        let shape = Levels {
-            levels: 32,
-            count: 254,
-            step: r#"["own","m32",[]]"#,
-            end: GIVE_LAST,
-            sets,
-            last: GIVE,
-            reply,
-            status,
-        };
-        check_levels(&rt, rt.alloc(), &shape)?;
-    }
+    check_levels(&rt, rt.alloc(), &calls_above(0, SEVEN, 0))?;
+    check_levels(&rt, rt.alloc(), &calls_above(9, SEVEN, 0))?;
+    check_levels(&rt, rt.alloc(), &calls_above(10, NO_TICKS, 4))?;
     Ok(())
 }
 
 // ---- the last entry
 
+/// A step so many times, sets of the field, and a give.
+fn counted_steps(alloc: Global, count: u32, step: &str, sets: u32) -> Result<String, AllocError> {
+    let mut steps = times(alloc, count, step)?;
+    for _ in 0..sets {
+        append(&mut steps, SET)?;
+    }
+    append(&mut steps, GIVE)?;
+    Ok(steps)
+}
+
+/// Adds a method with such steps.
+fn add_counted(
+    alloc: Global,
+    written: &mut Written,
+    method: &str,
+    count: u32,
+    step: &str,
+    sets: u32,
+) -> Result<(), AllocError> {
+    let steps = counted_steps(alloc, count, step, sets)?;
+    written.add(alloc, method, steps.as_str())
+}
+
 /// A method that calls a second one 52 times and then sets its field so many times; that one calls a third 20 times, and
 /// that one a fourth 31 times.
 fn counted(alloc: Global, sets: u32) -> Result<String, AllocError> {
     let mut written = Written::new(alloc);
-    for (method, count, step, sets) in [
-        ("m1", 52, r#"["own","m2",[]]"#, sets),
-        ("m2", 20, r#"["own","m3",[]]"#, 0),
-        ("m3", 31, r#"["own","m4",[]]"#, 0),
-        ("m4", 0, "", 0),
-    ] {
-        let mut steps = times(alloc, count, step)?;
-        append(&mut steps, times(alloc, sets, SET)?.as_str())?;
-        append(&mut steps, GIVE)?;
-        written.add(alloc, method, steps.as_str())?;
-    }
+    add_counted(alloc, &mut written, "m1", 52, r#"["own","m2",[]]"#, sets)?;
+    add_counted(alloc, &mut written, "m2", 20, r#"["own","m3",[]]"#, 0)?;
+    add_counted(alloc, &mut written, "m3", 31, r#"["own","m4",[]]"#, 0)?;
+    add_counted(alloc, &mut written, "m4", 0, "", 0)?;
     written.deployment(alloc)
+}
+
+/// Checks the reply to a call where the first method sets its field so many times.
+fn check_counted(
+    rt: &impl Abort,
+    alloc: Global,
+    sets: u32,
+    reply: &str,
+    status: u8,
+) -> Result<(), AllocError> {
+    let deployment = counted(alloc, sets)?;
+    check_talk(rt, alloc, deployment.as_str(), &[(CALL, reply)], status)
 }
 
 /// A body of the fourth method gives 2 entries, one of the third 1 + 31 * (1 + 2) + 1 = 95, one of the second
@@ -243,37 +313,44 @@ fn counted(alloc: Global, sets: u32) -> Result<String, AllocError> {
 /// two for the instance a first call gives 100,000 + s.
 #[test]
 fn cuts_after_the_last_entry(rt: HostRuntime) -> Result<(), Fail> {
-    for (sets, reply, status) in [(0, SEVEN, 0), (1, NO_TICKS, 4)] {
-        let deployment = counted(rt.alloc(), sets)?;
-        let talk = [(CALL, reply)];
-        check_talk(&rt, rt.alloc(), deployment.as_str(), &talk, status)?;
-    }
+    check_counted(&rt, rt.alloc(), 0, SEVEN, 0)?;
+    check_counted(&rt, rt.alloc(), 1, NO_TICKS, 4)?;
     Ok(())
 }
 
 // ---- many instances
 
-/// So many classes, each a bean of the application with a method that gives a value.
+/// A class that is a bean of the application and has a method that gives a value.
+fn append_class(alloc: Global, classes: &mut String, number: u32) -> Result<(), AllocError> {
+    let class = format!(in alloc;
+        r#"{{"name":"K{number}","bean":{{"scope":"ApplicationScoped"}},"members":[{{"kind":"method","name":"m","body":"m"}}]}}"#
+    )?;
+    append(classes, class.as_str())
+}
+
+/// So many of these.
 fn many_classes(alloc: Global, count: u32) -> Result<String, AllocError> {
     let mut classes = String::new(alloc);
     for number in 0..count {
-        let class = format!(in alloc;
-            r#"{{"name":"K{number}","bean":{{"scope":"ApplicationScoped"}},"members":[{{"kind":"method","name":"m","body":"m"}}]}}"#
-        )?;
-        append(&mut classes, class.as_str())?;
+        append_class(alloc, &mut classes, number)?;
     }
     let classes = classes.as_str();
     format!(in alloc; r#"{{"classes":[{classes}],"scripts":[{{"name":"m","steps":[{GIVE}]}}]}}"#)
+}
+
+fn push_call(alloc: Global, lines: &mut String, number: u32) -> Result<(), AllocError> {
+    let line = format!(in alloc; "[\"call\",null,\"K{number}\",[],\"m\",[]]\n")?;
+    lines.push_str(line.as_str())
 }
 
 /// A call of each class, a shutdown, and one more call.
 fn calls_of_each(alloc: Global, count: u32) -> Result<String, AllocError> {
     let mut lines = String::new(alloc);
     for number in 0..count {
-        let line = format!(in alloc; "[\"call\",null,\"K{number}\",[],\"m\",[]]\n")?;
-        lines.push_str(line.as_str())?;
+        push_call(alloc, &mut lines, number)?;
     }
-    lines.push_str("[\"shutdown\"]\n[\"call\",null,\"K0\",[],\"m\",[]]\n")?;
+    lines.push_str("[\"shutdown\"]\n")?;
+    push_call(alloc, &mut lines, 0)?;
     Ok(lines)
 }
 
@@ -281,12 +358,10 @@ fn calls_of_each(alloc: Global, count: u32) -> Result<String, AllocError> {
 fn replies_of_each(alloc: Global, count: u32) -> Result<String, AllocError> {
     let mut lines = String::from_str(alloc, DONE)?;
     for _ in 0..count {
-        lines.push_str(SEVEN)?;
-        lines.push('\n')?;
+        push_line(&mut lines, SEVEN)?;
     }
     lines.push_str(DONE)?;
-    lines.push_str(DOWN)?;
-    lines.push('\n')?;
+    push_line(&mut lines, DOWN)?;
     Ok(lines)
 }
 

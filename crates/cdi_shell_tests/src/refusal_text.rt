@@ -1,63 +1,135 @@
 //! Lines of refused deployments that were written by hand.
+use crate::checks::expect_written;
 use cdi_base::{Names, Place, Text, is_name};
 use cdi_beans::problem::{Problem, ProblemKind};
 use cdi_deploy::ReadFault;
 use cdi_script::ScriptFault;
 use cdi_shell::refusal_text::{write_fault, write_problems, write_script_fault};
-use std::alloc::Global;
+use std::alloc::{AllocError, Global};
 use std::process::Abort;
 use std::test::Fail;
 
 /// The built-in names, a class and a member.
 fn table(rt: &impl Abort, alloc: Global) -> Result<Names, Fail> {
     let mut names = Names::with_built_in(alloc)?;
-    for text in ["K", "up"] {
-        assert!(rt; is_name(text));
-        names.intern(text)?;
-    }
+    add_name(rt, &mut names, "K")?;
+    add_name(rt, &mut names, "up")?;
     Ok(names)
+}
+
+fn add_name(rt: &impl Abort, names: &mut Names, text: &str) -> Result<(), Fail> {
+    assert!(rt; is_name(text));
+    names.intern(text)?;
+    Ok(())
+}
+
+/// Checks how a fault is written.
+fn check_fault(
+    rt: &impl Abort,
+    alloc: Global,
+    fault: &ReadFault,
+    expected: &str,
+) -> Result<(), AllocError> {
+    let line = write_fault(alloc, fault)?;
+    expect_written(rt, line.as_slice(), expected);
+    Ok(())
+}
+
+/// Checks how a wrong place is written.
+fn check_place(
+    rt: &impl Abort,
+    alloc: Global,
+    path: &str,
+    expected: &str,
+) -> Result<(), AllocError> {
+    let path = Text::from_str(alloc, path)?;
+    check_fault(rt, alloc, &ReadFault::Shape(path), expected)
 }
 
 #[test]
 fn writes_faults(rt: HostRuntime) -> Result<(), Fail> {
-    let root = Text::from_str(rt.alloc(), "")?;
-    let longer = Text::from_str(rt.alloc(), "/classes/0/name")?;
-    let rows = [
-        (ReadFault::TooLong, "TooLong\n"),
-        (ReadFault::NotJson, "NotJson\n"),
-        (ReadFault::BadNumber, "BadNumber\n"),
-        (ReadFault::Shape(root), "Shape \n"),
-        (ReadFault::Shape(longer), "Shape /classes/0/name\n"),
-        (ReadFault::BadName, "BadName\n"),
-        (ReadFault::TooMany, "TooMany\n"),
-    ];
-    for (fault, expected) in rows {
-        let line = write_fault(rt.alloc(), &fault)?;
-        assert_eq!(rt; line.as_slice(), expected.as_bytes());
-    }
+    check_fault(&rt, rt.alloc(), &ReadFault::TooLong, "TooLong\n")?;
+    check_fault(&rt, rt.alloc(), &ReadFault::NotJson, "NotJson\n")?;
+    check_fault(&rt, rt.alloc(), &ReadFault::BadNumber, "BadNumber\n")?;
+    check_fault(&rt, rt.alloc(), &ReadFault::BadName, "BadName\n")?;
+    check_fault(&rt, rt.alloc(), &ReadFault::TooMany, "TooMany\n")?;
+    Ok(())
+}
+
+#[test]
+fn writes_wrong_places(rt: HostRuntime) -> Result<(), Fail> {
+    check_place(&rt, rt.alloc(), "", "Shape \n")?;
+    check_place(
+        &rt,
+        rt.alloc(),
+        "/classes/0/name",
+        "Shape /classes/0/name\n",
+    )?;
+    Ok(())
+}
+
+/// Checks how a bad script is written.
+fn check_script(
+    rt: &impl Abort,
+    alloc: Global,
+    script: &str,
+    fault: ScriptFault,
+    expected: &str,
+) -> Result<(), AllocError> {
+    let line = write_script_fault(alloc, script, fault)?;
+    expect_written(rt, line.as_slice(), expected);
     Ok(())
 }
 
 #[test]
 fn writes_script_faults(rt: HostRuntime) -> Result<(), Fail> {
-    let rows = [
+    const ROWS: &[(&str, ScriptFault, &str)] = &[
         ("up", ScriptFault::BadStep, "script up BadStep\n"),
         ("K", ScriptFault::TooLong, "script K TooLong\n"),
         ("Log_1.x$", ScriptFault::Full, "script Log_1.x$ Full\n"),
     ];
-    for (script, fault, expected) in rows {
-        let line = write_script_fault(rt.alloc(), script, fault)?;
-        assert_eq!(rt; line.as_slice(), expected.as_bytes());
+    for &(script, fault, expected) in ROWS {
+        check_script(&rt, rt.alloc(), script, fault, expected)?;
     }
     Ok(())
+}
+
+/// Checks how problems are written.
+fn check_problems(
+    rt: &impl Abort,
+    alloc: Global,
+    names: &Names,
+    problems: &[Problem],
+    expected: &str,
+) -> Result<(), AllocError> {
+    let lines = write_problems(alloc, names, problems)?;
+    expect_written(rt, lines.as_slice(), expected);
+    Ok(())
+}
+
+/// Checks how a problem of the member `up` of `K` is written.
+fn check_kind(
+    rt: &impl Abort,
+    alloc: Global,
+    names: &Names,
+    kind: ProblemKind,
+    expected: &str,
+) -> Result<(), AllocError> {
+    let place = Place::Member {
+        class: names.name_for("K"),
+        member: names.name_for("up"),
+    };
+    let problem = Problem {
+        kind,
+        place: Some(place),
+    };
+    check_problems(rt, alloc, names, &[problem], expected)
 }
 
 #[test]
 fn writes_each_problem(rt: HostRuntime) -> Result<(), Fail> {
     let names = table(&rt, rt.alloc())?;
-    let class = names.name_for("K");
-    let member = names.name_for("up");
-    let rows = [
+    const ROWS: &[(ProblemKind, &str)] = &[
         (ProblemKind::DuplicateName, "P1 DuplicateName K#up\n"),
         (ProblemKind::UnknownBody, "P12 UnknownBody K#up\n"),
         (ProblemKind::BodyOutsideShape, "P13 BodyOutsideShape K#up\n"),
@@ -67,13 +139,8 @@ fn writes_each_problem(rt: HostRuntime) -> Result<(), Fail> {
         ),
         (ProblemKind::TooMany, "P22 TooMany K#up\n"),
     ];
-    for (kind, expected) in rows {
-        let problem = Problem {
-            kind,
-            place: Some(Place::Member { class, member }),
-        };
-        let lines = write_problems(rt.alloc(), &names, &[problem])?;
-        assert_eq!(rt; lines.as_slice(), expected.as_bytes());
+    for &(kind, expected) in ROWS {
+        check_kind(&rt, rt.alloc(), &names, kind, expected)?;
     }
     Ok(())
 }
@@ -102,17 +169,9 @@ fn writes_problems_in_order(rt: HostRuntime) -> Result<(), Fail> {
     let names = table(&rt, rt.alloc())?;
     let unsorted = unsorted(&names);
     let problems = unsorted.as_slice();
-    let rows = [
-        (&problems[..0], ""),
-        (&problems[2..], "P22 TooMany\n"),
-        (
-            problems,
-            "P12 UnknownBody K#\nP1 DuplicateName K\nP22 TooMany\n",
-        ),
-    ];
-    for (problems, expected) in rows {
-        let lines = write_problems(rt.alloc(), &names, problems)?;
-        assert_eq!(rt; lines.as_slice(), expected.as_bytes());
-    }
+    check_problems(&rt, rt.alloc(), &names, &problems[..0], "")?;
+    check_problems(&rt, rt.alloc(), &names, &problems[2..], "P22 TooMany\n")?;
+    let all = "P12 UnknownBody K#\nP1 DuplicateName K\nP22 TooMany\n";
+    check_problems(&rt, rt.alloc(), &names, problems, all)?;
     Ok(())
 }

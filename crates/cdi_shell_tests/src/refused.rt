@@ -1,12 +1,15 @@
 //! Deployments that the program refuses.
-use crate::test_runs::{COUNTER, DONE, Row, UP, check_refused, check_row, check_talk, run};
+use crate::test_runs::{
+    COUNTER, DONE, Row, UP, check_ran, check_refused, check_row, check_talk, run,
+};
 use cdi_base::Limits;
-use std::alloc::Global;
+use std::alloc::{AllocError, Global};
+use std::process::Abort;
 use std::test::Fail;
 
 #[test]
 fn refuses_bytes_and_numbers(rt: HostRuntime) {
-    for (deployment, line) in [
+    const ROWS: &[(&str, &str)] = &[
         ("", "NotJson\n"),
         ("{", "NotJson\n"),
         ("{} {}", "NotJson\n"),
@@ -19,14 +22,15 @@ fn refuses_bytes_and_numbers(rt: HostRuntime) {
             "BadNumber\n",
         ),
         (r#"{"x":[1e3]}"#, "BadNumber\n"),
-    ] {
+    ];
+    for &(deployment, line) in ROWS {
         check_refused(&rt, rt.alloc(), deployment.as_bytes(), line);
     }
 }
 
 #[test]
 fn refuses_shapes_and_names(rt: HostRuntime) {
-    for (deployment, line) in [
+    const ROWS: &[(&str, &str)] = &[
         ("[]", "Shape \n"),
         (r#"{"form":3,"x":1}"#, "Shape \n"),
         (r#"{"interfaces":[]}"#, "Shape \n"),
@@ -54,7 +58,8 @@ fn refuses_shapes_and_names(rt: HostRuntime) {
             r#"{"scripts":[{"name":"","steps":[["give",true]]}]}"#,
             "BadName\n",
         ),
-    ] {
+    ];
+    for &(deployment, line) in ROWS {
         check_refused(&rt, rt.alloc(), deployment.as_bytes(), line);
     }
 }
@@ -71,9 +76,7 @@ fn refuses_what_is_not_utf8(rt: HostRuntime) {
         reader,
         Vec::new(alloc),
     );
-    let written = b"[\"done\"]\n[\"refused\",\"BadLine\"]\n";
-    assert_eq!(rt; ran.writer.as_slice(), written.as_slice());
-    assert_eq!(rt; ran.status, 0);
+    check_ran(&rt, &ran, "[\"done\"]\n[\"refused\",\"BadLine\"]\n", 0);
 }
 
 /// A deployment of so many classes of one name.
@@ -86,14 +89,17 @@ fn many_classes(alloc: Global, count: usize) -> Result<String, Fail> {
     Ok(text)
 }
 
+/// Checks that so many classes of one name are refused with this line.
+fn check_classes(rt: &impl Abort, alloc: Global, count: usize, line: &str) -> Result<(), Fail> {
+    let deployment = many_classes(alloc, count)?;
+    check_refused(rt, alloc, deployment.as_bytes(), line);
+    Ok(())
+}
+
 #[test]
 fn counts_classes_before_their_names(rt: HostRuntime) -> Result<(), Fail> {
-    let alloc = rt.alloc();
-    for (count, line) in [(1_024, "P1 DuplicateName K\n"), (1_025, "TooMany\n")] {
-        let deployment = many_classes(alloc, count)?;
-        check_refused(&rt, alloc, deployment.as_bytes(), line);
-    }
-    Ok(())
+    check_classes(&rt, rt.alloc(), 1_024, "P1 DuplicateName K\n")?;
+    check_classes(&rt, rt.alloc(), 1_025, "TooMany\n")
 }
 
 /// An empty deployment with blanks behind it, of so many bytes together.
@@ -106,27 +112,40 @@ fn blanks_behind(alloc: Global, count: usize) -> Result<String, Fail> {
 }
 
 #[test]
-fn takes_a_mebibyte_and_no_more(rt: HostRuntime) -> Result<(), Fail> {
-    let alloc = rt.alloc();
-    let taken = blanks_behind(alloc, 1_048_576)?;
+fn takes_a_mebibyte(rt: HostRuntime) -> Result<(), Fail> {
+    let deployment = blanks_behind(rt.alloc(), 1_048_576)?;
     let row = Row {
-        deployment: taken.as_str(),
+        deployment: deployment.as_str(),
         input: "",
         output: DONE,
         status: 0,
     };
-    check_row(&rt, alloc, Limits::default(), &row);
-    let refused = blanks_behind(alloc, 1_048_577)?;
-    check_refused(&rt, alloc, refused.as_bytes(), "TooLong\n");
+    check_row(&rt, rt.alloc(), Limits::default(), &row);
+    Ok(())
+}
+
+#[test]
+fn takes_no_more_than_a_mebibyte(rt: HostRuntime) -> Result<(), Fail> {
+    let deployment = blanks_behind(rt.alloc(), 1_048_577)?;
+    check_refused(&rt, rt.alloc(), deployment.as_bytes(), "TooLong\n");
     Ok(())
 }
 
 // ---- bad scripts
 
+/// Checks that a deployment with these scripts is refused with this line. In it a class stands twice, which is told only where
+/// no script is bad.
+fn check_scripts(rt: &impl Abort, alloc: Global, scripts: &str, line: &str) -> Result<(), Fail> {
+    let deployment = format!(in alloc;
+        "{{\"classes\":[{{\"name\":\"K\"}},{{\"name\":\"K\"}}],\"scripts\":[{scripts}]}}"
+    )?;
+    check_refused(rt, alloc, deployment.as_bytes(), line);
+    Ok(())
+}
+
 #[test]
 fn refuses_the_first_bad_script(rt: HostRuntime) -> Result<(), Fail> {
-    let alloc = rt.alloc();
-    for (scripts, line) in [
+    const ROWS: &[(&str, &str)] = &[
         (r#"{"name":"up","steps":[1]}"#, "script up BadStep\n"),
         (
             r#"{"name":"up","steps":[["give",true]]}"#,
@@ -148,66 +167,88 @@ fn refuses_the_first_bad_script(rt: HostRuntime) -> Result<(), Fail> {
             r#"{"name":"a","steps":[]},{"name":"a","steps":[]},{"name":"b","steps":[["give"]]}"#,
             "script b BadStep\n",
         ),
-    ] {
-        // That a class stands twice is told only where no script is bad.
-        let deployment = format!(in alloc;
-            "{{\"classes\":[{{\"name\":\"K\"}},{{\"name\":\"K\"}}],\"scripts\":[{scripts}]}}"
-        )?;
-        check_refused(&rt, alloc, deployment.as_bytes(), line);
+    ];
+    for &(scripts, line) in ROWS {
+        check_scripts(&rt, rt.alloc(), scripts, line)?;
     }
     Ok(())
 }
 
+/// A step that gives, so many times, and one more step.
+fn many_steps(alloc: Global, count: usize, last: &str) -> Result<String, AllocError> {
+    let mut steps = r#"["give",1],"#.repeat(alloc, count)?;
+    steps.push_str(last)?;
+    Ok(steps)
+}
+
 /// A script of so many steps that give, and one more.
-fn long_script(alloc: Global, count: usize, last: &str) -> Result<String, Fail> {
-    let mut text = String::from_str(alloc, r#"{"name":"long","steps":["#)?;
-    for _ in 0..count {
-        text.push_str(r#"["give",1],"#)?;
-    }
-    text.push_str(last)?;
-    text.push_str("]}")?;
-    Ok(text)
+fn long_script(alloc: Global, count: usize, last: &str) -> Result<String, AllocError> {
+    let steps = many_steps(alloc, count, last)?;
+    format!(in alloc; "{{\"name\":\"long\",\"steps\":[{steps}]}}")
+}
+
+/// A script that is bad.
+const BAD: &str = r#"{"name":"bad","steps":[1]}"#;
+
+/// A deployment with scripts, then one of so many steps that give and one more, and then a bad one.
+fn long_scripts(
+    alloc: Global,
+    before: &str,
+    count: usize,
+    last: &str,
+) -> Result<String, AllocError> {
+    let long = long_script(alloc, count, last)?;
+    format!(in alloc; "{{\"scripts\":[{before}{long},{BAD}]}}")
+}
+
+/// Checks that such a deployment is refused with this line.
+fn check_long(
+    rt: &impl Abort,
+    alloc: Global,
+    before: &str,
+    count: usize,
+    last: &str,
+    line: &str,
+) -> Result<(), AllocError> {
+    let deployment = long_scripts(alloc, before, count, last)?;
+    check_refused(rt, alloc, deployment.as_bytes(), line);
+    Ok(())
 }
 
 #[test]
 fn refuses_long_scripts(rt: HostRuntime) -> Result<(), Fail> {
-    let alloc = rt.alloc();
-    let give = r#"["give",2]"#;
-    let bad = r#"{"name":"bad","steps":[1]}"#;
-    for (before, count, last, line) in [
-        ("", 256, give, "script long TooLong\n"),
+    const BEFORE: &str = r#"{"name":"bad","steps":[1]},"#;
+    const ROWS: &[(&str, usize, &str, &str)] = &[
+        ("", 256, r#"["give",2]"#, "script long TooLong\n"),
         ("", 299, "1", "script long BadStep\n"),
-        (bad, 256, give, "script bad BadStep\n"),
-    ] {
-        let long = long_script(alloc, count, last)?;
-        let comma = if before.is_empty() { "" } else { "," };
-        let deployment = format!(in alloc; "{{\"scripts\":[{before}{comma}{long},{bad}]}}")?;
-        check_refused(&rt, alloc, deployment.as_bytes(), line);
+        (BEFORE, 256, r#"["give",2]"#, "script bad BadStep\n"),
+    ];
+    for &(before, count, last, line) in ROWS {
+        check_long(&rt, rt.alloc(), before, count, last, line)?;
     }
     Ok(())
 }
 
+/// A bean whose method has a script of so many steps that give, and one more.
+fn long_method(alloc: Global, count: usize, last: &str) -> Result<String, AllocError> {
+    let class = r#"{"name":"K","bean":{},"members":[{"kind":"method","name":"up","body":"long"}]}"#;
+    let long = long_script(alloc, count, last)?;
+    format!(in alloc; "{{\"classes\":[{class}],\"scripts\":[{long}]}}")
+}
+
 #[test]
 fn runs_with_the_longest_script(rt: HostRuntime) -> Result<(), Fail> {
-    let alloc = rt.alloc();
-    let long = long_script(alloc, 255, r#"["give",2]"#)?;
-    let member = r#"{"kind":"method","name":"up","body":"long"}"#;
-    let class = format!(in alloc; "{{\"name\":\"K\",\"bean\":{{}},\"members\":[{member}]}}")?;
-    let deployment = format!(in alloc; "{{\"classes\":[{class}],\"scripts\":[{long}]}}")?;
-    check_talk(
-        &rt,
-        alloc,
-        deployment.as_str(),
-        &[(UP, r#"["value",1]"#)],
-        0,
-    )
+    let deployment = long_method(rt.alloc(), 255, r#"["give",2]"#)?;
+    const TALK: &[(&str, &str)] = &[(UP, r#"["value",1]"#)];
+    check_talk(&rt, rt.alloc(), deployment.as_str(), TALK, 0)?;
+    Ok(())
 }
 
 // ---- problems
 
 #[test]
 fn refuses_repeated_names(rt: HostRuntime) {
-    for (deployment, lines) in [
+    const ROWS: &[(&str, &str)] = &[
         (
             r#"{"classes":[{"name":"K"},{"name":"L"},{"name":"K"}]}"#,
             "P1 DuplicateName K\n",
@@ -232,7 +273,8 @@ fn refuses_repeated_names(rt: HostRuntime) {
             r#"{"scripts":[{"name":"s","steps":[]},{"name":"s","steps":[["give",1]]}]}"#,
             "P1 DuplicateName s\n",
         ),
-    ] {
+    ];
+    for &(deployment, lines) in ROWS {
         check_refused(&rt, rt.alloc(), deployment.as_bytes(), lines);
     }
 }
@@ -247,13 +289,14 @@ fn takes_a_name_once_in_each_group(rt: HostRuntime) -> Result<(), Fail> {
         ],
         "scripts": [{"name": "x", "steps": []}, {"name": "Object", "steps": []}]
     }"#;
-    let talk = [(r#"["call",null,"x",[],"x",[]]"#, r#"["value",null]"#)];
-    check_talk(&rt, rt.alloc(), deployment, &talk, 0)
+    const TALK: &[(&str, &str)] = &[(r#"["call",null,"x",[],"x",[]]"#, r#"["value",null]"#)];
+    check_talk(&rt, rt.alloc(), deployment, TALK, 0)?;
+    Ok(())
 }
 
 #[test]
 fn refuses_repeated_names_in_order(rt: HostRuntime) {
-    for (deployment, lines) in [
+    const ROWS: &[(&str, &str)] = &[
         // The order of the keys doesn't count.
         (
             r#"{
@@ -286,15 +329,28 @@ fn refuses_repeated_names_in_order(rt: HostRuntime) {
             }"#,
             "P1 DuplicateName K\n",
         ),
-    ] {
+    ];
+    for &(deployment, lines) in ROWS {
         check_refused(&rt, rt.alloc(), deployment.as_bytes(), lines);
     }
 }
 
+/// Checks that a bean whose method has these steps is refused with this line. Another class has a field and a method more.
+fn check_steps(rt: &impl Abort, alloc: Global, steps: &str, line: &str) -> Result<(), AllocError> {
+    let class =
+        r#"{"name":"K","bean":{},"fields":[{"name":"n"}],"members":[{"kind":"method","name":"up","body":"up"}]}"#;
+    let other =
+        r#"{"name":"L","fields":[{"name":"m"}],"members":[{"kind":"method","name":"down","body":"up"}]}"#;
+    let deployment = format!(in alloc;
+        "{{\"classes\":[{class},{other}],\"scripts\":[{{\"name\":\"up\",\"steps\":[{steps}]}}]}}"
+    )?;
+    check_refused(rt, alloc, deployment.as_bytes(), line);
+    Ok(())
+}
+
 #[test]
 fn refuses_bodies_out_of_shape(rt: HostRuntime) -> Result<(), Fail> {
-    let alloc = rt.alloc();
-    for (steps, line) in [
+    const ROWS: &[(&str, &str)] = &[
         (r#"["set","m",1]"#, "P13 BodyOutsideShape K#up\n"),
         (r#"["set","up",1]"#, "P13 BodyOutsideShape K#up\n"),
         (r#"["give",1],["set","m",1]"#, "P13 BodyOutsideShape K#up\n"),
@@ -305,23 +361,16 @@ fn refuses_bodies_out_of_shape(rt: HostRuntime) -> Result<(), Fail> {
             r#"["set","m",1],["own","down",[]]"#,
             "P13 BodyOutsideShape K#up\n",
         ),
-    ] {
-        let script = format!(in alloc; "{{\"name\":\"up\",\"steps\":[{steps}]}}")?;
-        let class =
-            r#"{"name":"K","bean":{},"fields":[{"name":"n"}],"members":[{"kind":"method","name":"up","body":"up"}]}"#;
-        let other =
-            r#"{"name":"L","fields":[{"name":"m"}],"members":[{"kind":"method","name":"down","body":"up"}]}"#;
-        let deployment = format!(in alloc;
-            "{{\"classes\":[{class},{other}],\"scripts\":[{script}]}}"
-        )?;
-        check_refused(&rt, alloc, deployment.as_bytes(), line);
+    ];
+    for &(steps, line) in ROWS {
+        check_steps(&rt, rt.alloc(), steps, line)?;
     }
     Ok(())
 }
 
 #[test]
 fn refuses_unknown_bodies_first(rt: HostRuntime) {
-    for (deployment, lines) in [
+    const ROWS: &[(&str, &str)] = &[
         (
             r#"{"classes":[{"name":"K","bean":{},"members":[{"kind":"method","name":"up","body":"nowhere"}]}]}"#,
             "P12 UnknownBody K#up\n",
@@ -346,7 +395,8 @@ fn refuses_unknown_bodies_first(rt: HostRuntime) {
             }"#,
             "P12 UnknownBody K#a\nP12 UnknownBody L#c\nP13 BodyOutsideShape K#b\nP13 BodyOutsideShape L#d\n",
         ),
-    ] {
+    ];
+    for &(deployment, lines) in ROWS {
         check_refused(&rt, rt.alloc(), deployment.as_bytes(), lines);
     }
 }

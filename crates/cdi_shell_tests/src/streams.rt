@@ -1,11 +1,12 @@
 //! Runs over readers and writers that go in steps, or fail.
-use crate::test_runs::{COUNTED, COUNTER, COUNTS, DONE, run};
+use crate::checks::{expect_same, expect_written};
+use crate::test_runs::{COUNTED, COUNTER, COUNTS, DONE, Ran, check_ran, run};
 use cdi_base::Limits;
 use std::alloc::{AllocError, Global};
+use std::io;
 use std::io::{BufWriter, ErrorKind, Read, Write};
 use std::process::Abort;
 use std::test::Fail;
-use std::{io, str};
 
 /// Fails at each read.
 #[derive(Drop)]
@@ -34,28 +35,38 @@ impl Write for Stuck {
     }
 }
 
+impl Stuck {
+    fn new(alloc: Global) -> Stuck {
+        let taken = Vec::new(alloc);
+        Stuck { taken }
+    }
+}
+
+/// Checks what the counter writes for what a reader gives, and the exit status.
+fn check_read<R: Read + Drop>(
+    rt: &impl Abort,
+    alloc: Global,
+    limits: Limits,
+    reader: R,
+    output: &str,
+    status: u8,
+) {
+    let ran = run(alloc, COUNTER.as_bytes(), limits, reader, Vec::new(alloc));
+    check_ran(rt, &ran, output, status);
+}
+
 #[test]
 fn writes_alike_however_the_input_comes(rt: HostRuntime) {
-    let alloc = rt.alloc();
     let input = COUNTED.as_bytes();
     for at in 0..input.len() {
         let reader = input[..at].chain(&input[at..]);
-        let ran = run(
-            alloc,
-            COUNTER.as_bytes(),
-            Limits::default(),
-            reader,
-            Vec::new(alloc),
-        );
-        assert_eq!(rt; str::from_utf8(&ran.writer), Ok(COUNTS), "at {at}");
-        assert_eq!(rt; ran.status, 0, "at {at}");
+        check_read(&rt, rt.alloc(), Limits::default(), reader, COUNTS, 0);
     }
 }
 
 #[test]
 fn ends_where_a_read_fails(rt: HostRuntime) {
-    let alloc = rt.alloc();
-    for (input, output) in [
+    const ROWS: &[(&str, &str)] = &[
         ("", DONE),
         ("[\"call\",null,\"K\",[],\"u", DONE),
         (
@@ -67,25 +78,24 @@ fn ends_where_a_read_fails(rt: HostRuntime) {
             "[\"done\"]\n[\"value\",1]\n",
         ),
         (COUNTED, COUNTS),
-    ] {
+    ];
+    for &(input, output) in ROWS {
         let reader = input.as_bytes().chain(Broken);
-        let ran = run(
-            alloc,
-            COUNTER.as_bytes(),
-            Limits::default(),
-            reader,
-            Vec::new(alloc),
-        );
-        assert_eq!(rt; str::from_utf8(&ran.writer), Ok(output), "at {input}");
-        assert_eq!(rt; ran.status, 3, "at {input}");
+        check_read(&rt, rt.alloc(), Limits::default(), reader, output, 3);
     }
+}
+
+/// Checks what is written for so many blanks, and the exit status.
+fn check_blanks(rt: &impl Abort, alloc: Global, ticks: u32, count: u64, output: &str, status: u8) {
+    let limits = Limits::new(32, ticks).expect(rt, "limits in range");
+    let reader = io::repeat(b' ').take(count);
+    check_read(rt, alloc, limits, reader, output, status);
 }
 
 /// Under a limit of one tick the boot is cut.
 #[test]
 fn reads_sixteen_mebibytes(rt: HostRuntime) {
-    let alloc = rt.alloc();
-    for (ticks, count, output, status) in [
+    const ROWS: &[(u32, u64, &str, u8)] = &[
         (2, 16_777_216, "[\"done\"]\n[\"refused\",\"BadLine\"]\n", 0),
         (2, 16_777_217, DONE, 3),
         (
@@ -95,13 +105,32 @@ fn reads_sixteen_mebibytes(rt: HostRuntime) {
             4,
         ),
         (1, 16_777_217, "[\"halted\",\"ticks\"]\n", 3),
-    ] {
-        let limits = Limits::new(32, ticks).expect(&rt, "limits in range");
-        let reader = io::repeat(b' ').take(count);
-        let ran = run(alloc, COUNTER.as_bytes(), limits, reader, Vec::new(alloc));
-        assert_eq!(rt; str::from_utf8(&ran.writer), Ok(output), "at {count}");
-        assert_eq!(rt; ran.status, status, "at {count}");
+    ];
+    for &(ticks, count, output, status) in ROWS {
+        check_blanks(&rt, rt.alloc(), ticks, count, output, status);
     }
+}
+
+/// Checks that these lines are written where there is no room for more, and that the run ends in a fault.
+fn check_front(
+    rt: &impl Abort,
+    alloc: Global,
+    deployment: &str,
+    front: &[u8],
+) -> Result<(), AllocError> {
+    let mut room = vec![in alloc; 0u8; front.len()]?;
+    let (deployment, reader) = (deployment.as_bytes(), COUNTED.as_bytes());
+    let status = run(
+        alloc,
+        deployment,
+        Limits::default(),
+        reader,
+        room.as_mut_slice(),
+    )
+    .status;
+    expect_same(rt, &status, &3);
+    expect_same(rt, &room.as_slice(), &front);
+    Ok(())
 }
 
 /// Checks that a front part of the lines is written where there is no room for more.
@@ -112,23 +141,14 @@ fn check_room(
     lines: &[u8],
 ) -> Result<(), AllocError> {
     for left in 0..lines.len() {
-        let mut room = vec![in alloc; 0u8; left]?;
-        let ran = run(
-            alloc,
-            deployment.as_bytes(),
-            Limits::default(),
-            COUNTED.as_bytes(),
-            room.as_mut_slice(),
-        );
-        assert_eq!(rt; ran.status, 3, "at {left}");
-        assert_eq!(rt; room.as_slice(), &lines[..left], "at {left}");
+        check_front(rt, alloc, deployment, &lines[..left])?;
     }
     Ok(())
 }
 
 #[test]
 fn ends_where_there_is_no_room(rt: HostRuntime) -> Result<(), Fail> {
-    for (deployment, lines) in [
+    const ROWS: &[(&str, &str)] = &[
         (COUNTER, COUNTS),
         ("{", "NotJson\n"),
         (
@@ -139,37 +159,30 @@ fn ends_where_there_is_no_room(rt: HostRuntime) -> Result<(), Fail> {
             r#"{"classes":[{"name":"K"},{"name":"K"},{"name":"Object"}]}"#,
             "P1 DuplicateName K\nP1 DuplicateName Object\n",
         ),
-    ] {
+    ];
+    for &(deployment, lines) in ROWS {
         check_room(&rt, rt.alloc(), deployment, lines.as_bytes())?;
     }
     Ok(())
 }
 
+/// Runs a deployment that is no JSON.
+fn refuse<W: Write>(alloc: Global, writer: W) -> Ran<&'static [u8], W> {
+    run(alloc, b"{", Limits::default(), b"".as_slice(), writer)
+}
+
 /// A buffered writer holds a refusal back until it is flushed.
 #[test]
 fn passes_a_refusal_on(rt: HostRuntime) -> Result<(), Fail> {
-    let alloc = rt.alloc();
-    let (deployment, reader) = (b"{", b"");
-    let writer = BufWriter::new(alloc, Vec::new(alloc))?;
-    let ran = run(
-        alloc,
-        deployment,
-        Limits::default(),
-        reader.as_slice(),
-        writer,
-    );
-    assert_eq!(rt; ran.writer.get_ref().as_slice(), b"NotJson\n".as_slice());
-    assert_eq!(rt; ran.status, 1);
-    let writer = Stuck {
-        taken: Vec::new(alloc),
-    };
-    let ran = run(
-        alloc,
-        deployment,
-        Limits::default(),
-        reader.as_slice(),
-        writer,
-    );
-    assert_eq!(rt; ran.status, 3);
+    let writer = BufWriter::new(rt.alloc(), Vec::new(rt.alloc()))?;
+    let ran = refuse(rt.alloc(), writer);
+    expect_written(&rt, ran.writer.get_ref().as_slice(), "NotJson\n");
+    expect_same(&rt, &ran.status, &1);
     Ok(())
+}
+
+#[test]
+fn ends_where_a_refusal_is_held_back(rt: HostRuntime) {
+    let ran = refuse(rt.alloc(), Stuck::new(rt.alloc()));
+    expect_same(&rt, &ran.status, &3);
 }

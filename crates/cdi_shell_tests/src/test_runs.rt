@@ -1,12 +1,11 @@
 //! Deployments, lines and runs for the tests of the program.
+use crate::checks::{expect_same, expect_written};
 use cdi_base::Limits;
 use cdi_lines::{Input, Output};
 use cdi_shell::drive::drive;
-use std::alloc::Global;
+use std::alloc::{AllocError, Global};
 use std::io::{Read, Write};
 use std::process::Abort;
-use std::str;
-use std::test::Fail;
 
 /// A counter.
 pub(crate) const COUNTER: &str = r#"{
@@ -22,7 +21,8 @@ pub(crate) const COUNTER: &str = r#"{
 /// A method that calls itself for ever.
 pub(crate) const ENDLESS: &str = r#"{
     "classes": [
-        {"name": "K", "bean": {}, "members": [{"kind": "method", "name": "a", "body": "a"}]}
+        {"name": "K", "bean": {"scope": "ApplicationScoped"},
+            "members": [{"kind": "method", "name": "a", "body": "a"}]}
     ],
     "scripts": [{"name": "a", "steps": [["own", "a", []]]}]
 }"#;
@@ -172,13 +172,40 @@ pub(crate) struct Row<'a> {
     pub(crate) status: u8,
 }
 
+/// Checks what a run wrote, and its exit status.
+pub(crate) fn check_ran<R>(rt: &impl Abort, ran: &Ran<R, Vec<u8>>, output: &str, status: u8) {
+    expect_written(rt, ran.writer.as_slice(), output);
+    expect_same(rt, &ran.status, &status);
+}
+
 pub(crate) fn check_row(rt: &impl Abort, alloc: Global, limits: Limits, row: &Row) {
-    let (deployment, input) = (row.deployment.as_bytes(), row.input);
-    let ran = run(alloc, deployment, limits, input.as_bytes(), Vec::new(alloc));
-    let output = str::from_utf8(&ran.writer);
-    assert_eq!(rt; output, Ok(row.output), "at {input} under {limits:?}");
-    assert_eq!(rt; ran.status, row.status, "at {input} under {limits:?}");
-    assert_eq!(rt; ran.reader.len(), 0, "at {input} under {limits:?}");
+    let (deployment, reader) = (row.deployment.as_bytes(), row.input.as_bytes());
+    let ran = run(alloc, deployment, limits, reader, Vec::new(alloc));
+    check_ran(rt, &ran, row.output, row.status);
+    expect_same(rt, &ran.reader.len(), &0);
+}
+
+pub(crate) fn push_line(lines: &mut String, line: &str) -> Result<(), AllocError> {
+    lines.push_str(line)?;
+    lines.push('\n')
+}
+
+/// The lines of a talk.
+fn lines_of(alloc: Global, talk: &[(&str, &str)]) -> Result<String, AllocError> {
+    let mut input = String::new(alloc);
+    for (line, _) in talk {
+        push_line(&mut input, line)?;
+    }
+    Ok(input)
+}
+
+/// The reply to the boot, and those of a talk.
+fn replies_of(alloc: Global, talk: &[(&str, &str)]) -> Result<String, AllocError> {
+    let mut output = String::from_str(alloc, DONE)?;
+    for (_, reply) in talk {
+        push_line(&mut output, reply)?;
+    }
+    Ok(output)
 }
 
 /// Checks that the boot is done and that each line gets its reply, under default limits.
@@ -188,15 +215,9 @@ pub(crate) fn check_talk(
     deployment: &str,
     talk: &[(&str, &str)],
     status: u8,
-) -> Result<(), Fail> {
-    let mut input = String::new(alloc);
-    let mut output = String::from_str(alloc, DONE)?;
-    for (line, reply) in talk {
-        input.push_str(line)?;
-        input.push('\n')?;
-        output.push_str(reply)?;
-        output.push('\n')?;
-    }
+) -> Result<(), AllocError> {
+    let input = lines_of(alloc, talk)?;
+    let output = replies_of(alloc, talk)?;
     let row = Row {
         deployment,
         input: input.as_str(),
@@ -209,15 +230,8 @@ pub(crate) fn check_talk(
 
 /// Checks that a deployment is refused with these lines, and that nothing is read from the input.
 pub(crate) fn check_refused(rt: &impl Abort, alloc: Global, deployment: &[u8], lines: &str) {
-    let reader = COUNTED.as_bytes();
-    let ran = run(
-        alloc,
-        deployment,
-        Limits::default(),
-        reader,
-        Vec::new(alloc),
-    );
-    assert_eq!(rt; str::from_utf8(&ran.writer), Ok(lines), "for {lines}");
-    assert_eq!(rt; ran.status, 1, "for {lines}");
-    assert_eq!(rt; ran.reader.len(), reader.len(), "for {lines}");
+    let (limits, reader) = (Limits::default(), COUNTED.as_bytes());
+    let ran = run(alloc, deployment, limits, reader, Vec::new(alloc));
+    check_ran(rt, &ran, lines, 1);
+    expect_same(rt, &ran.reader.len(), &reader.len());
 }
