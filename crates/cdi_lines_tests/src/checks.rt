@@ -8,19 +8,6 @@ pub(crate) fn expect_same<T: PartialEq + Debug>(rt: &impl Abort, found: &T, want
     assert!(rt; found == wanted, "{found:?} in place of {wanted:?}");
 }
 
-/// The same, where a case says of what it was found.
-pub(crate) fn expect_same_at<C: Debug, T: PartialEq + Debug>(
-    rt: &impl Abort,
-    case: &C,
-    found: &T,
-    wanted: &T,
-) {
-    assert!(rt;
-        found == wanted,
-        "{found:?} in place of {wanted:?}, at {case:?}"
-    );
-}
-
 /// Ends the test unless these bytes were written.
 pub(crate) fn expect_bytes(rt: &impl Abort, found: &[u8], wanted: &[u8]) {
     assert!(rt; found == wanted, "{found:?} in place of {wanted:?}");
@@ -34,6 +21,6 @@ pub(crate) fn expect_text(
     wanted: &str,
 ) -> Result<(), AllocError> {
     let text = it.to_string(alloc)?;
-    assert_eq!(rt; text.as_str(), wanted);
+    expect_same(rt, &text.as_str(), &wanted);
     Ok(())
 }

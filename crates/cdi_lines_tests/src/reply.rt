@@ -14,11 +14,14 @@ use std::test::Fail;
 /// The built-in names, a class, a member and an interceptor.
 fn table(rt: &impl Abort, alloc: Global) -> Result<Names, Fail> {
     let mut names = Names::with_built_in(alloc)?;
-    const TEXTS: &[&str] = &["K", "up", "Log_1.x$"];
-    for text in TEXTS {
-        add_name(rt, &mut names, text)?;
-    }
+    add_names(rt, &mut names)?;
     Ok(names)
+}
+
+fn add_names(rt: &impl Abort, names: &mut Names) -> Result<(), Fail> {
+    add_name(rt, names, "K")?;
+    add_name(rt, names, "up")?;
+    add_name(rt, names, "Log_1.x$")
 }
 
 fn add_name(rt: &impl Abort, names: &mut Names, text: &str) -> Result<(), Fail> {
@@ -144,8 +147,7 @@ fn check_exception(
     check_reply(rt, alloc, names, &Reply::Threw(class), expected)
 }
 
-#[test]
-fn writes_built_in_exceptions(rt: HostRuntime) -> Result<(), Fail> {
+fn check_exceptions(rt: &impl Abort, alloc: Global, names: &Names) -> Result<(), AllocError> {
     const ROWS: &[(BuiltIn, &str)] = &[
         (
             BuiltIn::CreationException,
@@ -156,25 +158,29 @@ fn writes_built_in_exceptions(rt: HostRuntime) -> Result<(), Fail> {
             "[\"threw\",\"NullPointerException\"]\n",
         ),
     ];
-    let names = table(&rt, rt.alloc())?;
     for &(class, expected) in ROWS {
-        check_exception(&rt, rt.alloc(), &names, class.name(), expected)?;
+        check_exception(rt, alloc, names, class.name(), expected)?;
     }
-    Ok(())
+    let (in_table, in_none) = (names.name_for("Log_1.x$"), names.name_for("of no table"));
+    check_exception(rt, alloc, names, in_table, "[\"threw\",\"Log_1.x$\"]\n")?;
+    check_exception(rt, alloc, names, in_none, "[\"threw\",\"\"]\n")
 }
 
 #[test]
 fn writes_exceptions(rt: HostRuntime) -> Result<(), Fail> {
-    const ROWS: &[(&str, &str)] = &[
-        ("Log_1.x$", "[\"threw\",\"Log_1.x$\"]\n"),
-        ("of no table", "[\"threw\",\"\"]\n"),
-    ];
     let names = table(&rt, rt.alloc())?;
-    for &(class, expected) in ROWS {
-        let class = names.name_for(class);
-        check_exception(&rt, rt.alloc(), &names, class, expected)?;
-    }
+    check_exceptions(&rt, rt.alloc(), &names)?;
     Ok(())
+}
+
+/// Checks that a refusal is written as this line.
+fn check_refusal(
+    rt: &impl Abort,
+    alloc: Global,
+    refusal: Refusal,
+    expected: &str,
+) -> Result<(), AllocError> {
+    check_nameless(rt, alloc, &Reply::Refused(refusal), expected)
 }
 
 #[test]
@@ -201,15 +207,30 @@ fn writes_refusals(rt: HostRuntime) -> Result<(), Fail> {
         (Refusal::WrongCount, "[\"refused\",\"WrongCount\"]\n"),
     ];
     for &(refusal, expected) in ROWS {
-        check_nameless(&rt, rt.alloc(), &Reply::Refused(refusal), expected)?;
+        check_refusal(&rt, rt.alloc(), refusal, expected)?;
     }
     Ok(())
 }
 
 #[test]
-fn writes_other_replies(rt: HostRuntime) -> Result<(), Fail> {
+fn writes_null_and_done(rt: HostRuntime) -> Result<(), Fail> {
     check_value(&rt, rt.alloc(), Value::Null, "[\"value\",null]\n")?;
     check_nameless(&rt, rt.alloc(), &Reply::Done, "[\"done\"]\n")?;
+    Ok(())
+}
+
+/// Checks that a halt is written as this line.
+fn check_halt(
+    rt: &impl Abort,
+    alloc: Global,
+    cause: Cause,
+    expected: &str,
+) -> Result<(), AllocError> {
+    check_nameless(rt, alloc, &Reply::Halted(cause), expected)
+}
+
+#[test]
+fn writes_halts(rt: HostRuntime) -> Result<(), Fail> {
     const ROWS: &[(Cause, &str)] = &[
         (Cause::Ticks, "[\"halted\",\"ticks\"]\n"),
         (Cause::Depth, "[\"halted\",\"depth\"]\n"),
@@ -217,7 +238,7 @@ fn writes_other_replies(rt: HostRuntime) -> Result<(), Fail> {
         (Cause::Memory, "[\"halted\",\"memory\"]\n"),
     ];
     for &(cause, expected) in ROWS {
-        check_nameless(&rt, rt.alloc(), &Reply::Halted(cause), expected)?;
+        check_halt(&rt, rt.alloc(), cause, expected)?;
     }
     Ok(())
 }
@@ -266,15 +287,20 @@ fn check_place(
     expected: &str,
 ) -> Result<(), AllocError> {
     let text = place_text(alloc, names, place)?;
-    assert_eq!(rt; text.as_str(), expected);
+    expect_same(rt, &text.as_str(), &expected);
+    Ok(())
+}
+
+fn check_places(rt: &impl Abort, alloc: Global, names: &Names) -> Result<(), AllocError> {
+    for (place, expected) in places(names) {
+        check_place(rt, alloc, names, place, expected)?;
+    }
     Ok(())
 }
 
 #[test]
 fn writes_places(rt: HostRuntime) -> Result<(), Fail> {
     let names = table(&rt, rt.alloc())?;
-    for (place, expected) in places(&names) {
-        check_place(&rt, rt.alloc(), &names, place, expected)?;
-    }
+    check_places(&rt, rt.alloc(), &names)?;
     Ok(())
 }
