@@ -1,11 +1,14 @@
 //! Problems and tables of small deployments.
+use crate::checks::{expect_same, expect_same_at};
 use cdi_base::BuiltIn;
 use cdi_beans::build::build;
 use cdi_beans::check::{accepted_fits, problems};
 use cdi_beans::problem::ProblemKind;
+use cdi_beans::tables::Tables;
 use cdi_bodies::Bodies;
-use cdi_deploy::read;
-use std::alloc::Global;
+use cdi_deploy::{Deployment, read};
+use std::alloc::{AllocError, Global};
+use std::process::Abort;
 use std::test::Fail;
 
 /// The kind of the first problem of a deployment for which no body is registered.
@@ -16,9 +19,21 @@ fn first_problem(alloc: Global, text: &str) -> Result<Option<ProblemKind>, Fail>
     Ok(found.get(0).map(|problem| problem.kind))
 }
 
+/// Checks the kind of the first problem of a deployment, or that it has none.
+fn check_problem(
+    rt: &impl Abort,
+    alloc: Global,
+    text: &str,
+    wanted: Option<ProblemKind>,
+) -> Result<(), Fail> {
+    let kind = first_problem(alloc, text)?;
+    expect_same_at(rt, &text, &kind, &wanted);
+    Ok(())
+}
+
 #[test]
 fn finds_problems(rt: HostRuntime) -> Result<(), Fail> {
-    let rows = [
+    const ROWS: &[(&str, Option<ProblemKind>)] = &[
         ("{}", None),
         (
             r#"{"classes":[{"name":"K"},{"name":"K"}]}"#,
@@ -37,24 +52,32 @@ fn finds_problems(rt: HostRuntime) -> Result<(), Fail> {
             None,
         ),
     ];
-    for (text, kind) in rows {
-        assert!(rt; first_problem(rt.alloc(), text)? == kind, "{text}");
+    for &(text, kind) in ROWS {
+        check_problem(&rt, rt.alloc(), text, kind)?;
     }
     Ok(())
 }
 
-#[test]
-fn builds_tables(rt: HostRuntime) -> Result<(), Fail> {
-    let alloc = rt.alloc();
-    let text =
-        r#"{"classes":[{"name":"A"},{"name":"K","bean":{},"fields":[{"name":"n","value":3}]}]}"#;
-    let deployment = read(alloc, text.as_bytes())?;
+/// The tables of a deployment that has to have no problem.
+fn tables_of(rt: &impl Abort, alloc: Global, deployment: Deployment) -> Result<Tables, AllocError> {
     let bodies = Bodies::new(alloc);
     let found = problems(alloc, &deployment, &bodies)?;
     assert!(rt; found.is_empty());
     accepted_fits(&deployment, &bodies);
-    let tables = build(alloc, deployment, &bodies)?;
-    assert_eq!(rt; tables.beans.len(), 1);
-    assert_eq!(rt; tables.names.find("Object"), Some(BuiltIn::Object.name()));
+    build(alloc, deployment, &bodies)
+}
+
+#[test]
+fn builds_tables(rt: HostRuntime) -> Result<(), Fail> {
+    let text =
+        r#"{"classes":[{"name":"A"},{"name":"K","bean":{},"fields":[{"name":"n","value":3}]}]}"#;
+    let deployment = read(rt.alloc(), text.as_bytes())?;
+    let tables = tables_of(&rt, rt.alloc(), deployment)?;
+    expect_same(&rt, &tables.beans.len(), &1);
+    expect_same(
+        &rt,
+        &tables.names.find("Object"),
+        &Some(BuiltIn::Object.name()),
+    );
     Ok(())
 }

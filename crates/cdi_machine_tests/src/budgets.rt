@@ -1,17 +1,13 @@
 //! Runs of the engine up to the ends of its budgets, with memory to spare, under a driver that counts how often it is asked.
-ghost use Rattle.std.specs.Prelude.{◌≡◌, IfOk};
-ghost use Rattle.cdi_base.specs.declared.act.Act.TheVariants.{Give};
-ghost use Rattle.cdi_base.specs.declared.value.Value.TheVariants.{Null};
 ghost use Rattle.cdi_plain.specs.Worked.{anything};
 
-use cdi_base::{Act, Cause, Fields, Limits, Name, Names, Place, Seq, Value, is_name};
-use cdi_beans::bean::{Bean, Method};
-use cdi_beans::tables::Tables;
-use cdi_bodies::{Bodies, Body, BodyId, Shape, View};
+use crate::checks::expect_same_at;
+use crate::deployed::{Deployed, End, Ended, Form, deploy, make_ended};
+use cdi_base::{Act, Fields, Limits, Name, Seq, Value};
+use cdi_bodies::{BodyId, View};
 use cdi_deploy::deployment::Scope;
 use cdi_plain::driver::Driver;
-use cdi_plain::run::run;
-use cdi_plain::task::{Call, Outcome};
+use cdi_plain::task::Call;
 use cdi_plain::world::World;
 use std::alloc::{AllocError, Global};
 use std::cell::Cell;
@@ -29,10 +25,16 @@ struct Asked {
     times: Cell<u32>,
 }
 
+/// The values of a call with a number.
+fn level_args(alloc: Global, level: i64) -> Result<Seq<Value>, AllocError> {
+    let mut args = Seq::empty(alloc);
+    args.push(Value::Int(level))?;
+    Ok(args)
+}
+
 impl Asked {
     fn call_below(&self, level: i64) -> Result<Act, AllocError> {
-        let mut args = Seq::empty(self.alloc);
-        args.push(Value::Int(level))?;
+        let args = level_args(self.alloc, level)?;
         Ok(Act::Own {
             method: self.method,
             args,
@@ -69,97 +71,6 @@ impl Driver for Asked {
     }
 }
 
-/// The deployment of a class K with a field n and a method up.
-#[derive(Drop)]
-struct Deployed {
-    tables: Tables,
-    class: Name,
-    field: Name,
-    method: Name,
-}
-
-fn name_of(rt: &impl Abort, names: &mut Names, text: &str) -> Result<Name, Fail> {
-    assert!(rt; is_name(text));
-    Ok(names.intern(text)?)
-}
-
-/// A body's number: that of one that gives null.
-fn a_body(alloc: Global, name: Name) -> Result<BodyId, Fail> {
-    let mut bodies = Bodies::new(alloc);
-    let body: Body = Box::new(
-        alloc,
-        |_fields: &Fields, _view: &View| -> Result<Act, AllocError>
-            ensures { IfOk result (λ act. act ≡ Give Null) }
-        { Ok(Act::Give { value: Value::Null }) },
-    )?;
-    Ok(bodies.add(name, Shape::new(alloc), body)?)
-}
-
-/// The class with its method, and no fields, since the bodies set without looking.
-fn only_bean(alloc: Global, class: Name, method: Name) -> Result<Bean, Fail> {
-    let mut methods = Seq::empty(alloc);
-    methods.push(Method {
-        name: method,
-        place: Place::Member {
-            class,
-            member: method,
-        },
-        count: 1,
-        body: a_body(alloc, method)?,
-    })?;
-    Ok(Bean {
-        class,
-        scope: Scope::ApplicationScoped,
-        fields: Seq::empty(alloc),
-        methods,
-    })
-}
-
-fn deploy(rt: &impl Abort, alloc: Global) -> Result<Deployed, Fail> {
-    let mut names = Names::with_built_in(alloc)?;
-    let class = name_of(rt, &mut names, "K")?;
-    let field = name_of(rt, &mut names, "n")?;
-    let method = name_of(rt, &mut names, "up")?;
-    let mut beans = Seq::empty(alloc);
-    beans.push(only_bean(alloc, class, method)?)?;
-    assert!(rt; beans.len() <= 4_096);
-    Ok(Deployed {
-        tables: Tables { names, beans },
-        class,
-        field,
-        method,
-    })
-}
-
-/// A call of the method with a number.
-fn call(alloc: Global, deployed: &Deployed, level: i64) -> Result<Call, AllocError> {
-    let mut args = Seq::empty(alloc);
-    args.push(Value::Int(level))?;
-    Ok(Call::CallBean {
-        bean_type: deployed.class,
-        method: deployed.method,
-        args,
-    })
-}
-
-/// How a call ended.
-#[derive(Clone, Copy, Debug, PartialEq, Eq)]
-enum End {
-    Seven,
-    Ticks,
-    Depth,
-    Other,
-}
-
-fn end_of(outcome: Outcome) -> End {
-    match outcome {
-        Outcome::Value(Value::Int(7)) => End::Seven,
-        Outcome::Cut(Cause::Ticks) => End::Ticks,
-        Outcome::Cut(Cause::Depth) => End::Depth,
-        _ => End::Other,
-    }
-}
-
 /// A first call, of a body with so many sets and that many levels below it, under limits of depth and ticks.
 #[derive(Clone, Copy, Debug, Drop)]
 struct Asking {
@@ -169,46 +80,79 @@ struct Asking {
     ticks: u32,
 }
 
-/// How a call ended, how many entries it gave, and how often a body was asked.
+/// How a call ended, and how often a body was asked.
 #[derive(Clone, Copy, Debug, PartialEq, Eq)]
-struct Ended {
-    end: End,
-    entries: usize,
+struct Answered {
+    ended: Ended,
     asked: u32,
 }
 
+/// A call of the method with a number.
+fn call(alloc: Global, deployed: &Deployed, level: i64) -> Result<Call, AllocError> {
+    let args = level_args(alloc, level)?;
+    Ok(Call::CallBean {
+        bean_type: deployed.named.class,
+        method: deployed.named.method,
+        args,
+    })
+}
+
+/// Makes the call in a new world.
 #[tactic(auto, using(cdi_plain::proofs::Known::all_known))]
-fn make_ended(
+fn ask(
+    alloc: Global,
+    deployed: &Deployed,
+    driver: &Asked,
+    asking: Asking,
+    limits: Limits,
+) -> Result<Ended, AllocError> {
+    let call = call(alloc, deployed, asking.below)?;
+    let mut world = World::new(alloc, 1, limits)?;
+    make_ended(alloc, deployed, driver, &mut world, call)
+}
+
+fn answer(
     alloc: Global,
     deployed: &Deployed,
     asking: Asking,
     limits: Limits,
-) -> Result<Ended, AllocError> {
+) -> Result<Answered, AllocError> {
     let driver = Asked {
         alloc,
-        field: deployed.field,
-        method: deployed.method,
+        field: deployed.named.field,
+        method: deployed.named.method,
         sets: asking.sets,
         times: Cell::new(0),
     };
-    let mut world = World::new(alloc, 1, limits)?;
-    let call = call(alloc, deployed, asking.below)?;
-    let outcome = run(alloc, &deployed.tables, &driver, &mut world, call)?;
-    Ok(Ended {
-        end: end_of(outcome),
-        entries: world.trace().len(),
-        asked: driver.times.get(),
-    })
+    let ended = ask(alloc, deployed, &driver, asking, limits)?;
+    let asked = driver.times.get();
+    Ok(Answered { ended, asked })
 }
 
-/// Checks calls one by one, each in a world of its own. That memory is there is part of what is checked: a budget that is
-/// spent may not be told as want of memory.
-fn check_askings(rt: &impl Abort, alloc: Global, rows: &[(Asking, Ended)]) -> Result<(), Fail> {
-    let deployed = deploy(rt, alloc)?;
-    for (asking, wanted) in rows {
-        let limits = Limits::new(asking.depth, asking.ticks).expect(rt, "limits in range");
-        let ended = make_ended(alloc, &deployed, *asking, limits)?;
-        assert_eq!(rt; ended, *wanted, "at {asking:?}");
+/// Checks a call. That memory is there is part of what is checked: a budget that is spent may not be told as want of memory.
+fn check_asking(
+    rt: &impl Abort,
+    alloc: Global,
+    deployed: &Deployed,
+    asking: Asking,
+    wanted: Answered,
+) -> Result<(), AllocError> {
+    let limits = Limits::new(asking.depth, asking.ticks).expect(rt, "limits in range");
+    let answered = answer(alloc, deployed, asking, limits)?;
+    expect_same_at(rt, &asking, &answered, &wanted);
+    Ok(())
+}
+
+/// Checks calls one by one, each in a world of its own. The bean has no fields, since the bodies set without looking.
+fn check_askings(rt: &impl Abort, alloc: Global, rows: &[(Asking, Answered)]) -> Result<(), Fail> {
+    let form = Form {
+        scope: Scope::ApplicationScoped,
+        has_field: false,
+        count: 1,
+    };
+    let deployed = deploy(rt, alloc, form)?;
+    for &(asking, wanted) in rows {
+        check_asking(rt, alloc, &deployed, asking, wanted)?;
     }
     Ok(())
 }
@@ -221,20 +165,19 @@ fn row(
     end: End,
     entries: usize,
     asked: u32,
-) -> (Asking, Ended) {
+) -> (Asking, Answered) {
     let asking = Asking {
         sets,
         below,
         depth,
         ticks,
     };
-    let ended = Ended {
-        end,
-        entries,
-        asked,
-    };
-    (asking, ended)
+    let ended = Ended { end, entries };
+    (asking, Answered { ended, asked })
 }
+
+/// How a call ends whose body comes to its end.
+const SEVEN: End = End::Gave(7);
 
 /// A call gives two entries for the instance, one where its body starts, and one for each act. An act for which no entry is
 /// left has been asked for.
@@ -246,8 +189,8 @@ fn spends_its_entries(rt: HostRuntime) -> Result<(), Fail> {
         row(2, 0, 1, 3, End::Ticks, 3, 1),
         row(2, 0, 1, 4, End::Ticks, 4, 2),
         row(2, 0, 1, 5, End::Ticks, 5, 3),
-        row(2, 0, 1, 6, End::Seven, 6, 3),
-        row(99_996, 0, 1, 100_000, End::Seven, 100_000, 99_997),
+        row(2, 0, 1, 6, SEVEN, 6, 3),
+        row(99_996, 0, 1, 100_000, SEVEN, 100_000, 99_997),
         row(99_997, 0, 1, 100_000, End::Ticks, 100_000, 99_998),
     ];
     check_askings(&rt, rt.alloc(), &rows)
@@ -259,12 +202,12 @@ fn spends_its_entries(rt: HostRuntime) -> Result<(), Fail> {
 #[test]
 fn spends_its_levels(rt: HostRuntime) -> Result<(), Fail> {
     let rows = [
-        row(0, 0, 1, 100_000, End::Seven, 4, 1),
+        row(0, 0, 1, 100_000, SEVEN, 4, 1),
         row(0, 1, 1, 100_000, End::Depth, 4, 1),
-        row(0, 1, 2, 100_000, End::Seven, 7, 3),
+        row(0, 1, 2, 100_000, SEVEN, 7, 3),
         row(3, 31, 32, 192, End::Ticks, 192, 159),
-        row(3, 31, 32, 193, End::Seven, 193, 159),
-        row(255, 31, 32, 100_000, End::Seven, 8_257, 8_223),
+        row(3, 31, 32, 193, SEVEN, 193, 159),
+        row(255, 31, 32, 100_000, SEVEN, 8_257, 8_223),
         row(255, 32, 32, 8_225, End::Ticks, 8_225, 8_192),
         row(255, 32, 32, 8_226, End::Depth, 8_226, 8_192),
     ];

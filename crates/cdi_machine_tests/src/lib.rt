@@ -6,6 +6,10 @@ mod beans;
 #[cfg(test)]
 mod budgets;
 #[cfg(test)]
+mod checks;
+#[cfg(test)]
+mod deployed;
+#[cfg(test)]
 mod many_beans;
 #[cfg(test)]
 mod plain;

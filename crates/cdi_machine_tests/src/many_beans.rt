@@ -1,10 +1,12 @@
 //! As many beans as there may be, and one more.
+use crate::checks::expect_same;
 use cdi_base::{Name, Names, Seq, is_name};
 use cdi_beans::check::problems;
 use cdi_beans::problem::ProblemKind;
 use cdi_bodies::Bodies;
 use cdi_deploy::{Bean, Class, Deployment, Scope};
 use std::alloc::Global;
+use std::process::Abort;
 use std::test::Fail;
 
 /// The name of the class with this number.
@@ -48,18 +50,27 @@ fn first_problems(
     alloc: Global,
     count: u32,
 ) -> Result<(Option<ProblemKind>, Option<ProblemKind>), Fail> {
-    let found = problems(alloc, &beans(alloc, count)?, &Bodies::new(alloc))?;
+    let deployment = beans(alloc, count)?;
+    let found = problems(alloc, &deployment, &Bodies::new(alloc))?;
     let first = found.get(0).map(|problem| problem.kind);
     let second = found.get(1).map(|problem| problem.kind);
     Ok((first, second))
 }
 
+/// Checks the kind of the only problem of so many beans, or that there is none.
+fn check_beans(
+    rt: &impl Abort,
+    alloc: Global,
+    count: u32,
+    wanted: Option<ProblemKind>,
+) -> Result<(), Fail> {
+    let found = first_problems(alloc, count)?;
+    expect_same(rt, &found, &(wanted, None));
+    Ok(())
+}
+
 #[test]
 fn counts_many_beans(rt: HostRuntime) -> Result<(), Fail> {
-    for (count, wanted) in [(4_096, None), (4_097, Some(ProblemKind::TooMany))] {
-        let (first, second) = first_problems(rt.alloc(), count)?;
-        assert!(rt; first == wanted, "of {count} beans");
-        assert!(rt; second.is_none(), "of {count} beans");
-    }
-    Ok(())
+    check_beans(&rt, rt.alloc(), 4_096, None)?;
+    check_beans(&rt, rt.alloc(), 4_097, Some(ProblemKind::TooMany))
 }

@@ -1,0 +1,21 @@
+//! What the tests share: each compares by a call, since an assertion in a test makes its proof longer than a call does.
+use std::fmt::Debug;
+use std::process::Abort;
+
+/// Ends the test unless what was found is what is wanted.
+pub(crate) fn expect_same<T: PartialEq + Debug>(rt: &impl Abort, found: &T, wanted: &T) {
+    assert!(rt; found == wanted, "{found:?} in place of {wanted:?}");
+}
+
+/// The same, where a case says of what it was found.
+pub(crate) fn expect_same_at<C: Debug, T: PartialEq + Debug>(
+    rt: &impl Abort,
+    case: &C,
+    found: &T,
+    wanted: &T,
+) {
+    assert!(rt;
+        found == wanted,
+        "{found:?} in place of {wanted:?}, at {case:?}"
+    );
+}
