@@ -1,43 +1,45 @@
 //! Tests of reading deployments.
-use cdi_base::{BuiltIn, Names, ReadError, Value};
-use cdi_deploy::{Bean, Class, Deployment, Member, Scope, Script, read};
-use serde_json::Value as Json;
-use std::alloc::{AllocError, Global};
+use crate::checks::{Plain, expect_printed, expect_same, expect_text, expect_value};
+use cdi_base::{BuiltIn, Name, Names, ReadError};
+use cdi_deploy::{Bean, Class, Deployment, Member, Method, ReadFault, Scope, Script, read};
+use std::alloc::Global;
 use std::process::Abort;
-use std::test::Fail;
 
-/// What is printed for bytes: `ok`, or their first fault.
-fn printed(alloc: Global, bytes: &[u8]) -> Result<String, AllocError> {
-    match read(alloc, bytes) {
-        Ok(_) => String::from_str(alloc, "ok"),
-        Err(ReadError::Memory) => Err(AllocError),
-        Err(ReadError::Fault(fault)) => format!(in alloc; "{fault}"),
-    }
-}
-
-/// Reads a text, and compares what is printed for it.
-fn check(
+/// What is printed for what was read: `ok`, or the first fault.
+fn printed(
     rt: &impl Abort,
     alloc: Global,
-    text: &str,
+    found: &Result<Deployment, ReadError<ReadFault>>,
+) -> String {
+    let text = match found {
+        Ok(_) => String::from_str(alloc, "ok"),
+        Err(fault) => fault.to_string(alloc),
+    };
+    text.expect(rt, "memory")
+}
+
+/// Reads bytes, and compares what is printed for them.
+pub(crate) fn compare_bytes(
+    rt: &impl Abort,
+    alloc: Global,
+    bytes: &[u8],
     told_as: &str,
-    expected: &str,
-) -> Result<(), Fail> {
-    let found = printed(alloc, text.as_bytes())?;
-    assert_eq!(rt; found.as_str(), expected, "of {told_as}");
-    Ok(())
+    wanted: &str,
+) {
+    let found = read(alloc, bytes);
+    let printed = printed(rt, alloc, &found);
+    expect_text(rt, printed.as_str(), wanted, told_as);
 }
 
 /// Reads each text, and compares what is printed for it.
-fn compare(rt: &impl Abort, alloc: Global, rows: &[(&str, &str)]) -> Result<(), Fail> {
-    for (text, expected) in rows {
-        check(rt, alloc, text, text, expected)?;
+fn compare(rt: &impl Abort, alloc: Global, rows: &[(&str, &str)]) {
+    for (text, wanted) in rows {
+        compare_bytes(rt, alloc, text.as_bytes(), text, wanted);
     }
-    Ok(())
 }
 
 #[test]
-fn accepts_what_has_no_part(rt: HostRuntime) -> Result<(), Fail> {
+fn accepts_what_has_no_part(rt: HostRuntime) {
     compare(
         &rt,
         rt.alloc(),
@@ -46,12 +48,12 @@ fn accepts_what_has_no_part(rt: HostRuntime) -> Result<(), Fail> {
             (r#" { "form" : 1 } "#, "ok"),
             (r#"{"classes":[],"scripts":[]}"#, "ok"),
         ],
-    )
+    );
 }
 
 // The bytes.
 #[test]
-fn refuses_what_is_no_json(rt: HostRuntime) -> Result<(), Fail> {
+fn refuses_what_is_no_json(rt: HostRuntime) {
     compare(
         &rt,
         rt.alloc(),
@@ -63,12 +65,12 @@ fn refuses_what_is_no_json(rt: HostRuntime) -> Result<(), Fail> {
             (r#"{"x":1e400}"#, "NotJson"),
             (r#"{"x":"\ud800"}"#, "NotJson"),
         ],
-    )
+    );
 }
 
 // Numbers, wherever they stand.
 #[test]
-fn refuses_bad_numbers(rt: HostRuntime) -> Result<(), Fail> {
+fn refuses_bad_numbers(rt: HostRuntime) {
     compare(
         &rt,
         rt.alloc(),
@@ -90,12 +92,12 @@ fn refuses_bad_numbers(rt: HostRuntime) -> Result<(), Fail> {
             ),
             (r#"{"form":1.5,"form":1}"#, "ok"),
         ],
-    )
+    );
 }
 
 // The root.
 #[test]
-fn looks_at_the_root(rt: HostRuntime) -> Result<(), Fail> {
+fn looks_at_the_root(rt: HostRuntime) {
     compare(
         &rt,
         rt.alloc(),
@@ -115,12 +117,12 @@ fn looks_at_the_root(rt: HostRuntime) -> Result<(), Fail> {
             (r#"{"classes":null}"#, "Shape /classes"),
             (r#"{"classes":{}}"#, "Shape /classes"),
         ],
-    )
+    );
 }
 
 // Classes.
 #[test]
-fn looks_at_classes(rt: HostRuntime) -> Result<(), Fail> {
+fn looks_at_classes(rt: HostRuntime) {
     compare(
         &rt,
         rt.alloc(),
@@ -133,12 +135,12 @@ fn looks_at_classes(rt: HostRuntime) -> Result<(), Fail> {
             (r#"{"classes":[{"name":1},{}]}"#, "Shape /classes/0/name"),
             (r#"{"classes":[{"name":null}]}"#, "Shape /classes/0/name"),
         ],
-    )
+    );
 }
 
 // Beans.
 #[test]
-fn looks_at_beans(rt: HostRuntime) -> Result<(), Fail> {
+fn looks_at_beans(rt: HostRuntime) {
     compare(
         &rt,
         rt.alloc(),
@@ -168,12 +170,12 @@ fn looks_at_beans(rt: HostRuntime) -> Result<(), Fail> {
                 "ok",
             ),
         ],
-    )
+    );
 }
 
 // Fields.
 #[test]
-fn looks_at_fields(rt: HostRuntime) -> Result<(), Fail> {
+fn looks_at_fields(rt: HostRuntime) {
     compare(
         &rt,
         rt.alloc(),
@@ -195,12 +197,12 @@ fn looks_at_fields(rt: HostRuntime) -> Result<(), Fail> {
                 "Shape /classes/0/fields/1",
             ),
         ],
-    )
+    );
 }
 
 // Members.
 #[test]
-fn looks_at_members(rt: HostRuntime) -> Result<(), Fail> {
+fn looks_at_members(rt: HostRuntime) {
     compare(
         &rt,
         rt.alloc(),
@@ -238,12 +240,12 @@ fn looks_at_members(rt: HostRuntime) -> Result<(), Fail> {
                 "ok",
             ),
         ],
-    )
+    );
 }
 
 // Scripts, whose steps are not looked at.
 #[test]
-fn looks_at_scripts(rt: HostRuntime) -> Result<(), Fail> {
+fn looks_at_scripts(rt: HostRuntime) {
     compare(
         &rt,
         rt.alloc(),
@@ -258,12 +260,12 @@ fn looks_at_scripts(rt: HostRuntime) -> Result<(), Fail> {
                 "ok",
             ),
         ],
-    )
+    );
 }
 
 // Names, after every shape.
 #[test]
-fn looks_at_names_last(rt: HostRuntime) -> Result<(), Fail> {
+fn looks_at_names_last(rt: HostRuntime) {
     compare(
         &rt,
         rt.alloc(),
@@ -289,14 +291,12 @@ fn looks_at_names_last(rt: HostRuntime) -> Result<(), Fail> {
                 "BadNumber",
             ),
         ],
-    )
+    );
 }
 
 #[test]
-fn refuses_what_is_not_utf8(rt: HostRuntime) -> Result<(), Fail> {
-    let found = printed(rt.alloc(), &[b'"', 255, b'"'])?;
-    assert_eq!(rt; found.as_str(), "NotJson");
-    Ok(())
+fn refuses_what_is_not_utf8(rt: HostRuntime) {
+    compare_bytes(&rt, rt.alloc(), b"\"\xff\"", "no UTF-8", "NotJson");
 }
 
 /// A text of which one part is repeated.
@@ -307,16 +307,21 @@ struct Repeated<'a> {
     after: &'a str,
 }
 
-impl Repeated<'_> {
-    fn text(&self, alloc: Global, count: usize) -> Result<String, AllocError> {
-        let Repeated {
-            before,
-            part,
-            after,
-        } = *self;
-        let parts = part.repeat(alloc, count)?;
-        format!(in alloc; "{before}{parts}{after}")
-    }
+/// The text in which the part stands so many times.
+fn repeated_text(rt: &impl Abort, alloc: Global, repeated: &Repeated, count: usize) -> String {
+    let Repeated {
+        before,
+        part,
+        after,
+    } = repeated;
+    let parts = part.repeat(alloc, count).expect(rt, "memory");
+    format!(in alloc; "{before}{parts}{after}").expect(rt, "memory")
+}
+
+/// Reads a text in which a part is repeated, and compares what is printed for it.
+fn check_repeated(rt: &impl Abort, alloc: Global, repeated: &Repeated, count: usize, wanted: &str) {
+    let text = repeated_text(rt, alloc, repeated, count);
+    compare_bytes(rt, alloc, text.as_bytes(), repeated.part, wanted);
 }
 
 const CLASSES: Repeated = Repeated {
@@ -375,141 +380,185 @@ const BRACKETS: Repeated = Repeated {
     after: "",
 };
 
-#[test]
-fn limits(rt: HostRuntime) -> Result<(), Fail> {
-    for (repeated, count, expected) in [
-        (BLANKS, 1_048_574, "ok"),
-        (BLANKS, 1_048_575, "TooLong"),
-        (BRACKETS, 1_048_577, "TooLong"),
-        (BRACKETS, 127, "NotJson"),
-        (CLASSES, 1_023, "ok"),
-        (CLASSES, 1_024, "TooMany"),
-        (SCRIPTS, 1_023, "ok"),
-        (SCRIPTS, 1_024, "TooMany"),
-        (FIELDS, 63, "ok"),
-        (FIELDS, 64, "TooMany"),
-        (MEMBERS, 63, "ok"),
-        (MEMBERS, 64, "TooMany"),
-        (LONG_NAME, 255, "ok"),
-        (LONG_NAME, 256, "BadName"),
-        (BAD_NAME_BEHIND, 1_024, "BadName"),
-        (WRONG_CLASS_BEHIND, 1_024, "Shape /classes/1024"),
-    ] {
-        let text = repeated.text(rt.alloc(), count)?;
-        check(&rt, rt.alloc(), text.as_str(), repeated.part, expected)?;
+/// Reads each text so often repeated, and compares what is printed for it.
+fn compare_repeated(rt: &impl Abort, alloc: Global, rows: &[(Repeated, usize, &str)]) {
+    for (repeated, count, wanted) in rows {
+        check_repeated(rt, alloc, repeated, *count, wanted);
     }
-    Ok(())
 }
 
-/// So many arrays, each in the one before.
-fn nested(alloc: Global, depth: usize) -> Result<String, AllocError> {
-    let closed = "]".repeat(alloc, depth)?;
+const LIMITS: &[(Repeated, usize, &str)] = &[
+    (BLANKS, 1_048_574, "ok"),
+    (BLANKS, 1_048_575, "TooLong"),
+    (BRACKETS, 1_048_577, "TooLong"),
+    (BRACKETS, 127, "NotJson"),
+    (CLASSES, 1_023, "ok"),
+    (CLASSES, 1_024, "TooMany"),
+    (SCRIPTS, 1_023, "ok"),
+    (SCRIPTS, 1_024, "TooMany"),
+    (FIELDS, 63, "ok"),
+    (FIELDS, 64, "TooMany"),
+    (MEMBERS, 63, "ok"),
+    (MEMBERS, 64, "TooMany"),
+    (LONG_NAME, 255, "ok"),
+    (LONG_NAME, 256, "BadName"),
+    (BAD_NAME_BEHIND, 1_024, "BadName"),
+    (WRONG_CLASS_BEHIND, 1_024, "Shape /classes/1024"),
+];
+
+#[test]
+fn limits(rt: HostRuntime) {
+    compare_repeated(&rt, rt.alloc(), LIMITS);
+}
+
+/// Reads so many arrays, each in the one before, and compares what is printed for them.
+fn check_nested(rt: &impl Abort, alloc: Global, depth: usize, wanted: &str) {
+    let closed = "]".repeat(alloc, depth).expect(rt, "memory");
     let nested = Repeated {
         after: closed.as_str(),
         ..BRACKETS
     };
-    nested.text(alloc, depth)
+    check_repeated(rt, alloc, &nested, depth, wanted);
 }
 
 #[test]
-fn nests_127_deep_and_no_deeper(rt: HostRuntime) -> Result<(), Fail> {
-    for (depth, expected) in [(127, "Shape "), (128, "NotJson")] {
-        let text = nested(rt.alloc(), depth)?;
-        check(&rt, rt.alloc(), text.as_str(), "brackets", expected)?;
+fn nests_127_deep_and_no_deeper(rt: HostRuntime) {
+    check_nested(&rt, rt.alloc(), 127, "Shape ");
+    check_nested(&rt, rt.alloc(), 128, "NotJson");
+}
+
+/// The name of a text that the table has to hold.
+fn name_of(rt: &impl Abort, names: &Names, text: &str) -> Name {
+    names.find(text).expect(rt, text)
+}
+
+/// Checks the name of a class, and whether it is a bean.
+pub(crate) fn check_class(
+    rt: &impl Abort,
+    names: &Names,
+    class: &Class,
+    name: &str,
+    bean: Option<Bean>,
+) {
+    expect_same(rt, &class.name, &name_of(rt, names, name));
+    expect_same(rt, &class.bean, &bean);
+}
+
+/// Checks that a class has these fields with these values, in order and no more.
+pub(crate) fn check_fields(
+    rt: &impl Abort,
+    names: &Names,
+    class: &Class,
+    wanted: &[(&str, Plain)],
+) {
+    expect_same(rt, &class.fields.len(), &wanted.len());
+    for (field, (name, value)) in class.fields.iter().zip(wanted) {
+        expect_same(rt, &field.name, &name_of(rt, names, name));
+        expect_value(rt, &field.value, value, name);
     }
-    Ok(())
+}
+
+/// Checks that a class has this method, and no other member.
+fn check_method(rt: &impl Abort, names: &Names, class: &Class, name: &str, body: &str, args: u32) {
+    let name = name_of(rt, names, name);
+    let body = name_of(rt, names, body);
+    let method = Member::Method(Method { name, body, args });
+    expect_same(rt, &class.members.as_slice(), &[method].as_slice());
+}
+
+/// Checks the name of a script, and its steps.
+fn check_script(
+    rt: &impl Abort,
+    alloc: Global,
+    names: &Names,
+    script: &Script,
+    name: &str,
+    steps: &str,
+) {
+    expect_same(rt, &script.name, &name_of(rt, names, name));
+    expect_printed(rt, alloc, script.steps.as_value(), steps);
+}
+
+/// Checks how many classes and scripts there are.
+fn check_counts(rt: &impl Abort, deployment: &Deployment, classes: usize, scripts: usize) {
+    expect_same(rt, &deployment.classes.len(), &classes);
+    expect_same(rt, &deployment.scripts.len(), &scripts);
+}
+
+/// The class at a place.
+pub(crate) fn class_at<'a>(rt: &impl Abort, deployment: &'a Deployment, at: usize) -> &'a Class {
+    deployment.classes.get(at).expect(rt, "a class")
 }
 
 const COUNTER: &str =
     r#"{"classes":[{"name":"K","bean":{"scope":"ApplicationScoped"},"fields":[{"name":"n","value":0}],"members":[{"kind":"method","name":"up","body":"up"}]}],"scripts":[{"name":"up","steps":[["set","n",["add",["field","n"],1]],["give",["field","n"]]]}]}"#;
 
-/// Checks the class of the counter.
-fn check_class(rt: &impl Abort, names: &Names, class: &Class) -> Result<(), Fail> {
-    assert!(rt; names.find("K") == Some(class.name));
-    let scope = Scope::ApplicationScoped;
-    assert!(rt; class.bean == Some(Bean { scope }));
-    assert_eq!(rt; class.fields.len(), 1);
-    let first = class.fields.get(0).ok_or("a field")?;
-    assert!(rt; names.find("n") == Some(first.name) && first.value == Value::Int(0));
-    assert_eq!(rt; class.members.len(), 1);
-    let Some(Member::Method(method)) = class.members.get(0) else {
-        return Err(Fail::from("a method"));
-    };
-    let up = names.find("up").ok_or("up")?;
-    assert!(rt; method.name == up && method.body == up);
-    assert_eq!(rt; method.args, 0);
-    Ok(())
+const STEPS: &str = r#"[["set","n",["add",["field","n"],1]],["give",["field","n"]]]"#;
+
+/// Checks the names of the counter.
+fn check_names(rt: &impl Abort, names: &Names) {
+    expect_same(rt, &names.len(), &22);
+    expect_same(rt, &names.find("Startup"), &Some(BuiltIn::Startup.name()));
 }
 
-/// Checks the script of the counter.
-fn check_script(rt: &impl Abort, names: &Names, script: &Script, steps: &Json) {
-    assert!(rt; names.find("up") == Some(script.name));
-    assert!(rt; script.steps.as_value() == steps);
+/// Checks the class of the counter.
+fn check_counting(rt: &impl Abort, names: &Names, class: &Class) {
+    let scope = Scope::ApplicationScoped;
+    check_class(rt, names, class, "K", Some(Bean { scope }));
+    check_fields(rt, names, class, &[("n", Plain::Int(0))]);
+    check_method(rt, names, class, "up", "up", 0);
 }
 
 /// Checks the parts of the counter.
-fn check_counter(rt: &impl Abort, deployment: &Deployment, steps: &Json) -> Result<(), Fail> {
+fn check_counter(rt: &impl Abort, alloc: Global, deployment: &Deployment) {
     let names = &deployment.names;
-    assert_eq!(rt; names.len(), 22);
-    assert!(rt; names.find("Startup") == Some(BuiltIn::Startup.name()));
-    assert_eq!(rt; deployment.classes.len(), 1);
-    check_class(rt, names, deployment.classes.get(0).ok_or("a class")?)?;
-    assert_eq!(rt; deployment.scripts.len(), 1);
-    let script = deployment.scripts.get(0).ok_or("a script")?;
-    check_script(rt, names, script, steps);
-    Ok(())
+    check_names(rt, names);
+    check_counts(rt, deployment, 1, 1);
+    check_counting(rt, names, class_at(rt, deployment, 0));
+    let script = deployment.scripts.get(0).expect(rt, "a script");
+    check_script(rt, alloc, names, script, "up", STEPS);
 }
 
 #[test]
-fn the_counter(rt: HostRuntime) -> Result<(), Fail> {
-    let deployment = read(rt.alloc(), COUNTER.as_bytes())?;
-    let text = r#"[["set","n",["add",["field","n"],1]],["give",["field","n"]]]"#;
-    let steps = Json::from_str(rt.alloc(), text)?;
-    check_counter(&rt, &deployment, &steps)
+fn the_counter(rt: HostRuntime) {
+    let deployment = read(rt.alloc(), COUNTER.as_bytes()).expect(&rt, "a deployment");
+    check_counter(&rt, rt.alloc(), &deployment);
 }
 
 /// A bean with a field of each kind, and a class of a built-in name.
 const SPARSE: &str =
     r#"{"classes":[{"name":"K","bean":{},"fields":[{"name":"a"},{"name":"b","value":"?"},{"name":"c","value":-7}]},{"name":"Object","members":[{"kind":"method","name":"m","body":"a","args":8}]}]}"#;
 
-/// Checks the fields of the bean.
-fn check_bean(rt: &impl Abort, bean: &Class) -> Result<(), Fail> {
+/// Checks the bean.
+fn check_bean(rt: &impl Abort, names: &Names, bean: &Class) {
+    let fields = [
+        ("a", Plain::Null),
+        ("b", Plain::Text("?")),
+        ("c", Plain::Int(-7)),
+    ];
     let scope = Scope::Dependent;
-    assert!(rt; bean.bean == Some(Bean { scope }));
-    assert!(rt; bean.members.is_empty());
-    let (null, number) = (bean.fields.get(0), bean.fields.get(2));
-    assert!(rt; null.ok_or("a")?.value == Value::Null);
-    assert!(rt; number.ok_or("c")?.value == Value::Int(-7));
-    let Value::Text(text) = &bean.fields.get(1).ok_or("b")?.value else {
-        return Err(Fail::from("a text"));
-    };
-    assert_eq!(rt; text.as_str(), "?");
-    Ok(())
+    check_class(rt, names, bean, "K", Some(Bean { scope }));
+    check_fields(rt, names, bean, fields.as_slice());
+    expect_same(rt, &bean.members.is_empty(), &true);
 }
 
 /// Checks the class that is no bean.
-fn check_other(rt: &impl Abort, names: &Names, class: &Class) -> Result<(), Fail> {
-    assert!(rt; class.name == BuiltIn::Object.name());
-    assert!(rt; class.bean.is_none() && class.fields.is_empty());
-    let Some(Member::Method(method)) = class.members.get(0) else {
-        return Err(Fail::from("a method"));
-    };
-    assert_eq!(rt; method.args, 8);
-    assert!(rt; Some(method.body) == names.find("a"));
-    Ok(())
+fn check_other(rt: &impl Abort, names: &Names, class: &Class) {
+    expect_same(rt, &class.name, &BuiltIn::Object.name());
+    check_class(rt, names, class, "Object", None);
+    check_fields(rt, names, class, &[]);
+    check_method(rt, names, class, "m", "a", 8);
 }
 
 /// Checks both classes.
-fn check_sparse(rt: &impl Abort, deployment: &Deployment) -> Result<(), Fail> {
-    assert_eq!(rt; deployment.classes.len(), 2);
-    assert!(rt; deployment.scripts.is_empty());
-    check_bean(rt, deployment.classes.get(0).ok_or("a bean")?)?;
-    let other = deployment.classes.get(1).ok_or("a class")?;
-    check_other(rt, &deployment.names, other)
+fn check_sparse(rt: &impl Abort, deployment: &Deployment) {
+    check_counts(rt, deployment, 2, 0);
+    check_bean(rt, &deployment.names, class_at(rt, deployment, 0));
+    check_other(rt, &deployment.names, class_at(rt, deployment, 1));
 }
 
 #[test]
-fn what_is_missing(rt: HostRuntime) -> Result<(), Fail> {
-    let deployment = read(rt.alloc(), SPARSE.as_bytes())?;
-    check_sparse(&rt, &deployment)
+fn what_is_missing(rt: HostRuntime) {
+    let deployment = read(rt.alloc(), SPARSE.as_bytes()).expect(&rt, "a deployment");
+    check_sparse(&rt, &deployment);
 }

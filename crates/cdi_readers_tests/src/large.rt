@@ -1,180 +1,172 @@
 //! Scripts and deployments as large as they may be.
-use cdi_base::{Act, Answer, Fields, Names, ReadError, Seq, Value};
-use cdi_bodies::View;
+use crate::checks::{Plain, expect_same};
+use crate::deploy::{check_class, check_fields, class_at, compare_bytes};
+use crate::script::{check_next, compare_text, script_of};
+use cdi_base::{Act, Answer, Name, Names, Seq, Value};
+use cdi_deploy::Deployment;
 use cdi_deploy::reading::MAX_BYTES;
-use cdi_deploy::{Deployment, ReadFault};
-use cdi_script::{MAX_STEPS, Script, ScriptFault};
-use serde_json::Value as Json;
-use std::alloc::{AllocError, Global};
-use std::test::Fail;
+use cdi_script::{MAX_STEPS, Script};
+use std::alloc::Global;
+use std::process::Abort;
 
-/// The text of a script with so many steps. The step under a number sets the field `f` to the sum of 99 ones, of that
-/// number and of the answer 199, in a hundred sums one within another.
-fn script_text(alloc: Global, count: u32) -> Result<String, Fail> {
-    let opened = "[\"add\",1,".repeat(alloc, 99)?;
-    let closed = "]".repeat(alloc, 99)?;
-    let mut text = String::from_str(alloc, "[")?;
-    for number in 0..count {
-        let comma = if number == 0 { "" } else { "," };
-        let step = format!(in alloc;
-            "{comma}[\"set\",\"f\",{opened}[\"add\",{number},[\"ans\",199]]{closed}]"
-        )?;
-        text.push_str(step.as_str())?;
-    }
-    text.push(']')?;
-    Ok(text)
+/// Adds a step that sets the field `f` to the sum of 99 ones, of this number and of the answer 199, in a hundred sums one
+/// within another.
+fn push_step(rt: &impl Abort, alloc: Global, text: &mut String, number: u32) {
+    let opened = "[\"add\",1,".repeat(alloc, 99).expect(rt, "memory");
+    let closed = "]".repeat(alloc, 99).expect(rt, "memory");
+    let comma = if number == 0 { "" } else { "," };
+    let step = format!(in alloc;
+        "{comma}[\"set\",\"f\",{opened}[\"add\",{number},[\"ans\",199]]{closed}]"
+    );
+    text.push_str(step.expect(rt, "memory").as_str())
+        .expect(rt, "memory");
 }
 
-/// What reading a script of so many steps gives.
-fn long_script(
-    alloc: Global,
-    names: &mut Names,
-    count: u32,
-) -> Result<Result<Script, ScriptFault>, Fail> {
-    let value = Json::from_str(alloc, script_text(alloc, count)?.as_str())?;
-    match Script::read(alloc, &value, names) {
-        Ok(script) => Ok(Ok(script)),
-        Err(ReadError::Fault(fault)) => Ok(Err(fault)),
-        Err(ReadError::Memory) => Err(AllocError)?,
+/// The text of a script with so many steps, each with its number.
+fn script_text(rt: &impl Abort, alloc: Global, count: u32) -> String {
+    let mut text = String::from_str(alloc, "[").expect(rt, "memory");
+    for number in 0..count {
+        push_step(rt, alloc, &mut text, number);
     }
+    text.push(']').expect(rt, "memory");
+    text
 }
 
 /// The answers 0, 10, 20 and so on.
-fn tens(alloc: Global, count: u16) -> Result<Seq<Answer>, Fail> {
+fn tens(rt: &impl Abort, alloc: Global, count: u16) -> Seq<Answer> {
     let mut answers = Seq::empty(alloc);
     for number in 0..count {
-        answers.push(Answer::Done(Value::Int(i64::from(number) * 10)))?;
+        let answer = Answer::Done(Value::Int(i64::from(number) * 10));
+        answers.push(answer).expect(rt, "memory");
     }
-    Ok(answers)
+    answers
 }
 
-/// What a script does, as far as it is looked at here.
-#[derive(Clone, Copy, Debug, PartialEq, Eq)]
-enum Told {
-    Sets(i64),
-    SetsNull,
-    GivesNull,
-    Other,
-}
-
-fn told_by(act: &Act) -> Told {
-    match act {
-        Act::Set { value, .. } => match value {
-            Value::Int(number) => Told::Sets(*number),
-            Value::Null => Told::SetsNull,
-            Value::Text(_) => Told::Other,
-        },
-        Act::Give { value } => match value {
-            Value::Null => Told::GivesNull,
-            _ => Told::Other,
-        },
-        _ => Told::Other,
-    }
-}
-
-/// What a script does after so many answers.
-fn told_after(alloc: Global, script: &Script, count: u16) -> Result<Told, Fail> {
-    let view = View {
-        args: Seq::empty(alloc),
-        answers: tens(alloc, count)?,
+/// The act that sets a field to a number, or to null.
+fn setting(field: Name, number: Option<i64>) -> Act {
+    let value = match number {
+        Some(number) => Value::Int(number),
+        None => Value::Null,
     };
-    let act = script.next(alloc, &Fields::new(alloc), &view)?;
-    Ok(told_by(&act))
+    Act::Set { field, value }
 }
 
-#[test]
-fn asks_a_long_script(rt: HostRuntime) -> Result<(), Fail> {
-    let alloc = rt.alloc();
-    let script = long_script(alloc, &mut Names::new(alloc), 256)?.map_err(|_| "256 are few")?;
-    for (count, wanted) in [
-        (0, Told::SetsNull),
-        (199, Told::SetsNull),
-        (200, Told::Sets(2289)),
-        (255, Told::Sets(2344)),
-        (256, Told::GivesNull),
-    ] {
-        assert_eq!(rt;
-            told_after(alloc, &script, count)?,
-            wanted,
-            "after {count} answers"
-        );
+/// Checks to which number, or null, the script sets `f` after so many answers.
+fn compare_sums(
+    rt: &impl Abort,
+    alloc: Global,
+    script: &Script,
+    field: Name,
+    rows: &[(u16, Option<i64>)],
+) {
+    for (count, number) in rows {
+        let answers = tens(rt, alloc, *count);
+        check_next(rt, alloc, script, answers, &setting(field, *number));
     }
-    Ok(())
 }
 
 #[test]
-fn refuses_a_step_too_many(rt: HostRuntime) -> Result<(), Fail> {
+fn asks_a_long_script(rt: HostRuntime) {
     let alloc = rt.alloc();
-    let fault = long_script(alloc, &mut Names::new(alloc), 257)?
-        .map_err(|fault| fault)
-        .err();
-    assert_eq!(rt; fault, Some(ScriptFault::TooLong));
-    assert_eq!(rt; MAX_STEPS, 256);
-    Ok(())
+    let mut names = Names::new(alloc);
+    let script = script_of(
+        &rt,
+        alloc,
+        &mut names,
+        script_text(&rt, alloc, 256).as_str(),
+    );
+    let field = names.name_for("f");
+    compare_sums(
+        &rt,
+        alloc,
+        &script,
+        field,
+        &[(0, None), (199, None), (200, Some(2289)), (255, Some(2344))],
+    );
+    let value = Value::Null;
+    check_next(
+        &rt,
+        alloc,
+        &script,
+        tens(&rt, alloc, 256),
+        &Act::Give { value },
+    );
+}
+
+#[test]
+fn refuses_a_step_too_many(rt: HostRuntime) {
+    let text = script_text(&rt, rt.alloc(), 257);
+    let names = &mut Names::new(rt.alloc());
+    compare_text(
+        &rt,
+        rt.alloc(),
+        names,
+        text.as_str(),
+        "257 steps",
+        "TooLong",
+    );
+    expect_same(&rt, &MAX_STEPS, &256);
+}
+
+/// Adds a class `K` with a number, whose field `f` has this value.
+fn push_class(rt: &impl Abort, alloc: Global, text: &mut String, number: u32, value: &str) {
+    let comma = if number == 1000 { "" } else { "," };
+    let class = format!(in alloc;
+        "{comma}{{\"name\":\"K{number}\",\"fields\":[{{\"name\":\"f\",\"value\":\"{value}\"}}]}}"
+    );
+    text.push_str(class.expect(rt, "memory").as_str())
+        .expect(rt, "memory");
+}
+
+/// Adds blanks up to so many bytes.
+fn fill_up(rt: &impl Abort, alloc: Global, text: &mut String, bytes: usize) {
+    let count = bytes.saturating_sub(text.len());
+    let blanks = " ".repeat(alloc, count).expect(rt, "memory");
+    text.push_str(blanks.as_str()).expect(rt, "memory");
 }
 
 /// A deployment of 1,024 classes, `K1000` to `K2023`, each with one field whose value is this text. Blanks fill it up to
 /// so many bytes.
-fn deployment_text(alloc: Global, value: &str, bytes: usize) -> Result<String, Fail> {
-    let mut text = String::from_str(alloc, "{\"classes\":[")?;
+fn deployment_text(rt: &impl Abort, alloc: Global, value: &str, bytes: usize) -> String {
+    let mut text = String::from_str(alloc, "{\"classes\":[").expect(rt, "memory");
     for number in 1000..2024 {
-        let comma = if number == 1000 { "" } else { "," };
-        let class = format!(in alloc;
-            "{comma}{{\"name\":\"K{number}\",\"fields\":[{{\"name\":\"f\",\"value\":\"{value}\"}}]}}"
-        )?;
-        text.push_str(class.as_str())?;
+        push_class(rt, alloc, &mut text, number, value);
     }
-    text.push_str("]}")?;
-    let blanks = " ".repeat(alloc, bytes.saturating_sub(text.len()))?;
-    text.push_str(blanks.as_str())?;
-    Ok(text)
+    text.push_str("]}").expect(rt, "memory");
+    fill_up(rt, alloc, &mut text, bytes);
+    text
 }
 
-/// Whether a class is `K` with this number, and has one field, `f` with this value.
-fn is_class(deployment: &Deployment, index: usize, name: &str, value: &str) -> bool {
-    let Some(class) = deployment.classes.get(index) else {
-        return false;
-    };
-    let Some(field) = class.fields.get(0) else {
-        return false;
-    };
-    let Value::Text(text) = &field.value else {
-        return false;
-    };
-    deployment.names.get(class.name) == Some(name)
-        && deployment.names.get(field.name) == Some("f")
-        && text.as_str() == value
-        && class.fields.len() == 1
-        && class.members.is_empty()
-        && class.bean.is_none()
+/// Checks that a class has this name and one field, `f` with this value.
+fn check_large(rt: &impl Abort, deployment: &Deployment, at: usize, name: &str, value: &str) {
+    let class = class_at(rt, deployment, at);
+    check_class(rt, &deployment.names, class, name, None);
+    let fields = [("f", Plain::Text(value))];
+    check_fields(rt, &deployment.names, class, fields.as_slice());
+    expect_same(rt, &class.members.is_empty(), &true);
+}
+
+/// Checks the names and the classes.
+fn check_long(rt: &impl Abort, deployment: &Deployment, value: &str) {
+    expect_same(rt, &deployment.classes.len(), &1024);
+    expect_same(rt, &deployment.names.len(), &(19 + 1024 + 1));
+    check_large(rt, deployment, 0, "K1000", value);
+    check_large(rt, deployment, 511, "K1511", value);
+    check_large(rt, deployment, 1023, "K2023", value);
 }
 
 #[test]
-fn reads_a_long_deployment(rt: HostRuntime) -> Result<(), Fail> {
-    let alloc = rt.alloc();
-    let value = "v".repeat(alloc, 950)?;
-    let text = deployment_text(alloc, value.as_str(), 1_048_576)?;
-    assert_eq!(rt; text.len(), 1_048_576);
-    let deployment = cdi_deploy::read(alloc, text.as_bytes())?;
-    assert_eq!(rt; deployment.classes.len(), 1024);
-    assert_eq!(rt; deployment.names.len(), 19 + 1024 + 1);
-    for (index, name) in [(0, "K1000"), (511, "K1511"), (1023, "K2023")] {
-        assert!(rt;
-            is_class(&deployment, index, name, value.as_str()),
-            "at {name}"
-        );
-    }
-    Ok(())
+fn reads_a_long_deployment(rt: HostRuntime) {
+    let value = "v".repeat(rt.alloc(), 950).expect(&rt, "memory");
+    let text = deployment_text(&rt, rt.alloc(), value.as_str(), 1_048_576);
+    expect_same(&rt, &text.len(), &1_048_576);
+    let deployment = cdi_deploy::read(rt.alloc(), text.as_bytes()).expect(&rt, "a deployment");
+    check_long(&rt, &deployment, value.as_str());
 }
 
 #[test]
-fn refuses_a_byte_too_many(rt: HostRuntime) -> Result<(), Fail> {
-    let alloc = rt.alloc();
-    let text = " ".repeat(alloc, 1_048_577)?;
-    match cdi_deploy::read(alloc, text.as_bytes()) {
-        Err(ReadError::Fault(fault)) => assert_eq!(rt; fault, ReadFault::TooLong),
-        _ => panic!(rt; "a byte too many is refused"),
-    }
-    assert_eq!(rt; MAX_BYTES, 1_048_576);
-    Ok(())
+fn refuses_a_byte_too_many(rt: HostRuntime) {
+    let text = " ".repeat(rt.alloc(), 1_048_577).expect(&rt, "memory");
+    compare_bytes(&rt, rt.alloc(), text.as_bytes(), "blanks", "TooLong");
+    expect_same(&rt, &MAX_BYTES, &1_048_576);
 }

@@ -2,110 +2,77 @@
 ghost use Rattle.std.specs.Prelude.{◌≡◌, ◌<◌, IfOk, IfSome, length, slice_get};
 ghost use Rattle.cdi_script.specs.Next.{next_of};
 
+use crate::checks::{Plain, expect_same, expect_text, expect_value};
 use cdi_base::{Act, Answer, BuiltIn, Fields, Name, Names, ReadError, Seq, Text, Value};
-use cdi_bodies::{AddError, Bodies, Body, View};
-use cdi_script::{Action, MAX_STEPS, Script, ScriptFault, Step};
+use cdi_bodies::{Bodies, Body, View};
+use cdi_script::{Action, Script, ScriptFault, Step};
 use serde_json::Value as Json;
-use std::alloc::{AllocError, AllocFailed, Global};
+use std::alloc::{AllocError, Global};
 use std::process::Abort;
 use std::test::Fail;
 
-/// Why no body was asked.
-#[derive(Debug, Drop)]
-enum AskError {
-    Memory,
-    Refused,
-}
-
-impl From<AllocError> for AskError {
-    fn from(_error: AllocError) -> AskError {
-        AskError::Memory
-    }
-}
-
-impl<T: Drop> From<AllocFailed<T>> for AskError {
-    fn from(_error: AllocFailed<T>) -> AskError {
-        AskError::Memory
-    }
-}
-
-impl From<AddError> for AskError {
-    fn from(error: AddError) -> AskError {
-        match error {
-            AddError::Memory(_) => AskError::Memory,
-            AddError::Repeated(_) | AddError::Full(_) => AskError::Refused,
-        }
-    }
-}
-
-/// Registers bodies that run the scripts, in order and under these names, and asks one of them.
-fn ask_one(
+/// Reads a text, which is JSON.
+fn read(
+    rt: &impl Abort,
     alloc: Global,
-    names: &[Name],
-    scripts: Vec<Script>,
-    which: usize,
-    fields: &Fields,
-    view: &View,
-) -> Result<Act, AskError>
-    requires { which < length scripts.items }
-    ensures { IfOk result (λ act. IfSome (slice_get scripts.items which) (λ script. act ≡ next_of script fields.now view.now)) }
-{
-    let mut bodies = Bodies::new(alloc);
-    let mut asked = None;
-    for script in scripts {
-        let Some(name) = names.get(bodies.len()) else {
-            return Err(AskError::Refused);
-        };
-        let shape = script.shape_of(alloc)?;
-        let runner: Body = Box::new(
-            alloc,
-            move |fields: &Fields, view: &View| -> Result<Act, AllocError>
-                ensures { IfOk result (λ act. act ≡ next_of script fields.now view.now) }
-            { script.next(alloc, fields, view) },
-        )?;
-        let id = bodies.add(*name, shape, runner)?;
-        if bodies.len() == which + 1 {
-            asked = Some(id);
-        }
-    }
-    let Some(id) = asked else {
-        return Err(AskError::Refused);
-    };
-    Ok(bodies.next(id, fields, view)?)
+    names: &mut Names,
+    text: &str,
+) -> Result<Script, ReadError<ScriptFault>> {
+    let value = Json::from_str(alloc, text).expect(rt, text);
+    Script::read(alloc, &value, names)
 }
 
-/// What reading a text gives.
-fn read(alloc: Global, names: &mut Names, text: &str) -> Result<Result<Script, ScriptFault>, Fail> {
-    let value = Json::from_str(alloc, text)?;
-    match Script::read(alloc, &value, names) {
-        Ok(script) => Ok(Ok(script)),
-        Err(ReadError::Fault(fault)) => Ok(Err(fault)),
-        Err(ReadError::Memory) => Err(AskError::Memory)?,
-    }
+/// Reads a text that is a script.
+pub(crate) fn script_of(rt: &impl Abort, alloc: Global, names: &mut Names, text: &str) -> Script {
+    read(rt, alloc, names, text).expect(rt, text)
+}
+
+/// What is printed for what was read: the number of steps, or the fault.
+fn printed(
+    rt: &impl Abort,
+    alloc: Global,
+    found: &Result<Script, ReadError<ScriptFault>>,
+) -> String {
+    let text = match found {
+        Ok(script) if script.is_empty() => format!(in alloc; "empty, {}", script.len()),
+        Ok(script) => format!(in alloc; "{}", script.len()),
+        Err(fault) => fault.to_string(alloc),
+    };
+    text.expect(rt, "memory")
+}
+
+/// Reads a text, and compares what is printed for it.
+pub(crate) fn compare_text(
+    rt: &impl Abort,
+    alloc: Global,
+    names: &mut Names,
+    text: &str,
+    told_as: &str,
+    wanted: &str,
+) {
+    let found = read(rt, alloc, names, text);
+    let printed = printed(rt, alloc, &found);
+    expect_text(rt, printed.as_str(), wanted, told_as);
 }
 
 /// Checks that none of the texts is a script, and that no name of theirs is kept.
-fn refuse(rt: &impl Abort, alloc: Global, texts: &[&str]) -> Result<(), Fail> {
+fn refuse(rt: &impl Abort, alloc: Global, texts: &[&str]) {
     let mut names = Names::new(alloc);
     for text in texts {
-        match read(alloc, &mut names, text)? {
-            Ok(_) => panic!(rt; "{text} is no script"),
-            Err(fault) => assert_eq!(rt; fault, ScriptFault::BadStep, "at {text}"),
-        }
+        compare_text(rt, alloc, &mut names, text, text, "BadStep");
     }
-    assert!(rt; names.is_empty());
-    Ok(())
+    expect_same(rt, &names.is_empty(), &true);
 }
 
 #[test]
-fn refuses_what_is_no_step(rt: HostRuntime) -> Result<(), Fail> {
-    let texts = ["null", "{}", r#""give""#, "[1]", "[[]]", r#"[["give"]]"#];
-    refuse(&rt, rt.alloc(), &texts)
+fn refuses_what_is_no_step(rt: HostRuntime) {
+    let texts = &["null", "{}", r#""give""#, "[1]", "[[]]", r#"[["give"]]"#];
+    refuse(&rt, rt.alloc(), texts);
 }
 
 #[test]
-fn refuses_bad_expressions(rt: HostRuntime) -> Result<(), Fail> {
-    let texts = [
+fn refuses_bad_expressions(rt: HostRuntime) {
+    let texts = &[
         r#"[["give",1,2]]"#,
         r#"[["give",true]]"#,
         r#"[["give",{}]]"#,
@@ -125,12 +92,12 @@ fn refuses_bad_expressions(rt: HostRuntime) -> Result<(), Fail> {
         r#"[["give",["add",1,2,3]]]"#,
         r#"[["give",["sub",1,2]]]"#,
     ];
-    refuse(&rt, rt.alloc(), &texts)
+    refuse(&rt, rt.alloc(), texts);
 }
 
 #[test]
-fn refuses_bad_parts(rt: HostRuntime) -> Result<(), Fail> {
-    let texts = [
+fn refuses_bad_parts(rt: HostRuntime) {
+    let texts = &[
         r#"[["set","f"]]"#,
         r#"[["set","",1]]"#,
         r#"[["set",1,1]]"#,
@@ -140,12 +107,12 @@ fn refuses_bad_parts(rt: HostRuntime) -> Result<(), Fail> {
         r#"[["own","m",[true]]]"#,
         r#"[["own","m n",[]]]"#,
     ];
-    refuse(&rt, rt.alloc(), &texts)
+    refuse(&rt, rt.alloc(), texts);
 }
 
 #[test]
-fn refuses_steps_that_are_not_served(rt: HostRuntime) -> Result<(), Fail> {
-    let texts = [
+fn refuses_steps_that_are_not_served(rt: HostRuntime) {
+    let texts = &[
         r#"[["call",["field","f"],"m",[]]]"#,
         r#"[["read",["field","f"]]]"#,
         r#"[["write",["param",0],1]]"#,
@@ -157,291 +124,326 @@ fn refuses_steps_that_are_not_served(rt: HostRuntime) -> Result<(), Fail> {
         r#"[["throw","X"]]"#,
         r#"[["catch",["give",1]]]"#,
     ];
-    refuse(&rt, rt.alloc(), &texts)
+    refuse(&rt, rt.alloc(), texts);
 }
 
 /// So many steps that give 1, and behind them what stands last.
-fn steps_text(alloc: Global, count: usize, last: &str) -> Result<String, Fail> {
+fn steps_text(rt: &impl Abort, alloc: Global, count: usize, last: &str) -> String {
     let first = if count == 0 { "" } else { r#"["give",1]"# };
-    let others = r#",["give",1]"#.repeat(alloc, count.saturating_sub(1))?;
-    Ok(format!(in alloc; "[{first}{others}{last}]")?)
+    let others = r#",["give",1]"#.repeat(alloc, count.saturating_sub(1));
+    let others = others.expect(rt, "memory");
+    format!(in alloc; "[{first}{others}{last}]").expect(rt, "memory")
 }
 
-/// Checks what a text of so many steps is: a script, or none for this fault.
-fn check_count(
-    rt: &impl Abort,
-    found: &Result<Script, ScriptFault>,
-    count: usize,
-    fault: Option<ScriptFault>,
-) {
-    match found {
-        Ok(script) => {
-            assert_eq!(rt; fault, None, "{count} steps");
-            assert_eq!(rt; script.is_empty(), count == 0);
-            assert!(rt; script.len() <= MAX_STEPS);
-        }
-        Err(found) => assert_eq!(rt; fault, Some(*found), "{count} steps"),
-    }
+/// Reads so many steps that give 1 and what stands last, and compares what is printed for them.
+fn check_count(rt: &impl Abort, alloc: Global, count: usize, last: &str, wanted: &str) {
+    let text = steps_text(rt, alloc, count, last);
+    let names = &mut Names::new(alloc);
+    compare_text(rt, alloc, names, text.as_str(), last, wanted);
 }
 
 #[test]
-fn counts_the_steps(rt: HostRuntime) -> Result<(), Fail> {
-    let mut names = Names::new(rt.alloc());
-    for (count, last, fault) in [
-        (0, "", None),
-        (255, r#",["give",1]"#, None),
-        (256, r#",["give",1]"#, Some(ScriptFault::TooLong)),
-        (299, r#",["give",1]"#, Some(ScriptFault::TooLong)),
-        (299, r#",["give",true]"#, Some(ScriptFault::BadStep)),
+fn counts_the_steps(rt: HostRuntime) {
+    for (count, last, wanted) in [
+        (0, "", "empty, 0"),
+        (255, r#",["give",1]"#, "256"),
+        (256, r#",["give",1]"#, "TooLong"),
+        (299, r#",["give",1]"#, "TooLong"),
+        (299, r#",["give",true]"#, "BadStep"),
     ] {
-        let text = steps_text(rt.alloc(), count, last)?;
-        let found = read(rt.alloc(), &mut names, text.as_str())?;
-        check_count(&rt, &found, count, fault);
+        check_count(&rt, rt.alloc(), count, last, wanted);
     }
-    Ok(())
 }
 
 /// What was answered: a value, an exception and a reference.
-fn answered(alloc: Global) -> Result<Seq<Answer>, Fail> {
-    let text = Text::from_str(alloc, "NullPointerException")?;
+fn answered(rt: &impl Abort, alloc: Global) -> Seq<Answer> {
+    let text = Text::from_str(alloc, "NullPointerException").expect(rt, "memory");
     let exception = BuiltIn::NullPointerException.name();
     let threw = Answer::Threw { exception, text };
     let answers = [Answer::Done(Value::Int(5)), threw, Answer::Found(0)];
-    Ok(Seq::new(Vec::from_array(alloc, answers)?))
+    Seq::new(Vec::from_array(alloc, answers).expect(rt, "memory"))
 }
 
 /// A view with two parameters, and a value, an exception and a reference as answers.
-fn seen(alloc: Global) -> Result<View, Fail> {
-    let answers = answered(alloc)?;
-    let two = Value::Text(Text::from_str(alloc, "two")?);
-    let args = Seq::new(Vec::from_array(alloc, [Value::Int(1), two])?);
-    Ok(View { args, answers })
+fn seen(rt: &impl Abort, alloc: Global) -> View {
+    let two = Text::from_str(alloc, "two").expect(rt, "memory");
+    let args = Vec::from_array(alloc, [Value::Int(1), Value::Text(two)]);
+    View {
+        args: Seq::new(args.expect(rt, "memory")),
+        answers: answered(rt, alloc),
+    }
 }
 
 /// A script that sets a field to an expression.
-fn setting(rt: &impl Abort, alloc: Global, expression: &str) -> Result<Script, Fail> {
-    let mut names = Names::new(alloc);
-    let text = format!(in alloc; r#"[["set","f",{expression}]]"#)?;
-    match read(alloc, &mut names, text.as_str())? {
-        Ok(script) => Ok(script),
-        Err(fault) => panic!(rt; "{expression}: {fault}"),
-    }
+fn setting(rt: &impl Abort, alloc: Global, expression: &str) -> Script {
+    let text = format!(in alloc; r#"[["set","f",{expression}]]"#).expect(rt, "memory");
+    script_of(rt, alloc, &mut Names::new(alloc), text.as_str())
 }
 
-/// The value of an expression where the field `f` is 7.
-fn value_of(rt: &impl Abort, alloc: Global, text: &str, view: &View) -> Result<Value, Fail> {
-    let script = setting(rt, alloc, text)?;
-    let Some(step) = script.steps().first() else {
-        panic!(rt; "a step was lost");
-    };
-    let Action::Set { field, value } = &step.action else {
-        panic!(rt; "{text} is set");
-    };
+/// Fields of which this one is 7.
+fn seven(rt: &impl Abort, alloc: Global, field: Name) -> Fields {
     let mut fields = Fields::new(alloc);
-    fields.put(*field, Value::Int(7))?;
-    Ok(value.value(alloc, &fields, view)?)
+    fields.put(field, Value::Int(7)).expect(rt, "memory");
+    fields
 }
 
-/// Checks the value of an expression.
-fn check_value(
-    rt: &impl Abort,
-    alloc: Global,
-    text: &str,
-    view: &View,
-    wanted: &Value,
-) -> Result<(), Fail> {
-    let found = value_of(rt, alloc, text, view)?;
-    assert!(rt; found == *wanted, "{text} is {found:?}");
-    Ok(())
+/// The value to which a step sets a field that is 7.
+fn value_of(rt: &impl Abort, alloc: Global, step: &Step, view: &View) -> Value {
+    let Action::Set { field, value } = &step.action else {
+        panic!(rt; "a field is set");
+    };
+    let fields = seven(rt, alloc, *field);
+    value.value(alloc, &fields, view).expect(rt, "memory")
 }
+
+/// Checks the value of an expression where the field `f` is 7.
+fn check_value(rt: &impl Abort, alloc: Global, view: &View, text: &str, wanted: &Plain) {
+    let script = setting(rt, alloc, text);
+    let step = script.steps().first().expect(rt, "a step");
+    let found = value_of(rt, alloc, step, view);
+    expect_value(rt, &found, wanted, text);
+}
+
+/// Checks the value of each expression where the field `f` is 7.
+fn check_values(rt: &impl Abort, alloc: Global, rows: &[(&str, Plain)]) {
+    let view = seen(rt, alloc);
+    for (text, wanted) in rows {
+        check_value(rt, alloc, &view, text, wanted);
+    }
+}
+
+const NUMBERS: &[(&str, Plain)] = &[
+    ("-4", Plain::Int(-4)),
+    (r#"["field","f"]"#, Plain::Int(7)),
+    (r#"["arg",0]"#, Plain::Int(1)),
+    (r#"["ans",0]"#, Plain::Int(5)),
+    (
+        r#"["add",["field","f"],["add",["arg",0],["ans",0]]]"#,
+        Plain::Int(13),
+    ),
+    (
+        r#"["add",9223372036854775806,1]"#,
+        Plain::Int(9_223_372_036_854_775_807),
+    ),
+    (
+        r#"["add",-9223372036854775807,-1]"#,
+        Plain::Int(-9_223_372_036_854_775_808),
+    ),
+];
 
 #[test]
-fn has_numbers(rt: HostRuntime) -> Result<(), Fail> {
-    let view = seen(rt.alloc())?;
-    for (text, wanted) in [
-        ("-4", -4),
-        (r#"["field","f"]"#, 7),
-        (r#"["arg",0]"#, 1),
-        (r#"["ans",0]"#, 5),
-        (r#"["add",["field","f"],["add",["arg",0],["ans",0]]]"#, 13),
-        (
-            r#"["add",9223372036854775806,1]"#,
-            9_223_372_036_854_775_807,
-        ),
-        (
-            r#"["add",-9223372036854775807,-1]"#,
-            -9_223_372_036_854_775_808,
-        ),
-    ] {
-        check_value(&rt, rt.alloc(), text, &view, &Value::Int(wanted))?;
-    }
-    Ok(())
+fn has_numbers(rt: HostRuntime) {
+    check_values(&rt, rt.alloc(), NUMBERS);
 }
 
-#[test]
-fn has_texts(rt: HostRuntime) -> Result<(), Fail> {
-    let view = seen(rt.alloc())?;
-    for (text, wanted) in [
-        (r#""abc""#, "abc"),
-        (r#"["arg",1]"#, "two"),
-        (r#"["ans",1]"#, "NullPointerException"),
-    ] {
-        let wanted = Value::Text(Text::from_str(rt.alloc(), wanted)?);
-        check_value(&rt, rt.alloc(), text, &view, &wanted)?;
-    }
-    Ok(())
-}
+const TEXTS: &[(&str, Plain)] = &[
+    (r#""abc""#, Plain::Text("abc")),
+    (r#"["arg",1]"#, Plain::Text("two")),
+    (r#"["ans",1]"#, Plain::Text("NullPointerException")),
+];
 
 #[test]
-fn is_null_otherwise(rt: HostRuntime) -> Result<(), Fail> {
-    let view = seen(rt.alloc())?;
-    for text in [
-        "null",
-        r#"["field","g"]"#,
-        r#"["arg",2]"#,
-        r#"["arg",65535]"#,
-        r#"["ans",2]"#,
-        r#"["ans",3]"#,
-        r#"["last"]"#,
-        r#"["add",1,"1"]"#,
-        r#"["add",null,1]"#,
-        r#"["add",9223372036854775807,1]"#,
-        r#"["add",-9223372036854775808,-1]"#,
-    ] {
-        check_value(&rt, rt.alloc(), text, &view, &Value::Null)?;
-    }
-    Ok(())
+fn has_texts(rt: HostRuntime) {
+    check_values(&rt, rt.alloc(), TEXTS);
+}
+
+const NULLS: &[(&str, Plain)] = &[
+    ("null", Plain::Null),
+    (r#"["field","g"]"#, Plain::Null),
+    (r#"["arg",2]"#, Plain::Null),
+    (r#"["arg",65535]"#, Plain::Null),
+    (r#"["ans",2]"#, Plain::Null),
+    (r#"["ans",3]"#, Plain::Null),
+    (r#"["last"]"#, Plain::Null),
+    (r#"["add",1,"1"]"#, Plain::Null),
+    (r#"["add",null,1]"#, Plain::Null),
+    (r#"["add",9223372036854775807,1]"#, Plain::Null),
+    (r#"["add",-9223372036854775808,-1]"#, Plain::Null),
+];
+
+#[test]
+fn is_null_otherwise(rt: HostRuntime) {
+    check_values(&rt, rt.alloc(), NULLS);
+}
+
+/// The act of a script without fields or parameters, after these answers.
+fn next_after(rt: &impl Abort, alloc: Global, script: &Script, answers: Seq<Answer>) -> Act {
+    let args = Seq::empty(alloc);
+    let view = View { args, answers };
+    let act = script.next(alloc, &Fields::new(alloc), &view);
+    act.expect(rt, "memory")
 }
 
 /// Checks the act of a script after these answers.
-fn check_next(
+pub(crate) fn check_next(
     rt: &impl Abort,
     alloc: Global,
     script: &Script,
-    answers: Vec<Answer>,
+    answers: Seq<Answer>,
     wanted: &Act,
-) -> Result<(), Fail> {
-    let args = Seq::empty(alloc);
-    let answers = Seq::new(answers);
-    let act = script.next(alloc, &Fields::new(alloc), &View { args, answers })?;
-    assert!(rt; act == *wanted, "{act:?}");
-    Ok(())
+) {
+    let act = next_after(rt, alloc, script, answers);
+    expect_same(rt, &act, wanted);
 }
 
-/// The answers 3, 5 and null, as far as there are so many.
-fn first_answers(alloc: Global, count: usize) -> Result<Vec<Answer>, Fail> {
-    let mut answers = Vec::new(alloc);
-    for value in [Value::Int(3), Value::Int(5), Value::Null] {
-        if answers.len() < count {
-            answers.push(Answer::Done(value))?;
-        }
-    }
-    Ok(answers)
-}
-
-/// An act of a script for each of its steps, in turn, and the one behind the last.
-fn stepwise(alloc: Global, names: &Names, at: usize) -> Result<Act, Fail> {
-    let (field, method) = (names.name_for("f"), names.name_for("m"));
-    let value = Value::Int(if at == 0 { 1 } else { 5 });
-    Ok(match at {
-        0 => Act::Set { field, value },
-        1 => Act::Own {
-            method,
-            args: Seq::new(Vec::from_array(alloc, [Value::Int(3)])?),
-        },
-        2 => Act::Give { value },
-        _ => Act::Give { value: Value::Null },
+/// The answers 3, 5 and null, in turn.
+fn answer_at(at: usize) -> Answer {
+    Answer::Done(match at {
+        0 => Value::Int(3),
+        1 => Value::Int(5),
+        _ => Value::Null,
     })
 }
 
+/// So many of the answers 3, 5 and null.
+fn first_answers(rt: &impl Abort, alloc: Global, count: usize) -> Seq<Answer> {
+    let mut answers = Seq::empty(alloc);
+    for at in 0..count {
+        answers.push(answer_at(at)).expect(rt, "memory");
+    }
+    answers
+}
+
+/// An act of a script for each of its steps, in turn, and the one behind the last.
+fn stepwise(rt: &impl Abort, alloc: Global, names: &Names, at: usize) -> Act {
+    let (field, method) = (names.name_for("f"), names.name_for("m"));
+    let value = Value::Int(if at == 0 { 1 } else { 5 });
+    match at {
+        0 => Act::Set { field, value },
+        1 => Act::Own {
+            method,
+            args: Seq::new(Vec::from_array(alloc, [Value::Int(3)]).expect(rt, "memory")),
+        },
+        2 => Act::Give { value },
+        _ => Act::Give { value: Value::Null },
+    }
+}
+
+/// Checks the act of a script at a step.
+fn check_step(rt: &impl Abort, alloc: Global, names: &Names, script: &Script, at: usize) {
+    let wanted = stepwise(rt, alloc, names, at);
+    let answers = first_answers(rt, alloc, at);
+    check_next(rt, alloc, script, answers, &wanted);
+}
+
 #[test]
-fn goes_on_step_by_step(rt: HostRuntime) -> Result<(), Fail> {
+fn goes_on_step_by_step(rt: HostRuntime) {
     let mut names = Names::new(rt.alloc());
     let text = r#"[["set","f",1],["own","m",[["last"]]],["give",["ans",1]]]"#;
-    let Ok(script) = read(rt.alloc(), &mut names, text)? else {
-        panic!(rt; "three steps are a script");
-    };
+    let script = script_of(&rt, rt.alloc(), &mut names, text);
     for at in 0..4 {
-        let wanted = stepwise(rt.alloc(), &names, at)?;
-        let answers = first_answers(rt.alloc(), at)?;
-        check_next(&rt, rt.alloc(), &script, answers, &wanted)?;
+        check_step(&rt, rt.alloc(), &names, &script, at);
     }
-    Ok(())
+}
+
+/// A step that throws.
+fn throw() -> Step {
+    let exception = BuiltIn::NullPointerException.name();
+    Step {
+        is_catch: false,
+        action: Action::Throw { exception },
+    }
 }
 
 /// A script that throws, and behind that looks at context data, in a catch or not.
-fn throwing(alloc: Global, is_catch: bool) -> Result<Script, Fail> {
-    let exception = BuiltIn::NullPointerException.name();
+fn throwing(rt: &impl Abort, alloc: Global, is_catch: bool) -> Script {
     let key = BuiltIn::Value.name();
-    let steps = Vec::from_array(
-        alloc,
-        [
-            Step {
-                is_catch: false,
-                action: Action::Throw { exception },
-            },
-            Step {
-                is_catch,
-                action: Action::Peek { key },
-            },
-        ],
-    )?;
-    Ok(Script::new(Seq::new(steps)).ok_or("two steps are few")?)
+    let peek = Step {
+        is_catch,
+        action: Action::Peek { key },
+    };
+    let steps = Vec::from_array(alloc, [throw(), peek]).expect(rt, "memory");
+    Script::new(Seq::new(steps)).expect(rt, "two steps are few")
+}
+
+/// An exception, as the only answer.
+fn threw(rt: &impl Abort, alloc: Global) -> Seq<Answer> {
+    let exception = BuiltIn::IllegalStateException.name();
+    let text = Text::from_str(alloc, "IllegalStateException").expect(rt, "memory");
+    let answers = Vec::from_array(alloc, [Answer::Threw { exception, text }]);
+    Seq::new(answers.expect(rt, "memory"))
 }
 
 /// Checks what follows an exception.
-fn check_after_threw(
-    rt: &impl Abort,
-    alloc: Global,
-    is_catch: bool,
-    wanted: &Act,
-) -> Result<(), Fail> {
-    let mut answers = Vec::new(alloc);
-    answers.push(Answer::Threw {
-        exception: BuiltIn::IllegalStateException.name(),
-        text: Text::from_str(alloc, "IllegalStateException")?,
-    })?;
-    check_next(rt, alloc, &throwing(alloc, is_catch)?, answers, wanted)
+fn check_after_threw(rt: &impl Abort, alloc: Global, is_catch: bool, wanted: &Act) {
+    let script = throwing(rt, alloc, is_catch);
+    check_next(rt, alloc, &script, threw(rt, alloc), wanted);
 }
 
 #[test]
-fn throws_on_what_no_step_catches(rt: HostRuntime) -> Result<(), Fail> {
+fn throws_on_what_no_step_catches(rt: HostRuntime) {
     let exception = BuiltIn::IllegalStateException.name();
+    check_after_threw(&rt, rt.alloc(), false, &Act::Throw { exception });
     let key = BuiltIn::Value.name();
-    check_after_threw(&rt, rt.alloc(), false, &Act::Throw { exception })?;
-    check_after_threw(&rt, rt.alloc(), true, &Act::Peek { key })
+    check_after_threw(&rt, rt.alloc(), true, &Act::Peek { key });
+}
+
+/// Registers bodies that run the scripts, in order and under these names, and asks one of them.
+fn ask_one(
+    alloc: Global,
+    names: &[Name],
+    scripts: Vec<Script>,
+    which: usize,
+    fields: &Fields,
+    view: &View,
+) -> Result<Act, Fail>
+    requires { which < length scripts.items }
+    ensures { IfOk result (λ act. IfSome (slice_get scripts.items which) (λ script. act ≡ next_of script fields.now view.now)) }
+{
+    let mut bodies = Bodies::new(alloc);
+    let mut asked = None;
+    for script in scripts {
+        let Some(name) = names.get(bodies.len()) else {
+            return Err(Fail::from("a script without a name"));
+        };
+        let shape = script.shape_of(alloc)?;
+        let runner: Body = Box::new(
+            alloc,
+            move |fields: &Fields, view: &View| -> Result<Act, AllocError>
+                ensures { IfOk result (λ act. act ≡ next_of script fields.now view.now) }
+            { script.next(alloc, fields, view) },
+        )?;
+        let id = bodies.add(*name, shape, runner)?;
+        if bodies.len() == which + 1 {
+            asked = Some(id);
+        }
+    }
+    let Some(id) = asked else {
+        return Err(Fail::from("no such script"));
+    };
+    Ok(bodies.next(id, fields, view)?)
+}
+
+/// A script that gives 10, and one that gives 20.
+fn givers(rt: &impl Abort, alloc: Global) -> Vec<Script> {
+    let mut names = Names::new(alloc);
+    let ten = script_of(rt, alloc, &mut names, r#"[["give",10]]"#);
+    let twenty = script_of(rt, alloc, &mut names, r#"[["give",20]]"#);
+    Vec::from_array(alloc, [ten, twenty]).expect(rt, "memory")
+}
+
+/// What a body gives that runs one of the scripts.
+fn given(rt: &impl Abort, alloc: Global, scripts: Vec<Script>, which: usize) -> Result<Act, Fail> {
+    assert!(rt; which < scripts.len());
+    let names = [BuiltIn::Named.name(), BuiltIn::Value.name()];
+    let (args, answers) = (Seq::empty(alloc), Seq::empty(alloc));
+    let view = View { args, answers };
+    let fields = Fields::new(alloc);
+    ask_one(alloc, names.as_slice(), scripts, which, &fields, &view)
+}
+
+/// Checks what a body gives that runs one of the scripts.
+fn check_given(rt: &impl Abort, alloc: Global, which: usize, wanted: &Act) -> Result<(), Fail> {
+    let act = given(rt, alloc, givers(rt, alloc), which)?;
+    expect_same(rt, &act, wanted);
+    Ok(())
 }
 
 #[test]
 fn runs_registered_scripts(rt: HostRuntime) -> Result<(), Fail> {
-    let alloc = rt.alloc();
-    let mut names = Names::new(alloc);
-    let called = [BuiltIn::Named.name(), BuiltIn::Value.name()];
-    for (which, wanted) in [(0, 10), (1, 20)] {
-        let mut scripts = Vec::new(alloc);
-        for text in [r#"[["give",10]]"#, r#"[["give",20]]"#] {
-            let Ok(script) = read(alloc, &mut names, text)? else {
-                panic!(rt; "{text} is a script");
-            };
-            scripts.push(script)?;
-        }
-        assert!(rt; which < scripts.len());
-        let view = View {
-            args: Seq::empty(alloc),
-            answers: Seq::empty(alloc),
-        };
-        let act = ask_one(
-            alloc,
-            called.as_slice(),
-            scripts,
-            which,
-            &Fields::new(alloc),
-            &view,
-        )?;
-        let given = Act::Give {
-            value: Value::Int(wanted),
-        };
-        assert_eq!(rt; act, given);
+    for (which, number) in [(0, 10), (1, 20)] {
+        let value = Value::Int(number);
+        check_given(&rt, rt.alloc(), which, &Act::Give { value })?;
     }
     Ok(())
 }
