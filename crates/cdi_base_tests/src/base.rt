@@ -1,5 +1,5 @@
 //! Tests of names, fields, sequences, acts and words.
-use crate::checks::{expect_same, expect_text};
+use crate::checks::{expect_same, expect_text, expect_that};
 use cdi_base::built_in::ALL;
 use cdi_base::{
     Act, Answer, BuiltIn, Cause, Fields, InternError, Limits, MemberValue, Name, Names, ReadError,
@@ -7,196 +7,213 @@ use cdi_base::{
 };
 use std::alloc::Global;
 use std::process::Abort;
-use std::test::Fail;
 
 /// Interns a text; where that fails, the table has to be as before.
-fn interned(rt: &impl Abort, names: &mut Names, text: &str) -> Result<Name, Fail> {
+fn interned(rt: &impl Abort, names: &mut Names, text: &str) -> Name {
     assert!(rt; is_name(text));
     let before = names.len();
-    match names.intern(text) {
-        Ok(name) => Ok(name),
-        Err(error) => {
-            assert_eq!(rt; names.len(), before);
-            assert_eq!(rt; error, InternError::Memory);
-            Err(error)?
-        }
+    let found = names.intern(text);
+    if let Err(error) = found {
+        expect_same(rt, &names.len(), &before);
+        expect_same(rt, &error, &InternError::Memory);
+    }
+    found.expect(rt, text)
+}
+
+/// Checks whether each text is a name.
+fn check_names(rt: &impl Abort, rows: &[(&str, bool)]) {
+    for (text, valid) in rows {
+        expect_that(rt, is_name(text), *valid, text);
     }
 }
 
+/// Checks whether so many letters are a name.
+fn check_length(rt: &impl Abort, alloc: Global, length: usize, valid: bool) {
+    let text = "n".repeat(alloc, length).expect(rt, "memory");
+    expect_that(rt, is_name(text.as_str()), valid, text.as_str());
+}
+
 #[test]
-fn tells_names(rt: HostRuntime) -> Result<(), Fail> {
-    let longest = "n".repeat(rt.alloc(), 255)?;
-    let too_long = "n".repeat(rt.alloc(), 256)?;
-    let cases = [
-        ("", false),
-        ("a", true),
-        ("java.util.Map$Entry_0", true),
-        ("a b", false),
-        ("a-b", false),
-        ("\u{e9}", false),
-        (longest.as_str(), true),
-        (too_long.as_str(), false),
-    ];
-    for (text, valid) in cases {
-        assert_eq!(rt; is_name(text), valid, "at {text:?}");
-    }
-    Ok(())
+fn tells_names(rt: HostRuntime) {
+    check_names(
+        &rt,
+        &[
+            ("", false),
+            ("a", true),
+            ("java.util.Map$Entry_0", true),
+            ("a b", false),
+            ("a-b", false),
+            ("\u{e9}", false),
+        ],
+    );
+    check_length(&rt, rt.alloc(), 255, true);
+    check_length(&rt, rt.alloc(), 256, false);
 }
 
 /// Interns a text, after which the table has to hold so many names.
-fn check_interned(
-    rt: &impl Abort,
-    names: &mut Names,
-    text: &str,
-    count: usize,
-) -> Result<(), Fail> {
+fn check_interned(rt: &impl Abort, names: &mut Names, text: &str, count: usize) {
     let foreseen = names.name_for(text);
     expect_same(rt, &names.find(text).is_some(), &(names.len() == count));
-    let name = interned(rt, names, text)?;
+    let name = interned(rt, names, text);
     expect_same(rt, &name, &foreseen);
     expect_same(rt, &names.find(text), &Some(name));
     expect_same(rt, &names.len(), &count);
-    Ok(())
 }
 
 #[test]
-fn interns_each_text_once(rt: HostRuntime) -> Result<(), Fail> {
+fn interns_each_text_once(rt: HostRuntime) {
     let mut names = Names::new(rt.alloc());
     expect_same(&rt, &names.is_empty(), &true);
     for (text, count) in [("K", 1), ("k", 2), ("K", 2), ("k", 2), ("kk", 3)] {
-        check_interned(&rt, &mut names, text, count)?;
+        check_interned(&rt, &mut names, text, count);
     }
     expect_same(&rt, &(names.find("K") == names.find("k")), &false);
-    Ok(())
+}
+
+/// Checks that a table begins with the built-in names, and holds no more.
+fn check_built_in(rt: &impl Abort, names: &Names) {
+    expect_same(rt, &names.len(), &19);
+    for built_in in ALL {
+        expect_same(rt, &names.find(built_in.text()), &Some(built_in.name()));
+    }
+    expect_same(rt, &names.find("Object"), &Some(BuiltIn::Object.name()));
+    expect_same(rt, &names.find("value"), &Some(BuiltIn::Value.name()));
 }
 
 #[test]
-fn knows_the_built_in_names(rt: HostRuntime) -> Result<(), Fail> {
-    let names = Names::with_built_in(rt.alloc())?;
-    expect_same(&rt, &names.len(), &19);
-    for built_in in ALL {
-        expect_same(&rt, &names.find(built_in.text()), &Some(built_in.name()));
-    }
-    expect_same(&rt, &names.find("Object"), &Some(BuiltIn::Object.name()));
-    expect_same(&rt, &names.find("value"), &Some(BuiltIn::Value.name()));
-    Ok(())
+fn knows_the_built_in_names(rt: HostRuntime) {
+    let names = Names::with_built_in(rt.alloc()).expect(&rt, "memory");
+    check_built_in(&rt, &names);
 }
 
 /// Gives a field a whole number; where that fails, the fields have to be as before.
-fn put(rt: &impl Abort, fields: &mut Fields, name: Name, number: i64) -> Result<(), Fail> {
+fn put(rt: &impl Abort, fields: &mut Fields, name: Name, number: i64) {
     let before = fields.len();
-    match fields.put(name, Value::Int(number)) {
-        Ok(()) => Ok(()),
-        Err(error) => {
-            assert_eq!(rt; fields.len(), before);
-            Err(error)?
-        }
+    let done = fields.put(name, Value::Int(number));
+    if done.is_err() {
+        expect_same(rt, &fields.len(), &before);
     }
+    done.expect(rt, "memory");
+}
+
+/// The fields `Named`, put as 0 and then as 7, and between these `value`, put as 1.
+fn two_fields(rt: &impl Abort, alloc: Global) -> Fields {
+    let mut fields = Fields::new(alloc);
+    put(rt, &mut fields, BuiltIn::Named.name(), 0);
+    put(rt, &mut fields, BuiltIn::Value.name(), 1);
+    put(rt, &mut fields, BuiltIn::Named.name(), 7);
+    fields
+}
+
+/// Checks that a field that isn't there can't be set.
+fn check_absent(rt: &impl Abort, fields: &mut Fields) {
+    let absent = BuiltIn::Any.name();
+    fields.set(absent, Value::Int(8));
+    expect_same(rt, fields.get(absent), &Value::Null);
 }
 
 #[test]
-fn changes_the_named_field_alone(rt: HostRuntime) -> Result<(), Fail> {
-    let (n, m, absent) = (
-        BuiltIn::Named.name(),
-        BuiltIn::Value.name(),
-        BuiltIn::Any.name(),
-    );
-    let mut fields = Fields::new(rt.alloc());
-    for (field, number) in [(n, 0), (m, 1), (n, 7)] {
-        put(&rt, &mut fields, field, number)?;
-    }
-    fields.set(absent, Value::Int(8));
-    expect_same(&rt, fields.get(absent), &Value::Null);
-    fields.set(m, Value::Null);
+fn changes_the_named_field_alone(rt: HostRuntime) {
+    let mut fields = two_fields(&rt, rt.alloc());
+    check_absent(&rt, &mut fields);
+    fields.set(BuiltIn::Value.name(), Value::Null);
     expect_same(&rt, &fields.len(), &2);
-    expect_same(&rt, fields.get(n), &Value::Int(7));
-    expect_same(&rt, fields.get(m), &Value::Null);
-    Ok(())
+    expect_same(&rt, fields.get(BuiltIn::Named.name()), &Value::Int(7));
+    expect_same(&rt, fields.get(BuiltIn::Value.name()), &Value::Null);
+}
+
+/// A use of an annotation type with one member of the same name, a text.
+fn used(rt: &impl Abort, alloc: Global, name: Name) -> Use {
+    let text = Text::from_str(alloc, "v").expect(rt, "memory");
+    let value = Value::Text(text);
+    let mut members = Seq::empty(alloc);
+    members
+        .push(MemberValue { name, value })
+        .expect(rt, "memory");
+    Use { name, members }
 }
 
 /// An act with every part that a copy has to follow.
-fn fired(alloc: Global, name: Name) -> Result<Act, Fail> {
-    let mut members = Seq::empty(alloc);
-    members.push(MemberValue {
-        name,
-        value: Value::Text(Text::from_str(alloc, "v")?),
-    })?;
+fn fired(rt: &impl Abort, alloc: Global, name: Name) -> Act {
     let mut qualifiers = Seq::empty(alloc);
-    qualifiers.push(Use { name, members })?;
-    Ok(Act::Fire {
+    qualifiers.push(used(rt, alloc, name)).expect(rt, "memory");
+    Act::Fire {
         class: name,
         qualifiers,
         value: Value::Int(-9_223_372_036_854_775_808),
-    })
+    }
 }
 
 /// An act with values to go on with.
-fn proceeding(alloc: Global) -> Result<Act, Fail> {
+fn proceeding(rt: &impl Abort, alloc: Global) -> Act {
+    let text = String::from_str(alloc, "text").expect(rt, "memory");
     let mut args = Seq::empty(alloc);
-    args.push(Value::Null)?;
-    args.push(Value::Text(Text::new(String::from_str(alloc, "text")?)))?;
-    Ok(Act::Proceed { args: Some(args) })
-}
-
-/// Checks that a copy of an act equals it.
-fn check_copy(rt: &impl Abort, act: &Act) -> Result<(), Fail> {
-    expect_same(rt, &act.clone()?, act);
-    Ok(())
+    args.push(Value::Null).expect(rt, "memory");
+    args.push(Value::Text(Text::new(text))).expect(rt, "memory");
+    Act::Proceed { args: Some(args) }
 }
 
 /// Acts of different kinds, some with parts in memory of their own.
-fn act_at(alloc: Global, at: usize) -> Result<Act, Fail> {
+fn act_at(rt: &impl Abort, alloc: Global, at: usize) -> Act {
     let name = BuiltIn::Named.name();
     let via = Via::Param(65_535);
     match at {
-        0 => fired(alloc, name),
-        1 => fired(alloc, BuiltIn::Any.name()),
-        2 => proceeding(alloc),
-        3 => Ok(Act::Proceed { args: None }),
-        4 => Ok(Act::Read { via }),
-        _ => Ok(Act::Own {
+        0 => fired(rt, alloc, name),
+        1 => fired(rt, alloc, BuiltIn::Any.name()),
+        2 => proceeding(rt, alloc),
+        3 => Act::Proceed { args: None },
+        4 => Act::Read { via },
+        _ => Act::Own {
             method: name,
             args: Seq::empty(alloc),
-        }),
+        },
     }
 }
 
+/// Checks that a copy of an act equals it.
+fn check_copy(rt: &impl Abort, alloc: Global, at: usize) {
+    let act = act_at(rt, alloc, at);
+    let copy = act.clone().expect(rt, "memory");
+    expect_same(rt, &copy, &act);
+}
+
 #[test]
-fn copies_of_acts_are_equal(rt: HostRuntime) -> Result<(), Fail> {
+fn copies_of_acts_are_equal(rt: HostRuntime) {
     for at in 0..6 {
-        check_copy(&rt, &act_at(rt.alloc(), at)?)?;
+        check_copy(&rt, rt.alloc(), at);
     }
-    Ok(())
 }
 
 #[test]
-fn tells_acts_apart(rt: HostRuntime) -> Result<(), Fail> {
-    let named = act_at(rt.alloc(), 0)?;
-    let any = act_at(rt.alloc(), 1)?;
+fn tells_acts_apart(rt: HostRuntime) {
+    let named = act_at(&rt, rt.alloc(), 0);
+    let any = act_at(&rt, rt.alloc(), 1);
     expect_same(&rt, &(named == any), &false);
-    Ok(())
+}
+
+/// An exception with its text.
+fn threw(rt: &impl Abort, alloc: Global) -> Answer {
+    Answer::Threw {
+        exception: BuiltIn::Named.name(),
+        text: Text::from_str(alloc, "Named").expect(rt, "memory"),
+    }
 }
 
 #[test]
-fn copies_of_answers_are_equal(rt: HostRuntime) -> Result<(), Fail> {
-    let exception = BuiltIn::Named.name();
-    let text = Text::from_str(rt.alloc(), "Named")?;
-    let threw = Answer::Threw { exception, text };
-    expect_same(&rt, &threw.clone()?, &threw);
+fn copies_of_answers_are_equal(rt: HostRuntime) {
+    let threw = threw(&rt, rt.alloc());
+    let copy = threw.clone().expect(&rt, "memory");
+    expect_same(&rt, &copy, &threw);
     expect_same(&rt, &(threw == Answer::Found(0)), &false);
-    Ok(())
 }
 
 /// Adds an item; where that fails, it comes back, and the sequence has to be as before.
-fn push(rt: &impl Abort, sequence: &mut Seq<u8>, item: u8) -> Result<(), Fail> {
+fn push(rt: &impl Abort, sequence: &mut Seq<u8>, item: u8) {
     let before = sequence.len();
-    match sequence.push(item) {
-        Ok(()) => Ok(()),
-        Err(failed) => {
-            assert_eq!(rt; failed.value, item);
-            assert_eq!(rt; sequence.len(), before);
-            Err(failed)?
-        }
+    if let Err(failed) = sequence.push(item) {
+        expect_same(rt, &failed.value, &item);
+        expect_same(rt, &sequence.len(), &before);
+        panic!(rt; "memory");
     }
 }
 
@@ -210,13 +227,13 @@ fn check_sequence(rt: &impl Abort, sequence: &Seq<u8>) {
 }
 
 #[test]
-fn gives_a_sequence_back(rt: HostRuntime) -> Result<(), Fail> {
-    let mut sequence = Seq::new(Vec::from_array(rt.alloc(), [3u8, 1])?);
-    push(&rt, &mut sequence, 2)?;
+fn gives_a_sequence_back(rt: HostRuntime) {
+    let items = Vec::from_array(rt.alloc(), [3u8, 1]).expect(&rt, "memory");
+    let mut sequence = Seq::new(items);
+    push(&rt, &mut sequence, 2);
     check_sequence(&rt, &sequence);
     let items = sequence.into_vec();
     expect_same(&rt, &items.as_slice(), &[3, 1, 2].as_slice());
-    Ok(())
 }
 
 #[test]
@@ -238,10 +255,9 @@ fn keeps_limits_in_range(rt: HostRuntime) {
 }
 
 #[test]
-fn writes_words(rt: HostRuntime) -> Result<(), Fail> {
-    let alloc = rt.alloc();
-    expect_text(&rt, alloc, &Refusal::BadLine, "BadLine")?;
+fn writes_words(rt: HostRuntime) {
+    expect_text(&rt, rt.alloc(), &Refusal::BadLine, "BadLine");
     expect_same(&rt, &Refusal::TooManySessions.word(), &"TooManySessions");
-    expect_text(&rt, alloc, &Cause::Memory, "memory")?;
-    expect_text(&rt, alloc, &ReadError::Fault(Cause::Depth), "depth")
+    expect_text(&rt, rt.alloc(), &Cause::Memory, "memory");
+    expect_text(&rt, rt.alloc(), &ReadError::Fault(Cause::Depth), "depth");
 }

@@ -36,19 +36,21 @@ fn add_seven(alloc: Global, bodies: &mut Bodies, name: Name) -> Result<BodyId, F
     Ok(bodies.add(name, Shape::new(alloc), body)?)
 }
 
-/// Checks what a body of a table gives.
-fn check_given(
-    rt: &impl Abort,
-    alloc: Global,
-    bodies: &Bodies,
-    id: BodyId,
-    value: Value,
-) -> Result<(), Fail>
+/// What a body of a table gives.
+fn given(rt: &impl Abort, alloc: Global, bodies: &Bodies, id: BodyId) -> Act
     requires { id < length (entries_of bodies.now) }
 {
-    let act = bodies.next(id, &Fields::new(alloc), &begun(alloc))?;
-    expect_same(rt, &act, &Act::Give { value });
-    Ok(())
+    let fields = Fields::new(alloc);
+    let act = bodies.next(id, &fields, &begun(alloc));
+    act.expect(rt, "memory")
+}
+
+/// Checks what a body of a table gives.
+fn check_given(rt: &impl Abort, alloc: Global, bodies: &Bodies, id: BodyId, wanted: &Act)
+    requires { id < length (entries_of bodies.now) }
+{
+    let act = given(rt, alloc, bodies, id);
+    expect_same(rt, &act, wanted);
 }
 
 /// Checks what is known of a body of a table.
@@ -69,16 +71,16 @@ fn registers_and_asks(rt: HostRuntime) -> Result<(), Fail> {
     let id = add_seven(rt.alloc(), &mut bodies, BuiltIn::Named.name())?;
     expect_same(&rt, &bodies.len(), &1);
     check_known(&rt, rt.alloc(), &bodies, id);
-    check_given(&rt, rt.alloc(), &bodies, id, Value::Int(7))?;
+    let value = Value::Int(7);
+    check_given(&rt, rt.alloc(), &bodies, id, &Act::Give { value });
     Bodies::gives_in_shape(&bodies);
     Ok(())
 }
 
-#[test]
-fn asks_what_was_captured(rt: HostRuntime) -> Result<(), Fail> {
-    let alloc = rt.alloc();
-    let mut bodies = Bodies::new(alloc);
-    let kept = Text::from_str(alloc, "kept")?;
+/// Adds a body that gives a text that it has captured.
+fn add_capturing(alloc: Global, bodies: &mut Bodies, kept: Text) -> Result<BodyId, Fail>
+    ensures { IfOk result (λ id. id < length (entries_of bodies.new)) }
+{
     let body: Body = Box::new(
         alloc,
         move |_fields: &Fields, _view: &View| -> Result<Act, AllocError>
@@ -89,21 +91,31 @@ fn asks_what_was_captured(rt: HostRuntime) -> Result<(), Fail> {
             })
         },
     )?;
-    let id = bodies.add(BuiltIn::Named.name(), Shape::new(alloc), body)?;
-    let wanted = Value::Text(Text::from_str(alloc, "kept")?);
-    check_given(&rt, alloc, &bodies, id, wanted)
+    Ok(bodies.add(BuiltIn::Named.name(), Shape::new(alloc), body)?)
 }
 
-/// What came of adding a body.
-#[derive(Clone, Copy, Debug, PartialEq, Eq)]
-enum Added {
-    Well,
-    Repeated,
-    Full,
+/// The text that is captured.
+fn kept(rt: &impl Abort, alloc: Global) -> Text {
+    Text::from_str(alloc, "kept").expect(rt, "memory")
 }
 
-/// Adds a body that gives null; one that is refused comes back, and has to be one that can be added under another name.
-fn add(alloc: Global, bodies: &mut Bodies, name: Name, other: Option<Name>) -> Result<Added, Fail> {
+#[test]
+fn asks_what_was_captured(rt: HostRuntime) -> Result<(), Fail> {
+    let mut bodies = Bodies::new(rt.alloc());
+    let id = add_capturing(rt.alloc(), &mut bodies, kept(&rt, rt.alloc()))?;
+    let value = Value::Text(kept(&rt, rt.alloc()));
+    check_given(&rt, rt.alloc(), &bodies, id, &Act::Give { value });
+    Ok(())
+}
+
+/// Adds a body that gives null, and tells what came of it. One that is refused as repeated comes back, and has to be one
+/// that can be added under another name.
+fn add(
+    alloc: Global,
+    bodies: &mut Bodies,
+    name: Name,
+    other: Option<Name>,
+) -> Result<&'static str, Fail> {
     let body: Body = Box::new(
         alloc,
         |_fields: &Fields, _view: &View| -> Result<Act, AllocError>
@@ -111,16 +123,31 @@ fn add(alloc: Global, bodies: &mut Bodies, name: Name, other: Option<Name>) -> R
         { Ok(Act::Give { value: Value::Null }) },
     )?;
     match bodies.add(name, Shape::new(alloc), body) {
-        Ok(_) => Ok(Added::Well),
+        Ok(_) => Ok("added"),
         Err(AddError::Repeated(body)) => {
             if let Some(other) = other {
                 bodies.add(other, Shape::new(alloc), body)?;
             }
-            Ok(Added::Repeated)
+            Ok("repeated")
         }
-        Err(AddError::Full(_)) => Ok(Added::Full),
+        Err(AddError::Full(_)) => Ok("full"),
         Err(error) => Err(error)?,
     }
+}
+
+/// Adds a body, and checks what came of it, and how many there are then.
+fn check_added(
+    rt: &impl Abort,
+    alloc: Global,
+    bodies: &mut Bodies,
+    name: Name,
+    wanted: &str,
+    count: usize,
+) -> Result<(), Fail> {
+    let added = add(alloc, bodies, name, Some(BuiltIn::Any.name()))?;
+    expect_same(rt, &added, &wanted);
+    expect_same(rt, &bodies.len(), &count);
+    Ok(())
 }
 
 #[test]
@@ -128,23 +155,35 @@ fn hands_a_repeated_body_back(rt: HostRuntime) -> Result<(), Fail> {
     let (named, value) = (BuiltIn::Named.name(), BuiltIn::Value.name());
     let mut bodies = Bodies::new(rt.alloc());
     for (name, wanted, count) in [
-        (named, Added::Well, 1),
-        (value, Added::Well, 2),
-        (named, Added::Repeated, 3),
+        (named, "added", 1),
+        (value, "added", 2),
+        (named, "repeated", 3),
     ] {
-        let other = Some(BuiltIn::Any.name());
-        let added = add(rt.alloc(), &mut bodies, name, other)?;
-        expect_same(&rt, &added, &wanted);
-        expect_same(&rt, &bodies.len(), &count);
+        check_added(&rt, rt.alloc(), &mut bodies, name, wanted, count)?;
     }
     Ok(())
 }
 
 /// The name of a number.
-fn numbered(rt: &impl Abort, alloc: Global, names: &mut Names, number: u32) -> Result<Name, Fail> {
-    let text = format!(in alloc; "b{number}")?;
+fn numbered(rt: &impl Abort, alloc: Global, names: &mut Names, number: u32) -> Name {
+    let text = format!(in alloc; "b{number}").expect(rt, "memory");
     assert!(rt; is_name(text.as_str()), "{text} is no name");
-    Ok(names.intern(text.as_str())?)
+    names.intern(text.as_str()).expect(rt, "memory")
+}
+
+/// Adds a body under the name of a number, and checks whether it is one too many.
+fn check_room(
+    rt: &impl Abort,
+    alloc: Global,
+    names: &mut Names,
+    bodies: &mut Bodies,
+    number: u32,
+) -> Result<(), Fail> {
+    let name = numbered(rt, alloc, names, number);
+    let wanted = if number < 4_096 { "added" } else { "full" };
+    let added = add(alloc, bodies, name, None)?;
+    expect_same(rt, &added, &wanted);
+    Ok(())
 }
 
 #[test]
@@ -152,14 +191,7 @@ fn holds_4096_bodies(rt: HostRuntime) -> Result<(), Fail> {
     let mut names = Names::new(rt.alloc());
     let mut bodies = Bodies::new(rt.alloc());
     for number in 0..4_100u32 {
-        let name = numbered(&rt, rt.alloc(), &mut names, number)?;
-        let added = add(rt.alloc(), &mut bodies, name, None)?;
-        let wanted = if number < 4_096 {
-            Added::Well
-        } else {
-            Added::Full
-        };
-        expect_same(&rt, &added, &wanted);
+        check_room(&rt, rt.alloc(), &mut names, &mut bodies, number)?;
     }
     expect_same(&rt, &bodies.len(), &MAX_BODIES);
     Ok(())

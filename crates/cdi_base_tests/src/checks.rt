@@ -1,22 +1,21 @@
 //! What the tests share: each compares by a call, since an assertion in a test makes its proof longer than a call does.
+//! Want of memory ends a test where it comes, so that nothing has to be let go on the way out.
 use std::alloc::Global;
 use std::fmt::{Debug, Display};
 use std::process::Abort;
-use std::test::Fail;
 
 /// Ends the test unless what was found is what is wanted.
 pub(crate) fn expect_same<T: PartialEq + Debug>(rt: &impl Abort, found: &T, wanted: &T) {
     assert!(rt; found == wanted, "{found:?} in place of {wanted:?}");
 }
 
+/// Ends the test unless a text has this property, or lacks it, as is wanted.
+pub(crate) fn expect_that(rt: &impl Abort, found: bool, wanted: bool, text: &str) {
+    assert!(rt; found == wanted, "{found} at {text:?}");
+}
+
 /// Ends the test unless something is printed so.
-pub(crate) fn expect_text(
-    rt: &impl Abort,
-    alloc: Global,
-    it: &impl Display,
-    wanted: &str,
-) -> Result<(), Fail> {
-    let text = it.to_string(alloc)?;
-    assert_eq!(rt; text.as_str(), wanted);
-    Ok(())
+pub(crate) fn expect_text(rt: &impl Abort, alloc: Global, it: &impl Display, wanted: &str) {
+    let found = it.to_string(alloc).expect(rt, "memory");
+    assert!(rt; found.as_str() == wanted, "{found} in place of {wanted}");
 }
