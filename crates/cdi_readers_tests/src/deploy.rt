@@ -1,7 +1,7 @@
 //! Tests of reading deployments.
 use crate::checks::{Plain, expect_printed, expect_same, expect_text, expect_value};
 use cdi_base::{BuiltIn, Name, Names, ReadError};
-use cdi_deploy::{Bean, Class, Deployment, Member, Method, ReadFault, Scope, Script, read};
+use cdi_deploy::{Bean, Class, Deployment, Field, Member, Method, ReadFault, Scope, Script, read};
 use std::alloc::Global;
 use std::process::Abort;
 
@@ -18,6 +18,12 @@ fn printed(
     text.expect(rt, "memory")
 }
 
+/// Reads bytes, and gives what is printed for them.
+fn told(rt: &impl Abort, alloc: Global, bytes: &[u8]) -> String {
+    let found = read(alloc, bytes);
+    printed(rt, alloc, &found)
+}
+
 /// Reads bytes, and compares what is printed for them.
 pub(crate) fn compare_bytes(
     rt: &impl Abort,
@@ -26,9 +32,13 @@ pub(crate) fn compare_bytes(
     told_as: &str,
     wanted: &str,
 ) {
-    let found = read(alloc, bytes);
-    let printed = printed(rt, alloc, &found);
-    expect_text(rt, printed.as_str(), wanted, told_as);
+    let told = told(rt, alloc, bytes);
+    expect_text(rt, told.as_str(), wanted, told_as);
+}
+
+/// Reads a text that is a deployment.
+pub(crate) fn read_well(rt: &impl Abort, alloc: Global, text: &str) -> Deployment {
+    read(alloc, text.as_bytes()).expect(rt, "a deployment")
 }
 
 /// Reads each text, and compares what is printed for it.
@@ -444,6 +454,12 @@ pub(crate) fn check_class(
     expect_same(rt, &class.bean, &bean);
 }
 
+/// Checks the name of a field, and its value.
+fn check_field(rt: &impl Abort, names: &Names, field: &Field, name: &str, value: &Plain) {
+    expect_same(rt, &field.name, &name_of(rt, names, name));
+    expect_value(rt, &field.value, value, name);
+}
+
 /// Checks that a class has these fields with these values, in order and no more.
 pub(crate) fn check_fields(
     rt: &impl Abort,
@@ -453,8 +469,7 @@ pub(crate) fn check_fields(
 ) {
     expect_same(rt, &class.fields.len(), &wanted.len());
     for (field, (name, value)) in class.fields.iter().zip(wanted) {
-        expect_same(rt, &field.name, &name_of(rt, names, name));
-        expect_value(rt, &field.value, value, name);
+        check_field(rt, names, field, name, value);
     }
 }
 
@@ -521,7 +536,7 @@ fn check_counter(rt: &impl Abort, alloc: Global, deployment: &Deployment) {
 
 #[test]
 fn the_counter(rt: HostRuntime) {
-    let deployment = read(rt.alloc(), COUNTER.as_bytes()).expect(&rt, "a deployment");
+    let deployment = read_well(&rt, rt.alloc(), COUNTER);
     check_counter(&rt, rt.alloc(), &deployment);
 }
 
@@ -529,16 +544,17 @@ fn the_counter(rt: HostRuntime) {
 const SPARSE: &str =
     r#"{"classes":[{"name":"K","bean":{},"fields":[{"name":"a"},{"name":"b","value":"?"},{"name":"c","value":-7}]},{"name":"Object","members":[{"kind":"method","name":"m","body":"a","args":8}]}]}"#;
 
+const SPARSE_FIELDS: &[(&str, Plain)] = &[
+    ("a", Plain::Null),
+    ("b", Plain::Text("?")),
+    ("c", Plain::Int(-7)),
+];
+
 /// Checks the bean.
 fn check_bean(rt: &impl Abort, names: &Names, bean: &Class) {
-    let fields = [
-        ("a", Plain::Null),
-        ("b", Plain::Text("?")),
-        ("c", Plain::Int(-7)),
-    ];
     let scope = Scope::Dependent;
     check_class(rt, names, bean, "K", Some(Bean { scope }));
-    check_fields(rt, names, bean, fields.as_slice());
+    check_fields(rt, names, bean, SPARSE_FIELDS);
     expect_same(rt, &bean.members.is_empty(), &true);
 }
 
@@ -559,6 +575,6 @@ fn check_sparse(rt: &impl Abort, deployment: &Deployment) {
 
 #[test]
 fn what_is_missing(rt: HostRuntime) {
-    let deployment = read(rt.alloc(), SPARSE.as_bytes()).expect(&rt, "a deployment");
+    let deployment = read_well(&rt, rt.alloc(), SPARSE);
     check_sparse(&rt, &deployment);
 }

@@ -1,7 +1,7 @@
 //! Scripts and deployments as large as they may be.
 use crate::checks::{Plain, expect_same};
-use crate::deploy::{check_class, check_fields, class_at, compare_bytes};
-use crate::script::{check_next, compare_text, script_of};
+use crate::deploy::{check_class, check_fields, class_at, compare_bytes, read_well};
+use crate::script::{check_next, compare_text, script_of, view_after};
 use cdi_base::{Act, Answer, Name, Names, Seq, Value};
 use cdi_deploy::Deployment;
 use cdi_deploy::reading::MAX_BYTES;
@@ -9,26 +9,41 @@ use cdi_script::{MAX_STEPS, Script};
 use std::alloc::Global;
 use std::process::Abort;
 
+/// Adds to a text.
+fn add(rt: &impl Abort, text: &mut String, part: &str) {
+    text.push_str(part).expect(rt, "memory");
+}
+
+/// Adds so many copies of a part to a text.
+fn add_times(rt: &impl Abort, alloc: Global, text: &mut String, part: &str, count: usize) {
+    let parts = part.repeat(alloc, count).expect(rt, "memory");
+    add(rt, text, parts.as_str());
+}
+
+/// Adds the sum of a number and of the answer 199.
+fn add_sum(rt: &impl Abort, alloc: Global, text: &mut String, number: u32) {
+    let sum = format!(in alloc; "[\"add\",{number},[\"ans\",199]]").expect(rt, "memory");
+    add(rt, text, sum.as_str());
+}
+
 /// Adds a step that sets the field `f` to the sum of 99 ones, of this number and of the answer 199, in a hundred sums one
 /// within another.
-fn push_step(rt: &impl Abort, alloc: Global, text: &mut String, number: u32) {
-    let opened = "[\"add\",1,".repeat(alloc, 99).expect(rt, "memory");
-    let closed = "]".repeat(alloc, 99).expect(rt, "memory");
-    let comma = if number == 0 { "" } else { "," };
-    let step = format!(in alloc;
-        "{comma}[\"set\",\"f\",{opened}[\"add\",{number},[\"ans\",199]]{closed}]"
-    );
-    text.push_str(step.expect(rt, "memory").as_str())
-        .expect(rt, "memory");
+fn add_step(rt: &impl Abort, alloc: Global, text: &mut String, number: u32) {
+    add(rt, text, if number == 0 { "" } else { "," });
+    add(rt, text, "[\"set\",\"f\",");
+    add_times(rt, alloc, text, "[\"add\",1,", 99);
+    add_sum(rt, alloc, text, number);
+    add_times(rt, alloc, text, "]", 99);
+    add(rt, text, "]");
 }
 
 /// The text of a script with so many steps, each with its number.
 fn script_text(rt: &impl Abort, alloc: Global, count: u32) -> String {
     let mut text = String::from_str(alloc, "[").expect(rt, "memory");
     for number in 0..count {
-        push_step(rt, alloc, &mut text, number);
+        add_step(rt, alloc, &mut text, number);
     }
-    text.push(']').expect(rt, "memory");
+    add(rt, &mut text, "]");
     text
 }
 
@@ -42,55 +57,57 @@ fn tens(rt: &impl Abort, alloc: Global, count: u16) -> Seq<Answer> {
     answers
 }
 
-/// The act that sets a field to a number, or to null.
-fn setting(field: Name, number: Option<i64>) -> Act {
-    let value = match number {
-        Some(number) => Value::Int(number),
-        None => Value::Null,
-    };
-    Act::Set { field, value }
+/// Checks the act of a script after so many of these answers.
+fn check_after(rt: &impl Abort, alloc: Global, script: &Script, count: u16, wanted: &Act) {
+    let view = view_after(alloc, tens(rt, alloc, count));
+    check_next(rt, alloc, script, &view, wanted);
 }
 
-/// Checks to which number, or null, the script sets `f` after so many answers.
-fn compare_sums(
+/// Checks the number to which a script sets a field after so many answers.
+fn check_sum(
     rt: &impl Abort,
     alloc: Global,
     script: &Script,
     field: Name,
-    rows: &[(u16, Option<i64>)],
+    count: u16,
+    number: i64,
 ) {
-    for (count, number) in rows {
-        let answers = tens(rt, alloc, *count);
-        check_next(rt, alloc, script, answers, &setting(field, *number));
-    }
+    let value = Value::Int(number);
+    check_after(rt, alloc, script, count, &Act::Set { field, value });
+}
+
+/// Checks that a script sets a field to null after so many answers.
+fn check_null(rt: &impl Abort, alloc: Global, script: &Script, field: Name, count: u16) {
+    let value = Value::Null;
+    check_after(rt, alloc, script, count, &Act::Set { field, value });
+}
+
+/// Checks that a script gives null after so many answers.
+fn check_end(rt: &impl Abort, alloc: Global, script: &Script, count: u16) {
+    let value = Value::Null;
+    check_after(rt, alloc, script, count, &Act::Give { value });
+}
+
+/// Checks what a script with 256 steps does before, at and behind the 200th, and at its end.
+fn check_long_script(rt: &impl Abort, alloc: Global, script: &Script, field: Name) {
+    check_null(rt, alloc, script, field, 0);
+    check_null(rt, alloc, script, field, 199);
+    check_sum(rt, alloc, script, field, 200, 2289);
+    check_sum(rt, alloc, script, field, 255, 2344);
+    check_end(rt, alloc, script, 256);
+}
+
+/// A script with so many steps.
+fn long_script(rt: &impl Abort, alloc: Global, names: &mut Names, count: u32) -> Script {
+    let text = script_text(rt, alloc, count);
+    script_of(rt, alloc, names, text.as_str())
 }
 
 #[test]
 fn asks_a_long_script(rt: HostRuntime) {
-    let alloc = rt.alloc();
-    let mut names = Names::new(alloc);
-    let script = script_of(
-        &rt,
-        alloc,
-        &mut names,
-        script_text(&rt, alloc, 256).as_str(),
-    );
-    let field = names.name_for("f");
-    compare_sums(
-        &rt,
-        alloc,
-        &script,
-        field,
-        &[(0, None), (199, None), (200, Some(2289)), (255, Some(2344))],
-    );
-    let value = Value::Null;
-    check_next(
-        &rt,
-        alloc,
-        &script,
-        tens(&rt, alloc, 256),
-        &Act::Give { value },
-    );
+    let mut names = Names::new(rt.alloc());
+    let script = long_script(&rt, rt.alloc(), &mut names, 256);
+    check_long_script(&rt, rt.alloc(), &script, names.name_for("f"));
 }
 
 #[test]
@@ -109,20 +126,12 @@ fn refuses_a_step_too_many(rt: HostRuntime) {
 }
 
 /// Adds a class `K` with a number, whose field `f` has this value.
-fn push_class(rt: &impl Abort, alloc: Global, text: &mut String, number: u32, value: &str) {
+fn add_class(rt: &impl Abort, alloc: Global, text: &mut String, number: u32, value: &str) {
     let comma = if number == 1000 { "" } else { "," };
     let class = format!(in alloc;
         "{comma}{{\"name\":\"K{number}\",\"fields\":[{{\"name\":\"f\",\"value\":\"{value}\"}}]}}"
     );
-    text.push_str(class.expect(rt, "memory").as_str())
-        .expect(rt, "memory");
-}
-
-/// Adds blanks up to so many bytes.
-fn fill_up(rt: &impl Abort, alloc: Global, text: &mut String, bytes: usize) {
-    let count = bytes.saturating_sub(text.len());
-    let blanks = " ".repeat(alloc, count).expect(rt, "memory");
-    text.push_str(blanks.as_str()).expect(rt, "memory");
+    add(rt, text, class.expect(rt, "memory").as_str());
 }
 
 /// A deployment of 1,024 classes, `K1000` to `K2023`, each with one field whose value is this text. Blanks fill it up to
@@ -130,10 +139,11 @@ fn fill_up(rt: &impl Abort, alloc: Global, text: &mut String, bytes: usize) {
 fn deployment_text(rt: &impl Abort, alloc: Global, value: &str, bytes: usize) -> String {
     let mut text = String::from_str(alloc, "{\"classes\":[").expect(rt, "memory");
     for number in 1000..2024 {
-        push_class(rt, alloc, &mut text, number, value);
+        add_class(rt, alloc, &mut text, number, value);
     }
-    text.push_str("]}").expect(rt, "memory");
-    fill_up(rt, alloc, &mut text, bytes);
+    add(rt, &mut text, "]}");
+    let blanks = bytes.saturating_sub(text.len());
+    add_times(rt, alloc, &mut text, " ", blanks);
     text
 }
 
@@ -155,12 +165,17 @@ fn check_long(rt: &impl Abort, deployment: &Deployment, value: &str) {
     check_large(rt, deployment, 1023, "K2023", value);
 }
 
+/// A deployment of a text that is as long as it may be, with these values.
+fn long_deployment(rt: &impl Abort, alloc: Global, value: &str) -> Deployment {
+    let text = deployment_text(rt, alloc, value, 1_048_576);
+    expect_same(rt, &text.len(), &1_048_576);
+    read_well(rt, alloc, text.as_str())
+}
+
 #[test]
 fn reads_a_long_deployment(rt: HostRuntime) {
     let value = "v".repeat(rt.alloc(), 950).expect(&rt, "memory");
-    let text = deployment_text(&rt, rt.alloc(), value.as_str(), 1_048_576);
-    expect_same(&rt, &text.len(), &1_048_576);
-    let deployment = cdi_deploy::read(rt.alloc(), text.as_bytes()).expect(&rt, "a deployment");
+    let deployment = long_deployment(&rt, rt.alloc(), value.as_str());
     check_long(&rt, &deployment, value.as_str());
 }
 

@@ -5,7 +5,7 @@ ghost use Rattle.cdi_script.specs.Next.{next_of};
 use crate::checks::{Plain, expect_same, expect_text, expect_value};
 use cdi_base::{Act, Answer, BuiltIn, Fields, Name, Names, ReadError, Seq, Text, Value};
 use cdi_bodies::{Bodies, Body, View};
-use cdi_script::{Action, Script, ScriptFault, Step};
+use cdi_script::{Action, Expression, Script, ScriptFault, Step};
 use serde_json::Value as Json;
 use std::alloc::{AllocError, Global};
 use std::process::Abort;
@@ -41,6 +41,12 @@ fn printed(
     text.expect(rt, "memory")
 }
 
+/// Reads a text, and gives what is printed for it.
+fn told(rt: &impl Abort, alloc: Global, names: &mut Names, text: &str) -> String {
+    let found = read(rt, alloc, names, text);
+    printed(rt, alloc, &found)
+}
+
 /// Reads a text, and compares what is printed for it.
 pub(crate) fn compare_text(
     rt: &impl Abort,
@@ -50,9 +56,8 @@ pub(crate) fn compare_text(
     told_as: &str,
     wanted: &str,
 ) {
-    let found = read(rt, alloc, names, text);
-    let printed = printed(rt, alloc, &found);
-    expect_text(rt, printed.as_str(), wanted, told_as);
+    let told = told(rt, alloc, names, text);
+    expect_text(rt, told.as_str(), wanted, told_as);
 }
 
 /// Checks that none of the texts is a script, and that no name of theirs is kept.
@@ -142,17 +147,26 @@ fn check_count(rt: &impl Abort, alloc: Global, count: usize, last: &str, wanted:
     compare_text(rt, alloc, names, text.as_str(), last, wanted);
 }
 
+/// Reads each text of so many steps that give 1 and of what stands last, and compares what is printed for it.
+fn compare_counts(rt: &impl Abort, alloc: Global, rows: &[(usize, &str, &str)]) {
+    for (count, last, wanted) in rows {
+        check_count(rt, alloc, *count, last, wanted);
+    }
+}
+
 #[test]
 fn counts_the_steps(rt: HostRuntime) {
-    for (count, last, wanted) in [
-        (0, "", "empty, 0"),
-        (255, r#",["give",1]"#, "256"),
-        (256, r#",["give",1]"#, "TooLong"),
-        (299, r#",["give",1]"#, "TooLong"),
-        (299, r#",["give",true]"#, "BadStep"),
-    ] {
-        check_count(&rt, rt.alloc(), count, last, wanted);
-    }
+    compare_counts(
+        &rt,
+        rt.alloc(),
+        &[
+            (0, "", "empty, 0"),
+            (255, r#",["give",1]"#, "256"),
+            (256, r#",["give",1]"#, "TooLong"),
+            (299, r#",["give",1]"#, "TooLong"),
+            (299, r#",["give",true]"#, "BadStep"),
+        ],
+    );
 }
 
 /// What was answered: a value, an exception and a reference.
@@ -187,21 +201,40 @@ fn seven(rt: &impl Abort, alloc: Global, field: Name) -> Fields {
     fields
 }
 
-/// The value to which a step sets a field that is 7.
-fn value_of(rt: &impl Abort, alloc: Global, step: &Step, view: &View) -> Value {
+/// The value of an expression where a field is 7.
+fn value_of(
+    rt: &impl Abort,
+    alloc: Global,
+    expression: &Expression,
+    field: Name,
+    view: &View,
+) -> Value {
+    let fields = seven(rt, alloc, field);
+    let value = expression.value(alloc, &fields, view);
+    value.expect(rt, "memory")
+}
+
+/// Checks the value to which the first step of a script sets a field that is 7.
+fn check_set(
+    rt: &impl Abort,
+    alloc: Global,
+    script: &Script,
+    view: &View,
+    wanted: &Plain,
+    text: &str,
+) {
+    let step = script.steps().first().expect(rt, "a step");
     let Action::Set { field, value } = &step.action else {
         panic!(rt; "a field is set");
     };
-    let fields = seven(rt, alloc, *field);
-    value.value(alloc, &fields, view).expect(rt, "memory")
+    let found = value_of(rt, alloc, value, *field, view);
+    expect_value(rt, &found, wanted, text);
 }
 
 /// Checks the value of an expression where the field `f` is 7.
 fn check_value(rt: &impl Abort, alloc: Global, view: &View, text: &str, wanted: &Plain) {
     let script = setting(rt, alloc, text);
-    let step = script.steps().first().expect(rt, "a step");
-    let found = value_of(rt, alloc, step, view);
-    expect_value(rt, &found, wanted, text);
+    check_set(rt, alloc, &script, view, wanted, text);
 }
 
 /// Checks the value of each expression where the field `f` is 7.
@@ -266,23 +299,27 @@ fn is_null_otherwise(rt: HostRuntime) {
     check_values(&rt, rt.alloc(), NULLS);
 }
 
-/// The act of a script without fields or parameters, after these answers.
-fn next_after(rt: &impl Abort, alloc: Global, script: &Script, answers: Seq<Answer>) -> Act {
+/// A view without parameters, after these answers.
+pub(crate) fn view_after(alloc: Global, answers: Seq<Answer>) -> View {
     let args = Seq::empty(alloc);
-    let view = View { args, answers };
-    let act = script.next(alloc, &Fields::new(alloc), &view);
+    View { args, answers }
+}
+
+/// The act of a script where there are no fields.
+pub(crate) fn next_act(rt: &impl Abort, alloc: Global, script: &Script, view: &View) -> Act {
+    let act = script.next(alloc, &Fields::new(alloc), view);
     act.expect(rt, "memory")
 }
 
-/// Checks the act of a script after these answers.
+/// Checks the act of a script where there are no fields.
 pub(crate) fn check_next(
     rt: &impl Abort,
     alloc: Global,
     script: &Script,
-    answers: Seq<Answer>,
+    view: &View,
     wanted: &Act,
 ) {
-    let act = next_after(rt, alloc, script, answers);
+    let act = next_act(rt, alloc, script, view);
     expect_same(rt, &act, wanted);
 }
 
@@ -304,17 +341,26 @@ fn first_answers(rt: &impl Abort, alloc: Global, count: usize) -> Seq<Answer> {
     answers
 }
 
+/// The act that calls a method with 3.
+fn calling(rt: &impl Abort, alloc: Global, method: Name) -> Act {
+    let args = Vec::from_array(alloc, [Value::Int(3)]).expect(rt, "memory");
+    Act::Own {
+        method,
+        args: Seq::new(args),
+    }
+}
+
 /// An act of a script for each of its steps, in turn, and the one behind the last.
 fn stepwise(rt: &impl Abort, alloc: Global, names: &Names, at: usize) -> Act {
-    let (field, method) = (names.name_for("f"), names.name_for("m"));
-    let value = Value::Int(if at == 0 { 1 } else { 5 });
     match at {
-        0 => Act::Set { field, value },
-        1 => Act::Own {
-            method,
-            args: Seq::new(Vec::from_array(alloc, [Value::Int(3)]).expect(rt, "memory")),
+        0 => Act::Set {
+            field: names.name_for("f"),
+            value: Value::Int(1),
         },
-        2 => Act::Give { value },
+        1 => calling(rt, alloc, names.name_for("m")),
+        2 => Act::Give {
+            value: Value::Int(5),
+        },
         _ => Act::Give { value: Value::Null },
     }
 }
@@ -322,8 +368,15 @@ fn stepwise(rt: &impl Abort, alloc: Global, names: &Names, at: usize) -> Act {
 /// Checks the act of a script at a step.
 fn check_step(rt: &impl Abort, alloc: Global, names: &Names, script: &Script, at: usize) {
     let wanted = stepwise(rt, alloc, names, at);
-    let answers = first_answers(rt, alloc, at);
-    check_next(rt, alloc, script, answers, &wanted);
+    let view = view_after(alloc, first_answers(rt, alloc, at));
+    check_next(rt, alloc, script, &view, &wanted);
+}
+
+/// Checks the act of a script at each of its steps, and behind the last.
+fn check_steps(rt: &impl Abort, alloc: Global, names: &Names, script: &Script) {
+    for at in 0..4 {
+        check_step(rt, alloc, names, script, at);
+    }
 }
 
 #[test]
@@ -331,9 +384,7 @@ fn goes_on_step_by_step(rt: HostRuntime) {
     let mut names = Names::new(rt.alloc());
     let text = r#"[["set","f",1],["own","m",[["last"]]],["give",["ans",1]]]"#;
     let script = script_of(&rt, rt.alloc(), &mut names, text);
-    for at in 0..4 {
-        check_step(&rt, rt.alloc(), &names, &script, at);
-    }
+    check_steps(&rt, rt.alloc(), &names, &script);
 }
 
 /// A step that throws.
@@ -364,18 +415,33 @@ fn threw(rt: &impl Abort, alloc: Global) -> Seq<Answer> {
     Seq::new(answers.expect(rt, "memory"))
 }
 
-/// Checks what follows an exception.
-fn check_after_threw(rt: &impl Abort, alloc: Global, is_catch: bool, wanted: &Act) {
+/// What follows an exception: a catch goes on, and else it is thrown.
+fn after_threw(is_catch: bool) -> Act {
+    let exception = BuiltIn::IllegalStateException.name();
+    let key = BuiltIn::Value.name();
+    if is_catch {
+        Act::Peek { key }
+    } else {
+        Act::Throw { exception }
+    }
+}
+
+/// Checks what a script gives after an exception.
+fn check_after_threw(rt: &impl Abort, alloc: Global, script: &Script, wanted: &Act) {
+    let view = view_after(alloc, threw(rt, alloc));
+    check_next(rt, alloc, script, &view, wanted);
+}
+
+/// Checks what follows an exception where the next step is a catch, or isn't.
+fn check_catch(rt: &impl Abort, alloc: Global, is_catch: bool) {
     let script = throwing(rt, alloc, is_catch);
-    check_next(rt, alloc, &script, threw(rt, alloc), wanted);
+    check_after_threw(rt, alloc, &script, &after_threw(is_catch));
 }
 
 #[test]
 fn throws_on_what_no_step_catches(rt: HostRuntime) {
-    let exception = BuiltIn::IllegalStateException.name();
-    check_after_threw(&rt, rt.alloc(), false, &Act::Throw { exception });
-    let key = BuiltIn::Value.name();
-    check_after_threw(&rt, rt.alloc(), true, &Act::Peek { key });
+    check_catch(&rt, rt.alloc(), false);
+    check_catch(&rt, rt.alloc(), true);
 }
 
 /// Registers bodies that run the scripts, in order and under these names, and asks one of them.
@@ -414,11 +480,15 @@ fn ask_one(
     Ok(bodies.next(id, fields, view)?)
 }
 
+/// A script that gives a number.
+fn giver(rt: &impl Abort, alloc: Global, text: &str) -> Script {
+    script_of(rt, alloc, &mut Names::new(alloc), text)
+}
+
 /// A script that gives 10, and one that gives 20.
 fn givers(rt: &impl Abort, alloc: Global) -> Vec<Script> {
-    let mut names = Names::new(alloc);
-    let ten = script_of(rt, alloc, &mut names, r#"[["give",10]]"#);
-    let twenty = script_of(rt, alloc, &mut names, r#"[["give",20]]"#);
+    let ten = giver(rt, alloc, r#"[["give",10]]"#);
+    let twenty = giver(rt, alloc, r#"[["give",20]]"#);
     Vec::from_array(alloc, [ten, twenty]).expect(rt, "memory")
 }
 
@@ -426,24 +496,28 @@ fn givers(rt: &impl Abort, alloc: Global) -> Vec<Script> {
 fn given(rt: &impl Abort, alloc: Global, scripts: Vec<Script>, which: usize) -> Result<Act, Fail> {
     assert!(rt; which < scripts.len());
     let names = [BuiltIn::Named.name(), BuiltIn::Value.name()];
-    let (args, answers) = (Seq::empty(alloc), Seq::empty(alloc));
-    let view = View { args, answers };
+    let view = view_after(alloc, Seq::empty(alloc));
     let fields = Fields::new(alloc);
     ask_one(alloc, names.as_slice(), scripts, which, &fields, &view)
 }
 
-/// Checks what a body gives that runs one of the scripts.
-fn check_given(rt: &impl Abort, alloc: Global, which: usize, wanted: &Act) -> Result<(), Fail> {
+/// Checks that an act gives a number.
+fn expect_given(rt: &impl Abort, act: &Act, number: i64) {
+    let Act::Give { value } = act else {
+        panic!(rt; "{act:?} gives nothing");
+    };
+    expect_value(rt, value, &Plain::Int(number), "what is given");
+}
+
+/// Checks which number a body gives that runs one of the scripts.
+fn check_given(rt: &impl Abort, alloc: Global, which: usize, number: i64) -> Result<(), Fail> {
     let act = given(rt, alloc, givers(rt, alloc), which)?;
-    expect_same(rt, &act, wanted);
+    expect_given(rt, &act, number);
     Ok(())
 }
 
 #[test]
 fn runs_registered_scripts(rt: HostRuntime) -> Result<(), Fail> {
-    for (which, number) in [(0, 10), (1, 20)] {
-        let value = Value::Int(number);
-        check_given(&rt, rt.alloc(), which, &Act::Give { value })?;
-    }
-    Ok(())
+    check_given(&rt, rt.alloc(), 0, 10)?;
+    check_given(&rt, rt.alloc(), 1, 20)
 }
