@@ -9,7 +9,7 @@ use std::alloc::Global;
 use std::process::Abort;
 
 /// Interns a text; where that fails, the table has to be as before.
-fn interned(rt: &impl Abort, names: &mut Names, text: &str) -> Name {
+pub(crate) fn interned(rt: &impl Abort, names: &mut Names, text: &str) -> Name {
     assert!(rt; is_name(text));
     let before = names.len();
     let found = names.intern(text);
@@ -60,14 +60,21 @@ fn check_interned(rt: &impl Abort, names: &mut Names, text: &str, count: usize) 
     expect_same(rt, &names.len(), &count);
 }
 
+/// Checks what an empty table holds as one text after the other is interned.
+fn check_texts(rt: &impl Abort, names: &mut Names) {
+    expect_same(rt, &names.is_empty(), &true);
+    check_interned(rt, names, "K", 1);
+    check_interned(rt, names, "k", 2);
+    check_interned(rt, names, "K", 2);
+    check_interned(rt, names, "k", 2);
+    check_interned(rt, names, "kk", 3);
+    expect_same(rt, &(names.find("K") == names.find("k")), &false);
+}
+
 #[test]
 fn interns_each_text_once(rt: HostRuntime) {
     let mut names = Names::new(rt.alloc());
-    expect_same(&rt, &names.is_empty(), &true);
-    for (text, count) in [("K", 1), ("k", 2), ("K", 2), ("k", 2), ("kk", 3)] {
-        check_interned(&rt, &mut names, text, count);
-    }
-    expect_same(&rt, &(names.find("K") == names.find("k")), &false);
+    check_texts(&rt, &mut names);
 }
 
 /// Checks that a table begins with the built-in names, and holds no more.
@@ -170,25 +177,40 @@ fn act_at(rt: &impl Abort, alloc: Global, at: usize) -> Act {
     }
 }
 
+/// Copies an act.
+fn copy_of(rt: &impl Abort, act: &Act) -> Act {
+    act.clone().expect(rt, "memory")
+}
+
 /// Checks that a copy of an act equals it.
-fn check_copy(rt: &impl Abort, alloc: Global, at: usize) {
+fn check_copy(rt: &impl Abort, act: &Act) {
+    let copy = copy_of(rt, act);
+    expect_same(rt, &copy, act);
+}
+
+/// Checks that a copy of the act at a place equals it.
+fn check_copy_at(rt: &impl Abort, alloc: Global, at: usize) {
     let act = act_at(rt, alloc, at);
-    let copy = act.clone().expect(rt, "memory");
-    expect_same(rt, &copy, &act);
+    check_copy(rt, &act);
 }
 
 #[test]
 fn copies_of_acts_are_equal(rt: HostRuntime) {
     for at in 0..6 {
-        check_copy(&rt, rt.alloc(), at);
+        check_copy_at(&rt, rt.alloc(), at);
     }
+}
+
+/// Checks that an act differs from the one at a place.
+fn check_apart(rt: &impl Abort, alloc: Global, act: &Act, at: usize) {
+    let other = act_at(rt, alloc, at);
+    expect_same(rt, &(*act == other), &false);
 }
 
 #[test]
 fn tells_acts_apart(rt: HostRuntime) {
     let named = act_at(&rt, rt.alloc(), 0);
-    let any = act_at(&rt, rt.alloc(), 1);
-    expect_same(&rt, &(named == any), &false);
+    check_apart(&rt, rt.alloc(), &named, 1);
 }
 
 /// An exception with its text.
@@ -199,11 +221,16 @@ fn threw(rt: &impl Abort, alloc: Global) -> Answer {
     }
 }
 
+/// Checks that a copy of an answer equals it.
+fn check_answer_copy(rt: &impl Abort, answer: &Answer) {
+    let copy = answer.clone().expect(rt, "memory");
+    expect_same(rt, &copy, answer);
+}
+
 #[test]
 fn copies_of_answers_are_equal(rt: HostRuntime) {
     let threw = threw(&rt, rt.alloc());
-    let copy = threw.clone().expect(&rt, "memory");
-    expect_same(&rt, &copy, &threw);
+    check_answer_copy(&rt, &threw);
     expect_same(&rt, &(threw == Answer::Found(0)), &false);
 }
 

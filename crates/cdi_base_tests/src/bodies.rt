@@ -4,8 +4,9 @@ ghost use Rattle.cdi_bodies.specs.Table.{entries_of};
 ghost use Rattle.cdi_base.specs.declared.act.Act.TheVariants.{Give};
 ghost use Rattle.cdi_base.specs.declared.value.Value.TheVariants.{Null, Int, Text as AnyText};
 
+use crate::base::interned;
 use crate::checks::expect_same;
-use cdi_base::{Act, BuiltIn, Fields, Name, Names, Seq, Text, Value, is_name};
+use cdi_base::{Act, BuiltIn, Fields, Name, Names, Seq, Text, Value};
 use cdi_bodies::{AddError, Bodies, Body, BodyId, Choice, Chooser, MAX_BODIES, Shape, View};
 use std::alloc::{AllocError, Global};
 use std::process::Abort;
@@ -36,21 +37,29 @@ fn add_seven(alloc: Global, bodies: &mut Bodies, name: Name) -> Result<BodyId, F
     Ok(bodies.add(name, Shape::new(alloc), body)?)
 }
 
-/// What a body of a table gives.
-fn given(rt: &impl Abort, alloc: Global, bodies: &Bodies, id: BodyId) -> Act
+/// What a body of a table does.
+fn next_act(rt: &impl Abort, alloc: Global, bodies: &Bodies, id: BodyId, view: &View) -> Act
     requires { id < length (entries_of bodies.now) }
 {
-    let fields = Fields::new(alloc);
-    let act = bodies.next(id, &fields, &begun(alloc));
+    let act = bodies.next(id, &Fields::new(alloc), view);
     act.expect(rt, "memory")
 }
 
+/// Checks that an act gives a value.
+fn expect_given(rt: &impl Abort, act: &Act, wanted: &Value) {
+    let Act::Give { value } = act else {
+        panic!(rt; "{act:?} gives nothing");
+    };
+    expect_same(rt, value, wanted);
+}
+
 /// Checks what a body of a table gives.
-fn check_given(rt: &impl Abort, alloc: Global, bodies: &Bodies, id: BodyId, wanted: &Act)
+fn check_given(rt: &impl Abort, alloc: Global, bodies: &Bodies, id: BodyId, wanted: &Value)
     requires { id < length (entries_of bodies.now) }
 {
-    let act = given(rt, alloc, bodies, id);
-    expect_same(rt, &act, wanted);
+    let view = begun(alloc);
+    let act = next_act(rt, alloc, bodies, id, &view);
+    expect_given(rt, &act, wanted);
 }
 
 /// Checks what is known of a body of a table.
@@ -64,15 +73,21 @@ fn check_known(rt: &impl Abort, alloc: Global, bodies: &Bodies, id: BodyId)
     expect_same(rt, bodies.shape(id), &Shape::new(alloc));
 }
 
+/// Checks the only body of a table, which gives 7.
+fn check_seven(rt: &impl Abort, alloc: Global, bodies: &Bodies, id: BodyId)
+    requires { id < length (entries_of bodies.now) }
+{
+    expect_same(rt, &bodies.len(), &1);
+    check_known(rt, alloc, bodies, id);
+    check_given(rt, alloc, bodies, id, &Value::Int(7));
+}
+
 #[test]
 fn registers_and_asks(rt: HostRuntime) -> Result<(), Fail> {
     let mut bodies = Bodies::new(rt.alloc());
     expect_same(&rt, &bodies.is_empty(), &true);
     let id = add_seven(rt.alloc(), &mut bodies, BuiltIn::Named.name())?;
-    expect_same(&rt, &bodies.len(), &1);
-    check_known(&rt, rt.alloc(), &bodies, id);
-    let value = Value::Int(7);
-    check_given(&rt, rt.alloc(), &bodies, id, &Act::Give { value });
+    check_seven(&rt, rt.alloc(), &bodies, id);
     Bodies::gives_in_shape(&bodies);
     Ok(())
 }
@@ -99,39 +114,49 @@ fn kept(rt: &impl Abort, alloc: Global) -> Text {
     Text::from_str(alloc, "kept").expect(rt, "memory")
 }
 
+/// Checks that a body gives the text that was captured.
+fn check_kept(rt: &impl Abort, alloc: Global, bodies: &Bodies, id: BodyId)
+    requires { id < length (entries_of bodies.now) }
+{
+    let wanted = Value::Text(kept(rt, alloc));
+    check_given(rt, alloc, bodies, id, &wanted);
+}
+
 #[test]
 fn asks_what_was_captured(rt: HostRuntime) -> Result<(), Fail> {
     let mut bodies = Bodies::new(rt.alloc());
     let id = add_capturing(rt.alloc(), &mut bodies, kept(&rt, rt.alloc()))?;
-    let value = Value::Text(kept(&rt, rt.alloc()));
-    check_given(&rt, rt.alloc(), &bodies, id, &Act::Give { value });
+    check_kept(&rt, rt.alloc(), &bodies, id);
     Ok(())
 }
 
 /// Adds a body that gives null, and tells what came of it. One that is refused as repeated comes back, and has to be one
 /// that can be added under another name.
 fn add(
+    rt: &impl Abort,
     alloc: Global,
     bodies: &mut Bodies,
     name: Name,
     other: Option<Name>,
-) -> Result<&'static str, Fail> {
+) -> &'static str {
     let body: Body = Box::new(
         alloc,
         |_fields: &Fields, _view: &View| -> Result<Act, AllocError>
             ensures { IfOk result (λ act. act ≡ Give Null) }
         { Ok(Act::Give { value: Value::Null }) },
-    )?;
+    )
+    .expect(rt, "memory");
     match bodies.add(name, Shape::new(alloc), body) {
-        Ok(_) => Ok("added"),
+        Ok(_) => "added",
         Err(AddError::Repeated(body)) => {
             if let Some(other) = other {
-                bodies.add(other, Shape::new(alloc), body)?;
+                let added = bodies.add(other, Shape::new(alloc), body);
+                added.expect(rt, "a body that came back can be added");
             }
-            Ok("repeated")
+            "repeated"
         }
-        Err(AddError::Full(_)) => Ok("full"),
-        Err(error) => Err(error)?,
+        Err(AddError::Full(_)) => "full",
+        Err(AddError::Memory(_)) => panic!(rt; "memory"),
     }
 }
 
@@ -143,58 +168,47 @@ fn check_added(
     name: Name,
     wanted: &str,
     count: usize,
-) -> Result<(), Fail> {
-    let added = add(alloc, bodies, name, Some(BuiltIn::Any.name()))?;
+) {
+    let added = add(rt, alloc, bodies, name, Some(BuiltIn::Any.name()));
     expect_same(rt, &added, &wanted);
     expect_same(rt, &bodies.len(), &count);
-    Ok(())
 }
 
 #[test]
-fn hands_a_repeated_body_back(rt: HostRuntime) -> Result<(), Fail> {
+fn hands_a_repeated_body_back(rt: HostRuntime) {
     let (named, value) = (BuiltIn::Named.name(), BuiltIn::Value.name());
     let mut bodies = Bodies::new(rt.alloc());
-    for (name, wanted, count) in [
-        (named, "added", 1),
-        (value, "added", 2),
-        (named, "repeated", 3),
-    ] {
-        check_added(&rt, rt.alloc(), &mut bodies, name, wanted, count)?;
-    }
-    Ok(())
+    check_added(&rt, rt.alloc(), &mut bodies, named, "added", 1);
+    check_added(&rt, rt.alloc(), &mut bodies, value, "added", 2);
+    check_added(&rt, rt.alloc(), &mut bodies, named, "repeated", 3);
 }
 
 /// The name of a number.
 fn numbered(rt: &impl Abort, alloc: Global, names: &mut Names, number: u32) -> Name {
     let text = format!(in alloc; "b{number}").expect(rt, "memory");
-    assert!(rt; is_name(text.as_str()), "{text} is no name");
-    names.intern(text.as_str()).expect(rt, "memory")
+    interned(rt, names, text.as_str())
 }
 
 /// Adds a body under the name of a number, and checks whether it is one too many.
-fn check_room(
-    rt: &impl Abort,
-    alloc: Global,
-    names: &mut Names,
-    bodies: &mut Bodies,
-    number: u32,
-) -> Result<(), Fail> {
+fn check_room(rt: &impl Abort, alloc: Global, names: &mut Names, bodies: &mut Bodies, number: u32) {
     let name = numbered(rt, alloc, names, number);
     let wanted = if number < 4_096 { "added" } else { "full" };
-    let added = add(alloc, bodies, name, None)?;
-    expect_same(rt, &added, &wanted);
-    Ok(())
+    expect_same(rt, &add(rt, alloc, bodies, name, None), &wanted);
+}
+
+/// Adds bodies up to four too many.
+fn fill(rt: &impl Abort, alloc: Global, bodies: &mut Bodies) {
+    let mut names = Names::new(alloc);
+    for number in 0..4_100u32 {
+        check_room(rt, alloc, &mut names, bodies, number);
+    }
 }
 
 #[test]
-fn holds_4096_bodies(rt: HostRuntime) -> Result<(), Fail> {
-    let mut names = Names::new(rt.alloc());
+fn holds_4096_bodies(rt: HostRuntime) {
     let mut bodies = Bodies::new(rt.alloc());
-    for number in 0..4_100u32 {
-        check_room(&rt, rt.alloc(), &mut names, &mut bodies, number)?;
-    }
+    fill(&rt, rt.alloc(), &mut bodies);
     expect_same(&rt, &bodies.len(), &MAX_BODIES);
-    Ok(())
 }
 
 #[test]

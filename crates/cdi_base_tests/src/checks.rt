@@ -17,5 +17,5 @@ pub(crate) fn expect_that(rt: &impl Abort, found: bool, wanted: bool, text: &str
 /// Ends the test unless something is printed so.
 pub(crate) fn expect_text(rt: &impl Abort, alloc: Global, it: &impl Display, wanted: &str) {
     let found = it.to_string(alloc).expect(rt, "memory");
-    assert!(rt; found.as_str() == wanted, "{found} in place of {wanted}");
+    expect_same(rt, &found.as_str(), &wanted);
 }
