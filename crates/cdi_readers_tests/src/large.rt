@@ -1,7 +1,7 @@
 //! Scripts and deployments as large as they may be.
-use crate::checks::{Plain, expect_same};
+use crate::checks::{Plain, expect_same, expect_value};
 use crate::deploy::{check_class, check_fields, class_at, compare_bytes, read_well};
-use crate::script::{check_next, compare_text, script_of, view_after};
+use crate::script::{compare_text, expect_given, next_act, script_of, view_after};
 use cdi_base::{Act, Answer, Name, Names, Seq, Value};
 use cdi_deploy::Deployment;
 use cdi_deploy::reading::MAX_BYTES;
@@ -57,43 +57,39 @@ fn tens(rt: &impl Abort, alloc: Global, count: u16) -> Seq<Answer> {
     answers
 }
 
-/// Checks the act of a script after so many of these answers.
-fn check_after(rt: &impl Abort, alloc: Global, script: &Script, count: u16, wanted: &Act) {
+/// The act of a script after so many of these answers.
+fn act_after(rt: &impl Abort, alloc: Global, script: &Script, count: u16) -> Act {
     let view = view_after(alloc, tens(rt, alloc, count));
-    check_next(rt, alloc, script, &view, wanted);
+    next_act(rt, alloc, script, &view)
 }
 
-/// Checks the number to which a script sets a field after so many answers.
-fn check_sum(
-    rt: &impl Abort,
-    alloc: Global,
-    script: &Script,
-    field: Name,
-    count: u16,
-    number: i64,
-) {
-    let value = Value::Int(number);
-    check_after(rt, alloc, script, count, &Act::Set { field, value });
+/// Checks that an act sets this field to a value.
+fn expect_set(rt: &impl Abort, act: &Act, wanted: Name, to: &Plain) {
+    let Act::Set { field, value } = act else {
+        panic!(rt; "{act:?} sets nothing");
+    };
+    expect_same(rt, field, &wanted);
+    expect_value(rt, value, to, "what is set");
 }
 
-/// Checks that a script sets a field to null after so many answers.
-fn check_null(rt: &impl Abort, alloc: Global, script: &Script, field: Name, count: u16) {
-    let value = Value::Null;
-    check_after(rt, alloc, script, count, &Act::Set { field, value });
+/// Checks the value to which a script sets a field after so many answers.
+fn check_set(rt: &impl Abort, alloc: Global, script: &Script, field: Name, count: u16, to: &Plain) {
+    let act = act_after(rt, alloc, script, count);
+    expect_set(rt, &act, field, to);
 }
 
 /// Checks that a script gives null after so many answers.
 fn check_end(rt: &impl Abort, alloc: Global, script: &Script, count: u16) {
-    let value = Value::Null;
-    check_after(rt, alloc, script, count, &Act::Give { value });
+    let act = act_after(rt, alloc, script, count);
+    expect_given(rt, &act, &Plain::Null);
 }
 
 /// Checks what a script with 256 steps does before, at and behind the 200th, and at its end.
 fn check_long_script(rt: &impl Abort, alloc: Global, script: &Script, field: Name) {
-    check_null(rt, alloc, script, field, 0);
-    check_null(rt, alloc, script, field, 199);
-    check_sum(rt, alloc, script, field, 200, 2289);
-    check_sum(rt, alloc, script, field, 255, 2344);
+    check_set(rt, alloc, script, field, 0, &Plain::Null);
+    check_set(rt, alloc, script, field, 199, &Plain::Null);
+    check_set(rt, alloc, script, field, 200, &Plain::Int(2289));
+    check_set(rt, alloc, script, field, 255, &Plain::Int(2344));
     check_end(rt, alloc, script, 256);
 }
 

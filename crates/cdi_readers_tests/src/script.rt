@@ -312,13 +312,7 @@ pub(crate) fn next_act(rt: &impl Abort, alloc: Global, script: &Script, view: &V
 }
 
 /// Checks the act of a script where there are no fields.
-pub(crate) fn check_next(
-    rt: &impl Abort,
-    alloc: Global,
-    script: &Script,
-    view: &View,
-    wanted: &Act,
-) {
+fn check_next(rt: &impl Abort, alloc: Global, script: &Script, view: &View, wanted: &Act) {
     let act = next_act(rt, alloc, script, view);
     expect_same(rt, &act, wanted);
 }
@@ -426,16 +420,17 @@ fn after_threw(is_catch: bool) -> Act {
     }
 }
 
-/// Checks what a script gives after an exception.
-fn check_after_threw(rt: &impl Abort, alloc: Global, script: &Script, wanted: &Act) {
+/// Checks what a script does after an exception.
+fn check_after_threw(rt: &impl Abort, alloc: Global, script: &Script, is_catch: bool) {
     let view = view_after(alloc, threw(rt, alloc));
-    check_next(rt, alloc, script, &view, wanted);
+    let wanted = after_threw(is_catch);
+    check_next(rt, alloc, script, &view, &wanted);
 }
 
 /// Checks what follows an exception where the next step is a catch, or isn't.
 fn check_catch(rt: &impl Abort, alloc: Global, is_catch: bool) {
     let script = throwing(rt, alloc, is_catch);
-    check_after_threw(rt, alloc, &script, &after_threw(is_catch));
+    check_after_threw(rt, alloc, &script, is_catch);
 }
 
 #[test]
@@ -501,18 +496,18 @@ fn given(rt: &impl Abort, alloc: Global, scripts: Vec<Script>, which: usize) -> 
     ask_one(alloc, names.as_slice(), scripts, which, &fields, &view)
 }
 
-/// Checks that an act gives a number.
-fn expect_given(rt: &impl Abort, act: &Act, number: i64) {
+/// Checks that an act gives a value.
+pub(crate) fn expect_given(rt: &impl Abort, act: &Act, wanted: &Plain) {
     let Act::Give { value } = act else {
         panic!(rt; "{act:?} gives nothing");
     };
-    expect_value(rt, value, &Plain::Int(number), "what is given");
+    expect_value(rt, value, wanted, "what is given");
 }
 
 /// Checks which number a body gives that runs one of the scripts.
 fn check_given(rt: &impl Abort, alloc: Global, which: usize, number: i64) -> Result<(), Fail> {
     let act = given(rt, alloc, givers(rt, alloc), which)?;
-    expect_given(rt, &act, number);
+    expect_given(rt, &act, &Plain::Int(number));
     Ok(())
 }
 
