@@ -106,6 +106,19 @@ fn runs_the_file_that_the_words_name(rt: HostRuntime) {
             "P1 DuplicateName K\n",
             "",
         ),
+        ("{", 1, "NotJson\n", "cdi: k.json: line 1, column 1\n"),
+        (
+            r#"{"classes":[{"name":"a b"}]}"#,
+            1,
+            "BadName\n",
+            "cdi: k.json: the text \"a b\" is no name\n",
+        ),
+        (
+            r#"{"scripts":[{"name":"up","steps":[["give",1],7]}]}"#,
+            1,
+            "script up BadStep\n",
+            "cdi: k.json: step 1 (counted from 0) of script up is none\n",
+        ),
         (
             ENDLESS,
             0,
