@@ -2,3 +2,5 @@ pub mod Options
 pub mod Items
 pub mod BadNames
 pub mod LongLists
+pub mod Right
+pub mod KindLemmas

@@ -4,3 +4,4 @@ pub mod BadName
 pub mod LongList
 pub mod BadStep
 pub mod Hint
+pub mod Kinds

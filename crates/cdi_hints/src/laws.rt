@@ -1,5 +1,5 @@
 //! Laws of the definitions that the contracts cite.
-ghost use Rattle.std.specs.Prelude.{◌≡◌, ◌↔◌, ℕ, List, None, Some, IsTrue, false};
+ghost use Rattle.std.specs.Prelude.{◌≡◌, ◌↔◌, ℕ, List, Option, None, Some, IsTrue, false};
 ghost use Rattle.cdi_base.specs.Name.{is_name};
 ghost use Rattle.serde_json.specs.Data.{Data, Items};
 ghost use Rattle.cdi_deploy.specs.declared.deployment.Deployment.{Deployment as AnyDeployment};
@@ -7,10 +7,21 @@ ghost use Rattle.cdi_deploy.specs.declared.form.Part.{Part as AnyPart};
 ghost use Rattle.cdi_deploy.specs.Limits.{is_within};
 ghost use Rattle.cdi_deploy.specs.NamePlaces.{StandsAsName};
 ghost use Rattle.cdi_deploy.specs.Names.{names_fit};
+ghost use Rattle.cdi_deploy.specs.Reading.{deployment_in};
 ghost use Rattle.cdi_script.specs.Form.{are_steps};
 ghost use Rattle.cdi_hints.specs.BadName.{first_bad_name};
 ghost use Rattle.cdi_hints.specs.BadStep.{bad_item_from};
+ghost use Rattle.cdi_hints.specs.Hint.{IsHintFor};
+ghost use Rattle.cdi_hints.specs.Kinds.{FitsReading};
 ghost use Rattle.cdi_hints.specs.LongList.{first_long_list};
+ghost use Rattle.cdi_hints.specs.declared.hint.Hint.{Hint as AnyHint};
+
+/// The kind of a hint fits what [`cdi_deploy::read`] answers: a position exactly where it is `NotJson`, a name exactly where
+/// it is `BadName`, a list only where it is `TooMany`, and a step only where it is a deployment.
+pub fn law_kind()
+    ensures { (bytes : List ℕ) (hint : Option AnyHint) → IsHintFor bytes hint
+        → FitsReading (deployment_in bytes) hint }
+{}
 
 /// No bad name is found exactly where the names fit, as [`cdi_deploy::read`] tests it; and one that is found stands in
 /// the place of a name and is none.

@@ -41,7 +41,6 @@ fn no_script(scripts: &[Script]) -> Option<&Script>
 }
 
 /// The index of the first item of an array that is no step, if there is one.
-
 fn bad_step(value: &Json) -> Option<usize>
     ensures { result ≡ spec.bad_step (view value.now) }
 {

@@ -1,0 +1,137 @@
+-- The kind of a hint fits what reading gives.
+use Rattle.std.proofs.Common.{◌≡◌, ◌∙◌, ℕ, ◌+◌, ◌==◌, Bool, true, false, not, cond, List, [], ◌∷◌, codes, length, nat_lt, Option, Some, None, option_map, option_and_then, Result, Ok, Err, IfSome, IsSomeAnd, find, take, if◌then◌else◌, refl, sym, ap, subst}
+use Rattle.std.specs.Bool.{MatchBool}
+use Rattle.std.specs.Option.{option_or, is_none}
+use Rattle.std.specs.Str.{is_utf8}
+use Rattle.std.specs.Str.Lossy.{utf8_valid_len}
+use Rattle.cdi_base.specs.Reading.{◌>>=◌}
+use Rattle.cdi_json.specs.Json.{json_in}
+use Rattle.serde_json.specs.Data.{Data}
+use Rattle.cdi_deploy.specs.declared.deployment.Class.{Class}
+use Rattle.cdi_deploy.specs.declared.deployment.Deployment.{Deployment}
+use Rattle.cdi_deploy.specs.declared.deployment.Script.{Script}
+use Rattle.cdi_deploy.specs.declared.fault.ReadFault.{ReadFault}
+use Rattle.cdi_deploy.specs.declared.fault.ReadFault.TheVariants as faults
+use Rattle.cdi_deploy.specs.Items.{lists_of}
+use Rattle.cdi_deploy.specs.Limits.{is_within}
+use Rattle.cdi_deploy.specs.Names.{names_fit}
+use Rattle.cdi_deploy.specs.Numbers.{numbers_fit}
+use Rattle.cdi_deploy.specs.Reading.{is_too_long, or_not_json, or_shape, root, within_limits, deployment_of, deployment_in}
+use Rattle.cdi_deploy.specs.Shape.{wrong}
+use Rattle.cdi_script.specs.Form.{is_script}
+use Rattle.cdi_text.specs.Places.{name_text}
+use Rattle.cdi_hints.specs.BadName.{first_bad_name}
+use Rattle.cdi_hints.specs.BadStep.{bad_step, bad_step_of, first_bad_step}
+use Rattle.cdi_hints.specs.Hint.{IsHintBy, IsHintFor, bad_name, hint_by, hint_of, long_list, long_list_in}
+use Rattle.cdi_hints.specs.Kinds.{FitsReading, IsList, IsName, IsStep}
+use Rattle.cdi_hints.specs.LongList.{class_list_at, first_long_list, list_at, long_list_in_classes, long_list_of_class}
+use Rattle.cdi_hints.specs.Position.{IsPlaceIn, IsPosition, place_after, place_from}
+use Rattle.cdi_hints.specs.declared.hint.Hint.{Hint}
+use Rattle.cdi_hints.specs.declared.hint.Hint.TheVariants as hints
+use Rattle.cdi_hints.proofs.BadNames.{fits_where_none}
+use Rattle.cdi_hints.proofs.Right.{OnlyFull, lists_full}
+
+-- ---- lists
+
+list_if : (b : Bool) (o p : Option Hint) → IfSome o IsList → IfSome p IsList → IfSome (if b then o else p) IsList
+list_if true o p first second = first
+list_if false o p first second = second
+
+list_or : (o p : Option Hint) → IfSome o IsList → IfSome p IsList → IfSome (option_or o p) IsList
+list_or None p first second = second
+list_or (Some hint) p first second = first
+
+class_list : (index : ℕ) (c : Class) → IfSome (long_list_of_class index c) IsList
+class_list index c =
+    list_if (nat_lt 64 (length c.fields)) (class_list_at index (codes "fields") 64) _ tt
+    (list_if (nat_lt 64 (length c.members)) (class_list_at index (codes "members") 64) None tt tt)
+
+classes_list : (index : ℕ) (cs : List Class) → IfSome (long_list_in_classes index cs) IsList
+classes_list index [] = tt
+classes_list index (c ∷ cs) = list_or (long_list_of_class index c) _ (class_list index c) (classes_list (index + 1) cs)
+
+deployment_list : (d : Deployment) → IfSome (first_long_list d) IsList
+deployment_list d =
+    list_if (nat_lt 1024 (length d.classes)) (list_at (codes "classes") 1024) _ tt
+    (list_if (nat_lt 1024 (length d.scripts)) (list_at (codes "scripts") 1024) (long_list_in_classes 0 d.classes) tt (classes_list 0 d.classes))
+
+list_in : (r : Result Deployment ReadFault) → IfSome (long_list_in r) IsList
+list_in (Ok d) = deployment_list d
+list_in (Err fault) = tt
+
+-- ---- steps
+
+step_at : (script : List ℕ) (o : Option ℕ) → IfSome (option_map (λ step. hints.Step script step) o) IsStep
+step_at script None = tt
+step_at script (Some step) = tt
+
+step_of : (names : List (List ℕ)) (o : Option Script) → IfSome (option_and_then (bad_step_of names) o) IsStep
+step_of names None = tt
+step_of names (Some s) = step_at (name_text names s.name) (bad_step s.steps)
+
+-- ---- names
+
+name_where : (o : Option (List ℕ)) → is_none o ≡ false → IsSomeAnd (option_map hints.Name o) IsName
+name_where None h = absurd cc
+name_where (Some s) h = tt
+
+name_for : (d : Data) → names_fit d root ≡ false → IsSomeAnd (bad_name d) IsName
+name_for d unfit = name_where (first_bad_name d root) (sym (fits_where_none d root) ∙ unfit)
+
+-- ---- places
+
+place_position : (line column : ℕ) (bytes : List ℕ) → IsPosition (place_from line column bytes)
+place_position line column [] = tt
+place_position line column (byte ∷ bytes) = by_byte (byte == 10) (place_position (line + 1) 1 bytes) (place_position line (column + 1) bytes)
+  where
+    by_byte : (b : Bool) → IsPosition (place_from (line + 1) 1 bytes) → IsPosition (place_from line (column + 1) bytes)
+        → IsPosition (if b then place_from (line + 1) 1 bytes else place_from line (column + 1) bytes)
+    by_byte true first second = first
+    by_byte false first second = second
+
+position_by : (b : Bool) (front : List ℕ) (place : Hint) → MatchBool b (IsPosition place) (place ≡ place_after front) → IsPosition place
+position_by true front place h = h
+position_by false front place h = subst IsPosition (sym h) (place_position 1 1 front)
+
+position_in : (bytes : List ℕ) (hint : Option Hint) → IsSomeAnd hint (IsPlaceIn bytes) → IsSomeAnd hint IsPosition
+position_in bytes None h = h
+position_in bytes (Some place) h = position_by (is_utf8 bytes) (take (utf8_valid_len bytes) bytes) place h
+
+-- ---- values
+
+limits_fit : (d : Data) (deployment : Deployment) (b : Bool)
+    → FitsReading (if b then Ok deployment else Err faults.TooMany) (hint_by d (if b then Ok deployment else Err faults.TooMany))
+limits_fit d deployment true = step_of deployment.names (find (λ s. not (is_script s.steps)) deployment.scripts)
+limits_fit d deployment false = list_in (lists_of d)
+
+full_fits : (d : Data) (fault : ReadFault) → OnlyFull {X = Deployment} (Err fault) → FitsReading (Err fault) (hint_by d (Err fault))
+full_fits d faults.TooMany h = list_in (lists_of d)
+full_fits d _ h = absurd h
+
+lists_fit : (d : Data) (r : Result Deployment ReadFault) → OnlyFull r → FitsReading (r >>= within_limits) (hint_by d (r >>= within_limits))
+lists_fit d (Ok deployment) h = limits_fit d deployment (is_within deployment)
+lists_fit d (Err fault) h = full_fits d fault h
+
+value_fits_by : (d : Data) (numbers : Bool) (place : Option (List ℕ)) (names : Bool) → wrong d root ≡ place → names_fit d root ≡ names
+    → let read : Result Deployment ReadFault = if not numbers then Err faults.BadNumber else or_shape place (if not names then Err faults.BadName else lists_of d >>= within_limits) in
+      FitsReading read (hint_by d read)
+value_fits_by d false place names form fit = refl
+value_fits_by d true (Some path) names form fit = refl
+value_fits_by d true None false form fit = name_for d fit
+value_fits_by d true None true form fit = lists_fit d (lists_of d) (lists_full d (record { form = form; names = fit }))
+
+value_fits : (d : Data) → FitsReading (deployment_of d) (hint_of d)
+unfolding deployment_of hint_of
+value_fits d = value_fits_by d (numbers_fit d) (wrong d root) (names_fit d root) refl refl
+
+-- ---- bytes
+
+bytes_fit_by : (bytes : List ℕ) (long : Bool) (read : Option Data) (hint : Option Hint) → MatchBool long (hint ≡ None) (IsHintBy bytes read hint)
+    → FitsReading (if long then Err faults.TooLong else or_not_json read >>= deployment_of) hint
+bytes_fit_by bytes true read hint is = is
+bytes_fit_by bytes false None hint is = position_in bytes hint is
+bytes_fit_by bytes false (Some d) hint is = subst (FitsReading (deployment_of d)) (sym is) (value_fits d)
+
+pub bytes_fit : (bytes : List ℕ) (hint : Option Hint) → IsHintFor bytes hint → FitsReading (deployment_in bytes) hint
+unfolding deployment_in
+bytes_fit bytes hint is = bytes_fit_by bytes (is_too_long bytes) (json_in bytes) hint is
