@@ -22,13 +22,14 @@ use Rattle.cdi_script.specs.Form.{is_script}
 use Rattle.cdi_text.specs.Places.{name_text}
 use Rattle.cdi_hints.specs.BadName.{first_bad_name}
 use Rattle.cdi_hints.specs.BadStep.{bad_step, bad_step_of, first_bad_step}
-use Rattle.cdi_hints.specs.Hint.{IsHintBy, IsHintFor, bad_name, hint_by, hint_of, long_list, long_list_in}
-use Rattle.cdi_hints.specs.Kinds.{FitsReading, IsList, IsName, IsStep}
+use Rattle.cdi_hints.specs.Hint.{IsHintBy, IsHintFor, bad_name, hint_by, hint_of}
+use Rattle.cdi_hints.specs.Kinds.{FitsReading, IsList, IsName, IsStep, lists_in}
 use Rattle.cdi_hints.specs.LongList.{class_list_at, first_long_list, list_at, long_list_in_classes, long_list_of_class}
 use Rattle.cdi_hints.specs.Position.{IsPlaceIn, IsPosition, place_after, place_from}
 use Rattle.cdi_hints.specs.declared.hint.Hint.{Hint}
 use Rattle.cdi_hints.specs.declared.hint.Hint.TheVariants as hints
 use Rattle.cdi_hints.proofs.BadNames.{fits_where_none}
+use Rattle.cdi_hints.proofs.LongLists.{deployment-none}
 use Rattle.cdi_hints.proofs.Right.{OnlyFull, lists_full}
 
 -- ---- lists
@@ -55,9 +56,12 @@ deployment_list d =
     list_if (nat_lt 1024 (length d.classes)) (list_at (codes "classes") 1024) _ tt
     (list_if (nat_lt 1024 (length d.scripts)) (list_at (codes "scripts") 1024) (long_list_in_classes 0 d.classes) tt (classes_list 0 d.classes))
 
-list_in : (r : Result Deployment ReadFault) → IfSome (long_list_in r) IsList
-list_in (Ok d) = deployment_list d
-list_in (Err fault) = tt
+list_where : (o : Option Hint) → IfSome o IsList → is_none o ≡ false → IsSomeAnd o IsList
+list_where None list h = absurd cc
+list_where (Some hint) list h = list
+
+list_for : (d : Deployment) → is_within d ≡ false → IsSomeAnd (first_long_list d) IsList
+list_for d beyond = list_where (first_long_list d) (deployment_list d) (sym (deployment-none d) ∙ beyond)
 
 -- ---- steps
 
@@ -99,39 +103,57 @@ position_in bytes (Some place) h = position_by (is_utf8 bytes) (take (utf8_valid
 
 -- ---- values
 
-limits_fit : (d : Data) (deployment : Deployment) (b : Bool)
-    → FitsReading (if b then Ok deployment else Err faults.TooMany) (hint_by d (if b then Ok deployment else Err faults.TooMany))
-limits_fit d deployment true = step_of deployment.names (find (λ s. not (is_script s.steps)) deployment.scripts)
-limits_fit d deployment false = list_in (lists_of d)
+limits_fit : (d : Data) (deployment : Deployment) (b : Bool) → is_within deployment ≡ b
+    → let read : Result Deployment ReadFault = if b then Ok deployment else Err faults.TooMany in
+    FitsReading (Ok deployment) read (hint_by d (Ok deployment) read)
+limits_fit d deployment true within = step_of deployment.names (find (λ s. not (is_script s.steps)) deployment.scripts)
+limits_fit d deployment false within = list_for deployment within
 
-full_fits : (d : Data) (fault : ReadFault) → OnlyFull {X = Deployment} (Err fault) → FitsReading (Err fault) (hint_by d (Err fault))
-full_fits d faults.TooMany h = list_in (lists_of d)
+full_fits : (d : Data) (fault : ReadFault) → OnlyFull {X = Deployment} (Err fault) → FitsReading (Err fault) (Err fault) (hint_by d (Err fault) (Err fault))
+full_fits d faults.TooMany h = refl
 full_fits d _ h = absurd h
 
-lists_fit : (d : Data) (r : Result Deployment ReadFault) → OnlyFull r → FitsReading (r >>= within_limits) (hint_by d (r >>= within_limits))
-lists_fit d (Ok deployment) h = limits_fit d deployment (is_within deployment)
+lists_fit : (d : Data) (lists : Result Deployment ReadFault) → OnlyFull lists → FitsReading lists (lists >>= within_limits) (hint_by d lists (lists >>= within_limits))
+lists_fit d (Ok deployment) h = limits_fit d deployment (is_within deployment) refl
 lists_fit d (Err fault) h = full_fits d fault h
+
+-- (lists are looked at by cases in FitsReading, so each place has its own)
+name_fits : (d : Data) (lists : Result Deployment ReadFault) → IsSomeAnd (bad_name d) IsName → FitsReading lists (Err faults.BadName) (bad_name d)
+name_fits d (Ok deployment) named = named
+name_fits d (Err fault) named = named
+
+none_fits : (lists : Result Deployment ReadFault) (path : List ℕ) → FitsReading lists (Err (faults.Shape path)) None
+none_fits (Ok deployment) path = refl
+none_fits (Err fault) path = refl
+
+number_fits : (lists : Result Deployment ReadFault) → FitsReading lists (Err faults.BadNumber) None
+number_fits (Ok deployment) = refl
+number_fits (Err fault) = refl
 
 value_fits_by : (d : Data) (numbers : Bool) (place : Option (List ℕ)) (names : Bool) → wrong d root ≡ place → names_fit d root ≡ names
     → let read : Result Deployment ReadFault = if not numbers then Err faults.BadNumber else or_shape place (if not names then Err faults.BadName else lists_of d >>= within_limits) in
-      FitsReading read (hint_by d read)
-value_fits_by d false place names form fit = refl
-value_fits_by d true (Some path) names form fit = refl
-value_fits_by d true None false form fit = name_for d fit
+    FitsReading (lists_of d) read (hint_by d (lists_of d) read)
+value_fits_by d false place names form fit = number_fits (lists_of d)
+value_fits_by d true (Some path) names form fit = none_fits (lists_of d) path
+value_fits_by d true None false form fit = name_fits d (lists_of d) (name_for d fit)
 value_fits_by d true None true form fit = lists_fit d (lists_of d) (lists_full d (record { form = form; names = fit }))
 
-value_fits : (d : Data) → FitsReading (deployment_of d) (hint_of d)
+value_fits : (d : Data) → FitsReading (lists_of d) (deployment_of d) (hint_of d)
 unfolding deployment_of hint_of
 value_fits d = value_fits_by d (numbers_fit d) (wrong d root) (names_fit d root) refl refl
 
 -- ---- bytes
 
-bytes_fit_by : (bytes : List ℕ) (long : Bool) (read : Option Data) (hint : Option Hint) → MatchBool long (hint ≡ None) (IsHintBy bytes read hint)
-    → FitsReading (if long then Err faults.TooLong else or_not_json read >>= deployment_of) hint
-bytes_fit_by bytes true read hint is = is
-bytes_fit_by bytes false None hint is = position_in bytes hint is
-bytes_fit_by bytes false (Some d) hint is = subst (FitsReading (deployment_of d)) (sym is) (value_fits d)
+long_fits : (lists : Result Deployment ReadFault) (hint : Option Hint) → hint ≡ None → FitsReading lists (Err faults.TooLong) hint
+long_fits (Ok deployment) hint none = none
+long_fits (Err fault) hint none = none
 
-pub bytes_fit : (bytes : List ℕ) (hint : Option Hint) → IsHintFor bytes hint → FitsReading (deployment_in bytes) hint
+bytes_fit_by : (bytes : List ℕ) (long : Bool) (read : Option Data) (hint : Option Hint) → MatchBool long (hint ≡ None) (IsHintBy bytes read hint)
+    → FitsReading (or_not_json read >>= lists_of) (if long then Err faults.TooLong else or_not_json read >>= deployment_of) hint
+bytes_fit_by bytes true read hint is = long_fits (or_not_json read >>= lists_of) hint is
+bytes_fit_by bytes false None hint is = position_in bytes hint is
+bytes_fit_by bytes false (Some d) hint is = subst (FitsReading (lists_of d) (deployment_of d)) (sym is) (value_fits d)
+
+pub bytes_fit : (bytes : List ℕ) (hint : Option Hint) → IsHintFor bytes hint → FitsReading (lists_in bytes) (deployment_in bytes) hint
 unfolding deployment_in
 bytes_fit bytes hint is = bytes_fit_by bytes (is_too_long bytes) (json_in bytes) hint is

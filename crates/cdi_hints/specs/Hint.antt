@@ -28,15 +28,15 @@ long_list_in (Err fault) = None
 abbrev pub long_list : Data → Option Hint
 long_list d = long_list_in (lists_of d)
 
--- the hint for a value, by what reading it gives
-abbrev pub hint_by : Data → Result Deployment ReadFault → Option Hint
-hint_by d (Ok deployment) = first_bad_step deployment
-hint_by d (Err faults.BadName) = bad_name d
-hint_by d (Err faults.TooMany) = long_list d
-hint_by d (Err _) = None
+-- the hint for a value, by its lists and what reading it gives
+abbrev pub hint_by : Data → Result Deployment ReadFault → Result Deployment ReadFault → Option Hint
+hint_by d lists (Ok deployment) = first_bad_step deployment
+hint_by d lists (Err faults.BadName) = bad_name d
+hint_by d lists (Err faults.TooMany) = long_list_in lists
+hint_by d lists (Err _) = None
 
 unfoldable pub hint_of : Data → Option Hint
-hint_of d = hint_by d (deployment_of d)
+hint_of d = hint_by d (lists_of d) (deployment_of d)
 
 -- a place for bytes that are no JSON text, and else the hint for their value
 abbrev pub IsHintBy : List ℕ → Option Data → Option Hint → Type 0

@@ -1,5 +1,9 @@
 -- Which kind of hint there is, by what reading the bytes gives.
-use Rattle.std.specs.Prelude.{◌≡◌, Option, None, Result, Ok, Err, IfSome, IsSomeAnd}
+use Rattle.std.specs.Prelude.{◌≡◌, ℕ, List, Option, None, Result, Ok, Err, IfSome, IsSomeAnd}
+use Rattle.cdi_base.specs.Reading.{◌>>=◌}
+use Rattle.cdi_json.specs.Json.{json_in}
+use Rattle.cdi_deploy.specs.Items.{lists_of}
+use Rattle.cdi_deploy.specs.Reading.{or_not_json}
 use Rattle.cdi_deploy.specs.declared.deployment.Deployment.{Deployment}
 use Rattle.cdi_deploy.specs.declared.fault.ReadFault.{ReadFault}
 use Rattle.cdi_deploy.specs.declared.fault.ReadFault.TheVariants as faults
@@ -19,10 +23,14 @@ abbrev pub IsStep : Hint → Type 0
 IsStep (hints.Step script step) = Unit {0}
 IsStep _ = ⊥
 
--- a position for NotJson, a name for BadName, at most a list for TooMany and a step for a deployment, and else none
-abbrev pub FitsReading : Result Deployment ReadFault → Option Hint → Type 0
-FitsReading (Err faults.NotJson) hint = IsSomeAnd hint IsPosition
-FitsReading (Err faults.BadName) hint = IsSomeAnd hint IsName
-FitsReading (Err faults.TooMany) hint = IfSome hint IsList
-FitsReading (Err _) hint = hint ≡ None
-FitsReading (Ok deployment) hint = IfSome hint IsStep
+-- the lists that bytes have, where they are a value whose names find room in their table
+abbrev pub lists_in : List ℕ → Result Deployment ReadFault
+lists_in bytes = or_not_json (json_in bytes) >>= lists_of
+
+-- a position for NotJson, a name for BadName, a list for TooMany where there are lists, at most a step for a deployment, and else none
+abbrev pub FitsReading : Result Deployment ReadFault → Result Deployment ReadFault → Option Hint → Type 0
+FitsReading lists (Err faults.NotJson) hint = IsSomeAnd hint IsPosition
+FitsReading lists (Err faults.BadName) hint = IsSomeAnd hint IsName
+FitsReading (Ok deployment) (Err faults.TooMany) hint = IsSomeAnd hint IsList
+FitsReading lists (Err _) hint = hint ≡ None
+FitsReading lists (Ok deployment) hint = IfSome hint IsStep

@@ -8,9 +8,9 @@ use std::fmt;
 #[derive(Drop)]
 pub enum Hint {
     /// The bytes stop being one JSON text here. Lines end with a line feed and are counted from 1. A column counts bytes,
-    /// not characters: that of the first byte of a line is 1. Of bytes that aren't UTF-8 this is the place of the first
-    /// byte that no character begins or goes on with the bytes behind it. Of others it is the place that `serde_json` gives:
-    /// where the text ends too early, that of its last byte, with column 0 where the last line is empty.
+    /// not characters: that of the first byte of a line is 1. Of bytes that aren't UTF-8 this is the place of the byte behind
+    /// their longest front that is. Of others it is the place that `serde_json` gives: where the text ends too early, that of
+    /// its last byte, with column 0 where the last line is empty.
     Position { line: usize, column: usize },
     /// This text stands in the place of a name, and is none. It is the first such, where items go by their index and
     /// members by their keys in the order of bytes.

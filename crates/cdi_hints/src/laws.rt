@@ -12,15 +12,16 @@ ghost use Rattle.cdi_script.specs.Form.{are_steps};
 ghost use Rattle.cdi_hints.specs.BadName.{first_bad_name};
 ghost use Rattle.cdi_hints.specs.BadStep.{bad_item_from};
 ghost use Rattle.cdi_hints.specs.Hint.{IsHintFor};
-ghost use Rattle.cdi_hints.specs.Kinds.{FitsReading};
+ghost use Rattle.cdi_hints.specs.Kinds.{FitsReading, lists_in};
 ghost use Rattle.cdi_hints.specs.LongList.{first_long_list};
 ghost use Rattle.cdi_hints.specs.declared.hint.Hint.{Hint as AnyHint};
 
 /// The kind of a hint fits what [`cdi_deploy::read`] answers: a position exactly where it is `NotJson`, a name exactly where
-/// it is `BadName`, a list only where it is `TooMany`, and a step only where it is a deployment.
+/// it is `BadName`, a list exactly where it is `TooMany` and not because the table of names is full, and a step only where it
+/// is a deployment.
 pub fn law_kind()
     ensures { (bytes : List ℕ) (hint : Option AnyHint) → IsHintFor bytes hint
-        → FitsReading (deployment_in bytes) hint }
+        → FitsReading (lists_in bytes) (deployment_in bytes) hint }
 {}
 
 /// No bad name is found exactly where the names fit, as [`cdi_deploy::read`] tests it; and one that is found stands in
