@@ -1,4 +1,4 @@
-//! The machine: its definition, and the engine that runs it by recursion.
+//! The machine: its definition, and the engine that runs it, a loop that calls itself at a nested call alone.
 #![tactic(auto)]
 
 pub mod driver;
