@@ -5,3 +5,4 @@ pub mod BuiltIn
 pub mod Words
 pub mod Limits
 pub mod Plain
+pub mod Maps

@@ -1,0 +1,7 @@
+use Rattle.std.proofs.Common.{◌∙◌, ap}
+use Rattle.cdi_base.specs.Maps.{at}
+use Rattle.cdi_store.proofs.Entries.{at-lookup}
+use Rattle.cdi_store.proofs.references.References.get.Goals as goal
+
+pub returns : goal.returns
+returns c = c.copied.ensures ∙ c.get.ensures.value ∙ at-lookup c.self.inside.entries.entries c.args.field ∙ ap (λ m. at m c.args.field) c.self.view_is

@@ -1,0 +1,73 @@
+-- The live instances by their numbers, which rise, and how they change.
+use Rattle.std.specs.Prelude.{ℕ, ◌==◌, ◌++◌, ◌∷◌, [], not, List, filter, Option, Some, None}
+use Rattle.cdi_base.specs.Maps.{Map, at, adjusted, put}
+use Rattle.cdi_base.specs.Fields.{set}
+use Rattle.cdi_base.specs.declared.value.Value.{Value}
+use Rattle.cdi_base.specs.declared.value.Value.TheVariants.{Null}
+use Rattle.cdi_store.specs.declared.instance.Component.{Component}
+use Rattle.cdi_store.specs.declared.instance.Owner.{Owner}
+use Rattle.cdi_store.specs.declared.instance.Owner.TheVariants as owners
+use Rattle.cdi_store.specs.declared.instance.Phase.{Phase}
+use Rattle.cdi_store.specs.declared.instance.Phase.TheVariants.{New, Ready, Leaving}
+use Rattle.cdi_store.specs.declared.instance.Instance.{Instance}
+use Rattle.cdi_store.specs.declared.references.Reference.{Reference}
+
+abbrev pub Instances : Type 0
+Instances = Map Instance
+
+-- an instance at the begin of its creation
+abbrev pub newborn : Component → Owner → List (ℕ × Value) → Instance
+newborn component owner fields =
+    record { component = component; owner = owner; phase = New; fields = fields; references = []; value = Null; dependents = [] }
+
+abbrev pub with_newborn : ℕ → Component → Owner → List (ℕ × Value) → Instances → Instances
+with_newborn n component owner fields live = live ++ (n, newborn component owner fields) ∷ []
+
+-- a field of an instance has another value; a field that isn't there stays absent
+abbrev pub with_field : ℕ → ℕ → Value → Instances → Instances
+with_field n field value = adjusted n (λ o. record o { fields = set o.fields field value })
+
+-- an injected field has a reference
+abbrev pub with_reference : ℕ → ℕ → Reference → Instances → Instances
+with_reference n field reference = adjusted n (λ o. record o { references = put field reference o.references })
+
+-- a product has a value
+abbrev pub with_value : ℕ → Value → Instances → Instances
+with_value n value = adjusted n (λ o. record o { value = value })
+
+abbrev pub in_phase : Phase → ℕ → Instances → Instances
+in_phase phase n = adjusted n (λ o. record o { phase = phase })
+
+-- ---- dependents
+
+abbrev pub all_but : ℕ → List ℕ → List ℕ
+all_but n numbers = filter (λ m. not (m == n)) numbers
+
+-- the owner has the instance as its last dependent
+abbrev pub with_dependent : ℕ → Owner → Instances → Instances
+with_dependent n (owners.Instance m) live = adjusted m (λ o. record o { dependents = o.dependents ++ n ∷ [] }) live
+with_dependent n (owners.Context context) live = live
+with_dependent n owners.Borrower live = live
+
+-- the owner has the instance no longer
+abbrev pub without_dependent : ℕ → Owner → Instances → Instances
+without_dependent n (owners.Instance m) live = adjusted m (λ o. record o { dependents = all_but n o.dependents }) live
+without_dependent n (owners.Context context) live = live
+without_dependent n owners.Borrower live = live
+
+abbrev pub for_owner : Option Instance → (Owner → Instances → Instances) → Instances → Instances
+for_owner None f live = live
+for_owner (Some o) f live = f o.owner live
+
+-- the instance is ready, and its owner has it
+abbrev pub with_ready : ℕ → Instances → Instances
+with_ready n live = for_owner (at live n) (with_dependent n) (in_phase Ready n live)
+
+-- the destruction of the instance has begun, and its owner has it no longer
+abbrev pub with_leaving : ℕ → Instances → Instances
+with_leaving n live = in_phase Leaving n (for_owner (at live n) (without_dependent n) live)
+
+-- the instance goes from its owner to another, which has it as its last dependent
+abbrev pub with_owner : ℕ → Owner → Instances → Instances
+with_owner n owner live =
+    with_dependent n owner (adjusted n (λ o. record o { owner = owner }) (for_owner (at live n) (without_dependent n) live))
