@@ -1,6 +1,6 @@
 -- The live instances by their numbers, which rise, and how they change.
-use Rattle.std.specs.Prelude.{ℕ, ◌==◌, ◌++◌, ◌∷◌, [], not, List, filter, Option, Some, None}
-use Rattle.cdi_base.specs.Maps.{Map, at, adjusted, put}
+use Rattle.std.specs.Prelude.{ℕ, ◌==◌, ◌++◌, ◌∷◌, [], not, Bool, false, List, filter, Option, Some, None, option_map}
+use Rattle.cdi_base.specs.Maps.{Map, at, adjusted, put, without}
 use Rattle.cdi_base.specs.Fields.{set}
 use Rattle.cdi_base.specs.declared.value.Value.{Value}
 use Rattle.cdi_base.specs.declared.value.Value.TheVariants.{Null}
@@ -11,9 +11,33 @@ use Rattle.cdi_store.specs.declared.instance.Phase.{Phase}
 use Rattle.cdi_store.specs.declared.instance.Phase.TheVariants.{New, Ready, Leaving}
 use Rattle.cdi_store.specs.declared.instance.Instance.{Instance}
 use Rattle.cdi_store.specs.declared.references.Reference.{Reference}
+use Rattle.cdi_store.specs.declared.key.Key.{Key}
 
 abbrev pub Instances : Type 0
 Instances = Map Instance
+
+-- what a store keeps: the instances and the slot of each by their numbers, which rise, and the next number
+pub record Kept : Type 0 where
+  pub instances : Instances
+  pub slots : Map ℕ
+  pub next : ℕ
+
+abbrev pub is_slot : Option ℕ → ℕ → Bool
+is_slot None slot = false
+is_slot (Some s) slot = s == slot
+
+-- the key is that of a live instance: its number is that of the instance in its slot
+abbrev pub is_live : Kept → Key → Bool
+is_live kept key = is_slot (at kept.slots key.number) key.slot
+
+-- the key of the live instance with a number
+abbrev pub key_at : Kept → ℕ → Option Key
+key_at kept n = option_map (λ slot. record { slot = slot; number = n }) (at kept.slots n)
+
+-- an instance is gone, and its number is given to no other
+abbrev pub without_instance : ℕ → Kept → Kept
+without_instance n kept =
+    record { instances = without n kept.instances; slots = without n kept.slots; next = kept.next }
 
 -- an instance at the begin of its creation
 abbrev pub newborn : Component → Owner → List (ℕ × Value) → Instance

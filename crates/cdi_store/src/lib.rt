@@ -1,8 +1,14 @@
 //! The contextual instances of a container, each under a key.
 #![tactic(auto)]
 
+pub mod errors;
 pub mod instance;
+pub mod key;
 pub mod references;
+pub mod store;
 
+pub use errors::{ChangeError, MakeError, Stale};
 pub use instance::{Component, Context, Instance, Owner, Phase};
+pub use key::Key;
 pub use references::{Reference, References};
+pub use store::Store;

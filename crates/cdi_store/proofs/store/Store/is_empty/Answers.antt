@@ -1,0 +1,6 @@
+use Rattle.cdi_store.proofs.Slots.{length-instances_in}
+use Rattle.cdi_store.proofs.store.Store.is_empty.Goals as goal
+
+pub returns : goal.returns
+returns c =
+    rw (← c.self.view_is, length-instances_in c.self.inside.slots.slots c.self.inside.numbers.entries c.self.invariant.occupied) c.is_empty.ensures

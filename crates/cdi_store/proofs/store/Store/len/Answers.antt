@@ -1,0 +1,9 @@
+use Rattle.std.proofs.Common.{◌∙◌, sym, ap, length}
+use Rattle.cdi_store.proofs.Slots.{length-instances_in}
+use Rattle.cdi_store.proofs.store.Store.len.Goals as goal
+
+pub returns : goal.returns
+returns c =
+    c.len.ensures.len
+    ∙ sym (length-instances_in c.self.inside.slots.slots c.self.inside.numbers.entries c.self.invariant.occupied)
+    ∙ ap (λ s. length s.instances) c.self.view_is

@@ -1,0 +1,50 @@
+-- How the instances lie in their slots: what a contract sees of a store, and what is true of every store.
+use Rattle.std.specs.Prelude.{◌≢◌, ℕ, ◌<◌, ◌≤◌, ◌^◌, List, [], ◌∷◌, Option, Some, None, IsSome, slice_index_or}
+use Rattle.std.specs.List.{AllByRecursion}
+use Rattle.cdi_base.specs.Maps.{Map}
+use Rattle.cdi_store.specs.declared.instance.Instance.{Instance}
+use Rattle.cdi_store.specs.Live.{Instances, Kept}
+
+abbrev pub Slots : Type 0
+Slots = List (Option Instance)
+
+abbrev pub slot_at : Slots → ℕ → Option Instance
+slot_at slots k = slice_index_or slots k None
+
+-- the instances with one in front, if there is one
+abbrev pub preceded : ℕ → Option Instance → Instances → Instances
+preceded n None live = live
+preceded n (Some o) live = (n, o) ∷ live
+
+-- the instances that lie in the slots of these numbers
+abbrev pub instances_in : Slots → Map ℕ → Instances
+instances_in slots [] = []
+instances_in slots (p ∷ more) = preceded p.0 (slot_at slots p.1) (instances_in slots more)
+
+abbrev pub kept_in : Slots → Map ℕ → ℕ → Kept
+kept_in slots numbers next = record { instances = instances_in slots numbers; slots = numbers; next = next }
+
+-- each number is below the later ones
+abbrev pub AreRising : Map ℕ → Type 0
+AreRising [] = Unit {0}
+AreRising (p ∷ more) = AllByRecursion (λ q. p.0 < q.0) more × AreRising more
+
+-- no two numbers have one slot
+abbrev pub AreApart : Map ℕ → Type 0
+AreApart [] = Unit {0}
+AreApart (p ∷ more) = AllByRecursion (λ q. q.1 ≢ p.1) more × AreApart more
+
+abbrev pub AreBelow : ℕ → Map ℕ → Type 0
+AreBelow next numbers = AllByRecursion (λ p. p.0 < next) numbers
+
+-- each number's slot has an instance
+abbrev pub AreOccupied : Slots → Map ℕ → Type 0
+AreOccupied slots numbers = AllByRecursion (λ p. IsSome (slot_at slots p.1)) numbers
+
+pub record IsSound (slots : Slots) (numbers : Map ℕ) (next : ℕ) : Type 0 where
+  pub rising : AreRising numbers
+  pub below : AreBelow next numbers
+  pub apart : AreApart numbers
+  pub occupied : AreOccupied slots numbers
+  pub positive : 0 < next
+  pub most : next ≤ 2 ^ 32

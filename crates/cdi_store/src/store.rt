@@ -1,0 +1,189 @@
+//! The live instances of a container, each under a key.
+ghost use Rattle.std.specs.Prelude.{◌≡◌, ◌≢◌, ◌+◌, ◌<◌, ◌≤◌, ◌^◌, ◌++◌, ◌∷◌, ◌↔◌, [], length, IfOk, OnOk, OnErr, IfSome, IsTrue, IsOk, IsSome, IsNone, Some, Err, IsSomeAnd};
+ghost use Rattle.cdi_base.specs.Maps.{at};
+ghost use Rattle.cdi_store.specs.Live.{is_live, key_at, with_newborn, without_instance};
+ghost use Rattle.cdi_store.specs.declared.errors.MakeError.TheVariants as make;
+
+use crate::errors::{MakeError, Stale};
+use crate::instance::{Component, Instance, Owner, Phase};
+use crate::key::Key;
+use crate::references::References;
+use cdi_base::{Fields, Seq, Value};
+use slab::Slab;
+use std::alloc::Global;
+use std::collections::BTreeMap;
+use std::marker::Model;
+
+/// The live instances of a container, each under a number of its own and in a slot, which contracts see as the
+/// instances by their numbers, the slots by the same numbers, and the next number. Its memory grows with the live
+/// instances and not with those that were ever made: a slot is used again, a number never.
+#[derive(Drop)]
+pub struct Store {
+    /// The slot of each live instance.
+    numbers: BTreeMap<u32, usize>,
+    slots: Slab<Instance>,
+    /// The number of the next instance; past the greatest `u32`, no number is left.
+    next: u64,
+    alloc: Global,
+}
+
+impl Model for Store {
+    ghost use Rattle.cdi_store.specs.Live.{Kept};
+
+    ghost Value = { Kept };
+
+    ghost use Rattle.cdi_store.specs.Slots.{kept_in, IsSound};
+
+    ghost view = { λ s. kept_in s.slots.slots s.numbers.entries s.next };
+
+    ghost invariant = { λ s. IsSound s.slots.slots s.numbers.entries s.next };
+}
+
+impl Store {
+    /// A store with no instance, whose first number is 1.
+    pub fn new(alloc: Global) -> Store
+        ensures { result ≡ record { instances = []; slots = []; next = 1 } }
+    {
+        Store::starting_at(alloc, 1)
+    }
+
+    /// A store with no instance, and with this first number.
+    pub fn starting_at(alloc: Global, number: u32) -> Store
+        requires { number ≢ 0 }
+        ensures { result ≡ record { instances = []; slots = []; next = number } }
+    {
+        Store {
+            numbers: BTreeMap::new(alloc),
+            slots: Slab::new(alloc),
+            next: u64::from(number),
+            alloc,
+        }
+    }
+
+    /// How many instances live.
+    pub fn len(&self) -> usize
+        ensures { result ≡ length self.now.instances }
+    {
+        self.numbers.len()
+    }
+
+    /// Whether no instance lives.
+    pub fn is_empty(&self) -> bool
+        ensures { IsTrue result ↔ (length self.now.instances ≡ 0) }
+    {
+        self.numbers.is_empty()
+    }
+
+    /// The number of the next instance. There is none once 4,294,967,295 has been given out.
+    pub fn next_number(&self) -> Option<u32>
+        ensures left { IsSome result ↔ (self.now.next < 2 ^ 32) }
+        ensures number { IfSome result (λ number. number ≡ self.now.next) }
+    {
+        if self.next > u64::from(u32::MAX) {
+            return None;
+        }
+        Some(self.next as u32)
+    }
+
+    /// The key of the live instance with a number, if there is one.
+    pub fn key(&self, number: u32) -> Option<Key>
+        ensures key { result ≡ key_at self.now number }
+        ensures live { IsSome result ↔ IsSome (at self.now.instances number) }
+    {
+        let slot = *self.numbers.get(&number)?;
+        Some(Key { slot, number })
+    }
+
+    /// Whether a key is that of a live instance.
+    fn is_live(&self, key: Key) -> bool
+        ensures { result ≡ is_live self.now key }
+    {
+        match self.numbers.get(&key.number) {
+            Some(slot) => *slot == key.slot,
+            None => false,
+        }
+    }
+    /// Makes an instance in phase New, under the next number and in a slot of its own. No number is left once
+    /// 4,294,967,295 has been given out, whatever memory there is. On an error nothing changes, and what was handed in
+    /// is dropped.
+    pub fn make(
+        &mut self,
+        component: Component,
+        owner: Owner,
+        fields: Fields,
+    ) -> Result<Key, MakeError>
+        ensures number { IfOk result (λ key. key.number ≡ self.old.next) }
+        ensures instances { OnOk result (self.new.instances
+            ≡ with_newborn self.old.next component owner fields self.old.instances) }
+        ensures slots { IfOk result (λ key. self.new.slots
+            ≡ self.old.slots ++ (self.old.next, key.slot) ∷ []) }
+        ensures next { OnOk result (self.new.next ≡ self.old.next + 1) }
+        ensures live { IfOk result (λ key. IsTrue (is_live self.new key)) }
+        ensures numbers_out { (result ≡ Err make.NumbersOut) ↔ (2 ^ 32 ≤ self.old.next) }
+        ensures err { OnErr result (self.new ≡ self.old) }
+    {
+        let Some(number) = self.next_number() else {
+            return Err(MakeError::NumbersOut);
+        };
+        self.slots.reserve(1)?;
+        self.numbers.insert(number, self.slots.vacant_key())?;
+        let slot = self.slots.insert_reserved(Instance {
+            component,
+            owner,
+            phase: Phase::New,
+            fields,
+            references: References::new(self.alloc),
+            value: Value::Null,
+            dependents: Seq::empty(self.alloc),
+        });
+        self.next += 1;
+        Ok(Key { slot, number })
+    }
+
+    /// A live instance.
+    pub fn instance(&self, key: Key) -> Result<&Instance, Stale>
+        ensures live { IsOk result ↔ IsTrue (is_live self.now key) }
+        ensures found { IfOk result (λ instance.
+            at self.now.instances key.number ≡ Some instance.now) }
+    {
+        if !self.is_live(key) {
+            return Err(Stale);
+        }
+        Ok(&self.slots[key.slot])
+    }
+
+    /// The fields of a live instance.
+    pub fn fields(&self, key: Key) -> Result<&Fields, Stale>
+        ensures live { IsOk result ↔ IsTrue (is_live self.now key) }
+        ensures found { IfOk result (λ fields.
+            IsSomeAnd (at self.now.instances key.number) (λ o. o.fields ≡ fields.now)) }
+    {
+        let instance = self.instance(key)?;
+        Ok(&instance.fields)
+    }
+
+    /// The numbers of the dependent objects of a live instance, in the order of their adoption.
+    pub fn dependents(&self, key: Key) -> Result<&[u32], Stale>
+        ensures live { IsOk result ↔ IsTrue (is_live self.now key) }
+        ensures found { IfOk result (λ numbers.
+            IsSomeAnd (at self.now.instances key.number) (λ o. o.dependents ≡ numbers.now)) }
+    {
+        let instance = self.instance(key)?;
+        Ok(instance.dependents.as_slice())
+    }
+
+    /// Takes a live instance out of the store and gives it out. Its number is never given again. On an error nothing
+    /// changes.
+    pub fn free(&mut self, key: Key) -> Result<Instance, Stale>
+        ensures live { IsOk result ↔ IsTrue (is_live self.old key) }
+        ensures freed { IfOk result (λ o. at self.old.instances key.number ≡ Some o) }
+        ensures ok { OnOk result (self.new ≡ without_instance key.number self.old) }
+        ensures err { OnErr result (self.new ≡ self.old) }
+    {
+        if !self.is_live(key) {
+            return Err(Stale);
+        }
+        self.numbers.remove(&key.number);
+        Ok(self.slots.remove(key.slot))
+    }
+}
