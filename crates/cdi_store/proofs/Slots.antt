@@ -3,14 +3,14 @@ use Rattle.std.proofs.Common.{◌≡◌, ◌≢◌, ℕ, ◌+◌, ◌<◌, ◌^�
 use Rattle.std.specs.Option.{option_map}
 use Rattle.std.specs.Ordering.{nat_cmp}
 use Rattle.std.specs.BTreeMap.{insert_entry}
-use Rattle.slab.specs.Slab.{Slab, get, Updates}
+use Rattle.slab.specs.Slab.{Slab, get, Updates, SameValues}
 use Rattle.std.specs.List.{AllByRecursion}
 use Rattle.std.proofs.lemmas.Map.Views.{exact_unsigned_eq}
 use Rattle.cdi_base.specs.Maps.{Map, at, adjusted, without}
 use Rattle.cdi_store.specs.declared.instance.Instance.{Instance}
 use Rattle.cdi_store.specs.declared.key.Key.{Key}
 use Rattle.cdi_store.specs.Live.{Instances, Kept, is_slot, is_live}
-use Rattle.cdi_store.specs.Slots.{Slots, slot_at, preceded, instances_in, kept_in, AreApart, AreBelow, AreOccupied, IsSound}
+use Rattle.cdi_store.specs.Slots.{Slots, slot_at, preceded, instances_in, kept_in, AreApart, AreBelow, AreOccupied, IsSound, Changes}
 use Rattle.cdi_store.proofs.Numbers.{equal_or_not, insert_entry-last, All-at, All-weaker, All-both, All-last, All-without, rising-last, apart-last, rising-without, apart-without, slot-without}
 
 -- ---- what lies in the slots
@@ -75,9 +75,12 @@ slot_of_live slots m next key s view h = slot_of (at m key.number) key.slot (ap 
 pub occupied_at : (slots : Slots) (m : Map ℕ) (n slot : ℕ) → AreOccupied slots m → at m n ≡ Some slot → IsSome (slot_at slots slot)
 occupied_at slots m n slot h e = All-at (λ p. IsSome (slot_at slots p.1)) m n slot h e
 
+pub at-kept : (slots : Slots) (m : Map ℕ) (n slot next : ℕ) (s : Kept) → kept_in slots m next ≡ s → AreOccupied slots m → at m n ≡ Some slot → at s.instances n ≡ slot_at slots slot
+at-kept slots m n slot next s view h e = ap (λ k. at k.instances n) (sym view) ∙ at-instances_in slots m n h ∙ ap (lying slots) e
+
 pub instance_at : (slots : Slots) (m : Map ℕ) (n slot next : ℕ) (o : Instance) (s : Kept) → kept_in slots m next ≡ s → AreOccupied slots m → at m n ≡ Some slot → slot_at slots slot ≡ Some o → at s.instances n ≡ Some o
 instance_at slots m n slot next o s view h e is =
-    ap (λ k. at k.instances n) (sym view) ∙ at-instances_in slots m n h ∙ ap (lying slots) e ∙ is
+    at-kept slots m n slot next s view h e ∙ is
 
 -- ---- slots that stay
 
@@ -129,6 +132,32 @@ occupied-changed f old new m slot changed stay h =
       | inl s ↦ rw (s.1, changed) (some_mapped f (slot_at old slot) (rw s.1 at o))
       | inr s ↦ rw (stay p.1 s.1) o
     ]) h
+
+-- what contracts see, where the instance of a live number changes
+pub kept-changed : (f : Instance → Instance) (old new : Slab Instance) (m : Map ℕ) (n slot next : ℕ) (s : Kept) → kept_in old.slots m next ≡ s → IsSound old.slots m next → at m n ≡ Some slot → Changes old new slot f → kept_in new.slots m next ≡ record s { instances = adjusted n f s.instances }
+kept-changed f old new m n slot next s view sound e changes =
+    rw (instances_in-changed f old.slots new.slots m n slot changes.changed changes.others sound.occupied sound.apart e) (ap (λ k. let is : Kept = record k { instances = adjusted n f k.instances } in is) view)
+
+sound-by : (old new : Slots) (m : Map ℕ) (next : ℕ) → IsSound old m next → AreOccupied new m → IsSound new m next
+sound-by old new m next s h = record { rising = s.rising; below = s.below; apart = s.apart; occupied = h; positive = s.positive; most = s.most }
+
+pub sound-changed : (f : Instance → Instance) (old new : Slab Instance) (m : Map ℕ) (slot next : ℕ) → Changes old new slot f → IsSound old.slots m next → IsSound new.slots m next
+sound-changed f old new m slot next changes s =
+    sound-by old.slots new.slots m next s (occupied-changed f old.slots new.slots m slot changes.changed changes.others s.occupied)
+
+-- ---- slots that all stay
+
+instances_in-same : (old new : Slab Instance) (m : Map ℕ) → SameValues old new → instances_in new.slots m ≡ instances_in old.slots m
+instances_in-same old new [] same = refl
+instances_in-same old new (p ∷ more) same =
+    rw (same p.1) (ap (preceded p.0 (slot_at old.slots p.1)) (instances_in-same old new more same))
+
+pub kept-same : (old new : Slab Instance) (m : Map ℕ) (next : ℕ) (s : Kept) → kept_in old.slots m next ≡ s → SameValues old new → kept_in new.slots m next ≡ s
+kept-same old new m next s view same = rw (instances_in-same old new m same) view
+
+pub sound-same : (old new : Slab Instance) (m : Map ℕ) (next : ℕ) → SameValues old new → IsSound old.slots m next → IsSound new.slots m next
+sound-same old new m next same s =
+    sound-by old.slots new.slots m next s (All-weaker (λ p. IsSome (slot_at old.slots p.1)) (λ p. IsSome (slot_at new.slots p.1)) m (λ p o. rw (same p.1) o) s.occupied)
 
 -- ---- a slot that is taken
 

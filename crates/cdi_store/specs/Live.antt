@@ -1,5 +1,5 @@
 -- The live instances by their numbers, which rise, and how they change.
-use Rattle.std.specs.Prelude.{ℕ, ◌==◌, ◌++◌, ◌∷◌, [], not, Bool, false, List, filter, Option, Some, None, option_map}
+use Rattle.std.specs.Prelude.{ℕ, ◌==◌, ◌++◌, ◌∷◌, [], not, Bool, false, List, filter, Option, Some, None, is_some, option_map, if◌then◌else◌}
 use Rattle.cdi_base.specs.Maps.{Map, at, adjusted, put, without}
 use Rattle.cdi_base.specs.Fields.{set}
 use Rattle.cdi_base.specs.declared.value.Value.{Value}
@@ -62,6 +62,10 @@ with_value n value = adjusted n (λ o. record o { value = value })
 abbrev pub in_phase : Phase → ℕ → Instances → Instances
 in_phase phase n = adjusted n (λ o. record o { phase = phase })
 
+-- the instance is another owner's
+abbrev pub owned_by : Owner → ℕ → Instances → Instances
+owned_by owner n = adjusted n (λ o. record o { owner = owner })
+
 -- ---- dependents
 
 abbrev pub all_but : ℕ → List ℕ → List ℕ
@@ -85,7 +89,7 @@ for_owner (Some o) f live = f o.owner live
 
 -- the instance is ready, and its owner has it
 abbrev pub with_ready : ℕ → Instances → Instances
-with_ready n live = for_owner (at live n) (with_dependent n) (in_phase Ready n live)
+with_ready n live = in_phase Ready n (for_owner (at live n) (with_dependent n) live)
 
 -- the destruction of the instance has begun, and its owner has it no longer
 abbrev pub with_leaving : ℕ → Instances → Instances
@@ -94,4 +98,26 @@ with_leaving n live = in_phase Leaving n (for_owner (at live n) (without_depende
 -- the instance goes from its owner to another, which has it as its last dependent
 abbrev pub with_owner : ℕ → Owner → Instances → Instances
 with_owner n owner live =
-    with_dependent n owner (adjusted n (λ o. record o { owner = owner }) (for_owner (at live n) (without_dependent n) live))
+    owned_by owner n (with_dependent n owner (for_owner (at live n) (without_dependent n) live))
+
+-- the number of an owner, if it is a live instance
+abbrev pub number_of : Instances → Owner → Option ℕ
+number_of live (owners.Instance m) = if is_some (at live m) then Some m else None
+number_of live (owners.Context context) = None
+number_of live owners.Borrower = None
+
+abbrev pub owner_in : Instances → Option Instance → Option ℕ
+owner_in live None = None
+owner_in live (Some o) = number_of live o.owner
+
+-- the number of the live instance that owns an instance, if one does
+abbrev pub owner_at : ℕ → Instances → Option ℕ
+owner_at n live = owner_in live (at live n)
+
+-- the reference of an injected field, if the instance lives and the field has one
+abbrev pub reference_in : Option Instance → ℕ → Option Reference
+reference_in None field = None
+reference_in (Some o) field = at o.references field
+
+abbrev pub reference_at : ℕ → ℕ → Instances → Option Reference
+reference_at n field live = reference_in (at live n) field

@@ -1,6 +1,7 @@
 -- How the instances lie in their slots: what a contract sees of a store, and what is true of every store.
-use Rattle.std.specs.Prelude.{◌≢◌, ℕ, ◌<◌, ◌≤◌, ◌^◌, List, [], ◌∷◌, Option, Some, None, IsSome, slice_index_or}
+use Rattle.std.specs.Prelude.{◌≡◌, ◌≢◌, ℕ, ◌<◌, ◌≤◌, ◌^◌, List, [], ◌∷◌, Option, Some, None, IsSome, slice_index_or, option_map}
 use Rattle.std.specs.List.{AllByRecursion}
+use Rattle.slab.specs.Slab.{Slab, get}
 use Rattle.cdi_base.specs.Maps.{Map}
 use Rattle.cdi_store.specs.declared.instance.Instance.{Instance}
 use Rattle.cdi_store.specs.Live.{Instances, Kept}
@@ -48,3 +49,8 @@ pub record IsSound (slots : Slots) (numbers : Map ℕ) (next : ℕ) : Type 0 whe
   pub occupied : AreOccupied slots numbers
   pub positive : 0 < next
   pub most : next ≤ 2 ^ 32
+
+-- the instance in a slot is changed by f, and the other slots stay
+pub record Changes (old new : Slab Instance) (slot : ℕ) (f : Instance → Instance) : Type 0 where
+  pub changed : get new slot ≡ option_map f (get old slot)
+  pub others : (other : ℕ) → other ≢ slot → get new other ≡ get old other

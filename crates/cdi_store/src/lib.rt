@@ -1,6 +1,8 @@
 //! The contextual instances of a container, each under a key.
 #![tactic(auto)]
 
+mod changes;
+mod dependents;
 pub mod errors;
 pub mod instance;
 pub mod key;

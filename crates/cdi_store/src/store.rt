@@ -1,14 +1,15 @@
 //! The live instances of a container, each under a key.
-ghost use Rattle.std.specs.Prelude.{◌≡◌, ◌≢◌, ◌+◌, ◌<◌, ◌≤◌, ◌^◌, ◌++◌, ◌∷◌, ◌↔◌, [], length, IfOk, OnOk, OnErr, IfSome, IsTrue, IsOk, IsSome, IsNone, Some, Err, IsSomeAnd};
+ghost use Rattle.std.specs.Prelude.{◌≡◌, ◌≢◌, ◌+◌, ◌<◌, ◌≤◌, ◌^◌, ◌++◌, ◌∷◌, ◌↔◌, [], length, IfOk, OnOk, OnErr, IfSome, IsTrue, IsOk, IsSome, IsNone, Some, Err, IsSomeAnd, false};
 ghost use Rattle.cdi_base.specs.Maps.{at};
-ghost use Rattle.cdi_store.specs.Live.{is_live, key_at, with_newborn, without_instance};
-ghost use Rattle.cdi_store.specs.declared.errors.MakeError.TheVariants as make;
+ghost use Rattle.cdi_store.specs.Live.{is_live, key_at, reference_at};
+ghost use Rattle.cdi_store.specs.Live.{with_newborn, with_field, with_value, with_reference, without_instance};
 
-use crate::errors::{MakeError, Stale};
+use crate::changes::{hold_in, refer_in, set_in};
+use crate::errors::{ChangeError, MakeError, Stale};
 use crate::instance::{Component, Instance, Owner, Phase};
 use crate::key::Key;
-use crate::references::References;
-use cdi_base::{Fields, Seq, Value};
+use crate::references::{Reference, References};
+use cdi_base::{Fields, Name, Seq, Value};
 use slab::Slab;
 use std::alloc::Global;
 use std::collections::BTreeMap;
@@ -119,7 +120,7 @@ impl Store {
             ≡ self.old.slots ++ (self.old.next, key.slot) ∷ []) }
         ensures next { OnOk result (self.new.next ≡ self.old.next + 1) }
         ensures live { IfOk result (λ key. IsTrue (is_live self.new key)) }
-        ensures numbers_out { (result ≡ Err make.NumbersOut) ↔ (2 ^ 32 ≤ self.old.next) }
+        ensures numbers_out { (result ≡ Err MakeError.NumbersOut) ↔ (2 ^ 32 ≤ self.old.next) }
         ensures err { OnErr result (self.new ≡ self.old) }
     {
         let Some(number) = self.next_number() else {
@@ -185,5 +186,52 @@ impl Store {
         }
         self.numbers.remove(&key.number);
         Ok(self.slots.remove(key.slot))
+    }
+    /// Gives a field of a live instance another value. A field that isn't there changes nothing; nor does an error.
+    pub fn set(&mut self, key: Key, field: Name, value: Value) -> Result<(), Stale>
+        ensures live { IsOk result ↔ IsTrue (is_live self.old key) }
+        ensures ok { OnOk result (self.new ≡ record self.old {
+          instances = with_field key.number field value self.old.instances;
+        }) }
+        ensures err { OnErr result (self.new ≡ self.old) }
+    {
+        if !self.is_live(key) {
+            return Err(Stale);
+        }
+        set_in(&mut self.slots, key.slot, field, value);
+        Ok(())
+    }
+
+    /// Gives a live instance, a product, its value. On an error nothing changes.
+    pub fn hold(&mut self, key: Key, value: Value) -> Result<(), Stale>
+        ensures live { IsOk result ↔ IsTrue (is_live self.old key) }
+        ensures ok { OnOk result (self.new ≡ record self.old {
+          instances = with_value key.number value self.old.instances;
+        }) }
+        ensures err { OnErr result (self.new ≡ self.old) }
+    {
+        if !self.is_live(key) {
+            return Err(Stale);
+        }
+        hold_in(&mut self.slots, key.slot, value);
+        Ok(())
+    }
+
+    /// Gives an injected field of a live instance a reference. Memory can be wanting only where the field has none yet.
+    /// On an error nothing changes.
+    pub fn refer(&mut self, key: Key, field: Name, reference: Reference) -> Result<(), ChangeError>
+        ensures stale { (result ≡ Err ChangeError.Stale) ↔ (is_live self.old key ≡ false) }
+        ensures memory { result ≡ Err ChangeError.Memory
+            → IsNone (reference_at key.number field self.old.instances) }
+        ensures ok { OnOk result (self.new ≡ record self.old {
+          instances = with_reference key.number field reference self.old.instances;
+        }) }
+        ensures err { OnErr result (self.new ≡ self.old) }
+    {
+        if !self.is_live(key) {
+            return Err(ChangeError::Stale);
+        }
+        refer_in(&mut self.slots, key.slot, field, reference)?;
+        Ok(())
     }
 }
