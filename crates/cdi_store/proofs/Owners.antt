@@ -1,14 +1,11 @@
 -- An instance in the list of its owner, and its references.
 use Rattle.std.proofs.Common.{◌≡◌, ◌≢◌, ℕ, Bool, true, false, [], ◌∷◌, cond, Option, Some, None, IsSome, IsNone, IsSomeAnd, is_some, inl, inr, refl, sym, ap, ◌∙◌}
-use Rattle.std.specs.Option.{option_map}
 use Rattle.cdi_base.specs.Maps.{Map, at, adjusted}
 use Rattle.cdi_store.specs.declared.instance.Instance.{Instance}
 use Rattle.cdi_store.specs.declared.instance.Owner.{Owner}
 use Rattle.cdi_store.specs.declared.instance.Owner.TheVariants as owners
-use Rattle.cdi_store.specs.declared.key.Key.{Key}
-use Rattle.cdi_store.specs.Live.{Instances, Kept, is_live, key_at, with_dependent, without_dependent, for_owner, number_of, owner_in, owner_at, reference_in}
+use Rattle.cdi_store.specs.Live.{Instances, with_dependent, without_dependent, for_owner, number_of, owner_in, owner_at, reference_in}
 use Rattle.cdi_store.proofs.Numbers.{equal_or_not}
-use Rattle.std.proofs.Common.{eq-eqb}
 
 -- ---- changes of instances
 
@@ -94,31 +91,6 @@ leaves-owner n m live e = by_owner (without_dependent n) (without_dependent n) l
 
 pub leaves-no_owner : (n : ℕ) (live : Instances) → None ≡ owner_at n live → for_owner (at live n) (without_dependent n) live ≡ live
 leaves-no_owner n live e = by_none (without_dependent n) (without_dependent n) live (at live n) (leaves-none n live) (sym e)
-
--- ---- keys of numbers
-
-number-key : (n : ℕ) (slot : Option ℕ) (o : Option Key) (b : Bool) → o ≡ option_map (λ slot. record { slot = slot; number = n }) slot → is_some o ≡ b → option_map (λ (k : Key). k.number) o ≡ cond b (Some n) None
-number-key n None o b h e = rw (← e, h) refl
-number-key n (Some slot) o b h e = rw (← e, h) refl
-
-same_test : (a b : Bool) → (a ≡ true → b ≡ true) → (b ≡ true → a ≡ true) → a ≡ b
-same_test true b f g = sym (f refl)
-same_test false true f g = g refl
-same_test false false f g = refl
-
--- the number of a key that the store gives is that of a live owner
-pub number-of_key : (s : Kept) (n : ℕ) (o : Option Key) → o ≡ key_at s n → (IsSome o → IsSome (at s.instances n)) → (IsSome (at s.instances n) → IsSome o) → option_map (λ (k : Key). k.number) o ≡ number_of s.instances (owners.Instance n)
-number-of_key s n o h f g = number-key n (at s.slots n) o (is_some (at s.instances n)) h (same_test (is_some o) (is_some (at s.instances n)) f g)
-
-live-key : (s : Kept) (n : ℕ) (slot : Option ℕ) (k : Key) → at s.slots n ≡ slot → Some k ≡ option_map (λ slot. record { slot = slot; number = n }) slot → is_live s k ≡ true
-live-key s n None k e h = absurd (cc)
-live-key s n (Some slot) k e h =
-    let is : k ≡ record { slot = slot; number = n } = cc in
-    rw (is, e) (eq-eqb slot slot refl)
-
--- a key that the store gives is live
-pub is_live-key : (s : Kept) (n : ℕ) (k : Key) → Some k ≡ key_at s n → is_live s k ≡ true
-is_live-key s n k h = live-key s n (at s.slots n) k refl h
 
 -- ---- references
 

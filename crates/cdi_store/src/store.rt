@@ -1,17 +1,22 @@
 //! The live instances of a container, each under a key.
-ghost use Rattle.std.specs.Prelude.{◌≡◌, ◌≢◌, ◌+◌, ◌<◌, ◌≤◌, ◌^◌, ◌++◌, ◌∷◌, ◌↔◌, [], length, IfOk, OnOk, OnErr, IfSome, IsTrue, IsOk, IsSome, IsNone, Some, Err, IsSomeAnd, false};
-ghost use Rattle.cdi_base.specs.Maps.{at};
-ghost use Rattle.cdi_store.specs.Live.{is_live, key_at, reference_at};
+ghost use Rattle.std.specs.Prelude.{◌≡◌, ◌≢◌, ◌+◌, ◌<◌, ◌≤◌, ◌^◌, ◌++◌, ◌∷◌, ◌↔◌, [], length, IfOk, OnOk, OnErr, IfSome, IsTrue, IsOk, IsSome, IsNone, Some, Err, IsSomeAnd, IfErr, false, ◌&&◌, map, option_map};
+ghost use Rattle.cdi_base.specs.Maps.{at, adjusted};
+ghost use Rattle.cdi_store.specs.Live.{is_live, key_at, owner_at, reference_at, for_owner, all_but};
+ghost use Rattle.cdi_store.specs.Live.{in_phase, owned_by, with_dependent, without_dependent};
+ghost use Rattle.cdi_store.specs.Live.{with_ready, with_leaving, with_owner};
 ghost use Rattle.cdi_store.specs.Live.{with_newborn, with_field, with_value, with_reference, without_instance};
 
-use crate::changes::{hold_in, refer_in, set_in};
+use crate::changes::{
+    hold_in, push_dependent_in, put_dependent_last_in, refer_in, remove_dependent_in, set_in,
+    set_owner_in, set_phase_in,
+};
 use crate::errors::{ChangeError, MakeError, Stale};
 use crate::instance::{Component, Instance, Owner, Phase};
 use crate::key::Key;
 use crate::references::{Reference, References};
 use cdi_base::{Fields, Name, Seq, Value};
 use slab::Slab;
-use std::alloc::Global;
+use std::alloc::{AllocError, Global};
 use std::collections::BTreeMap;
 use std::marker::Model;
 
@@ -232,6 +237,189 @@ impl Store {
             return Err(ChangeError::Stale);
         }
         refer_in(&mut self.slots, key.slot, field, reference)?;
+        Ok(())
+    }
+    /// Ends the creation of a live instance: it is ready, and becomes the last dependent of its owner, if that is a live
+    /// instance; only there memory can be wanting (Jakarta CDI 4.0, *Dependent objects*). On an error nothing changes.
+    pub fn settle(&mut self, key: Key) -> Result<(), ChangeError>
+        ensures stale { (result ≡ Err ChangeError.Stale) ↔ (is_live self.old key ≡ false) }
+        ensures memory { result ≡ Err ChangeError.Memory
+            → IsSome (owner_at key.number self.old.instances) }
+        ensures ok { OnOk result (self.new ≡ record self.old {
+          instances = with_ready key.number self.old.instances;
+        }) }
+        ensures err { OnErr result (self.new ≡ self.old) }
+    {
+        self.join_owner(key)?;
+        self.set_phase(key, Phase::Ready);
+        Ok(())
+    }
+
+    /// Begins the destruction of a live instance: it is leaving, and its owner has it no longer (Jakarta CDI 4.0,
+    /// *Dependent objects destruction*). On an error nothing changes.
+    pub fn leave(&mut self, key: Key) -> Result<(), Stale>
+        ensures live { IsOk result ↔ IsTrue (is_live self.old key) }
+        ensures ok { OnOk result (self.new ≡ record self.old {
+          instances = with_leaving key.number self.old.instances;
+        }) }
+        ensures err { OnErr result (self.new ≡ self.old) }
+    {
+        self.leave_owner(key)?;
+        self.set_phase(key, Phase::Leaving);
+        Ok(())
+    }
+
+    /// Gives a live instance another owner: it leaves the dependents of the old one and becomes the last dependent of
+    /// the new one, in one step. On an error nothing changes.
+    pub fn adopt(&mut self, owner: Key, key: Key) -> Result<(), ChangeError>
+        ensures stale { (result ≡ Err ChangeError.Stale)
+            ↔ ((is_live self.old owner && is_live self.old key) ≡ false) }
+        ensures ok { OnOk result (self.new ≡ record self.old {
+          instances
+              = with_owner key.number (Owner.Instance owner.number) self.old.instances;
+        }) }
+        ensures err { OnErr result (self.new ≡ self.old) }
+    {
+        if !self.is_live(owner) {
+            return Err(ChangeError::Stale);
+        }
+        self.move_dependent(owner, key)?;
+        self.set_owner(key, Owner::Instance(owner.number));
+        Ok(())
+    }
+
+    /// The numbers of the live instances, ascending.
+    pub fn numbers(&self, alloc: Global) -> Result<Vec<u32>, AllocError>
+        ensures { IfOk result (λ numbers. numbers.items ≡ map (λ p. p.0) self.now.instances) }
+    {
+        self.numbers.keys().copied().collect(alloc)
+    }
+
+    /// The key of the live instance that owns a live instance, if one does.
+    fn owner(&self, key: Key) -> Result<Option<Key>, Stale>
+        ensures live { IsOk result ↔ IsTrue (is_live self.now key) }
+        ensures number { IfOk result (λ owner.
+            option_map (λ k. k.number) owner ≡ owner_at key.number self.now.instances) }
+        ensures owner_lives { IfOk result (λ owner.
+            IfSome owner (λ k. IsTrue (is_live self.now k))) }
+    {
+        match &self.instance(key)?.owner {
+            Owner::Instance(number) => Ok(self.key(*number)),
+            _ => Ok(None),
+        }
+    }
+
+    /// Adds a live instance to the dependents of the live instance that owns it, if one does.
+    fn join_owner(&mut self, key: Key) -> Result<(), ChangeError>
+        ensures stale { (result ≡ Err ChangeError.Stale) ↔ (is_live self.old key ≡ false) }
+        ensures memory { result ≡ Err ChangeError.Memory
+            → IsSome (owner_at key.number self.old.instances) }
+        ensures ok { OnOk result (self.new ≡ record self.old {
+          instances = for_owner
+              (at self.old.instances key.number) (with_dependent key.number) self.old.instances;
+        }) }
+        ensures err { OnErr result (self.new ≡ self.old) }
+    {
+        match self.owner(key)? {
+            Some(owner) => self.push_dependent(owner, key.number),
+            None => Ok(()),
+        }
+    }
+
+    /// Takes a live instance out of the dependents of the live instance that owns it, if one does.
+    fn leave_owner(&mut self, key: Key) -> Result<(), Stale>
+        ensures live { IsOk result ↔ IsTrue (is_live self.old key) }
+        ensures ok { OnOk result (self.new ≡ record self.old {
+          instances = for_owner
+              (at self.old.instances key.number) (without_dependent key.number) self.old.instances;
+        }) }
+        ensures err { OnErr result (self.new ≡ self.old) }
+    {
+        match self.owner(key)? {
+            Some(owner) => {
+                self.remove_dependent(owner, key.number);
+                Ok(())
+            }
+            None => Ok(()),
+        }
+    }
+
+    /// Moves a live instance from the dependents of the live instance that owns it, if one does, to those of another.
+    fn move_dependent(&mut self, owner: Key, key: Key) -> Result<(), ChangeError>
+        requires { IsTrue (is_live self.old owner) }
+        ensures stale { (result ≡ Err ChangeError.Stale) ↔ (is_live self.old key ≡ false) }
+        ensures ok { OnOk result (self.new ≡ record self.old {
+          instances
+              = with_dependent key.number (Owner.Instance owner.number) (for_owner
+              (at self.old.instances key.number) (without_dependent key.number) self.old.instances);
+        }) }
+        ensures err { OnErr result (self.new ≡ self.old) }
+    {
+        match self.owner(key)? {
+            Some(before) if before.number == owner.number => {
+                self.put_dependent_last(owner, key.number)
+            }
+            Some(before) => {
+                self.push_dependent(owner, key.number)?;
+                self.remove_dependent(before, key.number);
+                Ok(())
+            }
+            None => self.push_dependent(owner, key.number),
+        }
+    }
+
+    fn set_phase(&mut self, key: Key, phase: Phase)
+        requires { IsTrue (is_live self.old key) }
+        ensures { self.new ≡ record self.old {
+          instances = in_phase phase key.number self.old.instances;
+        } }
+    {
+        set_phase_in(&mut self.slots, key.slot, phase);
+    }
+
+    fn set_owner(&mut self, key: Key, owner: Owner)
+        requires { IsTrue (is_live self.old key) }
+        ensures { self.new ≡ record self.old {
+          instances = owned_by owner key.number self.old.instances;
+        } }
+    {
+        set_owner_in(&mut self.slots, key.slot, owner);
+    }
+
+    fn push_dependent(&mut self, owner: Key, number: u32) -> Result<(), ChangeError>
+        requires { IsTrue (is_live self.old owner) }
+        ensures memory { IfErr result (λ e. e ≡ ChangeError.Memory) }
+        ensures ok { OnOk result (self.new ≡ record self.old {
+          instances
+              = with_dependent number (Owner.Instance owner.number) self.old.instances;
+        }) }
+        ensures err { OnErr result (self.new ≡ self.old) }
+    {
+        push_dependent_in(&mut self.slots, owner.slot, number)?;
+        Ok(())
+    }
+
+    fn remove_dependent(&mut self, owner: Key, number: u32)
+        requires { IsTrue (is_live self.old owner) }
+        ensures { self.new ≡ record self.old {
+          instances
+              = without_dependent number (Owner.Instance owner.number) self.old.instances;
+        } }
+    {
+        remove_dependent_in(&mut self.slots, owner.slot, number, self.alloc);
+    }
+
+    fn put_dependent_last(&mut self, owner: Key, number: u32) -> Result<(), ChangeError>
+        requires { IsTrue (is_live self.old owner) }
+        ensures memory { IfErr result (λ e. e ≡ ChangeError.Memory) }
+        ensures ok { OnOk result (self.new ≡ record self.old {
+          instances = adjusted owner.number
+              (λ o. record o { dependents = all_but number o.dependents ++ number ∷ [] })
+              self.old.instances;
+        }) }
+        ensures err { OnErr result (self.new ≡ self.old) }
+    {
+        put_dependent_last_in(&mut self.slots, owner.slot, number, self.alloc)?;
         Ok(())
     }
 }
