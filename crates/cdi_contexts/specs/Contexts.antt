@@ -1,11 +1,12 @@
 -- The contexts that are there, and how they change.
-use Rattle.std.specs.Prelude.{ℕ, Bool, true, false, not, ◌&&◌, ◌++◌, ◌∷◌, [], List, filter, max, bytes_eq, Option, Some, None, if◌then◌else◌, option_map}
+use Rattle.std.specs.Prelude.{ℕ, Bool, true, false, not, ◌&&◌, ◌++◌, ◌∷◌, [], List, max, bytes_eq, Option, Some, None, is_some, option_map}
 use Rattle.std.specs.List.{list_any}
-use Rattle.cdi_base.specs.Maps.{Map, put_in_order, without}
+use Rattle.cdi_base.specs.Maps.{Map, at, put_in_order, without}
 use Rattle.cdi_base.specs.declared.scope.Scope.{Scope}
 use Rattle.cdi_base.specs.declared.scope.Scope.TheVariants as scopes
 use Rattle.cdi_store.specs.declared.instance.Context.{Context}
 use Rattle.cdi_store.specs.declared.instance.Context.TheVariants.{Application, Request, Session}
+use Rattle.cdi_contexts.specs.Named.{named, changed, without_name}
 use Rattle.cdi_contexts.specs.declared.context.Status.{Status}
 use Rattle.cdi_contexts.specs.declared.context.Status.TheVariants.{Open, Ending}
 use Rattle.cdi_contexts.specs.declared.context.Held.{Held}
@@ -42,12 +43,10 @@ pub record Environment : Type 0 where
 -- ---- look-ups
 
 abbrev pub request_in : List OpenRequest → List ℕ → Option OpenRequest
-request_in [] name = None
-request_in (r ∷ more) name = if bytes_eq r.name name then Some r else request_in more name
+request_in = named (λ r. r.name)
 
 abbrev pub session_in : List OpenSession → List ℕ → Option OpenSession
-session_in [] name = None
-session_in (s ∷ more) name = if bytes_eq s.name name then Some s else session_in more name
+session_in = named (λ s. s.name)
 
 -- the context, unless it is gone
 abbrev pub context_at : Contexts → Context → Option Active
@@ -66,6 +65,11 @@ abbrev pub context_among : Contexts → Option Context → Option Active
 context_among c None = None
 context_among c (Some context) = context_at c context
 
+-- something can be put there for the bean without memory: it has an entry, or the context is gone
+abbrev pub has_place : Option Active → ℕ → Bool
+has_place None bean = true
+has_place (Some a) bean = is_some (at a.holds bean)
+
 -- the active context of a scope
 abbrev pub active_context : Contexts → Environment → Scope → Option Active
 active_context c e scope = context_among c (context_of e scope)
@@ -79,6 +83,24 @@ abbrev pub greatest : Option ℕ → Map Held → Option ℕ
 greatest most [] = most
 greatest most (h ∷ more) = greatest (greater most h.1) more
 
+-- the greatest number of an instance that it has
+abbrev pub last_in : Option Active → Option ℕ
+last_in None = None
+last_in (Some a) = greatest None a.holds
+
+-- what it has for the bean
+abbrev pub entry_in : Option Active → ℕ → Option Held
+entry_in None bean = None
+entry_in (Some a) bean = at a.holds bean
+
+abbrev pub is_ending : Status → Bool
+is_ending Open = false
+is_ending Ending = true
+
+abbrev pub is_ending_in : Option Active → Bool
+is_ending_in None = false
+is_ending_in (Some a) = is_ending a.status
+
 abbrev pub belongs_to : List ℕ → OpenRequest → Bool
 belongs_to session r = elim r.session [ None ↦ false | Some s ↦ bytes_eq s session ]
 
@@ -89,13 +111,10 @@ is_due c name = elim (session_in c.sessions name) [ None ↦ false | Some s ↦ 
 -- ---- changes
 
 abbrev pub in_request : List ℕ → (Active → Active) → List OpenRequest → List OpenRequest
-in_request name f [] = []
-in_request name f (r ∷ more) =
-    if bytes_eq r.name name then record r { active = f r.active } ∷ more else r ∷ in_request name f more
+in_request name f = changed (λ r. r.name) name (λ r. record r { active = f r.active })
 
 abbrev pub in_session : List ℕ → (OpenSession → OpenSession) → List OpenSession → List OpenSession
-in_session name f [] = []
-in_session name f (s ∷ more) = if bytes_eq s.name name then f s ∷ more else s ∷ in_session name f more
+in_session = changed (λ s. s.name)
 
 -- a context changed, unless it is gone
 abbrev pub with_context : Context → (Active → Active) → Contexts → Contexts
@@ -116,23 +135,33 @@ with_session name c = record c { sessions = c.sessions ++ record { name = name; 
 abbrev pub with_mark : List ℕ → Contexts → Contexts
 with_mark name c = record c { sessions = in_session name (λ s. record s { is_marked = true }) c.sessions }
 
+-- a context with this for the bean, with nothing for it, and one that is being destroyed
+abbrev pub active_with : ℕ → Held → Active → Active
+active_with bean held a = record a { holds = put_in_order bean held a.holds }
+
+abbrev pub active_without : ℕ → Active → Active
+active_without bean a = record a { holds = without bean a.holds }
+
+abbrev pub ending_active : Active → Active
+ending_active a = record a { status = Ending }
+
 -- the context has this for the bean
 abbrev pub with_held : ℕ → Held → Context → Contexts → Contexts
-with_held bean held context = with_context context (λ a. record a { holds = put_in_order bean held a.holds })
+with_held bean held context = with_context context (active_with bean held)
 
 -- the context has nothing for the bean
 abbrev pub with_nothing : ℕ → Context → Contexts → Contexts
-with_nothing bean context = with_context context (λ a. record a { holds = without bean a.holds })
+with_nothing bean context = with_context context (active_without bean)
 
 -- the context is being destroyed
 abbrev pub with_ending : Context → Contexts → Contexts
-with_ending context = with_context context (λ a. record a { status = Ending })
+with_ending context = with_context context ending_active
 
 -- the context is gone
 abbrev pub without_context : Context → Contexts → Contexts
 without_context Application c = record c { application = None }
-without_context (Request name) c = record c { requests = filter (λ r. not (bytes_eq r.name name)) c.requests }
-without_context (Session name) c = record c { sessions = filter (λ s. not (bytes_eq s.name name)) c.sessions }
+without_context (Request name) c = record c { requests = without_name (λ r. r.name) name c.requests }
+without_context (Session name) c = record c { sessions = without_name (λ s. s.name) name c.sessions }
 
 -- the contexts at the boot
 abbrev pub at_boot : Contexts

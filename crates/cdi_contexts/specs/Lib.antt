@@ -1,1 +1,4 @@
+pub mod Named
 pub mod Contexts
+pub mod Standing
+pub mod Group

@@ -2,5 +2,9 @@
 #![tactic(auto)]
 
 pub mod context;
+pub mod contexts;
+mod group;
+mod table;
 
 pub use context::{Env, Held, Status};
+pub use contexts::Contexts;

@@ -1,0 +1,189 @@
+-- What is reached by its slot is what is reached by its name.
+use Rattle.std.proofs.Common.{◌≡◌, ◌∙◌, ℕ, ◌==◌, refl, ap, sym, List, [], ◌∷◌, map, cond, not, true, false, true≢false, Bool, Some, None, Option, option_map, bytes_eq, OnSome}
+use Rattle.std.proofs.lemmas.Map.Views.{exact_unsigned_eq}
+use Rattle.cdi_base.specs.Maps.{Map, at, without}
+use Rattle.cdi_base.specs.declared.scope.Scope.TheVariants as scopes
+use Rattle.cdi_store.specs.declared.instance.Context.TheVariants.{Request, Session}
+use Rattle.cdi_contexts.specs.declared.context.Env.{Env}
+use Rattle.cdi_contexts.specs.declared.group.Kept.{Kept}
+use Rattle.cdi_contexts.specs.Named.{named, changed, without_name}
+use Rattle.cdi_contexts.specs.Contexts.{Active, Contexts, context_among, with_context}
+use Rattle.cdi_contexts.specs.Standing.{Standing, in_slot, active_in, in_env, for_context}
+use Rattle.cdi_contexts.specs.Group.{kept_named, with_table, with_table_at, table_at, outline, AreApart, request_of, session_of, standing}
+use Rattle.cdi_contexts.proofs.Slots.{own_bytes, same_bytes, named-outline, at-outline, nothing, without-absent, untouched}
+
+abbrev standing_of : Contexts → List ℕ → List ℕ → Standing
+standing_of c requests sessions = record { contexts = c; request_slots = requests; session_slots = sessions }
+
+-- the first isn't named as a later one
+apart_name : {D : Type 0} (p : ℕ × Kept D) (more : Map (Kept D)) (slot : ℕ) (k : Kept D) → AreApart (outline (p ∷ more)) → at more slot ≡ Some k → bytes_eq p.1.name k.name ≡ false
+apart_name {D} p more slot k a h = by (bytes_eq p.1.name k.name) refl
+  where
+    none : kept_named more p.1.name ≡ None
+    none = nothing (λ q. (q.0, q.1.name)) _ (sym (named-outline more p.1.name) ∙ a.1)
+
+    there : (m : Map (Kept D)) (n : List ℕ) → at m slot ≡ Some k → k.name ≡ n → kept_named m n ≡ None → false ≡ true
+    there [] n i e z = absurd cc
+    there (q ∷ rest) n i e z = here (slot == q.0) (bytes_eq q.1.name n) refl i z (there rest n)
+      where
+        here : (b t : Bool) → bytes_eq q.1.name n ≡ t → cond b (Some q.1) (at rest slot) ≡ Some k → cond t (Some q) (kept_named rest n) ≡ None
+            → (at rest slot ≡ Some k → k.name ≡ n → kept_named rest n ≡ None → false ≡ true) → false ≡ true
+        here b true s i z rec = absurd cc
+        here true false s i z rec =
+            let same : q.1 ≡ k = cc in
+            sym s ∙ ap (λ x. bytes_eq x n) (ap (λ (x : Kept D). x.name) same ∙ e) ∙ own_bytes n
+        here false false s i z rec = rec i e z
+
+    by : (t : Bool) → bytes_eq p.1.name k.name ≡ t → bytes_eq p.1.name k.name ≡ false
+    by false e = e
+    by true e = absurd (true≢false (sym (there more p.1.name h (sym (same_bytes p.1.name k.name e)) none)))
+
+module _ {D Y : Type 0} (view : Kept D → Y) (name_of : Y → List ℕ) (names : (k : Kept D) → name_of (view k) ≡ k.name) where
+  pub in_slot_seen : (m : Map (Kept D)) (slot : ℕ) → in_slot (map (λ p. p.0) m) (map (λ p. view p.1) m) slot ≡ option_map view (at m slot)
+  in_slot_seen [] slot = refl
+  in_slot_seen (p ∷ more) slot = by (slot == p.0) (in_slot_seen more slot)
+    where
+      by : (b : Bool) → in_slot (map (λ p. p.0) more) (map (λ p. view p.1) more) slot ≡ option_map view (at more slot)
+          → cond b (Some (view p.1)) (in_slot (map (λ p. p.0) more) (map (λ p. view p.1) more) slot) ≡ option_map view (cond b (Some p.1) (at more slot))
+      by true rest = refl
+      by false rest = rest
+
+  pub named_seen : (m : Map (Kept D)) (n : List ℕ) → named name_of (map (λ p. view p.1) m) n ≡ option_map (λ p. view p.1) (kept_named m n)
+  named_seen [] n = refl
+  named_seen (p ∷ more) n = ap (λ x. cond (bytes_eq x n) (Some (view p.1)) (named name_of (map (λ p. view p.1) more) n)) (names p.1) ∙ by (bytes_eq p.1.name n) (named_seen more n)
+    where
+      by : (b : Bool) → named name_of (map (λ p. view p.1) more) n ≡ option_map (λ p. view p.1) (kept_named more n)
+          → cond b (Some (view p.1)) (named name_of (map (λ p. view p.1) more) n) ≡ option_map (λ p. view p.1) (cond b (Some p) (kept_named more n))
+      by true rest = refl
+      by false rest = rest
+
+  own_name : (k : Kept D) → bytes_eq (name_of (view k)) k.name ≡ true
+  own_name k = ap (λ x. bytes_eq x k.name) (names k) ∙ own_bytes k.name
+
+  pub found : (m : Map (Kept D)) (slot : ℕ) (k : Kept D) → AreApart (outline m) → at m slot ≡ Some k → named name_of (map (λ p. view p.1) m) k.name ≡ Some (view k)
+  found [] slot k a h = absurd cc
+  found (p ∷ more) slot k a h = by (slot == p.0) h (found more slot k a.2)
+    where
+      by : (b : Bool) → cond b (Some p.1) (at more slot) ≡ Some k → (at more slot ≡ Some k → named name_of (map (λ p. view p.1) more) k.name ≡ Some (view k))
+          → cond (bytes_eq (name_of (view p.1)) k.name) (Some (view p.1)) (named name_of (map (λ p. view p.1) more) k.name) ≡ Some (view k)
+      by true i rest =
+          let same : p.1 ≡ k = cc in
+          rw same (rw (own_name k) refl)
+      by false i rest = rw (names p.1, apart_name p more slot k a i) (rest i)
+
+  pub changed_seen : (f : Active → Active) (g : Y → Y) → ((k : Kept D) → view (record k { table = f k.table }) ≡ g (view k)) → (m : Map (Kept D)) (slot : ℕ) (k : Kept D) → AreApart (outline m) → at m slot ≡ Some k
+      → map (λ p. view p.1) (with_table slot f m) ≡ changed name_of k.name g (map (λ p. view p.1) m)
+  changed_seen f g goes [] slot k a h = absurd cc
+  changed_seen f g goes (p ∷ more) slot k a h = by (slot == p.0) h (changed_seen f g goes more slot k a.2)
+    where
+      by : (b : Bool) → cond b (Some p.1) (at more slot) ≡ Some k → (at more slot ≡ Some k → map (λ p. view p.1) (with_table slot f more) ≡ changed name_of k.name g (map (λ p. view p.1) more))
+          → map (λ p. view p.1) (cond b ((p.0, record { name = p.1.name; detail = p.1.detail; table = f p.1.table }) ∷ more) (p ∷ with_table slot f more))
+          ≡ cond (bytes_eq (name_of (view p.1)) k.name) (g (view p.1) ∷ map (λ p. view p.1) more) (view p.1 ∷ changed name_of k.name g (map (λ p. view p.1) more))
+      by true i rest =
+          let same : p.1 ≡ k = cc in
+          let own : bytes_eq (name_of (view p.1)) k.name ≡ true = ap (λ x. bytes_eq (name_of (view x)) k.name) same ∙ own_name k in
+          rw own (ap (λ y. y ∷ map (λ p. view p.1) more) (goes p.1))
+      by false i rest = rw (names p.1, apart_name p more slot k a i) (ap (λ r. view p.1 ∷ r) (rest i))
+
+  no_name : (m : Map (Kept D)) (n : List ℕ) → kept_named m n ≡ None → without_name name_of n (map (λ p. view p.1) m) ≡ map (λ p. view p.1) m
+  no_name [] n h = refl
+  no_name (p ∷ more) n h = ap (λ x. cond (not (bytes_eq x n)) (view p.1 ∷ without_name name_of n (map (λ p. view p.1) more)) (without_name name_of n (map (λ p. view p.1) more))) (names p.1) ∙ by (bytes_eq p.1.name n) h (no_name more n)
+    where
+      by : (b : Bool) → cond b (Some p) (kept_named more n) ≡ None → (kept_named more n ≡ None → without_name name_of n (map (λ p. view p.1) more) ≡ map (λ p. view p.1) more)
+          → cond (not b) (view p.1 ∷ without_name name_of n (map (λ p. view p.1) more)) (without_name name_of n (map (λ p. view p.1) more)) ≡ view p.1 ∷ map (λ p. view p.1) more
+      by true i rest = absurd cc
+      by false i rest = ap (λ r. view p.1 ∷ r) (rest i)
+
+  pub removed_seen : (m : Map (Kept D)) (slot : ℕ) (k : Kept D) → AreApart (outline m) → at m slot ≡ Some k → map (λ p. view p.1) (without slot m) ≡ without_name name_of k.name (map (λ p. view p.1) m)
+  removed_seen [] slot k a h = absurd cc
+  removed_seen (p ∷ more) slot k a h = by (slot == p.0) refl h (removed_seen more slot k a.2)
+    where
+      by : (b : Bool) → (slot == p.0) ≡ b → cond b (Some p.1) (at more slot) ≡ Some k → (at more slot ≡ Some k → map (λ p. view p.1) (without slot more) ≡ without_name name_of k.name (map (λ p. view p.1) more))
+          → map (λ p. view p.1) (cond (not b) (p ∷ without slot more) (without slot more))
+          ≡ cond (not (bytes_eq (name_of (view p.1)) k.name)) (view p.1 ∷ without_name name_of k.name (map (λ p. view p.1) more)) (without_name name_of k.name (map (λ p. view p.1) more))
+      by true e i rest =
+          let same : p.1 ≡ k = cc in
+          let own : bytes_eq (name_of (view p.1)) k.name ≡ true = ap (λ x. bytes_eq (name_of (view x)) k.name) same ∙ own_name k in
+          let gone : at more slot ≡ None = nothing (λ k. k.name) _ (sym (at-outline more slot) ∙ ap (at (outline more)) (exact_unsigned_eq slot p.0 e) ∙ a.0) in
+          let none : kept_named more k.name ≡ None = ap (λ (x : Kept D). kept_named more x.name) (sym same) ∙ nothing (λ q. (q.0, q.1.name)) _ (sym (named-outline more p.1.name) ∙ a.1) in
+          rw own (ap (map (λ p. view p.1)) (without-absent more slot gone) ∙ sym (no_name more k.name none))
+      by false e i rest = rw (names p.1, apart_name p more slot k a i) (ap (λ r. view p.1 ∷ r) (rest i))
+
+same_slots : {D : Type 0} (m : Map (Kept D)) (slot : ℕ) (f : Active → Active) → map (λ p. p.0) (with_table slot f m) ≡ map (λ p. p.0) m
+same_slots [] slot f = refl
+same_slots (p ∷ more) slot f = by (slot == p.0) (same_slots more slot f)
+  where
+    by : (b : Bool) → map (λ p. p.0) (with_table slot f more) ≡ map (λ p. p.0) more
+        → map (λ p. p.0) (cond b ((p.0, record { name = p.1.name; detail = p.1.detail; table = f p.1.table }) ∷ more) (p ∷ with_table slot f more)) ≡ p.0 ∷ map (λ p. p.0) more
+    by true rest = refl
+    by false rest = ap (λ r. p.0 ∷ r) rest
+
+-- ---- the active context
+
+module _ (a : Option Active) (m : Map (Kept (Option (List ℕ)))) (n : Map (Kept Bool)) where
+  pub request_table : (env : Env) → OnSome env.request (AreApart (outline m)) → table_at m env.request ≡ active_in (standing a m n) env scopes.RequestScoped
+  request_table env = of env.request
+    where
+      by : (slot : ℕ) (o : Option (Kept (Option (List ℕ)))) → at m slot ≡ o → AreApart (outline m)
+          → option_map (λ k. k.table) o ≡ context_among (standing a m n).contexts (option_map Request (option_map (λ r. r.name) (option_map request_of o)))
+      by slot None h own = refl
+      by slot (Some k) h own = sym (ap (option_map (λ r. r.active)) (found request_of (λ r. r.name) (λ k. refl) m slot k own h))
+
+      of : (o : Option ℕ) → OnSome o (AreApart (outline m)) → table_at m o ≡ active_in (standing a m n) (record { request = o; session = env.session }) scopes.RequestScoped
+      of None own = refl
+      of (Some slot) own =
+          by slot (at m slot) refl own
+          ∙ ap (λ o. context_among (standing a m n).contexts (option_map Request (option_map (λ r. r.name) o))) (sym (in_slot_seen request_of (λ r. r.name) (λ k. refl) m slot))
+
+  pub session_table : (env : Env) → OnSome env.session (AreApart (outline n)) → table_at n env.session ≡ active_in (standing a m n) env scopes.SessionScoped
+  session_table env = of env.session
+    where
+      by : (slot : ℕ) (o : Option (Kept Bool)) → at n slot ≡ o → AreApart (outline n)
+          → option_map (λ k. k.table) o ≡ context_among (standing a m n).contexts (option_map Session (option_map (λ s. s.name) (option_map session_of o)))
+      by slot None h own = refl
+      by slot (Some k) h own = sym (ap (option_map (λ s. s.active)) (found session_of (λ s. s.name) (λ k. refl) n slot k own h))
+
+      of : (o : Option ℕ) → OnSome o (AreApart (outline n)) → table_at n o ≡ active_in (standing a m n) (record { request = env.request; session = o }) scopes.SessionScoped
+      of None own = refl
+      of (Some slot) own =
+          by slot (at n slot) refl own
+          ∙ ap (λ o. context_among (standing a m n).contexts (option_map Session (option_map (λ s. s.name) o))) (sym (in_slot_seen session_of (λ s. s.name) (λ k. refl) n slot))
+
+  -- ---- a change of the active context
+  pub request_change : (f : Active → Active) (env : Env) → OnSome env.request (AreApart (outline m)) → standing a (with_table_at env.request f m) n ≡ in_env env scopes.RequestScoped (λ x. with_context x f) (standing a m n)
+  request_change f env = of env.request
+    where
+      by : (slot : ℕ) (o : Option (Kept (Option (List ℕ)))) → at m slot ≡ o → AreApart (outline m)
+          → (standing a (with_table slot f m) n).contexts ≡ for_context (option_map Request (option_map (λ r. r.name) (option_map request_of o))) (λ x. with_context x f) (standing a m n).contexts
+      by slot None h own = ap (λ m. (standing a m n).contexts) (untouched m slot (λ k. record k { table = f k.table }) h)
+      by slot (Some k) h own =
+          ap (λ rs. record { application = a; requests = rs; sessions = map (λ p. session_of p.1) n })
+          (changed_seen request_of (λ r. r.name) (λ k. refl) f (λ r. record r { active = f r.active }) (λ k. refl) m slot k own h)
+
+      of : (o : Option ℕ) → OnSome o (AreApart (outline m)) → standing a (with_table_at o f m) n ≡ in_env (record { request = o; session = env.session }) scopes.RequestScoped (λ x. with_context x f) (standing a m n)
+      of None own = refl
+      of (Some slot) own = both (by slot (at m slot) refl own
+          ∙ ap (λ o. for_context (option_map Request (option_map (λ r. r.name) o)) (λ x. with_context x f) (standing a m n).contexts) (sym (in_slot_seen request_of (λ r. r.name) (λ k. refl) m slot)))
+          (same_slots m slot f)
+        where
+          both : {c d : Contexts} {s t : List ℕ} → c ≡ d → s ≡ t → standing_of c s (map (λ p. p.0) n) ≡ standing_of d t (map (λ p. p.0) n)
+          both e i = λ j. standing_of (e j) (i j) (map (λ p. p.0) n)
+
+  pub session_change : (f : Active → Active) (env : Env) → OnSome env.session (AreApart (outline n)) → standing a m (with_table_at env.session f n) ≡ in_env env scopes.SessionScoped (λ x. with_context x f) (standing a m n)
+  session_change f env = of env.session
+    where
+      by : (slot : ℕ) (o : Option (Kept Bool)) → at n slot ≡ o → AreApart (outline n)
+          → (standing a m (with_table slot f n)).contexts ≡ for_context (option_map Session (option_map (λ s. s.name) (option_map session_of o))) (λ x. with_context x f) (standing a m n).contexts
+      by slot None h own = ap (λ n. (standing a m n).contexts) (untouched n slot (λ k. record k { table = f k.table }) h)
+      by slot (Some k) h own =
+          ap (λ ss. record { application = a; requests = map (λ p. request_of p.1) m; sessions = ss })
+          (changed_seen session_of (λ s. s.name) (λ k. refl) f (λ s. record s { active = f s.active }) (λ k. refl) n slot k own h)
+
+      of : (o : Option ℕ) → OnSome o (AreApart (outline n)) → standing a m (with_table_at o f n) ≡ in_env (record { request = env.request; session = o }) scopes.SessionScoped (λ x. with_context x f) (standing a m n)
+      of None own = refl
+      of (Some slot) own = both (by slot (at n slot) refl own
+          ∙ ap (λ o. for_context (option_map Session (option_map (λ s. s.name) o)) (λ x. with_context x f) (standing a m n).contexts) (sym (in_slot_seen session_of (λ s. s.name) (λ k. refl) n slot)))
+          (same_slots n slot f)
+        where
+          both : {c d : Contexts} {s t : List ℕ} → c ≡ d → s ≡ t → standing_of c (map (λ p. p.0) m) s ≡ standing_of d (map (λ p. p.0) m) t
+          both e i = λ j. standing_of (e j) (map (λ p. p.0) m) (i j)

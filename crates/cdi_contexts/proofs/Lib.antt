@@ -1,0 +1,3 @@
+pub mod Entries
+pub mod Slots
+pub mod ByName

@@ -1,0 +1,28 @@
+use Rattle.std.proofs.Common.{◌∙◌, ap, sym}
+use Rattle.cdi_base.specs.Maps.{without}
+use Rattle.cdi_contexts.specs.Contexts.{Active}
+use Rattle.cdi_contexts.specs.Group.{with_table}
+use Rattle.cdi_contexts.proofs.Slots.{written, untouched, absent, apart-with_table, free-with_table}
+use Rattle.cdi_contexts.proofs.group.Group.leave.Goals as goal
+
+pub invariant_of-self : goal.invariant_of-self
+invariant_of-self g c =
+    let m = c.self.inside.kept.entries in
+    let k = c.index_mut-kept.result.now in
+    let f = (λ (a : Active). record a { holds = without c.args.bean a.holds }) in
+    let is = written m c.args.slot c.in-Some.index k (record k { table = c.leave.new.self }) (λ k. record k { table = f k.table }) c.in-Some.ensures.index c.in-Some.ensures.value c.index_mut-kept.ensures.value (ap (λ t. record k { table = t }) c.leave.ensures) in
+    rw is (free-with_table c.self.inside.taken m c.args.slot f c.self.invariant.0, apart-with_table m c.args.slot f c.self.invariant.1)
+
+pub returns-in-Some-clause-left : goal.returns-in-Some-clause-left
+returns-in-Some-clause-left g c =
+    let m = c.self.inside.kept.entries in
+    let k = c.index_mut-kept.result.now in
+    let f = (λ (a : Active). record a { holds = without c.args.bean a.holds }) in
+    written m c.args.slot c.in-Some.index k (record k { table = c.leave.new.self }) (λ k. record k { table = f k.table }) c.in-Some.ensures.index c.in-Some.ensures.value c.index_mut-kept.ensures.value (ap (λ t. record k { table = t }) c.leave.ensures)
+    ∙ ap (with_table c.args.slot f) c.self.view_is
+
+pub returns-in_default-clause-left : goal.returns-in_default-clause-left
+returns-in_default-clause-left g c =
+    let f = (λ (a : Active). record a { holds = without c.args.bean a.holds }) in
+    let none = absent c.self.inside.kept.entries c.args.slot (sym c.in_default.ensures.found) in
+    sym c.self.view_is ∙ sym (untouched c.self.inside.kept.entries c.args.slot (λ k. record k { table = f k.table }) none) ∙ ap (with_table c.args.slot f) c.self.view_is

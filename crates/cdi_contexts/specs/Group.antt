@@ -1,0 +1,55 @@
+-- Requests or sessions in their slots, in the order in which they came.
+use Rattle.std.specs.Prelude.{◌≡◌, ℕ, Bool, ◌∷◌, [], List, map, Option, Some, None, option_map}
+use Rattle.slab.specs.Slab.{Slab, get}
+use Rattle.cdi_base.specs.Maps.{Map, at, adjusted}
+use Rattle.cdi_contexts.specs.Named.{named}
+use Rattle.cdi_contexts.specs.Contexts.{Active, OpenRequest, OpenSession}
+use Rattle.cdi_contexts.specs.Standing.{Standing}
+use Rattle.cdi_contexts.specs.declared.group.Kept.{Kept}
+
+module _ {D : Type 0} where
+  -- what is there by its name
+  abbrev pub kept_named : Map (Kept D) → List ℕ → Option (ℕ × Kept D)
+  kept_named = named (λ p. p.1.name)
+
+  -- what a context has, changed
+  abbrev pub with_table : ℕ → (Active → Active) → Map (Kept D) → Map (Kept D)
+  with_table slot f = adjusted slot (λ k. record k { table = f k.table })
+
+  -- what the context in a slot has
+  abbrev pub table_at : Map (Kept D) → Option ℕ → Option Active
+  table_at m None = None
+  table_at m (Some slot) = option_map (λ k. k.table) (at m slot)
+
+  -- the same where there may be no slot
+  abbrev pub with_table_at : Option ℕ → (Active → Active) → Map (Kept D) → Map (Kept D)
+  with_table_at None f m = m
+  with_table_at (Some slot) f m = with_table slot f m
+
+  -- the slots with the names
+  abbrev pub outline : Map (Kept D) → List (ℕ × List ℕ)
+  outline m = map (λ p. (p.0, p.1.name)) m
+
+-- no two have one slot or one name
+abbrev pub AreApart : List (ℕ × List ℕ) → Type 0
+AreApart [] = Unit {0}
+AreApart (p ∷ more) = (at more p.0 ≡ None) × (named (λ q. q.1) more p.1 ≡ None) × AreApart more
+
+-- a slot that isn't taken is no one's
+abbrev pub IsFree : {X Y : Type 0} → Slab Y → Map X → Type 0
+IsFree taken m = (slot : ℕ) → get taken slot ≡ None → at m slot ≡ None
+
+-- a request and a session, and what stands
+abbrev pub request_of : Kept (Option (List ℕ)) → OpenRequest
+request_of k = record { name = k.name; session = k.detail; active = k.table }
+
+abbrev pub session_of : Kept Bool → OpenSession
+session_of k = record { name = k.name; is_marked = k.detail; active = k.table }
+
+abbrev pub standing : Option Active → Map (Kept (Option (List ℕ))) → Map (Kept Bool) → Standing
+standing application requests sessions =
+    record {
+      contexts = record { application = application; requests = map (λ p. request_of p.1) requests; sessions = map (λ p. session_of p.1) sessions };
+      request_slots = map (λ p. p.0) requests;
+      session_slots = map (λ p. p.0) sessions;
+    }

@@ -1,0 +1,190 @@
+//! Requests or sessions in their slots.
+ghost use Rattle.std.specs.Prelude.{◌≡◌, ◌∷◌, ◌++◌, [], None, Some, length, option_map, IfOk, IsOk, IsTrue, OnSome, OnOk, OnErr};
+ghost use Rattle.std.specs.Option.{option_copied};
+ghost use Rattle.cdi_base.specs.Maps.{at, without};
+ghost use Rattle.cdi_contexts.specs.Contexts.{has_place, active_with, active_without, ending_active};
+ghost use Rattle.cdi_contexts.specs.Group.{kept_named, with_table, with_table_at, table_at, outline, AreApart};
+
+use crate::context::{Held, Status};
+use crate::table::Table;
+use cdi_base::Text;
+use indexmap::IndexMap;
+use slab::Slab;
+use std::alloc::{AllocError, Global};
+use std::marker::Model;
+
+/// A request or a session: its name, the session that a request belongs to or whether a session is marked, and what it
+/// has.
+#[derive(Drop)]
+pub struct Kept<D> {
+    pub name: Text,
+    pub detail: D,
+    pub table: Table,
+}
+
+/// The requests or the sessions that are there, in the order in which they came, each in a slot of its own.
+#[derive(Drop)]
+pub struct Group<D> {
+    taken: Slab<()>,
+    kept: IndexMap<usize, Kept<D>>,
+}
+
+impl<D> Model for Group<D> {
+    ghost use Rattle.std.specs.Prelude.{List, ℕ};
+    ghost use Rattle.cdi_contexts.specs.declared.group.Kept.{Kept as AnyKept};
+
+    ghost Value = { List (ℕ × AnyKept D) };
+
+    ghost use Rattle.cdi_contexts.specs.Group.{outline, AreApart, IsFree};
+
+    ghost view = { λ g. g.kept.entries };
+
+    ghost invariant = { λ g. IsFree g.taken g.kept.entries × AreApart (outline g.kept.entries) };
+}
+
+impl<D> Group<D> {
+    /// Nothing.
+    pub fn new(alloc: Global) -> Group<D>
+        ensures { result ≡ [] }
+    {
+        Group {
+            taken: Slab::new(alloc),
+            kept: IndexMap::new(alloc),
+        }
+    }
+
+    /// How many there are.
+    pub fn len(&self) -> usize
+        ensures { result ≡ length self.now }
+    {
+        self.kept.len()
+    }
+
+    /// What the context in a slot has.
+    pub fn table(&self, slot: Option<usize>) -> Option<&Table>
+        ensures value { option_copied result ≡ table_at self.now slot }
+        ensures apart { OnSome slot (AreApart (outline self.now)) }
+    {
+        match slot {
+            Some(slot) => Some(&self.get(slot)?.table),
+            None => None,
+        }
+    }
+
+    /// What is in a slot.
+    pub fn get(&self, slot: usize) -> Option<&Kept<D>>
+        ensures value { option_copied result ≡ at self.now slot }
+        ensures apart { AreApart (outline self.now) }
+    {
+        self.kept.get(&slot)
+    }
+
+    /// The slot of what has a name.
+    pub fn slot_of(&self, name: &str) -> Option<usize>
+        ensures { result ≡ option_map (λ p. p.0) (kept_named self.now name.now) }
+    {
+        for (slot, kept) in self.kept.iter() {
+            if kept.name.as_str() == name {
+                return Some(*slot);
+            }
+        }
+        None
+    }
+
+    /// Adds what is new, as the last, in a free slot. On an error nothing changes.
+    pub fn insert(&mut self, kept: Kept<D>) -> Result<usize, AllocError>
+    where
+        D: Drop,
+        requires { kept_named self.old kept.name ≡ None }
+        ensures ok { IfOk result (λ slot. self.new ≡ self.old ++ (slot, kept) ∷ []) }
+        ensures free { IfOk result (λ slot. at self.old slot ≡ None) }
+        ensures err { OnErr result (self.new ≡ self.old) }
+    {
+        self.kept.reserve(1)?;
+        let slot = self.taken.insert(())?;
+        self.kept.insert(slot, kept)?;
+        Ok(slot)
+    }
+
+    /// Gives a context something for a bean, if its slot is that of one. A bean that has an entry needs no memory. On an
+    /// error nothing changes.
+    pub fn put(&mut self, slot: usize, bean: u32, held: Held) -> Result<(), AllocError>
+        ensures ok { OnOk result (self.new ≡ with_table slot (active_with bean held) self.old) }
+        ensures err { OnErr result (self.new ≡ self.old) }
+        ensures there { IsTrue (has_place (table_at self.old (Some slot)) bean) → IsOk result }
+        ensures apart { AreApart (outline self.old) }
+    {
+        let Some(index) = self.kept.get_index_of(&slot) else {
+            return Ok(());
+        };
+        let kept = &mut self.kept[index];
+        kept.table.put(bean, held)?;
+        Ok(())
+    }
+
+    /// Takes from a context what it has for a bean.
+    pub fn leave(&mut self, slot: usize, bean: u32)
+        ensures left { self.new ≡ with_table slot (active_without bean) self.old }
+        ensures apart { AreApart (outline self.old) }
+    {
+        if let Some(index) = self.kept.get_index_of(&slot) {
+            let kept = &mut self.kept[index];
+            kept.table.leave(bean);
+        }
+    }
+
+    /// No more instances are made in a context.
+    pub fn end(&mut self, slot: usize)
+        ensures ended { self.new ≡ with_table slot ending_active self.old }
+        ensures apart { AreApart (outline self.old) }
+    {
+        if let Some(index) = self.kept.get_index_of(&slot) {
+            let kept = &mut self.kept[index];
+            kept.table.end();
+        }
+    }
+
+    /// As `put`, if there is a slot.
+    pub fn put_at(&mut self, slot: Option<usize>, bean: u32, held: Held) -> Result<(), AllocError>
+        ensures ok { OnOk result (self.new ≡ with_table_at slot (active_with bean held) self.old) }
+        ensures err { OnErr result (self.new ≡ self.old) }
+        ensures there { IsTrue (has_place (table_at self.old slot) bean) → IsOk result }
+        ensures apart { OnSome slot (AreApart (outline self.old)) }
+    {
+        match slot {
+            Some(slot) => self.put(slot, bean, held),
+            None => Ok(()),
+        }
+    }
+
+    /// As `leave`, if there is a slot.
+    pub fn leave_at(&mut self, slot: Option<usize>, bean: u32)
+        ensures left { self.new ≡ with_table_at slot (active_without bean) self.old }
+        ensures apart { OnSome slot (AreApart (outline self.old)) }
+    {
+        if let Some(slot) = slot {
+            self.leave(slot, bean);
+        }
+    }
+
+    /// As `end`, if there is a slot.
+    pub fn end_at(&mut self, slot: Option<usize>)
+        ensures ended { self.new ≡ with_table_at slot ending_active self.old }
+        ensures apart { OnSome slot (AreApart (outline self.old)) }
+    {
+        if let Some(slot) = slot {
+            self.end(slot);
+        }
+    }
+
+    /// Takes out what is in a slot, which is free again.
+    pub fn remove(&mut self, slot: usize)
+    where
+        D: Drop,
+        ensures removed { self.new ≡ without slot self.old }
+        ensures apart { AreApart (outline self.old) }
+    {
+        let _ = self.taken.try_remove(slot);
+        let _ = self.kept.shift_remove(&slot);
+    }
+}
