@@ -1,5 +1,5 @@
 -- What is reached by its slot is what is reached by its name.
-use Rattle.std.proofs.Common.{◌≡◌, ◌∙◌, ℕ, ◌==◌, refl, ap, sym, List, [], ◌∷◌, map, cond, not, true, false, true≢false, Bool, Some, None, Option, option_map, bytes_eq, OnSome}
+use Rattle.std.proofs.Common.{IfSome, Bor, ◌≡◌, ◌∙◌, ℕ, ◌==◌, refl, ap, sym, List, [], ◌∷◌, map, cond, not, true, false, true≢false, Bool, Some, None, Option, option_map, bytes_eq, OnSome}
 use Rattle.std.proofs.lemmas.Map.Views.{exact_unsigned_eq}
 use Rattle.cdi_base.specs.Maps.{Map, at, without}
 use Rattle.cdi_base.specs.declared.scope.Scope.TheVariants as scopes
@@ -7,10 +7,10 @@ use Rattle.cdi_store.specs.declared.instance.Context.TheVariants.{Request, Sessi
 use Rattle.cdi_contexts.specs.declared.context.Env.{Env}
 use Rattle.cdi_contexts.specs.declared.group.Kept.{Kept}
 use Rattle.cdi_contexts.specs.Named.{named, changed, without_name}
-use Rattle.cdi_contexts.specs.Contexts.{Active, Contexts, context_among, with_context}
-use Rattle.cdi_contexts.specs.Standing.{Standing, in_slot, active_in, in_env, for_context}
-use Rattle.cdi_contexts.specs.Group.{kept_named, with_table, with_table_at, table_at, outline, AreApart, request_of, session_of, standing}
-use Rattle.cdi_contexts.proofs.Slots.{own_bytes, same_bytes, named-outline, at-outline, nothing, without-absent, untouched}
+use Rattle.cdi_contexts.specs.Contexts.{is_ending, Active, Contexts, context_among, with_context}
+use Rattle.cdi_contexts.specs.Standing.{Standing, first_open, in_slot, active_in, in_env, for_context}
+use Rattle.cdi_contexts.specs.Group.{shown, first_kept, kept_named, with_table, with_table_at, table_at, outline, AreApart, request_of, session_of, standing}
+use Rattle.cdi_contexts.proofs.Slots.{own_number, own_bytes, same_bytes, named-outline, at-outline, nothing, without-absent, untouched}
 
 abbrev standing_of : Contexts → List ℕ → List ℕ → Standing
 standing_of c requests sessions = record { contexts = c; request_slots = requests; session_slots = sessions }
@@ -187,3 +187,67 @@ module _ (a : Option Active) (m : Map (Kept (Option (List ℕ)))) (n : Map (Kept
         where
           both : {c d : Contexts} {s t : List ℕ} → c ≡ d → s ≡ t → standing_of c (map (λ p. p.0) m) s ≡ standing_of d (map (λ p. p.0) m) t
           both e i = λ j. standing_of (e j) (map (λ p. p.0) m) (i j)
+
+-- a later slot isn't that of the first
+other_slot : {D : Type 0} (q : ℕ × Kept D) (more : Map (Kept D)) (slot : ℕ) (k : Kept D) → AreApart (outline (q ∷ more)) → at more slot ≡ Some k → (slot == q.0) ≡ false
+other_slot q more slot k a h = by (slot == q.0) refl
+  where
+    by : (b : Bool) → (slot == q.0) ≡ b → (slot == q.0) ≡ false
+    by false e = e
+    by true e =
+        let none : at more slot ≡ None = ap (at more) (exact_unsigned_eq slot q.0 e) ∙ nothing (λ k. k.name) _ (sym (at-outline more q.0) ∙ a.0) in
+        absurd cc
+
+own_slot : {D : Type 0} (q p : ℕ × Kept D) (o : Option (Kept D)) → Some q ≡ Some p → cond (p.0 == q.0) (Some q.1) o ≡ Some p.1
+own_slot q p o e = let same : q ≡ p = cc in rw same (rw (own_number p.0) refl)
+
+at_named : {D : Type 0} (m : Map (Kept D)) (n : List ℕ) (p : ℕ × Kept D) → AreApart (outline m) → kept_named m n ≡ Some p → at m p.0 ≡ Some p.1
+at_named [] n p a h = absurd cc
+at_named (q ∷ more) n p a h = by (bytes_eq q.1.name n) h (at_named more n p a.2)
+  where
+    by : (b : Bool) → cond b (Some q) (kept_named more n) ≡ Some p → (kept_named more n ≡ Some p → at more p.0 ≡ Some p.1) → cond (p.0 == q.0) (Some q.1) (at more p.0) ≡ Some p.1
+    by true i rest = own_slot q p (at more p.0) i
+    by false i rest = rw (other_slot q more p.0 p.1 a (rest i)) (rest i)
+
+at_first : {D : Type 0} (m : Map (Kept D)) (p : ℕ × Kept D) → AreApart (outline m) → first_kept m ≡ Some p → at m p.0 ≡ Some p.1
+at_first [] p a h = absurd cc
+at_first (q ∷ more) p a h = by (is_ending q.1.table.status) h (at_first more p a.2)
+  where
+    by : (b : Bool) → cond b (first_kept more) (Some q) ≡ Some p → (first_kept more ≡ Some p → at more p.0 ≡ Some p.1) → cond (p.0 == q.0) (Some q.1) (at more p.0) ≡ Some p.1
+    by false i rest = own_slot q p (at more p.0) i
+    by true i rest = rw (other_slot q more p.0 p.1 a (rest i)) (rest i)
+
+-- ---- what a search shows
+
+module _ {D Y : Type 0} (view : Kept D → Y) (name_of : Y → List ℕ) (names : (k : Kept D) → name_of (view k) ≡ k.name) (active : Y → Active) (tables : (k : Kept D) → active (view k) ≡ k.table) where
+  viewed : (r : Option (ℕ × Bor (Kept D))) → option_map (λ p. view p.1.now) r ≡ option_map (λ p. view p.1) (option_map shown r)
+  viewed None = refl
+  viewed (Some x) = refl
+
+  pub shown_named : (m : Map (Kept D)) (r : Option (ℕ × Bor (Kept D))) (n : List ℕ) → option_map shown r ≡ kept_named m n → option_map (λ p. view p.1.now) r ≡ named name_of (map (λ p. view p.1) m) n
+  shown_named m r n h = viewed r ∙ ap (option_map (λ p. view p.1)) h ∙ sym (named_seen view name_of names m n)
+
+  first_seen : (m : Map (Kept D)) → first_open active (map (λ p. view p.1) m) ≡ option_map (λ p. view p.1) (first_kept m)
+  first_seen [] = refl
+  first_seen (p ∷ more) = ap (λ (a : Active). cond (is_ending a.status) (first_open active (map (λ p. view p.1) more)) (Some (view p.1))) (tables p.1) ∙ by (is_ending p.1.table.status) (first_seen more)
+    where
+      by : (b : Bool) → first_open active (map (λ p. view p.1) more) ≡ option_map (λ p. view p.1) (first_kept more)
+          → cond b (first_open active (map (λ p. view p.1) more)) (Some (view p.1)) ≡ option_map (λ p. view p.1) (cond b (first_kept more) (Some p))
+      by true rest = rest
+      by false rest = refl
+
+  pub shown_first : (m : Map (Kept D)) (r : Option (ℕ × Bor (Kept D))) → option_map shown r ≡ first_kept m → option_map (λ p. view p.1.now) r ≡ first_open active (map (λ p. view p.1) m)
+  shown_first m r h = viewed r ∙ ap (option_map (λ p. view p.1)) h ∙ sym (first_seen m)
+
+  there : (m : Map (Kept D)) (r : Option (ℕ × Bor (Kept D))) → ((p : ℕ × Kept D) → option_map shown r ≡ Some p → at m p.0 ≡ Some p.1)
+      → IfSome r (λ p. in_slot (map (λ p. p.0) m) (map (λ p. view p.1) m) p.0 ≡ Some (view p.1.now))
+  there m None f = tt
+  there m (Some x) f = in_slot_seen view name_of names m x.0 ∙ ap (option_map view) (f (shown x) refl)
+
+  pub named_there : (m : Map (Kept D)) (r : Option (ℕ × Bor (Kept D))) (n : List ℕ) → AreApart (outline m) → option_map shown r ≡ kept_named m n
+      → IfSome r (λ p. in_slot (map (λ p. p.0) m) (map (λ p. view p.1) m) p.0 ≡ Some (view p.1.now))
+  named_there m r n a h = there m r (λ p e. at_named m n p a (sym h ∙ e))
+
+  pub first_there : (m : Map (Kept D)) (r : Option (ℕ × Bor (Kept D))) → AreApart (outline m) → option_map shown r ≡ first_kept m
+      → IfSome r (λ p. in_slot (map (λ p. p.0) m) (map (λ p. view p.1) m) p.0 ≡ Some (view p.1.now))
+  first_there m r a h = there m r (λ p e. at_first m p a (sym h ∙ e))

@@ -38,7 +38,7 @@ pub ok_then : {T F : Type 0} (r : Result T F) (P Q : Type 0) → OnOk r P → (P
 ok_then (Ok x) P Q h f = f h
 ok_then (Err e) P Q h f = tt
 
-own_number : (n : ℕ) → (n == n) ≡ true
+pub own_number : (n : ℕ) → (n == n) ≡ true
 own_number n = grind arith
 
 module _ {X : Type 0} where

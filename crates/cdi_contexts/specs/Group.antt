@@ -1,10 +1,11 @@
 -- Requests or sessions in their slots, in the order in which they came.
 use Rattle.std.specs.Prelude.{◌≡◌, ℕ, Bool, ◌∷◌, [], List, map, Option, Some, None, option_map}
+use Rattle.std.specs.Borrow.{Bor}
 use Rattle.slab.specs.Slab.{Slab, get}
 use Rattle.cdi_base.specs.Maps.{Map, at, adjusted}
 use Rattle.cdi_contexts.specs.Named.{named}
 use Rattle.cdi_contexts.specs.Contexts.{Active, OpenRequest, OpenSession}
-use Rattle.cdi_contexts.specs.Standing.{Standing}
+use Rattle.cdi_contexts.specs.Standing.{Standing, first_open}
 use Rattle.cdi_contexts.specs.declared.group.Kept.{Kept}
 
 module _ {D : Type 0} where
@@ -15,6 +16,13 @@ module _ {D : Type 0} where
   -- what a context has, changed
   abbrev pub with_table : ℕ → (Active → Active) → Map (Kept D) → Map (Kept D)
   with_table slot f = adjusted slot (λ k. record k { table = f k.table })
+
+  abbrev pub shown : ℕ × Bor (Kept D) → ℕ × Kept D
+  shown p = (p.0, p.1.now)
+
+  -- the first that isn't being destroyed
+  abbrev pub first_kept : Map (Kept D) → Option (ℕ × Kept D)
+  first_kept = first_open (λ p. p.1.table)
 
   -- what the context in a slot has
   abbrev pub table_at : Map (Kept D) → Option ℕ → Option Active

@@ -1,9 +1,13 @@
 -- The contexts with the slots that they are reached by, and what is refused.
-use Rattle.std.specs.Prelude.{ℕ, Bool, false, ◌==◌, ◌||◌, ◌∷◌, [], List, Option, Some, None, if◌then◌else◌, option_map}
-use Rattle.cdi_contexts.specs.declared.context.Env.{Env}
+use Rattle.std.specs.Prelude.{◌≡◌, ℕ, Bool, true, false, not, nat_le, ◌==◌, ◌&&◌, ◌||◌, ◌++◌, ◌∷◌, [], List, length, filter, Option, Some, None, is_some, if◌then◌else◌, option_map}
+use Rattle.cdi_base.specs.declared.reply.Refusal.{Refusal}
+use Rattle.cdi_base.specs.declared.reply.Refusal.TheVariants as refusals
 use Rattle.cdi_base.specs.declared.scope.Scope.{Scope}
+use Rattle.cdi_base.specs.declared.scope.Scope.TheVariants as scopes
 use Rattle.cdi_store.specs.declared.instance.Context.{Context}
-use Rattle.cdi_contexts.specs.Contexts.{Active, Contexts, Environment, OpenSession, active_context, context_of, at_boot, is_ending}
+use Rattle.cdi_store.specs.declared.instance.Context.TheVariants as contexts
+use Rattle.cdi_contexts.specs.declared.context.Env.{Env}
+use Rattle.cdi_contexts.specs.Contexts.{Active, Contexts, Environment, OpenRequest, OpenSession, request_in, session_in, active_context, context_of, at_boot, is_due, is_ending, with_request, with_session, with_ending, without_context}
 
 -- The contexts, and the slots of the requests and of the sessions in the order of those.
 pub record Standing : Type 0 where
@@ -31,10 +35,89 @@ environment_of s env =
 
 -- ---- what is refused
 
--- the session is there, and no more requests begin in it
-abbrev pub closes : Option OpenSession → Bool
-closes None = false
-closes (Some s) = s.is_marked || is_ending s.active.status
+-- no more requests begin in the session: it is marked or being destroyed
+abbrev pub is_closing : Option OpenSession → Bool
+is_closing None = false
+is_closing (Some s) = s.is_marked || is_ending s.active.status
+
+-- the session, if a request names one that is there
+abbrev pub session_for : Contexts → Option (List ℕ) → Option OpenSession
+session_for c None = None
+session_for c (Some name) = session_in c.sessions name
+
+-- a session is named that isn't there
+abbrev pub is_new : Contexts → Option (List ℕ) → Bool
+is_new c None = false
+is_new c (Some name) = not (is_some (session_in c.sessions name))
+
+-- why a request doesn't begin: the first of these that holds
+abbrev pub begin_refusal : Contexts → List ℕ → Option (List ℕ) → Option Refusal
+begin_refusal c request session =
+    if is_some (request_in c.requests request) then Some refusals.RequestOpen
+    else if is_closing (session_for c session) then Some refusals.SessionEnding
+    else if nat_le 256 (length c.requests) then Some refusals.TooManyRequests
+    else if is_new c session && nat_le 1024 (length c.sessions) then Some refusals.TooManySessions
+    else None
+
+-- why a session isn't invalidated
+abbrev pub invalidate_refusal : Contexts → List ℕ → Option Refusal
+invalidate_refusal c name =
+    if not (is_some (session_in c.sessions name)) then Some refusals.NoSession
+    else if is_closing (session_in c.sessions name) then Some refusals.SessionEnding
+    else None
+
+-- ---- environments
+
+-- a request and its session, if that is there
+abbrev pub environment_for : Contexts → OpenRequest → Environment
+environment_for c r = record { request = Some r.name; session = option_map (λ s. s.name) (session_for c r.session) }
+
+abbrev pub session_environment : OpenSession → Environment
+session_environment s = record { request = None; session = Some s.name }
+
+-- the environment that has just this context, if it is there
+abbrev pub environment_with : Contexts → Context → Environment
+environment_with c contexts.Application = record { request = None; session = None }
+environment_with c (contexts.Request name) =
+    record { request = option_map (λ r. r.name) (request_in c.requests name); session = None }
+environment_with c (contexts.Session name) =
+    record { request = None; session = option_map (λ s. s.name) (session_in c.sessions name) }
+
+-- the first that isn't being destroyed
+abbrev pub first_open : {X : Type 0} → (X → Active) → List X → Option X
+first_open active [] = None
+first_open active (x ∷ more) = if is_ending (active x).status then first_open active more else Some x
+
+-- the environment of the first context of a scope that isn't being destroyed
+abbrev pub oldest_environment : Contexts → Scope → Option Environment
+oldest_environment c scopes.RequestScoped = option_map (environment_for c) (first_open (λ r. r.active) c.requests)
+oldest_environment c scopes.SessionScoped = option_map session_environment (first_open (λ s. s.active) c.sessions)
+oldest_environment c _ = None
+
+-- the session is marked, and no request that is there belongs to it
+abbrev pub is_due_in : Contexts → Option (List ℕ) → Bool
+is_due_in c None = false
+is_due_in c (Some name) = is_due c name
+
+-- ---- a begin
+
+-- the contexts with a request, and with its session if that is new
+abbrev pub with_begun : List ℕ → Option (List ℕ) → Contexts → Contexts
+with_begun request None c = with_request request None c
+with_begun request (Some session) c =
+    with_request request (Some session) (if is_new c (Some session) then with_session session c else c)
+
+abbrev pub with_slot : Option ℕ → List ℕ → List ℕ
+with_slot None slots = slots
+with_slot (Some slot) slots = slots ++ slot ∷ []
+
+-- the request has begun in an environment; its slot, and that of a new session, were no one's
+pub record Begins (request : List ℕ) (session : Option (List ℕ)) (old : Standing) (env : Env) (new : Standing) : Type 0 where
+  pub contexts : new.contexts ≡ with_begun request session old.contexts
+  pub environment : environment_of new env ≡ record { request = Some request; session = session }
+  pub earlier : environment_of old env ≡ record { request = None; session = option_map (λ s. s.name) (session_for old.contexts session) }
+  pub request_slots : new.request_slots ≡ with_slot env.request old.request_slots
+  pub session_slots : new.session_slots ≡ (if is_new old.contexts session then with_slot env.session old.session_slots else old.session_slots)
 
 -- ---- changes in an environment
 
@@ -54,3 +137,20 @@ active_in s env scope = active_context s.contexts (environment_of s env) scope
 -- nothing stands but the application
 abbrev pub nothing_begun : Standing
 nothing_begun = record { contexts = at_boot; request_slots = []; session_slots = [] }
+
+abbrev pub all_but_slot : Option ℕ → List ℕ → List ℕ
+all_but_slot None slots = slots
+all_but_slot (Some slot) slots = filter (λ s. not (slot == s)) slots
+
+-- the context of a scope gone, and its slot free
+abbrev pub without_env : Env → Scope → Standing → Standing
+without_env env scopes.RequestScoped s =
+    record (in_env env scopes.RequestScoped without_context s) { request_slots = all_but_slot env.request s.request_slots }
+without_env env scopes.SessionScoped s =
+    record (in_env env scopes.SessionScoped without_context s) { session_slots = all_but_slot env.session s.session_slots }
+without_env env scope s = in_env env scope without_context s
+
+-- an open context is being destroyed, and one that was being destroyed is gone
+abbrev pub with_step : Env → Scope → Option Active → Standing → Standing
+with_step env scope None s = s
+with_step env scope (Some a) s = if is_ending a.status then without_env env scope s else in_env env scope with_ending s

@@ -4,6 +4,11 @@ ghost use Rattle.std.specs.Option.{option_copied};
 ghost use Rattle.cdi_contexts.specs.Contexts.{active_with, active_without, entry_in, has_place, is_ending_in, last_in, with_held, with_nothing};
 ghost use Rattle.cdi_contexts.specs.Standing.{active_in, in_env, nothing_begun};
 
+mod begin;
+mod names;
+
+pub use begin::{MAX_REQUESTS, MAX_SESSIONS};
+
 use crate::context::{Env, Held, Status};
 use crate::group::Group;
 use crate::table::Table;

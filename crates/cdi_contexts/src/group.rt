@@ -3,7 +3,7 @@ ghost use Rattle.std.specs.Prelude.{◌≡◌, ◌∷◌, ◌++◌, [], None, So
 ghost use Rattle.std.specs.Option.{option_copied};
 ghost use Rattle.cdi_base.specs.Maps.{at, without};
 ghost use Rattle.cdi_contexts.specs.Contexts.{has_place, active_with, active_without, ending_active};
-ghost use Rattle.cdi_contexts.specs.Group.{kept_named, with_table, with_table_at, table_at, outline, AreApart};
+ghost use Rattle.cdi_contexts.specs.Group.{first_kept, kept_named, shown, with_table, with_table_at, table_at, outline, AreApart};
 
 use crate::context::{Held, Status};
 use crate::table::Table;
@@ -79,13 +79,27 @@ impl<D> Group<D> {
         self.kept.get(&slot)
     }
 
-    /// The slot of what has a name.
-    pub fn slot_of(&self, name: &str) -> Option<usize>
-        ensures { result ≡ option_map (λ p. p.0) (kept_named self.now name.now) }
+    /// What has a name, with its slot.
+    pub fn find(&self, name: &str) -> Option<(usize, &Kept<D>)>
+        ensures value { option_map shown result ≡ kept_named self.now name.now }
+        ensures apart { AreApart (outline self.now) }
     {
         for (slot, kept) in self.kept.iter() {
             if kept.name.as_str() == name {
-                return Some(*slot);
+                return Some((*slot, kept));
+            }
+        }
+        None
+    }
+
+    /// The first that isn't being destroyed, with its slot.
+    pub fn first_open(&self) -> Option<(usize, &Kept<D>)>
+        ensures value { option_map shown result ≡ first_kept self.now }
+        ensures apart { AreApart (outline self.now) }
+    {
+        for (slot, kept) in self.kept.iter() {
+            if kept.table.status() == Status::Open {
+                return Some((*slot, kept));
             }
         }
         None
