@@ -1,3 +1,4 @@
 pub mod Entries
 pub mod Slots
 pub mod ByName
+pub mod Begins

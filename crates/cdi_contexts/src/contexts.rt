@@ -5,9 +5,10 @@ ghost use Rattle.cdi_contexts.specs.Contexts.{active_with, active_without, entry
 ghost use Rattle.cdi_contexts.specs.Standing.{active_in, in_env, nothing_begun};
 
 mod begin;
+mod ending;
 mod names;
 
-pub use begin::{MAX_REQUESTS, MAX_SESSIONS};
+pub use begin::{BeginError, MAX_REQUESTS, MAX_SESSIONS};
 
 use crate::context::{Env, Held, Status};
 use crate::group::Group;

@@ -7,4 +7,4 @@ mod group;
 mod table;
 
 pub use context::{Env, Held, Status};
-pub use contexts::Contexts;
+pub use contexts::{BeginError, Contexts, MAX_REQUESTS, MAX_SESSIONS};

@@ -1,22 +1,43 @@
 //! How requests and sessions begin.
-ghost use Rattle.std.specs.Prelude.{◌≡◌, is_some, IfOk, IfErr, IfSome, OnErr, None, Some, option_map};
+ghost use Rattle.std.specs.Prelude.{◌≡◌, is_some, IfOk, IfErr, IfSome, OnErr, None, Some, Err};
 ghost use Rattle.std.specs.Option.{option_copied};
+ghost use Rattle.cdi_contexts.specs.declared.contexts.begin.BeginError.TheVariants.{Memory};
 ghost use Rattle.cdi_contexts.specs.Contexts.{fresh, request_in, session_in};
 ghost use Rattle.std.specs.Prelude.{false};
-ghost use Rattle.cdi_contexts.specs.Standing.{begin_refusal, is_closing, is_new, session_for};
+ghost use Rattle.cdi_contexts.specs.Standing.{Begins, begin_refusal, is_closing, is_new, session_for};
 
 use super::Contexts;
-use crate::context::Status;
+use crate::context::{Env, Status};
 use crate::group::Kept;
 use crate::table::Table;
 use cdi_base::{Refusal, Text};
 use std::alloc::{AllocError, Global};
+use thiserror::Error;
 
 /// The most requests that are there at a time.
 pub const MAX_REQUESTS: usize = 256;
 
 /// The most sessions that are there at a time.
 pub const MAX_SESSIONS: usize = 1_024;
+
+/// Why a request did not begin. Nothing has changed.
+#[derive(Clone, Copy, Debug, PartialEq, Eq, Error)]
+pub enum BeginError {
+    /// The begin is refused.
+    #[error("refused: {0}")]
+    Refused(Refusal),
+    /// No memory was left for the request or its session.
+    #[error("out of memory")]
+    Memory,
+}
+
+impl From<AllocError> for BeginError {
+    ghost from_gives = { λ _ e. e ≡ Memory };
+
+    fn from(_error: AllocError) -> BeginError {
+        BeginError::Memory
+    }
+}
 
 impl Contexts {
     /// Whether a session is named that is there and takes no further request.
@@ -59,6 +80,77 @@ impl Contexts {
             Some(Refusal::TooManySessions)
         } else {
             None
+        }
+    }
+
+    /// Begins a request, in its session if it names one. A session that isn't there yet begins with it. Both are open
+    /// and empty, and the environment is theirs; their slots are no one's until then. It is refused exactly as
+    /// [`Contexts::refuses_begin`] says, whatever memory there is. On an error nothing changes.
+    pub fn begin(&mut self, request: &str, session: Option<&str>) -> Result<Env, BeginError>
+        ensures begun { IfOk result (λ env. Begins request.now (option_copied session.entry) self.old env self.new) }
+        ensures refused { IfSome (begin_refusal self.old.contexts request.now (option_copied session.entry)) (λ r. result ≡ Err (BeginError.Refused r)) }
+        ensures memory { begin_refusal self.old.contexts request.now (option_copied session.entry) ≡ None → IfErr result (λ e. e ≡ BeginError.Memory) }
+        ensures err { OnErr result (self.new ≡ self.old) }
+    {
+        if let Some(refusal) = self.refuses_begin(request, session) {
+            return Err(BeginError::Refused(refusal));
+        }
+        Ok(match session {
+            Some(name) => self.begin_in(request, name)?,
+            None => self.begin_alone(request)?,
+        })
+    }
+
+    /// Begins a request that is new, with no session.
+    fn begin_alone(&mut self, request: &str) -> Result<Env, AllocError>
+        requires { request_in self.old.contexts.requests request.now ≡ None }
+        ensures begun { IfOk result (λ env. Begins request.now None self.old env self.new) }
+        ensures err { OnErr result (self.new ≡ self.old) }
+    {
+        let kept = new_request(self.alloc, request, None)?;
+        let slot = self.requests.insert(kept)?;
+        Ok(Env {
+            request: Some(slot),
+            session: None,
+        })
+    }
+
+    /// Begins a request that is new, in its session.
+    fn begin_in(&mut self, request: &str, session: &str) -> Result<Env, AllocError>
+        requires { request_in self.old.contexts.requests request.now ≡ None }
+        ensures begun { IfOk result (λ env. Begins request.now (Some session.now) self.old env self.new) }
+        ensures err { OnErr result (self.new ≡ self.old) }
+    {
+        let Some((session_slot, _kept)) = self.session(session) else {
+            return self.begin_both(request, session);
+        };
+        let kept = new_request(self.alloc, request, Some(session))?;
+        let slot = self.requests.insert(kept)?;
+        Ok(Env {
+            request: Some(slot),
+            session: Some(session_slot),
+        })
+    }
+
+    /// Begins a request and its session, which are both new.
+    fn begin_both(&mut self, request: &str, session: &str) -> Result<Env, AllocError>
+        requires request { request_in self.old.contexts.requests request.now ≡ None }
+        requires session { session_in self.old.contexts.sessions session.now ≡ None }
+        ensures begun { IfOk result (λ env. Begins request.now (Some session.now) self.old env self.new) }
+        ensures err { OnErr result (self.new ≡ self.old) }
+    {
+        let kept = new_request(self.alloc, request, Some(session))?;
+        let session = new_session(self.alloc, session)?;
+        let session_slot = self.sessions.insert(session)?;
+        match self.requests.insert(kept) {
+            Ok(slot) => Ok(Env {
+                request: Some(slot),
+                session: Some(session_slot),
+            }),
+            Err(error) => {
+                self.sessions.remove(session_slot);
+                Err(error)
+            }
         }
     }
 }
