@@ -44,7 +44,7 @@ taken_back (p ∷ more) slot x h = by (slot == p.0) h (taken_back more slot x)
     by true i rest = absurd cc
     by false i rest = ap (λ r. p ∷ r) (rest i)
 
-named_name : (xs : List OpenSession) (name : List ℕ) (s : OpenSession) → session_in xs name ≡ Some s → s.name ≡ name
+pub named_name : (xs : List OpenSession) (name : List ℕ) (s : OpenSession) → session_in xs name ≡ Some s → s.name ≡ name
 named_name [] name s h = absurd cc
 named_name (x ∷ more) name s h = by (bytes_eq x.name name) refl h (named_name more name s)
   where

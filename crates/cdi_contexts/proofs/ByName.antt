@@ -1,15 +1,16 @@
 -- What is reached by its slot is what is reached by its name.
-use Rattle.std.proofs.Common.{IfSome, Bor, ◌≡◌, ◌∙◌, ℕ, ◌==◌, refl, ap, sym, List, [], ◌∷◌, map, cond, not, true, false, true≢false, Bool, Some, None, Option, option_map, bytes_eq, OnSome}
+use Rattle.std.specs.List.{list_any}
+use Rattle.std.proofs.Common.{◌&&◌, filter, IfSome, Bor, ◌≡◌, ◌∙◌, ℕ, ◌==◌, refl, ap, sym, List, [], ◌∷◌, map, cond, not, true, false, true≢false, Bool, Some, None, Option, option_map, bytes_eq, OnSome}
 use Rattle.std.proofs.lemmas.Map.Views.{exact_unsigned_eq}
-use Rattle.cdi_base.specs.Maps.{Map, at, without}
+use Rattle.cdi_base.specs.Maps.{Map, at, adjusted, without}
 use Rattle.cdi_base.specs.declared.scope.Scope.TheVariants as scopes
 use Rattle.cdi_store.specs.declared.instance.Context.TheVariants.{Request, Session}
 use Rattle.cdi_contexts.specs.declared.context.Env.{Env}
 use Rattle.cdi_contexts.specs.declared.group.Kept.{Kept}
 use Rattle.cdi_contexts.specs.Named.{named, changed, without_name}
-use Rattle.cdi_contexts.specs.Contexts.{is_ending, Active, Contexts, context_among, with_context}
-use Rattle.cdi_contexts.specs.Standing.{Standing, first_open, in_slot, active_in, in_env, for_context}
-use Rattle.cdi_contexts.specs.Group.{shown, first_kept, kept_named, with_table, with_table_at, table_at, outline, AreApart, request_of, session_of, standing}
+use Rattle.cdi_contexts.specs.Contexts.{OpenSession, belongs_to, is_ending, Active, Contexts, context_among, with_context, without_context}
+use Rattle.cdi_contexts.specs.Standing.{Standing, is_due_in, with_marked, without_env, first_open, in_slot, active_in, in_env, for_context}
+use Rattle.cdi_contexts.specs.Group.{marked, shown, without_at, first_kept, kept_named, with_table, with_table_at, table_at, outline, AreApart, request_of, session_of, standing}
 use Rattle.cdi_contexts.proofs.Slots.{own_number, own_bytes, same_bytes, named-outline, at-outline, nothing, without-absent, untouched}
 
 abbrev standing_of : Contexts → List ℕ → List ℕ → Standing
@@ -71,13 +72,13 @@ module _ {D Y : Type 0} (view : Kept D → Y) (name_of : Y → List ℕ) (names 
           rw same (rw (own_name k) refl)
       by false i rest = rw (names p.1, apart_name p more slot k a i) (rest i)
 
-  pub changed_seen : (f : Active → Active) (g : Y → Y) → ((k : Kept D) → view (record k { table = f k.table }) ≡ g (view k)) → (m : Map (Kept D)) (slot : ℕ) (k : Kept D) → AreApart (outline m) → at m slot ≡ Some k
-      → map (λ p. view p.1) (with_table slot f m) ≡ changed name_of k.name g (map (λ p. view p.1) m)
+  pub changed_seen : (f : Kept D → Kept D) (g : Y → Y) → ((k : Kept D) → view (f k) ≡ g (view k)) → (m : Map (Kept D)) (slot : ℕ) (k : Kept D) → AreApart (outline m) → at m slot ≡ Some k
+      → map (λ p. view p.1) (adjusted slot f m) ≡ changed name_of k.name g (map (λ p. view p.1) m)
   changed_seen f g goes [] slot k a h = absurd cc
   changed_seen f g goes (p ∷ more) slot k a h = by (slot == p.0) h (changed_seen f g goes more slot k a.2)
     where
-      by : (b : Bool) → cond b (Some p.1) (at more slot) ≡ Some k → (at more slot ≡ Some k → map (λ p. view p.1) (with_table slot f more) ≡ changed name_of k.name g (map (λ p. view p.1) more))
-          → map (λ p. view p.1) (cond b ((p.0, record { name = p.1.name; detail = p.1.detail; table = f p.1.table }) ∷ more) (p ∷ with_table slot f more))
+      by : (b : Bool) → cond b (Some p.1) (at more slot) ≡ Some k → (at more slot ≡ Some k → map (λ p. view p.1) (adjusted slot f more) ≡ changed name_of k.name g (map (λ p. view p.1) more))
+          → map (λ p. view p.1) (cond b ((p.0, f p.1) ∷ more) (p ∷ adjusted slot f more))
           ≡ cond (bytes_eq (name_of (view p.1)) k.name) (g (view p.1) ∷ map (λ p. view p.1) more) (view p.1 ∷ changed name_of k.name g (map (λ p. view p.1) more))
       by true i rest =
           let same : p.1 ≡ k = cc in
@@ -109,13 +110,21 @@ module _ {D Y : Type 0} (view : Kept D → Y) (name_of : Y → List ℕ) (names 
           rw own (ap (map (λ p. view p.1)) (without-absent more slot gone) ∙ sym (no_name more k.name none))
       by false e i rest = rw (names p.1, apart_name p more slot k a i) (ap (λ r. view p.1 ∷ r) (rest i))
 
-same_slots : {D : Type 0} (m : Map (Kept D)) (slot : ℕ) (f : Active → Active) → map (λ p. p.0) (with_table slot f m) ≡ map (λ p. p.0) m
+same_slots : {D : Type 0} (m : Map (Kept D)) (slot : ℕ) (f : Kept D → Kept D) → map (λ p. p.0) (adjusted slot f m) ≡ map (λ p. p.0) m
 same_slots [] slot f = refl
 same_slots (p ∷ more) slot f = by (slot == p.0) (same_slots more slot f)
   where
-    by : (b : Bool) → map (λ p. p.0) (with_table slot f more) ≡ map (λ p. p.0) more
-        → map (λ p. p.0) (cond b ((p.0, record { name = p.1.name; detail = p.1.detail; table = f p.1.table }) ∷ more) (p ∷ with_table slot f more)) ≡ p.0 ∷ map (λ p. p.0) more
+    by : (b : Bool) → map (λ p. p.0) (adjusted slot f more) ≡ map (λ p. p.0) more → map (λ p. p.0) (cond b ((p.0, f p.1) ∷ more) (p ∷ adjusted slot f more)) ≡ p.0 ∷ map (λ p. p.0) more
     by true rest = refl
+    by false rest = ap (λ r. p.0 ∷ r) rest
+
+slots_left : {D : Type 0} (m : Map (Kept D)) (slot : ℕ) → map (λ p. p.0) (without slot m) ≡ filter (λ s. not (slot == s)) (map (λ p. p.0) m)
+slots_left [] slot = refl
+slots_left (p ∷ more) slot = by (slot == p.0) (slots_left more slot)
+  where
+    by : (b : Bool) → map (λ p. p.0) (without slot more) ≡ filter (λ s. not (slot == s)) (map (λ p. p.0) more)
+        → map (λ p. p.0) (cond (not b) (p ∷ without slot more) (without slot more)) ≡ cond (not b) (p.0 ∷ filter (λ s. not (slot == s)) (map (λ p. p.0) more)) (filter (λ s. not (slot == s)) (map (λ p. p.0) more))
+    by true rest = rest
     by false rest = ap (λ r. p.0 ∷ r) rest
 
 -- ---- the active context
@@ -158,13 +167,13 @@ module _ (a : Option Active) (m : Map (Kept (Option (List ℕ)))) (n : Map (Kept
       by slot None h own = ap (λ m. (standing a m n).contexts) (untouched m slot (λ k. record k { table = f k.table }) h)
       by slot (Some k) h own =
           ap (λ rs. record { application = a; requests = rs; sessions = map (λ p. session_of p.1) n })
-          (changed_seen request_of (λ r. r.name) (λ k. refl) f (λ r. record r { active = f r.active }) (λ k. refl) m slot k own h)
+          (changed_seen request_of (λ r. r.name) (λ k. refl) (λ k. record k { table = f k.table }) (λ r. record r { active = f r.active }) (λ k. refl) m slot k own h)
 
       of : (o : Option ℕ) → OnSome o (AreApart (outline m)) → standing a (with_table_at o f m) n ≡ in_env (record { request = o; session = env.session }) scopes.RequestScoped (λ x. with_context x f) (standing a m n)
       of None own = refl
       of (Some slot) own = both (by slot (at m slot) refl own
           ∙ ap (λ o. for_context (option_map Request (option_map (λ r. r.name) o)) (λ x. with_context x f) (standing a m n).contexts) (sym (in_slot_seen request_of (λ r. r.name) (λ k. refl) m slot)))
-          (same_slots m slot f)
+          (same_slots m slot (λ k. record k { table = f k.table }))
         where
           both : {c d : Contexts} {s t : List ℕ} → c ≡ d → s ≡ t → standing_of c s (map (λ p. p.0) n) ≡ standing_of d t (map (λ p. p.0) n)
           both e i = λ j. standing_of (e j) (i j) (map (λ p. p.0) n)
@@ -177,16 +186,93 @@ module _ (a : Option Active) (m : Map (Kept (Option (List ℕ)))) (n : Map (Kept
       by slot None h own = ap (λ n. (standing a m n).contexts) (untouched n slot (λ k. record k { table = f k.table }) h)
       by slot (Some k) h own =
           ap (λ ss. record { application = a; requests = map (λ p. request_of p.1) m; sessions = ss })
-          (changed_seen session_of (λ s. s.name) (λ k. refl) f (λ s. record s { active = f s.active }) (λ k. refl) n slot k own h)
+          (changed_seen session_of (λ s. s.name) (λ k. refl) (λ k. record k { table = f k.table }) (λ s. record s { active = f s.active }) (λ k. refl) n slot k own h)
 
       of : (o : Option ℕ) → OnSome o (AreApart (outline n)) → standing a m (with_table_at o f n) ≡ in_env (record { request = env.request; session = o }) scopes.SessionScoped (λ x. with_context x f) (standing a m n)
       of None own = refl
       of (Some slot) own = both (by slot (at n slot) refl own
           ∙ ap (λ o. for_context (option_map Session (option_map (λ s. s.name) o)) (λ x. with_context x f) (standing a m n).contexts) (sym (in_slot_seen session_of (λ s. s.name) (λ k. refl) n slot)))
-          (same_slots n slot f)
+          (same_slots n slot (λ k. record k { table = f k.table }))
         where
           both : {c d : Contexts} {s t : List ℕ} → c ≡ d → s ≡ t → standing_of c (map (λ p. p.0) m) s ≡ standing_of d (map (λ p. p.0) m) t
           both e i = λ j. standing_of (e j) (map (λ p. p.0) m) (i j)
+
+  -- ---- a context that is gone
+  pub request_gone : (env : Env) → OnSome env.request (AreApart (outline m)) → standing a (without_at env.request m) n ≡ without_env env scopes.RequestScoped (standing a m n)
+  request_gone env = of env.request
+    where
+      by : (slot : ℕ) (o : Option (Kept (Option (List ℕ)))) → at m slot ≡ o → AreApart (outline m)
+          → (standing a (without slot m) n).contexts ≡ for_context (option_map Request (option_map (λ r. r.name) (option_map request_of o))) without_context (standing a m n).contexts
+      by slot None h own = ap (λ m. (standing a m n).contexts) (without-absent m slot h)
+      by slot (Some k) h own = ap (λ rs. record { application = a; requests = rs; sessions = map (λ p. session_of p.1) n }) (removed_seen request_of (λ r. r.name) (λ k. refl) m slot k own h)
+
+      of : (o : Option ℕ) → OnSome o (AreApart (outline m)) → standing a (without_at o m) n ≡ without_env (record { request = o; session = env.session }) scopes.RequestScoped (standing a m n)
+      of None own = refl
+      of (Some slot) own = both (by slot (at m slot) refl own
+          ∙ ap (λ o. for_context (option_map Request (option_map (λ r. r.name) o)) without_context (standing a m n).contexts) (sym (in_slot_seen request_of (λ r. r.name) (λ k. refl) m slot)))
+          (slots_left m slot)
+        where
+          both : {c d : Contexts} {s t : List ℕ} → c ≡ d → s ≡ t → standing_of c s (map (λ p. p.0) n) ≡ standing_of d t (map (λ p. p.0) n)
+          both e i = λ j. standing_of (e j) (i j) (map (λ p. p.0) n)
+
+  pub session_gone : (env : Env) → OnSome env.session (AreApart (outline n)) → standing a m (without_at env.session n) ≡ without_env env scopes.SessionScoped (standing a m n)
+  session_gone env = of env.session
+    where
+      by : (slot : ℕ) (o : Option (Kept Bool)) → at n slot ≡ o → AreApart (outline n)
+          → (standing a m (without slot n)).contexts ≡ for_context (option_map Session (option_map (λ s. s.name) (option_map session_of o))) without_context (standing a m n).contexts
+      by slot None h own = ap (λ n. (standing a m n).contexts) (without-absent n slot h)
+      by slot (Some k) h own = ap (λ ss. record { application = a; requests = map (λ p. request_of p.1) m; sessions = ss }) (removed_seen session_of (λ s. s.name) (λ k. refl) n slot k own h)
+
+      of : (o : Option ℕ) → OnSome o (AreApart (outline n)) → standing a m (without_at o n) ≡ without_env (record { request = env.request; session = o }) scopes.SessionScoped (standing a m n)
+      of None own = refl
+      of (Some slot) own = both (by slot (at n slot) refl own
+          ∙ ap (λ o. for_context (option_map Session (option_map (λ s. s.name) o)) without_context (standing a m n).contexts) (sym (in_slot_seen session_of (λ s. s.name) (λ k. refl) n slot)))
+          (slots_left n slot)
+        where
+          both : {c d : Contexts} {s t : List ℕ} → c ≡ d → s ≡ t → standing_of c (map (λ p. p.0) m) s ≡ standing_of d (map (λ p. p.0) m) t
+          both e i = λ j. standing_of (e j) (map (λ p. p.0) m) (i j)
+
+  -- ---- a session that is marked, and one that is due
+  pub session_due : (slot : ℕ) (o : Option (Kept Bool)) → at n slot ≡ o → AreApart (outline n)
+      → elim o [ None ↦ false | Some k ↦ k.detail && not (list_any (belongs_to k.name) (map (λ p. request_of p.1) m)) ]
+      ≡ is_due_in (standing a m n).contexts (option_map (λ s. s.name) (in_slot (map (λ p. p.0) n) (map (λ p. session_of p.1) n) slot))
+  session_due slot None h own = rw (in_slot_seen session_of (λ s. s.name) (λ k. refl) n slot, h) refl
+  session_due slot (Some k) h own = rw (in_slot_seen session_of (λ s. s.name) (λ k. refl) n slot, h) (sym (ap (λ (o : Option OpenSession). elim o [ None ↦ false | Some s ↦ s.is_marked && not (list_any (belongs_to k.name) (map (λ p. request_of p.1) m)) ]) (found session_of (λ s. s.name) (λ k. refl) n slot k own h)))
+
+  pub session_marked : (slot : ℕ) (name : List ℕ) (s : OpenSession) → AreApart (outline n) → in_slot (map (λ p. p.0) n) (map (λ p. session_of p.1) n) slot ≡ Some s → s.name ≡ name
+      → standing a m (adjusted slot marked n) ≡ with_marked name (standing a m n)
+  session_marked slot name s own there e = by (at n slot) refl (sym (in_slot_seen session_of (λ s. s.name) (λ k. refl) n slot) ∙ there)
+    where
+      both : {c d : List OpenSession} {s t : List ℕ} → c ≡ d → s ≡ t
+          → standing_of (record { application = a; requests = map (λ p. request_of p.1) m; sessions = c }) (map (λ p. p.0) m) s
+          ≡ standing_of (record { application = a; requests = map (λ p. request_of p.1) m; sessions = d }) (map (λ p. p.0) m) t
+      both e i = λ j. standing_of (record { application = a; requests = map (λ p. request_of p.1) m; sessions = e j }) (map (λ p. p.0) m) (i j)
+
+      by : (o : Option (Kept Bool)) → at n slot ≡ o → option_map session_of (at n slot) ≡ Some s → standing a m (adjusted slot marked n) ≡ with_marked name (standing a m n)
+      by None h i = let z : None ≡ Some s = ap (option_map session_of) (sym h) ∙ i in absurd cc
+      by (Some k) h i =
+          let z : Some (session_of k) ≡ Some s = ap (option_map session_of) (sym h) ∙ i in
+          let same : session_of k ≡ s = cc in
+          let named : k.name ≡ name = ap (λ (x : OpenSession). x.name) same ∙ e in
+          both (changed_seen session_of (λ s. s.name) (λ k. refl) marked (λ s. record s { is_marked = true }) (λ k. refl) n slot k own h
+          ∙ ap (λ t. changed (λ (s : OpenSession). s.name) t (λ s. record s { is_marked = true }) (map (λ p. session_of p.1) n)) named)
+          (same_slots n slot marked)
+
+  at_adjusted : {X : Type 0} (m : Map X) (slot : ℕ) (f : X → X) → at (adjusted slot f m) slot ≡ option_map f (at m slot)
+  at_adjusted [] slot f = refl
+  at_adjusted (p ∷ more) slot f = by (slot == p.0) refl (at_adjusted more slot f)
+    where
+      by : (b : Bool) → (slot == p.0) ≡ b → at (adjusted slot f more) slot ≡ option_map f (at more slot) → at (cond b ((p.0, f p.1) ∷ more) (p ∷ adjusted slot f more)) slot ≡ option_map f (cond b (Some p.1) (at more slot))
+      by true e rest = rw e refl
+      by false e rest = rw e rest
+
+  pub marked_name : (slot : ℕ) → option_map (λ s. s.name) (in_slot (map (λ p. p.0) (adjusted slot marked n)) (map (λ p. session_of p.1) (adjusted slot marked n)) slot)
+      ≡ option_map (λ s. s.name) (in_slot (map (λ p. p.0) n) (map (λ p. session_of p.1) n) slot)
+  marked_name slot = rw (in_slot_seen session_of (λ s. s.name) (λ k. refl) (adjusted slot marked n) slot, in_slot_seen session_of (λ s. s.name) (λ k. refl) n slot, at_adjusted n slot marked) (by (at n slot))
+    where
+      by : (o : Option (Kept Bool)) → option_map (λ s. s.name) (option_map session_of (option_map marked o)) ≡ option_map (λ s. s.name) (option_map session_of o)
+      by None = refl
+      by (Some k) = refl
 
 -- a later slot isn't that of the first
 other_slot : {D : Type 0} (q : ℕ × Kept D) (more : Map (Kept D)) (slot : ℕ) (k : Kept D) → AreApart (outline (q ∷ more)) → at more slot ≡ Some k → (slot == q.0) ≡ false

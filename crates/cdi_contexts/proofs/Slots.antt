@@ -146,13 +146,12 @@ pub nothing : {A B : Type 0} (f : A → B) (o : Option A) → option_map f o ≡
 nothing f None h = refl
 nothing f (Some x) h = absurd cc
 
-same_name : {D : Type 0} (m : Map (Kept D)) (slot : ℕ) (f : Active → Active) → outline (with_table slot f m) ≡ outline m
-same_name [] slot f = refl
-same_name (p ∷ more) slot f = by (slot == p.0) (same_name more slot f)
+same_name : {D : Type 0} (m : Map (Kept D)) (slot : ℕ) (f : Kept D → Kept D) → ((k : Kept D) → (f k).name ≡ k.name) → outline (adjusted slot f m) ≡ outline m
+same_name [] slot f e = refl
+same_name (p ∷ more) slot f e = by (slot == p.0) (same_name more slot f e)
   where
-    by : (b : Bool) → outline (with_table slot f more) ≡ outline more
-        → outline (cond b ((p.0, record { name = p.1.name; detail = p.1.detail; table = f p.1.table }) ∷ more) (p ∷ with_table slot f more)) ≡ (p.0, p.1.name) ∷ outline more
-    by true rest = refl
+    by : (b : Bool) → outline (adjusted slot f more) ≡ outline more → outline (cond b ((p.0, f p.1) ∷ more) (p ∷ adjusted slot f more)) ≡ (p.0, p.1.name) ∷ outline more
+    by true rest = ap (λ n. (p.0, n) ∷ outline more) (e p.1)
     by false rest = ap (λ r. (p.0, p.1.name) ∷ r) rest
 
 module _ {D : Type 0} where
@@ -173,13 +172,20 @@ module _ {D : Type 0} where
       by true rest = refl
       by false rest = rest
 
+  -- a change of one that keeps its name
+  pub apart-adjusted : (m : Map (Kept D)) (slot : ℕ) (f : Kept D → Kept D) → ((k : Kept D) → (f k).name ≡ k.name) → AreApart (outline m) → AreApart (outline (adjusted slot f m))
+  apart-adjusted m slot f e h = subst AreApart (sym (same_name m slot f e)) h
+
+  pub free-adjusted : {Y : Type 0} (taken : Slab Y) (m : Map (Kept D)) (slot : ℕ) (f : Kept D → Kept D) → ((k : Kept D) → (f k).name ≡ k.name) → IsFree taken m → IsFree taken (adjusted slot f m)
+  free-adjusted taken m slot f e h = λ j i.
+      nothing (λ k. k.name) _ (sym (at-outline (adjusted slot f m) j) ∙ ap (λ o. at o j) (same_name m slot f e) ∙ at-outline m j ∙ ap (option_map (λ k. k.name)) (h j i))
+
   -- a change of what one has
   pub apart-with_table : (m : Map (Kept D)) (slot : ℕ) (f : Active → Active) → AreApart (outline m) → AreApart (outline (with_table slot f m))
-  apart-with_table m slot f h = subst AreApart (sym (same_name m slot f)) h
+  apart-with_table m slot f h = apart-adjusted m slot (λ k. record k { table = f k.table }) (λ k. refl) h
 
   pub free-with_table : {Y : Type 0} (taken : Slab Y) (m : Map (Kept D)) (slot : ℕ) (f : Active → Active) → IsFree taken m → IsFree taken (with_table slot f m)
-  free-with_table taken m slot f h = λ j e.
-      nothing (λ k. k.name) _ (sym (at-outline (with_table slot f m) j) ∙ ap (λ o. at o j) (same_name m slot f) ∙ at-outline m j ∙ ap (option_map (λ k. k.name)) (h j e))
+  free-with_table taken m slot f h = free-adjusted taken m slot (λ k. record k { table = f k.table }) (λ k. refl) h
 
 named-push : (o : List (ℕ × List ℕ)) (slot : ℕ) (name n : List ℕ) → named (λ q. q.1) o n ≡ None → bytes_eq name n ≡ false → named (λ q. q.1) (o ++ (slot, name) ∷ []) n ≡ None
 named-push [] slot name n h e = rw e refl

@@ -1,8 +1,8 @@
 -- Requests or sessions in their slots, in the order in which they came.
-use Rattle.std.specs.Prelude.{◌≡◌, ℕ, Bool, ◌∷◌, [], List, map, Option, Some, None, option_map}
+use Rattle.std.specs.Prelude.{◌≡◌, ℕ, Bool, true, ◌∷◌, [], List, map, Option, Some, None, option_map}
 use Rattle.std.specs.Borrow.{Bor}
 use Rattle.slab.specs.Slab.{Slab, get}
-use Rattle.cdi_base.specs.Maps.{Map, at, adjusted}
+use Rattle.cdi_base.specs.Maps.{Map, at, adjusted, without}
 use Rattle.cdi_contexts.specs.Named.{named}
 use Rattle.cdi_contexts.specs.Contexts.{Active, OpenRequest, OpenSession}
 use Rattle.cdi_contexts.specs.Standing.{Standing, first_open}
@@ -34,6 +34,11 @@ module _ {D : Type 0} where
   with_table_at None f m = m
   with_table_at (Some slot) f m = with_table slot f m
 
+  -- without what is in the slot, if there is one
+  abbrev pub without_at : Option ℕ → Map (Kept D) → Map (Kept D)
+  without_at None m = m
+  without_at (Some slot) m = without slot m
+
   -- the slots with the names
   abbrev pub outline : Map (Kept D) → List (ℕ × List ℕ)
   outline m = map (λ p. (p.0, p.1.name)) m
@@ -61,3 +66,7 @@ standing application requests sessions =
       request_slots = map (λ p. p.0) requests;
       session_slots = map (λ p. p.0) sessions;
     }
+
+-- a session with a mark
+abbrev pub marked : Kept Bool → Kept Bool
+marked k = record k { detail = true }

@@ -7,7 +7,7 @@ use Rattle.cdi_base.specs.declared.scope.Scope.TheVariants as scopes
 use Rattle.cdi_store.specs.declared.instance.Context.{Context}
 use Rattle.cdi_store.specs.declared.instance.Context.TheVariants as contexts
 use Rattle.cdi_contexts.specs.declared.context.Env.{Env}
-use Rattle.cdi_contexts.specs.Contexts.{Active, Contexts, Environment, OpenRequest, OpenSession, request_in, session_in, active_context, context_of, at_boot, is_due, is_ending, with_request, with_session, with_ending, without_context}
+use Rattle.cdi_contexts.specs.Contexts.{Active, Contexts, Environment, OpenRequest, OpenSession, request_in, session_in, active_context, context_of, at_boot, is_due, is_ending, with_mark, with_request, with_session, with_ending, without_context}
 
 -- The contexts, and the slots of the requests and of the sessions in the order of those.
 pub record Standing : Type 0 where
@@ -154,3 +154,7 @@ without_env env scope s = in_env env scope without_context s
 abbrev pub with_step : Env → Scope → Option Active → Standing → Standing
 with_step env scope None s = s
 with_step env scope (Some a) s = if is_ending a.status then without_env env scope s else in_env env scope with_ending s
+
+-- a session that is marked
+abbrev pub with_marked : List ℕ → Standing → Standing
+with_marked name s = record s { contexts = with_mark name s.contexts }

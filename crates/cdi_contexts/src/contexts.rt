@@ -8,11 +8,10 @@ mod begin;
 mod ending;
 mod names;
 
-pub use begin::{BeginError, MAX_REQUESTS, MAX_SESSIONS};
-
 use crate::context::{Env, Held, Status};
 use crate::group::Group;
 use crate::table::Table;
+pub use begin::{BeginError, MAX_REQUESTS, MAX_SESSIONS};
 use cdi_base::{Scope, Text};
 use std::alloc::{AllocError, Global};
 use std::marker::Model;

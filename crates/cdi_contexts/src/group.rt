@@ -1,9 +1,11 @@
 //! Requests or sessions in their slots.
 ghost use Rattle.std.specs.Prelude.{◌≡◌, ◌∷◌, ◌++◌, [], None, Some, length, option_map, IfOk, IsOk, IsTrue, OnSome, OnOk, OnErr};
 ghost use Rattle.std.specs.Option.{option_copied};
-ghost use Rattle.cdi_base.specs.Maps.{at, without};
-ghost use Rattle.cdi_contexts.specs.Contexts.{has_place, active_with, active_without, ending_active};
-ghost use Rattle.cdi_contexts.specs.Group.{first_kept, kept_named, shown, with_table, with_table_at, table_at, outline, AreApart};
+ghost use Rattle.std.specs.List.{list_any};
+ghost use Rattle.std.specs.Prelude.{map};
+ghost use Rattle.cdi_base.specs.Maps.{adjusted, at, without};
+ghost use Rattle.cdi_contexts.specs.Contexts.{belongs_to, has_place, active_with, active_without, ending_active};
+ghost use Rattle.cdi_contexts.specs.Group.{first_kept, kept_named, marked, outline, request_of, shown, table_at, without_at, with_table, with_table_at, AreApart};
 
 use crate::context::{Held, Status};
 use crate::table::Table;
@@ -200,5 +202,56 @@ impl<D> Group<D> {
     {
         let _ = self.taken.try_remove(slot);
         let _ = self.kept.shift_remove(&slot);
+    }
+
+    /// As `remove`, if there is a slot.
+    pub fn remove_at(&mut self, slot: Option<usize>)
+    where
+        D: Drop,
+        ensures removed { self.new ≡ without_at slot self.old }
+        ensures apart { OnSome slot (AreApart (outline self.old)) }
+    {
+        if let Some(slot) = slot {
+            self.remove(slot);
+        }
+    }
+}
+
+impl Group<Option<Text>> {
+    /// Whether a request belongs to a session.
+    pub fn has_member(&self, session: &str) -> bool
+        ensures { result ≡ list_any (belongs_to session.now) (map (λ p. request_of p.1) self.now) }
+    {
+        for (_slot, kept) in self.kept.iter() {
+            if kept.is_member(session) {
+                return true;
+            }
+        }
+        false
+    }
+}
+
+impl Kept<Option<Text>> {
+    /// Whether the request belongs to a session.
+    fn is_member(&self, session: &str) -> bool
+        ensures { result ≡ belongs_to session.now (request_of self.now) }
+    {
+        match &self.detail {
+            Some(name) => name.as_str() == session,
+            None => false,
+        }
+    }
+}
+
+impl Group<bool> {
+    /// Marks the session in a slot.
+    pub fn mark(&mut self, slot: usize)
+        ensures marked { self.new ≡ adjusted slot marked self.old }
+        ensures apart { AreApart (outline self.old) }
+    {
+        if let Some(index) = self.kept.get_index_of(&slot) {
+            let kept = &mut self.kept[index];
+            kept.detail = true;
+        }
     }
 }

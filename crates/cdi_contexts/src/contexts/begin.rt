@@ -156,7 +156,11 @@ impl Contexts {
 }
 
 /// A request at its begin.
-fn new_request(alloc: Global, name: &str, session: Option<&str>) -> Result<Kept<Option<Text>>, AllocError>
+fn new_request(
+    alloc: Global,
+    name: &str,
+    session: Option<&str>,
+) -> Result<Kept<Option<Text>>, AllocError>
     ensures { IfOk result (λ k. k ≡ record { name = name.now; detail = option_copied session.entry; table = fresh }) }
 {
     let session = match session {

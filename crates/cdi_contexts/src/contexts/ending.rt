@@ -1,10 +1,11 @@
 //! How requests and sessions end.
-ghost use Rattle.std.specs.Prelude.{◌≡◌, IfOk, IfErr, Some, None, option_map};
-ghost use Rattle.cdi_contexts.specs.Contexts.{request_in, session_in};
-ghost use Rattle.cdi_contexts.specs.Standing.{environment_for, environment_of, environment_with, in_slot, invalidate_refusal, is_due_in, oldest_environment, of_slot, session_for};
+ghost use Rattle.std.specs.Prelude.{◌≡◌, IfOk, IfErr, OnOk, OnErr, Some, None, option_map};
+ghost use Rattle.cdi_contexts.specs.Contexts.{ending_active, request_in, session_in, with_ending};
+ghost use Rattle.cdi_contexts.specs.Standing.{with_marked, active_in, in_env, with_step, without_env, environment_for, environment_of, environment_with, in_slot, invalidate_refusal, is_due_in, oldest_environment, of_slot, session_for};
 
 use super::Contexts;
 use crate::context::{Env, Status};
+use crate::table::Table;
 use cdi_base::{Refusal, Scope, Text};
 use cdi_store::Context;
 
@@ -75,6 +76,41 @@ impl Contexts {
         }
     }
 
+    /// Marks a session: it ends with its last request. The environment holds it alone. It is refused exactly as
+    /// [`Contexts::refuses_invalidate`] says, and then nothing changes.
+    pub fn invalidate(&mut self, session: &str) -> Result<Env, Refusal>
+        ensures marked { OnOk result (self.new ≡ with_marked session.now self.old) }
+        ensures environment { IfOk result (λ env. environment_of self.new env ≡ record { request = None; session = Some session.now }) }
+        ensures goes { OnOk result (invalidate_refusal self.old.contexts session.now ≡ None) }
+        ensures refused { IfErr result (λ r. invalidate_refusal self.old.contexts session.now ≡ Some r) }
+        ensures err { OnErr result (self.new ≡ self.old) }
+    {
+        if let Some(refusal) = self.refuses_invalidate(session) {
+            return Err(refusal);
+        }
+        let Some((slot, _kept)) = self.session(session) else {
+            return Err(Refusal::NoSession);
+        };
+        self.sessions.mark(slot);
+        Ok(Env {
+            request: None,
+            session: Some(slot),
+        })
+    }
+
+    /// Whether the session of an environment is marked and no request that is there belongs to it, so that it ends.
+    pub fn due(&self, env: Env) -> bool
+        ensures { result ≡ is_due_in self.now.contexts (environment_of self.now env).session }
+    {
+        let Some(slot) = env.session else {
+            return false;
+        };
+        match self.sessions.get(slot) {
+            Some(kept) => kept.detail && !self.requests.has_member(kept.name.as_str()),
+            None => false,
+        }
+    }
+
     /// The environment that has just this context, if it is there; the application needs none.
     pub fn environment(&self, context: &Context) -> Env
         ensures { environment_of self.now result ≡ environment_with self.now.contexts context.now }
@@ -107,5 +143,55 @@ impl Contexts {
     {
         let (slot, _kept) = self.session(name)?;
         Some(slot)
+    }
+
+    /// A context takes its next step towards its end: an open one begins to be destroyed, so that no more instances are
+    /// made in it, and one that is being destroyed is gone, so that its slot may be given again. Where the scope has no
+    /// active context, nothing changes.
+    pub fn step(&mut self, scope: Scope, env: Env)
+        ensures { self.new ≡ with_step env scope (active_in self.old env scope) self.old }
+    {
+        match self.status(scope, env) {
+            Some(Status::Open) => self.end_active(scope, env),
+            Some(Status::Ending) => self.remove_active(scope, env),
+            None => {}
+        }
+    }
+
+    fn status(&self, scope: Scope, env: Env) -> Option<Status>
+        ensures { result ≡ option_map (λ a. a.status) (active_in self.now env scope) }
+    {
+        Some(self.table(scope, env)?.status())
+    }
+
+    fn end_active(&mut self, scope: Scope, env: Env)
+        ensures { self.new ≡ in_env env scope with_ending self.old }
+    {
+        match scope {
+            Scope::ApplicationScoped => end_in(&mut self.application),
+            Scope::SessionScoped => self.sessions.end_at(env.session),
+            Scope::RequestScoped => self.requests.end_at(env.request),
+            Scope::Dependent => {}
+        }
+    }
+
+    fn remove_active(&mut self, scope: Scope, env: Env)
+        ensures { self.new ≡ without_env env scope self.old }
+    {
+        match scope {
+            Scope::ApplicationScoped => self.application = None,
+            Scope::SessionScoped => self.sessions.remove_at(env.session),
+            Scope::RequestScoped => self.requests.remove_at(env.request),
+            Scope::Dependent => {}
+        }
+    }
+}
+
+/// No more instances are made in the application, if it is there.
+fn end_in(application: &mut Option<Table>)
+    ensures { application.new ≡ option_map ending_active application.old }
+{
+    if let Some(table) = application {
+        table.end();
     }
 }
