@@ -1,15 +1,12 @@
 -- What stands once a request has begun.
-use Rattle.std.proofs.Common.{◌≡◌, ◌∙◌, ℕ, ◌==◌, refl, ap, sym, List, [], ◌∷◌, ◌++◌, map, cond, not, true, false, true≢false, Bool, Some, None, Option, option_map, is_some, bytes_eq}
+use Rattle.std.proofs.Common.{◌≡◌, ◌∙◌, ℕ, ◌==◌, refl, ap, sym, List, [], ◌∷◌, ◌++◌, map, cond, not, true, false, Bool, Some, None, Option, option_map, is_some, bytes_eq}
 use Rattle.std.proofs.lemmas.List.{map_push}
 use Rattle.cdi_base.specs.Maps.{Map, at, without}
-use Rattle.cdi_base.specs.declared.reply.Refusal.{Refusal}
-use Rattle.cdi_contexts.specs.declared.context.Env.{Env}
 use Rattle.cdi_contexts.specs.declared.group.Kept.{Kept}
-use Rattle.cdi_contexts.specs.Named.{named}
 use Rattle.cdi_contexts.specs.Contexts.{Active, Contexts, OpenRequest, OpenSession, fresh, request_in, session_in}
 use Rattle.cdi_contexts.specs.Standing.{Begins, begin_refusal, in_slot}
 use Rattle.cdi_contexts.specs.Group.{kept_named, request_of, session_of, standing}
-use Rattle.cdi_contexts.proofs.Slots.{own_number, same_bytes, nothing, without-absent}
+use Rattle.cdi_contexts.proofs.Slots.{own_number, same_bytes, nothing}
 use Rattle.cdi_contexts.proofs.ByName.{in_slot_seen, named_seen}
 
 -- a request that isn't there may be added

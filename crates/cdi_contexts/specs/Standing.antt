@@ -1,5 +1,5 @@
 -- The contexts with the slots that they are reached by, and what is refused.
-use Rattle.std.specs.Prelude.{◌≡◌, ℕ, Bool, true, false, not, nat_le, ◌==◌, ◌&&◌, ◌||◌, ◌++◌, ◌∷◌, [], List, length, filter, Option, Some, None, is_some, if◌then◌else◌, option_map}
+use Rattle.std.specs.Prelude.{◌≡◌, ℕ, Bool, false, not, nat_le, ◌==◌, ◌&&◌, ◌||◌, ◌++◌, ◌∷◌, [], List, length, filter, Option, Some, None, is_some, if◌then◌else◌, option_map}
 use Rattle.cdi_base.specs.declared.reply.Refusal.{Refusal}
 use Rattle.cdi_base.specs.declared.reply.Refusal.TheVariants as refusals
 use Rattle.cdi_base.specs.declared.scope.Scope.{Scope}

@@ -1,10 +1,8 @@
-use Rattle.std.proofs.Common.{◌≡◌, ◌∙◌, ap, sym, subst, refl, None, Some, ◌++◌, ◌∷◌, [], map, option_map, false}
-use Rattle.cdi_base.specs.Maps.{at, without}
-use Rattle.cdi_contexts.specs.declared.group.Kept.{Kept}
-use Rattle.cdi_contexts.specs.Contexts.{fresh, request_in, session_in}
+use Rattle.std.proofs.Common.{◌≡◌, ◌∙◌, ap, sym, subst, Some, ◌++◌, ◌∷◌, []}
+use Rattle.cdi_contexts.specs.Contexts.{request_in, session_in}
 use Rattle.cdi_contexts.specs.Standing.{Begins, in_slot}
 use Rattle.cdi_contexts.specs.Group.{kept_named, session_of, standing}
-use Rattle.cdi_contexts.proofs.Begins.{new_request_name, new_session_name, begins_alone, begins_known, begins_both, new_kept, taken_back}
+use Rattle.cdi_contexts.proofs.Begins.{new_request_name, begins_known, new_kept}
 use Rattle.cdi_contexts.proofs.contexts.Contexts.begin_in.Goals as goal
 
 pub insert-requires : goal.insert-requires

@@ -1,4 +1,4 @@
-use Rattle.std.proofs.Common.{◌≡◌, ◌∙◌, ◌&&◌, ap, sym, not, Bool, Some, None, Option, ℕ, List, map}
+use Rattle.std.proofs.Common.{◌∙◌, ◌&&◌, ap, sym, not, Bool, Some, None, Option, ℕ, List, map}
 use Rattle.std.specs.List.{list_any}
 use Rattle.cdi_contexts.specs.Contexts.{belongs_to}
 use Rattle.cdi_contexts.specs.Group.{request_of}

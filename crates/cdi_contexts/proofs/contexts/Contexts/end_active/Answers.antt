@@ -1,9 +1,9 @@
-use Rattle.std.proofs.Common.{◌≡◌, ◌∙◌, ap, sym}
+use Rattle.std.proofs.Common.{◌∙◌, ap, sym}
 use Rattle.cdi_base.specs.declared.scope.Scope.TheVariants as scopes
 use Rattle.cdi_contexts.specs.Contexts.{ending_active, with_ending}
 use Rattle.cdi_contexts.specs.Group.{standing}
-use Rattle.cdi_contexts.specs.Standing.{in_env, without_env}
-use Rattle.cdi_contexts.proofs.ByName.{request_change, session_change, request_gone, session_gone}
+use Rattle.cdi_contexts.specs.Standing.{in_env}
+use Rattle.cdi_contexts.proofs.ByName.{request_change, session_change}
 use Rattle.cdi_contexts.proofs.contexts.Contexts.end_active.Goals as goal
 
 pub returns-in-SessionScoped : goal.returns-in-SessionScoped

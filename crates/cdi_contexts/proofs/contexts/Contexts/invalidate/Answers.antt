@@ -1,5 +1,4 @@
 use Rattle.std.proofs.Common.{◌≡◌, ◌∙◌, ap, sym, Some, None, option_map}
-use Rattle.cdi_contexts.specs.Contexts.{session_in}
 use Rattle.cdi_contexts.specs.Group.{session_of, standing}
 use Rattle.cdi_contexts.specs.Standing.{in_slot, with_marked}
 use Rattle.cdi_contexts.proofs.Begins.{named_name}

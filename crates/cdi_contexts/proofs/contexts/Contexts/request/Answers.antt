@@ -1,8 +1,7 @@
-use Rattle.std.proofs.Common.{◌≡◌, ◌∙◌, ap, refl}
-use Rattle.cdi_contexts.specs.Group.{request_of, standing}
-use Rattle.cdi_contexts.specs.Standing.{first_open}
+use Rattle.std.proofs.Common.{◌∙◌, ap, refl}
+use Rattle.cdi_contexts.specs.Group.{request_of}
 use Rattle.cdi_contexts.specs.Contexts.{request_in}
-use Rattle.cdi_contexts.proofs.ByName.{shown_named, named_there, shown_first, first_there}
+use Rattle.cdi_contexts.proofs.ByName.{shown_named, named_there}
 use Rattle.cdi_contexts.proofs.contexts.Contexts.request.Goals as goal
 
 pub returns-clause-value : goal.returns-clause-value

@@ -1,4 +1,4 @@
-use Rattle.std.proofs.Common.{◌≡◌, ◌∙◌, ap, sym, refl}
+use Rattle.std.proofs.Common.{◌∙◌, ap, sym, refl}
 use Rattle.cdi_base.specs.Maps.{adjusted}
 use Rattle.cdi_contexts.specs.Group.{marked}
 use Rattle.cdi_contexts.proofs.Slots.{written, untouched, absent, apart-adjusted, free-adjusted}
