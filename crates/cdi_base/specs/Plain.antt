@@ -22,6 +22,7 @@ is_plain_act (acts.Proceed None) = true
 is_plain_act (acts.Find lookup) = true
 is_plain_act (acts.Keep key value) = is_plain_value value
 is_plain_act (acts.Peek key) = true
+is_plain_act (acts.Destroy local) = true
 is_plain_act (acts.Give value) = is_plain_value value
 is_plain_act (acts.Throw exception) = true
 is_plain_act _ = false

@@ -73,6 +73,11 @@ pub enum Act {
     Peek {
         key: Name,
     },
+    /// Destroys the instance behind a local (Jakarta CDI 4.0, *Programmatic lookup*: `Instance.destroy`). Answered by
+    /// null.
+    Destroy {
+        local: u32,
+    },
     /// Ends the body with a value.
     Give {
         value: Value,
@@ -141,6 +146,7 @@ impl Clone for Act {
                 value: value.clone()?,
             },
             Act::Peek { key } => Act::Peek { key: *key },
+            Act::Destroy { local } => Act::Destroy { local: *local },
             Act::Give { value } => Act::Give {
                 value: value.clone()?,
             },

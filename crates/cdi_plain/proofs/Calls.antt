@@ -277,6 +277,7 @@ module _ (tables : Tables) (legal : Legal) (serves : GivesServed tables legal) w
   perform_safe r (acts.Find lookup) w g s h = absurd h
   perform_safe r (acts.Keep key v) w g s h = absurd h
   perform_safe r (acts.Peek key) w g s h = absurd h
+  perform_safe r (acts.Destroy local) w g s h = absurd h
 
   acts_safe : (r : Running) (w : World) → Good tables w → Serves tables w.instances r.instance r.code → Goes (StaysAt r.instance r.code) (machine (calls.Acts r)) w
   acts_safe r w g s =

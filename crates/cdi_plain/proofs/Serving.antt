@@ -148,6 +148,7 @@ module _ (shape : ℕ → Option Shape) (registered : ℕ → Option ℕ) where
       by (acts.Find lookup) h = absurd (omega (arith, is_least 0 (length s.lookups) lookups, is_less lookup (length s.lookups) h))
       by (acts.Keep key v) h = absurd (cc)
       by (acts.Peek key) h = absurd (cc)
+      by (acts.Destroy local) h = absurd (omega (arith, is_least 0 (length s.lookups) lookups, is_less local (length s.lookups) h))
 
   -- ---- the beans of a deployment
 
@@ -200,6 +201,7 @@ is_served tables bean b (acts.Proceed args) e h = h
 is_served tables bean b (acts.Find lookup) e h = h
 is_served tables bean b (acts.Keep key v) e h = h
 is_served tables bean b (acts.Peek key) e h = h
+is_served tables bean b (acts.Destroy local) e h = h
 
 pub accepted_serves : {X : Type 0} {F : X → Type 0} {g : _} (deployment : Deployment) (entries : List (Entry X F g)) → LieInShape entries → problems_of deployment entries ≡ [] → AcceptedServes deployment entries
 accepted_serves deployment entries lies e tables same bean method m fields view a found h =
