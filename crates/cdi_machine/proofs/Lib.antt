@@ -1,0 +1,14 @@
+pub mod Total
+pub mod Ranks
+pub mod Ending
+pub mod Sound
+pub mod Order
+pub mod Worked
+pub mod Levels
+pub mod Rests
+mod Judge
+mod Stages
+mod Plain
+mod Walk
+mod Steps
+pub mod Ledgered

@@ -1,0 +1,180 @@
+-- Commands.
+use Rattle.std.specs.Prelude.{ℕ, List, map, Bool, true, false, not, Option, Some, None, is_some}
+use Rattle.std.specs.List.{list_any}
+use Rattle.cdi_base.specs.declared.value.Value.{Value}
+use Rattle.cdi_base.specs.declared.built_in.BuiltIn.TheVariants as built_in
+use Rattle.cdi_base.specs.declared.uses.Use.{Use}
+use Rattle.cdi_store.specs.declared.instance.Context.{Context}
+use Rattle.cdi_store.specs.declared.instance.Context.TheVariants.{Application, Request, Session}
+use Rattle.cdi_store.specs.declared.instance.Owner.TheVariants as owners
+use Rattle.cdi_contexts.specs.Contexts.{Contexts, Environment, OpenRequest, request_in, session_in, belongs_to, is_due}
+use Rattle.cdi_machine.specs.Words.{Name, Asked}
+use Rattle.cdi_machine.specs.World.{World, Change, no_environment}
+use Rattle.cdi_machine.specs.Programs.{Task, Given, Result, Prog, ret, see, done, call, finished, alter, each, instance, resolved, world, written_of, ◌>>=◌, ◌>>◌}
+use Rattle.cdi_machine.specs.Contexts.{reference, use_of}
+use Rattle.cdi_machine.specs.Bodies.{invoke_method}
+use Rattle.cdi_machine.specs.Destruction.{borrowing}
+use Rattle.cdi_machine.specs.Events.{context_event, container_event}
+
+pub data Command : Type 0 where
+  Boot : Command
+  Begin : List ℕ → Option (List ℕ) → Command
+  End : List ℕ → Command
+  Invalidate : List ℕ → Command
+  Call : Option (List ℕ) → Asked → Name → List Value → Command
+  Read : Option (List ℕ) → Asked → Command
+  Fire : Option (List ℕ) → Name → List Use → Value → Command
+  Live : Command
+  Shutdown : Command
+
+-- ---- environments
+
+abbrev pub session_of : Option OpenRequest → Option (List ℕ)
+session_of None = None
+session_of (Some r) = r.session
+
+-- a request and its session
+abbrev pub environment_of : Contexts → Option (List ℕ) → Environment
+environment_of c None = no_environment
+environment_of c (Some r) = record { request = Some r; session = session_of (request_in c.requests r) }
+
+-- the rest of the command runs in the environment of the request
+abbrev pub standing_in : Option (List ℕ) → Prog (Unit {0})
+standing_in r = see λ t w. alter (Change.Stand (environment_of w.contexts r))
+
+abbrev pub standing_alone_in : List ℕ → Prog (Unit {0})
+standing_alone_in s = alter (Change.Stand (record { request = None; session = Some s }))
+
+-- ---- contexts
+
+-- in the order of their begin
+abbrev pub requests_of : Contexts → List (List ℕ)
+requests_of c = map (λ r. r.name) c.requests
+
+-- in the order of their creation
+abbrev pub sessions_of : Contexts → List (List ℕ)
+sessions_of c = map (λ s. s.name) c.sessions
+
+-- an open request has the session
+abbrev pub is_used : Contexts → List ℕ → Bool
+is_used c s = list_any (belongs_to s) c.requests
+
+abbrev pub is_open : Contexts → List ℕ → Bool
+is_open c r = is_some (request_in c.requests r)
+
+-- no such session is there
+abbrev pub is_new : Contexts → List ℕ → Bool
+is_new c s = not (is_some (session_in c.sessions s))
+
+-- a context ends
+abbrev pub close : Context → Prog Given
+close c = do
+  context_event built_in.BeforeDestroyed c
+  alter (Change.Finish c)
+  call (Task.Clear c)
+  alter (Change.Close c)
+  context_event built_in.Destroyed c
+  finished
+
+-- ---- begin, end, invalidate
+
+abbrev pub begin_session : List ℕ → Prog (Unit {0})
+begin_session s = see λ t w. elim (is_new w.contexts s) [ true ↦ alter (Change.BeginSession s) | false ↦ done ]
+
+-- both contexts are open before the first event
+abbrev pub begin : List ℕ → Option (List ℕ) → Prog Given
+begin r None = do
+  alter (Change.BeginRequest r None)
+  standing_in (Some r)
+  context_event built_in.Initialized (Request r)
+  finished
+begin r (Some s) = do
+  w ← world
+  begin_session s
+  alter (Change.BeginRequest r (Some s))
+  standing_in (Some r)
+  elim (is_new w.contexts s) [ true ↦ context_event built_in.Initialized (Session s) | false ↦ done ]
+  context_event built_in.Initialized (Request r)
+  finished
+
+abbrev pub end_session : World → Option (List ℕ) → Prog Given
+end_session w None = finished
+end_session w (Some s) = elim (is_due w.contexts s) [ true ↦ close (Session s) | false ↦ finished ]
+
+-- a session that is marked ends with its last request
+abbrev pub end : List ℕ → Prog Given
+end r = do
+  standing_in (Some r)
+  close (Request r)
+  w ← world
+  end_session w w.environment.session
+
+abbrev pub invalidate : List ℕ → Prog Given
+invalidate s = see λ t w. elim (is_used w.contexts s) [
+  | true ↦ alter (Change.Mark s) >> finished
+  | false ↦ standing_alone_in s >> close (Session s)
+]
+
+-- ---- call, read
+
+-- a reference for the time of the command
+abbrev pub used : Asked → (ℕ → Prog Given) → Prog Given
+used asked f = borrowing do
+  b ← resolved asked
+  r ← reference b owners.Borrower
+  n ← use_of r
+  f n
+
+abbrev pub call_method : Option (List ℕ) → Asked → Name → List Value → Prog Given
+call_method r asked method args = do
+  standing_in r
+  used asked λ n. invoke_method n method args
+
+abbrev pub read : Option (List ℕ) → Asked → Prog Given
+read r asked = do
+  standing_in r
+  used asked λ n. do
+    o ← instance n
+    ret (Result o.value)
+
+abbrev pub fire : Option (List ℕ) → Name → List Use → Value → Prog Given
+fire r class qualifiers v = do
+  standing_in r
+  qualifiers ← written_of qualifiers
+  call (Task.Fire class qualifiers v)
+
+-- ---- boot, shutdown
+
+abbrev pub boot : Prog Given
+boot = do
+  context_event built_in.Initialized Application
+  container_event built_in.Startup
+  finished
+
+abbrev pub end_alone : List ℕ → Prog Given
+end_alone s = do
+  standing_alone_in s
+  close (Session s)
+
+abbrev pub shutdown : Prog Given
+shutdown = do
+  requests ← see λ t w. ret (requests_of w.contexts)
+  each requests end
+  sessions ← see λ t w. ret (sessions_of w.contexts)
+  each sessions end_alone
+  standing_in None
+  container_event built_in.Shutdown
+  close Application
+  alter Change.Down
+  finished
+
+abbrev pub task : Command → Prog Given
+task Boot = boot
+task (Begin r s) = begin r s
+task (End r) = end r
+task (Invalidate s) = invalidate s
+task (Call r asked method args) = call_method r asked method args
+task (Read r asked) = read r asked
+task (Fire r class qualifiers v) = fire r class qualifiers v
+task Live = finished
+task Shutdown = shutdown

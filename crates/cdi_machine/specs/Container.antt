@@ -1,0 +1,129 @@
+-- A container between commands: which commands are refused, and what the others are answered.
+use Rattle.std.specs.Prelude.{ℕ, ◌≡◌, ◌++◌, List, [], ◌∷◌, map, length, Bool, true, false, not, ◌&&◌, Option, Some, None, nat_eq, nat_lt}
+use Rattle.cdi_base.specs.declared.entry.Entry.{Entry}
+use Rattle.cdi_base.specs.declared.reply.Reply.{Reply}
+use Rattle.cdi_base.specs.declared.reply.Reply.TheVariants as replies
+use Rattle.cdi_base.specs.declared.reply.Refusal.{Refusal}
+use Rattle.cdi_base.specs.declared.reply.Refusal.TheVariants as refusals
+use Rattle.cdi_base.specs.Maps.{at}
+use Rattle.cdi_contexts.specs.Contexts.{Contexts, session_in}
+use Rattle.cdi_machine.specs.Words.{Name}
+use Rattle.cdi_machine.specs.Tables.{Tables, Member, Kind, Bean, Resolution, One}
+use Rattle.cdi_machine.specs.World.{World, begun, before_boot}
+use Rattle.cdi_machine.specs.Programs.{Given, Result, Completion}
+use Rattle.cdi_machine.specs.Commands.{Command, task, is_open, is_new}
+use Rattle.cdi_machine.specs.Runs.{Legal, Outcome, Ends, Cut, Runs}
+
+pub record State : Type 0 where
+  pub world : World
+  pub halted : Bool
+
+abbrev pub unstarted : ℕ → ℕ → State
+unstarted ticks depth = record { world = before_boot ticks depth; halted = false }
+
+-- ---- refusals
+
+-- the first whose condition holds
+abbrev pub first_that_holds : List (Bool × Refusal) → Option Refusal
+first_that_holds [] = None
+first_that_holds ((b, r) ∷ rs) = elim b [ true ↦ Some r | false ↦ first_that_holds rs ]
+
+abbrev pub lacks_request : Contexts → Option (List ℕ) → Bool
+lacks_request c None = false
+lacks_request c (Some r) = not (is_open c r)
+
+abbrev pub opens_session : Contexts → Option (List ℕ) → Bool
+opens_session c None = false
+opens_session c (Some s) = is_new c s
+
+-- the session is there, and marked
+abbrev pub is_marked : Contexts → List ℕ → Bool
+is_marked c s = elim (session_in c.sessions s) [ None ↦ false | Some z ↦ z.is_marked ]
+
+abbrev pub joins_marked : Contexts → Option (List ℕ) → Bool
+joins_marked c None = false
+joins_marked c (Some s) = is_marked c s
+
+-- what the contexts refuse
+abbrev pub refused_by_contexts : Contexts → Command → List (Bool × Refusal)
+refused_by_contexts c (Command.Begin r s) =
+    (is_open c r, refusals.RequestOpen) ∷
+    (joins_marked c s, refusals.SessionEnding) ∷
+    (not (nat_lt (length c.requests) 256), refusals.TooManyRequests) ∷
+    (opens_session c s && not (nat_lt (length c.sessions) 1024), refusals.TooManySessions) ∷ []
+refused_by_contexts c (Command.Invalidate s) = (is_new c s, refusals.NoSession) ∷ (is_marked c s, refusals.SessionEnding) ∷ []
+refused_by_contexts c (Command.End r) = (lacks_request c (Some r), refusals.NoRequest) ∷ []
+refused_by_contexts c (Command.Call r asked method args) = (lacks_request c r, refusals.NoRequest) ∷ []
+refused_by_contexts c (Command.Read r asked) = (lacks_request c r, refusals.NoRequest) ∷ []
+refused_by_contexts c (Command.Fire r class qualifiers v) = (lacks_request c r, refusals.NoRequest) ∷ []
+refused_by_contexts c _ = []
+
+abbrev pub no_method : Option Member → Bool
+no_method None = true
+no_method (Some m) = false
+
+abbrev pub wrong_count : Option Member → ℕ → Bool
+wrong_count None n = false
+wrong_count (Some m) n = not (nat_eq m.count n)
+
+-- what the bean refuses: a call wants a method with so many values, a read wants a product
+abbrev pub call_refused : Option Bean → Name → ℕ → List (Bool × Refusal)
+call_refused None method n = []
+call_refused (Some bean) method n = elim bean.kind [
+  | Kind.Class c ↦ (no_method (at c.methods method), refusals.NoMethod) ∷ (wrong_count (at c.methods method) n, refusals.WrongCount) ∷ []
+  | Kind.Producer p ↦ (true, refusals.NoMethod) ∷ []
+]
+
+abbrev pub read_refused : Option Bean → List (Bool × Refusal)
+read_refused None = []
+read_refused (Some bean) = elim bean.kind [ Kind.Class c ↦ (true, refusals.NoMethod) ∷ [] | Kind.Producer p ↦ [] ]
+
+abbrev pub resolved_to : Tables → Resolution → Option Bean
+resolved_to t (One b) = t.bean b
+resolved_to t _ = None
+
+abbrev pub refused_by_tables : Tables → Command → List (Bool × Refusal)
+refused_by_tables t (Command.Call r asked method args) = (not (t.is_known asked), refusals.UnknownName) ∷ call_refused (resolved_to t (t.resolve asked)) method (length args)
+refused_by_tables t (Command.Read r asked) = (not (t.is_known asked), refusals.UnknownName) ∷ read_refused (resolved_to t (t.resolve asked))
+refused_by_tables t (Command.Fire r class qualifiers v) = (not (t.is_event class qualifiers), refusals.UnknownName) ∷ []
+refused_by_tables t c = []
+
+abbrev pub refusal : Tables → State → Command → Option Refusal
+refusal t s c = first_that_holds ((s.halted, refusals.Halted) ∷ (s.world.down, refusals.Down) ∷ refused_by_contexts s.world.contexts c ++ refused_by_tables t c)
+
+-- ---- replies
+
+-- calls and reads answer their value
+abbrev pub given_to : Command → World → Given → Reply
+given_to (Command.Call r asked method args) w (Result v) = replies.Value v
+given_to (Command.Read r asked) w (Result v) = replies.Value v
+given_to Command.Live w g = replies.Live (map (λ p. p.0) w.instances)
+given_to c w g = replies.Done
+
+abbrev pub reply_to : Command → Outcome → World → Reply
+reply_to c (Ends (Completion.Gave g)) w = given_to c w g
+reply_to c (Ends (Completion.Threw x)) w = replies.Threw x
+reply_to c (Cut cause) w = replies.Halted cause
+
+abbrev pub is_cut : Outcome → Bool
+is_cut (Cut cause) = true
+is_cut (Ends c) = false
+
+abbrev pub state_after : Outcome → World → State
+state_after o w = record { world = w; halted = is_cut o }
+
+-- ---- a command
+
+-- A refused command only ends the trace. Another is carried out, with an empty trace at first, and a cut halts the container.
+pub data Answers (tables : Tables) (legal : Legal) : State → Command → Reply → State → Type 0 where
+  refuses : {s : State} {c : Command} (r : Refusal) → refusal tables s c ≡ Some r → Answers tables legal s c (replies.Refused r) (record s { world = begun s.world })
+  carries_out : {s : State} {c : Command} {o : Outcome} {v : World} → refusal tables s c ≡ None → Runs tables legal ⊥ (task c) (begun s.world) o v → Answers tables legal s c (reply_to c o v) (state_after o v)
+
+-- what was written for a command
+pub record Said : Type 0 where
+  pub entries : List Entry
+  pub reply : Reply
+
+pub data Plays (tables : Tables) (legal : Legal) : State → List Command → List Said → Type 0 where
+  ends : {s : State} → Plays tables legal s [] []
+  goes_on : {s t : State} {c : Command} {r : Reply} {cs : List Command} {said : List Said} → Answers tables legal s c r t → Plays tables legal t cs said → Plays tables legal s (c ∷ cs) (record { entries = t.world.trace; reply = r } ∷ said)

@@ -1,0 +1,135 @@
+-- The creation of an instance: of a managed bean, of an interceptor, of a product.
+use Rattle.std.specs.Prelude.{ℕ, List, [], Bool, true}
+use Rattle.cdi_base.specs.declared.value.Value.TheVariants as values
+use Rattle.cdi_base.specs.declared.entry.Entry.TheVariants as entries
+use Rattle.cdi_base.specs.declared.place.Place.{Place}
+use Rattle.cdi_base.specs.declared.place.Place.TheVariants as places
+use Rattle.cdi_base.specs.declared.place.InterceptorMethod.TheVariants as roles
+use Rattle.cdi_base.specs.declared.scope.Scope.{Scope}
+use Rattle.cdi_base.specs.declared.built_in.BuiltIn.TheVariants as built_in
+use Rattle.cdi_base.specs.Maps.{at}
+use Rattle.cdi_store.specs.declared.instance.Component.{Component}
+use Rattle.cdi_store.specs.declared.instance.Component.TheVariants as components
+use Rattle.cdi_store.specs.declared.instance.Owner.{Owner}
+use Rattle.cdi_store.specs.declared.instance.Owner.TheVariants as owners
+use Rattle.cdi_machine.specs.Words.{Name, Fields, Asked}
+use Rattle.cdi_machine.specs.Tables.{Member, Lifecycle, Step, Source, Product, Kind, Bean}
+use Rattle.cdi_machine.specs.World.{Change}
+use Rattle.cdi_machine.specs.Programs.{Task, Given, Result, Number, Prog, ret, handle, present, call, finished, raise, require, note, alter, each, bean_at, interceptor_at, instance, invocation, next_number, rethrow, ◌>>=◌, ◌>>◌}
+use Rattle.cdi_machine.specs.Programs.Given.{Empty as NoInstance}
+use Rattle.cdi_machine.specs.Contexts.{is_normal, injected, all_injected}
+use Rattle.cdi_machine.specs.Bodies.{invoked, provide, invoke, lifecycle, running}
+use Rattle.cdi_machine.specs.Destruction.{borrowing, receiver}
+
+-- ---- ready, or not
+
+abbrev pub ready : ℕ → Prog Given
+ready n = do
+  note (entries.Ready n)
+  alter (Change.Settle n)
+  ret (Number n)
+
+-- the dependents that are completed are destroyed; no pre-destroy runs
+abbrev pub discard : ℕ → Prog (Unit {0})
+discard n = do
+  call (Task.Release n)
+  note (entries.Drop n)
+  alter (Change.Discard n)
+
+abbrev pub created : ℕ → Given → Prog Given
+created n (Result values.Null) = do
+  discard n
+  ret NoInstance
+created n g = ready n
+
+-- a creation by its steps: a null product is none, and where they throw, the creation has failed
+abbrev pub creating : ℕ → Prog Given → Prog Given
+creating n steps = handle steps (created n) λ x. do
+  discard n
+  rethrow x built_in.CreationException
+
+abbrev pub new : Place → Component → Owner → Fields → Prog ℕ
+new place component owner fields = do
+  n ← next_number
+  note (entries.New n place)
+  alter (Change.Make component owner fields)
+  ret n
+
+-- ---- a managed bean
+
+-- a construct chain that doesn't reach the constructor gives no instance
+abbrev pub construct : ℕ → List Asked → Lifecycle → Prog Given
+construct n points chain = invoked n roles.AroundConstruct chain.callbacks [] do
+  provide points (owners.Instance n)
+  call (Task.Rest chain.chain)
+  v ← invocation
+  require v.completed built_in.CreationException
+  finished
+
+abbrev pub inject : ℕ → Name → Asked → Prog Given
+inject n field point = do
+  r ← injected point (owners.Instance n)
+  alter (Change.Refer n field r)
+  finished
+
+abbrev pub initialize : ℕ → Member → Prog Given
+initialize n m = do
+  rs ← all_injected m.points (owners.Instance n)
+  call (Task.Body (running n m.place m.body [] rs []))
+
+abbrev pub step : ℕ → Step → Prog Given
+step n (Step.Intercept i) = call (Task.Intercept i n)
+step n (Step.Construct points chain) = construct n points chain
+step n (Step.Inject field point) = inject n field point
+step n (Step.Initialize m) = initialize n m
+step n (Step.Complete chain) = lifecycle n roles.PostConstruct chain.callbacks chain.chain
+
+-- ---- a product
+
+abbrev pub produced : ℕ → ℕ → Source → Prog Given
+produced n m (Source.Method producer) = invoke m producer [] (owners.Instance n)
+produced n m (Source.ValueField field) = do
+  o ← instance m
+  v ← present (at o.fields field)
+  ret (Result v)
+
+-- null is a product of no scope but Dependent
+abbrev pub accept : Bool → ℕ → Given → Prog Given
+accept true n (Result values.Null) = raise built_in.IllegalProductException
+accept normal n (Result v) = do
+  alter (Change.Hold n v)
+  ret (Result v)
+accept normal n g = ret g
+
+abbrev pub produce : ℕ → Scope → Product → Prog Given
+produce n scope p = do
+  v ← borrowing do
+    m ← receiver p.declaring
+    produced n m p.source
+  accept (is_normal scope) n v
+
+-- ---- the tasks
+
+abbrev pub first_fields : Kind → Fields
+first_fields (Kind.Class c) = c.fields
+first_fields (Kind.Producer p) = []
+
+abbrev pub made_by : ℕ → Bean → Kind → Prog Given
+made_by n bean (Kind.Class c) = do
+  each c.plan (step n)
+  ret (Number n)
+made_by n bean (Kind.Producer p) = produce n bean.scope p
+
+abbrev pub create : ℕ → Owner → Prog Given
+create b owner = do
+  bean ← bean_at b
+  n ← new bean.place (components.Bean b) owner (first_fields bean.kind)
+  creating n (made_by n bean bean.kind)
+
+abbrev pub intercept : ℕ → ℕ → Prog Given
+intercept i n = do
+  interceptor ← interceptor_at i
+  m ← new (places.Class interceptor.name) (components.Interceptor i) (owners.Instance n) interceptor.fields
+  creating m do
+    each interceptor.injected λ p. inject m p.0 p.1
+    ret (Number m)

@@ -1,0 +1,91 @@
+-- What the machine asks of a deployment.
+use Rattle.std.specs.Prelude.{ℕ, List, Option, Bool}
+use Rattle.cdi_base.specs.declared.place.Place.{Place}
+use Rattle.cdi_base.specs.declared.place.InterceptorMethod.{InterceptorMethod}
+use Rattle.cdi_base.specs.declared.scope.Scope.{Scope}
+use Rattle.cdi_base.specs.declared.uses.Use.{Use}
+use Rattle.cdi_machine.specs.Words.{Name, Fields, Asked}
+
+-- A member with a body, as a bean has it: its parameters' points, and the interceptors of its chain, in order. The count
+-- is that of the values that a method takes.
+pub record Member : Type 0 where
+  pub place : Place
+  pub body : ℕ
+  pub count : ℕ
+  pub points : List Asked
+  pub chain : List ℕ
+
+-- a lifecycle chain, and the callbacks at its end
+pub record Lifecycle : Type 0 where
+  pub chain : List ℕ
+  pub callbacks : List Member
+
+-- the steps by which a managed bean is created
+pub data Step : Type 0 where
+  -- an instance of an interceptor
+  Intercept : ℕ → Step
+  -- the constructor: the points of its parameters, its chain, and its body, if it has one
+  Construct : List Asked → Lifecycle → Step
+  -- an injected field
+  Inject : Name → Asked → Step
+  -- an initializer
+  Initialize : Member → Step
+  -- the post-construct chain and callbacks
+  Complete : Lifecycle → Step
+
+-- Classes go superclass first: in the fields, in the plan and in the callbacks.
+pub record Managed : Type 0 where
+  pub fields : Fields
+  pub plan : List Step
+  pub methods : List (Name × Member)
+  pub pre_destroy : Lifecycle
+
+-- where a product comes from
+pub data Source : Type 0 where
+  Method : Member → Source
+  ValueField : Name → Source
+
+pub record Product : Type 0 where
+  pub declaring : ℕ
+  pub source : Source
+  pub disposers : List Member
+
+pub data Kind : Type 0 where
+  Class : Managed → Kind
+  Producer : Product → Kind
+
+pub record Bean : Type 0 where
+  pub place : Place
+  pub scope : Scope
+  pub kind : Kind
+
+pub record Interceptor : Type 0 where
+  pub name : Name
+  pub fields : Fields
+  pub injected : List (Name × Asked)
+  pub body : InterceptorMethod → Option ℕ
+
+pub record Observer : Type 0 where
+  pub bean : ℕ
+  pub member : Member
+  pub conditional : Bool
+
+pub data Resolution : Type 0 where
+  One : ℕ → Resolution
+  Nothing Many : Resolution
+
+pub record Tables : Type 0 where
+  pub bean : ℕ → Option Bean
+  pub interceptor : ℕ → Option Interceptor
+  pub resolve : Asked → Resolution
+  -- an event's qualifiers as they are written: all but Any, in order
+  pub written : List Use → List Use
+  -- the observers of an event, in groups by priority
+  pub observers : Name → List Use → List (List Observer)
+  -- what a body looks up
+  pub lookup : ℕ → ℕ → Option Asked
+  pub is_checked : Name → Bool
+  pub text : Name → List ℕ
+  -- whether the type and the qualifiers are known; whether it is a class that can be fired
+  pub is_known : Asked → Bool
+  pub is_event : Name → List Use → Bool

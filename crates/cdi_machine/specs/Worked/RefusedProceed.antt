@@ -1,0 +1,62 @@
+-- A post-construct interceptor that proceeds with a value, and then without.
+use Rattle.std.specs.Prelude.{ℕ, pos, List, [], ◌∷◌, Some, None, codes}
+use Rattle.cdi_base.specs.declared.value.Value.TheVariants as values
+use Rattle.cdi_base.specs.declared.act.Act.TheVariants as acts
+use Rattle.cdi_base.specs.declared.entry.Entry.TheVariants as entries
+use Rattle.cdi_base.specs.declared.place.Place.TheVariants as places
+use Rattle.cdi_base.specs.declared.place.InterceptorMethod.TheVariants as roles
+use Rattle.cdi_base.specs.declared.scope.Scope.TheVariants as scopes
+use Rattle.cdi_base.specs.declared.reply.Reply.TheVariants as replies
+use Rattle.cdi_base.specs.declared.built_in.BuiltIn.TheVariants as built_in
+use Rattle.cdi_machine.specs.Words.{Name}
+use Rattle.cdi_machine.specs.Tables.{Step, One}
+use Rattle.cdi_machine.specs.Commands.{Command}
+use Rattle.cdi_machine.specs.Container.{Said}
+use Rattle.cdi_machine.specs.Scripts.{Plain, proceed, proceed_with, catch}
+use Rattle.cdi_machine.specs.Deployments.{Deployment, asked, no_chain, member, managed, by_role, of_context, of_container, first_chosen, Shows}
+
+abbrev C : Name
+C = 20
+
+abbrev m : Name
+m = 21
+
+abbrev J : Name
+J = 22
+
+abbrev p : Name
+p = 23
+
+abbrev body_nop : ℕ
+body_nop = 0
+
+abbrev body_post : ℕ
+body_post = 1
+
+abbrev pub deployment : Deployment
+deployment =
+    record {
+      beans = managed C scopes.ApplicationScoped (record { fields = []; plan = Step.Intercept 0 ∷ Step.Construct [] no_chain ∷ Step.Complete (record { chain = 0 ∷ []; callbacks = member C p body_nop 0 [] [] ∷ [] }) ∷ []; methods = (m, member C m body_nop 0 [] []) ∷ []; pre_destroy = no_chain }) ∷ [];
+      interceptors = record { name = J; fields = []; injected = []; body = by_role None None (Some body_post) None } ∷ [];
+      types = (C, One 0) ∷ [];
+      written = [];
+      observed = [];
+      events = [];
+      scripts = ([], []) ∷ (proceed_with (Plain (values.Int (pos 1)) ∷ []) ∷ catch (proceed) ∷ [], []) ∷ [];
+      checked = [];
+      texts = [];
+    }
+
+abbrev pub proceed_with_too_many_values_does_not_count_commands : List Command
+proceed_with_too_many_values_does_not_count_commands = Command.Boot ∷ Command.Call None (asked C) m [] ∷ Command.Live ∷ Command.Shutdown ∷ []
+
+abbrev pub proceed_with_too_many_values_does_not_count_said : List Said
+proceed_with_too_many_values_does_not_count_said =
+    (record { entries = of_context built_in.Initialized (codes "ApplicationScoped") ∷ of_container built_in.Startup ∷ []; reply = replies.Done }) ∷
+    (record { entries = entries.New 1 (places.Class C) ∷ entries.New 2 (places.Class J) ∷ entries.Ready 2 ∷ entries.Run 2 (places.Interceptor J roles.PostConstruct) ∷ entries.Did (acts.Proceed (Some (values.Int (pos 1) ∷ []))) ∷ entries.Did (acts.Proceed None) ∷ entries.Run 1 (places.Member C p) ∷ entries.Did (acts.Give values.Null) ∷ entries.Did (acts.Give values.Null) ∷ entries.Ready 1 ∷ entries.Run 1 (places.Member C m) ∷ entries.Did (acts.Give values.Null) ∷ []; reply = replies.Value values.Null }) ∷
+    (record { entries = []; reply = replies.Live (1 ∷ 2 ∷ []) }) ∷
+    (record { entries = of_container built_in.Shutdown ∷ of_context built_in.BeforeDestroyed (codes "ApplicationScoped") ∷ entries.End 1 ∷ entries.End 2 ∷ entries.Gone 2 ∷ entries.Gone 1 ∷ of_context built_in.Destroyed (codes "ApplicationScoped") ∷ []; reply = replies.Done }) ∷ []
+
+-- a proceed that is refused for the number of its values does not count
+abbrev pub proceed_with_too_many_values_does_not_count : Type 0
+proceed_with_too_many_values_does_not_count = Shows deployment first_chosen 100000 32 proceed_with_too_many_values_does_not_count_commands proceed_with_too_many_values_does_not_count_said
