@@ -45,7 +45,6 @@ module _ (tables : Tables) (legal loose : Legal) where
   later n (Runs.marks r) l = Runs.marks (later n r l)
   later n (Runs.does a h r) l = Runs.does a (inr (l, h)) (later n r l)
   later n (Runs.picks i h c r) l = Runs.picks i h (inr (l, c)) (later n r l)
-  later n (Runs.lacks e) l = Runs.lacks e
   later n {w = w} (Runs.calls {u = u} r1 r) l =
       let g = goes tables loose ⊥ r1 in
       let a = length-append w.trace g.more in
@@ -90,7 +89,6 @@ module _ (tables : Tables) (legal loose : Legal) where
     way (Runs.marks r) = elim (way r) [ whole a ↦ whole (Runs.marks a) | short e o' v' s g ↦ short e o' v' (Runs.marks s) g ]
     way (Runs.does a h r) = elim (way r) [ whole b ↦ whole (Runs.does a h b) | short e o' v' s g ↦ short e o' v' (Runs.does a (inl h) s) g ]
     way (Runs.picks i l c r) = elim (way r) [ whole b ↦ whole (Runs.picks i l c b) | short e o' v' s g ↦ short e o' v' (Runs.picks i l (inl c) s) g ]
-    way (Runs.lacks e) = whole (Runs.lacks e)
     way (Runs.calls r1 r) = called (way r1) r (way r)
     way {p = p} {w = w} (Runs.starves s) =
         let h = halts tables loose served p w in

@@ -1,11 +1,11 @@
 -- What holds at the end of each run of a program, from what is given and asked at each call.
-use Rattle.std.proofs.Common.{ℕ, ◌<◌, List, ◌∷◌, arith}
+use Rattle.std.proofs.Common.{ℕ, ◌<◌, List, ◌∷◌}
 use Rattle.cdi_base.specs.declared.act.Act.{Act}
 use Rattle.cdi_base.specs.declared.entry.Entry.TheVariants as entries
 use Rattle.cdi_machine.specs.Words.{Name}
 use Rattle.cdi_machine.specs.Tables.{Tables}
 use Rattle.cdi_machine.specs.World.{World, changed, written}
-use Rattle.cdi_machine.specs.Programs.{Task, Given, Completion, Gave, Threw, Prog, ret, throw, cut, miss, see, change, tick, mark, act, choose, nested, handle}
+use Rattle.cdi_machine.specs.Programs.{Task, Given, Completion, Gave, Threw, Prog, ret, throw, cut, miss, see, change, tick, mark, act, choose, nested, candidates, handle}
 use Rattle.cdi_machine.specs.Machine.{machine}
 use Rattle.cdi_machine.specs.Runs.{Legal, Outcome, Ends, Cut, Runs}
 use Rattle.cdi_machine.specs.Ledger.{Item, Wrote, Between, told}
@@ -26,7 +26,7 @@ module _ (tables : Tables) (G : World → List Item → Type 0) (Pre : Task → 
   Does (tick e p) w h Q = G w h × Does p (written e w) (Wrote e ∷ h) Q
   Does (mark n p) w h Q = Does p w (Between n ∷ h) Q
   Does (act b fields view k) w h Q = G w h × ((a : Act) → Does (k a) (written (entries.Did a) w) (Wrote (entries.Did a) ∷ h) Q)
-  Does (choose n k) w h Q = G w h × (0 < n) × ((i : ℕ) → i < n → Does (k i) (written (entries.Pick n i) w) (Wrote (entries.Pick n i) ∷ h) Q)
+  Does (choose n k) w h Q = G w h × ((i : ℕ) → i < candidates n → Does (k i) (written (entries.Pick (candidates n) i) w) (Wrote (entries.Pick (candidates n) i) ∷ h) Q)
   Does (nested t k) w h Q = G w h × Pre t w h × ((c : Completion Given) (w1 : World) (h1 : List Item) → G w1 h1 → Post t w h c w1 h1 → Does (k c) w1 h1 Q)
 
   -- one program and then another
@@ -42,7 +42,7 @@ module _ (tables : Tables) (G : World → List Item → Type 0) (Pre : Task → 
   bind (tick e p) f g w h R Q d kf kg = (d.0, bind p f g (written e w) (Wrote e ∷ h) R Q d.1 kf kg)
   bind (mark n p) f g w h R Q d kf kg = bind p f g w (Between n ∷ h) R Q d kf kg
   bind (act b fields view k) f g w h R Q d kf kg = (d.0, λ a. bind (k a) f g (written (entries.Did a) w) (Wrote (entries.Did a) ∷ h) R Q (d.1 a) kf kg)
-  bind (choose n k) f g w h R Q d kf kg = (d.0, d.1, λ i l. bind (k i) f g (written (entries.Pick n i) w) (Wrote (entries.Pick n i) ∷ h) R Q (d.2 i l) kf kg)
+  bind (choose n k) f g w h R Q d kf kg = (d.0, λ i l. bind (k i) f g (written (entries.Pick (candidates n) i) w) (Wrote (entries.Pick (candidates n) i) ∷ h) R Q (d.1 i l) kf kg)
   bind (nested t k) f g w h R Q d kf kg = (d.0, d.1, λ c w1 h1 g1 p1. bind (k c) f g w1 h1 R Q (d.2 c w1 h1 g1 p1) kf kg)
 
   module _ (legal : Legal) (step : (t : Task) (w : World) (h : List Item) → G w h → Pre t w h → Does (machine t) w h (Post t w h)) where
@@ -57,8 +57,7 @@ module _ (tables : Tables) (G : World → List Item → Type 0) (Pre : Task → 
     sound h Q (Runs.is_full l) d = (d.0, tt)
     sound h Q (Runs.marks {n = n} r) d = sound (Between n ∷ h) Q r d
     sound h Q (Runs.does a l r) d = sound h Q r (d.0, d.1 a)
-    sound h Q (Runs.picks i l c r) d = sound h Q r (d.0, d.2 i l)
-    sound h Q (Runs.lacks e) d = let l = d.1 in absurd (omega arith)
+    sound h Q (Runs.picks i l c r) d = sound h Q r (d.0, d.1 i l)
     sound h Q (Runs.calls {t = t} {k = k} {w = w} {u = u} {o1 = Ends c} r1 r) d =
         let one = sound h (Post t w h) r1 (step t w h d.0 d.1) in
         sound (told h r1) Q r (d.2 c u (told h r1) one.0 one.1)

@@ -1,5 +1,5 @@
 -- Each task leaves as many invocations, bodies and lists of temporaries as it found.
-use Rattle.std.proofs.Common.{ℕ, zero, suc, ◌≡◌, ◌<◌, List, [], ◌∷◌, length, refl, sym, ap, subst, arith, Option, Some, None}
+use Rattle.std.proofs.Common.{ℕ, zero, suc, ◌≡◌, List, [], ◌∷◌, length, refl, sym, ap, subst, arith, Option, Some, None}
 use Rattle.std.specs.Prelude.{map}
 use Rattle.cdi_base.specs.declared.act.Act.{Act}
 use Rattle.cdi_base.specs.declared.reply.Cause.{Cause}
@@ -47,7 +47,7 @@ Steady e h (change g p) = Steady e (shift g h) p
 Steady e h (tick x p) = Steady e h p
 Steady e h (mark n p) = Steady e h p
 Steady e h (act b fields view k) = (a : Act) → Steady e h (k a)
-Steady e h (choose n k) = (0 < n) × ((i : ℕ) → Steady e h (k i))
+Steady e h (choose n k) = (i : ℕ) → Steady e h (k i)
 Steady e h (nested t k) = (c : Completion Given) → Steady e h (k c)
 
 pub steady : {A B : Type 0} (m e h : Height) (p : Prog A) (f : A → Prog B) (g : Name → Prog B) → Steady m h p → ((a : A) → Steady e m (f a)) → ((x : Name) → Steady e m (g x)) → Steady e h (handle p f g)
@@ -60,7 +60,7 @@ steady m e h (change x p) f g q qf qg = steady m e (shift x h) p f g q qf qg
 steady m e h (tick x p) f g q qf qg = steady m e h p f g q qf qg
 steady m e h (mark n p) f g q qf qg = steady m e h p f g q qf qg
 steady m e h (act b fields view k) f g q qf qg = λ a. steady m e h (k a) f g (q a) qf qg
-steady m e h (choose n k) f g q qf qg = (q.0, λ i. steady m e h (k i) f g (q.1 i) qf qg)
+steady m e h (choose n k) f g q qf qg = λ i. steady m e h (k i) f g (q i) qf qg
 steady m e h (nested t k) f g q qf qg = λ c. steady m e h (k c) f g (q c) qf qg
 
 -- ---- a change shifts the height
@@ -146,8 +146,7 @@ module _ (tables : Tables) (legal : Legal) (tasks : TasksLevel) where
   ends_at e (Runs.writes h r) q = ends_at e r q
   ends_at e (Runs.marks r) q = ends_at e r q
   ends_at e (Runs.does a h r) q = ends_at e r (q a)
-  ends_at e (Runs.picks i l c r) q = ends_at e r (q.1 i)
-  ends_at e (Runs.lacks x) q = let l = q.0 in absurd (omega arith)
+  ends_at e (Runs.picks i l c r) q = ends_at e r (q i)
   ends_at {w = w} e (Runs.calls {t = t} {k = k} {u = u} {o1 = Completes d} r1 r) q =
       let a : height u ≡ height w = ends_at (height w) r1 (tasks t (height w)) in
       ends_at e r (subst (λ z. Steady e z (k d)) (sym a) (q d))

@@ -8,7 +8,7 @@ use Rattle.cdi_store.specs.declared.instance.Owner.TheVariants as owners
 use Rattle.cdi_store.specs.declared.instance.Instance.{Instance}
 use Rattle.cdi_machine.specs.Tables.{Tables}
 use Rattle.cdi_machine.specs.World.{World, Change, changed, written, instance_at, for_instance, with_making, with_owned, without_owned, without_making}
-use Rattle.cdi_machine.specs.Programs.{Given, Prog}
+use Rattle.cdi_machine.specs.Programs.{Given, Prog, candidates}
 use Rattle.cdi_machine.specs.Runs.{Legal, Outcome, Runs, going_on}
 use Rattle.cdi_machine.specs.Laws.{SameEnd, OneRun, IsOne, OneSchedule, Widens, Goes, Grows}
 
@@ -120,7 +120,6 @@ module _ (tables : Tables) (legal : Legal) (Starved : Type 0) where
   goes (Runs.marks r) = goes r
   goes (Runs.does a h r) = goes r
   goes (Runs.picks i l c r) = goes r
-  goes {w = w} (Runs.lacks e) = goes_self w
   goes (Runs.calls r1 r) = goes_trans (goes r1) (goes r)
   goes {w = w} (Runs.starves s) = goes_self w
 
@@ -155,12 +154,9 @@ module _ (tables : Tables) (legal : Legal) where
   same zs (Runs.does x g (Runs.writes h r)) (Runs.does y g' (Runs.is_full h')) a b = absurd (omega arith)
   same zs (Runs.does x g (Runs.is_full h)) (Runs.does y g' (Runs.writes h' r')) a b = absurd (omega arith)
   same zs (Runs.does x g (Runs.is_full h)) (Runs.does y g' (Runs.is_full h')) a b = record { outcome = refl; world = refl }
-  same zs (Runs.lacks e) (Runs.lacks e') a b = record { outcome = refl; world = refl }
-  same zs (Runs.lacks e) (Runs.picks i l c r') a b = absurd (omega arith)
-  same zs (Runs.picks i l c r) (Runs.lacks e) a b = absurd (omega arith)
   same {w = w} {v' = v'} {o' = o'} zs (Runs.picks {n = n} {k = k} i l c (Runs.writes h r)) (Runs.picks j l' c' (Runs.writes h' r')) a b =
       let q = wrote w zs r' r b a in let e : j ≡ i = cc in
-      same zs r (subst (λ z. Runs tables legal ⊥ (k z) (written (entries.Pick n z) w) o' v') e r') a b
+      same zs r (subst (λ z. Runs tables legal ⊥ (k z) (written (entries.Pick (candidates n) z) w) o' v') e r') a b
   same zs (Runs.picks i l c (Runs.writes h r)) (Runs.picks j l' c' (Runs.is_full h')) a b = absurd (omega arith)
   same zs (Runs.picks i l c (Runs.is_full h)) (Runs.picks j l' c' (Runs.writes h' r')) a b = absurd (omega arith)
   same zs (Runs.picks i l c (Runs.is_full h)) (Runs.picks j l' c' (Runs.is_full h')) a b = record { outcome = refl; world = refl }
@@ -189,12 +185,9 @@ module _ (tables : Tables) (legal : Legal) where
   one i {w = w} {v' = v'} {o' = o'} (Runs.does {b = b} {fields = fields} {view = view} {k = k} x g r) (Runs.does y g' r') =
       let e : y ≡ x = i.act b (length w.trace) fields view y x g' g in
       one i r (subst (λ (z : _). Runs tables legal ⊥ (Prog.tick (entries.Did z) (k z)) w o' v') e r')
-  one i (Runs.lacks e) (Runs.lacks e') = record { outcome = refl; world = refl }
-  one i (Runs.lacks e) (Runs.picks j l c r') = absurd (omega arith)
-  one i (Runs.picks j l c r) (Runs.lacks e) = absurd (omega arith)
   one i {w = w} {v' = v'} {o' = o'} (Runs.picks {n = n} {k = k} x l c r) (Runs.picks y l' c' r') =
-      let e : y ≡ x = i.pick n (length w.trace) y x c' c in
-      one i r (subst (λ (z : ℕ). Runs tables legal ⊥ (Prog.tick (entries.Pick n z) (k z)) w o' v') e r')
+      let e : y ≡ x = i.pick (candidates n) (length w.trace) y x c' c in
+      one i r (subst (λ (z : ℕ). Runs tables legal ⊥ (Prog.tick (entries.Pick (candidates n) z) (k z)) w o' v') e r')
   one i {v' = v'} {o' = o'} (Runs.calls {k = k} {u = u} {o1 = o1} r1 r) (Runs.calls {u = u'} {o1 = p1} r1' r') =
       let s = one i r1 r1' in
       let at_world = subst (λ z. Runs tables legal ⊥ (going_on p1 k) z o' v') (sym s.world) r' in
@@ -215,7 +208,6 @@ module _ (tables : Tables) (small large : Legal) where
   widens i p w v o (Runs.is_full h) = Runs.is_full h
   widens i p w v o (Runs.marks r) = Runs.marks (widens i _ _ v o r)
   widens i p w v o (Runs.does {b = b} {fields = fields} {view = view} a h r) = Runs.does a (i.act b (length w.trace) fields view a h) (widens i _ _ v o r)
-  widens i p w v o (Runs.picks {n = n} x l c r) = Runs.picks x l (i.pick n (length w.trace) x c) (widens i _ _ v o r)
-  widens i p w v o (Runs.lacks e) = Runs.lacks e
+  widens i p w v o (Runs.picks {n = n} x l c r) = Runs.picks x l (i.pick (candidates n) (length w.trace) x c) (widens i _ _ v o r)
   widens i p w v o (Runs.calls {u = u} {o1 = o1} r1 r) = Runs.calls (widens i _ _ u o1 r1) (widens i _ _ v o r)
   widens i p w v o (Runs.starves s) = absurd s

@@ -1,5 +1,5 @@
 -- Programs that by themselves begin and end no instance: what they leave to a number is what their calls leave.
-use Rattle.std.proofs.Common.{ℕ, ◌≡◌, ◌<◌, List, ◌∷◌, refl, sym, ap, ◌∙◌, subst, Option, Some, None, Bool, true, false, ◌⊎◌, inl, inr}
+use Rattle.std.proofs.Common.{ℕ, ◌≡◌, List, ◌∷◌, refl, sym, ap, ◌∙◌, subst, Option, Some, None, Bool, true, false, ◌⊎◌, inl, inr}
 use Rattle.std.specs.Prelude.{nat_lt}
 use Rattle.cdi_base.specs.declared.act.Act.{Act}
 use Rattle.cdi_base.specs.declared.entry.Entry.{Entry}
@@ -9,7 +9,7 @@ use Rattle.cdi_store.specs.declared.instance.Phase.TheVariants as phases
 use Rattle.cdi_machine.specs.Words.{Name}
 use Rattle.cdi_machine.specs.Tables.{Tables}
 use Rattle.cdi_machine.specs.World.{World, Change, changed, written}
-use Rattle.cdi_machine.specs.Programs.{Task, Given, Completion, Prog, ret, throw, cut, miss, see, change, tick, mark, act, choose, nested, handle}
+use Rattle.cdi_machine.specs.Programs.{Task, Given, Completion, Prog, ret, throw, cut, miss, see, change, tick, mark, act, choose, nested, candidates, handle}
 use Rattle.cdi_machine.specs.Ledger.{Item, Wrote, Fate, Unborn, Made, Readied, Left, Lost, fate, numbers, InSequence}
 use Rattle.cdi_machine.proofs.Stages.{phase_at, adjusted_same}
 use Rattle.cdi_machine.proofs.Judge.{Does}
@@ -38,7 +38,7 @@ Plain (change g p) = PlainChange g (Plain p)
 Plain (tick e p) = PlainEntry e (Plain p)
 Plain (mark n p) = ⊥
 Plain (act b fields view k) = (a : Act) → Plain (k a)
-Plain (choose n k) = (0 < n) × ((i : ℕ) → Plain (k i))
+Plain (choose n k) = (i : ℕ) → Plain (k i)
 Plain (nested t k) = (c : Completion Given) → Plain (k c)
 
 map_change : {X Y : Type 0} (g : Change) → (X → Y) → PlainChange g X → PlainChange g Y
@@ -65,7 +65,7 @@ plainly (change x p) f g q qf qg = map_change x (λ y. plainly p f g y qf qg) q
 plainly (tick x p) f g q qf qg = map_entry x (λ y. plainly p f g y qf qg) q
 plainly (mark n p) f g q qf qg = q
 plainly (act b fields view k) f g q qf qg = λ a. plainly (k a) f g (q a) qf qg
-plainly (choose n k) f g q qf qg = (q.0, λ i. plainly (k i) f g (q.1 i) qf qg)
+plainly (choose n k) f g q qf qg = λ i. plainly (k i) f g (q i) qf qg
 plainly (nested t k) f g q qf qg = λ c. plainly (k c) f g (q c) qf qg
 
 -- ---- what holds of each world, for one number
@@ -197,5 +197,5 @@ module _ (tables : Tables) (n : ℕ) where
   keeps (tick e p) f w h q g k = let s = sane_entry n e w h (Plain p) q g in (g, keeps p f (written e w) (Wrote e ∷ h) s.1 s.0 k)
   keeps (mark m p) f w h q g k = absurd q
   keeps (act b fields view p) f w h q g k = (g, λ a. keeps (p a) f (written (entries.Did a) w) (Wrote (entries.Did a) ∷ h) (q a) (sane_entry n (entries.Did a) w h (Unit {0}) tt g).0 k)
-  keeps (choose m p) f w h q g k = (g, q.0, λ i l. keeps (p i) f (written (entries.Pick m i) w) (Wrote (entries.Pick m i) ∷ h) (q.1 i) (sane_entry n (entries.Pick m i) w h (Unit {0}) tt g).0 k)
+  keeps (choose m p) f w h q g k = (g, λ i l. keeps (p i) f (written (entries.Pick (candidates m) i) w) (Wrote (entries.Pick (candidates m) i) ∷ h) (q i) (sane_entry n (entries.Pick (candidates m) i) w h (Unit {0}) tt g).0 k)
   keeps (nested t p) f w h q g k = (g, tt, λ c w1 h1 g1 p1. keeps (p c) f w1 h1 (q c) g1 (kept_then f (standing n w) (standing n w1) k p1))

@@ -1,5 +1,5 @@
 -- Between commands nothing is running.
-use Rattle.std.proofs.Common.{ℕ, suc, ◌≡◌, List, [], ◌∷◌, length, refl, ◌∙◌, ap, arith, Option, Some, None, Bool, true, false}
+use Rattle.std.proofs.Common.{ℕ, suc, ◌≡◌, List, [], ◌∷◌, length, refl, ◌∙◌, ap, Option, Some, None, Bool, true, false}
 use Rattle.std.specs.Prelude.{reverse, nat_lt, ◌^◌, ◌||◌, not, slice_get, remove}
 use Rattle.cdi_base.specs.declared.value.Value.{Value}
 use Rattle.cdi_base.specs.declared.value.Value.TheVariants as values
@@ -102,7 +102,7 @@ module _ (h : Height) where
   l_picked : {X : Type 0} (xs : List X) → Level (picked xs)
   l_picked [] = refl
   l_picked (x ∷ []) = refl
-  l_picked (x ∷ y ∷ xs) = (omega arith, λ i. refl)
+  l_picked (x ∷ y ∷ xs) = λ i. refl
 
   l_bean : (b : ℕ) → Level (bean_at b)
   l_bean b t w = l_present (t.bean b)

@@ -7,7 +7,7 @@ use Rattle.cdi_base.specs.declared.reply.Cause.TheVariants as causes
 use Rattle.cdi_base.specs.declared.reply.Reply.{Reply}
 use Rattle.cdi_base.specs.declared.reply.Refusal.{Refusal}
 use Rattle.cdi_machine.specs.World.{World, changed, written}
-use Rattle.cdi_machine.specs.Programs.{Task, Given, Completion, Prog, ret, throw, cut, miss, see, change, tick, mark, act, choose, nested}
+use Rattle.cdi_machine.specs.Programs.{Task, Given, Completion, Prog, ret, throw, cut, miss, see, change, tick, mark, act, choose, nested, candidates}
 use Rattle.cdi_machine.specs.Machine.{machine}
 use Rattle.cdi_machine.specs.Runs.{Outcome, Ends, Cut, Runs}
 use Rattle.cdi_machine.specs.World.{begun}
@@ -63,9 +63,9 @@ module _ (s : Setting) where
       let a = s.acts b (length w.trace) fields view in
       Runs.does a refl (wrote (entries.Did a) (k a) (λ u. steps s rec (k a) u) w (λ u o1 v1 q. sound rec tells (k a) u o1 v1 q) o v e)
   sound rec tells (choose n k) w o v e =
-      let i = s.chooses n (length w.trace) in
-      elim (nat_lt i n) as (λ b. nat_lt i n ≡ b → ◌≡◌ {A = Came} (elim b [ true ↦ after_entry (entries.Pick n i) w (λ u. steps s rec (k i) u) | false ↦ None ]) (Some (o, v)) → Leads (choose n k) w o v) [
-        | true ↦ λ h q. Runs.picks i (is_less i n h) refl (wrote (entries.Pick n i) (k i) (λ u. steps s rec (k i) u) w (λ u o1 v1 z. sound rec tells (k i) u o1 v1 z) o v q)
+      let i = s.chooses (candidates n) (length w.trace) in
+      elim (nat_lt i (candidates n)) as (λ b. nat_lt i (candidates n) ≡ b → ◌≡◌ {A = Came} (elim b [ true ↦ after_entry (entries.Pick (candidates n) i) w (λ u. steps s rec (k i) u) | false ↦ None ]) (Some (o, v)) → Leads (choose n k) w o v) [
+        | true ↦ λ h q. Runs.picks i (is_less i (candidates n) h) refl (wrote (entries.Pick (candidates n) i) (k i) (λ u. steps s rec (k i) u) w (λ u o1 v1 z. sound rec tells (k i) u o1 v1 z) o v q)
         | false ↦ λ h q. absurd (cc)
       ] refl e
   sound rec tells (nested t k) w o v e = went_on t k w (λ c u. steps s rec (k c) u) (rec t w) (λ o1 u q. tells t w o1 u q) (λ c u o1 v1 q. sound rec tells (k c) u o1 v1 q) o v e

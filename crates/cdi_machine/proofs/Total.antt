@@ -1,5 +1,5 @@
 -- Every program has a run: before its next entry a task only calls tasks of a lower rank.
-use Rattle.std.proofs.Common.{ℕ, zero, suc, ◌≡◌, ◌≤◌, ◌<◌, ◌+◌, ◌-◌, ◌++◌, length, refl, ap, arith, Bool, true, false, Option, Some, None}
+use Rattle.std.proofs.Common.{ℕ, suc, ◌≡◌, ◌≤◌, ◌<◌, ◌+◌, ◌-◌, ◌++◌, length, refl, ap, arith, Bool, true, false, Option, Some, None}
 use Rattle.std.specs.Prelude.{nat_lt}
 use Rattle.std.proofs.lemmas.List.{length-append}
 use Rattle.cdi_base.specs.declared.act.Act.{Act}
@@ -11,7 +11,7 @@ use Rattle.cdi_machine.specs.Words.{Name}
 use Rattle.cdi_machine.specs.Tables.{Tables}
 use Rattle.cdi_machine.specs.World.{World, instance_at, changed, written}
 use Rattle.cdi_machine.specs.Destruction.{if_ready, destroying}
-use Rattle.cdi_machine.specs.Programs.{Task, Given, Completion, Gave, Threw, present, Prog, ret, throw, cut, miss, see, change, tick, mark, act, choose, nested, handle}
+use Rattle.cdi_machine.specs.Programs.{Task, Given, Completion, Gave, Threw, present, Prog, ret, throw, cut, miss, see, change, tick, mark, act, choose, nested, candidates, handle}
 use Rattle.cdi_machine.specs.Machine.{machine}
 use Rattle.cdi_machine.specs.Runs.{Legal, Outcome, Ends as Completes, Cut, Runs, going_on}
 use Rattle.cdi_machine.specs.Laws.{Goes, IsServed}
@@ -111,9 +111,8 @@ module _ (tables : Tables) (legal : Legal) (served : IsServed legal) where
   acted : (b : ℕ) (fields : _) (view : _) (k : Act → Prog Given) (w : World) → ((a : Act) → Halts (tick (entries.Did a) (k a)) w) → Halts (act b fields view k) w
   acted b fields view k w f = let a = served.act b (length w.trace) fields view in let r = f a.0 in (r.0, r.1, Runs.does a.0 a.1 r.2)
 
-  chose : (n : ℕ) (k : ℕ → Prog Given) (w : World) → ((i : ℕ) → Halts (tick (entries.Pick n i) (k i)) w) → Halts (choose n k) w
-  chose zero k w f = (_, w, Runs.lacks refl)
-  chose (suc n) k w f = let i = served.pick (suc n) (length w.trace) (omega arith) in let r = f i.0 in (r.0, r.1, Runs.picks i.0 i.1 i.2 r.2)
+  chose : (n : ℕ) (k : ℕ → Prog Given) (w : World) → ((i : ℕ) → Halts (tick (entries.Pick (candidates n) i) (k i)) w) → Halts (choose n k) w
+  chose n k w f = let i = served.pick (candidates n) (length w.trace) (omega arith) in let r = f i.0 in (r.0, r.1, Runs.picks i.0 i.1 i.2 r.2)
 
   -- any program, where all tasks end with so little room
   pub free : (n : ℕ) → TasksHalt n → (p : Prog Given) (w : World) → room w < n → Halts p w
@@ -126,7 +125,7 @@ module _ (tables : Tables) (legal : Legal) (served : IsServed legal) where
   free n h (tick e p) w l = wrote e p w (λ q. let s = less_room e w q in free n h p (written e w) (omega arith))
   free n h (mark m p) w l = let r = free n h p w l in (r.0, r.1, Runs.marks r.2)
   free n h (act b fields view k) w l = acted b fields view k w (λ a. wrote (entries.Did a) (k a) w (λ q. let s = less_room (entries.Did a) w q in free n h (k a) (written (entries.Did a) w) (omega arith)))
-  free n h (choose m k) w l = chose m k w (λ i. wrote (entries.Pick m i) (k i) w (λ q. let s = less_room (entries.Pick m i) w q in free n h (k i) (written (entries.Pick m i) w) (omega arith)))
+  free n h (choose m k) w l = chose m k w (λ i. wrote (entries.Pick (candidates m) i) (k i) w (λ q. let s = less_room (entries.Pick (candidates m) i) w q in free n h (k i) (written (entries.Pick (candidates m) i) w) (omega arith)))
   free n h (nested t k) w l =
       let a = h t w l in
       let s = goes_room (goes tables legal ⊥ a.2) in
@@ -170,7 +169,7 @@ module _ (tables : Tables) (legal : Legal) (served : IsServed legal) where
   ranked n h r q (tick e p) x w l = wrote e p w (λ d. let s = less_room e w d in free n h p (written e w) (omega arith))
   ranked n h r q (mark m p) x w l = let a = ranked n h r q p x w l in (a.0, a.1, Runs.marks a.2)
   ranked n h r q (act b fields view k) x w l = acted b fields view k w (λ a. wrote (entries.Did a) (k a) w (λ d. let s = less_room (entries.Did a) w d in free n h (k a) (written (entries.Did a) w) (omega arith)))
-  ranked n h r q (choose m k) x w l = chose m k w (λ i. wrote (entries.Pick m i) (k i) w (λ d. let s = less_room (entries.Pick m i) w d in free n h (k i) (written (entries.Pick m i) w) (omega arith)))
+  ranked n h r q (choose m k) x w l = chose m k w (λ i. wrote (entries.Pick (candidates m) i) (k i) w (λ d. let s = less_room (entries.Pick (candidates m) i) w d in free n h (k i) (written (entries.Pick (candidates m) i) w) (omega arith)))
   ranked n h r q (nested t k) x w l =
       let a = q t w l x.0 in
       let b = after_call n h r t k w a.1 a.0 l a.2 x.1 (λ c y d. ranked n h r q (k c) y a.1 d) in

@@ -1,5 +1,5 @@
 -- The programs that are plain.
-use Rattle.std.proofs.Common.{ℕ, List, [], ◌∷◌, arith, Option, Some, None, Bool, true, false}
+use Rattle.std.proofs.Common.{ℕ, List, [], ◌∷◌, Option, Some, None, Bool, true, false}
 use Rattle.std.specs.Prelude.{reverse, ◌||◌, not, slice_get, remove}
 use Rattle.cdi_base.specs.declared.value.Value.{Value}
 use Rattle.cdi_base.specs.declared.value.Value.TheVariants as values
@@ -107,7 +107,7 @@ module _ (h : Height) where
   pub l_picked : {X : Type 0} (xs : List X) → Level (picked xs)
   l_picked [] = tt
   l_picked (x ∷ []) = tt
-  l_picked (x ∷ y ∷ xs) = (omega arith, λ i. tt)
+  l_picked (x ∷ y ∷ xs) = λ i. tt
 
   pub l_bean : (b : ℕ) → Level (bean_at b)
   l_bean b t w = l_present (t.bean b)

@@ -11,7 +11,7 @@ use Rattle.cdi_bodies.specs.declared.view.View.{View}
 use Rattle.cdi_machine.specs.Words.{Fields}
 use Rattle.cdi_machine.specs.Tables.{Tables}
 use Rattle.cdi_machine.specs.World.{World, changed, written}
-use Rattle.cdi_machine.specs.Programs.{Task, Given, Completion, Gave, Threw, Prog, ret, throw, cut, miss, see, change, tick, mark, act, choose, nested}
+use Rattle.cdi_machine.specs.Programs.{Task, Given, Completion, Gave, Threw, Prog, ret, throw, cut, miss, see, change, tick, mark, act, choose, nested, candidates}
 use Rattle.cdi_machine.specs.Machine.{machine}
 use Rattle.cdi_machine.specs.World.{begun}
 use Rattle.cdi_machine.specs.Commands.{Command, task}
@@ -50,7 +50,7 @@ module _ (s : Setting) where
   steps rec (tick e p) w = after_entry e w (λ u. steps rec p u)
   steps rec (mark n p) w = steps rec p w
   steps rec (act b fields view k) w = let a = s.acts b (length w.trace) fields view in after_entry (entries.Did a) w (λ u. steps rec (k a) u)
-  steps rec (choose n k) w = let i = s.chooses n (length w.trace) in elim (nat_lt i n) [ true ↦ after_entry (entries.Pick n i) w (λ u. steps rec (k i) u) | false ↦ None ]
+  steps rec (choose n k) w = let i = s.chooses (candidates n) (length w.trace) in elim (nat_lt i (candidates n)) [ true ↦ after_entry (entries.Pick (candidates n) i) w (λ u. steps rec (k i) u) | false ↦ None ]
   steps rec (nested t k) w = after_task (rec t w) (λ c u. steps rec (k c) u)
 
   abbrev pub exec : ℕ → Task → World → Came

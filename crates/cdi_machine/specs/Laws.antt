@@ -50,10 +50,10 @@ abbrev pub Widens : Tables → Legal → Legal → Type 0
 Widens tables small large =
     IsWithin small large → (p : Prog Given) (w v : World) (o : Outcome) → Runs tables small ⊥ p w o v → Runs tables large ⊥ p w o v
 
--- at any place some act, and some pick below its count, is legal
+-- at any place some act, and of several candidates some pick, is legal
 pub record IsServed (legal : Legal) : Type 0 where
   pub act : (body entries : ℕ) (fields : Fields) (view : View) → (a : Act) × legal.gives body entries fields view a
-  pub pick : (count entries : ℕ) → 0 < count → (i : ℕ) × (i < count) × legal.picks count entries i
+  pub pick : (count entries : ℕ) → 1 < count → (i : ℕ) × (i < count) × legal.picks count entries i
 
 -- every program has a run from every world: it ends, and its rules leave no gap
 abbrev pub Ends : Tables → Legal → Type 0

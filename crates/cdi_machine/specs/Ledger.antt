@@ -26,7 +26,6 @@ told h (Runs.is_full l) = h
 told h (Runs.marks {n = n} r) = told (Between n ∷ h) r
 told h (Runs.does a l r) = told h r
 told h (Runs.picks i l c r) = told h r
-told h (Runs.lacks e) = h
 told h (Runs.calls r1 r) = told (told h r1) r
 told h (Runs.starves s) = h
 

@@ -1,5 +1,5 @@
 -- Programs of the machine: what they may look at, change, write and call.
-use Rattle.std.specs.Prelude.{ℕ, ◌^◌, List, [], ◌∷◌, length, Bool, true, false, Option, Some, None, nat_lt, option_map}
+use Rattle.std.specs.Prelude.{ℕ, suc, ◌^◌, List, [], ◌∷◌, length, Bool, true, false, Option, Some, None, nat_lt, option_map}
 use Rattle.cdi_base.specs.declared.value.Value.{Value}
 use Rattle.cdi_base.specs.declared.value.Value.TheVariants as values
 use Rattle.cdi_base.specs.declared.act.Act.{Act}
@@ -84,10 +84,14 @@ pub data Prog (A : Type 0) : Type 0 where
   mark : ℕ → Prog A → Prog A
   -- the next act of a body, at its fields and view, and its entry
   act : ℕ → Fields → View → (Act → Prog A) → Prog A
-  -- one of so many candidates, and its entry
+  -- one of so many candidates and two more, and its entry
   choose : ℕ → (ℕ → Prog A) → Prog A
   -- a call, whose completion is looked at
   nested : Task → (Completion Given → Prog A) → Prog A
+
+-- how many candidates a choice has
+abbrev pub candidates : ℕ → ℕ
+candidates n = suc (suc n)
 
 -- goes on with the value, or with the exception; a cut ends all
 abbrev pub handle : {A B : Type 0} → Prog A → (A → Prog B) → (Name → Prog B) → Prog B
@@ -166,11 +170,11 @@ each [] f = finished
 each (x ∷ []) f = f x
 each (x ∷ xs) f = f x >> each xs f
 
--- the index of one of the candidates: by a pick, where there are several
+-- the index of one of the candidates: by a pick, if there are several
 abbrev pub picked : {X : Type 0} → List X → Prog ℕ
 picked [] = missing
 picked (x ∷ []) = ret 0
-picked xs = choose (length xs) ret
+picked (x ∷ y ∷ xs) = choose (length xs) ret
 
 -- ---- what a program looks at
 

@@ -1,17 +1,15 @@
 -- The runs of a program.
-use Rattle.std.specs.Prelude.{ℕ, ◌≡◌, ◌<◌, ◌≤◌, length}
+use Rattle.std.specs.Prelude.{ℕ, ◌<◌, ◌≤◌, length}
 use Rattle.cdi_base.specs.declared.act.Act.{Act}
 use Rattle.cdi_base.specs.declared.entry.Entry.{Entry}
 use Rattle.cdi_base.specs.declared.entry.Entry.TheVariants as entries
 use Rattle.cdi_base.specs.declared.reply.Cause.{Cause}
 use Rattle.cdi_base.specs.declared.reply.Cause.TheVariants as causes
-use Rattle.cdi_base.specs.declared.built_in.BuiltIn.TheVariants as built_in
 use Rattle.cdi_bodies.specs.declared.view.View.{View}
-use Rattle.cdi_base.specs.BuiltIn.{number_of}
 use Rattle.cdi_machine.specs.Words.{Name, Fields}
 use Rattle.cdi_machine.specs.Tables.{Tables}
 use Rattle.cdi_machine.specs.World.{World, Change, changed, written}
-use Rattle.cdi_machine.specs.Programs.{Task, Given, Completion, Gave, Threw, Prog, ret, throw, cut, miss, see, change, tick, mark, act, choose, nested}
+use Rattle.cdi_machine.specs.Programs.{Task, Given, Completion, Gave, Threw, Prog, ret, throw, cut, miss, see, change, tick, mark, act, choose, nested, candidates}
 use Rattle.cdi_machine.specs.Machine.{machine}
 
 -- What is legal where the rules leave it open. Both are told how many entries the command has so far.
@@ -45,9 +43,7 @@ pub data Runs (tables : Tables) (legal : Legal) (Starved : Type 0) : Prog Given 
   marks : {n : ℕ} {p : Prog Given} {w v : World} {o : Outcome} → Runs tables legal Starved p w o v → Runs tables legal Starved (mark n p) w o v
   -- a body gives an act that is legal, and a candidate is picked that is; the entry is written next
   does : {b : ℕ} {fields : Fields} {view : View} {k : Act → Prog Given} {w v : World} {o : Outcome} (a : Act) → legal.gives b (length w.trace) fields view a → Runs tables legal Starved (tick (entries.Did a) (k a)) w o v → Runs tables legal Starved (act b fields view k) w o v
-  picks : {n : ℕ} {k : ℕ → Prog Given} {w v : World} {o : Outcome} (i : ℕ) → i < n → legal.picks n (length w.trace) i → Runs tables legal Starved (tick (entries.Pick n i) (k i)) w o v → Runs tables legal Starved (choose n k) w o v
-  -- of none there is nothing to pick
-  lacks : {n : ℕ} {k : ℕ → Prog Given} {w : World} → n ≡ 0 → Runs tables legal Starved (choose n k) w (Ends (Threw (number_of built_in.IllegalStateException))) w
+  picks : {n : ℕ} {k : ℕ → Prog Given} {w v : World} {o : Outcome} (i : ℕ) → i < candidates n → legal.picks (candidates n) (length w.trace) i → Runs tables legal Starved (tick (entries.Pick (candidates n) i) (k i)) w o v → Runs tables legal Starved (choose n k) w o v
   -- another task, and then what waits for it
   calls : {t : Task} {k : Completion Given → Prog Given} {w u v : World} {o1 o : Outcome} → Runs tables legal Starved (machine t) w o1 u → Runs tables legal Starved (going_on o1 k) u o v → Runs tables legal Starved (nested t k) w o v
   -- memory runs out, and nothing is changed any more
