@@ -19,7 +19,7 @@ use Rattle.cdi_machine.specs.Words.{Fields}
 use Rattle.cdi_machine.specs.Tables.{Tables, Bean, Interceptor}
 use Rattle.cdi_machine.specs.World.{World, before_boot, begun, Change, changed, written, instance_at}
 use Rattle.cdi_machine.specs.Programs.{Task, Given, Completion, Gave, Threw, Running, Prog, ret, throw, handle, numbered, within_depth, present, note, alter, call, completed, finished, quietly, finally, rethrow, each, instance}
-use Rattle.cdi_machine.specs.Destruction.{destroy, destroying, if_ready, farewell}
+use Rattle.cdi_machine.specs.Destruction.{latest, destroy, destroying, if_ready, farewell}
 use Rattle.cdi_machine.specs.Creation.{create, intercept, creating, created, discard, ready, new, made_by, first_fields, inject}
 use Rattle.cdi_machine.specs.Bodies.{body}
 use Rattle.cdi_machine.specs.Machine.{machine}
@@ -400,6 +400,7 @@ module _ (tables : Tables) (n : ℕ) where
   task_does (Task.Release m) = plain_does (Task.Release m) (plainly (instance m) _ throw (Walk.l_instance tt m) (λ o. Walk.l_release tt m o.dependents) (λ _. tt))
   task_does (Task.Fire class qualifiers v) = plain_does (Task.Fire class qualifiers v) (Walk.l_fire tt class qualifiers v)
   task_does (Task.Notify os v) = plain_does (Task.Notify os v) (Walk.l_notify tt os v)
+  task_does Task.Dismiss = plain_does Task.Dismiss (plainly (Rattle.cdi_machine.specs.Programs.see λ t w. Rattle.cdi_machine.specs.Programs.top w.temporaries) _ throw (λ t w. Walk.l_top tt w.temporaries) (λ ns. Walk.l_latest tt (latest ns)) (λ _. tt))
   task_does (Task.Clear c) = plain_does (Task.Clear c) (λ t w. Walk.l_clear tt c _)
 
   -- a command, and each run of it

@@ -1,6 +1,6 @@
 -- Each task calls tasks of a lower rank alone, before its next entry.
 use Rattle.std.proofs.Common.{ℕ, ◌<◌, ◌+◌, List, [], ◌∷◌, length, arith, Option, Some, None, Bool, true, false}
-use Rattle.std.specs.Prelude.{reverse, nat_lt, ◌^◌}
+use Rattle.std.specs.Prelude.{nat_lt, ◌^◌}
 use Rattle.cdi_base.specs.declared.value.Value.{Value}
 use Rattle.cdi_base.specs.declared.entry.Entry.TheVariants as entries
 use Rattle.cdi_base.specs.declared.place.Place.{Place}
@@ -26,7 +26,7 @@ use Rattle.cdi_machine.specs.World.{World, Change, instance_at}
 use Rattle.cdi_machine.specs.Programs.{ActiveContext, Task, Given, Completion, Running, Prog, ret, throw, cut, miss, see, change, tick, mark, act, choose, nested, handle, present, require, completed, call, each, top, active_or_raise, context, numbered, within_depth, one, resolved, rethrow, number_given, bean_at, instance, note, alter, finally}
 use Rattle.cdi_machine.specs.Contexts.{contextual, obtain, is_normal, direct, reference, injected, all_injected, stays, use_of}
 use Rattle.cdi_machine.specs.Bodies.{invoked, provide, invoke, running, first_of, interceptor_of, given_by, rest, body, carry_on}
-use Rattle.cdi_machine.specs.Destruction.{ready_instance, if_ready, destroying, dismissed, dismiss, borrowing, receiver, release_of, clear_of}
+use Rattle.cdi_machine.specs.Destruction.{ready_instance, if_ready, destroying, latest, dismiss_latest, give_back, borrowing, receiver, release_of, clear_of}
 use Rattle.cdi_machine.specs.Creation.{new}
 use Rattle.cdi_machine.specs.Events.{observe, deliver, notify, is_skipped}
 use Rattle.cdi_machine.specs.Machine.{machine}
@@ -43,6 +43,7 @@ unless (Task.Destroy n) f = λ x. f (Completion.Threw x)
 unless (Task.Release n) f = f
 unless (Task.Fire class qualifiers v) f = f
 unless (Task.Notify observers v) f = f
+unless Task.Dismiss f = f
 unless (Task.Clear c) f = f
 
 module _ (r : ℕ) where
@@ -126,8 +127,8 @@ module _ (r : ℕ) where
   r_receiver : 1 < r → (b : ℕ) → Ranked r (receiver b)
   r_receiver q b = then (reference b owners.Borrower) _ (r_reference (omega arith) b owners.Borrower) (r_use q)
 
-  r_dismiss : 0 < r → Ranked r dismiss
-  r_dismiss q = handle_ranked r dismissed _ _ (then (see λ t w. top w.temporaries) _ (λ t w. r_top w.temporaries) (λ ns. r_each (reverse ns) _ (λ n. r_call (Task.Destroy n) q))) (λ _. tt) (λ _. tt)
+  r_give_back : 1 < r → Ranked r give_back
+  r_give_back q = handle_ranked r (call Task.Dismiss) _ _ (r_call Task.Dismiss q) (λ _. tt) (λ _. tt)
 
   r_invoke : 1 < r → (n : ℕ) (m : Member) (args : List Value) (owner : Owner) → Ranked r (invoke n m args owner)
   r_invoke q n m args owner =
@@ -135,11 +136,11 @@ module _ (r : ℕ) where
       (then (provide m.points owner) _ (then (all_injected m.points owner) _ (r_injected (omega arith) m.points owner) (λ _. tt)) (λ _. r_call (Task.Rest m.chain) q))
       (λ _. tt) (λ _. tt)
 
-  r_borrowing : 0 < r → (p : Prog Given) → Ranked r p → Ranked r (borrowing p)
-  r_borrowing q p x = handle_ranked r p _ _ x (λ _. then dismiss _ (r_dismiss q) (λ _. tt)) (λ _. then dismiss _ (r_dismiss q) (λ _. tt))
+  r_borrowing : 1 < r → (p : Prog Given) → Ranked r p → Ranked r (borrowing p)
+  r_borrowing q p x = handle_ranked r p _ _ x (λ _. then give_back _ (r_give_back q) (λ _. tt)) (λ _. then give_back _ (r_give_back q) (λ _. tt))
 
   r_observe : 1 < r → (o : Observer) (v : Value) → Ranked r (observe o v)
-  r_observe q o v = r_borrowing (omega arith) (handle (receiver o.bean) (λ n. invoke n o.member (v ∷ []) owners.Borrower) throw) (then (receiver o.bean) (λ n. invoke n o.member (v ∷ []) owners.Borrower) (r_receiver q o.bean) (λ n. r_invoke q n o.member (v ∷ []) owners.Borrower))
+  r_observe q o v = r_borrowing q (handle (receiver o.bean) (λ n. invoke n o.member (v ∷ []) owners.Borrower) throw) (then (receiver o.bean) (λ n. invoke n o.member (v ∷ []) owners.Borrower) (r_receiver q o.bean) (λ n. r_invoke q n o.member (v ∷ []) owners.Borrower))
 
   r_deliver : 1 < r → (o : Observer) (v : Value) → Ranked r (deliver o v)
   r_deliver q o v = then (bean_at o.bean) _ (λ t w. r_present (t.bean o.bean)) λ bean t w. by (is_skipped w o bean)
@@ -178,6 +179,10 @@ r_clear : (c : Context) (o : Option ℕ) → Ranked 1 (clear_of c o)
 r_clear c None = tt
 r_clear c (Some n) = (omega arith, λ x. tt)
 
+r_latest : (o : Option ℕ) → Ranked 1 (dismiss_latest o)
+r_latest None = tt
+r_latest (Some n) = (omega arith, λ x. tt)
+
 r_notify : (os : List Observer) (v : Value) → Ranked (2 + length os) (notify os v)
 r_notify [] v = tt
 r_notify (o ∷ []) v = then 3 (deliver o v) _ (r_deliver 3 (omega arith) o v) (λ _. r_call 3 (Task.Notify [] v) (omega arith))
@@ -208,4 +213,5 @@ machine_ranked (Task.Destroy n) = then 0 (ready_instance n) (λ o. destroying n 
 machine_ranked (Task.Release n) = then 1 (instance n) _ (r_instance 1 n) (λ o. r_release n o.dependents)
 machine_ranked (Task.Fire class qualifiers v) = tt
 machine_ranked (Task.Notify observers v) = r_notify observers v
+machine_ranked Task.Dismiss = then 1 (see λ t w. top w.temporaries) _ (λ t w. r_top 1 w.temporaries) (λ ns. r_latest (latest ns))
 machine_ranked (Task.Clear c) = λ t w. r_clear c _

@@ -1,6 +1,6 @@
 -- Between commands nothing is running.
 use Rattle.std.proofs.Common.{ℕ, suc, ◌≡◌, List, [], ◌∷◌, length, refl, ◌∙◌, ap, Option, Some, None, Bool, true, false}
-use Rattle.std.specs.Prelude.{reverse, nat_lt, ◌^◌, ◌||◌, not, slice_get, remove}
+use Rattle.std.specs.Prelude.{nat_lt, ◌^◌, ◌||◌, not, slice_get, remove}
 use Rattle.cdi_base.specs.declared.value.Value.{Value}
 use Rattle.cdi_base.specs.declared.value.Value.TheVariants as values
 use Rattle.cdi_base.specs.declared.act.Act.{Act}
@@ -39,7 +39,7 @@ use Rattle.cdi_machine.specs.Programs.{ActiveContext, Task, Given, Completion, R
 use Rattle.cdi_machine.specs.Contexts.{contextual, obtain, is_normal, direct, reference, injected, all_injected, stays, living, use_of}
 use Rattle.cdi_machine.specs.DestroyAct.{is_idle, destroy_idle, destroy_held, destroy_by}
 use Rattle.cdi_machine.specs.Bodies.{invoked, provide, invoke, lifecycle, running, is_of, first_of, interceptor_of, rest, body, reference_at, referred, method_in, bean_of, method_of, invoke_method, fits, replace, repeats, proceed, does, find, answer_of, told, after, found, perform, carry_on}
-use Rattle.cdi_machine.specs.Destruction.{dismissed, dismiss, borrowing, receiver, dispose, pre_destroy, farewell, destroy, ready_instance, if_ready, release_of, clear_of}
+use Rattle.cdi_machine.specs.Destruction.{latest, dismiss_latest, give_back, borrowing, receiver, dispose, pre_destroy, farewell, destroy, ready_instance, if_ready, release_of, clear_of}
 use Rattle.cdi_machine.specs.Creation.{discard, created, creating, new, construct, inject, step, produced, accept, produce, first_fields, made_by, create, intercept}
 use Rattle.cdi_machine.specs.Events.{fire, observe, deliver, notify, is_skipped, context_event, container_event, qualifier}
 use Rattle.cdi_machine.specs.Commands.{Command, task, standing_alone_in, close, begin_session, begin, end_session, end, invalidate, used, end_alone, shutdown, requests_of, sessions_of, is_new, is_used}
@@ -180,15 +180,15 @@ module _ (h : Height) where
       let k : Height = record h { invocations = suc h.invocations } in
       steady k h k p _ _ (q k) (λ _. refl) (λ _. refl)
 
-  l_dismiss : Steady h (record h { temporaries = suc h.temporaries }) dismiss
-  l_dismiss =
+  l_give_back : Steady h (record h { temporaries = suc h.temporaries }) give_back
+  l_give_back =
       let k : Height = record h { temporaries = suc h.temporaries } in
-      steady k h k dismissed _ _ (then k (see λ t w. top w.temporaries) _ (λ t w. l_top k w.temporaries) (λ ns. l_each k (reverse ns) _ (λ n. l_call k (Task.Destroy n)))) (λ _. refl) (λ _. refl)
+      steady k h k (call Task.Dismiss) _ _ (l_call k Task.Dismiss) (λ _. refl) (λ _. refl)
 
   l_borrowing : (p : Prog Given) → ((k : Height) → Steady k k p) → Steady h h (borrowing p)
   l_borrowing p q =
       let k : Height = record h { temporaries = suc h.temporaries } in
-      steady k h k p _ _ (q k) (λ a. steady h h k dismiss _ _ l_dismiss (λ _. refl) (λ _. refl)) (λ x. steady h h k dismiss _ _ l_dismiss (λ _. refl) (λ _. refl))
+      steady k h k p _ _ (q k) (λ a. steady h h k give_back _ _ l_give_back (λ _. refl) (λ _. refl)) (λ x. steady h h k give_back _ _ l_give_back (λ _. refl) (λ _. refl))
 
   l_invoke : (n : ℕ) (m : Member) (args : List Value) (owner : Owner) → Steady h h (invoke n m args owner)
   l_invoke n m args owner = l_invoked n roles.AroundInvoke (m ∷ []) args (handle (provide m.points owner) (λ _. call (Task.Rest m.chain)) throw) (λ k. then k (provide m.points owner) (λ _. call (Task.Rest m.chain)) (l_provide k m.points owner) (λ _. l_call k (Task.Rest m.chain)))
@@ -324,6 +324,10 @@ module _ (h : Height) where
   l_release n [] = refl
   l_release n (d ∷ ns) = then h (picked (d ∷ ns)) _ (l_picked h (d ∷ ns)) λ i. then h (present (slice_get (d ∷ ns) i)) _ (l_present h _) λ x. then h (call (Task.Destroy x)) (λ _. call (Task.Release n)) (l_call h (Task.Destroy x)) (λ _. l_call h (Task.Release n))
 
+  l_latest : (o : Option ℕ) → Steady h h (dismiss_latest o)
+  l_latest None = refl
+  l_latest (Some n) = then h (call (Task.Destroy n)) (λ _. call Task.Dismiss) (l_call h (Task.Destroy n)) (λ _. l_call h Task.Dismiss)
+
   l_clear : (c : Context) (o : Option ℕ) → Steady h h (clear_of c o)
   l_clear c None = refl
   l_clear c (Some n) = then h (call (Task.Destroy n)) (λ _. call (Task.Clear c)) (l_call h (Task.Destroy n)) (λ _. l_call h (Task.Clear c))
@@ -429,6 +433,7 @@ tasks_level (Task.Destroy n) h = l_destroy h n
 tasks_level (Task.Release n) h = then h (instance n) _ (l_instance h n) (λ o. l_release h n o.dependents)
 tasks_level (Task.Fire class qualifiers v) h = l_fire h class qualifiers v
 tasks_level (Task.Notify os v) h = l_notify h os v
+tasks_level Task.Dismiss h = then h (see λ t w. top w.temporaries) _ (λ t w. l_top h w.temporaries) (λ ns. l_latest h (latest ns))
 tasks_level (Task.Clear c) h = λ t w. l_clear h c _
 
 -- ---- commands

@@ -29,6 +29,7 @@ rank (Task.Destroy n) = 0
 rank (Task.Release n) = 1
 rank (Task.Fire class qualifiers v) = 0
 rank (Task.Notify observers v) = 2 + length observers
+rank Task.Dismiss = 1
 rank (Task.Clear c) = 1
 
 -- a destruction that gives something has written an entry
@@ -47,6 +48,7 @@ unless_map (Task.Destroy n) f q = λ x. f (Threw x) (q x)
 unless_map (Task.Release n) f q = λ c. f c (q c)
 unless_map (Task.Fire class qualifiers v) f q = λ c. f c (q c)
 unless_map (Task.Notify observers v) f q = λ c. f c (q c)
+unless_map Task.Dismiss f q = λ c. f c (q c)
 unless_map (Task.Clear c) f q = λ c. f c (q c)
 
 -- before the next entry only tasks below the rank are called
@@ -156,6 +158,7 @@ module _ (tables : Tables) (legal : Legal) (served : IsServed legal) where
   after_call n h r (Task.Release m) k w u (Completes c) l a x f = let g = goes_room (goes tables legal ⊥ a) in f c (x c) (omega arith)
   after_call n h r (Task.Fire class qualifiers v) k w u (Completes c) l a x f = let g = goes_room (goes tables legal ⊥ a) in f c (x c) (omega arith)
   after_call n h r (Task.Notify observers v) k w u (Completes c) l a x f = let g = goes_room (goes tables legal ⊥ a) in f c (x c) (omega arith)
+  after_call n h r Task.Dismiss k w u (Completes c) l a x f = let g = goes_room (goes tables legal ⊥ a) in f c (x c) (omega arith)
   after_call n h r (Task.Clear d) k w u (Completes c) l a x f = let g = goes_room (goes tables legal ⊥ a) in f c (x c) (omega arith)
 
   -- a ranked program, where the tasks below its rank end

@@ -1,6 +1,6 @@
 -- The programs that are plain.
 use Rattle.std.proofs.Common.{ℕ, List, [], ◌∷◌, Option, Some, None, Bool, true, false}
-use Rattle.std.specs.Prelude.{reverse, ◌||◌, not, slice_get, remove}
+use Rattle.std.specs.Prelude.{◌||◌, not, slice_get, remove}
 use Rattle.cdi_base.specs.declared.value.Value.{Value}
 use Rattle.cdi_base.specs.declared.value.Value.TheVariants as values
 use Rattle.cdi_base.specs.declared.act.Act.{Act}
@@ -33,11 +33,11 @@ use Rattle.cdi_store.specs.declared.references.Reference.TheVariants.{Empty as N
 use Rattle.cdi_machine.specs.Words.{Name, Asked}
 use Rattle.cdi_machine.specs.Tables.{Member, Lifecycle, Step, Source, Product, Kind, Bean, Observer, Resolution, One, Nothing, Many}
 use Rattle.cdi_machine.specs.World.{World, Change, instance_at}
-use Rattle.cdi_machine.specs.Programs.{ActiveContext, Task, Given, Completion, Running, Prog, ret, throw, see, handle, quietly, attempt, present, require, call, finished, raise, done, alter, each, top, picked, active_or_raise, context, one, resolved, rethrow, number_given, bean_at, interceptor_at, lookup_at, instance, invocation}
+use Rattle.cdi_machine.specs.Programs.{ActiveContext, Task, Given, Completion, Running, Prog, ret, throw, handle, quietly, attempt, present, require, call, finished, raise, done, alter, each, top, picked, active_or_raise, context, one, resolved, rethrow, number_given, bean_at, interceptor_at, lookup_at, instance, invocation}
 use Rattle.cdi_machine.specs.Contexts.{contextual, obtain, is_normal, direct, reference, injected, all_injected, stays, living, use_of}
 use Rattle.cdi_machine.specs.DestroyAct.{is_idle, destroy_idle, destroy_held, destroy_by}
 use Rattle.cdi_machine.specs.Bodies.{invoked, provide, invoke, lifecycle, running, is_of, first_of, interceptor_of, rest, reference_at, referred, method_in, bean_of, method_of, invoke_method, fits, replace, repeats, proceed, does, find, answer_of, told, after, found, perform, carry_on}
-use Rattle.cdi_machine.specs.Destruction.{dismissed, dismiss, borrowing, receiver, dispose, pre_destroy, farewell, release_of, clear_of}
+use Rattle.cdi_machine.specs.Destruction.{dismiss_latest, give_back, borrowing, receiver, dispose, pre_destroy, farewell, release_of, clear_of}
 use Rattle.cdi_machine.specs.Creation.{construct, inject, step, produced, accept, produce, made_by}
 use Rattle.cdi_machine.specs.Events.{fire, observe, deliver, notify, is_skipped, context_event, container_event, qualifier}
 use Rattle.cdi_machine.specs.Commands.{Command, task, standing_alone_in, close, begin_session, begin, end_session, end, invalidate, used, end_alone, shutdown, requests_of, sessions_of, is_new, is_used}
@@ -185,15 +185,15 @@ module _ (h : Height) where
       let k : Height = h in
       steady k h k p _ _ (q k) (λ _. tt) (λ _. tt)
 
-  pub l_dismiss : Steady h (h) dismiss
-  l_dismiss =
+  pub l_give_back : Steady h (h) give_back
+  l_give_back =
       let k : Height = h in
-      steady k h k dismissed _ _ (then k (see λ t w. top w.temporaries) _ (λ t w. l_top k w.temporaries) (λ ns. l_each k (reverse ns) _ (λ n. l_call k (Task.Destroy n)))) (λ _. tt) (λ _. tt)
+      steady k h k (call Task.Dismiss) _ _ (l_call k Task.Dismiss) (λ _. tt) (λ _. tt)
 
   pub l_borrowing : (p : Prog Given) → ((k : Height) → Steady k k p) → Steady h h (borrowing p)
   l_borrowing p q =
       let k : Height = h in
-      steady k h k p _ _ (q k) (λ a. steady h h k dismiss _ _ l_dismiss (λ _. tt) (λ _. tt)) (λ x. steady h h k dismiss _ _ l_dismiss (λ _. tt) (λ _. tt))
+      steady k h k p _ _ (q k) (λ a. steady h h k give_back _ _ l_give_back (λ _. tt) (λ _. tt)) (λ x. steady h h k give_back _ _ l_give_back (λ _. tt) (λ _. tt))
 
   pub l_invoke : (n : ℕ) (m : Member) (args : List Value) (owner : Owner) → Steady h h (invoke n m args owner)
   l_invoke n m args owner = l_invoked n roles.AroundInvoke (m ∷ []) args (handle (provide m.points owner) (λ _. call (Task.Rest m.chain)) throw) (λ k. then k (provide m.points owner) (λ _. call (Task.Rest m.chain)) (l_provide k m.points owner) (λ _. l_call k (Task.Rest m.chain)))
@@ -318,6 +318,10 @@ module _ (h : Height) where
   pub l_release : (n : ℕ) (ns : List ℕ) → Steady h h (release_of n ns)
   l_release n [] = tt
   l_release n (d ∷ ns) = then h (picked (d ∷ ns)) _ (l_picked h (d ∷ ns)) λ i. then h (present (slice_get (d ∷ ns) i)) _ (l_present h _) λ x. then h (call (Task.Destroy x)) (λ _. call (Task.Release n)) (l_call h (Task.Destroy x)) (λ _. l_call h (Task.Release n))
+
+  pub l_latest : (o : Option ℕ) → Steady h h (dismiss_latest o)
+  l_latest None = tt
+  l_latest (Some n) = then h (call (Task.Destroy n)) (λ _. call Task.Dismiss) (l_call h (Task.Destroy n)) (λ _. l_call h Task.Dismiss)
 
   pub l_clear : (c : Context) (o : Option ℕ) → Steady h h (clear_of c o)
   l_clear c None = tt

@@ -1,5 +1,5 @@
 -- Destruction, and what lives as long as an invocation.
-use Rattle.std.specs.Prelude.{ℕ, List, [], ◌∷◌, reverse, Option, Some, None, slice_get}
+use Rattle.std.specs.Prelude.{ℕ, List, [], ◌∷◌, Option, Some, None, slice_get}
 use Rattle.cdi_base.specs.declared.value.Value.{Value}
 use Rattle.cdi_base.specs.declared.entry.Entry.TheVariants as entries
 use Rattle.cdi_base.specs.declared.place.InterceptorMethod.TheVariants as roles
@@ -18,20 +18,31 @@ use Rattle.cdi_machine.specs.Bodies.{invoke, lifecycle}
 
 -- ---- temporaries
 
--- destroyed by falling number
-abbrev pub dismissed : Prog Given
-dismissed = do
-  temporaries ← see λ t w. top w.temporaries
-  each (reverse temporaries) λ n. call (Task.Destroy n)
+abbrev pub latest : List ℕ → Option ℕ
+latest [] = None
+latest (n ∷ []) = Some n
+latest (n ∷ ns) = latest ns
 
+abbrev pub dismiss_latest : Option ℕ → Prog Given
+dismiss_latest None = finished
+dismiss_latest (Some n) = do
+  call (Task.Destroy n)
+  call Task.Dismiss
+
+-- the latest of the innermost temporaries, until there is none
 abbrev pub dismiss : Prog Given
-dismiss = finally dismissed (alter Change.Return)
+dismiss = do
+  temporaries ← see λ t w. top w.temporaries
+  dismiss_latest (latest temporaries)
 
--- what is temporary in it is destroyed at its end, also where it throws
+abbrev pub give_back : Prog Given
+give_back = finally (call Task.Dismiss) (alter Change.Return)
+
+-- what is temporary in it is destroyed at its end, also if it throws
 abbrev pub borrowing : Prog Given → Prog Given
 borrowing p = do
   alter Change.Borrow
-  finally p dismiss
+  finally p give_back
 
 -- the instance whose producer, disposer or observer is called
 abbrev pub receiver : ℕ → Prog ℕ

@@ -3,7 +3,7 @@ use Rattle.cdi_machine.specs.Programs.{Task, Given, Prog}
 use Rattle.cdi_machine.specs.Contexts.{obtain}
 use Rattle.cdi_machine.specs.Creation.{create, intercept}
 use Rattle.cdi_machine.specs.Bodies.{rest, body, carry_on}
-use Rattle.cdi_machine.specs.Destruction.{destroy, release, clear}
+use Rattle.cdi_machine.specs.Destruction.{destroy, release, dismiss, clear}
 use Rattle.cdi_machine.specs.Events.{fire, notify}
 
 abbrev pub machine : Task → Prog Given
@@ -17,4 +17,5 @@ machine (Task.Destroy n) = destroy n
 machine (Task.Release n) = release n
 machine (Task.Fire class qualifiers v) = fire class qualifiers v
 machine (Task.Notify observers v) = notify observers v
+machine Task.Dismiss = dismiss
 machine (Task.Clear c) = clear c

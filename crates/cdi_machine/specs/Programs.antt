@@ -54,6 +54,8 @@ pub data Task : Type 0 where
   -- an event, and its delivery to the observers that are left of a group
   Fire : Name → List Use → Value → Task
   Notify : List Observer → Value → Task
+  -- the destruction of the innermost temporaries
+  Dismiss : Task
   -- the destruction of what a context has
   Clear : Context → Task
 
