@@ -33,7 +33,7 @@ use Rattle.cdi_store.specs.declared.references.Reference.{Reference}
 use Rattle.cdi_store.specs.declared.references.Reference.TheVariants.{Direct, Proxy}
 use Rattle.cdi_store.specs.declared.references.Reference.TheVariants.{Empty as NoReference}
 use Rattle.cdi_machine.specs.Words.{Name, Fields, Asked}
-use Rattle.cdi_machine.specs.Tables.{Tables, Member, Lifecycle, Step, Source, Product, Kind, Bean, Observer, Resolution, One, Nothing, Many}
+use Rattle.cdi_machine.specs.Tables.{Tables, Code, Member, Lifecycle, Step, Source, Product, Kind, Bean, Observer, Resolution, One, Nothing, Many}
 use Rattle.cdi_machine.specs.World.{World, Change, instance_at}
 use Rattle.cdi_machine.specs.Programs.{ActiveContext, Task, Given, Completion, Running, Prog, ret, throw, see, handle, quietly, attempt, present, require, call, finished, raise, done, note, alter, each, top, picked, active_or_raise, context, numbered, within_depth, next_number, one, resolved, rethrow, number_given, bean_at, interceptor_at, lookup_at, instance, invocation, finally}
 use Rattle.cdi_machine.specs.Contexts.{contextual, obtain, is_normal, direct, reference, injected, all_injected, stays, living, use_of}
@@ -175,7 +175,7 @@ module _ (h : Height) where
 
 module _ (h : Height) where
   -- in an invocation there is one more
-  l_invoked : (n : ℕ) (role : InterceptorMethod) (members : List Member) (args : List Value) (p : Prog Given) → ((k : Height) → Steady k k p) → Steady h h (invoked n role members args p)
+  l_invoked : (n : ℕ) (role : InterceptorMethod) (members : List Code) (args : List Value) (p : Prog Given) → ((k : Height) → Steady k k p) → Steady h h (invoked n role members args p)
   l_invoked n role members args p q =
       let k : Height = record h { invocations = suc h.invocations } in
       steady k h k p _ _ (q k) (λ _. refl) (λ _. refl)
@@ -191,9 +191,9 @@ module _ (h : Height) where
       steady k h k p _ _ (q k) (λ a. steady h h k give_back _ _ l_give_back (λ _. refl) (λ _. refl)) (λ x. steady h h k give_back _ _ l_give_back (λ _. refl) (λ _. refl))
 
   l_invoke : (n : ℕ) (m : Member) (args : List Value) (owner : Owner) → Steady h h (invoke n m args owner)
-  l_invoke n m args owner = l_invoked n roles.AroundInvoke (m ∷ []) args (handle (provide m.points owner) (λ _. call (Task.Rest m.chain)) throw) (λ k. then k (provide m.points owner) (λ _. call (Task.Rest m.chain)) (l_provide k m.points owner) (λ _. l_call k (Task.Rest m.chain)))
+  l_invoke n m args owner = l_invoked n roles.AroundInvoke (m.code ∷ []) args (handle (provide m.points owner) (λ _. call (Task.Rest m.chain)) throw) (λ k. then k (provide m.points owner) (λ _. call (Task.Rest m.chain)) (l_provide k m.points owner) (λ _. l_call k (Task.Rest m.chain)))
 
-  l_lifecycle : (n : ℕ) (role : InterceptorMethod) (callbacks : List Member) (chain : List ℕ) → Steady h h (lifecycle n role callbacks chain)
+  l_lifecycle : (n : ℕ) (role : InterceptorMethod) (callbacks : List Code) (chain : List ℕ) → Steady h h (lifecycle n role callbacks chain)
   l_lifecycle n role callbacks chain = l_invoked n role callbacks [] (call (Task.Rest chain)) (λ k. l_call k (Task.Rest chain))
 
   l_receiver : (b : ℕ) → Steady h h (receiver b)
@@ -238,7 +238,7 @@ module _ (h : Height) where
   l_method_of n name = then h (instance n) _ (l_instance h n) λ o. then h (bean_of o.component) _ (l_bean_of o.component) λ bean. l_method_in bean.kind name
 
   l_invoke_method : (n : ℕ) (name : Name) (args : List Value) → Steady h h (invoke_method n name args)
-  l_invoke_method n name args = then h (method_of n name) _ (l_method_of n name) (λ m. l_invoke n m args owners.Borrower)
+  l_invoke_method n name args = then h (method_of n name) _ (l_method_of n name) (λ m. l_invoked n roles.AroundInvoke (m.code ∷ []) args (call (Task.Rest m.chain)) (λ k. l_call k (Task.Rest m.chain)))
 
   l_replace : (args : Option (List Value)) → Steady h h (replace args)
   l_replace None = refl
@@ -254,7 +254,7 @@ module _ (h : Height) where
   l_does : (r : Running) (a : Act) → Steady h h (does r a)
   l_does r (acts.Set field v) = refl
   l_does r (acts.Call via name args) = then h (referred r via) _ (l_referred r via) λ x. then h (use_of x) _ (l_use h x) λ n. l_invoke_method n name args
-  l_does r (acts.Own name args) = then h (method_of r.instance name) _ (l_method_of r.instance name) (λ m. l_call h (Task.Body (running r.instance m.place m.body args [] [])))
+  l_does r (acts.Own name args) = then h (method_of r.instance name) _ (l_method_of r.instance name) (λ m. l_call h (Task.Body (running r.instance m.code.place m.code.body args [] [])))
   l_does r (acts.Read via) = then h (referred r via) _ (l_referred r via) λ x. then h (use_of x) _ (l_use h x) λ n. then h (instance n) _ (l_instance h n) (λ _. refl)
   l_does r (acts.Write via v) = then h (referred r via) _ (l_referred r via) λ x. then h (use_of x) _ (l_use h x) (λ n. refl)
   l_does r (acts.Fire class qualifiers v) = l_call h (Task.Fire class qualifiers v)
@@ -368,13 +368,13 @@ module _ (h : Height) where
   l_step n (Step.Intercept i) = l_call h (Task.Intercept i n)
   l_step n (Step.Construct points chain) = l_construct n points chain
   l_step n (Step.Inject field point) = l_inject n field point
-  l_step n (Step.Initialize m) = then h (all_injected m.points (owners.Instance n)) (λ rs. call (Task.Body (running n m.place m.body [] rs []))) (l_all_injected h m.points (owners.Instance n)) (λ rs. l_call h (Task.Body (running n m.place m.body [] rs [])))
+  l_step n (Step.Initialize m points) = then h (all_injected points (owners.Instance n)) (λ rs. call (Task.Body (running n m.place m.body [] rs []))) (l_all_injected h points (owners.Instance n)) (λ rs. l_call h (Task.Body (running n m.place m.body [] rs [])))
   l_step n (Step.Complete chain) = l_lifecycle h n roles.PostConstruct chain.callbacks chain.chain
 
 module _ (h : Height) where
   l_produced : (n m : ℕ) (s : Source) → Steady h h (produced n m s)
-  l_produced n m (Source.Method producer) = l_invoke h m producer [] (owners.Instance n)
-  l_produced n m (Source.ValueField field) = then h (instance m) _ (l_instance h m) λ o. then h (present (at o.fields field)) _ (l_present h _) (λ _. refl)
+  l_produced n m (Source.ProducerMethod producer) = l_invoke h m producer [] (owners.Instance n)
+  l_produced n m (Source.ProducerField field) = then h (instance m) _ (l_instance h m) λ o. then h (present (at o.fields field)) _ (l_present h _) (λ _. refl)
 
   l_accept : (b : Bool) (n : ℕ) (g : Given) → Steady h h (accept b n g)
   l_accept true n (Given.Result values.Null) = refl

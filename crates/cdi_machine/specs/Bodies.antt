@@ -23,7 +23,7 @@ use Rattle.cdi_store.specs.declared.references.Reference.{Reference}
 use Rattle.cdi_store.specs.declared.references.Reference.TheVariants.{Empty as NoReference}
 use Rattle.cdi_store.specs.declared.instance.Instance.{Instance}
 use Rattle.cdi_machine.specs.Words.{Name, Asked}
-use Rattle.cdi_machine.specs.Tables.{Member, Bean, Kind}
+use Rattle.cdi_machine.specs.Tables.{Code, Method, Member, Bean, Kind}
 use Rattle.cdi_machine.specs.World.{World, Change, instance_at}
 use Rattle.cdi_machine.specs.Programs.{Running, Task, Given, Result, Completion, Gave, Threw, Prog, ret, throw, see, act, attempt, finally, done, missing, present, call, finished, require, note, alter, each, bean_at, interceptor_at, lookup_at, text_of, instance, invocation, deeper, resolved, ◌>>=◌, ◌>>◌}
 use Rattle.cdi_machine.specs.Contexts.{reference, all_injected, use_of}
@@ -31,9 +31,9 @@ use Rattle.cdi_machine.specs.DestroyAct.{destroy_by}
 
 -- ---- invocations
 
--- Members, or other bodies, of the target, round which a chain stands. The target is invoked from here on, also while the
+-- Bodies of the target, round which a chain stands. The target is invoked from here on, also while the
 -- parameters are obtained.
-abbrev pub invoked : ℕ → InterceptorMethod → List Member → List Value → Prog Given → Prog Given
+abbrev pub invoked : ℕ → InterceptorMethod → List Code → List Value → Prog Given → Prog Given
 invoked n role members args p = do
   alter (Change.Enter (record { target = n; role = role; members = members; parameters = args; references = []; data_of = []; completed = false }))
   finally p (alter Change.Exit)
@@ -45,12 +45,12 @@ provide points owner = do
 
 -- a member through its chain; the dependents of its parameters belong to the owner
 abbrev pub invoke : ℕ → Member → List Value → Owner → Prog Given
-invoke n m args owner = invoked n roles.AroundInvoke (m ∷ []) args do
+invoke n m args owner = invoked n roles.AroundInvoke (m.code ∷ []) args do
   provide m.points owner
   call (Task.Rest m.chain)
 
 -- the callbacks through their chain
-abbrev pub lifecycle : ℕ → InterceptorMethod → List Member → List ℕ → Prog Given
+abbrev pub lifecycle : ℕ → InterceptorMethod → List Code → List ℕ → Prog Given
 lifecycle n role callbacks chain = invoked n role callbacks [] (call (Task.Rest chain))
 
 -- ---- chains
@@ -116,7 +116,7 @@ referred r (vias.Field name) = do
 referred r (vias.Param k) = ret (reference_at (slice_get r.references k))
 referred r (vias.Local k) = ret (reference_at (at r.locals k))
 
-abbrev pub method_in : Kind → Name → Prog Member
+abbrev pub method_in : Kind → Name → Prog Method
 method_in (Kind.Class c) name = present (at c.methods name)
 method_in (Kind.Producer p) name = missing
 
@@ -124,7 +124,7 @@ abbrev pub bean_of : Component → Prog Bean
 bean_of (components.Bean b) = bean_at b
 bean_of (components.Interceptor i) = missing
 
-abbrev pub method_of : ℕ → Name → Prog Member
+abbrev pub method_of : ℕ → Name → Prog Method
 method_of n name = do
   o ← instance n
   bean ← bean_of o.component
@@ -133,7 +133,7 @@ method_of n name = do
 abbrev pub invoke_method : ℕ → Name → List Value → Prog Given
 invoke_method n name args = do
   m ← method_of n name
-  invoke n m args owners.Borrower
+  invoked n roles.AroundInvoke (m.code ∷ []) args (call (Task.Rest m.chain))
 
 abbrev pub fits : List Value → Option (List Value) → Bool
 fits parameters None = true
@@ -170,7 +170,7 @@ does r (acts.Call via name args) = do
   invoke_method n name args
 does r (acts.Own name args) = do
   m ← method_of r.instance name
-  call (Task.Body (running r.instance m.place m.body args [] []))
+  call (Task.Body (running r.instance m.code.place m.code.body args [] []))
 does r (acts.Read via) = do
   reference ← referred r via
   n ← use_of reference

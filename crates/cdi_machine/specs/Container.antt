@@ -8,7 +8,7 @@ use Rattle.cdi_base.specs.declared.reply.Refusal.TheVariants as refusals
 use Rattle.cdi_base.specs.Maps.{at}
 use Rattle.cdi_contexts.specs.Contexts.{Contexts, session_in}
 use Rattle.cdi_machine.specs.Words.{Name}
-use Rattle.cdi_machine.specs.Tables.{Tables, Member, Kind, Bean, Resolution, One}
+use Rattle.cdi_machine.specs.Tables.{Tables, Method, Kind, Bean, Resolution, One}
 use Rattle.cdi_machine.specs.World.{World, begun, before_boot}
 use Rattle.cdi_machine.specs.Programs.{Given, Result, Completion}
 use Rattle.cdi_machine.specs.Commands.{Command, task, is_open, is_new}
@@ -58,11 +58,11 @@ refused_by_contexts c (Command.Read r asked) = (lacks_request c r, refusals.NoRe
 refused_by_contexts c (Command.Fire r class qualifiers v) = (lacks_request c r, refusals.NoRequest) ∷ []
 refused_by_contexts c _ = []
 
-abbrev pub no_method : Option Member → Bool
+abbrev pub no_method : Option Method → Bool
 no_method None = true
 no_method (Some m) = false
 
-abbrev pub wrong_count : Option Member → ℕ → Bool
+abbrev pub wrong_count : Option Method → ℕ → Bool
 wrong_count None n = false
 wrong_count (Some m) n = not (nat_eq m.count n)
 

@@ -13,7 +13,7 @@ use Rattle.cdi_store.specs.declared.instance.Component.TheVariants as components
 use Rattle.cdi_store.specs.declared.instance.Owner.{Owner}
 use Rattle.cdi_store.specs.declared.instance.Owner.TheVariants as owners
 use Rattle.cdi_machine.specs.Words.{Name, Fields, Asked}
-use Rattle.cdi_machine.specs.Tables.{Member, Lifecycle, Step, Source, Product, Kind, Bean}
+use Rattle.cdi_machine.specs.Tables.{Code, Lifecycle, Step, Source, Product, Kind, Bean}
 use Rattle.cdi_machine.specs.World.{Change}
 use Rattle.cdi_machine.specs.Programs.{Task, Given, Result, Number, Prog, ret, handle, present, call, finished, raise, require, note, alter, each, bean_at, interceptor_at, instance, invocation, next_number, rethrow, ◌>>=◌, ◌>>◌}
 use Rattle.cdi_machine.specs.Programs.Given.{Empty as NoInstance}
@@ -72,23 +72,23 @@ inject n field point = do
   alter (Change.Refer n field r)
   finished
 
-abbrev pub initialize : ℕ → Member → Prog Given
-initialize n m = do
-  rs ← all_injected m.points (owners.Instance n)
+abbrev pub initialize : ℕ → Code → List Asked → Prog Given
+initialize n m points = do
+  rs ← all_injected points (owners.Instance n)
   call (Task.Body (running n m.place m.body [] rs []))
 
 abbrev pub step : ℕ → Step → Prog Given
 step n (Step.Intercept i) = call (Task.Intercept i n)
 step n (Step.Construct points chain) = construct n points chain
 step n (Step.Inject field point) = inject n field point
-step n (Step.Initialize m) = initialize n m
+step n (Step.Initialize m points) = initialize n m points
 step n (Step.Complete chain) = lifecycle n roles.PostConstruct chain.callbacks chain.chain
 
 -- ---- a product
 
 abbrev pub produced : ℕ → ℕ → Source → Prog Given
-produced n m (Source.Method producer) = invoke m producer [] (owners.Instance n)
-produced n m (Source.ValueField field) = do
+produced n m (Source.ProducerMethod producer) = invoke m producer [] (owners.Instance n)
+produced n m (Source.ProducerField field) = do
   o ← instance m
   v ← present (at o.fields field)
   ret (Result v)

@@ -17,7 +17,7 @@ use Rattle.cdi_base.specs.BuiltIn.{number_of}
 use Rattle.cdi_base.specs.Maps.{Map, at}
 use Rattle.cdi_bodies.specs.Shape.{use_eq}
 use Rattle.cdi_machine.specs.Words.{Name, Asked}
-use Rattle.cdi_machine.specs.Tables.{Tables, Member, Lifecycle, Managed, Product, Kind, Bean, Interceptor, Observer, Resolution, Nothing}
+use Rattle.cdi_machine.specs.Tables.{Tables, Code, Method, Member, Lifecycle, Managed, Product, Kind, Bean, Interceptor, Observer, Resolution, Nothing}
 use Rattle.cdi_machine.specs.Scripts.{next, Step as Steps}
 use Rattle.cdi_machine.specs.Commands.{Command}
 use Rattle.cdi_machine.specs.Container.{Said, Plays, unstarted}
@@ -108,11 +108,17 @@ asked type = record { type = type; qualifiers = [] }
 abbrev pub no_chain : Lifecycle
 no_chain = record { chain = []; callbacks = [] }
 
-abbrev pub member : Name → Name → ℕ → ℕ → List Asked → List ℕ → Member
-member class name body count points chain = record { place = places.Member class name; body = body; count = count; points = points; chain = chain }
+abbrev pub code : Name → Name → ℕ → Code
+code class name body = record { place = places.Member class name; body = body }
 
-abbrev pub constructor_of : Name → ℕ → Member
-constructor_of class body = record { place = places.Constructor class; body = body; count = 0; points = []; chain = [] }
+abbrev pub method : Name → Name → ℕ → ℕ → List ℕ → Method
+method class name body count chain = record { code = code class name body; count = count; chain = chain }
+
+abbrev pub member : Name → Name → ℕ → List Asked → List ℕ → Member
+member class name body points chain = record { code = code class name body; points = points; chain = chain }
+
+abbrev pub constructor_of : Name → ℕ → Code
+constructor_of class body = record { place = places.Constructor class; body = body }
 
 -- a class with its plan
 abbrev pub managed : Name → Scope → Managed → Bean

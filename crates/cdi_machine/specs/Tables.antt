@@ -6,19 +6,29 @@ use Rattle.cdi_base.specs.declared.scope.Scope.{Scope}
 use Rattle.cdi_base.specs.declared.uses.Use.{Use}
 use Rattle.cdi_machine.specs.Words.{Name, Fields, Asked}
 
--- A member with a body, as a bean has it: its parameters' points, and the interceptors of its chain, in order. The count
--- is that of the values that a method takes.
-pub record Member : Type 0 where
+-- a body, and the member that it is of
+pub record Code : Type 0 where
   pub place : Place
   pub body : ℕ
+
+-- A business method, as a bean has it: how many values it takes, and the interceptors of its chain, in order. It has no
+-- injected parameters.
+pub record Method : Type 0 where
+  pub code : Code
   pub count : ℕ
+  pub chain : List ℕ
+
+-- A producer, a disposer or an observer, as a bean has it: its parameters' points, and the interceptors of its chain, in
+-- order.
+pub record Member : Type 0 where
+  pub code : Code
   pub points : List Asked
   pub chain : List ℕ
 
 -- a lifecycle chain, and the callbacks at its end
 pub record Lifecycle : Type 0 where
   pub chain : List ℕ
-  pub callbacks : List Member
+  pub callbacks : List Code
 
 -- the steps by which a managed bean is created
 pub data Step : Type 0 where
@@ -28,8 +38,8 @@ pub data Step : Type 0 where
   Construct : List Asked → Lifecycle → Step
   -- an injected field
   Inject : Name → Asked → Step
-  -- an initializer
-  Initialize : Member → Step
+  -- an initializer, and the points of its parameters
+  Initialize : Code → List Asked → Step
   -- the post-construct chain and callbacks
   Complete : Lifecycle → Step
 
@@ -37,13 +47,13 @@ pub data Step : Type 0 where
 pub record Managed : Type 0 where
   pub fields : Fields
   pub plan : List Step
-  pub methods : List (Name × Member)
+  pub methods : List (Name × Method)
   pub pre_destroy : Lifecycle
 
 -- where a product comes from
 pub data Source : Type 0 where
-  Method : Member → Source
-  ValueField : Name → Source
+  ProducerMethod : Member → Source
+  ProducerField : Name → Source
 
 pub record Product : Type 0 where
   pub declaring : ℕ

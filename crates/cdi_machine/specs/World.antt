@@ -16,13 +16,13 @@ use Rattle.cdi_contexts.specs.declared.context.Held.{Held}
 use Rattle.cdi_contexts.specs.declared.context.Held.TheVariants.{Making, Is}
 use Rattle.cdi_contexts.specs.Contexts.{Contexts, Environment, with_request, with_session, with_ending, without_context, with_mark, with_held, with_nothing, at_boot}
 use Rattle.cdi_machine.specs.Words.{Name, Fields}
-use Rattle.cdi_machine.specs.Tables.{Member}
+use Rattle.cdi_machine.specs.Tables.{Code}
 
--- A member, or the bodies at the end of another chain, under way on the target.
+-- Bodies under way on the target, at the end of a chain.
 pub record Invocation : Type 0 where
   pub target : ℕ
   pub role : InterceptorMethod
-  pub members : List Member
+  pub members : List Code
   pub parameters : List Value
   pub references : List Reference
   -- the context data

@@ -13,7 +13,7 @@ use Rattle.cdi_machine.specs.Tables.{Step, One}
 use Rattle.cdi_machine.specs.Commands.{Command}
 use Rattle.cdi_machine.specs.Container.{Said}
 use Rattle.cdi_machine.specs.Scripts.{Last, find, destroy, give, catch}
-use Rattle.cdi_machine.specs.Deployments.{Deployment, asked, no_chain, member, constructor_of, managed, of_context, of_container, first_chosen, Shows}
+use Rattle.cdi_machine.specs.Deployments.{Deployment, asked, no_chain, constructor_of, managed, of_context, of_container, first_chosen, Shows, member}
 
 abbrev E : Name
 E = 20
@@ -40,7 +40,7 @@ deployment =
       interceptors = [];
       types = (D, One 1) ∷ (O, One 0) ∷ [];
       written = [];
-      observed = (E, [], ((record { bean = 0; member = member O o body_nop 0 (asked D ∷ []) []; conditional = false }) ∷ []) ∷ []) ∷ [];
+      observed = (E, [], ((record { bean = 0; member = member O o body_nop (asked D ∷ []) []; conditional = false }) ∷ []) ∷ []) ∷ [];
       events = E ∷ [];
       scripts = (find 0 ∷ destroy 0 ∷ catch (give Last) ∷ [], asked O ∷ []) ∷ ([], []) ∷ [];
       checked = [];

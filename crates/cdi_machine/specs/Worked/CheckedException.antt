@@ -12,7 +12,7 @@ use Rattle.cdi_machine.specs.Tables.{Step, One}
 use Rattle.cdi_machine.specs.Commands.{Command}
 use Rattle.cdi_machine.specs.Container.{Said}
 use Rattle.cdi_machine.specs.Scripts.{throw}
-use Rattle.cdi_machine.specs.Deployments.{Deployment, asked, no_chain, member, constructor_of, managed, of_context, of_container, first_chosen, Shows}
+use Rattle.cdi_machine.specs.Deployments.{Deployment, asked, no_chain, constructor_of, managed, of_context, of_container, first_chosen, Shows, code, method}
 
 abbrev A : Name
 A = 20
@@ -44,7 +44,7 @@ body_nop = 1
 abbrev pub deployment : Deployment
 deployment =
     record {
-      beans = managed A scopes.ApplicationScoped (record { fields = []; plan = Step.Construct (asked D ∷ []) (record { chain = []; callbacks = constructor_of A body_chk ∷ [] }) ∷ Step.Inject d (asked D) ∷ Step.Initialize (member A i body_nop 0 (asked D ∷ []) []) ∷ Step.Complete (record { chain = []; callbacks = member A p body_nop 0 [] [] ∷ [] }) ∷ []; methods = (m, member A m body_nop 0 [] []) ∷ []; pre_destroy = no_chain }) ∷ managed D scopes.Dependent (record { fields = []; plan = Step.Construct [] no_chain ∷ Step.Complete no_chain ∷ []; methods = []; pre_destroy = no_chain }) ∷ [];
+      beans = managed A scopes.ApplicationScoped (record { fields = []; plan = Step.Construct (asked D ∷ []) (record { chain = []; callbacks = constructor_of A body_chk ∷ [] }) ∷ Step.Inject d (asked D) ∷ Step.Initialize (code A i body_nop) (asked D ∷ []) ∷ Step.Complete (record { chain = []; callbacks = code A p body_nop ∷ [] }) ∷ []; methods = (m, method A m body_nop 0 []) ∷ []; pre_destroy = no_chain }) ∷ managed D scopes.Dependent (record { fields = []; plan = Step.Construct [] no_chain ∷ Step.Complete no_chain ∷ []; methods = []; pre_destroy = no_chain }) ∷ [];
       interceptors = [];
       types = (A, One 0) ∷ (D, One 1) ∷ [];
       written = [];

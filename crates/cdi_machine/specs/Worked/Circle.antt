@@ -13,7 +13,7 @@ use Rattle.cdi_machine.specs.Tables.{Step, One}
 use Rattle.cdi_machine.specs.Commands.{Command}
 use Rattle.cdi_machine.specs.Container.{Said}
 use Rattle.cdi_machine.specs.Scripts.{call}
-use Rattle.cdi_machine.specs.Deployments.{Deployment, asked, no_chain, member, managed, of_context, of_container, first_chosen, Shows}
+use Rattle.cdi_machine.specs.Deployments.{Deployment, asked, no_chain, managed, of_context, of_container, first_chosen, Shows, code, method}
 
 abbrev A : Name
 A = 20
@@ -45,7 +45,7 @@ body_m = 2
 abbrev pub deployment : Deployment
 deployment =
     record {
-      beans = managed A scopes.ApplicationScoped (record { fields = []; plan = Step.Construct [] no_chain ∷ Step.Inject b (asked B) ∷ Step.Complete (record { chain = []; callbacks = member A p body_p 0 [] [] ∷ [] }) ∷ []; methods = (m, member A m body_nop 0 [] []) ∷ []; pre_destroy = no_chain }) ∷ managed B scopes.ApplicationScoped (record { fields = []; plan = Step.Construct [] no_chain ∷ Step.Inject a (asked A) ∷ Step.Complete no_chain ∷ []; methods = (m, member B m body_m 0 [] []) ∷ []; pre_destroy = no_chain }) ∷ [];
+      beans = managed A scopes.ApplicationScoped (record { fields = []; plan = Step.Construct [] no_chain ∷ Step.Inject b (asked B) ∷ Step.Complete (record { chain = []; callbacks = code A p body_p ∷ [] }) ∷ []; methods = (m, method A m body_nop 0 []) ∷ []; pre_destroy = no_chain }) ∷ managed B scopes.ApplicationScoped (record { fields = []; plan = Step.Construct [] no_chain ∷ Step.Inject a (asked A) ∷ Step.Complete no_chain ∷ []; methods = (m, method B m body_m 0 []) ∷ []; pre_destroy = no_chain }) ∷ [];
       interceptors = [];
       types = (A, One 0) ∷ (B, One 1) ∷ [];
       written = [];

@@ -13,7 +13,7 @@ use Rattle.cdi_machine.specs.Tables.{Step}
 use Rattle.cdi_machine.specs.Commands.{Command}
 use Rattle.cdi_machine.specs.Container.{Said}
 use Rattle.cdi_machine.specs.Scripts.{throw}
-use Rattle.cdi_machine.specs.Deployments.{Deployment, no_chain, member, managed, of_context, of_container, first_chosen, Shows}
+use Rattle.cdi_machine.specs.Deployments.{Deployment, no_chain, managed, of_context, of_container, first_chosen, Shows, member}
 
 abbrev r : List ℕ
 r = codes "r"
@@ -37,7 +37,7 @@ deployment =
       interceptors = [];
       types = [];
       written = [];
-      observed = (number_of built_in.Object, ((record { name = number_of built_in.Initialized; members = record { name = number_of built_in.Value; value = values.Text (codes "RequestScoped") } ∷ [] }) ∷ []), ((record { bean = 0; member = member L o body_oops 0 [] []; conditional = false }) ∷ []) ∷ []) ∷ [];
+      observed = (number_of built_in.Object, ((record { name = number_of built_in.Initialized; members = record { name = number_of built_in.Value; value = values.Text (codes "RequestScoped") } ∷ [] }) ∷ []), ((record { bean = 0; member = member L o body_oops [] []; conditional = false }) ∷ []) ∷ []) ∷ [];
       events = [];
       scripts = (throw Oops ∷ [], []) ∷ [];
       checked = [];

@@ -11,7 +11,7 @@ use Rattle.cdi_machine.specs.Words.{Name}
 use Rattle.cdi_machine.specs.Tables.{Step, One}
 use Rattle.cdi_machine.specs.Commands.{Command}
 use Rattle.cdi_machine.specs.Container.{Said}
-use Rattle.cdi_machine.specs.Deployments.{Deployment, asked, no_chain, member, managed, of_context, of_container, first_chosen, Shows}
+use Rattle.cdi_machine.specs.Deployments.{Deployment, asked, no_chain, managed, of_context, of_container, first_chosen, Shows, member}
 
 abbrev E : Name
 E = 20
@@ -35,7 +35,7 @@ deployment =
       interceptors = [];
       types = (P, One 1) ∷ [];
       written = [];
-      observed = (E, [], ((record { bean = 0; member = member D o body_nop 0 (asked P ∷ []) []; conditional = false }) ∷ []) ∷ []) ∷ [];
+      observed = (E, [], ((record { bean = 0; member = member D o body_nop (asked P ∷ []) []; conditional = false }) ∷ []) ∷ []) ∷ [];
       events = E ∷ [];
       scripts = ([], []) ∷ [];
       checked = [];

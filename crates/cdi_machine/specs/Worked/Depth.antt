@@ -12,7 +12,7 @@ use Rattle.cdi_machine.specs.Tables.{Step, One}
 use Rattle.cdi_machine.specs.Commands.{Command}
 use Rattle.cdi_machine.specs.Container.{Said}
 use Rattle.cdi_machine.specs.Scripts.{find}
-use Rattle.cdi_machine.specs.Deployments.{Deployment, asked, no_chain, member, managed, of_context, of_container, first_chosen, Shows}
+use Rattle.cdi_machine.specs.Deployments.{Deployment, asked, no_chain, managed, of_context, of_container, first_chosen, Shows, code, method}
 
 abbrev R : Name
 R = 20
@@ -32,7 +32,7 @@ body_nop = 1
 abbrev pub deployment : Deployment
 deployment =
     record {
-      beans = managed R scopes.Dependent (record { fields = []; plan = Step.Construct [] no_chain ∷ Step.Complete (record { chain = []; callbacks = member R p body_p 0 [] [] ∷ [] }) ∷ []; methods = (m, member R m body_nop 0 [] []) ∷ []; pre_destroy = no_chain }) ∷ [];
+      beans = managed R scopes.Dependent (record { fields = []; plan = Step.Construct [] no_chain ∷ Step.Complete (record { chain = []; callbacks = code R p body_p ∷ [] }) ∷ []; methods = (m, method R m body_nop 0 []) ∷ []; pre_destroy = no_chain }) ∷ [];
       interceptors = [];
       types = (R, One 0) ∷ [];
       written = [];

@@ -13,7 +13,7 @@ use Rattle.cdi_machine.specs.Tables.{Step, One}
 use Rattle.cdi_machine.specs.Commands.{Command}
 use Rattle.cdi_machine.specs.Container.{Said}
 use Rattle.cdi_machine.specs.Scripts.{call, find, destroy}
-use Rattle.cdi_machine.specs.Deployments.{Deployment, asked, no_chain, member, managed, of_context, of_container, first_chosen, Shows}
+use Rattle.cdi_machine.specs.Deployments.{Deployment, asked, no_chain, managed, of_context, of_container, first_chosen, Shows, method}
 
 abbrev Y : Name
 Y = 20
@@ -36,7 +36,7 @@ body_nop = 1
 abbrev pub deployment : Deployment
 deployment =
     record {
-      beans = managed Y scopes.ApplicationScoped (record { fields = []; plan = Step.Construct [] no_chain ∷ Step.Complete no_chain ∷ []; methods = (g, member Y g body_g 0 [] []) ∷ []; pre_destroy = no_chain }) ∷ managed X scopes.ApplicationScoped (record { fields = []; plan = Step.Construct [] no_chain ∷ Step.Complete no_chain ∷ []; methods = (m, member X m body_nop 0 [] []) ∷ []; pre_destroy = no_chain }) ∷ [];
+      beans = managed Y scopes.ApplicationScoped (record { fields = []; plan = Step.Construct [] no_chain ∷ Step.Complete no_chain ∷ []; methods = (g, method Y g body_g 0 []) ∷ []; pre_destroy = no_chain }) ∷ managed X scopes.ApplicationScoped (record { fields = []; plan = Step.Construct [] no_chain ∷ Step.Complete no_chain ∷ []; methods = (m, method X m body_nop 0 []) ∷ []; pre_destroy = no_chain }) ∷ [];
       interceptors = [];
       types = (Y, One 0) ∷ (X, One 1) ∷ [];
       written = [];

@@ -12,7 +12,7 @@ use Rattle.cdi_machine.specs.Tables.{Step, One}
 use Rattle.cdi_machine.specs.Commands.{Command}
 use Rattle.cdi_machine.specs.Container.{Said}
 use Rattle.cdi_machine.specs.Scripts.{find, destroy}
-use Rattle.cdi_machine.specs.Deployments.{Deployment, asked, no_chain, member, managed, of_context, of_container, first_chosen, Shows}
+use Rattle.cdi_machine.specs.Deployments.{Deployment, asked, no_chain, managed, of_context, of_container, first_chosen, Shows, method}
 
 abbrev S : Name
 S = 20
@@ -26,7 +26,7 @@ body_m = 0
 abbrev pub deployment : Deployment
 deployment =
     record {
-      beans = managed S scopes.ApplicationScoped (record { fields = []; plan = Step.Construct [] no_chain ∷ Step.Complete no_chain ∷ []; methods = (m, member S m body_m 0 [] []) ∷ []; pre_destroy = no_chain }) ∷ [];
+      beans = managed S scopes.ApplicationScoped (record { fields = []; plan = Step.Construct [] no_chain ∷ Step.Complete no_chain ∷ []; methods = (m, method S m body_m 0 []) ∷ []; pre_destroy = no_chain }) ∷ [];
       interceptors = [];
       types = (S, One 0) ∷ [];
       written = [];

@@ -11,7 +11,7 @@ use Rattle.cdi_machine.specs.Tables.{Step, One}
 use Rattle.cdi_machine.specs.Commands.{Command}
 use Rattle.cdi_machine.specs.Container.{Said}
 use Rattle.cdi_machine.specs.Scripts.{throw}
-use Rattle.cdi_machine.specs.Deployments.{Deployment, asked, no_chain, member, managed, of_context, of_container, first_chosen, last_chosen, Shows}
+use Rattle.cdi_machine.specs.Deployments.{Deployment, asked, no_chain, managed, of_context, of_container, first_chosen, last_chosen, Shows, code, method}
 
 abbrev A : Name
 A = 20
@@ -43,7 +43,7 @@ body_nop = 1
 abbrev pub deployment : Deployment
 deployment =
     record {
-      beans = managed A scopes.ApplicationScoped (record { fields = []; plan = Step.Construct [] no_chain ∷ Step.Inject d1 (asked D) ∷ Step.Inject d2 (asked D) ∷ Step.Complete (record { chain = []; callbacks = member A p body_p 0 [] [] ∷ [] }) ∷ []; methods = (m, member A m body_nop 0 [] []) ∷ []; pre_destroy = no_chain }) ∷ managed D scopes.Dependent (record { fields = []; plan = Step.Construct [] no_chain ∷ Step.Complete no_chain ∷ []; methods = []; pre_destroy = no_chain }) ∷ [];
+      beans = managed A scopes.ApplicationScoped (record { fields = []; plan = Step.Construct [] no_chain ∷ Step.Inject d1 (asked D) ∷ Step.Inject d2 (asked D) ∷ Step.Complete (record { chain = []; callbacks = code A p body_p ∷ [] }) ∷ []; methods = (m, method A m body_nop 0 []) ∷ []; pre_destroy = no_chain }) ∷ managed D scopes.Dependent (record { fields = []; plan = Step.Construct [] no_chain ∷ Step.Complete no_chain ∷ []; methods = []; pre_destroy = no_chain }) ∷ [];
       interceptors = [];
       types = (A, One 0) ∷ (D, One 1) ∷ [];
       written = [];

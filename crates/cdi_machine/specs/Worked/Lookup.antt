@@ -13,7 +13,7 @@ use Rattle.cdi_machine.specs.Tables.{Step, One}
 use Rattle.cdi_machine.specs.Commands.{Command}
 use Rattle.cdi_machine.specs.Container.{Said}
 use Rattle.cdi_machine.specs.Scripts.{Plain, Last, call, find, give}
-use Rattle.cdi_machine.specs.Deployments.{Deployment, asked, no_chain, member, managed, of_context, of_container, first_chosen, Shows}
+use Rattle.cdi_machine.specs.Deployments.{Deployment, asked, no_chain, managed, of_context, of_container, first_chosen, Shows, method}
 
 abbrev H : Name
 H = 20
@@ -36,7 +36,7 @@ body_g = 1
 abbrev pub deployment : Deployment
 deployment =
     record {
-      beans = managed D scopes.Dependent (record { fields = []; plan = Step.Construct [] no_chain ∷ Step.Complete no_chain ∷ []; methods = (m, member D m body_m 0 [] []) ∷ []; pre_destroy = no_chain }) ∷ managed H scopes.ApplicationScoped (record { fields = []; plan = Step.Construct [] no_chain ∷ Step.Complete no_chain ∷ []; methods = (g, member H g body_g 0 [] []) ∷ []; pre_destroy = no_chain }) ∷ [];
+      beans = managed D scopes.Dependent (record { fields = []; plan = Step.Construct [] no_chain ∷ Step.Complete no_chain ∷ []; methods = (m, method D m body_m 0 []) ∷ []; pre_destroy = no_chain }) ∷ managed H scopes.ApplicationScoped (record { fields = []; plan = Step.Construct [] no_chain ∷ Step.Complete no_chain ∷ []; methods = (g, method H g body_g 0 []) ∷ []; pre_destroy = no_chain }) ∷ [];
       interceptors = [];
       types = (H, One 1) ∷ (D, One 0) ∷ [];
       written = [];

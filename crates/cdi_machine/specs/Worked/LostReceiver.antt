@@ -12,7 +12,7 @@ use Rattle.cdi_machine.specs.Tables.{Step, Source, One}
 use Rattle.cdi_machine.specs.Commands.{Command}
 use Rattle.cdi_machine.specs.Container.{Said}
 use Rattle.cdi_machine.specs.Scripts.{Plain, give}
-use Rattle.cdi_machine.specs.Deployments.{Deployment, asked, no_chain, member, managed, product, of_context, of_container, first_chosen, Shows}
+use Rattle.cdi_machine.specs.Deployments.{Deployment, asked, no_chain, managed, product, of_context, of_container, first_chosen, Shows, member}
 
 abbrev r : List ℕ
 r = codes "r"
@@ -38,7 +38,7 @@ body_nop = 1
 abbrev pub deployment : Deployment
 deployment =
     record {
-      beans = managed M scopes.RequestScoped (record { fields = []; plan = Step.Construct [] no_chain ∷ Step.Complete no_chain ∷ []; methods = []; pre_destroy = no_chain }) ∷ product M mk scopes.ApplicationScoped (record { declaring = 0; source = Source.Method (member M mk body_mk 0 [] []); disposers = member M del body_nop 0 [] [] ∷ [] }) ∷ [];
+      beans = managed M scopes.RequestScoped (record { fields = []; plan = Step.Construct [] no_chain ∷ Step.Complete no_chain ∷ []; methods = []; pre_destroy = no_chain }) ∷ product M mk scopes.ApplicationScoped (record { declaring = 0; source = Source.ProducerMethod (member M mk body_mk [] []); disposers = member M del body_nop [] [] ∷ [] }) ∷ [];
       interceptors = [];
       types = (T, One 1) ∷ [];
       written = [];

@@ -13,7 +13,7 @@ use Rattle.cdi_machine.specs.Tables.{Step}
 use Rattle.cdi_machine.specs.Commands.{Command}
 use Rattle.cdi_machine.specs.Container.{Said}
 use Rattle.cdi_machine.specs.Scripts.{throw}
-use Rattle.cdi_machine.specs.Deployments.{Deployment, no_chain, member, managed, of_context, of_container, first_chosen, last_chosen, Shows}
+use Rattle.cdi_machine.specs.Deployments.{Deployment, no_chain, managed, of_context, of_container, first_chosen, last_chosen, Shows, member}
 
 abbrev E : Name
 E = 20
@@ -55,7 +55,7 @@ deployment =
       interceptors = [];
       types = [];
       written = [];
-      observed = (E, [], ((record { bean = 0; member = member O z body_nop 0 [] []; conditional = false }) ∷ []) ∷ ((record { bean = 0; member = member O a body_nop 0 [] []; conditional = false }) ∷ (record { bean = 0; member = member O b body_b 0 [] []; conditional = false }) ∷ (record { bean = 0; member = member O c body_nop 0 [] []; conditional = false }) ∷ (record { bean = 1; member = member N d body_nop 0 [] []; conditional = true }) ∷ []) ∷ []) ∷ [];
+      observed = (E, [], ((record { bean = 0; member = member O z body_nop [] []; conditional = false }) ∷ []) ∷ ((record { bean = 0; member = member O a body_nop [] []; conditional = false }) ∷ (record { bean = 0; member = member O b body_b [] []; conditional = false }) ∷ (record { bean = 0; member = member O c body_nop [] []; conditional = false }) ∷ (record { bean = 1; member = member N d body_nop [] []; conditional = true }) ∷ []) ∷ []) ∷ [];
       events = E ∷ [];
       scripts = ([], []) ∷ (throw Chk ∷ [], []) ∷ [];
       checked = Chk ∷ [];

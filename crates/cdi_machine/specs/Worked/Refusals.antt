@@ -10,7 +10,7 @@ use Rattle.cdi_machine.specs.Tables.{Step, One}
 use Rattle.cdi_machine.specs.Commands.{Command}
 use Rattle.cdi_machine.specs.Container.{Said}
 use Rattle.cdi_machine.specs.Scripts.{Plain, TheField, Add, set, give}
-use Rattle.cdi_machine.specs.Deployments.{Deployment, asked, no_chain, member, managed, of_context, of_container, first_chosen, Shows}
+use Rattle.cdi_machine.specs.Deployments.{Deployment, asked, no_chain, managed, of_context, of_container, first_chosen, Shows, method}
 
 abbrev Z : Name
 Z = 20
@@ -36,7 +36,7 @@ body_up = 0
 abbrev pub deployment : Deployment
 deployment =
     record {
-      beans = managed K scopes.ApplicationScoped (record { fields = (n, values.Int (pos 0)) ∷ []; plan = Step.Construct [] no_chain ∷ Step.Complete no_chain ∷ []; methods = (up, member K up body_up 0 [] []) ∷ []; pre_destroy = no_chain }) ∷ [];
+      beans = managed K scopes.ApplicationScoped (record { fields = (n, values.Int (pos 0)) ∷ []; plan = Step.Construct [] no_chain ∷ Step.Complete no_chain ∷ []; methods = (up, method K up body_up 0 []) ∷ []; pre_destroy = no_chain }) ∷ [];
       interceptors = [];
       types = (K, One 0) ∷ [];
       written = [];
