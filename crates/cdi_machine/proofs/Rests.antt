@@ -37,7 +37,7 @@ use Rattle.cdi_machine.specs.Tables.{Tables, Code, Member, Lifecycle, Step, Sour
 use Rattle.cdi_machine.specs.World.{World, Change, instance_at}
 use Rattle.cdi_machine.specs.Programs.{ActiveContext, Task, Given, Completion, Running, Prog, ret, throw, see, handle, quietly, attempt, present, require, call, finished, raise, done, note, alter, each, top, picked, active_or_raise, context, numbered, within_depth, next_number, one, resolved, rethrow, number_given, bean_at, interceptor_at, lookup_at, instance, invocation, finally}
 use Rattle.cdi_machine.specs.Contexts.{contextual, obtain, is_normal, direct, reference, injected, all_injected, stays, living, use_of}
-use Rattle.cdi_machine.specs.DestroyAct.{is_idle, destroy_idle, destroy_held, destroy_by}
+use Rattle.cdi_machine.specs.DestroyAct.{is_idle, require_made, destroy_idle, destroy_held, destroy_by}
 use Rattle.cdi_machine.specs.Bodies.{invoked, provide, invoke, lifecycle, running, is_of, first_of, interceptor_of, rest, body, reference_at, referred, method_in, bean_of, method_of, invoke_method, fits, replace, repeats, proceed, does, find, answer_of, told, after, found, perform, carry_on}
 use Rattle.cdi_machine.specs.Destruction.{latest, dismiss_latest, give_back, borrowing, receiver, dispose, pre_destroy, farewell, destroy, ready_instance, if_ready, release_of, clear_of}
 use Rattle.cdi_machine.specs.Creation.{discard, created, creating, new, construct, inject, step, produced, accept, produce, first_fields, made_by, create, intercept}
@@ -163,7 +163,7 @@ module _ (h : Height) where
 
   l_destroy_by : (x : Reference) → Level (destroy_by x)
   l_destroy_by NoReference = refl
-  l_destroy_by (Direct n) = then (living n) (λ _. destroy_idle n) (l_living n) (λ _. l_idle n)
+  l_destroy_by (Direct n) = then (require_made n) (λ _. destroy_idle n) (λ t w. l_require _ _) (λ _. l_idle n)
   l_destroy_by (Proxy b) = then (bean_at b) _ (l_bean b) λ bean. then (context bean.scope) _ (l_context bean.scope) λ c. l_held (at c.has.holds b)
 
   l_first_of : (w : World) (i : ℕ) (ns : List ℕ) → Level (first_of w i ns)

@@ -35,7 +35,7 @@ use Rattle.cdi_machine.specs.Tables.{Code, Member, Lifecycle, Step, Source, Prod
 use Rattle.cdi_machine.specs.World.{World, Change, instance_at}
 use Rattle.cdi_machine.specs.Programs.{ActiveContext, Task, Given, Completion, Running, Prog, ret, throw, handle, quietly, attempt, present, require, call, finished, raise, done, alter, each, top, picked, active_or_raise, context, one, resolved, rethrow, number_given, bean_at, interceptor_at, lookup_at, instance, invocation}
 use Rattle.cdi_machine.specs.Contexts.{contextual, obtain, is_normal, direct, reference, injected, all_injected, stays, living, use_of}
-use Rattle.cdi_machine.specs.DestroyAct.{is_idle, destroy_idle, destroy_held, destroy_by}
+use Rattle.cdi_machine.specs.DestroyAct.{is_idle, require_made, destroy_idle, destroy_held, destroy_by}
 use Rattle.cdi_machine.specs.Bodies.{invoked, provide, invoke, lifecycle, running, is_of, first_of, interceptor_of, rest, reference_at, referred, method_in, bean_of, method_of, invoke_method, fits, replace, repeats, proceed, does, find, answer_of, told, after, found, perform, carry_on}
 use Rattle.cdi_machine.specs.Destruction.{dismiss_latest, give_back, borrowing, receiver, dispose, pre_destroy, farewell, release_of, clear_of}
 use Rattle.cdi_machine.specs.Creation.{construct, inject, step, produced, accept, produce, made_by}
@@ -168,7 +168,7 @@ module _ (h : Height) where
 
   pub l_destroy_by : (x : Reference) → Level (destroy_by x)
   l_destroy_by NoReference = tt
-  l_destroy_by (Direct n) = then (living n) (λ _. destroy_idle n) (l_living n) (λ _. l_idle n)
+  l_destroy_by (Direct n) = then (require_made n) (λ _. destroy_idle n) (λ t w. l_require _ _) (λ _. l_idle n)
   l_destroy_by (Proxy b) = then (bean_at b) _ (l_bean b) λ bean. then (context bean.scope) _ (l_context bean.scope) λ c. l_held (at c.has.holds b)
 
   pub l_first_of : (w : World) (i : ℕ) (ns : List ℕ) → Level (first_of w i ns)

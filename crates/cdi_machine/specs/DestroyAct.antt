@@ -5,13 +5,14 @@ use Rattle.cdi_base.specs.Maps.{at}
 use Rattle.cdi_contexts.specs.declared.context.Held.{Held}
 use Rattle.cdi_contexts.specs.declared.context.Held.TheVariants.{Is, Making}
 use Rattle.cdi_store.specs.declared.instance.Owner.TheVariants as owners
+use Rattle.cdi_store.specs.declared.instance.Phase.TheVariants as phases
 use Rattle.cdi_store.specs.declared.references.Reference.{Reference}
 use Rattle.cdi_store.specs.declared.references.Reference.TheVariants.{Direct, Proxy}
 use Rattle.cdi_store.specs.declared.references.Reference.TheVariants.{Empty as NoReference}
 use Rattle.cdi_store.specs.declared.instance.Instance.{Instance}
 use Rattle.cdi_machine.specs.World.{World, Invocation, instance_at}
 use Rattle.cdi_machine.specs.Programs.{Task, Given, Prog, see, call, finished, raise, require, bean_at, context, ◌>>=◌, ◌>>◌}
-use Rattle.cdi_machine.specs.Contexts.{stays, living}
+use Rattle.cdi_machine.specs.Contexts.{stays}
 
 abbrev pub dependent_of : Option Instance → Option ℕ
 dependent_of None = None
@@ -40,6 +41,14 @@ destroy_idle n = see λ t w. do
   require (is_idle w n) built_in.IllegalStateException
   call (Task.Destroy n)
 
+-- the instance is made, and its destruction hasn't begun
+abbrev pub is_made : Option Instance → Bool
+is_made None = false
+is_made (Some o) = elim o.phase [ phases.New ↦ false | phases.Ready ↦ true | phases.Leaving ↦ false ]
+
+abbrev pub require_made : ℕ → Prog (Unit {0})
+require_made n = see λ t w. require (is_made (instance_at w n)) built_in.IllegalStateException
+
 abbrev pub destroy_held : Option Held → Prog Given
 destroy_held None = finished
 destroy_held (Some Making) = raise built_in.IllegalStateException
@@ -48,7 +57,7 @@ destroy_held (Some (Is n)) = destroy_idle n
 abbrev pub destroy_by : Reference → Prog Given
 destroy_by NoReference = raise built_in.NullPointerException
 destroy_by (Direct n) = do
-  living n
+  require_made n
   destroy_idle n
 destroy_by (Proxy b) = do
   bean ← bean_at b
