@@ -6,9 +6,3 @@ pub mod Order
 pub mod Worked
 pub mod Levels
 pub mod Rests
-mod Judge
-mod Stages
-mod Plain
-mod Walk
-mod Steps
-pub mod Ledgered

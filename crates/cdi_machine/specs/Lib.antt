@@ -17,4 +17,3 @@ pub mod Scripts
 pub mod Deployments
 pub mod Worked
 pub mod Laws
-pub mod Ledger

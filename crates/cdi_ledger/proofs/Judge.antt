@@ -8,7 +8,7 @@ use Rattle.cdi_machine.specs.World.{World, changed, written}
 use Rattle.cdi_machine.specs.Programs.{Task, Given, Completion, Gave, Threw, Prog, ret, throw, cut, miss, see, change, tick, mark, act, choose, nested, candidates, handle}
 use Rattle.cdi_machine.specs.Machine.{machine}
 use Rattle.cdi_machine.specs.Runs.{Legal, Outcome, Ends, Cut, Runs}
-use Rattle.cdi_machine.specs.Ledger.{Item, Wrote, Between, told}
+use Rattle.cdi_ledger.specs.Ledger.{Item, Wrote, Between, told}
 
 abbrev pub UnlessCut : (Completion Given → World → List Item → Type 0) → Outcome → World → List Item → Type 0
 UnlessCut Q (Ends c) w h = Q c w h

@@ -10,9 +10,9 @@ use Rattle.cdi_machine.specs.Words.{Name}
 use Rattle.cdi_machine.specs.Tables.{Tables}
 use Rattle.cdi_machine.specs.World.{World, Change, changed, written}
 use Rattle.cdi_machine.specs.Programs.{Task, Given, Completion, Prog, ret, throw, cut, miss, see, change, tick, mark, act, choose, nested, candidates, handle}
-use Rattle.cdi_machine.specs.Ledger.{Item, Wrote, Fate, Unborn, Made, Readied, Left, Lost, fate, numbers, InSequence}
-use Rattle.cdi_machine.proofs.Stages.{phase_at, adjusted_same}
-use Rattle.cdi_machine.proofs.Judge.{Does}
+use Rattle.cdi_ledger.specs.Ledger.{Item, Wrote, Fate, Unborn, Made, Readied, Left, Lost, fate, numbers, InSequence}
+use Rattle.cdi_ledger.proofs.Stages.{phase_at, adjusted_same}
+use Rattle.cdi_ledger.proofs.Judge.{Does}
 
 abbrev pub PlainChange : Change → Type 0 → Type 0
 PlainChange (Change.Make component owner fields) X = ⊥

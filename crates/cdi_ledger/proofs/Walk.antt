@@ -41,7 +41,7 @@ use Rattle.cdi_machine.specs.Destruction.{dismiss_latest, give_back, borrowing, 
 use Rattle.cdi_machine.specs.Creation.{construct, inject, step, produced, accept, produce, made_by}
 use Rattle.cdi_machine.specs.Events.{fire, observe, deliver, notify, is_skipped, context_event, container_event, qualifier}
 use Rattle.cdi_machine.specs.Commands.{Command, task, standing_alone_in, close, begin_session, begin, end_session, end, invalidate, used, end_alone, shutdown, requests_of, sessions_of, is_new, is_used}
-use Rattle.cdi_machine.proofs.Plain.{Plain, plainly}
+use Rattle.cdi_ledger.proofs.Plain.{Plain, plainly}
 
 abbrev Height : Type 0
 Height = Unit {0}

@@ -11,8 +11,8 @@ use Rattle.cdi_store.specs.declared.instance.Instance.{Instance}
 use Rattle.cdi_machine.specs.Words.{Fields}
 use Rattle.cdi_store.specs.Live.{newborn, with_newborn, with_ready, with_leaving}
 use Rattle.cdi_machine.specs.World.{World, Change, changed, instance_at, for_instance, with_instances, with_making, with_owned, without_owned, without_making}
-use Rattle.cdi_machine.proofs.Stages.{eq_true, phase_at, phase_of, if_there, set_to, or_else, without_at, added_at, ready_at, leaving_at}
-use Rattle.cdi_machine.proofs.Plain.{Still, same_still}
+use Rattle.cdi_ledger.proofs.Stages.{eq_true, phase_at, phase_of, if_there, set_to, or_else, without_at, added_at, ready_at, leaving_at}
+use Rattle.cdi_ledger.proofs.Plain.{Still, same_still}
 
 -- the phase of n in v, if it was x in w, and the same next number
 pub record Moved (n : ℕ) (x : Option Phase) (w v : World) : Type 0 where

@@ -23,15 +23,15 @@ use Rattle.cdi_machine.specs.Destruction.{latest, destroy, destroying, if_ready,
 use Rattle.cdi_machine.specs.Creation.{create, intercept, creating, created, discard, ready, new, made_by, first_fields, inject}
 use Rattle.cdi_machine.specs.Bodies.{body}
 use Rattle.cdi_machine.specs.Machine.{machine}
-use Rattle.cdi_machine.specs.Ledger.{Item, Wrote, Between, Fate, Unborn, Made, Readied, Left, Lost, Wrong, if_is, by_new, by_ready, by_drop, by_run, by_end, by_between, by_gone, fate, numbers, InSequence}
-use Rattle.cdi_machine.proofs.Stages.{eq_true, phase_at, phase_of, if_there, set_to, or_else}
-use Rattle.cdi_machine.proofs.Plain.{Plain, plainly, stands, standing, Sane, Kept, kept_then, kept_same, Pre, Post, Doing, From, keeps}
-use Rattle.cdi_machine.proofs.Steps.{Moved, settled, taken, thrown_away, removed, made}
+use Rattle.cdi_ledger.specs.Ledger.{Item, Wrote, Between, Fate, Unborn, Made, Readied, Left, Lost, Wrong, if_is, by_new, by_ready, by_drop, by_run, by_end, by_between, by_gone, fate, numbers, InSequence}
+use Rattle.cdi_ledger.proofs.Stages.{eq_true, phase_at, phase_of, if_there, set_to, or_else}
+use Rattle.cdi_ledger.proofs.Plain.{Plain, plainly, stands, standing, Sane, Kept, kept_then, kept_same, Pre, Post, Doing, From, keeps}
+use Rattle.cdi_ledger.proofs.Steps.{Moved, settled, taken, thrown_away, removed, made}
 use Rattle.cdi_machine.specs.Commands.{Command, task}
 use Rattle.cdi_machine.specs.Runs.{Legal, Outcome, Runs}
-use Rattle.cdi_machine.specs.Ledger.{told, InOrder, Ledger, KeepsOrder}
-use Rattle.cdi_machine.proofs.Judge.{bind, sound}
-use Rattle.cdi_machine.proofs.Walk
+use Rattle.cdi_ledger.specs.Ledger.{told, InOrder, Ledger, KeepsOrder}
+use Rattle.cdi_ledger.proofs.Judge.{bind, sound}
+use Rattle.cdi_ledger.proofs.Walk
 
 -- ---- tables of the fates
 

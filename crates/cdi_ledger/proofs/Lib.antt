@@ -1,0 +1,6 @@
+mod Judge
+mod Stages
+mod Plain
+mod Walk
+mod Steps
+pub mod Ledgered
