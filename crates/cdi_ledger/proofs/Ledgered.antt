@@ -17,11 +17,11 @@ use Rattle.cdi_store.specs.declared.instance.Owner.TheVariants as owners
 use Rattle.cdi_store.specs.declared.instance.Instance.{Instance}
 use Rattle.cdi_machine.specs.Words.{Fields}
 use Rattle.cdi_machine.specs.Tables.{Tables, Bean, Interceptor}
-use Rattle.cdi_machine.specs.World.{World, before_boot, begun, Change, changed, written, instance_at}
-use Rattle.cdi_machine.specs.Programs.{Task, Given, Completion, Gave, Threw, Running, Prog, ret, throw, handle, numbered, within_depth, present, note, alter, call, completed, finished, quietly, finally, rethrow, each, instance}
-use Rattle.cdi_machine.specs.Destruction.{latest, destroy, destroying, if_ready, farewell}
-use Rattle.cdi_machine.specs.Creation.{create, intercept, creating, created, discard, ready, new, made_by, first_fields, inject}
-use Rattle.cdi_machine.specs.Bodies.{body}
+use Rattle.cdi_machine.specs.World.{World, before_boot, at_begin, Change, after_change, with_entry, instance_at}
+use Rattle.cdi_machine.specs.Programs.{Task, Given, Completion, Gave, Threw, Running, Prog, ret, throw, handle, give_number, require_depth, require_present, note, alter, call, complete, finish, quietly, finally, rethrow, each, instance}
+use Rattle.cdi_machine.specs.Destruction.{latest, destroy, destroy_ready, only_ready, clean_up}
+use Rattle.cdi_machine.specs.Creation.{create, intercept, create_by, end_creation, discard, make_ready, begin_creation, make, first_fields, inject}
+use Rattle.cdi_machine.specs.Bodies.{run_body}
 use Rattle.cdi_machine.specs.Machine.{machine}
 use Rattle.cdi_ledger.specs.Ledger.{Item, Wrote, Between, Fate, Unborn, Made, Readied, Left, Lost, Wrong, if_is, by_new, by_ready, by_drop, by_run, by_end, by_between, by_gone, fate, numbers, InSequence}
 use Rattle.cdi_ledger.proofs.Stages.{eq_true, phase_at, phase_of, if_there, set_to, or_else}
@@ -29,7 +29,7 @@ use Rattle.cdi_ledger.proofs.Plain.{Plain, plainly, stands, standing, Sane, Kept
 use Rattle.cdi_ledger.proofs.Steps.{Moved, settled, taken, thrown_away, removed, made}
 use Rattle.cdi_machine.specs.Commands.{Command, task}
 use Rattle.cdi_machine.specs.Runs.{Legal, Outcome, Runs}
-use Rattle.cdi_ledger.specs.Ledger.{told, InOrder, Ledger, KeepsOrder}
+use Rattle.cdi_ledger.specs.Ledger.{items_of, InOrder, Ledger, KeepsOrder}
 use Rattle.cdi_ledger.proofs.Judge.{bind, sound}
 use Rattle.cdi_ledger.proofs.Walk
 
@@ -172,33 +172,33 @@ module _ (tables : Tables) (n : ℕ) where
   -- ---- destruction
 
   -- from the entry `gone` on
-  removing : (m : ℕ) (s : Fate) (w : World) (h : List Item) → Sane n w h → (nat_eq m n ≡ true → standing n w ≡ Left) → (nat_eq m n ≡ true → s ≡ Readied) → Kept s (standing n w) → D (handle (note (entries.Gone m)) (λ _. handle (alter (Change.Remove m)) (λ _. finished) throw) throw) w h (F s)
+  removing : (m : ℕ) (s : Fate) (w : World) (h : List Item) → Sane n w h → (nat_eq m n ≡ true → standing n w ≡ Left) → (nat_eq m n ≡ true → s ≡ Readied) → Kept s (standing n w) → D (handle (note (entries.Gone m)) (λ _. handle (alter (Change.Remove m)) (λ _. finish) throw) throw) w h (F s)
   removing m s w h g k r q =
       let b = nat_eq m n in
       let p = phase_at n w.instances in
       let l = nat_lt n w.next in
-      let v = changed (Change.Remove m) (written (entries.Gone m) w) in
-      let mv = removed n m (written (entries.Gone m) w) in (
+      let v = after_change (Change.Remove m) (with_entry (entries.Gone m) w) in
+      let mv = removed n m (with_entry (entries.Gone m) w) in (
         g,
         (
-          open_moved n _ (written (entries.Gone m) w) v h (Wrote (entries.Gone m) ∷ h) mv (record { fate = g.fate; later = g.later; count = g.count; sequence = g.sequence })
+          open_moved n _ (with_entry (entries.Gone m) w) v h (Wrote (entries.Gone m) ∷ h) mv (record { fate = g.fate; later = g.later; count = g.count; sequence = g.sequence })
               (ap (λ f. if_is b (by_gone f) f) g.fate ∙ gone_fate b l p g.later k) (later_none b p) refl (tt, g.sequence),
-          subst (λ z. Kept s z) (sym (moved_standing n _ (written (entries.Gone m) w) v mv)) (kept_gone b l p s g.later k r q),
+          subst (λ z. Kept s z) (sym (moved_standing n _ (with_entry (entries.Gone m) w) v mv)) (kept_gone b l p s g.later k r q),
         ),
       )
 
-  sane_written : (e : Entry) (w : World) (h : List Item) → Sane n w h → Sane n (written e w) h
+  sane_written : (e : Entry) (w : World) (h : List Item) → Sane n w h → Sane n (with_entry e w) h
   sane_written e w h g = record { fate = g.fate; later = g.later; count = g.count; sequence = g.sequence }
 
   -- begun on an instance that is ready
-  pub destroying_does : (m : ℕ) (o : Instance) (w : World) (h : List Item) → Sane n w h → (nat_eq m n ≡ true → standing n w ≡ Readied) → D (destroying m o) w h (F (standing n w))
+  pub destroying_does : (m : ℕ) (o : Instance) (w : World) (h : List Item) → Sane n w h → (nat_eq m n ≡ true → standing n w ≡ Readied) → D (destroy_ready m o) w h (F (standing n w))
   destroying_does m o w h g k =
       let b = nat_eq m n in
       let p = phase_at n w.instances in
       let l = nat_lt n w.next in
       let s = standing n w in
-      let w0 = written (entries.End m) w in
-      let w1 = changed (Change.Leave m) w0 in
+      let w0 = with_entry (entries.End m) w in
+      let w1 = after_change (Change.Leave m) w0 in
       let h1 = Between m ∷ Wrote (entries.End m) ∷ h in
       let mv = taken n m w0 in
       let g1 : Sane n w1 h1 = open_moved n _ w0 w1 h h1 mv (sane_written (entries.End m) w h g)
@@ -207,24 +207,24 @@ module _ (tables : Tables) (n : ℕ) where
       let k1 : Kept s (standing n w1) = subst (λ z. Kept s z) (sym st) (kept_leave b l p k (kept_same n w)) in
       let left1 : b ≡ true → standing n w1 ≡ Left = λ e. st ∙ is_left b l p k e in (
         g,
-        bind tables (Sane n) Pre (Post n) (quietly (farewell m o.value o.component)) _ throw w1 h1 (F (standing n w1)) (F s)
-            (keeps tables n (quietly (farewell m o.value o.component)) (standing n w1) w1 h1 (Walk.l_quietly tt (farewell m o.value o.component) (Walk.l_farewell tt m o.value o.component)) g1 (kept_same n w1))
+        bind tables (Sane n) Pre (Post n) (quietly (clean_up m o.value o.component)) _ throw w1 h1 (F (standing n w1)) (F s)
+            (keeps tables n (quietly (clean_up m o.value o.component)) (standing n w1) w1 h1 (Walk.l_quietly tt (clean_up m o.value o.component) (Walk.l_farewell tt m o.value o.component)) g1 (kept_same n w1))
             (λ a w2 h2 g2 k2. (g2, tt, λ c w3 h3 g3 k3. after m s w1 h (standing n w1) k1 left1 k w3 h3 g3 (kept_then (standing n w1) (standing n w2) (standing n w3) k2 k3) c))
             (λ x w2 h2 g2 k2. (g2, kept_then s (standing n w1) (standing n w2) k1 k2)),
       )
     where
       after : (m : ℕ) (s : Fate) (w1 : World) (h : List Item) (s1 : Fate) → Kept s s1 → (nat_eq m n ≡ true → s1 ≡ Left) → (nat_eq m n ≡ true → s ≡ Readied) → (w3 : World) (h3 : List Item) → Sane n w3 h3 → Kept s1 (standing n w3) → (c : Completion Given)
-          → D (handle (completed c) (λ _. handle (note (entries.Gone m)) (λ _. handle (alter (Change.Remove m)) (λ _. finished) throw) throw) throw) w3 h3 (F s)
+          → D (handle (complete c) (λ _. handle (note (entries.Gone m)) (λ _. handle (alter (Change.Remove m)) (λ _. finish) throw) throw) throw) w3 h3 (F s)
       after m s w1 h s1 k1 left1 r w3 h3 g3 k3 (Gave v) = removing m s w3 h3 g3 (λ e. subst (λ z. Kept z (standing n w3)) (left1 e) k3) r (kept_then s s1 (standing n w3) k1 k3)
       after m s w1 h s1 k1 left1 r w3 h3 g3 k3 (Threw x) = (g3, kept_then s s1 (standing n w3) k1 k3)
 
   -- one that is ready stands so
-  ready_stands : (m : ℕ) (w : World) (o : Instance) → if_ready (instance_at w m) ≡ Some o → nat_eq m n ≡ true → standing n w ≡ Readied
+  ready_stands : (m : ℕ) (w : World) (o : Instance) → only_ready (instance_at w m) ≡ Some o → nat_eq m n ≡ true → standing n w ≡ Readied
   ready_stands m w o e q =
       let a : phase_at n w.instances ≡ Some phases.Ready = ap (λ k. phase_at k w.instances) (sym (eq_true m n q)) ∙ by (instance_at w m) e in
       ap (stands (nat_lt n w.next)) a
     where
-      by : (x : Option Instance) → if_ready x ≡ Some o → phase_of x ≡ Some phases.Ready
+      by : (x : Option Instance) → only_ready x ≡ Some o → phase_of x ≡ Some phases.Ready
       by None e = absurd (cc)
       by (Some i) e = over i i.phase refl e
         where
@@ -234,9 +234,9 @@ module _ (tables : Tables) (n : ℕ) where
           over i phases.Leaving e f = absurd (cc)
 
   pub destroy_does : (m : ℕ) (w : World) (h : List Item) → Sane n w h → D (destroy m) w h (F (standing n w))
-  destroy_does m w h g = by (if_ready (instance_at w m)) refl
+  destroy_does m w h g = by (only_ready (instance_at w m)) refl
     where
-      by : (x : Option Instance) → if_ready (instance_at w m) ≡ x → D (handle (present x) (λ o. destroying m o) throw) w h (F (standing n w))
+      by : (x : Option Instance) → only_ready (instance_at w m) ≡ x → D (handle (require_present x) (λ o. destroy_ready m o) throw) w h (F (standing n w))
       by None e = (g, kept_same n w)
       by (Some o) e = destroying_does m o w h g (ready_stands m w o e)
 
@@ -245,7 +245,7 @@ module _ (tables : Tables) (n : ℕ) where
   there : (m : ℕ) (w : World) (o : Instance) → instance_at w m ≡ Some o → nat_eq m n ≡ true → (q : Phase) × (phase_at n w.instances ≡ Some q)
   there m w o e q = (o.phase, ap (λ k. phase_at k w.instances) (sym (eq_true m n q)) ∙ ap phase_of e)
 
-  running_sane : (m : ℕ) (place : Place) (w : World) (h : List Item) (o : Instance) → instance_at w m ≡ Some o → Sane n w h → Sane n (written (entries.Run m place) w) (Wrote (entries.Run m place) ∷ h)
+  running_sane : (m : ℕ) (place : Place) (w : World) (h : List Item) (o : Instance) → instance_at w m ≡ Some o → Sane n w h → Sane n (with_entry (entries.Run m place) w) (Wrote (entries.Run m place) ∷ h)
   running_sane m place w h o e g = record {
     fate = ap (λ f. if_is (nat_eq m n) (by_run f) f) g.fate ∙ run_fate (nat_eq m n) (nat_lt n w.next) (phase_at n w.instances) (there m w o e);
     later = g.later;
@@ -253,20 +253,20 @@ module _ (tables : Tables) (n : ℕ) where
     sequence = (tt, g.sequence);
   }
 
-  pub body_does : (r : Running) (w : World) (h : List Item) → Sane n w h → D (body r) w h (F (standing n w))
+  pub body_does : (r : Running) (w : World) (h : List Item) → Sane n w h → D (run_body r) w h (F (standing n w))
   body_does r w h g = by (nat_lt (length w.bodies) w.depth)
     where
       runs : (x : Option Instance) → instance_at w r.instance ≡ x
-          → D (handle (present x) (λ _. handle (note (entries.Run r.instance r.place)) (λ _. handle (alter (Change.Start r.instance)) (λ _. finally (call (Task.Acts r)) (alter Change.Stop)) throw) throw) throw) w h (F (standing n w))
+          → D (handle (require_present x) (λ _. handle (note (entries.Run r.instance r.place)) (λ _. handle (alter (Change.Start r.instance)) (λ _. finally (call (Task.Acts r)) (alter Change.Stop)) throw) throw) throw) w h (F (standing n w))
       runs None e = (g, kept_same n w)
       runs (Some o) e = (
         g,
-        keeps tables n (handle (alter (Change.Start r.instance)) (λ _. finally (call (Task.Acts r)) (alter Change.Stop)) throw) (standing n w) (written (entries.Run r.instance r.place) w) (Wrote (entries.Run r.instance r.place) ∷ h)
+        keeps tables n (handle (alter (Change.Start r.instance)) (λ _. finally (call (Task.Acts r)) (alter Change.Stop)) throw) (standing n w) (with_entry (entries.Run r.instance r.place) w) (Wrote (entries.Run r.instance r.place) ∷ h)
             (plainly (call (Task.Acts r)) (λ a. handle (alter Change.Stop) (λ _. ret a) throw) (λ x. handle (alter Change.Stop) (λ _. throw x) throw) (Walk.l_call tt (Task.Acts r)) (λ _. tt) (λ _. tt)) (running_sane r.instance r.place w h o e g) (kept_same n w),
       )
 
       by : (c : Bool)
-          → D (handle (within_depth c) (λ _. handle (instance r.instance) (λ _. handle (note (entries.Run r.instance r.place)) (λ _. handle (alter (Change.Start r.instance)) (λ _. finally (call (Task.Acts r)) (alter Change.Stop)) throw) throw) throw) throw) w h (F (standing n w))
+          → D (handle (require_depth c) (λ _. handle (instance r.instance) (λ _. handle (note (entries.Run r.instance r.place)) (λ _. handle (alter (Change.Start r.instance)) (λ _. finally (call (Task.Acts r)) (alter Change.Stop)) throw) throw) throw) throw) w h (F (standing n w))
       by false = g
       by true = runs (instance_at w r.instance) refl
 
@@ -285,13 +285,13 @@ module _ (tables : Tables) (n : ℕ) where
     fresh = i.fresh;
   }
 
-  ready_does : (m : ℕ) (s : Fate) (w : World) (h : List Item) → Sane n w h → Mine m s w → D (ready m) w h (F s)
+  ready_does : (m : ℕ) (s : Fate) (w : World) (h : List Item) → Sane n w h → Mine m s w → D (make_ready m) w h (F s)
   ready_does m s w h g i =
       let b = nat_eq m n in
       let p = phase_at n w.instances in
       let l = nat_lt n w.next in
-      let w0 = written (entries.Ready m) w in
-      let v = changed (Change.Settle m) w0 in
+      let w0 = with_entry (entries.Ready m) w in
+      let v = after_change (Change.Settle m) w0 in
       let mv = settled n m w0 in (
         g,
         (
@@ -306,8 +306,8 @@ module _ (tables : Tables) (n : ℕ) where
       let b = nat_eq m n in
       let p = phase_at n w.instances in
       let l = nat_lt n w.next in
-      let w0 = written (entries.Drop m) w in
-      let v = changed (Change.Discard m) w0 in
+      let w0 = with_entry (entries.Drop m) w in
+      let v = after_change (Change.Discard m) w0 in
       let mv = thrown_away n m w0 in (
         g,
         keeps tables n rest s v (Wrote (entries.Drop m) ∷ h) q
@@ -320,37 +320,37 @@ module _ (tables : Tables) (n : ℕ) where
   discard_does m s rest q w h g i = (g, tt, after)
     where
       after : (c : Completion Given) (w1 : World) (h1 : List Item) → Sane n w1 h1 → Kept (standing n w) (standing n w1)
-          → D (handle (handle (completed c) (λ _. handle (note (entries.Drop m)) (λ _. alter (Change.Discard m)) throw) throw) (λ _. rest) throw) w1 h1 (F s)
+          → D (handle (handle (complete c) (λ _. handle (note (entries.Drop m)) (λ _. alter (Change.Discard m)) throw) throw) (λ _. rest) throw) w1 h1 (F s)
       after (Gave v) w1 h1 g1 k1 = dropping m s rest q w1 h1 g1 (mine_then m s w w1 i k1)
       after (Threw x) w1 h1 g1 k1 = (g1, kept_then s (standing n w) (standing n w1) i.kept k1)
 
-  created_does : (m : ℕ) (s : Fate) (a : Given) (w : World) (h : List Item) → Sane n w h → Mine m s w → D (created m a) w h (F s)
+  created_does : (m : ℕ) (s : Fate) (a : Given) (w : World) (h : List Item) → Sane n w h → Mine m s w → D (end_creation m a) w h (F s)
   created_does m s (Given.Result values.Null) w h g i = discard_does m s (ret Given.Empty) tt w h g i
   created_does m s (Given.Result (values.Int v)) w h g i = ready_does m s w h g i
   created_does m s (Given.Result (values.Text v)) w h g i = ready_does m s w h g i
   created_does m s (Given.Number v) w h g i = ready_does m s w h g i
   created_does m s Given.Empty w h g i = ready_does m s w h g i
 
-  creating_does : (m : ℕ) (s : Fate) (steps : Prog Given) → Plain steps → (w : World) (h : List Item) → Sane n w h → Mine m s w → D (creating m steps) w h (F s)
+  creating_does : (m : ℕ) (s : Fate) (steps : Prog Given) → Plain steps → (w : World) (h : List Item) → Sane n w h → Mine m s w → D (create_by m steps) w h (F s)
   creating_does m s steps q w h g i =
-      bind tables (Sane n) Pre (Post n) steps (created m) (λ x. handle (discard m) (λ _. rethrow x built_in.CreationException) throw) w h (F (standing n w)) (F s)
+      bind tables (Sane n) Pre (Post n) steps (end_creation m) (λ x. handle (discard m) (λ _. rethrow x built_in.CreationException) throw) w h (F (standing n w)) (F s)
       (keeps tables n steps (standing n w) w h q g (kept_same n w))
       (λ a w1 h1 g1 k1. created_does m s a w1 h1 g1 (mine_then m s w w1 i k1))
       (λ x w1 h1 g1 k1. discard_does m s (rethrow x built_in.CreationException) (Walk.l_rethrow tt Given x built_in.CreationException) w1 h1 g1 (mine_then m s w w1 i k1))
 
   -- a new number, and what is done with it
   new_does : (place : Place) (component : Component) (owner : Owner) (fields : Fields) (f : ℕ → Prog Given) (w : World) (h : List Item) → Sane n w h
-      → ((m : ℕ) (w1 : World) (h1 : List Item) → Sane n w1 h1 → Mine m (standing n w) w1 → D (f m) w1 h1 (F (standing n w))) → D (handle (new place component owner fields) f throw) w h (F (standing n w))
+      → ((m : ℕ) (w1 : World) (h1 : List Item) → Sane n w1 h1 → Mine m (standing n w) w1 → D (f m) w1 h1 (F (standing n w))) → D (handle (begin_creation place component owner fields) f throw) w h (F (standing n w))
   new_does place component owner fields f w h g k = by (nat_lt w.next (2 ^ 32))
     where
-      by : (c : Bool) → D (handle (handle (numbered c w.next) (λ m. handle (note (entries.New m place)) (λ _. handle (alter (Change.Make component owner fields)) (λ _. ret m) throw) throw) throw) f throw) w h (F (standing n w))
+      by : (c : Bool) → D (handle (handle (give_number c w.next) (λ m. handle (note (entries.New m place)) (λ _. handle (alter (Change.Make component owner fields)) (λ _. ret m) throw) throw) throw) f throw) w h (F (standing n w))
       by false = g
       by true =
           let m = w.next in
           let b = nat_eq m n in
           let p = phase_at n w.instances in
-          let w0 = written (entries.New m place) w in
-          let v = changed (Change.Make component owner fields) w0 in
+          let w0 = with_entry (entries.New m place) w in
+          let v = after_change (Change.Make component owner fields) w0 in
           let mv = made n component owner fields w0 in
           let st : standing n v ≡ stands (nat_lt n (m + 1)) (or_else p (if_there b (Some phases.New) None)) = ap (λ j. stands (nat_lt n j) (phase_at n v.instances)) mv.next ∙ ap (stands (nat_lt n (m + 1))) mv.phase in (
             g,
@@ -371,16 +371,16 @@ module _ (tables : Tables) (n : ℕ) where
   pub create_does : (bean : ℕ) (owner : Owner) (w : World) (h : List Item) → Sane n w h → D (create bean owner) w h (F (standing n w))
   create_does bean owner w h g = by (tables.bean bean)
     where
-      by : (x : Option Bean) → D (handle (present x) (λ x. handle (new x.place (components.Bean bean) owner (first_fields x.kind)) (λ m. creating m (made_by m x x.kind)) throw) throw) w h (F (standing n w))
+      by : (x : Option Bean) → D (handle (require_present x) (λ x. handle (begin_creation x.place (components.Bean bean) owner (first_fields x.kind)) (λ m. create_by m (make m x x.kind)) throw) throw) w h (F (standing n w))
       by None = (g, kept_same n w)
-      by (Some x) = new_does x.place (components.Bean bean) owner (first_fields x.kind) (λ m. creating m (made_by m x x.kind)) w h g (λ m w1 h1 g1 i1. creating_does m (standing n w) (made_by m x x.kind) (Walk.l_made_by tt m x x.kind) w1 h1 g1 i1)
+      by (Some x) = new_does x.place (components.Bean bean) owner (first_fields x.kind) (λ m. create_by m (make m x x.kind)) w h g (λ m w1 h1 g1 i1. creating_does m (standing n w) (make m x x.kind) (Walk.l_made_by tt m x x.kind) w1 h1 g1 i1)
 
   pub intercept_does : (i target : ℕ) (w : World) (h : List Item) → Sane n w h → D (intercept i target) w h (F (standing n w))
   intercept_does i target w h g = by (tables.interceptor i)
     where
-      by : (x : Option Interceptor) → D (handle (present x) (λ x. handle (new (places.Class x.name) (components.Interceptor i) (owners.Instance target) x.fields) (λ m. creating m (handle (each x.injected (λ p. inject m p.0 p.1)) (λ _. ret (Given.Number m)) throw)) throw) throw) w h (F (standing n w))
+      by : (x : Option Interceptor) → D (handle (require_present x) (λ x. handle (begin_creation (places.Class x.name) (components.Interceptor i) (owners.Instance target) x.fields) (λ m. create_by m (handle (each x.injected (λ p. inject m p.0 p.1)) (λ _. ret (Given.Number m)) throw)) throw) throw) w h (F (standing n w))
       by None = (g, kept_same n w)
-      by (Some x) = new_does (places.Class x.name) (components.Interceptor i) (owners.Instance target) x.fields (λ m. creating m (handle (each x.injected (λ p. inject m p.0 p.1)) (λ _. ret (Given.Number m)) throw)) w h g
+      by (Some x) = new_does (places.Class x.name) (components.Interceptor i) (owners.Instance target) x.fields (λ m. create_by m (handle (each x.injected (λ p. inject m p.0 p.1)) (λ _. ret (Given.Number m)) throw)) w h g
           (λ m w1 h1 g1 i1. creating_does m (standing n w) (handle (each x.injected (λ p. inject m p.0 p.1)) (λ _. ret (Given.Number m)) throw)
           (plainly (each x.injected (λ p. inject m p.0 p.1)) (λ _. ret (Given.Number m)) throw (Walk.l_each tt x.injected (λ p. inject m p.0 p.1) (λ p. Walk.l_inject tt m p.0 p.1)) (λ _. tt) (λ _. tt)) w1 h1 g1 i1)
 
@@ -407,7 +407,7 @@ module _ (tables : Tables) (n : ℕ) where
   pub command_does : (c : Command) (w : World) (h : List Item) → Sane n w h → D (task c) w h (F (standing n w))
   command_does c w h g = keeps tables n (task c) (standing n w) w h (Walk.l_task tt c) g (kept_same n w)
 
-  pub command_keeps : (legal : Legal) (c : Command) (w v : World) (o : Outcome) (h : List Item) (r : Runs tables legal ⊥ (task c) w o v) → Sane n w h → Sane n v (told h r)
+  pub command_keeps : (legal : Legal) (c : Command) (w v : World) (o : Outcome) (h : List Item) (r : Runs tables legal ⊥ (task c) w o v) → Sane n w h → Sane n v (items_of h r)
   command_keeps legal c w v o h r g = (sound tables (Sane n) Pre (Post n) legal (λ t w h g u. task_does t w h g) h (F (standing n w)) r (command_does c w h g)).0
 
 -- ---- in order
@@ -430,13 +430,13 @@ before ticks depth n = record { fate = by (nat_lt n 1); later = λ e. refl; coun
     by false = refl
 
 -- between commands
-pub at_rest : (n : ℕ) (w : World) (h : List Item) → Sane n w h → Sane n (begun w) h
+pub at_rest : (n : ℕ) (w : World) (h : List Item) → Sane n w h → Sane n (at_begin w) h
 at_rest n w h g = record { fate = g.fate; later = g.later; count = g.count; sequence = g.sequence }
 
 module _ (tables : Tables) (legal : Legal) where
   sane : (n : ℕ) {w : World} {h : List Item} → Ledger tables legal w h → Sane n w h
   sane n (Ledger.begins ticks depth) = before ticks depth n
-  sane n (Ledger.goes {w = w} {v = v} {h = h} {o = o} c l r) = command_keeps tables n legal c (begun w) v o h r (at_rest n w h (sane n l))
+  sane n (Ledger.goes {w = w} {v = v} {h = h} {o = o} c l r) = command_keeps tables n legal c (at_begin w) v o h r (at_rest n w h (sane n l))
 
   pub keeps_order : KeepsOrder tables legal
   keeps_order w h l = in_order w h (λ n. sane n l)

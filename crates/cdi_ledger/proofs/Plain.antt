@@ -8,7 +8,7 @@ use Rattle.cdi_store.specs.declared.instance.Phase.{Phase}
 use Rattle.cdi_store.specs.declared.instance.Phase.TheVariants as phases
 use Rattle.cdi_machine.specs.Words.{Name}
 use Rattle.cdi_machine.specs.Tables.{Tables}
-use Rattle.cdi_machine.specs.World.{World, Change, changed, written}
+use Rattle.cdi_machine.specs.World.{World, Change, after_change, with_entry}
 use Rattle.cdi_machine.specs.Programs.{Task, Given, Completion, Prog, ret, throw, cut, miss, see, change, tick, mark, act, choose, nested, candidates, handle}
 use Rattle.cdi_ledger.specs.Ledger.{Item, Wrote, Fate, Unborn, Made, Readied, Left, Lost, fate, numbers, InSequence}
 use Rattle.cdi_ledger.proofs.Stages.{phase_at, adjusted_same}
@@ -133,7 +133,7 @@ sane_still n w v h s g = record {
 pub same_still : (n : ℕ) (w : World) → Still n w w
 same_still n w = record { phase = refl; next = refl }
 
-plain_change : (n : ℕ) (g : Change) (w : World) (X : Type 0) → PlainChange g X → Still n w (changed g w) × X
+plain_change : (n : ℕ) (g : Change) (w : World) (X : Type 0) → PlainChange g X → Still n w (after_change g w) × X
 plain_change n (Change.Make component owner fields) w X x = absurd x
 plain_change n (Change.Settle m) w X x = absurd x
 plain_change n (Change.Discard m) w X x = absurd x
@@ -160,7 +160,7 @@ plain_change n Change.Borrow w X x = (record { phase = refl; next = refl }, x)
 plain_change n Change.Return w X x = (record { phase = refl; next = refl }, x)
 plain_change n Change.Down w X x = (record { phase = refl; next = refl }, x)
 
-pub sane_entry : (n : ℕ) (e : Entry) (w : World) (h : List Item) (X : Type 0) → PlainEntry e X → Sane n w h → Sane n (written e w) (Wrote e ∷ h) × X
+pub sane_entry : (n : ℕ) (e : Entry) (w : World) (h : List Item) (X : Type 0) → PlainEntry e X → Sane n w h → Sane n (with_entry e w) (Wrote e ∷ h) × X
 sane_entry n (entries.Event class qualifiers) w h X x g = (record { fate = g.fate; later = g.later; count = g.count; sequence = (tt, g.sequence) }, x)
 sane_entry n (entries.Did a) w h X x g = (record { fate = g.fate; later = g.later; count = g.count; sequence = (tt, g.sequence) }, x)
 sane_entry n (entries.Pick c i) w h X x g = (record { fate = g.fate; later = g.later; count = g.count; sequence = (tt, g.sequence) }, x)
@@ -193,9 +193,9 @@ module _ (tables : Tables) (n : ℕ) where
   keeps (see p) f w h q g k = keeps (p tables w) f w h (q tables w) g k
   keeps (change x p) f w h q g k =
       let s = plain_change n x w (Plain p) q in
-      keeps p f (changed x w) h s.1 (sane_still n w (changed x w) h s.0 g) (subst (λ z. Kept f z) (sym (still_standing n w (changed x w) s.0)) k)
-  keeps (tick e p) f w h q g k = let s = sane_entry n e w h (Plain p) q g in (g, keeps p f (written e w) (Wrote e ∷ h) s.1 s.0 k)
+      keeps p f (after_change x w) h s.1 (sane_still n w (after_change x w) h s.0 g) (subst (λ z. Kept f z) (sym (still_standing n w (after_change x w) s.0)) k)
+  keeps (tick e p) f w h q g k = let s = sane_entry n e w h (Plain p) q g in (g, keeps p f (with_entry e w) (Wrote e ∷ h) s.1 s.0 k)
   keeps (mark m p) f w h q g k = absurd q
-  keeps (act b fields view p) f w h q g k = (g, λ a. keeps (p a) f (written (entries.Did a) w) (Wrote (entries.Did a) ∷ h) (q a) (sane_entry n (entries.Did a) w h (Unit {0}) tt g).0 k)
-  keeps (choose m p) f w h q g k = (g, λ i l. keeps (p i) f (written (entries.Pick (candidates m) i) w) (Wrote (entries.Pick (candidates m) i) ∷ h) (q i) (sane_entry n (entries.Pick (candidates m) i) w h (Unit {0}) tt g).0 k)
+  keeps (act b fields view p) f w h q g k = (g, λ a. keeps (p a) f (with_entry (entries.Did a) w) (Wrote (entries.Did a) ∷ h) (q a) (sane_entry n (entries.Did a) w h (Unit {0}) tt g).0 k)
+  keeps (choose m p) f w h q g k = (g, λ i l. keeps (p i) f (with_entry (entries.Pick (candidates m) i) w) (Wrote (entries.Pick (candidates m) i) ∷ h) (q i) (sane_entry n (entries.Pick (candidates m) i) w h (Unit {0}) tt g).0 k)
   keeps (nested t p) f w h q g k = (g, tt, λ c w1 h1 g1 p1. keeps (p c) f w1 h1 (q c) g1 (kept_then f (standing n w) (standing n w1) k p1))

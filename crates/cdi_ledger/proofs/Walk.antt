@@ -33,14 +33,14 @@ use Rattle.cdi_store.specs.declared.references.Reference.TheVariants.{Empty as N
 use Rattle.cdi_machine.specs.Words.{Name, Asked}
 use Rattle.cdi_machine.specs.Tables.{Code, Member, Lifecycle, Step, Source, Product, Kind, Bean, Observer, Resolution, One, Nothing, Many}
 use Rattle.cdi_machine.specs.World.{World, Change, instance_at}
-use Rattle.cdi_machine.specs.Programs.{ActiveContext, Task, Given, Completion, Running, Prog, ret, throw, handle, quietly, attempt, present, require, call, finished, raise, done, alter, each, top, picked, active_or_raise, context, one, resolved, rethrow, number_given, bean_at, interceptor_at, lookup_at, instance, invocation}
-use Rattle.cdi_machine.specs.Contexts.{contextual, obtain, is_normal, direct, reference, injected, all_injected, stays, living, use_of}
+use Rattle.cdi_machine.specs.Programs.{ActiveContext, Task, Given, Completion, Running, Prog, ret, throw, handle, quietly, attempt, require_present, require, call, finish, raise, do_nothing, alter, each, top, pick, active_or_raise, context, require_one, resolve, rethrow, require_number, bean_at, interceptor_at, lookup_at, instance, invocation}
+use Rattle.cdi_machine.specs.Contexts.{find_or_create, obtain, is_normal, direct_reference, refer_to, resolve_point, resolve_points, stays, require_living, reach_instance}
 use Rattle.cdi_machine.specs.DestroyAct.{is_idle, require_made, destroy_idle, destroy_held, destroy_by}
-use Rattle.cdi_machine.specs.Bodies.{invoked, provide, invoke, lifecycle, running, is_of, first_of, interceptor_of, rest, reference_at, referred, method_in, bean_of, method_of, invoke_method, fits, replace, repeats, proceed, does, find, answer_of, told, after, found, perform, carry_on}
-use Rattle.cdi_machine.specs.Destruction.{dismiss_latest, give_back, borrowing, receiver, dispose, pre_destroy, farewell, release_of, clear_of}
-use Rattle.cdi_machine.specs.Creation.{construct, inject, step, produced, accept, produce, made_by}
-use Rattle.cdi_machine.specs.Events.{fire, observe, deliver, notify, is_skipped, context_event, container_event, qualifier}
-use Rattle.cdi_machine.specs.Commands.{Command, task, standing_alone_in, close, begin_session, begin, end_session, end, invalidate, used, end_alone, shutdown, requests_of, sessions_of, is_new, is_used}
+use Rattle.cdi_machine.specs.Bodies.{invoke_by, provide, invoke, call_back, body_at_start, is_of, first_of, interceptor_of, run_rest, reference_at, find_reference, method_in, bean_of, method_of, invoke_method, fits, replace_parameters, repeats, proceed, carry_out, find, answer_of, with_answer, after_act, answer_find, perform, carry_on}
+use Rattle.cdi_machine.specs.Destruction.{dismiss_latest, give_back, borrow_for, obtain_receiver, dispose, clean_up_bean, clean_up, release_from, clear_from}
+use Rattle.cdi_machine.specs.Creation.{construct, inject, take_step, call_producer, accept, produce, make}
+use Rattle.cdi_machine.specs.Events.{fire, observe, deliver, notify, is_skipped, fire_context_event, fire_container_event, qualifier}
+use Rattle.cdi_machine.specs.Commands.{Command, task, stand_alone_in, close, begin_session, begin, end_session, end, invalidate, use_bean, end_alone, shut_down, requests_of, sessions_of, is_new, is_used}
 use Rattle.cdi_ledger.proofs.Plain.{Plain, plainly}
 
 abbrev Height : Type 0
@@ -66,7 +66,7 @@ module _ (h : Height) where
   l_if true p q a b = a
   l_if false p q a b = b
 
-  pub l_present : {A : Type 0} (o : Option A) → Level (present o)
+  pub l_present : {A : Type 0} (o : Option A) → Level (require_present o)
   l_present None = tt
   l_present (Some a) = tt
 
@@ -91,12 +91,12 @@ module _ (h : Height) where
   l_active None = tt
   l_active (Some a) = tt
 
-  pub l_one : (x : Resolution) → Level (one x)
+  pub l_one : (x : Resolution) → Level (require_one x)
   l_one (One b) = tt
   l_one Nothing = tt
   l_one Many = tt
 
-  pub l_number : (g : Given) → Level (number_given g)
+  pub l_number : (g : Given) → Level (require_number g)
   l_number (Given.Number n) = tt
   l_number (Given.Result v) = tt
   l_number Given.Empty = tt
@@ -104,7 +104,7 @@ module _ (h : Height) where
   pub l_rethrow : (A : Type 0) (x : Name) (b : BuiltIn) → Level (rethrow {A = A} x b)
   l_rethrow A x b t w = l_if (t.is_checked x) (raise b) (throw x) tt tt
 
-  pub l_picked : {X : Type 0} (xs : List X) → Level (picked xs)
+  pub l_picked : {X : Type 0} (xs : List X) → Level (pick xs)
   l_picked [] = tt
   l_picked (x ∷ []) = tt
   l_picked (x ∷ y ∷ xs) = λ i. tt
@@ -118,7 +118,7 @@ module _ (h : Height) where
   pub l_invocation : Level invocation
   l_invocation t w = l_top w.invocations
 
-  pub l_resolved : (asked : Asked) → Level (resolved asked)
+  pub l_resolved : (asked : Asked) → Level (resolve asked)
   l_resolved asked t w = l_one (t.resolve asked)
 
   pub l_context : (s : Scope) → Level (context s)
@@ -126,7 +126,7 @@ module _ (h : Height) where
 
   -- ---- contexts
 
-  pub l_contextual : (b : ℕ) (c : ActiveContext) (x : Option Held) → Level (contextual b c x)
+  pub l_contextual : (b : ℕ) (c : ActiveContext) (x : Option Held) → Level (find_or_create b c x)
   l_contextual b c (Some (Is n)) = tt
   l_contextual b c (Some Making) = tt
   l_contextual b c None = by c.has.status
@@ -138,20 +138,20 @@ module _ (h : Height) where
   pub l_obtain : (b : ℕ) → Level (obtain b)
   l_obtain b = then (bean_at b) _ (l_bean b) λ bean. then (context bean.scope) _ (l_context bean.scope) λ c. l_contextual b c (at c.has.holds b)
 
-  pub l_reference : (b : ℕ) (owner : Owner) → Level (reference b owner)
-  l_reference b owner = then (bean_at b) _ (l_bean b) λ bean. l_if (is_normal bean.scope) (ret (Proxy b)) (handle (call (Task.Create b owner)) (λ made. ret (direct made)) throw) tt (then (call (Task.Create b owner)) _ (l_call (Task.Create b owner)) (λ _. tt))
+  pub l_reference : (b : ℕ) (owner : Owner) → Level (refer_to b owner)
+  l_reference b owner = then (bean_at b) _ (l_bean b) λ bean. l_if (is_normal bean.scope) (ret (Proxy b)) (handle (call (Task.Create b owner)) (λ made. ret (direct_reference made)) throw) tt (then (call (Task.Create b owner)) _ (l_call (Task.Create b owner)) (λ _. tt))
 
-  pub l_injected : (point : Asked) (owner : Owner) → Level (injected point owner)
-  l_injected point owner = then (resolved point) _ (l_resolved point) (λ b. l_reference b owner)
+  pub l_injected : (point : Asked) (owner : Owner) → Level (resolve_point point owner)
+  l_injected point owner = then (resolve point) _ (l_resolved point) (λ b. l_reference b owner)
 
-  pub l_all_injected : (points : List Asked) (owner : Owner) → Level (all_injected points owner)
+  pub l_all_injected : (points : List Asked) (owner : Owner) → Level (resolve_points points owner)
   l_all_injected [] owner = tt
-  l_all_injected (point ∷ points) owner = then (injected point owner) _ (l_injected point owner) λ x. then (all_injected points owner) _ (l_all_injected points owner) (λ _. tt)
+  l_all_injected (point ∷ points) owner = then (resolve_point point owner) _ (l_injected point owner) λ x. then (resolve_points points owner) _ (l_all_injected points owner) (λ _. tt)
 
-  pub l_living : (n : ℕ) → Level (living n)
+  pub l_living : (n : ℕ) → Level (require_living n)
   l_living n t w = then (require (stays (instance_at w n)) built_in.IllegalStateException) _ (l_require _ _) (λ _. tt)
 
-  pub l_use : (x : Reference) → Level (use_of x)
+  pub l_use : (x : Reference) → Level (reach_instance x)
   l_use NoReference = tt
   l_use (Direct n) = l_living n
   l_use (Proxy b) = then (call (Task.Obtain b)) _ (l_call (Task.Obtain b)) l_number
@@ -176,11 +176,11 @@ module _ (h : Height) where
   l_first_of w i (n ∷ ns) = l_if (is_of i (instance_at w n)) (ret n) (first_of w i ns) tt (l_first_of w i ns)
 
   pub l_provide : (points : List Asked) (owner : Owner) → Level (provide points owner)
-  l_provide points owner = then (all_injected points owner) _ (l_all_injected points owner) (λ _. tt)
+  l_provide points owner = then (resolve_points points owner) _ (l_all_injected points owner) (λ _. tt)
 
 module _ (h : Height) where
   -- in an invocation there is one more
-  pub l_invoked : (n : ℕ) (role : InterceptorMethod) (members : List Code) (args : List Value) (p : Prog Given) → ((k : Height) → Steady k k p) → Steady h h (invoked n role members args p)
+  pub l_invoked : (n : ℕ) (role : InterceptorMethod) (members : List Code) (args : List Value) (p : Prog Given) → ((k : Height) → Steady k k p) → Steady h h (invoke_by n role members args p)
   l_invoked n role members args p q =
       let k : Height = h in
       steady k h k p _ _ (q k) (λ _. tt) (λ _. tt)
@@ -190,7 +190,7 @@ module _ (h : Height) where
       let k : Height = h in
       steady k h k (call Task.Dismiss) _ _ (l_call k Task.Dismiss) (λ _. tt) (λ _. tt)
 
-  pub l_borrowing : (p : Prog Given) → ((k : Height) → Steady k k p) → Steady h h (borrowing p)
+  pub l_borrowing : (p : Prog Given) → ((k : Height) → Steady k k p) → Steady h h (borrow_for p)
   l_borrowing p q =
       let k : Height = h in
       steady k h k p _ _ (q k) (λ a. steady h h k give_back _ _ l_give_back (λ _. tt) (λ _. tt)) (λ x. steady h h k give_back _ _ l_give_back (λ _. tt) (λ _. tt))
@@ -198,28 +198,28 @@ module _ (h : Height) where
   pub l_invoke : (n : ℕ) (m : Member) (args : List Value) (owner : Owner) → Steady h h (invoke n m args owner)
   l_invoke n m args owner = l_invoked n roles.AroundInvoke (m.code ∷ []) args (handle (provide m.points owner) (λ _. call (Task.Rest m.chain)) throw) (λ k. then k (provide m.points owner) (λ _. call (Task.Rest m.chain)) (l_provide k m.points owner) (λ _. l_call k (Task.Rest m.chain)))
 
-  pub l_lifecycle : (n : ℕ) (role : InterceptorMethod) (callbacks : List Code) (chain : List ℕ) → Steady h h (lifecycle n role callbacks chain)
+  pub l_lifecycle : (n : ℕ) (role : InterceptorMethod) (callbacks : List Code) (chain : List ℕ) → Steady h h (call_back n role callbacks chain)
   l_lifecycle n role callbacks chain = l_invoked n role callbacks [] (call (Task.Rest chain)) (λ k. l_call k (Task.Rest chain))
 
-  pub l_receiver : (b : ℕ) → Steady h h (receiver b)
-  l_receiver b = then h (reference b owners.Borrower) _ (l_reference h b owners.Borrower) (l_use h)
+  pub l_receiver : (b : ℕ) → Steady h h (obtain_receiver b)
+  l_receiver b = then h (refer_to b owners.Borrower) _ (l_reference h b owners.Borrower) (l_use h)
 
   -- ---- bodies
 
-  pub l_rest : (chain : List ℕ) → Steady h h (rest chain)
+  pub l_rest : (chain : List ℕ) → Steady h h (run_rest chain)
   l_rest [] =
-      then h invocation _ (l_invocation h) λ v. then h (each v.members _) _ (l_each h v.members _ (λ m. l_call h (Task.Body (running v.target m.place m.body v.parameters v.references [])))) (λ _. tt)
+      then h invocation _ (l_invocation h) λ v. then h (each v.members _) _ (l_each h v.members _ (λ m. l_call h (Task.Body (body_at_start v.target m.place m.body v.parameters v.references [])))) (λ _. tt)
   l_rest (i ∷ chain) =
       then h invocation _ (l_invocation h) λ v.
       then h (interceptor_at i) _ (λ t w. l_present h (t.interceptor i)) λ x.
-      then h (present (x.body v.role)) _ (l_present h (x.body v.role)) λ b.
+      then h (require_present (x.body v.role)) _ (l_present h (x.body v.role)) λ b.
       then h (interceptor_of v.target i) _ (then h (instance v.target) _ (l_instance h v.target) (λ o t w. l_first_of h w i o.dependents)) λ n.
-      let y = running n (places.Interceptor x.name v.role) b v.parameters [] chain in
+      let y = body_at_start n (places.Interceptor x.name v.role) b v.parameters [] chain in
       then h (call (Task.Body y)) _ (l_call h (Task.Body y)) (λ _. tt)
 
   -- ---- acts
 
-  pub l_referred : (r : Running) (via : Via) → Steady h h (referred r via)
+  pub l_referred : (r : Running) (via : Via) → Steady h h (find_reference r via)
   l_referred r (vias.Field name) = then h (instance r.instance) _ (l_instance h r.instance) (λ _. tt)
   l_referred r (vias.Param k) = tt
   l_referred r (vias.Local k) = tt
@@ -238,7 +238,7 @@ module _ (h : Height) where
   pub l_invoke_method : (n : ℕ) (name : Name) (args : List Value) → Steady h h (invoke_method n name args)
   l_invoke_method n name args = then h (method_of n name) _ (l_method_of n name) (λ m. l_invoked n roles.AroundInvoke (m.code ∷ []) args (call (Task.Rest m.chain)) (λ k. l_call k (Task.Rest m.chain)))
 
-  pub l_replace : (args : Option (List Value)) → Steady h h (replace args)
+  pub l_replace : (args : Option (List Value)) → Steady h h (replace_parameters args)
   l_replace None = tt
   l_replace (Some args) = tt
 
@@ -247,14 +247,14 @@ module _ (h : Height) where
       then h invocation _ (l_invocation h) λ v.
       then h (require (fits v.parameters args) built_in.IllegalArgumentException) _ (l_require h _ _) λ _.
       then h (require (repeats v.role || not r.proceeded) built_in.IllegalStateException) _ (l_require h _ _) λ _.
-      then h (replace args) (λ _. call (Task.Rest r.rest)) (l_replace args) (λ _. l_call h (Task.Rest r.rest))
+      then h (replace_parameters args) (λ _. call (Task.Rest r.rest)) (l_replace args) (λ _. l_call h (Task.Rest r.rest))
 
-  pub l_does : (r : Running) (a : Act) → Steady h h (does r a)
+  pub l_does : (r : Running) (a : Act) → Steady h h (carry_out r a)
   l_does r (acts.Set field v) = tt
-  l_does r (acts.Call via name args) = then h (referred r via) _ (l_referred r via) λ x. then h (use_of x) _ (l_use h x) λ n. l_invoke_method n name args
-  l_does r (acts.Own name args) = then h (method_of r.instance name) _ (l_method_of r.instance name) (λ m. l_call h (Task.Body (running r.instance m.code.place m.code.body args [] [])))
-  l_does r (acts.Read via) = then h (referred r via) _ (l_referred r via) λ x. then h (use_of x) _ (l_use h x) λ n. then h (instance n) _ (l_instance h n) (λ _. tt)
-  l_does r (acts.Write via v) = then h (referred r via) _ (l_referred r via) λ x. then h (use_of x) _ (l_use h x) (λ n. tt)
+  l_does r (acts.Call via name args) = then h (find_reference r via) _ (l_referred r via) λ x. then h (reach_instance x) _ (l_use h x) λ n. l_invoke_method n name args
+  l_does r (acts.Own name args) = then h (method_of r.instance name) _ (l_method_of r.instance name) (λ m. l_call h (Task.Body (body_at_start r.instance m.code.place m.code.body args [] [])))
+  l_does r (acts.Read via) = then h (find_reference r via) _ (l_referred r via) λ x. then h (reach_instance x) _ (l_use h x) λ n. then h (instance n) _ (l_instance h n) (λ _. tt)
+  l_does r (acts.Write via v) = then h (find_reference r via) _ (l_referred r via) λ x. then h (reach_instance x) _ (l_use h x) (λ n. tt)
   l_does r (acts.Fire class qualifiers v) = l_call h (Task.Fire class qualifiers v)
   l_does r (acts.Proceed args) = l_proceed r args
   l_does r (acts.Find k) = tt
@@ -265,7 +265,7 @@ module _ (h : Height) where
   l_does r (acts.Throw x) = tt
 
   pub l_find : (r : Running) (k : ℕ) → Steady h h (find r k)
-  l_find r k = then h (lookup_at r.body k) _ (λ t w. l_present h (t.lookup r.body k)) λ asked. then h (resolved asked) _ (l_resolved h asked) λ b. l_reference h b (owners.Instance r.instance)
+  l_find r k = then h (lookup_at r.body k) _ (λ t w. l_present h (t.lookup r.body k)) λ asked. then h (resolve asked) _ (l_resolved h asked) λ b. l_reference h b (owners.Instance r.instance)
 
   pub l_answer : (c : Completion Given) → Steady h h (answer_of c)
   l_answer (Completion.Gave (Given.Result v)) = tt
@@ -273,12 +273,12 @@ module _ (h : Height) where
   l_answer (Completion.Gave Given.Empty) = tt
   l_answer (Completion.Threw x) = λ t w. tt
 
-  pub l_found : (r : Running) (k : ℕ) (c : Completion Reference) → Steady h h (found r k c)
-  l_found r k (Completion.Gave x) = l_call h (Task.Acts (told (record r { locals = Rattle.cdi_base.specs.Maps.put k x r.locals }) (answers.Found k)))
-  l_found r k (Completion.Threw x) = λ t w. l_call h (Task.Acts (told r (answers.Threw x (t.text x))))
+  pub l_found : (r : Running) (k : ℕ) (c : Completion Reference) → Steady h h (answer_find r k c)
+  l_found r k (Completion.Gave x) = l_call h (Task.Acts (with_answer (record r { locals = Rattle.cdi_base.specs.Maps.put k x r.locals }) (answers.Found k)))
+  l_found r k (Completion.Threw x) = λ t w. l_call h (Task.Acts (with_answer r (answers.Threw x (t.text x))))
 
-  pub l_told : (r : Running) (a : Act) → Steady h h (handle (attempt (does r a)) (λ c. handle (answer_of c) (λ answer. call (Task.Acts (told (after r a) answer))) throw) throw)
-  l_told r a = then h (attempt (does r a)) _ (caught h (does r a) _ _ (l_does r a) (λ _. tt) (λ _. tt)) λ c. then h (answer_of c) (λ answer. call (Task.Acts (told (after r a) answer))) (l_answer c) (λ answer. l_call h (Task.Acts (told (after r a) answer)))
+  pub l_told : (r : Running) (a : Act) → Steady h h (handle (attempt (carry_out r a)) (λ c. handle (answer_of c) (λ answer. call (Task.Acts (with_answer (after_act r a) answer))) throw) throw)
+  l_told r a = then h (attempt (carry_out r a)) _ (caught h (carry_out r a) _ _ (l_does r a) (λ _. tt) (λ _. tt)) λ c. then h (answer_of c) (λ answer. call (Task.Acts (with_answer (after_act r a) answer))) (l_answer c) (λ answer. l_call h (Task.Acts (with_answer (after_act r a) answer)))
 
   pub l_perform : (r : Running) (a : Act) → Steady h h (perform r a)
   l_perform r (acts.Give v) = tt
@@ -304,26 +304,26 @@ module _ (h : Height) where
   pub l_quietly : (p : Prog Given) → Steady h h p → Steady h h (quietly p)
   l_quietly p q = caught h p _ _ q (λ _. tt) (λ _. tt)
 
-  pub l_served : (b : ℕ) (m : Member) (args : List Value) (owner : Owner) → Steady h h (borrowing (handle (receiver b) (λ n. invoke n m args owner) throw))
-  l_served b m args owner = l_borrowing h (handle (receiver b) (λ n. invoke n m args owner) throw) (λ k. then k (receiver b) (λ n. invoke n m args owner) (l_receiver k b) (λ n. l_invoke k n m args owner))
+  pub l_served : (b : ℕ) (m : Member) (args : List Value) (owner : Owner) → Steady h h (borrow_for (handle (obtain_receiver b) (λ n. invoke n m args owner) throw))
+  l_served b m args owner = l_borrowing h (handle (obtain_receiver b) (λ n. invoke n m args owner) throw) (λ k. then k (obtain_receiver b) (λ n. invoke n m args owner) (l_receiver k b) (λ n. l_invoke k n m args owner))
 
-  pub l_farewell : (n : ℕ) (v : Value) (component : Component) → Steady h h (farewell n v component)
+  pub l_farewell : (n : ℕ) (v : Value) (component : Component) → Steady h h (clean_up n v component)
   l_farewell n v (components.Interceptor i) = tt
   l_farewell n v (components.Bean b) = then h (bean_at b) _ (l_bean h b) (λ bean. by bean.kind)
     where
-      by : (k : Kind) → Steady h h (pre_destroy n v k)
+      by : (k : Kind) → Steady h h (clean_up_bean n v k)
       by (Kind.Class c) = l_lifecycle h n roles.PreDestroy c.pre_destroy.callbacks c.pre_destroy.chain
       by (Kind.Producer p) = l_each h p.disposers (dispose p v) (λ d. l_served p.declaring d (v ∷ []) owners.Borrower)
 
-  pub l_release : (n : ℕ) (ns : List ℕ) → Steady h h (release_of n ns)
+  pub l_release : (n : ℕ) (ns : List ℕ) → Steady h h (release_from n ns)
   l_release n [] = tt
-  l_release n (d ∷ ns) = then h (picked (d ∷ ns)) _ (l_picked h (d ∷ ns)) λ i. then h (present (slice_get (d ∷ ns) i)) _ (l_present h _) λ x. then h (call (Task.Destroy x)) (λ _. call (Task.Release n)) (l_call h (Task.Destroy x)) (λ _. l_call h (Task.Release n))
+  l_release n (d ∷ ns) = then h (pick (d ∷ ns)) _ (l_picked h (d ∷ ns)) λ i. then h (require_present (slice_get (d ∷ ns) i)) _ (l_present h _) λ x. then h (call (Task.Destroy x)) (λ _. call (Task.Release n)) (l_call h (Task.Destroy x)) (λ _. l_call h (Task.Release n))
 
   pub l_latest : (o : Option ℕ) → Steady h h (dismiss_latest o)
   l_latest None = tt
   l_latest (Some n) = then h (call (Task.Destroy n)) (λ _. call Task.Dismiss) (l_call h (Task.Destroy n)) (λ _. l_call h Task.Dismiss)
 
-  pub l_clear : (c : Context) (o : Option ℕ) → Steady h h (clear_of c o)
+  pub l_clear : (c : Context) (o : Option ℕ) → Steady h h (clear_from c o)
   l_clear c None = tt
   l_clear c (Some n) = then h (call (Task.Destroy n)) (λ _. call (Task.Clear c)) (l_call h (Task.Destroy n)) (λ _. l_call h (Task.Clear c))
 
@@ -331,25 +331,25 @@ module _ (h : Height) where
 
   pub l_construct : (n : ℕ) (points : List Asked) (chain : Lifecycle) → Steady h h (construct n points chain)
   l_construct n points chain =
-      l_invoked h n roles.AroundConstruct chain.callbacks [] (handle (provide points (owners.Instance n)) (λ _. handle (call (Task.Rest chain.chain)) (λ _. handle invocation (λ v. handle (require v.completed built_in.CreationException) (λ _. finished) throw) throw) throw) throw) λ k.
+      l_invoked h n roles.AroundConstruct chain.callbacks [] (handle (provide points (owners.Instance n)) (λ _. handle (call (Task.Rest chain.chain)) (λ _. handle invocation (λ v. handle (require v.completed built_in.CreationException) (λ _. finish) throw) throw) throw) throw) λ k.
       then k (provide points (owners.Instance n)) _ (l_provide k points (owners.Instance n)) λ _.
       then k (call (Task.Rest chain.chain)) _ (l_call k (Task.Rest chain.chain)) λ _.
       then k invocation _ (l_invocation k) λ v. then k (require v.completed built_in.CreationException) _ (l_require k _ _) (λ _. tt)
 
   pub l_inject : (n : ℕ) (field : Name) (point : Asked) → Steady h h (inject n field point)
-  l_inject n field point = then h (injected point (owners.Instance n)) _ (l_injected h point (owners.Instance n)) (λ _. tt)
+  l_inject n field point = then h (resolve_point point (owners.Instance n)) _ (l_injected h point (owners.Instance n)) (λ _. tt)
 
-  pub l_step : (n : ℕ) (s : Step) → Steady h h (step n s)
+  pub l_step : (n : ℕ) (s : Step) → Steady h h (take_step n s)
   l_step n (Step.Intercept i) = l_call h (Task.Intercept i n)
   l_step n (Step.Construct points chain) = l_construct n points chain
   l_step n (Step.Inject field point) = l_inject n field point
-  l_step n (Step.Initialize m points) = then h (all_injected points (owners.Instance n)) (λ rs. call (Task.Body (running n m.place m.body [] rs []))) (l_all_injected h points (owners.Instance n)) (λ rs. l_call h (Task.Body (running n m.place m.body [] rs [])))
+  l_step n (Step.Initialize m points) = then h (resolve_points points (owners.Instance n)) (λ rs. call (Task.Body (body_at_start n m.place m.body [] rs []))) (l_all_injected h points (owners.Instance n)) (λ rs. l_call h (Task.Body (body_at_start n m.place m.body [] rs [])))
   l_step n (Step.Complete chain) = l_lifecycle h n roles.PostConstruct chain.callbacks chain.chain
 
 module _ (h : Height) where
-  pub l_produced : (n m : ℕ) (s : Source) → Steady h h (produced n m s)
+  pub l_produced : (n m : ℕ) (s : Source) → Steady h h (call_producer n m s)
   l_produced n m (Source.ProducerMethod producer) = l_invoke h m producer [] (owners.Instance n)
-  l_produced n m (Source.ProducerField field) = then h (instance m) _ (l_instance h m) λ o. then h (present (at o.fields field)) _ (l_present h _) (λ _. tt)
+  l_produced n m (Source.ProducerField field) = then h (instance m) _ (l_instance h m) λ o. then h (require_present (at o.fields field)) _ (l_present h _) (λ _. tt)
 
   pub l_accept : (b : Bool) (n : ℕ) (g : Given) → Steady h h (accept b n g)
   l_accept true n (Given.Result values.Null) = tt
@@ -364,12 +364,12 @@ module _ (h : Height) where
 module _ (h : Height) where
   pub l_produce : (n : ℕ) (scope : Scope) (p : Product) → Steady h h (produce n scope p)
   l_produce n scope p =
-      then h (borrowing (handle (receiver p.declaring) (λ m. produced n m p.source) throw)) _
-      (l_borrowing h (handle (receiver p.declaring) (λ m. produced n m p.source) throw) (λ k. then k (receiver p.declaring) (λ m. produced n m p.source) (l_receiver k p.declaring) (λ m. l_produced k n m p.source)))
+      then h (borrow_for (handle (obtain_receiver p.declaring) (λ m. call_producer n m p.source) throw)) _
+      (l_borrowing h (handle (obtain_receiver p.declaring) (λ m. call_producer n m p.source) throw) (λ k. then k (obtain_receiver p.declaring) (λ m. call_producer n m p.source) (l_receiver k p.declaring) (λ m. l_produced k n m p.source)))
       (λ v. l_accept h (is_normal scope) n v)
 
-  pub l_made_by : (n : ℕ) (bean : Bean) (k : Kind) → Steady h h (made_by n bean k)
-  l_made_by n bean (Kind.Class c) = then h (each c.plan (step n)) _ (l_each h c.plan (step n) (l_step h n)) (λ _. tt)
+  pub l_made_by : (n : ℕ) (bean : Bean) (k : Kind) → Steady h h (make n bean k)
+  l_made_by n bean (Kind.Class c) = then h (each c.plan (take_step n)) _ (l_each h c.plan (take_step n) (l_step h n)) (λ _. tt)
   l_made_by n bean (Kind.Producer p) = l_produce n bean.scope p
 
   -- ---- events
@@ -380,61 +380,61 @@ module _ (h : Height) where
   pub l_deliver : (o : Observer) (v : Value) → Steady h h (deliver o v)
   l_deliver o v =
       then h (bean_at o.bean) _ (l_bean h o.bean) λ bean t w.
-      l_if h (is_skipped w o bean) finished (handle (observe o v) (λ _. finished) (λ x. rethrow x built_in.ObserverException)) tt (caught h (observe o v) _ _ (l_served h o.bean o.member (v ∷ []) owners.Borrower) (λ _. tt) (λ x. l_rethrow h _ x built_in.ObserverException))
+      l_if h (is_skipped w o bean) finish (handle (observe o v) (λ _. finish) (λ x. rethrow x built_in.ObserverException)) tt (caught h (observe o v) _ _ (l_served h o.bean o.member (v ∷ []) owners.Borrower) (λ _. tt) (λ x. l_rethrow h _ x built_in.ObserverException))
 
   pub l_notify : (os : List Observer) (v : Value) → Steady h h (notify os v)
   l_notify [] v = tt
   l_notify (o ∷ os) v =
-      then h (picked (o ∷ os)) _ (l_picked h (o ∷ os)) λ i. then h (present (slice_get (o ∷ os) i)) _ (l_present h _) λ x.
+      then h (pick (o ∷ os)) _ (l_picked h (o ∷ os)) λ i. then h (require_present (slice_get (o ∷ os) i)) _ (l_present h _) λ x.
       then h (deliver x v) (λ _. call (Task.Notify (remove (o ∷ os) i) v)) (l_deliver x v) (λ _. l_call h (Task.Notify (remove (o ∷ os) i) v))
 
 -- ---- commands
 
 module _ (h : Height) where
-  pub l_event : (what : BuiltIn) (c : Context) → Steady h h (context_event what c)
+  pub l_event : (what : BuiltIn) (c : Context) → Steady h h (fire_context_event what c)
   l_event what c = let t = Task.Fire (number_of built_in.Object) (qualifier what c ∷ []) values.Null in l_quietly h (call t) (l_call h t)
 
-  pub l_container : (class : BuiltIn) → Steady h h (container_event class)
+  pub l_container : (class : BuiltIn) → Steady h h (fire_container_event class)
   l_container class = let t = Task.Fire (number_of class) [] values.Null in l_quietly h (call t) (l_call h t)
 
   pub l_close : (c : Context) → Steady h h (close c)
-  l_close c = then h (context_event built_in.BeforeDestroyed c) _ (l_event built_in.BeforeDestroyed c) λ _. then h (call (Task.Clear c)) _ (l_call h (Task.Clear c)) λ _. then h (context_event built_in.Destroyed c) _ (l_event built_in.Destroyed c) (λ _. tt)
+  l_close c = then h (fire_context_event built_in.BeforeDestroyed c) _ (l_event built_in.BeforeDestroyed c) λ _. then h (call (Task.Clear c)) _ (l_call h (Task.Clear c)) λ _. then h (fire_context_event built_in.Destroyed c) _ (l_event built_in.Destroyed c) (λ _. tt)
 
   pub l_begin : (r : List ℕ) (s : Option (List ℕ)) → Steady h h (begin r s)
-  l_begin r None = λ t w. then h (context_event built_in.Initialized (Request r)) _ (l_event built_in.Initialized (Request r)) (λ _. tt)
+  l_begin r None = λ t w. then h (fire_context_event built_in.Initialized (Request r)) _ (l_event built_in.Initialized (Request r)) (λ _. tt)
   l_begin r (Some s) = λ t w.
-      then h (begin_session s) _ (λ t w. l_if h (is_new w.contexts s) (alter (Change.BeginSession s)) done tt tt) λ _ t2 w2.
-      then h (elim (is_new w.contexts s) as (λ _. Prog (Unit {0})) [ true ↦ context_event built_in.Initialized (Session s) | false ↦ done ]) _ (l_if h (is_new w.contexts s) (context_event built_in.Initialized (Session s)) done (l_event built_in.Initialized (Session s)) tt) λ _.
-      then h (context_event built_in.Initialized (Request r)) _ (l_event built_in.Initialized (Request r)) (λ _. tt)
+      then h (begin_session s) _ (λ t w. l_if h (is_new w.contexts s) (alter (Change.BeginSession s)) do_nothing tt tt) λ _ t2 w2.
+      then h (elim (is_new w.contexts s) as (λ _. Prog (Unit {0})) [ true ↦ fire_context_event built_in.Initialized (Session s) | false ↦ do_nothing ]) _ (l_if h (is_new w.contexts s) (fire_context_event built_in.Initialized (Session s)) do_nothing (l_event built_in.Initialized (Session s)) tt) λ _.
+      then h (fire_context_event built_in.Initialized (Request r)) _ (l_event built_in.Initialized (Request r)) (λ _. tt)
 
   pub l_end_session : (w : World) (s : Option (List ℕ)) → Steady h h (end_session w s)
   l_end_session w None = tt
-  l_end_session w (Some s) = l_if h _ (close (Session s)) finished (l_close (Session s)) tt
+  l_end_session w (Some s) = l_if h _ (close (Session s)) finish (l_close (Session s)) tt
 
   pub l_end : (r : List ℕ) → Steady h h (end r)
   l_end r t w = then h (close (Request r)) _ (l_close (Request r)) (λ _ t2 w2. l_end_session w2 w2.environment.session)
 
   pub l_invalidate : (s : List ℕ) → Steady h h (invalidate s)
-  l_invalidate s t w = l_if h (is_used w.contexts s) (handle (alter (Change.Mark s)) (λ _. finished) throw) (handle (standing_alone_in s) (λ _. close (Session s)) throw) tt (l_close (Session s))
+  l_invalidate s t w = l_if h (is_used w.contexts s) (handle (alter (Change.Mark s)) (λ _. finish) throw) (handle (stand_alone_in s) (λ _. close (Session s)) throw) tt (l_close (Session s))
 
   pub l_end_alone : (s : List ℕ) → Steady h h (end_alone s)
   l_end_alone s = l_close (Session s)
 
 module _ (h : Height) where
-  pub l_used : (asked : Asked) (f : ℕ → Prog Given) → ((k : Height) (n : ℕ) → Steady k k (f n)) → Steady h h (used asked f)
+  pub l_used : (asked : Asked) (f : ℕ → Prog Given) → ((k : Height) (n : ℕ) → Steady k k (f n)) → Steady h h (use_bean asked f)
   l_used asked f q =
-      l_borrowing h (handle (resolved asked) (λ b. handle (reference b owners.Borrower) (λ r. handle (use_of r) f throw) throw) throw) λ k.
-      then k (resolved asked) (λ b. handle (reference b owners.Borrower) (λ r. handle (use_of r) f throw) throw) (l_resolved k asked) λ b. then k (reference b owners.Borrower) (λ r. handle (use_of r) f throw) (l_reference k b owners.Borrower) λ r. then k (use_of r) f (l_use k r) (q k)
+      l_borrowing h (handle (resolve asked) (λ b. handle (refer_to b owners.Borrower) (λ r. handle (reach_instance r) f throw) throw) throw) λ k.
+      then k (resolve asked) (λ b. handle (refer_to b owners.Borrower) (λ r. handle (reach_instance r) f throw) throw) (l_resolved k asked) λ b. then k (refer_to b owners.Borrower) (λ r. handle (reach_instance r) f throw) (l_reference k b owners.Borrower) λ r. then k (reach_instance r) f (l_use k r) (q k)
 
-  pub l_shutdown : Steady h h shutdown
+  pub l_shutdown : Steady h h shut_down
   l_shutdown t w =
       then h (each (requests_of w.contexts) end) _ (l_each h (requests_of w.contexts) end (l_end h)) λ _ t2 w2.
       then h (each (sessions_of w2.contexts) end_alone) _ (l_each h (sessions_of w2.contexts) end_alone (l_end_alone h)) λ _ t3 w3.
-      then h (container_event built_in.Shutdown) _ (l_container h built_in.Shutdown) λ _.
+      then h (fire_container_event built_in.Shutdown) _ (l_container h built_in.Shutdown) λ _.
       then h (close Application) _ (l_close h Application) (λ _. tt)
 
   pub l_task : (c : Command) → Steady h h (task c)
-  l_task Command.Boot = then h (context_event built_in.Initialized Application) _ (l_event h built_in.Initialized Application) λ _. then h (container_event built_in.Startup) _ (l_container h built_in.Startup) (λ _. tt)
+  l_task Command.Boot = then h (fire_context_event built_in.Initialized Application) _ (l_event h built_in.Initialized Application) λ _. then h (fire_container_event built_in.Startup) _ (l_container h built_in.Startup) (λ _. tt)
   l_task (Command.Begin r s) = l_begin h r s
   l_task (Command.End r) = l_end h r
   l_task (Command.Invalidate s) = l_invalidate h s

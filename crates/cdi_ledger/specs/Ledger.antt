@@ -3,7 +3,7 @@ use Rattle.std.specs.Prelude.{ℕ, ◌+◌, ◌≡◌, List, [], ◌∷◌, Bool
 use Rattle.cdi_base.specs.declared.entry.Entry.{Entry}
 use Rattle.cdi_base.specs.declared.entry.Entry.TheVariants as entries
 use Rattle.cdi_machine.specs.Tables.{Tables}
-use Rattle.cdi_machine.specs.World.{World, before_boot, begun}
+use Rattle.cdi_machine.specs.World.{World, before_boot, at_begin}
 use Rattle.cdi_machine.specs.Commands.{Command, task}
 use Rattle.cdi_machine.specs.Programs.{Given, Prog}
 use Rattle.cdi_machine.specs.Runs.{Legal, Outcome, Runs}
@@ -14,20 +14,20 @@ pub data Item : Type 0 where
   Between : ℕ → Item
 
 -- The items of a run, the latest first, behind those before it.
-abbrev pub told : {tables : Tables} {legal : Legal} {Starved : Type 0} {p : Prog Given} {w v : World} {o : Outcome} → List Item → Runs tables legal Starved p w o v → List Item
-told h Runs.returns = h
-told h Runs.throws = h
-told h Runs.cuts = h
-told h (Runs.misses r) = told h r
-told h (Runs.sees r) = told h r
-told h (Runs.changes r) = told h r
-told h (Runs.writes {e = e} l r) = told (Wrote e ∷ h) r
-told h (Runs.is_full l) = h
-told h (Runs.marks {n = n} r) = told (Between n ∷ h) r
-told h (Runs.does a l r) = told h r
-told h (Runs.picks i l c r) = told h r
-told h (Runs.calls r1 r) = told (told h r1) r
-told h (Runs.starves s) = h
+abbrev pub items_of : {tables : Tables} {legal : Legal} {Starved : Type 0} {p : Prog Given} {w v : World} {o : Outcome} → List Item → Runs tables legal Starved p w o v → List Item
+items_of h Runs.returns = h
+items_of h Runs.throws = h
+items_of h Runs.cuts = h
+items_of h (Runs.misses r) = items_of h r
+items_of h (Runs.sees r) = items_of h r
+items_of h (Runs.changes r) = items_of h r
+items_of h (Runs.writes {e = e} l r) = items_of (Wrote e ∷ h) r
+items_of h (Runs.is_full l) = h
+items_of h (Runs.marks {n = n} r) = items_of (Between n ∷ h) r
+items_of h (Runs.does a l r) = items_of h r
+items_of h (Runs.picks i l c r) = items_of h r
+items_of h (Runs.calls r1 r) = items_of (items_of h r1) r
+items_of h (Runs.starves s) = h
 
 -- what has become of a number
 pub data Fate : Type 0 where
@@ -112,7 +112,7 @@ pub record InOrder (h : List Item) : Type 0 where
 -- The lists of items of a container: after some commands, at the world that they left.
 pub data Ledger (tables : Tables) (legal : Legal) : World → List Item → Type 0 where
   begins : (ticks depth : ℕ) → Ledger tables legal (before_boot ticks depth) []
-  goes : {w v : World} {h : List Item} {o : Outcome} (c : Command) → Ledger tables legal w h → (r : Runs tables legal ⊥ (task c) (begun w) o v) → Ledger tables legal v (told h r)
+  goes : {w v : World} {h : List Item} {o : Outcome} (c : Command) → Ledger tables legal w h → (r : Runs tables legal ⊥ (task c) (at_begin w) o v) → Ledger tables legal v (items_of h r)
 
 -- At each end of a command, cut or not, what was written is in order.
 abbrev pub KeepsOrder : Tables → Legal → Type 0

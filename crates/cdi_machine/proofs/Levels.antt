@@ -10,7 +10,7 @@ use Rattle.cdi_store.specs.declared.instance.Instance.{Instance}
 use Rattle.cdi_store.specs.Live.{all_but}
 use Rattle.cdi_machine.specs.Words.{Name}
 use Rattle.cdi_machine.specs.Tables.{Tables}
-use Rattle.cdi_machine.specs.World.{World, Change, changed, instance_at, for_instance, with_making, with_owned, without_owned, without_making, on_top, below}
+use Rattle.cdi_machine.specs.World.{World, Change, after_change, instance_at, for_instance, with_making, with_owned, without_owned, without_making, on_top, below}
 use Rattle.cdi_machine.specs.Programs.{Task, Given, Completion, Prog, ret, throw, cut, miss, see, change, tick, mark, act, choose, nested, handle}
 use Rattle.cdi_machine.specs.Machine.{machine}
 use Rattle.cdi_machine.specs.Runs.{Legal, Ends as Completes, Cut, Runs}
@@ -106,7 +106,7 @@ for_same : (w : World) (o : Option Instance) (f : Instance → World) → ((x : 
 for_same w None f h = refl
 for_same w (Some x) f h = h x
 
-pub shifted : (g : Change) (w : World) → height (changed g w) ≡ shift g (height w)
+pub shifted : (g : Change) (w : World) → height (after_change g w) ≡ shift g (height w)
 shifted (Change.Make component owner fields) w = making_same component owner _
 shifted (Change.Settle n) w = for_same w (instance_at w n) _ λ o. owned_same n o.component o.owner _
 shifted (Change.Discard n) w = for_same w (instance_at w n) _ λ o. failed_same o.component o.owner _

@@ -7,7 +7,7 @@ use Rattle.cdi_store.specs.declared.instance.Owner.{Owner}
 use Rattle.cdi_store.specs.declared.instance.Owner.TheVariants as owners
 use Rattle.cdi_store.specs.declared.instance.Instance.{Instance}
 use Rattle.cdi_machine.specs.Tables.{Tables}
-use Rattle.cdi_machine.specs.World.{World, Change, changed, written, instance_at, for_instance, with_making, with_owned, without_owned, without_making}
+use Rattle.cdi_machine.specs.World.{World, Change, after_change, with_entry, instance_at, for_instance, with_making, with_owned, without_owned, without_making}
 use Rattle.cdi_machine.specs.Programs.{Given, Prog, candidates}
 use Rattle.cdi_machine.specs.Runs.{Legal, Outcome, Runs, going_on}
 use Rattle.cdi_machine.specs.Laws.{SameEnd, OneRun, IsOne, OneSchedule, Widens, Goes, Grows}
@@ -42,7 +42,7 @@ for_still : (w : World) (o : Option Instance) (f : Instance → World) → ((x :
 for_still w None f h = record { trace = refl; ticks = refl }
 for_still w (Some x) f h = h x
 
-pub changed_still : (g : Change) (w : World) → Still w (changed g w)
+pub changed_still : (g : Change) (w : World) → Still w (after_change g w)
 changed_still (Change.Make component owner fields) w = making_still component owner w _ (record { trace = refl; ticks = refl })
 changed_still (Change.Settle n) w = for_still w (instance_at w n) _ λ o. owned_still n o.component o.owner w _ (record { trace = refl; ticks = refl })
 changed_still (Change.Discard n) w = for_still w (instance_at w n) _ λ o. failed_still o.component o.owner w _ (record { trace = refl; ticks = refl })
@@ -85,7 +85,7 @@ pub longer : (xs : List Entry) (e : Entry) → length (xs ++ e ∷ []) ≡ lengt
 longer [] e = refl
 longer (x ∷ xs) e = let h = longer xs e in omega arith
 
-pub goes_written : (e : Entry) (w : World) → length w.trace < w.ticks → Goes w (written e w)
+pub goes_written : (e : Entry) (w : World) → length w.trace < w.ticks → Goes w (with_entry e w)
 goes_written e w h = record { more = e ∷ []; trace = refl; ticks = refl; budget = λ _. let l = longer w.trace e in omega arith }
 
 -- b goes on from a
@@ -127,7 +127,7 @@ module _ (tables : Tables) (legal : Legal) (Starved : Type 0) where
   grows p w v o r = goes r
 
 module _ (tables : Tables) (legal : Legal) where
-  wrote : (w : World) {e f : Entry} {p q : Prog Given} {o o' : Outcome} {v v' : World} (zs : List Entry) → Runs tables legal ⊥ p (written e w) o v → Runs tables legal ⊥ q (written f w) o' v' → IsFront v.trace zs → IsFront v'.trace zs → e ≡ f
+  wrote : (w : World) {e f : Entry} {p q : Prog Given} {o o' : Outcome} {v v' : World} (zs : List Entry) → Runs tables legal ⊥ p (with_entry e w) o v → Runs tables legal ⊥ q (with_entry f w) o' v' → IsFront v.trace zs → IsFront v'.trace zs → e ≡ f
   wrote w zs r s a b = let f = front_trans (front_of (goes tables legal ⊥ r)) a in let g = front_trans (front_of (goes tables legal ⊥ s)) b in same_entry w.trace f.rest g.rest zs f.is g.is
 
   same : {p : Prog Given} {w v v' : World} {o o' : Outcome} (zs : List Entry) → Runs tables legal ⊥ p w o v → Runs tables legal ⊥ p w o' v' → IsFront v.trace zs → IsFront v'.trace zs → SameEnd o o' v v'
@@ -150,13 +150,13 @@ module _ (tables : Tables) (legal : Legal) where
   same zs (Runs.marks r) (Runs.marks r') a b = same zs r r' a b
   same {w = w} {v' = v'} {o' = o'} zs (Runs.does {k = k} x g (Runs.writes h r)) (Runs.does y g' (Runs.writes h' r')) a b =
       let q = wrote w zs r' r b a in let e : y ≡ x = cc in
-      same zs r (subst (λ z. Runs tables legal ⊥ (k z) (written (entries.Did z) w) o' v') e r') a b
+      same zs r (subst (λ z. Runs tables legal ⊥ (k z) (with_entry (entries.Did z) w) o' v') e r') a b
   same zs (Runs.does x g (Runs.writes h r)) (Runs.does y g' (Runs.is_full h')) a b = absurd (omega arith)
   same zs (Runs.does x g (Runs.is_full h)) (Runs.does y g' (Runs.writes h' r')) a b = absurd (omega arith)
   same zs (Runs.does x g (Runs.is_full h)) (Runs.does y g' (Runs.is_full h')) a b = record { outcome = refl; world = refl }
   same {w = w} {v' = v'} {o' = o'} zs (Runs.picks {n = n} {k = k} i l c (Runs.writes h r)) (Runs.picks j l' c' (Runs.writes h' r')) a b =
       let q = wrote w zs r' r b a in let e : j ≡ i = cc in
-      same zs r (subst (λ z. Runs tables legal ⊥ (k z) (written (entries.Pick (candidates n) z) w) o' v') e r') a b
+      same zs r (subst (λ z. Runs tables legal ⊥ (k z) (with_entry (entries.Pick (candidates n) z) w) o' v') e r') a b
   same zs (Runs.picks i l c (Runs.writes h r)) (Runs.picks j l' c' (Runs.is_full h')) a b = absurd (omega arith)
   same zs (Runs.picks i l c (Runs.is_full h)) (Runs.picks j l' c' (Runs.writes h' r')) a b = absurd (omega arith)
   same zs (Runs.picks i l c (Runs.is_full h)) (Runs.picks j l' c' (Runs.is_full h')) a b = record { outcome = refl; world = refl }

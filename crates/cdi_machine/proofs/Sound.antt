@@ -6,14 +6,14 @@ use Rattle.cdi_base.specs.declared.entry.Entry.TheVariants as entries
 use Rattle.cdi_base.specs.declared.reply.Cause.TheVariants as causes
 use Rattle.cdi_base.specs.declared.reply.Reply.{Reply}
 use Rattle.cdi_base.specs.declared.reply.Refusal.{Refusal}
-use Rattle.cdi_machine.specs.World.{World, changed, written}
+use Rattle.cdi_machine.specs.World.{World, after_change, with_entry}
 use Rattle.cdi_machine.specs.Programs.{Task, Given, Completion, Prog, ret, throw, cut, miss, see, change, tick, mark, act, choose, nested, candidates}
 use Rattle.cdi_machine.specs.Machine.{machine}
 use Rattle.cdi_machine.specs.Runs.{Outcome, Ends, Cut, Runs}
-use Rattle.cdi_machine.specs.World.{begun}
+use Rattle.cdi_machine.specs.World.{at_begin}
 use Rattle.cdi_machine.specs.Commands.{Command, task}
 use Rattle.cdi_machine.specs.Container.{State, Said, refusal, Answers, Plays}
-use Rattle.cdi_machine.specs.Evaluator.{Setting, legal_in, Came, after_task, after_entry, steps, exec, evaluated, said, answered, answer, played}
+use Rattle.cdi_machine.specs.Evaluator.{Setting, legal_in, Came, after_task, after_entry, steps, exec, evaluation, saying, answer_by, answer, performance}
 
 is_less : (a b : ℕ) → nat_lt a b ≡ true → a < b
 is_less a b e = grind arith
@@ -45,8 +45,8 @@ module _ (s : Setting) where
 
   wrote : (x : Entry) (p : Prog Given) (f : World → Came) (w : World) → ((u : World) (o : Outcome) (v : World) → f u ≡ Some (o, v) → Leads p u o v) → (o : Outcome) (v : World) → after_entry x w f ≡ Some (o, v) → Leads (tick x p) w o v
   wrote x p f w then o v e =
-      elim (nat_lt (length w.trace) w.ticks) as (λ b. nat_lt (length w.trace) w.ticks ≡ b → ◌≡◌ {A = Came} (elim b [ true ↦ f (written x w) | false ↦ Some (Cut causes.Ticks, w) ]) (Some (o, v)) → Leads (tick x p) w o v) [
-        | true ↦ λ h q. Runs.writes (is_less (length w.trace) w.ticks h) (then (written x w) o v q)
+      elim (nat_lt (length w.trace) w.ticks) as (λ b. nat_lt (length w.trace) w.ticks ≡ b → ◌≡◌ {A = Came} (elim b [ true ↦ f (with_entry x w) | false ↦ Some (Cut causes.Ticks, w) ]) (Some (o, v)) → Leads (tick x p) w o v) [
+        | true ↦ λ h q. Runs.writes (is_less (length w.trace) w.ticks h) (then (with_entry x w) o v q)
         | false ↦ λ h q. ended (tick x p) w _ o v (Runs.is_full (is_least (length w.trace) w.ticks h)) q
       ] refl e
 
@@ -56,7 +56,7 @@ module _ (s : Setting) where
   sound rec tells (cut cause) w o v e = ended (cut cause) w _ o v Runs.cuts e
   sound rec tells (miss p) w o v e = Runs.misses (sound rec tells p w o v e)
   sound rec tells (see k) w o v e = Runs.sees (sound rec tells (k s.tables w) w o v e)
-  sound rec tells (change g p) w o v e = Runs.changes (sound rec tells p (changed g w) o v e)
+  sound rec tells (change g p) w o v e = Runs.changes (sound rec tells p (after_change g w) o v e)
   sound rec tells (tick x p) w o v e = wrote x p (λ u. steps s rec p u) w (λ u o1 v1 q. sound rec tells p u o1 v1 q) o v e
   sound rec tells (mark n p) w o v e = Runs.marks (sound rec tells p w o v e)
   sound rec tells (act b fields view k) w o v e =
@@ -75,32 +75,32 @@ module _ (s : Setting) where
   sound_tasks (suc n) t w o v e = sound (exec s n) (sound_tasks n) (machine t) w o v e
 
   -- what is evaluated is a run
-  pub evaluates : (n : ℕ) → Tells (evaluated s n)
+  pub evaluates : (n : ℕ) → Tells (evaluation s n)
   evaluates n = sound (exec s n) (sound_tasks n)
 
   -- what is answered by computing is answered
   answers : (n : ℕ) (c : Command) (u : State) (r : Reply) (t : State) → answer s n c u ≡ Some (r, t) → Answers s.tables (legal_in s) u c r t
-  answers n c u r t e = answers_by (refusal s.tables u c) (evaluated s n (task c) (begun u.world)) refl refl e
+  answers n c u r t e = answers_by (refusal s.tables u c) (evaluation s n (task c) (at_begin u.world)) refl refl e
     where
       moved : (r' : Reply) (t' : State) → Answers s.tables (legal_in s) u c r' t' → ◌≡◌ {A = Option (Reply × State)} (Some (r', t')) (Some (r, t)) → Answers s.tables (legal_in s) u c r t
       moved r' t' a e =
           let q : ◌≡◌ {A = Reply × State} (r', t') (r, t) = cc in
           subst (λ x. Answers s.tables (legal_in s) u c x t) (ap (λ (x : Reply × State). x.0) q) (subst (λ x. Answers s.tables (legal_in s) u c r' x) (ap (λ (x : Reply × State). x.1) q) a)
 
-      answers_by : (why : Option Refusal) (came : Came) → refusal s.tables u c ≡ why → evaluated s n (task c) (begun u.world) ≡ came → answered s n c u why came ≡ Some (r, t) → Answers s.tables (legal_in s) u c r t
+      answers_by : (why : Option Refusal) (came : Came) → refusal s.tables u c ≡ why → evaluation s n (task c) (at_begin u.world) ≡ came → answer_by s n c u why came ≡ Some (r, t) → Answers s.tables (legal_in s) u c r t
       answers_by (Some why) came h k e = moved _ _ (Answers.refuses why h) e
       answers_by None None h k e = absurd (cc)
-      answers_by None (Some (o, v)) h k e = moved _ _ (Answers.carries_out h (evaluates n (task c) (begun u.world) o v k)) e
+      answers_by None (Some (o, v)) h k e = moved _ _ (Answers.carries_out h (evaluates n (task c) (at_begin u.world) o v k)) e
 
-  went : (n : ℕ) (c : Command) (cs : List Command) (u : State) (r : Option (Reply × State)) (xs : List Said) → answer s n c u ≡ r → ((t : State) (ys : List Said) → played s n t cs ≡ Some ys → Plays s.tables (legal_in s) t cs ys) → (elim r [ None ↦ None | Some rt ↦ said s rt.1 rt.0 (played s n rt.1 cs) ]) ≡ Some xs → Plays s.tables (legal_in s) u (c ∷ cs) xs
+  went : (n : ℕ) (c : Command) (cs : List Command) (u : State) (r : Option (Reply × State)) (xs : List Said) → answer s n c u ≡ r → ((t : State) (ys : List Said) → performance s n t cs ≡ Some ys → Plays s.tables (legal_in s) t cs ys) → (elim r [ None ↦ None | Some rt ↦ saying s rt.1 rt.0 (performance s n rt.1 cs) ]) ≡ Some xs → Plays s.tables (legal_in s) u (c ∷ cs) xs
   went n c cs u None xs h then e = absurd (cc)
   went n c cs u (Some (r, t)) xs h then e =
-      elim (played s n t cs) as (λ m. played s n t cs ≡ m → said s t r m ≡ Some xs → Plays s.tables (legal_in s) u (c ∷ cs) xs) [
+      elim (performance s n t cs) as (λ m. performance s n t cs ≡ m → saying s t r m ≡ Some xs → Plays s.tables (legal_in s) u (c ∷ cs) xs) [
         | None ↦ λ k q. absurd (cc)
         | Some ys ↦ λ k q. let f : record { entries = t.world.trace; reply = r } ∷ ys ≡ xs = cc in subst (λ zs. Plays s.tables (legal_in s) u (c ∷ cs) zs) f (Plays.goes_on (answers n c u r t h) (then t ys k))
       ] refl e
 
   -- what is played by computing is played
-  pub plays : (n : ℕ) (u : State) (cs : List Command) (xs : List Said) → played s n u cs ≡ Some xs → Plays s.tables (legal_in s) u cs xs
+  pub plays : (n : ℕ) (u : State) (cs : List Command) (xs : List Said) → performance s n u cs ≡ Some xs → Plays s.tables (legal_in s) u cs xs
   plays n u [] xs e = let f : [] ≡ xs = cc in subst (λ zs. Plays s.tables (legal_in s) u [] zs) f Plays.ends
   plays n u (c ∷ cs) xs e = went n c cs u (answer s n c u) xs refl (λ t ys k. plays n t cs ys k) e

@@ -9,9 +9,9 @@ use Rattle.cdi_base.specs.declared.reply.Cause.TheVariants as causes
 use Rattle.cdi_store.specs.declared.instance.Instance.{Instance}
 use Rattle.cdi_machine.specs.Words.{Name}
 use Rattle.cdi_machine.specs.Tables.{Tables}
-use Rattle.cdi_machine.specs.World.{World, instance_at, changed, written}
-use Rattle.cdi_machine.specs.Destruction.{if_ready, destroying}
-use Rattle.cdi_machine.specs.Programs.{Task, Given, Completion, Gave, Threw, present, Prog, ret, throw, cut, miss, see, change, tick, mark, act, choose, nested, candidates, handle}
+use Rattle.cdi_machine.specs.World.{World, instance_at, after_change, with_entry}
+use Rattle.cdi_machine.specs.Destruction.{only_ready, destroy_ready}
+use Rattle.cdi_machine.specs.Programs.{Task, Given, Completion, Gave, Threw, require_present, Prog, ret, throw, cut, miss, see, change, tick, mark, act, choose, nested, candidates, handle}
 use Rattle.cdi_machine.specs.Machine.{machine}
 use Rattle.cdi_machine.specs.Runs.{Legal, Outcome, Ends as Completes, Cut, Runs, going_on}
 use Rattle.cdi_machine.specs.Laws.{Goes, IsServed}
@@ -93,7 +93,7 @@ goes_room {w} {v} g =
     let k = g.ticks in
     omega arith
 
-less_room : (e : Entry) (w : World) → length w.trace < w.ticks → room (written e w) < room w
+less_room : (e : Entry) (w : World) → length w.trace < w.ticks → room (with_entry e w) < room w
 less_room e w h = let l = longer w.trace e in omega arith
 
 module _ (tables : Tables) (legal : Legal) (served : IsServed legal) where
@@ -103,7 +103,7 @@ module _ (tables : Tables) (legal : Legal) (served : IsServed legal) where
   abbrev pub TasksHalt : ℕ → Type 0
   TasksHalt n = (t : Task) (w : World) → room w < n → Halts (machine t) w
 
-  wrote : (e : Entry) (p : Prog Given) (w : World) → ((length w.trace < w.ticks) → Halts p (written e w)) → Halts (tick e p) w
+  wrote : (e : Entry) (p : Prog Given) (w : World) → ((length w.trace < w.ticks) → Halts p (with_entry e w)) → Halts (tick e p) w
   wrote e p w f = by_test (nat_lt (length w.trace) w.ticks) refl
     where
       by_test : (b : Bool) → nat_lt (length w.trace) w.ticks ≡ b → Halts (tick e p) w
@@ -123,11 +123,11 @@ module _ (tables : Tables) (legal : Legal) (served : IsServed legal) where
   free n h (cut cause) w l = (_, w, Runs.cuts)
   free n h (miss p) w l = let r = free n h p w l in (r.0, r.1, Runs.misses r.2)
   free n h (see k) w l = let r = free n h (k tables w) w l in (r.0, r.1, Runs.sees r.2)
-  free n h (change g p) w l = let r = free n h p (changed g w) (rw (still_room (changed_still g w)) l) in (r.0, r.1, Runs.changes r.2)
-  free n h (tick e p) w l = wrote e p w (λ q. let s = less_room e w q in free n h p (written e w) (omega arith))
+  free n h (change g p) w l = let r = free n h p (after_change g w) (rw (still_room (changed_still g w)) l) in (r.0, r.1, Runs.changes r.2)
+  free n h (tick e p) w l = wrote e p w (λ q. let s = less_room e w q in free n h p (with_entry e w) (omega arith))
   free n h (mark m p) w l = let r = free n h p w l in (r.0, r.1, Runs.marks r.2)
-  free n h (act b fields view k) w l = acted b fields view k w (λ a. wrote (entries.Did a) (k a) w (λ q. let s = less_room (entries.Did a) w q in free n h (k a) (written (entries.Did a) w) (omega arith)))
-  free n h (choose m k) w l = chose m k w (λ i. wrote (entries.Pick (candidates m) i) (k i) w (λ q. let s = less_room (entries.Pick (candidates m) i) w q in free n h (k i) (written (entries.Pick (candidates m) i) w) (omega arith)))
+  free n h (act b fields view k) w l = acted b fields view k w (λ a. wrote (entries.Did a) (k a) w (λ q. let s = less_room (entries.Did a) w q in free n h (k a) (with_entry (entries.Did a) w) (omega arith)))
+  free n h (choose m k) w l = chose m k w (λ i. wrote (entries.Pick (candidates m) i) (k i) w (λ q. let s = less_room (entries.Pick (candidates m) i) w q in free n h (k i) (with_entry (entries.Pick (candidates m) i) w) (omega arith)))
   free n h (nested t k) w l =
       let a = h t w l in
       let s = goes_room (goes tables legal ⊥ a.2) in
@@ -141,13 +141,13 @@ module _ (tables : Tables) (legal : Legal) (served : IsServed legal) where
   tick_grows : {e : Entry} {p : Prog Given} {w u : World} {c : Completion Given} → Runs tables legal ⊥ (tick e p) w (Completes c) u → room u < room w
   tick_grows {e = e} {w = w} (Runs.writes h r) = let a = less_room e w h in let b = goes_room (goes tables legal ⊥ r) in omega arith
 
-  destroy_grows : (m : ℕ) (o : Option Instance) {w u : World} {v : Given} → Runs tables legal ⊥ (handle (present o) (λ o. destroying m o) throw) w (Completes (Gave v)) u → room u < room w
+  destroy_grows : (m : ℕ) (o : Option Instance) {w u : World} {v : Given} → Runs tables legal ⊥ (handle (require_present o) (λ o. destroy_ready m o) throw) w (Completes (Gave v)) u → room u < room w
   destroy_grows m None (Runs.misses r) = elim r [ ]
   destroy_grows m (Some o) r = tick_grows r
 
   after_call : (n : ℕ) → TasksHalt n → (r : ℕ) (t : Task) (k : Completion Given → Prog Given) (w u : World) (o : Outcome) → room w < suc n → Runs tables legal ⊥ (machine t) w o u → Unless t (λ c. Ranked r (k c)) → ((c : Completion Given) → Ranked r (k c) → room u < suc n → Halts (k c) u) → Halts (going_on o k) u
   after_call n h r t k w u (Cut cause) l a x f = (_, u, Runs.cuts)
-  after_call n h r (Task.Destroy m) k w u (Completes (Gave v)) l (Runs.sees a) x f = let g = destroy_grows m (if_ready (instance_at w m)) a in free n h (k (Gave v)) u (omega arith)
+  after_call n h r (Task.Destroy m) k w u (Completes (Gave v)) l (Runs.sees a) x f = let g = destroy_grows m (only_ready (instance_at w m)) a in free n h (k (Gave v)) u (omega arith)
   after_call n h r (Task.Destroy m) k w u (Completes (Threw e)) l a x f = let g = goes_room (goes tables legal ⊥ a) in f (Threw e) (x e) (omega arith)
   after_call n h r (Task.Obtain b) k w u (Completes c) l a x f = let g = goes_room (goes tables legal ⊥ a) in f c (x c) (omega arith)
   after_call n h r (Task.Create b owner) k w u (Completes c) l a x f = let g = goes_room (goes tables legal ⊥ a) in f c (x c) (omega arith)
@@ -168,11 +168,11 @@ module _ (tables : Tables) (legal : Legal) (served : IsServed legal) where
   ranked n h r q (cut cause) x w l = (_, w, Runs.cuts)
   ranked n h r q (miss p) x w l = let a = ranked n h r q p x w l in (a.0, a.1, Runs.misses a.2)
   ranked n h r q (see k) x w l = let a = ranked n h r q (k tables w) (x tables w) w l in (a.0, a.1, Runs.sees a.2)
-  ranked n h r q (change g p) x w l = let a = ranked n h r q p x (changed g w) (rw (still_room (changed_still g w)) l) in (a.0, a.1, Runs.changes a.2)
-  ranked n h r q (tick e p) x w l = wrote e p w (λ d. let s = less_room e w d in free n h p (written e w) (omega arith))
+  ranked n h r q (change g p) x w l = let a = ranked n h r q p x (after_change g w) (rw (still_room (changed_still g w)) l) in (a.0, a.1, Runs.changes a.2)
+  ranked n h r q (tick e p) x w l = wrote e p w (λ d. let s = less_room e w d in free n h p (with_entry e w) (omega arith))
   ranked n h r q (mark m p) x w l = let a = ranked n h r q p x w l in (a.0, a.1, Runs.marks a.2)
-  ranked n h r q (act b fields view k) x w l = acted b fields view k w (λ a. wrote (entries.Did a) (k a) w (λ d. let s = less_room (entries.Did a) w d in free n h (k a) (written (entries.Did a) w) (omega arith)))
-  ranked n h r q (choose m k) x w l = chose m k w (λ i. wrote (entries.Pick (candidates m) i) (k i) w (λ d. let s = less_room (entries.Pick (candidates m) i) w d in free n h (k i) (written (entries.Pick (candidates m) i) w) (omega arith)))
+  ranked n h r q (act b fields view k) x w l = acted b fields view k w (λ a. wrote (entries.Did a) (k a) w (λ d. let s = less_room (entries.Did a) w d in free n h (k a) (with_entry (entries.Did a) w) (omega arith)))
+  ranked n h r q (choose m k) x w l = chose m k w (λ i. wrote (entries.Pick (candidates m) i) (k i) w (λ d. let s = less_room (entries.Pick (candidates m) i) w d in free n h (k i) (with_entry (entries.Pick (candidates m) i) w) (omega arith)))
   ranked n h r q (nested t k) x w l =
       let a = q t w l x.0 in
       let b = after_call n h r t k w a.1 a.0 l a.2 x.1 (λ c y d. ranked n h r q (k c) y a.1 d) in

@@ -10,11 +10,11 @@ use Rattle.cdi_store.specs.declared.instance.Owner.TheVariants as owners
 use Rattle.cdi_contexts.specs.Contexts.{Contexts, Environment, OpenRequest, request_in, session_in, belongs_to, is_due}
 use Rattle.cdi_machine.specs.Words.{Name, Asked}
 use Rattle.cdi_machine.specs.World.{World, Change, no_environment}
-use Rattle.cdi_machine.specs.Programs.{Task, Given, Result, Prog, ret, see, done, call, finished, alter, each, instance, resolved, world, written_of, ◌>>=◌, ◌>>◌}
-use Rattle.cdi_machine.specs.Contexts.{reference, use_of}
+use Rattle.cdi_machine.specs.Programs.{Task, Given, Result, Prog, ret, see, do_nothing, call, finish, alter, each, instance, resolve, world, written_of, ◌>>=◌, ◌>>◌}
+use Rattle.cdi_machine.specs.Contexts.{refer_to, reach_instance}
 use Rattle.cdi_machine.specs.Bodies.{invoke_method}
-use Rattle.cdi_machine.specs.Destruction.{borrowing}
-use Rattle.cdi_machine.specs.Events.{context_event, container_event}
+use Rattle.cdi_machine.specs.Destruction.{borrow_for}
+use Rattle.cdi_machine.specs.Events.{fire_context_event, fire_container_event}
 
 pub data Command : Type 0 where
   Boot : Command
@@ -39,11 +39,11 @@ environment_of c None = no_environment
 environment_of c (Some r) = record { request = Some r; session = session_of (request_in c.requests r) }
 
 -- the rest of the command runs in the environment of the request
-abbrev pub standing_in : Option (List ℕ) → Prog (Unit {0})
-standing_in r = see λ t w. alter (Change.Stand (environment_of w.contexts r))
+abbrev pub stand_in : Option (List ℕ) → Prog (Unit {0})
+stand_in r = see λ t w. alter (Change.Stand (environment_of w.contexts r))
 
-abbrev pub standing_alone_in : List ℕ → Prog (Unit {0})
-standing_alone_in s = alter (Change.Stand (record { request = None; session = Some s }))
+abbrev pub stand_alone_in : List ℕ → Prog (Unit {0})
+stand_alone_in s = alter (Change.Stand (record { request = None; session = Some s }))
 
 -- ---- contexts
 
@@ -69,77 +69,77 @@ is_new c s = not (is_some (session_in c.sessions s))
 -- a context ends
 abbrev pub close : Context → Prog Given
 close c = do
-  context_event built_in.BeforeDestroyed c
+  fire_context_event built_in.BeforeDestroyed c
   alter (Change.Finish c)
   call (Task.Clear c)
   alter (Change.Close c)
-  context_event built_in.Destroyed c
-  finished
+  fire_context_event built_in.Destroyed c
+  finish
 
 -- ---- begin, end, invalidate
 
 abbrev pub begin_session : List ℕ → Prog (Unit {0})
-begin_session s = see λ t w. elim (is_new w.contexts s) [ true ↦ alter (Change.BeginSession s) | false ↦ done ]
+begin_session s = see λ t w. elim (is_new w.contexts s) [ true ↦ alter (Change.BeginSession s) | false ↦ do_nothing ]
 
 -- both contexts are open before the first event
 abbrev pub begin : List ℕ → Option (List ℕ) → Prog Given
 begin r None = do
   alter (Change.BeginRequest r None)
-  standing_in (Some r)
-  context_event built_in.Initialized (Request r)
-  finished
+  stand_in (Some r)
+  fire_context_event built_in.Initialized (Request r)
+  finish
 begin r (Some s) = do
   w ← world
   begin_session s
   alter (Change.BeginRequest r (Some s))
-  standing_in (Some r)
-  elim (is_new w.contexts s) [ true ↦ context_event built_in.Initialized (Session s) | false ↦ done ]
-  context_event built_in.Initialized (Request r)
-  finished
+  stand_in (Some r)
+  elim (is_new w.contexts s) [ true ↦ fire_context_event built_in.Initialized (Session s) | false ↦ do_nothing ]
+  fire_context_event built_in.Initialized (Request r)
+  finish
 
 abbrev pub end_session : World → Option (List ℕ) → Prog Given
-end_session w None = finished
-end_session w (Some s) = elim (is_due w.contexts s) [ true ↦ close (Session s) | false ↦ finished ]
+end_session w None = finish
+end_session w (Some s) = elim (is_due w.contexts s) [ true ↦ close (Session s) | false ↦ finish ]
 
 -- a session that is marked ends with its last request
 abbrev pub end : List ℕ → Prog Given
 end r = do
-  standing_in (Some r)
+  stand_in (Some r)
   close (Request r)
   w ← world
   end_session w w.environment.session
 
 abbrev pub invalidate : List ℕ → Prog Given
 invalidate s = see λ t w. elim (is_used w.contexts s) [
-  | true ↦ alter (Change.Mark s) >> finished
-  | false ↦ standing_alone_in s >> close (Session s)
+  | true ↦ alter (Change.Mark s) >> finish
+  | false ↦ stand_alone_in s >> close (Session s)
 ]
 
 -- ---- call, read
 
 -- a reference for the time of the command
-abbrev pub used : Asked → (ℕ → Prog Given) → Prog Given
-used asked f = borrowing do
-  b ← resolved asked
-  r ← reference b owners.Borrower
-  n ← use_of r
+abbrev pub use_bean : Asked → (ℕ → Prog Given) → Prog Given
+use_bean asked f = borrow_for do
+  b ← resolve asked
+  r ← refer_to b owners.Borrower
+  n ← reach_instance r
   f n
 
 abbrev pub call_method : Option (List ℕ) → Asked → Name → List Value → Prog Given
 call_method r asked method args = do
-  standing_in r
-  used asked λ n. invoke_method n method args
+  stand_in r
+  use_bean asked λ n. invoke_method n method args
 
 abbrev pub read : Option (List ℕ) → Asked → Prog Given
 read r asked = do
-  standing_in r
-  used asked λ n. do
+  stand_in r
+  use_bean asked λ n. do
     o ← instance n
     ret (Result o.value)
 
 abbrev pub fire : Option (List ℕ) → Name → List Use → Value → Prog Given
 fire r class qualifiers v = do
-  standing_in r
+  stand_in r
   qualifiers ← written_of qualifiers
   call (Task.Fire class qualifiers v)
 
@@ -147,26 +147,26 @@ fire r class qualifiers v = do
 
 abbrev pub boot : Prog Given
 boot = do
-  context_event built_in.Initialized Application
-  container_event built_in.Startup
-  finished
+  fire_context_event built_in.Initialized Application
+  fire_container_event built_in.Startup
+  finish
 
 abbrev pub end_alone : List ℕ → Prog Given
 end_alone s = do
-  standing_alone_in s
+  stand_alone_in s
   close (Session s)
 
-abbrev pub shutdown : Prog Given
-shutdown = do
+abbrev pub shut_down : Prog Given
+shut_down = do
   requests ← see λ t w. ret (requests_of w.contexts)
   each requests end
   sessions ← see λ t w. ret (sessions_of w.contexts)
   each sessions end_alone
-  standing_in None
-  container_event built_in.Shutdown
+  stand_in None
+  fire_container_event built_in.Shutdown
   close Application
   alter Change.Down
-  finished
+  finish
 
 abbrev pub task : Command → Prog Given
 task Boot = boot
@@ -176,5 +176,5 @@ task (Invalidate s) = invalidate s
 task (Call r asked method args) = call_method r asked method args
 task (Read r asked) = read r asked
 task (Fire r class qualifiers v) = fire r class qualifiers v
-task Live = finished
-task Shutdown = shutdown
+task Live = finish
+task Shutdown = shut_down

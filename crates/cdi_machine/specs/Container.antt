@@ -9,7 +9,7 @@ use Rattle.cdi_base.specs.Maps.{at}
 use Rattle.cdi_contexts.specs.Contexts.{Contexts, session_in}
 use Rattle.cdi_machine.specs.Words.{Name}
 use Rattle.cdi_machine.specs.Tables.{Tables, Method, Kind, Bean, Resolution, One}
-use Rattle.cdi_machine.specs.World.{World, begun, before_boot}
+use Rattle.cdi_machine.specs.World.{World, at_begin, before_boot}
 use Rattle.cdi_machine.specs.Programs.{Given, Result, Completion}
 use Rattle.cdi_machine.specs.Commands.{Command, task, is_open, is_new}
 use Rattle.cdi_machine.specs.Runs.{Legal, Outcome, Ends, Cut, Runs}
@@ -18,8 +18,8 @@ pub record State : Type 0 where
   pub world : World
   pub halted : Bool
 
-abbrev pub unstarted : ℕ → ℕ → State
-unstarted ticks depth = record { world = before_boot ticks depth; halted = false }
+abbrev pub before_commands : ℕ → ℕ → State
+before_commands ticks depth = record { world = before_boot ticks depth; halted = false }
 
 -- ---- refusals
 
@@ -67,24 +67,24 @@ wrong_count None n = false
 wrong_count (Some m) n = not (nat_eq m.count n)
 
 -- what the bean refuses: a call wants a method with so many values, a read wants a product
-abbrev pub call_refused : Option Bean → Name → ℕ → List (Bool × Refusal)
-call_refused None method n = []
-call_refused (Some bean) method n = elim bean.kind [
+abbrev pub call_refusals : Option Bean → Name → ℕ → List (Bool × Refusal)
+call_refusals None method n = []
+call_refusals (Some bean) method n = elim bean.kind [
   | Kind.Class c ↦ (no_method (at c.methods method), refusals.NoMethod) ∷ (wrong_count (at c.methods method) n, refusals.WrongCount) ∷ []
   | Kind.Producer p ↦ (true, refusals.NoMethod) ∷ []
 ]
 
-abbrev pub read_refused : Option Bean → List (Bool × Refusal)
-read_refused None = []
-read_refused (Some bean) = elim bean.kind [ Kind.Class c ↦ (true, refusals.NoMethod) ∷ [] | Kind.Producer p ↦ [] ]
+abbrev pub read_refusals : Option Bean → List (Bool × Refusal)
+read_refusals None = []
+read_refusals (Some bean) = elim bean.kind [ Kind.Class c ↦ (true, refusals.NoMethod) ∷ [] | Kind.Producer p ↦ [] ]
 
-abbrev pub resolved_to : Tables → Resolution → Option Bean
-resolved_to t (One b) = t.bean b
-resolved_to t _ = None
+abbrev pub bean_of : Tables → Resolution → Option Bean
+bean_of t (One b) = t.bean b
+bean_of t _ = None
 
 abbrev pub refused_by_tables : Tables → Command → List (Bool × Refusal)
-refused_by_tables t (Command.Call r asked method args) = (not (t.is_known asked), refusals.UnknownName) ∷ call_refused (resolved_to t (t.resolve asked)) method (length args)
-refused_by_tables t (Command.Read r asked) = (not (t.is_known asked), refusals.UnknownName) ∷ read_refused (resolved_to t (t.resolve asked))
+refused_by_tables t (Command.Call r asked method args) = (not (t.is_known asked), refusals.UnknownName) ∷ call_refusals (bean_of t (t.resolve asked)) method (length args)
+refused_by_tables t (Command.Read r asked) = (not (t.is_known asked), refusals.UnknownName) ∷ read_refusals (bean_of t (t.resolve asked))
 refused_by_tables t (Command.Fire r class qualifiers v) = (not (t.is_event class qualifiers), refusals.UnknownName) ∷ []
 refused_by_tables t c = []
 
@@ -116,8 +116,8 @@ state_after o w = record { world = w; halted = is_cut o }
 
 -- A refused command only ends the trace. Another is carried out, with an empty trace at first, and a cut halts the container.
 pub data Answers (tables : Tables) (legal : Legal) : State → Command → Reply → State → Type 0 where
-  refuses : {s : State} {c : Command} (r : Refusal) → refusal tables s c ≡ Some r → Answers tables legal s c (replies.Refused r) (record s { world = begun s.world })
-  carries_out : {s : State} {c : Command} {o : Outcome} {v : World} → refusal tables s c ≡ None → Runs tables legal ⊥ (task c) (begun s.world) o v → Answers tables legal s c (reply_to c o v) (state_after o v)
+  refuses : {s : State} {c : Command} (r : Refusal) → refusal tables s c ≡ Some r → Answers tables legal s c (replies.Refused r) (record s { world = at_begin s.world })
+  carries_out : {s : State} {c : Command} {o : Outcome} {v : World} → refusal tables s c ≡ None → Runs tables legal ⊥ (task c) (at_begin s.world) o v → Answers tables legal s c (reply_to c o v) (state_after o v)
 
 -- what was written for a command
 pub record Said : Type 0 where

@@ -15,16 +15,16 @@ use Rattle.cdi_store.specs.declared.instance.Owner.TheVariants as owners
 use Rattle.cdi_machine.specs.Words.{Name, Fields, Asked}
 use Rattle.cdi_machine.specs.Tables.{Code, Lifecycle, Step, Source, Product, Kind, Bean}
 use Rattle.cdi_machine.specs.World.{Change}
-use Rattle.cdi_machine.specs.Programs.{Task, Given, Result, Number, Prog, ret, handle, present, call, finished, raise, require, note, alter, each, bean_at, interceptor_at, instance, invocation, next_number, rethrow, ◌>>=◌, ◌>>◌}
+use Rattle.cdi_machine.specs.Programs.{Task, Given, Result, Number, Prog, ret, handle, require_present, call, finish, raise, require, note, alter, each, bean_at, interceptor_at, instance, invocation, next_number, rethrow, ◌>>=◌, ◌>>◌}
 use Rattle.cdi_machine.specs.Programs.Given.{Empty as NoInstance}
-use Rattle.cdi_machine.specs.Contexts.{is_normal, injected, all_injected}
-use Rattle.cdi_machine.specs.Bodies.{invoked, provide, invoke, lifecycle, running}
-use Rattle.cdi_machine.specs.Destruction.{borrowing, receiver}
+use Rattle.cdi_machine.specs.Contexts.{is_normal, resolve_point, resolve_points}
+use Rattle.cdi_machine.specs.Bodies.{invoke_by, provide, invoke, call_back, body_at_start}
+use Rattle.cdi_machine.specs.Destruction.{borrow_for, obtain_receiver}
 
 -- ---- ready, or not
 
-abbrev pub ready : ℕ → Prog Given
-ready n = do
+abbrev pub make_ready : ℕ → Prog Given
+make_ready n = do
   note (entries.Ready n)
   alter (Change.Settle n)
   ret (Number n)
@@ -36,20 +36,20 @@ discard n = do
   note (entries.Drop n)
   alter (Change.Discard n)
 
-abbrev pub created : ℕ → Given → Prog Given
-created n (Result values.Null) = do
+abbrev pub end_creation : ℕ → Given → Prog Given
+end_creation n (Result values.Null) = do
   discard n
   ret NoInstance
-created n g = ready n
+end_creation n g = make_ready n
 
 -- a creation by its steps: a null product is none, and where they throw, the creation has failed
-abbrev pub creating : ℕ → Prog Given → Prog Given
-creating n steps = handle steps (created n) λ x. do
+abbrev pub create_by : ℕ → Prog Given → Prog Given
+create_by n steps = handle steps (end_creation n) λ x. do
   discard n
   rethrow x built_in.CreationException
 
-abbrev pub new : Place → Component → Owner → Fields → Prog ℕ
-new place component owner fields = do
+abbrev pub begin_creation : Place → Component → Owner → Fields → Prog ℕ
+begin_creation place component owner fields = do
   n ← next_number
   note (entries.New n place)
   alter (Change.Make component owner fields)
@@ -59,38 +59,38 @@ new place component owner fields = do
 
 -- a construct chain that doesn't reach the constructor gives no instance
 abbrev pub construct : ℕ → List Asked → Lifecycle → Prog Given
-construct n points chain = invoked n roles.AroundConstruct chain.callbacks [] do
+construct n points chain = invoke_by n roles.AroundConstruct chain.callbacks [] do
   provide points (owners.Instance n)
   call (Task.Rest chain.chain)
   v ← invocation
   require v.completed built_in.CreationException
-  finished
+  finish
 
 abbrev pub inject : ℕ → Name → Asked → Prog Given
 inject n field point = do
-  r ← injected point (owners.Instance n)
+  r ← resolve_point point (owners.Instance n)
   alter (Change.Refer n field r)
-  finished
+  finish
 
 abbrev pub initialize : ℕ → Code → List Asked → Prog Given
 initialize n m points = do
-  rs ← all_injected points (owners.Instance n)
-  call (Task.Body (running n m.place m.body [] rs []))
+  rs ← resolve_points points (owners.Instance n)
+  call (Task.Body (body_at_start n m.place m.body [] rs []))
 
-abbrev pub step : ℕ → Step → Prog Given
-step n (Step.Intercept i) = call (Task.Intercept i n)
-step n (Step.Construct points chain) = construct n points chain
-step n (Step.Inject field point) = inject n field point
-step n (Step.Initialize m points) = initialize n m points
-step n (Step.Complete chain) = lifecycle n roles.PostConstruct chain.callbacks chain.chain
+abbrev pub take_step : ℕ → Step → Prog Given
+take_step n (Step.Intercept i) = call (Task.Intercept i n)
+take_step n (Step.Construct points chain) = construct n points chain
+take_step n (Step.Inject field point) = inject n field point
+take_step n (Step.Initialize m points) = initialize n m points
+take_step n (Step.Complete chain) = call_back n roles.PostConstruct chain.callbacks chain.chain
 
 -- ---- a product
 
-abbrev pub produced : ℕ → ℕ → Source → Prog Given
-produced n m (Source.ProducerMethod producer) = invoke m producer [] (owners.Instance n)
-produced n m (Source.ProducerField field) = do
+abbrev pub call_producer : ℕ → ℕ → Source → Prog Given
+call_producer n m (Source.ProducerMethod producer) = invoke m producer [] (owners.Instance n)
+call_producer n m (Source.ProducerField field) = do
   o ← instance m
-  v ← present (at o.fields field)
+  v ← require_present (at o.fields field)
   ret (Result v)
 
 -- null is a product of no scope but Dependent
@@ -103,9 +103,9 @@ accept normal n g = ret g
 
 abbrev pub produce : ℕ → Scope → Product → Prog Given
 produce n scope p = do
-  v ← borrowing do
-    m ← receiver p.declaring
-    produced n m p.source
+  v ← borrow_for do
+    m ← obtain_receiver p.declaring
+    call_producer n m p.source
   accept (is_normal scope) n v
 
 -- ---- the tasks
@@ -114,22 +114,22 @@ abbrev pub first_fields : Kind → Fields
 first_fields (Kind.Class c) = c.fields
 first_fields (Kind.Producer p) = []
 
-abbrev pub made_by : ℕ → Bean → Kind → Prog Given
-made_by n bean (Kind.Class c) = do
-  each c.plan (step n)
+abbrev pub make : ℕ → Bean → Kind → Prog Given
+make n bean (Kind.Class c) = do
+  each c.plan (take_step n)
   ret (Number n)
-made_by n bean (Kind.Producer p) = produce n bean.scope p
+make n bean (Kind.Producer p) = produce n bean.scope p
 
 abbrev pub create : ℕ → Owner → Prog Given
 create b owner = do
   bean ← bean_at b
-  n ← new bean.place (components.Bean b) owner (first_fields bean.kind)
-  creating n (made_by n bean bean.kind)
+  n ← begin_creation bean.place (components.Bean b) owner (first_fields bean.kind)
+  create_by n (make n bean bean.kind)
 
 abbrev pub intercept : ℕ → ℕ → Prog Given
 intercept i n = do
   interceptor ← interceptor_at i
-  m ← new (places.Class interceptor.name) (components.Interceptor i) (owners.Instance n) interceptor.fields
-  creating m do
+  m ← begin_creation (places.Class interceptor.name) (components.Interceptor i) (owners.Instance n) interceptor.fields
+  create_by m do
     each interceptor.injected λ p. inject m p.0 p.1
     ret (Number m)

@@ -20,7 +20,7 @@ use Rattle.cdi_machine.specs.Words.{Name, Asked}
 use Rattle.cdi_machine.specs.Tables.{Tables, Code, Method, Member, Lifecycle, Managed, Product, Kind, Bean, Interceptor, Observer, Resolution, Nothing}
 use Rattle.cdi_machine.specs.Scripts.{next, Step as Steps}
 use Rattle.cdi_machine.specs.Commands.{Command}
-use Rattle.cdi_machine.specs.Container.{Said, Plays, unstarted}
+use Rattle.cdi_machine.specs.Container.{Said, Plays, before_commands}
 use Rattle.cdi_machine.specs.Evaluator.{Setting, legal_in}
 
 -- what stands for types and events is by their names alone, but for the container's own events
@@ -43,13 +43,13 @@ contains (m ∷ ms) n = elim (nat_eq m n) [ true ↦ true | false ↦ contains m
 abbrev pub same_uses : List Use → List Use → Bool
 same_uses us vs = pointwise use_eq us vs
 
-abbrev pub heard : List (Name × List Use × List (List Observer)) → Name → List Use → List (List Observer)
-heard [] class uses = []
-heard ((c, us, groups) ∷ observed) class uses = elim (nat_eq c class && same_uses us uses) [ true ↦ groups | false ↦ heard observed class uses ]
+abbrev pub groups_heard : List (Name × List Use × List (List Observer)) → Name → List Use → List (List Observer)
+groups_heard [] class uses = []
+groups_heard ((c, us, groups) ∷ observed) class uses = elim (nat_eq c class && same_uses us uses) [ true ↦ groups | false ↦ groups_heard observed class uses ]
 
-abbrev pub rewritten : List (List Use × List Use) → List Use → List Use
-rewritten [] uses = uses
-rewritten ((us, vs) ∷ written) uses = elim (same_uses us uses) [ true ↦ vs | false ↦ rewritten written uses ]
+abbrev pub rewriting : List (List Use × List Use) → List Use → List Use
+rewriting [] uses = uses
+rewriting ((us, vs) ∷ written) uses = elim (same_uses us uses) [ true ↦ vs | false ↦ rewriting written uses ]
 
 abbrev pub resolution : Option Resolution → Resolution
 resolution None = Nothing
@@ -63,22 +63,22 @@ abbrev pub text_or_none : Option (List ℕ) → List ℕ
 text_or_none None = []
 text_or_none (Some text) = text
 
-abbrev pub looked_up : Option (List Steps × List Asked) → ℕ → Option Asked
-looked_up None k = None
-looked_up (Some s) k = slice_get s.1 k
+abbrev pub lookup_of : Option (List Steps × List Asked) → ℕ → Option Asked
+lookup_of None k = None
+lookup_of (Some s) k = slice_get s.1 k
 
 abbrev pub tables_of : Deployment → Tables
 tables_of d =
     record {
       bean = slice_get d.beans;
       interceptor = slice_get d.interceptors;
-      resolve = λ asked. resolution (at d.types asked.type);
-      written = rewritten d.written;
-      observers = heard d.observed;
-      lookup = λ body k. looked_up (slice_get d.scripts body) k;
+      resolve = λ a. resolution (at d.types a.type);
+      written = rewriting d.written;
+      observers = groups_heard d.observed;
+      lookup = λ body k. lookup_of (slice_get d.scripts body) k;
       is_checked = contains d.checked;
       text = λ name. text_or_none (at d.texts name);
-      is_known = λ asked. is_some (at d.types asked.type);
+      is_known = λ a. is_some (at d.types a.type);
       is_event = λ class uses. contains d.events class;
     }
 
@@ -93,7 +93,7 @@ abbrev pub last_chosen : ℕ → ℕ → ℕ
 last_chosen n entries = n - 1
 
 abbrev pub as_written : Deployment → Act → Act
-as_written d (acts.Fire class uses v) = acts.Fire class (rewritten d.written uses) v
+as_written d (acts.Fire class uses v) = acts.Fire class (rewriting d.written uses) v
 as_written d a = a
 
 -- the bodies are the scripts
@@ -102,8 +102,8 @@ played_by d chooses = record { tables = tables_of d; acts = λ body entries fiel
 
 -- ---- words to write them
 
-abbrev pub asked : Name → Asked
-asked type = record { type = type; qualifiers = [] }
+abbrev pub of_type : Name → Asked
+of_type type = record { type = type; qualifiers = [] }
 
 abbrev pub no_chain : Lifecycle
 no_chain = record { chain = []; callbacks = [] }
@@ -121,11 +121,11 @@ abbrev pub constructor_of : Name → ℕ → Code
 constructor_of class body = record { place = places.Constructor class; body = body }
 
 -- a class with its plan
-abbrev pub managed : Name → Scope → Managed → Bean
-managed class scope c = record { place = places.Class class; scope = scope; kind = Kind.Class c }
+abbrev pub managed_bean : Name → Scope → Managed → Bean
+managed_bean class scope c = record { place = places.Class class; scope = scope; kind = Kind.Class c }
 
-abbrev pub product : Name → Name → Scope → Product → Bean
-product class name scope p = record { place = places.Member class name; scope = scope; kind = Kind.Producer p }
+abbrev pub product_bean : Name → Name → Scope → Product → Bean
+product_bean class name scope p = record { place = places.Member class name; scope = scope; kind = Kind.Producer p }
 
 -- which role has which body
 abbrev pub by_role : Option ℕ → Option ℕ → Option ℕ → Option ℕ → InterceptorMethod → Option ℕ
@@ -144,4 +144,4 @@ of_container class = entries.Event (number_of class) []
 -- a container over the deployment, with so many entries a command and levels of bodies, says this to the commands
 abbrev pub Shows : Deployment → (ℕ → ℕ → ℕ) → ℕ → ℕ → List Command → List Said → Type 0
 Shows d chooses ticks depth commands said =
-    Plays (tables_of d) (legal_in (played_by d chooses)) (unstarted ticks depth) commands said
+    Plays (tables_of d) (legal_in (played_by d chooses)) (before_commands ticks depth) commands said

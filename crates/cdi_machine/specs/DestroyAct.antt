@@ -11,7 +11,7 @@ use Rattle.cdi_store.specs.declared.references.Reference.TheVariants.{Direct, Pr
 use Rattle.cdi_store.specs.declared.references.Reference.TheVariants.{Empty as NoReference}
 use Rattle.cdi_store.specs.declared.instance.Instance.{Instance}
 use Rattle.cdi_machine.specs.World.{World, Invocation, instance_at}
-use Rattle.cdi_machine.specs.Programs.{Task, Given, Prog, see, call, finished, raise, require, bean_at, context, ◌>>=◌, ◌>>◌}
+use Rattle.cdi_machine.specs.Programs.{Task, Given, Prog, see, call, finish, raise, require, bean_at, context, ◌>>=◌, ◌>>◌}
 use Rattle.cdi_machine.specs.Contexts.{stays}
 
 abbrev pub dependent_of : Option Instance → Option ℕ
@@ -50,7 +50,7 @@ abbrev pub require_made : ℕ → Prog (Unit {0})
 require_made n = see λ t w. require (is_made (instance_at w n)) built_in.IllegalStateException
 
 abbrev pub destroy_held : Option Held → Prog Given
-destroy_held None = finished
+destroy_held None = finish
 destroy_held (Some Making) = raise built_in.IllegalStateException
 destroy_held (Some (Is n)) = destroy_idle n
 

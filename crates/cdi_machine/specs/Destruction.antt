@@ -12,9 +12,9 @@ use Rattle.cdi_store.specs.declared.instance.Instance.{Instance}
 use Rattle.cdi_contexts.specs.Contexts.{Active, context_at, greatest}
 use Rattle.cdi_machine.specs.Tables.{Member, Kind, Product}
 use Rattle.cdi_machine.specs.World.{Change, instance_at}
-use Rattle.cdi_machine.specs.Programs.{Task, Given, Prog, see, mark, quietly, finally, done, present, call, finished, note, alter, each, picked, bean_at, instance, top, ◌>>=◌, ◌>>◌}
-use Rattle.cdi_machine.specs.Contexts.{reference, use_of}
-use Rattle.cdi_machine.specs.Bodies.{invoke, lifecycle}
+use Rattle.cdi_machine.specs.Programs.{Task, Given, Prog, see, mark, quietly, finally, do_nothing, require_present, call, finish, note, alter, each, pick, bean_at, instance, top, ◌>>=◌, ◌>>◌}
+use Rattle.cdi_machine.specs.Contexts.{refer_to, reach_instance}
+use Rattle.cdi_machine.specs.Bodies.{invoke, call_back}
 
 -- ---- temporaries
 
@@ -24,7 +24,7 @@ latest (n ∷ []) = Some n
 latest (n ∷ ns) = latest ns
 
 abbrev pub dismiss_latest : Option ℕ → Prog Given
-dismiss_latest None = finished
+dismiss_latest None = finish
 dismiss_latest (Some n) = do
   call (Task.Destroy n)
   call Task.Dismiss
@@ -39,64 +39,64 @@ abbrev pub give_back : Prog Given
 give_back = finally (call Task.Dismiss) (alter Change.Return)
 
 -- what is temporary in it is destroyed at its end, also if it throws
-abbrev pub borrowing : Prog Given → Prog Given
-borrowing p = do
+abbrev pub borrow_for : Prog Given → Prog Given
+borrow_for p = do
   alter Change.Borrow
   finally p give_back
 
 -- the instance whose producer, disposer or observer is called
-abbrev pub receiver : ℕ → Prog ℕ
-receiver b = do
-  r ← reference b owners.Borrower
-  use_of r
+abbrev pub obtain_receiver : ℕ → Prog ℕ
+obtain_receiver b = do
+  r ← refer_to b owners.Borrower
+  reach_instance r
 
 -- ---- destruction
 
 abbrev pub dispose : Product → Value → Member → Prog Given
-dispose product v disposer = borrowing do
-  n ← receiver product.declaring
+dispose product v disposer = borrow_for do
+  n ← obtain_receiver product.declaring
   invoke n disposer (v ∷ []) owners.Borrower
 
-abbrev pub pre_destroy : ℕ → Value → Kind → Prog Given
-pre_destroy n v (Kind.Class c) = lifecycle n roles.PreDestroy c.pre_destroy.callbacks c.pre_destroy.chain
-pre_destroy n v (Kind.Producer p) = each p.disposers (dispose p v)
+abbrev pub clean_up_bean : ℕ → Value → Kind → Prog Given
+clean_up_bean n v (Kind.Class c) = call_back n roles.PreDestroy c.pre_destroy.callbacks c.pre_destroy.chain
+clean_up_bean n v (Kind.Producer p) = each p.disposers (dispose p v)
 
 -- an interceptor's instance has nothing between its end and its dependents'
-abbrev pub farewell : ℕ → Value → Component → Prog Given
-farewell n v (components.Interceptor i) = finished
-farewell n v (components.Bean b) = do
+abbrev pub clean_up : ℕ → Value → Component → Prog Given
+clean_up n v (components.Interceptor i) = finish
+clean_up n v (components.Bean b) = do
   bean ← bean_at b
-  pre_destroy n v bean.kind
+  clean_up_bean n v bean.kind
 
-abbrev pub if_ready : Option Instance → Option Instance
-if_ready None = None
-if_ready (Some o) = elim o.phase [ phases.New ↦ None | phases.Ready ↦ Some o | phases.Leaving ↦ None ]
+abbrev pub only_ready : Option Instance → Option Instance
+only_ready None = None
+only_ready (Some o) = elim o.phase [ phases.New ↦ None | phases.Ready ↦ Some o | phases.Leaving ↦ None ]
 
 -- the instance, which is neither being made nor being destroyed
 abbrev pub ready_instance : ℕ → Prog Instance
-ready_instance n = see λ t w. present (if_ready (instance_at w n))
+ready_instance n = see λ t w. require_present (only_ready (instance_at w n))
 
-abbrev pub destroying : ℕ → Instance → Prog Given
-destroying n o = do
+abbrev pub destroy_ready : ℕ → Instance → Prog Given
+destroy_ready n o = do
   note (entries.End n)
   alter (Change.Leave n)
-  mark n done
-  quietly (farewell n o.value o.component)
+  mark n do_nothing
+  quietly (clean_up n o.value o.component)
   call (Task.Release n)
   note (entries.Gone n)
   alter (Change.Remove n)
-  finished
+  finish
 
 abbrev pub destroy : ℕ → Prog Given
 destroy n = do
   o ← ready_instance n
-  destroying n o
+  destroy_ready n o
 
-abbrev pub release_of : ℕ → List ℕ → Prog Given
-release_of n [] = finished
-release_of n dependents = do
-  i ← picked dependents
-  dependent ← present (slice_get dependents i)
+abbrev pub release_from : ℕ → List ℕ → Prog Given
+release_from n [] = finish
+release_from n dependents = do
+  i ← pick dependents
+  dependent ← require_present (slice_get dependents i)
   call (Task.Destroy dependent)
   call (Task.Release n)
 
@@ -104,18 +104,18 @@ release_of n dependents = do
 abbrev pub release : ℕ → Prog Given
 release n = do
   o ← instance n
-  release_of n o.dependents
+  release_from n o.dependents
 
 abbrev pub greatest_in : Option Active → Option ℕ
 greatest_in None = None
 greatest_in (Some c) = greatest None c.holds
 
-abbrev pub clear_of : Context → Option ℕ → Prog Given
-clear_of c None = finished
-clear_of c (Some n) = do
+abbrev pub clear_from : Context → Option ℕ → Prog Given
+clear_from c None = finish
+clear_from c (Some n) = do
   call (Task.Destroy n)
   call (Task.Clear c)
 
 -- the instance of the greatest number in the context, until there is none
 abbrev pub clear : Context → Prog Given
-clear c = see λ t w. clear_of c (greatest_in (context_at w.contexts c))
+clear c = see λ t w. clear_from c (greatest_in (context_at w.contexts c))

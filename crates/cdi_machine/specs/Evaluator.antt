@@ -10,10 +10,10 @@ use Rattle.cdi_base.specs.declared.reply.Refusal.{Refusal}
 use Rattle.cdi_bodies.specs.declared.view.View.{View}
 use Rattle.cdi_machine.specs.Words.{Fields}
 use Rattle.cdi_machine.specs.Tables.{Tables}
-use Rattle.cdi_machine.specs.World.{World, changed, written}
+use Rattle.cdi_machine.specs.World.{World, after_change, with_entry}
 use Rattle.cdi_machine.specs.Programs.{Task, Given, Completion, Gave, Threw, Prog, ret, throw, cut, miss, see, change, tick, mark, act, choose, nested, candidates}
 use Rattle.cdi_machine.specs.Machine.{machine}
-use Rattle.cdi_machine.specs.World.{begun}
+use Rattle.cdi_machine.specs.World.{at_begin}
 use Rattle.cdi_machine.specs.Commands.{Command, task}
 use Rattle.cdi_machine.specs.Container.{State, Said, refusal, reply_to, state_after}
 use Rattle.cdi_machine.specs.Runs.{Legal, Outcome, Ends, Cut}
@@ -37,7 +37,7 @@ after_task (Some (Ends c, w)) f = f c w
 after_task (Some (Cut cause, w)) f = Some (Cut cause, w)
 
 abbrev pub after_entry : Entry → World → (World → Came) → Came
-after_entry e w f = elim (nat_lt (length w.trace) w.ticks) [ true ↦ f (written e w) | false ↦ Some (Cut causes.Ticks, w) ]
+after_entry e w f = elim (nat_lt (length w.trace) w.ticks) [ true ↦ f (with_entry e w) | false ↦ Some (Cut causes.Ticks, w) ]
 
 module _ (s : Setting) where
   abbrev pub steps : (Task → World → Came) → Prog Given → World → Came
@@ -46,7 +46,7 @@ module _ (s : Setting) where
   steps rec (cut cause) w = Some (Cut cause, w)
   steps rec (miss p) w = steps rec p w
   steps rec (see k) w = steps rec (k s.tables w) w
-  steps rec (change g p) w = steps rec p (changed g w)
+  steps rec (change g p) w = steps rec p (after_change g w)
   steps rec (tick e p) w = after_entry e w (λ u. steps rec p u)
   steps rec (mark n p) w = steps rec p w
   steps rec (act b fields view k) w = let a = s.acts b (length w.trace) fields view in after_entry (entries.Did a) w (λ u. steps rec (k a) u)
@@ -58,22 +58,22 @@ module _ (s : Setting) where
   exec (suc n) t w = steps (exec n) (machine t) w
 
   -- what a program comes to
-  abbrev pub evaluated : ℕ → Prog Given → World → Came
-  evaluated n p w = steps (exec n) p w
+  abbrev pub evaluation : ℕ → Prog Given → World → Came
+  evaluation n p w = steps (exec n) p w
 
-  abbrev pub said : State → Reply → Option (List Said) → Option (List Said)
-  said t r None = None
-  said t r (Some more) = Some (record { entries = t.world.trace; reply = r } ∷ more)
+  abbrev pub saying : State → Reply → Option (List Said) → Option (List Said)
+  saying t r None = None
+  saying t r (Some more) = Some (record { entries = t.world.trace; reply = r } ∷ more)
 
-  abbrev pub answered : ℕ → Command → State → Option Refusal → Came → Option (Reply × State)
-  answered n c u (Some r) came = Some (replies.Refused r, record u { world = begun u.world })
-  answered n c u None None = None
-  answered n c u None (Some (o, v)) = Some (reply_to c o v, state_after o v)
+  abbrev pub answer_by : ℕ → Command → State → Option Refusal → Came → Option (Reply × State)
+  answer_by n c u (Some r) came = Some (replies.Refused r, record u { world = at_begin u.world })
+  answer_by n c u None None = None
+  answer_by n c u None (Some (o, v)) = Some (reply_to c o v, state_after o v)
 
   abbrev pub answer : ℕ → Command → State → Option (Reply × State)
-  answer n c u = let came = evaluated n (task c) (begun u.world) in answered n c u (refusal s.tables u c) came
+  answer n c u = let came = evaluation n (task c) (at_begin u.world) in answer_by n c u (refusal s.tables u c) came
 
   -- what is said to commands
-  abbrev pub played : ℕ → State → List Command → Option (List Said)
-  played n u [] = Some []
-  played n u (c ∷ cs) = elim (answer n c u) [ None ↦ None | Some rt ↦ said rt.1 rt.0 (played n rt.1 cs) ]
+  abbrev pub performance : ℕ → State → List Command → Option (List Said)
+  performance n u [] = Some []
+  performance n u (c ∷ cs) = elim (answer n c u) [ None ↦ None | Some rt ↦ saying rt.1 rt.0 (performance n rt.1 cs) ]

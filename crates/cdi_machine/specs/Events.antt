@@ -19,10 +19,10 @@ use Rattle.cdi_contexts.specs.Contexts.{Active, active_context}
 use Rattle.cdi_machine.specs.Words.{Name}
 use Rattle.cdi_machine.specs.Tables.{Bean, Observer}
 use Rattle.cdi_machine.specs.World.{World}
-use Rattle.cdi_machine.specs.Programs.{Task, Given, Prog, see, handle, quietly, present, call, finished, note, each, picked, bean_at, groups_of, rethrow, ◌>>=◌, ◌>>◌}
+use Rattle.cdi_machine.specs.Programs.{Task, Given, Prog, see, handle, quietly, require_present, call, finish, note, each, pick, bean_at, groups_of, rethrow, ◌>>=◌, ◌>>◌}
 use Rattle.cdi_machine.specs.Contexts.{is_normal}
 use Rattle.cdi_machine.specs.Bodies.{invoke}
-use Rattle.cdi_machine.specs.Destruction.{borrowing, receiver}
+use Rattle.cdi_machine.specs.Destruction.{borrow_for, obtain_receiver}
 
 -- the groups one after the other; a throw ends the delivery
 abbrev pub fire : Name → List Use → Value → Prog Given
@@ -30,7 +30,7 @@ fire class qualifiers v = do
   note (entries.Event class qualifiers)
   groups ← groups_of class qualifiers
   each groups λ group. call (Task.Notify group v)
-  finished
+  finish
 
 abbrev pub is_there : Option Held → Bool
 is_there (Some (Is n)) = true
@@ -50,8 +50,8 @@ abbrev pub is_skipped : World → Observer → Bean → Bool
 is_skipped w o bean = is_normal bean.scope && is_out o (active_context w.contexts w.environment bean.scope)
 
 abbrev pub observe : Observer → Value → Prog Given
-observe o v = borrowing do
-  n ← receiver o.bean
+observe o v = borrow_for do
+  n ← obtain_receiver o.bean
   invoke n o.member (v ∷ []) owners.Borrower
 
 abbrev pub deliver : Observer → Value → Prog Given
@@ -59,16 +59,16 @@ deliver o v = do
   bean ← bean_at o.bean
   skipped ← see λ t w. Prog.ret (is_skipped w o bean)
   elim skipped [
-    | true ↦ finished
-    | false ↦ handle (observe o v) (λ _. finished) (λ x. rethrow x built_in.ObserverException)
+    | true ↦ finish
+    | false ↦ handle (observe o v) (λ _. finish) (λ x. rethrow x built_in.ObserverException)
   ]
 
 -- those of a group that are left, one at a time; skipped ones are picked too
 abbrev pub notify : List Observer → Value → Prog Given
-notify [] v = finished
+notify [] v = finish
 notify observers v = do
-  i ← picked observers
-  o ← present (slice_get observers i)
+  i ← pick observers
+  o ← require_present (slice_get observers i)
   deliver o v
   call (Task.Notify (remove observers i) v)
 
@@ -83,8 +83,8 @@ abbrev pub qualifier : BuiltIn → Context → Use
 qualifier what c = record { name = number_of what; members = record { name = number_of built_in.Value; value = values.Text (scope_name c) } ∷ [] }
 
 -- what is thrown in one is dropped
-abbrev pub context_event : BuiltIn → Context → Prog (Unit {0})
-context_event what c = quietly (call (Task.Fire (number_of built_in.Object) (qualifier what c ∷ []) values.Null))
+abbrev pub fire_context_event : BuiltIn → Context → Prog (Unit {0})
+fire_context_event what c = quietly (call (Task.Fire (number_of built_in.Object) (qualifier what c ∷ []) values.Null))
 
-abbrev pub container_event : BuiltIn → Prog (Unit {0})
-container_event class = quietly (call (Task.Fire (number_of class) [] values.Null))
+abbrev pub fire_container_event : BuiltIn → Prog (Unit {0})
+fire_container_event class = quietly (call (Task.Fire (number_of class) [] values.Null))

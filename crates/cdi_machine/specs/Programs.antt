@@ -126,57 +126,57 @@ attempt p = handle p (λ a. ret (Gave a)) (λ x. ret (Threw x))
 abbrev pub finally : {A B : Type 0} → Prog A → Prog B → Prog A
 finally p q = handle p (λ a. q >> ret a) (λ x. q >> throw x)
 
-abbrev pub done : Prog (Unit {0})
-done = ret tt
+abbrev pub do_nothing : Prog (Unit {0})
+do_nothing = ret tt
 
 -- what is thrown is dropped
 abbrev pub quietly : {A : Type 0} → Prog A → Prog (Unit {0})
-quietly p = handle p (λ _. done) (λ _. done)
+quietly p = handle p (λ _. do_nothing) (λ _. do_nothing)
 
 abbrev pub raise : {A : Type 0} → BuiltIn → Prog A
 raise exception = throw (number_of exception)
 
 -- what is missing is told as an exception
-abbrev pub missing : {A : Type 0} → Prog A
-missing = miss (raise built_in.IllegalStateException)
+abbrev pub tell_missing : {A : Type 0} → Prog A
+tell_missing = miss (raise built_in.IllegalStateException)
 
-abbrev pub present : {A : Type 0} → Option A → Prog A
-present None = missing
-present (Some a) = ret a
+abbrev pub require_present : {A : Type 0} → Option A → Prog A
+require_present None = tell_missing
+require_present (Some a) = ret a
 
-abbrev pub completed : Completion Given → Prog Given
-completed (Gave g) = ret g
-completed (Threw x) = throw x
+abbrev pub complete : Completion Given → Prog Given
+complete (Gave g) = ret g
+complete (Threw x) = throw x
 
 abbrev pub call : Task → Prog Given
-call c = nested c completed
+call c = nested c complete
 
 -- a task without a value
-abbrev pub finished : Prog Given
-finished = ret (Result values.Null)
+abbrev pub finish : Prog Given
+finish = ret (Result values.Null)
 
 -- throws it unless the condition holds
 abbrev pub require : Bool → BuiltIn → Prog (Unit {0})
-require true exception = done
+require true exception = do_nothing
 require false exception = raise exception
 
 abbrev pub note : Entry → Prog (Unit {0})
-note e = tick e done
+note e = tick e do_nothing
 
 abbrev pub alter : Change → Prog (Unit {0})
-alter g = change g done
+alter g = change g do_nothing
 
 -- each in turn; gives what the last one gave
 abbrev pub each : {X : Type 0} → List X → (X → Prog Given) → Prog Given
-each [] f = finished
+each [] f = finish
 each (x ∷ []) f = f x
 each (x ∷ xs) f = f x >> each xs f
 
 -- the index of one of the candidates: by a pick, if there are several
-abbrev pub picked : {X : Type 0} → List X → Prog ℕ
-picked [] = missing
-picked (x ∷ []) = ret 0
-picked (x ∷ y ∷ xs) = choose (length xs) ret
+abbrev pub pick : {X : Type 0} → List X → Prog ℕ
+pick [] = tell_missing
+pick (x ∷ []) = ret 0
+pick (x ∷ y ∷ xs) = choose (length xs) ret
 
 -- ---- what a program looks at
 
@@ -184,13 +184,13 @@ abbrev pub world : Prog World
 world = see λ t w. ret w
 
 abbrev pub bean_at : ℕ → Prog Bean
-bean_at b = see λ t w. present (t.bean b)
+bean_at b = see λ t w. require_present (t.bean b)
 
 abbrev pub interceptor_at : ℕ → Prog Interceptor
-interceptor_at i = see λ t w. present (t.interceptor i)
+interceptor_at i = see λ t w. require_present (t.interceptor i)
 
 abbrev pub lookup_at : ℕ → ℕ → Prog Asked
-lookup_at body k = see λ t w. present (t.lookup body k)
+lookup_at body k = see λ t w. require_present (t.lookup body k)
 
 abbrev pub written_of : List Use → Prog (List Use)
 written_of qualifiers = see λ t w. ret (t.written qualifiers)
@@ -202,11 +202,11 @@ abbrev pub text_of : Name → Prog (List ℕ)
 text_of name = see λ t w. ret (t.text name)
 
 abbrev pub instance : ℕ → Prog Instance
-instance n = see λ t w. present (instance_at w n)
+instance n = see λ t w. require_present (instance_at w n)
 
 -- the running invocation
 abbrev pub top : {X : Type 0} → List X → Prog X
-top [] = missing
+top [] = tell_missing
 top (x ∷ xs) = ret x
 
 abbrev pub invocation : Prog Invocation
@@ -231,36 +231,36 @@ context scope = see λ t w. active_or_raise (active_in w (context_of w.environme
 
 -- ---- limits
 
-abbrev pub numbered : Bool → ℕ → Prog ℕ
-numbered true n = ret n
-numbered false n = cut causes.Numbers
+abbrev pub give_number : Bool → ℕ → Prog ℕ
+give_number true n = ret n
+give_number false n = cut causes.Numbers
 
 -- the number of the next instance, if there is one
 abbrev pub next_number : Prog ℕ
-next_number = see λ t w. numbered (nat_lt w.next (2 ^ 32)) w.next
+next_number = see λ t w. give_number (nat_lt w.next (2 ^ 32)) w.next
 
-abbrev pub within_depth : Bool → Prog (Unit {0})
-within_depth true = done
-within_depth false = cut causes.Depth
+abbrev pub require_depth : Bool → Prog (Unit {0})
+require_depth true = do_nothing
+require_depth false = cut causes.Depth
 
 -- one level of bodies deeper, if there is one
-abbrev pub deeper : Prog (Unit {0})
-deeper = see λ t w. within_depth (nat_lt (length w.bodies) w.depth)
+abbrev pub go_deeper : Prog (Unit {0})
+go_deeper = see λ t w. require_depth (nat_lt (length w.bodies) w.depth)
 
 -- ---- resolution and exceptions
 
-abbrev pub one : Resolution → Prog ℕ
-one (One b) = ret b
-one Nothing = raise built_in.UnsatisfiedResolutionException
-one Many = raise built_in.AmbiguousResolutionException
+abbrev pub require_one : Resolution → Prog ℕ
+require_one (One b) = ret b
+require_one Nothing = raise built_in.UnsatisfiedResolutionException
+require_one Many = raise built_in.AmbiguousResolutionException
 
-abbrev pub resolved : Asked → Prog ℕ
-resolved asked = see λ t w. one (t.resolve asked)
+abbrev pub resolve : Asked → Prog ℕ
+resolve asked = see λ t w. require_one (t.resolve asked)
 
 -- a checked exception becomes another one
 abbrev pub rethrow : {A : Type 0} → Name → BuiltIn → Prog A
 rethrow x instead = see λ t w. elim (t.is_checked x) [ true ↦ raise instead | false ↦ throw x ]
 
-abbrev pub number_given : Given → Prog ℕ
-number_given (Number n) = ret n
-number_given _ = missing
+abbrev pub require_number : Given → Prog ℕ
+require_number (Number n) = ret n
+require_number _ = tell_missing

@@ -8,7 +8,7 @@ use Rattle.cdi_base.specs.declared.reply.Cause.TheVariants as causes
 use Rattle.cdi_bodies.specs.declared.view.View.{View}
 use Rattle.cdi_machine.specs.Words.{Name, Fields}
 use Rattle.cdi_machine.specs.Tables.{Tables}
-use Rattle.cdi_machine.specs.World.{World, Change, changed, written}
+use Rattle.cdi_machine.specs.World.{World, Change, after_change, with_entry}
 use Rattle.cdi_machine.specs.Programs.{Task, Given, Completion, Gave, Threw, Prog, ret, throw, cut, miss, see, change, tick, mark, act, choose, nested, candidates}
 use Rattle.cdi_machine.specs.Machine.{machine}
 
@@ -36,9 +36,9 @@ pub data Runs (tables : Tables) (legal : Legal) (Starved : Type 0) : Prog Given 
   cuts : {cause : Cause} {w : World} → Runs tables legal Starved (cut cause) w (Cut cause) w
   misses : {p : Prog Given} {w v : World} {o : Outcome} → Runs tables legal Starved p w o v → Runs tables legal Starved (miss p) w o v
   sees : {k : Tables → World → Prog Given} {w v : World} {o : Outcome} → Runs tables legal Starved (k tables w) w o v → Runs tables legal Starved (see k) w o v
-  changes : {g : Change} {p : Prog Given} {w v : World} {o : Outcome} → Runs tables legal Starved p (changed g w) o v → Runs tables legal Starved (change g p) w o v
+  changes : {g : Change} {p : Prog Given} {w v : World} {o : Outcome} → Runs tables legal Starved p (after_change g w) o v → Runs tables legal Starved (change g p) w o v
   -- an entry is written within the budget, and where that is spent the command is cut
-  writes : {e : Entry} {p : Prog Given} {w v : World} {o : Outcome} → length w.trace < w.ticks → Runs tables legal Starved p (written e w) o v → Runs tables legal Starved (tick e p) w o v
+  writes : {e : Entry} {p : Prog Given} {w v : World} {o : Outcome} → length w.trace < w.ticks → Runs tables legal Starved p (with_entry e w) o v → Runs tables legal Starved (tick e p) w o v
   is_full : {e : Entry} {p : Prog Given} {w : World} → w.ticks ≤ length w.trace → Runs tables legal Starved (tick e p) w (Cut causes.Ticks) w
   marks : {n : ℕ} {p : Prog Given} {w v : World} {o : Outcome} → Runs tables legal Starved p w o v → Runs tables legal Starved (mark n p) w o v
   -- a body gives an act that is legal, and a candidate is picked that is; the entry is written next

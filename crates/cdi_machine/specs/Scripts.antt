@@ -56,28 +56,28 @@ value_of (Some (answers.Done v)) = v
 value_of (Some (answers.Threw x text)) = values.Text text
 value_of _ = values.Null
 
-abbrev pub valued : Fields → View → Expression → Value
-valued fields view (Plain v) = v
-valued fields view (TheField name) = or_null (at fields name)
-valued fields view (Arg k) = or_null (slice_get view.args k)
-valued fields view (Ans k) = value_of (slice_get view.answers k)
-valued fields view Last = value_of (last_of None view.answers)
-valued fields view (Add a b) = sum (valued fields view a) (valued fields view b)
+abbrev pub value_by : Fields → View → Expression → Value
+value_by fields view (Plain v) = v
+value_by fields view (TheField name) = or_null (at fields name)
+value_by fields view (Arg k) = or_null (slice_get view.args k)
+value_by fields view (Ans k) = value_of (slice_get view.answers k)
+value_by fields view Last = value_of (last_of None view.answers)
+value_by fields view (Add a b) = sum (value_by fields view a) (value_by fields view b)
 
 abbrev pub act_of : Fields → View → Step → Act
-act_of fields view (set name e) = acts.Set name (valued fields view e)
-act_of fields view (call via name es) = acts.Call via name (map (valued fields view) es)
-act_of fields view (own name es) = acts.Own name (map (valued fields view) es)
+act_of fields view (set name e) = acts.Set name (value_by fields view e)
+act_of fields view (call via name es) = acts.Call via name (map (value_by fields view) es)
+act_of fields view (own name es) = acts.Own name (map (value_by fields view) es)
 act_of fields view (read via) = acts.Read via
-act_of fields view (write via e) = acts.Write via (valued fields view e)
-act_of fields view (fire class uses e) = acts.Fire class uses (valued fields view e)
+act_of fields view (write via e) = acts.Write via (value_by fields view e)
+act_of fields view (fire class uses e) = acts.Fire class uses (value_by fields view e)
 act_of fields view proceed = acts.Proceed None
-act_of fields view (proceed_with es) = acts.Proceed (Some (map (valued fields view) es))
+act_of fields view (proceed_with es) = acts.Proceed (Some (map (value_by fields view) es))
 act_of fields view (find k) = acts.Find k
-act_of fields view (keep name e) = acts.Keep name (valued fields view e)
+act_of fields view (keep name e) = acts.Keep name (value_by fields view e)
 act_of fields view (peek name) = acts.Peek name
 act_of fields view (destroy k) = acts.Destroy k
-act_of fields view (give e) = acts.Give (valued fields view e)
+act_of fields view (give e) = acts.Give (value_by fields view e)
 act_of fields view (throw x) = acts.Throw x
 act_of fields view (catch step) = act_of fields view step
 
@@ -91,13 +91,13 @@ from_next last [] = []
 from_next (Some (answers.Threw x text)) (s ∷ ss) = elim (is_catch s) [ true ↦ s ∷ ss | false ↦ from_next (Some (answers.Threw x text)) ss ]
 from_next last (s ∷ ss) = elim (is_catch s) [ true ↦ from_next last ss | false ↦ s ∷ ss ]
 
-abbrev pub behind : List Step → List Step
-behind [] = []
-behind (s ∷ ss) = ss
+abbrev pub steps_behind : List Step → List Step
+steps_behind [] = []
+steps_behind (s ∷ ss) = ss
 
-abbrev pub reached : Option Answer → List Answer → List Step → List Step
-reached last [] steps = from_next last steps
-reached last (a ∷ more) steps = reached (Some a) more (behind (from_next last steps))
+abbrev pub steps_left : Option Answer → List Answer → List Step → List Step
+steps_left last [] steps = from_next last steps
+steps_left last (a ∷ more) steps = steps_left (Some a) more (steps_behind (from_next last steps))
 
 abbrev pub at_the_end : Option Answer → Act
 at_the_end (Some (answers.Threw x text)) = acts.Throw x
@@ -108,4 +108,4 @@ next_step fields view [] = at_the_end (last_of None view.answers)
 next_step fields view (s ∷ ss) = act_of fields view s
 
 abbrev pub next : List Step → Fields → View → Act
-next steps fields view = next_step fields view (reached None view.answers steps)
+next steps fields view = next_step fields view (steps_left None view.answers steps)

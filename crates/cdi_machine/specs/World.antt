@@ -145,37 +145,37 @@ with_instances f w = record w { instances = f w.instances }
 abbrev pub with_invocation : (Invocation → Invocation) → World → World
 with_invocation f w = record w { invocations = on_top f w.invocations }
 
-abbrev pub changed : Change → World → World
-changed (Make component owner fields) w =
+abbrev pub after_change : Change → World → World
+after_change (Make component owner fields) w =
     with_making component owner (record w { instances = with_newborn w.next component owner fields w.instances; next = w.next + 1 })
-changed (Settle n) w = for_instance w (instance_at w n) λ o. with_owned n o.component o.owner (with_instances (with_ready n) w)
-changed (Discard n) w = for_instance w (instance_at w n) λ o. without_making o.component o.owner (with_instances (without n) w)
-changed (Leave n) w = for_instance w (instance_at w n) λ o. without_owned n o.component o.owner (with_instances (with_leaving n) w)
-changed (Remove n) w = with_instances (without n) w
-changed (Assign n field v) w = with_instances (with_field n field v) w
-changed (Refer n field r) w = with_instances (with_reference n field r) w
-changed (Hold n v) w = with_instances (with_value n v) w
-changed (BeginRequest name session) w = with_contexts (with_request name session) w
-changed (BeginSession name) w = with_contexts (with_session name) w
-changed (Mark session) w = with_contexts (with_mark session) w
-changed (Finish c) w = with_contexts (with_ending c) w
-changed (Close c) w = with_contexts (without_context c) w
-changed (Stand e) w = record w { environment = e }
-changed (Enter i) w = record w { invocations = i ∷ w.invocations }
-changed (Provide rs) w = with_invocation (λ i. record i { references = rs }) w
-changed (Replace vs) w = with_invocation (λ i. record i { parameters = vs }) w
-changed (Keep key v) w = with_invocation (λ i. record i { data_of = put key v i.data_of }) w
-changed Reach w = with_invocation (λ i. record i { completed = true }) w
-changed Exit w = record w { invocations = below w.invocations }
-changed (Start n) w = record w { bodies = n ∷ w.bodies }
-changed Stop w = record w { bodies = below w.bodies }
-changed Borrow w = record w { temporaries = [] ∷ w.temporaries }
-changed Return w = record w { temporaries = below w.temporaries }
-changed Down w = record w { down = true }
+after_change (Settle n) w = for_instance w (instance_at w n) λ o. with_owned n o.component o.owner (with_instances (with_ready n) w)
+after_change (Discard n) w = for_instance w (instance_at w n) λ o. without_making o.component o.owner (with_instances (without n) w)
+after_change (Leave n) w = for_instance w (instance_at w n) λ o. without_owned n o.component o.owner (with_instances (with_leaving n) w)
+after_change (Remove n) w = with_instances (without n) w
+after_change (Assign n field v) w = with_instances (with_field n field v) w
+after_change (Refer n field r) w = with_instances (with_reference n field r) w
+after_change (Hold n v) w = with_instances (with_value n v) w
+after_change (BeginRequest name session) w = with_contexts (with_request name session) w
+after_change (BeginSession name) w = with_contexts (with_session name) w
+after_change (Mark session) w = with_contexts (with_mark session) w
+after_change (Finish c) w = with_contexts (with_ending c) w
+after_change (Close c) w = with_contexts (without_context c) w
+after_change (Stand e) w = record w { environment = e }
+after_change (Enter i) w = record w { invocations = i ∷ w.invocations }
+after_change (Provide rs) w = with_invocation (λ i. record i { references = rs }) w
+after_change (Replace vs) w = with_invocation (λ i. record i { parameters = vs }) w
+after_change (Keep key v) w = with_invocation (λ i. record i { data_of = put key v i.data_of }) w
+after_change Reach w = with_invocation (λ i. record i { completed = true }) w
+after_change Exit w = record w { invocations = below w.invocations }
+after_change (Start n) w = record w { bodies = n ∷ w.bodies }
+after_change Stop w = record w { bodies = below w.bodies }
+after_change Borrow w = record w { temporaries = [] ∷ w.temporaries }
+after_change Return w = record w { temporaries = below w.temporaries }
+after_change Down w = record w { down = true }
 
 -- the world with one entry more
-abbrev pub written : Entry → World → World
-written e w = record w { trace = w.trace ++ e ∷ [] }
+abbrev pub with_entry : Entry → World → World
+with_entry e w = record w { trace = w.trace ++ e ∷ [] }
 
 abbrev pub no_environment : Environment
 no_environment = record { request = None; session = None }
@@ -198,5 +198,5 @@ before_boot ticks depth =
     }
 
 -- the world at the begin of a command
-abbrev pub begun : World → World
-begun w = record w { trace = []; environment = no_environment }
+abbrev pub at_begin : World → World
+at_begin w = record w { trace = []; environment = no_environment }

@@ -11,7 +11,7 @@ use Rattle.cdi_machine.specs.Tables.{Step, One}
 use Rattle.cdi_machine.specs.Commands.{Command}
 use Rattle.cdi_machine.specs.Container.{Said}
 use Rattle.cdi_machine.specs.Scripts.{throw}
-use Rattle.cdi_machine.specs.Deployments.{Deployment, asked, no_chain, constructor_of, managed, by_role, of_context, of_container, first_chosen, Shows, method}
+use Rattle.cdi_machine.specs.Deployments.{Deployment, of_type, no_chain, constructor_of, managed_bean, by_role, of_context, of_container, first_chosen, Shows, method}
 
 abbrev C : Name
 C = 20
@@ -40,8 +40,8 @@ body_oops = 1
 abbrev pub deployment : Deployment
 deployment =
     record {
-      beans = managed C scopes.ApplicationScoped (record { fields = []; plan = Step.Intercept 0 ∷ Step.Construct [] (record { chain = 0 ∷ []; callbacks = constructor_of C body_nop ∷ [] }) ∷ Step.Complete no_chain ∷ []; methods = (m, method C m body_nop 0 []) ∷ []; pre_destroy = no_chain }) ∷ managed E scopes.Dependent (record { fields = []; plan = Step.Construct [] (record { chain = []; callbacks = constructor_of E body_oops ∷ [] }) ∷ Step.Complete no_chain ∷ []; methods = []; pre_destroy = no_chain }) ∷ [];
-      interceptors = record { name = J; fields = []; injected = (e, asked E) ∷ []; body = by_role None (Some body_nop) None None } ∷ [];
+      beans = managed_bean C scopes.ApplicationScoped (record { fields = []; plan = Step.Intercept 0 ∷ Step.Construct [] (record { chain = 0 ∷ []; callbacks = constructor_of C body_nop ∷ [] }) ∷ Step.Complete no_chain ∷ []; methods = (m, method C m body_nop 0 []) ∷ []; pre_destroy = no_chain }) ∷ managed_bean E scopes.Dependent (record { fields = []; plan = Step.Construct [] (record { chain = []; callbacks = constructor_of E body_oops ∷ [] }) ∷ Step.Complete no_chain ∷ []; methods = []; pre_destroy = no_chain }) ∷ [];
+      interceptors = record { name = J; fields = []; injected = (e, of_type E) ∷ []; body = by_role None (Some body_nop) None None } ∷ [];
       types = (C, One 0) ∷ (E, One 1) ∷ [];
       written = [];
       observed = [];
@@ -52,7 +52,7 @@ deployment =
     }
 
 abbrev pub failed_creation_of_an_interceptor_commands : List Command
-failed_creation_of_an_interceptor_commands = Command.Boot ∷ Command.Call None (asked C) m [] ∷ []
+failed_creation_of_an_interceptor_commands = Command.Boot ∷ Command.Call None (of_type C) m [] ∷ []
 
 abbrev pub failed_creation_of_an_interceptor_said : List Said
 failed_creation_of_an_interceptor_said =

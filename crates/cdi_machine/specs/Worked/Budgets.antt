@@ -13,7 +13,7 @@ use Rattle.cdi_machine.specs.Tables.{Step, One}
 use Rattle.cdi_machine.specs.Commands.{Command}
 use Rattle.cdi_machine.specs.Container.{Said}
 use Rattle.cdi_machine.specs.Scripts.{throw}
-use Rattle.cdi_machine.specs.Deployments.{Deployment, asked, no_chain, managed, of_context, of_container, first_chosen, Shows, code, method}
+use Rattle.cdi_machine.specs.Deployments.{Deployment, of_type, no_chain, managed_bean, of_context, of_container, first_chosen, Shows, code, method}
 
 abbrev A : Name
 A = 20
@@ -45,7 +45,7 @@ body_nop = 1
 abbrev pub deployment : Deployment
 deployment =
     record {
-      beans = managed A scopes.ApplicationScoped (record { fields = []; plan = Step.Construct [] no_chain ∷ Step.Inject d1 (asked D) ∷ Step.Inject d2 (asked D) ∷ Step.Complete (record { chain = []; callbacks = code A p body_p ∷ [] }) ∷ []; methods = (m, method A m body_nop 0 []) ∷ []; pre_destroy = no_chain }) ∷ managed D scopes.Dependent (record { fields = []; plan = Step.Construct [] no_chain ∷ Step.Complete no_chain ∷ []; methods = []; pre_destroy = no_chain }) ∷ [];
+      beans = managed_bean A scopes.ApplicationScoped (record { fields = []; plan = Step.Construct [] no_chain ∷ Step.Inject d1 (of_type D) ∷ Step.Inject d2 (of_type D) ∷ Step.Complete (record { chain = []; callbacks = code A p body_p ∷ [] }) ∷ []; methods = (m, method A m body_nop 0 []) ∷ []; pre_destroy = no_chain }) ∷ managed_bean D scopes.Dependent (record { fields = []; plan = Step.Construct [] no_chain ∷ Step.Complete no_chain ∷ []; methods = []; pre_destroy = no_chain }) ∷ [];
       interceptors = [];
       types = (A, One 0) ∷ (D, One 1) ∷ [];
       written = [];
@@ -57,7 +57,7 @@ deployment =
     }
 
 abbrev pub cut_behind_entry_2_commands : List Command
-cut_behind_entry_2_commands = Command.Boot ∷ Command.Call None (asked A) m [] ∷ []
+cut_behind_entry_2_commands = Command.Boot ∷ Command.Call None (of_type A) m [] ∷ []
 
 abbrev pub cut_behind_entry_2_said : List Said
 cut_behind_entry_2_said =
@@ -69,7 +69,7 @@ abbrev pub cut_behind_entry_2 : Type 0
 cut_behind_entry_2 = Shows deployment first_chosen 2 32 cut_behind_entry_2_commands cut_behind_entry_2_said
 
 abbrev pub cut_behind_entry_3_commands : List Command
-cut_behind_entry_3_commands = Command.Boot ∷ Command.Call None (asked A) m [] ∷ []
+cut_behind_entry_3_commands = Command.Boot ∷ Command.Call None (of_type A) m [] ∷ []
 
 abbrev pub cut_behind_entry_3_said : List Said
 cut_behind_entry_3_said =
@@ -81,7 +81,7 @@ abbrev pub cut_behind_entry_3 : Type 0
 cut_behind_entry_3 = Shows deployment first_chosen 3 32 cut_behind_entry_3_commands cut_behind_entry_3_said
 
 abbrev pub cut_behind_entry_4_commands : List Command
-cut_behind_entry_4_commands = Command.Boot ∷ Command.Call None (asked A) m [] ∷ []
+cut_behind_entry_4_commands = Command.Boot ∷ Command.Call None (of_type A) m [] ∷ []
 
 abbrev pub cut_behind_entry_4_said : List Said
 cut_behind_entry_4_said =
@@ -93,7 +93,7 @@ abbrev pub cut_behind_entry_4 : Type 0
 cut_behind_entry_4 = Shows deployment first_chosen 4 32 cut_behind_entry_4_commands cut_behind_entry_4_said
 
 abbrev pub cut_behind_entry_5_commands : List Command
-cut_behind_entry_5_commands = Command.Boot ∷ Command.Call None (asked A) m [] ∷ []
+cut_behind_entry_5_commands = Command.Boot ∷ Command.Call None (of_type A) m [] ∷ []
 
 abbrev pub cut_behind_entry_5_said : List Said
 cut_behind_entry_5_said =
@@ -105,7 +105,7 @@ abbrev pub cut_behind_entry_5 : Type 0
 cut_behind_entry_5 = Shows deployment first_chosen 5 32 cut_behind_entry_5_commands cut_behind_entry_5_said
 
 abbrev pub cut_behind_entry_6_commands : List Command
-cut_behind_entry_6_commands = Command.Boot ∷ Command.Call None (asked A) m [] ∷ []
+cut_behind_entry_6_commands = Command.Boot ∷ Command.Call None (of_type A) m [] ∷ []
 
 abbrev pub cut_behind_entry_6_said : List Said
 cut_behind_entry_6_said =
@@ -117,7 +117,7 @@ abbrev pub cut_behind_entry_6 : Type 0
 cut_behind_entry_6 = Shows deployment first_chosen 6 32 cut_behind_entry_6_commands cut_behind_entry_6_said
 
 abbrev pub cut_behind_entry_7_commands : List Command
-cut_behind_entry_7_commands = Command.Boot ∷ Command.Call None (asked A) m [] ∷ []
+cut_behind_entry_7_commands = Command.Boot ∷ Command.Call None (of_type A) m [] ∷ []
 
 abbrev pub cut_behind_entry_7_said : List Said
 cut_behind_entry_7_said =
@@ -129,7 +129,7 @@ abbrev pub cut_behind_entry_7 : Type 0
 cut_behind_entry_7 = Shows deployment first_chosen 7 32 cut_behind_entry_7_commands cut_behind_entry_7_said
 
 abbrev pub cut_behind_entry_8_commands : List Command
-cut_behind_entry_8_commands = Command.Boot ∷ Command.Call None (asked A) m [] ∷ []
+cut_behind_entry_8_commands = Command.Boot ∷ Command.Call None (of_type A) m [] ∷ []
 
 abbrev pub cut_behind_entry_8_said : List Said
 cut_behind_entry_8_said =
@@ -141,7 +141,7 @@ abbrev pub cut_behind_entry_8 : Type 0
 cut_behind_entry_8 = Shows deployment first_chosen 8 32 cut_behind_entry_8_commands cut_behind_entry_8_said
 
 abbrev pub cut_behind_entry_9_commands : List Command
-cut_behind_entry_9_commands = Command.Boot ∷ Command.Call None (asked A) m [] ∷ []
+cut_behind_entry_9_commands = Command.Boot ∷ Command.Call None (of_type A) m [] ∷ []
 
 abbrev pub cut_behind_entry_9_said : List Said
 cut_behind_entry_9_said =
@@ -153,7 +153,7 @@ abbrev pub cut_behind_entry_9 : Type 0
 cut_behind_entry_9 = Shows deployment first_chosen 9 32 cut_behind_entry_9_commands cut_behind_entry_9_said
 
 abbrev pub cut_behind_entry_10_commands : List Command
-cut_behind_entry_10_commands = Command.Boot ∷ Command.Call None (asked A) m [] ∷ []
+cut_behind_entry_10_commands = Command.Boot ∷ Command.Call None (of_type A) m [] ∷ []
 
 abbrev pub cut_behind_entry_10_said : List Said
 cut_behind_entry_10_said =
@@ -165,7 +165,7 @@ abbrev pub cut_behind_entry_10 : Type 0
 cut_behind_entry_10 = Shows deployment first_chosen 10 32 cut_behind_entry_10_commands cut_behind_entry_10_said
 
 abbrev pub cut_behind_entry_11_commands : List Command
-cut_behind_entry_11_commands = Command.Boot ∷ Command.Call None (asked A) m [] ∷ []
+cut_behind_entry_11_commands = Command.Boot ∷ Command.Call None (of_type A) m [] ∷ []
 
 abbrev pub cut_behind_entry_11_said : List Said
 cut_behind_entry_11_said =
@@ -177,7 +177,7 @@ abbrev pub cut_behind_entry_11 : Type 0
 cut_behind_entry_11 = Shows deployment first_chosen 11 32 cut_behind_entry_11_commands cut_behind_entry_11_said
 
 abbrev pub cut_behind_entry_12_commands : List Command
-cut_behind_entry_12_commands = Command.Boot ∷ Command.Call None (asked A) m [] ∷ []
+cut_behind_entry_12_commands = Command.Boot ∷ Command.Call None (of_type A) m [] ∷ []
 
 abbrev pub cut_behind_entry_12_said : List Said
 cut_behind_entry_12_said =
@@ -189,7 +189,7 @@ abbrev pub cut_behind_entry_12 : Type 0
 cut_behind_entry_12 = Shows deployment first_chosen 12 32 cut_behind_entry_12_commands cut_behind_entry_12_said
 
 abbrev pub budget_that_suffices_commands : List Command
-budget_that_suffices_commands = Command.Boot ∷ Command.Call None (asked A) m [] ∷ []
+budget_that_suffices_commands = Command.Boot ∷ Command.Call None (of_type A) m [] ∷ []
 
 abbrev pub budget_that_suffices_said : List Said
 budget_that_suffices_said =
@@ -201,7 +201,7 @@ abbrev pub budget_that_suffices : Type 0
 budget_that_suffices = Shows deployment first_chosen 13 32 budget_that_suffices_commands budget_that_suffices_said
 
 abbrev pub boot_is_cut_commands : List Command
-boot_is_cut_commands = Command.Boot ∷ Command.Call None (asked A) m [] ∷ []
+boot_is_cut_commands = Command.Boot ∷ Command.Call None (of_type A) m [] ∷ []
 
 abbrev pub boot_is_cut_said : List Said
 boot_is_cut_said =

@@ -13,7 +13,7 @@ use Rattle.cdi_machine.specs.Tables.{Step, One}
 use Rattle.cdi_machine.specs.Commands.{Command}
 use Rattle.cdi_machine.specs.Container.{Said}
 use Rattle.cdi_machine.specs.Scripts.{Last, find, destroy, give, catch}
-use Rattle.cdi_machine.specs.Deployments.{Deployment, asked, no_chain, constructor_of, managed, of_context, of_container, first_chosen, Shows, member}
+use Rattle.cdi_machine.specs.Deployments.{Deployment, of_type, no_chain, constructor_of, managed_bean, of_context, of_container, first_chosen, Shows, member}
 
 abbrev E : Name
 E = 20
@@ -36,13 +36,13 @@ body_nop = 1
 abbrev pub deployment : Deployment
 deployment =
     record {
-      beans = managed O scopes.ApplicationScoped (record { fields = []; plan = Step.Construct [] no_chain ∷ Step.Complete no_chain ∷ []; methods = []; pre_destroy = no_chain }) ∷ managed D scopes.Dependent (record { fields = []; plan = Step.Construct [] (record { chain = []; callbacks = constructor_of D body_k ∷ [] }) ∷ Step.Complete no_chain ∷ []; methods = []; pre_destroy = no_chain }) ∷ [];
+      beans = managed_bean O scopes.ApplicationScoped (record { fields = []; plan = Step.Construct [] no_chain ∷ Step.Complete no_chain ∷ []; methods = []; pre_destroy = no_chain }) ∷ managed_bean D scopes.Dependent (record { fields = []; plan = Step.Construct [] (record { chain = []; callbacks = constructor_of D body_k ∷ [] }) ∷ Step.Complete no_chain ∷ []; methods = []; pre_destroy = no_chain }) ∷ [];
       interceptors = [];
       types = (D, One 1) ∷ (O, One 0) ∷ [];
       written = [];
-      observed = (E, [], ((record { bean = 0; member = member O o body_nop (asked D ∷ []) []; conditional = false }) ∷ []) ∷ []) ∷ [];
+      observed = (E, [], ((record { bean = 0; member = member O o body_nop (of_type D ∷ []) []; conditional = false }) ∷ []) ∷ []) ∷ [];
       events = E ∷ [];
-      scripts = (find 0 ∷ destroy 0 ∷ catch (give Last) ∷ [], asked O ∷ []) ∷ ([], []) ∷ [];
+      scripts = (find 0 ∷ destroy 0 ∷ catch (give Last) ∷ [], of_type O ∷ []) ∷ ([], []) ∷ [];
       checked = [];
       texts = (number_of built_in.IllegalStateException, codes "IllegalStateException") ∷ [];
     }

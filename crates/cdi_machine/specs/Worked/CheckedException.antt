@@ -12,7 +12,7 @@ use Rattle.cdi_machine.specs.Tables.{Step, One}
 use Rattle.cdi_machine.specs.Commands.{Command}
 use Rattle.cdi_machine.specs.Container.{Said}
 use Rattle.cdi_machine.specs.Scripts.{throw}
-use Rattle.cdi_machine.specs.Deployments.{Deployment, asked, no_chain, constructor_of, managed, of_context, of_container, first_chosen, Shows, code, method}
+use Rattle.cdi_machine.specs.Deployments.{Deployment, of_type, no_chain, constructor_of, managed_bean, of_context, of_container, first_chosen, Shows, code, method}
 
 abbrev A : Name
 A = 20
@@ -44,7 +44,7 @@ body_nop = 1
 abbrev pub deployment : Deployment
 deployment =
     record {
-      beans = managed A scopes.ApplicationScoped (record { fields = []; plan = Step.Construct (asked D ∷ []) (record { chain = []; callbacks = constructor_of A body_chk ∷ [] }) ∷ Step.Inject d (asked D) ∷ Step.Initialize (code A i body_nop) (asked D ∷ []) ∷ Step.Complete (record { chain = []; callbacks = code A p body_nop ∷ [] }) ∷ []; methods = (m, method A m body_nop 0 []) ∷ []; pre_destroy = no_chain }) ∷ managed D scopes.Dependent (record { fields = []; plan = Step.Construct [] no_chain ∷ Step.Complete no_chain ∷ []; methods = []; pre_destroy = no_chain }) ∷ [];
+      beans = managed_bean A scopes.ApplicationScoped (record { fields = []; plan = Step.Construct (of_type D ∷ []) (record { chain = []; callbacks = constructor_of A body_chk ∷ [] }) ∷ Step.Inject d (of_type D) ∷ Step.Initialize (code A i body_nop) (of_type D ∷ []) ∷ Step.Complete (record { chain = []; callbacks = code A p body_nop ∷ [] }) ∷ []; methods = (m, method A m body_nop 0 []) ∷ []; pre_destroy = no_chain }) ∷ managed_bean D scopes.Dependent (record { fields = []; plan = Step.Construct [] no_chain ∷ Step.Complete no_chain ∷ []; methods = []; pre_destroy = no_chain }) ∷ [];
       interceptors = [];
       types = (A, One 0) ∷ (D, One 1) ∷ [];
       written = [];
@@ -56,7 +56,7 @@ deployment =
     }
 
 abbrev pub checked_exception_becomes_another_commands : List Command
-checked_exception_becomes_another_commands = Command.Boot ∷ Command.Call None (asked A) m [] ∷ []
+checked_exception_becomes_another_commands = Command.Boot ∷ Command.Call None (of_type A) m [] ∷ []
 
 abbrev pub checked_exception_becomes_another_said : List Said
 checked_exception_becomes_another_said =

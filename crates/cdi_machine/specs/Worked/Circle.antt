@@ -13,7 +13,7 @@ use Rattle.cdi_machine.specs.Tables.{Step, One}
 use Rattle.cdi_machine.specs.Commands.{Command}
 use Rattle.cdi_machine.specs.Container.{Said}
 use Rattle.cdi_machine.specs.Scripts.{call}
-use Rattle.cdi_machine.specs.Deployments.{Deployment, asked, no_chain, managed, of_context, of_container, first_chosen, Shows, code, method}
+use Rattle.cdi_machine.specs.Deployments.{Deployment, of_type, no_chain, managed_bean, of_context, of_container, first_chosen, Shows, code, method}
 
 abbrev A : Name
 A = 20
@@ -45,7 +45,7 @@ body_m = 2
 abbrev pub deployment : Deployment
 deployment =
     record {
-      beans = managed A scopes.ApplicationScoped (record { fields = []; plan = Step.Construct [] no_chain ∷ Step.Inject b (asked B) ∷ Step.Complete (record { chain = []; callbacks = code A p body_p ∷ [] }) ∷ []; methods = (m, method A m body_nop 0 []) ∷ []; pre_destroy = no_chain }) ∷ managed B scopes.ApplicationScoped (record { fields = []; plan = Step.Construct [] no_chain ∷ Step.Inject a (asked A) ∷ Step.Complete no_chain ∷ []; methods = (m, method B m body_m 0 []) ∷ []; pre_destroy = no_chain }) ∷ [];
+      beans = managed_bean A scopes.ApplicationScoped (record { fields = []; plan = Step.Construct [] no_chain ∷ Step.Inject b (of_type B) ∷ Step.Complete (record { chain = []; callbacks = code A p body_p ∷ [] }) ∷ []; methods = (m, method A m body_nop 0 []) ∷ []; pre_destroy = no_chain }) ∷ managed_bean B scopes.ApplicationScoped (record { fields = []; plan = Step.Construct [] no_chain ∷ Step.Inject a (of_type A) ∷ Step.Complete no_chain ∷ []; methods = (m, method B m body_m 0 []) ∷ []; pre_destroy = no_chain }) ∷ [];
       interceptors = [];
       types = (A, One 0) ∷ (B, One 1) ∷ [];
       written = [];
@@ -57,7 +57,7 @@ deployment =
     }
 
 abbrev pub a_bean_that_is_being_made_is_not_found_commands : List Command
-a_bean_that_is_being_made_is_not_found_commands = Command.Boot ∷ Command.Call None (asked A) m [] ∷ []
+a_bean_that_is_being_made_is_not_found_commands = Command.Boot ∷ Command.Call None (of_type A) m [] ∷ []
 
 abbrev pub a_bean_that_is_being_made_is_not_found_said : List Said
 a_bean_that_is_being_made_is_not_found_said =

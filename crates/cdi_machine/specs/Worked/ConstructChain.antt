@@ -13,7 +13,7 @@ use Rattle.cdi_machine.specs.Words.{Name}
 use Rattle.cdi_machine.specs.Tables.{Step, One}
 use Rattle.cdi_machine.specs.Commands.{Command}
 use Rattle.cdi_machine.specs.Container.{Said}
-use Rattle.cdi_machine.specs.Deployments.{Deployment, asked, no_chain, constructor_of, managed, by_role, of_context, of_container, first_chosen, Shows, method}
+use Rattle.cdi_machine.specs.Deployments.{Deployment, of_type, no_chain, constructor_of, managed_bean, by_role, of_context, of_container, first_chosen, Shows, method}
 
 abbrev C : Name
 C = 20
@@ -30,7 +30,7 @@ body_nop = 0
 abbrev pub deployment : Deployment
 deployment =
     record {
-      beans = managed C scopes.ApplicationScoped (record { fields = []; plan = Step.Intercept 0 ∷ Step.Construct [] (record { chain = 0 ∷ []; callbacks = constructor_of C body_nop ∷ [] }) ∷ Step.Complete no_chain ∷ []; methods = (m, method C m body_nop 0 []) ∷ []; pre_destroy = no_chain }) ∷ [];
+      beans = managed_bean C scopes.ApplicationScoped (record { fields = []; plan = Step.Intercept 0 ∷ Step.Construct [] (record { chain = 0 ∷ []; callbacks = constructor_of C body_nop ∷ [] }) ∷ Step.Complete no_chain ∷ []; methods = (m, method C m body_nop 0 []) ∷ []; pre_destroy = no_chain }) ∷ [];
       interceptors = record { name = J; fields = []; injected = []; body = by_role None (Some body_nop) None None } ∷ [];
       types = (C, One 0) ∷ [];
       written = [];
@@ -42,7 +42,7 @@ deployment =
     }
 
 abbrev pub constructor_that_is_not_reached_commands : List Command
-constructor_that_is_not_reached_commands = Command.Boot ∷ Command.Call None (asked C) m [] ∷ []
+constructor_that_is_not_reached_commands = Command.Boot ∷ Command.Call None (of_type C) m [] ∷ []
 
 abbrev pub constructor_that_is_not_reached_said : List Said
 constructor_that_is_not_reached_said =

@@ -13,7 +13,7 @@ use Rattle.cdi_machine.specs.Tables.{Step, One}
 use Rattle.cdi_machine.specs.Commands.{Command}
 use Rattle.cdi_machine.specs.Container.{Said}
 use Rattle.cdi_machine.specs.Scripts.{Plain, Last, proceed, keep, peek, give}
-use Rattle.cdi_machine.specs.Deployments.{Deployment, asked, no_chain, managed, by_role, of_context, of_container, first_chosen, Shows, method}
+use Rattle.cdi_machine.specs.Deployments.{Deployment, of_type, no_chain, managed_bean, by_role, of_context, of_container, first_chosen, Shows, method}
 
 abbrev T : Name
 T = 20
@@ -42,7 +42,7 @@ body_k2 = 2
 abbrev pub deployment : Deployment
 deployment =
     record {
-      beans = managed T scopes.ApplicationScoped (record { fields = []; plan = Step.Intercept 0 ∷ Step.Intercept 1 ∷ Step.Construct [] no_chain ∷ Step.Complete no_chain ∷ []; methods = (m, method T m body_nop 0 (0 ∷ 1 ∷ [])) ∷ []; pre_destroy = no_chain }) ∷ [];
+      beans = managed_bean T scopes.ApplicationScoped (record { fields = []; plan = Step.Intercept 0 ∷ Step.Intercept 1 ∷ Step.Construct [] no_chain ∷ Step.Complete no_chain ∷ []; methods = (m, method T m body_nop 0 (0 ∷ 1 ∷ [])) ∷ []; pre_destroy = no_chain }) ∷ [];
       interceptors = record { name = K1; fields = []; injected = []; body = by_role (Some body_k1) None None None } ∷ record { name = K2; fields = []; injected = []; body = by_role (Some body_k2) None None None } ∷ [];
       types = (T, One 0) ∷ [];
       written = [];
@@ -54,7 +54,7 @@ deployment =
     }
 
 abbrev pub context_data_belongs_to_the_invocation_commands : List Command
-context_data_belongs_to_the_invocation_commands = Command.Boot ∷ Command.Call None (asked T) m [] ∷ Command.Call None (asked T) m [] ∷ []
+context_data_belongs_to_the_invocation_commands = Command.Boot ∷ Command.Call None (of_type T) m [] ∷ Command.Call None (of_type T) m [] ∷ []
 
 abbrev pub context_data_belongs_to_the_invocation_said : List Said
 context_data_belongs_to_the_invocation_said =

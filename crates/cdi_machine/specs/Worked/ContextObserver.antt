@@ -13,7 +13,7 @@ use Rattle.cdi_machine.specs.Tables.{Step}
 use Rattle.cdi_machine.specs.Commands.{Command}
 use Rattle.cdi_machine.specs.Container.{Said}
 use Rattle.cdi_machine.specs.Scripts.{throw}
-use Rattle.cdi_machine.specs.Deployments.{Deployment, no_chain, managed, of_context, of_container, first_chosen, Shows, member}
+use Rattle.cdi_machine.specs.Deployments.{Deployment, no_chain, managed_bean, of_context, of_container, first_chosen, Shows, member}
 
 abbrev r : List ℕ
 r = codes "r"
@@ -33,7 +33,7 @@ body_oops = 0
 abbrev pub deployment : Deployment
 deployment =
     record {
-      beans = managed L scopes.ApplicationScoped (record { fields = []; plan = Step.Construct [] no_chain ∷ Step.Complete no_chain ∷ []; methods = []; pre_destroy = no_chain }) ∷ [];
+      beans = managed_bean L scopes.ApplicationScoped (record { fields = []; plan = Step.Construct [] no_chain ∷ Step.Complete no_chain ∷ []; methods = []; pre_destroy = no_chain }) ∷ [];
       interceptors = [];
       types = [];
       written = [];

@@ -14,7 +14,7 @@ use Rattle.cdi_machine.specs.Tables.{Step, One}
 use Rattle.cdi_machine.specs.Commands.{Command}
 use Rattle.cdi_machine.specs.Container.{Said}
 use Rattle.cdi_machine.specs.Scripts.{Plain, TheField, Add, set, give}
-use Rattle.cdi_machine.specs.Deployments.{Deployment, asked, no_chain, managed, of_context, of_container, first_chosen, Shows, method}
+use Rattle.cdi_machine.specs.Deployments.{Deployment, of_type, no_chain, managed_bean, of_context, of_container, first_chosen, Shows, method}
 
 abbrev K : Name
 K = 20
@@ -31,7 +31,7 @@ body_up = 0
 abbrev pub deployment : Deployment
 deployment =
     record {
-      beans = managed K scopes.ApplicationScoped (record { fields = (n, values.Int (pos 0)) ∷ []; plan = Step.Construct [] no_chain ∷ Step.Complete no_chain ∷ []; methods = (up, method K up body_up 0 []) ∷ []; pre_destroy = no_chain }) ∷ [];
+      beans = managed_bean K scopes.ApplicationScoped (record { fields = (n, values.Int (pos 0)) ∷ []; plan = Step.Construct [] no_chain ∷ Step.Complete no_chain ∷ []; methods = (up, method K up body_up 0 []) ∷ []; pre_destroy = no_chain }) ∷ [];
       interceptors = [];
       types = (K, One 0) ∷ [];
       written = [];
@@ -43,7 +43,7 @@ deployment =
     }
 
 abbrev pub counts_its_calls_commands : List Command
-counts_its_calls_commands = Command.Boot ∷ Command.Call None (asked K) up [] ∷ Command.Call None (asked K) up [] ∷ []
+counts_its_calls_commands = Command.Boot ∷ Command.Call None (of_type K) up [] ∷ Command.Call None (of_type K) up [] ∷ []
 
 abbrev pub counts_its_calls_said : List Said
 counts_its_calls_said =
@@ -56,7 +56,7 @@ abbrev pub counts_its_calls : Type 0
 counts_its_calls = Shows deployment first_chosen 100000 32 counts_its_calls_commands counts_its_calls_said
 
 abbrev pub last_entry_uses_the_budget_up_commands : List Command
-last_entry_uses_the_budget_up_commands = Command.Boot ∷ Command.Call None (asked K) up [] ∷ []
+last_entry_uses_the_budget_up_commands = Command.Boot ∷ Command.Call None (of_type K) up [] ∷ []
 
 abbrev pub last_entry_uses_the_budget_up_said : List Said
 last_entry_uses_the_budget_up_said =
@@ -68,7 +68,7 @@ abbrev pub last_entry_uses_the_budget_up : Type 0
 last_entry_uses_the_budget_up = Shows deployment first_chosen 5 32 last_entry_uses_the_budget_up_commands last_entry_uses_the_budget_up_said
 
 abbrev pub cut_where_an_entry_is_due_commands : List Command
-cut_where_an_entry_is_due_commands = Command.Boot ∷ Command.Call None (asked K) up [] ∷ Command.Call None (asked K) up [] ∷ []
+cut_where_an_entry_is_due_commands = Command.Boot ∷ Command.Call None (of_type K) up [] ∷ Command.Call None (of_type K) up [] ∷ []
 
 abbrev pub cut_where_an_entry_is_due_said : List Said
 cut_where_an_entry_is_due_said =

@@ -11,7 +11,7 @@ use Rattle.cdi_machine.specs.Words.{Name}
 use Rattle.cdi_machine.specs.Tables.{Step, One}
 use Rattle.cdi_machine.specs.Commands.{Command}
 use Rattle.cdi_machine.specs.Container.{Said}
-use Rattle.cdi_machine.specs.Deployments.{Deployment, asked, no_chain, managed, of_context, of_container, first_chosen, Shows, method}
+use Rattle.cdi_machine.specs.Deployments.{Deployment, of_type, no_chain, managed_bean, of_context, of_container, first_chosen, Shows, method}
 
 abbrev B : Name
 B = 20
@@ -34,7 +34,7 @@ body_nop = 0
 abbrev pub deployment : Deployment
 deployment =
     record {
-      beans = managed D scopes.Dependent (record { fields = []; plan = Step.Construct [] no_chain ∷ Step.Complete no_chain ∷ []; methods = []; pre_destroy = no_chain }) ∷ managed B scopes.ApplicationScoped (record { fields = []; plan = Step.Construct [] no_chain ∷ Step.Inject d1 (asked D) ∷ Step.Inject d2 (asked D) ∷ Step.Complete no_chain ∷ []; methods = (m, method B m body_nop 0 []) ∷ []; pre_destroy = no_chain }) ∷ [];
+      beans = managed_bean D scopes.Dependent (record { fields = []; plan = Step.Construct [] no_chain ∷ Step.Complete no_chain ∷ []; methods = []; pre_destroy = no_chain }) ∷ managed_bean B scopes.ApplicationScoped (record { fields = []; plan = Step.Construct [] no_chain ∷ Step.Inject d1 (of_type D) ∷ Step.Inject d2 (of_type D) ∷ Step.Complete no_chain ∷ []; methods = (m, method B m body_nop 0 []) ∷ []; pre_destroy = no_chain }) ∷ [];
       interceptors = [];
       types = (B, One 1) ∷ (D, One 0) ∷ [];
       written = [];
@@ -46,7 +46,7 @@ deployment =
     }
 
 abbrev pub each_point_gets_its_own_dependent_commands : List Command
-each_point_gets_its_own_dependent_commands = Command.Boot ∷ Command.Call None (asked B) m [] ∷ Command.Live ∷ Command.Shutdown ∷ []
+each_point_gets_its_own_dependent_commands = Command.Boot ∷ Command.Call None (of_type B) m [] ∷ Command.Live ∷ Command.Shutdown ∷ []
 
 abbrev pub each_point_gets_its_own_dependent_said : List Said
 each_point_gets_its_own_dependent_said =

@@ -12,7 +12,7 @@ use Rattle.cdi_machine.specs.Tables.{Step, One}
 use Rattle.cdi_machine.specs.Commands.{Command}
 use Rattle.cdi_machine.specs.Container.{Said}
 use Rattle.cdi_machine.specs.Scripts.{find}
-use Rattle.cdi_machine.specs.Deployments.{Deployment, asked, no_chain, managed, of_context, of_container, first_chosen, Shows, code, method}
+use Rattle.cdi_machine.specs.Deployments.{Deployment, of_type, no_chain, managed_bean, of_context, of_container, first_chosen, Shows, code, method}
 
 abbrev R : Name
 R = 20
@@ -32,19 +32,19 @@ body_nop = 1
 abbrev pub deployment : Deployment
 deployment =
     record {
-      beans = managed R scopes.Dependent (record { fields = []; plan = Step.Construct [] no_chain ∷ Step.Complete (record { chain = []; callbacks = code R p body_p ∷ [] }) ∷ []; methods = (m, method R m body_nop 0 []) ∷ []; pre_destroy = no_chain }) ∷ [];
+      beans = managed_bean R scopes.Dependent (record { fields = []; plan = Step.Construct [] no_chain ∷ Step.Complete (record { chain = []; callbacks = code R p body_p ∷ [] }) ∷ []; methods = (m, method R m body_nop 0 []) ∷ []; pre_destroy = no_chain }) ∷ [];
       interceptors = [];
       types = (R, One 0) ∷ [];
       written = [];
       observed = [];
       events = [];
-      scripts = (find 0 ∷ [], asked R ∷ []) ∷ ([], []) ∷ [];
+      scripts = (find 0 ∷ [], of_type R ∷ []) ∷ ([], []) ∷ [];
       checked = [];
       texts = [];
     }
 
 abbrev pub cut_at_the_last_level_commands : List Command
-cut_at_the_last_level_commands = Command.Boot ∷ Command.Call None (asked R) m [] ∷ []
+cut_at_the_last_level_commands = Command.Boot ∷ Command.Call None (of_type R) m [] ∷ []
 
 abbrev pub cut_at_the_last_level_said : List Said
 cut_at_the_last_level_said =

@@ -13,7 +13,7 @@ use Rattle.cdi_machine.specs.Tables.{Step, One}
 use Rattle.cdi_machine.specs.Commands.{Command}
 use Rattle.cdi_machine.specs.Container.{Said}
 use Rattle.cdi_machine.specs.Scripts.{Last, find, destroy, give, catch}
-use Rattle.cdi_machine.specs.Deployments.{Deployment, asked, no_chain, managed, of_context, of_container, first_chosen, Shows, code, method}
+use Rattle.cdi_machine.specs.Deployments.{Deployment, of_type, no_chain, managed_bean, of_context, of_container, first_chosen, Shows, code, method}
 
 abbrev H : Name
 H = 20
@@ -36,19 +36,19 @@ body_g = 1
 abbrev pub deployment : Deployment
 deployment =
     record {
-      beans = managed D scopes.Dependent (record { fields = []; plan = Step.Construct [] no_chain ∷ Step.Complete no_chain ∷ []; methods = []; pre_destroy = (record { chain = []; callbacks = code D bye body_nop ∷ [] }) }) ∷ managed H scopes.ApplicationScoped (record { fields = []; plan = Step.Construct [] no_chain ∷ Step.Complete no_chain ∷ []; methods = (g, method H g body_g 0 []) ∷ []; pre_destroy = no_chain }) ∷ [];
+      beans = managed_bean D scopes.Dependent (record { fields = []; plan = Step.Construct [] no_chain ∷ Step.Complete no_chain ∷ []; methods = []; pre_destroy = (record { chain = []; callbacks = code D bye body_nop ∷ [] }) }) ∷ managed_bean H scopes.ApplicationScoped (record { fields = []; plan = Step.Construct [] no_chain ∷ Step.Complete no_chain ∷ []; methods = (g, method H g body_g 0 []) ∷ []; pre_destroy = no_chain }) ∷ [];
       interceptors = [];
       types = (H, One 1) ∷ (D, One 0) ∷ [];
       written = [];
       observed = [];
       events = [];
-      scripts = ([], []) ∷ (find 0 ∷ destroy 0 ∷ destroy 0 ∷ catch (give Last) ∷ [], asked D ∷ []) ∷ [];
+      scripts = ([], []) ∷ (find 0 ∷ destroy 0 ∷ destroy 0 ∷ catch (give Last) ∷ [], of_type D ∷ []) ∷ [];
       checked = [];
       texts = (number_of built_in.IllegalStateException, codes "IllegalStateException") ∷ [];
     }
 
 abbrev pub destroyed_once_only_commands : List Command
-destroyed_once_only_commands = Command.Boot ∷ Command.Call None (asked H) g [] ∷ Command.Live ∷ []
+destroyed_once_only_commands = Command.Boot ∷ Command.Call None (of_type H) g [] ∷ Command.Live ∷ []
 
 abbrev pub destroyed_once_only_said : List Said
 destroyed_once_only_said =

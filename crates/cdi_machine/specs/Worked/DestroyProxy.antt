@@ -13,7 +13,7 @@ use Rattle.cdi_machine.specs.Tables.{Step, One}
 use Rattle.cdi_machine.specs.Commands.{Command}
 use Rattle.cdi_machine.specs.Container.{Said}
 use Rattle.cdi_machine.specs.Scripts.{call, find, destroy}
-use Rattle.cdi_machine.specs.Deployments.{Deployment, asked, no_chain, managed, of_context, of_container, first_chosen, Shows, method}
+use Rattle.cdi_machine.specs.Deployments.{Deployment, of_type, no_chain, managed_bean, of_context, of_container, first_chosen, Shows, method}
 
 abbrev Y : Name
 Y = 20
@@ -36,19 +36,19 @@ body_nop = 1
 abbrev pub deployment : Deployment
 deployment =
     record {
-      beans = managed Y scopes.ApplicationScoped (record { fields = []; plan = Step.Construct [] no_chain ∷ Step.Complete no_chain ∷ []; methods = (g, method Y g body_g 0 []) ∷ []; pre_destroy = no_chain }) ∷ managed X scopes.ApplicationScoped (record { fields = []; plan = Step.Construct [] no_chain ∷ Step.Complete no_chain ∷ []; methods = (m, method X m body_nop 0 []) ∷ []; pre_destroy = no_chain }) ∷ [];
+      beans = managed_bean Y scopes.ApplicationScoped (record { fields = []; plan = Step.Construct [] no_chain ∷ Step.Complete no_chain ∷ []; methods = (g, method Y g body_g 0 []) ∷ []; pre_destroy = no_chain }) ∷ managed_bean X scopes.ApplicationScoped (record { fields = []; plan = Step.Construct [] no_chain ∷ Step.Complete no_chain ∷ []; methods = (m, method X m body_nop 0 []) ∷ []; pre_destroy = no_chain }) ∷ [];
       interceptors = [];
       types = (Y, One 0) ∷ (X, One 1) ∷ [];
       written = [];
       observed = [];
       events = [];
-      scripts = (find 0 ∷ call (vias.Local 0) m [] ∷ destroy 0 ∷ call (vias.Local 0) m [] ∷ [], asked X ∷ []) ∷ ([], []) ∷ [];
+      scripts = (find 0 ∷ call (vias.Local 0) m [] ∷ destroy 0 ∷ call (vias.Local 0) m [] ∷ [], of_type X ∷ []) ∷ ([], []) ∷ [];
       checked = [];
       texts = [];
     }
 
 abbrev pub proxy_obtains_anew_commands : List Command
-proxy_obtains_anew_commands = Command.Boot ∷ Command.Call None (asked Y) g [] ∷ []
+proxy_obtains_anew_commands = Command.Boot ∷ Command.Call None (of_type Y) g [] ∷ []
 
 abbrev pub proxy_obtains_anew_said : List Said
 proxy_obtains_anew_said =

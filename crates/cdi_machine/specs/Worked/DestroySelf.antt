@@ -12,7 +12,7 @@ use Rattle.cdi_machine.specs.Tables.{Step, One}
 use Rattle.cdi_machine.specs.Commands.{Command}
 use Rattle.cdi_machine.specs.Container.{Said}
 use Rattle.cdi_machine.specs.Scripts.{find, destroy}
-use Rattle.cdi_machine.specs.Deployments.{Deployment, asked, no_chain, managed, of_context, of_container, first_chosen, Shows, method}
+use Rattle.cdi_machine.specs.Deployments.{Deployment, of_type, no_chain, managed_bean, of_context, of_container, first_chosen, Shows, method}
 
 abbrev S : Name
 S = 20
@@ -26,19 +26,19 @@ body_m = 0
 abbrev pub deployment : Deployment
 deployment =
     record {
-      beans = managed S scopes.ApplicationScoped (record { fields = []; plan = Step.Construct [] no_chain ∷ Step.Complete no_chain ∷ []; methods = (m, method S m body_m 0 []) ∷ []; pre_destroy = no_chain }) ∷ [];
+      beans = managed_bean S scopes.ApplicationScoped (record { fields = []; plan = Step.Construct [] no_chain ∷ Step.Complete no_chain ∷ []; methods = (m, method S m body_m 0 []) ∷ []; pre_destroy = no_chain }) ∷ [];
       interceptors = [];
       types = (S, One 0) ∷ [];
       written = [];
       observed = [];
       events = [];
-      scripts = (find 0 ∷ destroy 0 ∷ [], asked S ∷ []) ∷ [];
+      scripts = (find 0 ∷ destroy 0 ∷ [], of_type S ∷ []) ∷ [];
       checked = [];
       texts = [];
     }
 
 abbrev pub running_instance_is_not_destroyed_commands : List Command
-running_instance_is_not_destroyed_commands = Command.Boot ∷ Command.Call None (asked S) m [] ∷ []
+running_instance_is_not_destroyed_commands = Command.Boot ∷ Command.Call None (of_type S) m [] ∷ []
 
 abbrev pub running_instance_is_not_destroyed_said : List Said
 running_instance_is_not_destroyed_said =

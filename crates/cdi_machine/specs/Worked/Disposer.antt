@@ -12,7 +12,7 @@ use Rattle.cdi_machine.specs.Tables.{Step, Source, One}
 use Rattle.cdi_machine.specs.Commands.{Command}
 use Rattle.cdi_machine.specs.Container.{Said}
 use Rattle.cdi_machine.specs.Scripts.{Plain, give}
-use Rattle.cdi_machine.specs.Deployments.{Deployment, asked, no_chain, managed, product, of_context, of_container, first_chosen, Shows, method, member}
+use Rattle.cdi_machine.specs.Deployments.{Deployment, of_type, no_chain, managed_bean, product_bean, of_context, of_container, first_chosen, Shows, method, member}
 
 abbrev B : Name
 B = 20
@@ -44,7 +44,7 @@ body_nop = 1
 abbrev pub deployment : Deployment
 deployment =
     record {
-      beans = managed M scopes.Dependent (record { fields = []; plan = Step.Construct [] no_chain ∷ Step.Complete no_chain ∷ []; methods = []; pre_destroy = no_chain }) ∷ product M mk scopes.Dependent (record { declaring = 0; source = Source.ProducerMethod (member M mk body_mk [] []); disposers = member M del body_nop [] [] ∷ [] }) ∷ managed B scopes.ApplicationScoped (record { fields = []; plan = Step.Construct [] no_chain ∷ Step.Inject t (asked T) ∷ Step.Complete no_chain ∷ []; methods = (m, method B m body_nop 0 []) ∷ []; pre_destroy = no_chain }) ∷ [];
+      beans = managed_bean M scopes.Dependent (record { fields = []; plan = Step.Construct [] no_chain ∷ Step.Complete no_chain ∷ []; methods = []; pre_destroy = no_chain }) ∷ product_bean M mk scopes.Dependent (record { declaring = 0; source = Source.ProducerMethod (member M mk body_mk [] []); disposers = member M del body_nop [] [] ∷ [] }) ∷ managed_bean B scopes.ApplicationScoped (record { fields = []; plan = Step.Construct [] no_chain ∷ Step.Inject t (of_type T) ∷ Step.Complete no_chain ∷ []; methods = (m, method B m body_nop 0 []) ∷ []; pre_destroy = no_chain }) ∷ [];
       interceptors = [];
       types = (B, One 2) ∷ (T, One 1) ∷ [];
       written = [];
@@ -56,7 +56,7 @@ deployment =
     }
 
 abbrev pub products_have_receivers_of_their_own_commands : List Command
-products_have_receivers_of_their_own_commands = Command.Boot ∷ Command.Call None (asked B) m [] ∷ Command.Shutdown ∷ []
+products_have_receivers_of_their_own_commands = Command.Boot ∷ Command.Call None (of_type B) m [] ∷ Command.Shutdown ∷ []
 
 abbrev pub products_have_receivers_of_their_own_said : List Said
 products_have_receivers_of_their_own_said =

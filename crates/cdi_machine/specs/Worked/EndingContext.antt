@@ -14,7 +14,7 @@ use Rattle.cdi_machine.specs.Tables.{Step, One}
 use Rattle.cdi_machine.specs.Commands.{Command}
 use Rattle.cdi_machine.specs.Container.{Said}
 use Rattle.cdi_machine.specs.Scripts.{call}
-use Rattle.cdi_machine.specs.Deployments.{Deployment, asked, no_chain, managed, of_context, of_container, first_chosen, Shows, code, method}
+use Rattle.cdi_machine.specs.Deployments.{Deployment, of_type, no_chain, managed_bean, of_context, of_container, first_chosen, Shows, code, method}
 
 abbrev Y : Name
 Y = 20
@@ -43,7 +43,7 @@ body_nop = 1
 abbrev pub deployment : Deployment
 deployment =
     record {
-      beans = managed Y scopes.ApplicationScoped (record { fields = []; plan = Step.Construct [] no_chain ∷ Step.Inject x (asked X) ∷ Step.Complete no_chain ∷ []; methods = (go, method Y go body_go 0 []) ∷ []; pre_destroy = (record { chain = []; callbacks = code Y bye body_go ∷ [] }) }) ∷ managed X scopes.ApplicationScoped (record { fields = []; plan = Step.Construct [] no_chain ∷ Step.Complete no_chain ∷ []; methods = (m, method X m body_nop 0 []) ∷ []; pre_destroy = no_chain }) ∷ [];
+      beans = managed_bean Y scopes.ApplicationScoped (record { fields = []; plan = Step.Construct [] no_chain ∷ Step.Inject x (of_type X) ∷ Step.Complete no_chain ∷ []; methods = (go, method Y go body_go 0 []) ∷ []; pre_destroy = (record { chain = []; callbacks = code Y bye body_go ∷ [] }) }) ∷ managed_bean X scopes.ApplicationScoped (record { fields = []; plan = Step.Construct [] no_chain ∷ Step.Complete no_chain ∷ []; methods = (m, method X m body_nop 0 []) ∷ []; pre_destroy = no_chain }) ∷ [];
       interceptors = [];
       types = (Y, One 0) ∷ (X, One 1) ∷ [];
       written = [];
@@ -55,7 +55,7 @@ deployment =
     }
 
 abbrev pub nothing_is_made_in_an_ending_context_commands : List Command
-nothing_is_made_in_an_ending_context_commands = Command.Boot ∷ Command.Call None (asked Y) go [] ∷ Command.Shutdown ∷ []
+nothing_is_made_in_an_ending_context_commands = Command.Boot ∷ Command.Call None (of_type Y) go [] ∷ Command.Shutdown ∷ []
 
 abbrev pub nothing_is_made_in_an_ending_context_said : List Said
 nothing_is_made_in_an_ending_context_said =

@@ -11,7 +11,7 @@ use Rattle.cdi_machine.specs.Tables.{Step, One}
 use Rattle.cdi_machine.specs.Commands.{Command}
 use Rattle.cdi_machine.specs.Container.{Said}
 use Rattle.cdi_machine.specs.Scripts.{throw}
-use Rattle.cdi_machine.specs.Deployments.{Deployment, asked, no_chain, managed, of_context, of_container, first_chosen, last_chosen, Shows, code, method}
+use Rattle.cdi_machine.specs.Deployments.{Deployment, of_type, no_chain, managed_bean, of_context, of_container, first_chosen, last_chosen, Shows, code, method}
 
 abbrev A : Name
 A = 20
@@ -43,7 +43,7 @@ body_nop = 1
 abbrev pub deployment : Deployment
 deployment =
     record {
-      beans = managed A scopes.ApplicationScoped (record { fields = []; plan = Step.Construct [] no_chain ∷ Step.Inject d1 (asked D) ∷ Step.Inject d2 (asked D) ∷ Step.Complete (record { chain = []; callbacks = code A p body_p ∷ [] }) ∷ []; methods = (m, method A m body_nop 0 []) ∷ []; pre_destroy = no_chain }) ∷ managed D scopes.Dependent (record { fields = []; plan = Step.Construct [] no_chain ∷ Step.Complete no_chain ∷ []; methods = []; pre_destroy = no_chain }) ∷ [];
+      beans = managed_bean A scopes.ApplicationScoped (record { fields = []; plan = Step.Construct [] no_chain ∷ Step.Inject d1 (of_type D) ∷ Step.Inject d2 (of_type D) ∷ Step.Complete (record { chain = []; callbacks = code A p body_p ∷ [] }) ∷ []; methods = (m, method A m body_nop 0 []) ∷ []; pre_destroy = no_chain }) ∷ managed_bean D scopes.Dependent (record { fields = []; plan = Step.Construct [] no_chain ∷ Step.Complete no_chain ∷ []; methods = []; pre_destroy = no_chain }) ∷ [];
       interceptors = [];
       types = (A, One 0) ∷ (D, One 1) ∷ [];
       written = [];
@@ -55,7 +55,7 @@ deployment =
     }
 
 abbrev pub failed_creation_releases_in_the_first_order_commands : List Command
-failed_creation_releases_in_the_first_order_commands = Command.Boot ∷ Command.Call None (asked A) m [] ∷ Command.Call None (asked A) m [] ∷ []
+failed_creation_releases_in_the_first_order_commands = Command.Boot ∷ Command.Call None (of_type A) m [] ∷ Command.Call None (of_type A) m [] ∷ []
 
 abbrev pub failed_creation_releases_in_the_first_order_said : List Said
 failed_creation_releases_in_the_first_order_said =
@@ -68,7 +68,7 @@ abbrev pub failed_creation_releases_in_the_first_order : Type 0
 failed_creation_releases_in_the_first_order = Shows deployment first_chosen 100000 32 failed_creation_releases_in_the_first_order_commands failed_creation_releases_in_the_first_order_said
 
 abbrev pub failed_creation_releases_in_the_last_order_commands : List Command
-failed_creation_releases_in_the_last_order_commands = Command.Boot ∷ Command.Call None (asked A) m [] ∷ Command.Call None (asked A) m [] ∷ []
+failed_creation_releases_in_the_last_order_commands = Command.Boot ∷ Command.Call None (of_type A) m [] ∷ Command.Call None (of_type A) m [] ∷ []
 
 abbrev pub failed_creation_releases_in_the_last_order_said : List Said
 failed_creation_releases_in_the_last_order_said =

@@ -8,7 +8,7 @@ use Rattle.cdi_machine.specs.Words.{Name}
 use Rattle.cdi_machine.specs.Tables.{Step, One}
 use Rattle.cdi_machine.specs.Commands.{Command}
 use Rattle.cdi_machine.specs.Container.{Said}
-use Rattle.cdi_machine.specs.Deployments.{Deployment, asked, no_chain, managed, of_context, of_container, first_chosen, Shows, method}
+use Rattle.cdi_machine.specs.Deployments.{Deployment, of_type, no_chain, managed_bean, of_context, of_container, first_chosen, Shows, method}
 
 abbrev r : List ℕ
 r = codes "r"
@@ -25,7 +25,7 @@ body_nop = 0
 abbrev pub deployment : Deployment
 deployment =
     record {
-      beans = managed S scopes.SessionScoped (record { fields = []; plan = Step.Construct [] no_chain ∷ Step.Complete no_chain ∷ []; methods = (m, method S m body_nop 0 []) ∷ []; pre_destroy = no_chain }) ∷ [];
+      beans = managed_bean S scopes.SessionScoped (record { fields = []; plan = Step.Construct [] no_chain ∷ Step.Complete no_chain ∷ []; methods = (m, method S m body_nop 0 []) ∷ []; pre_destroy = no_chain }) ∷ [];
       interceptors = [];
       types = (S, One 0) ∷ [];
       written = [];
@@ -37,7 +37,7 @@ deployment =
     }
 
 abbrev pub no_context_no_instance_commands : List Command
-no_context_no_instance_commands = Command.Boot ∷ Command.Begin r None ∷ Command.Call (Some r) (asked S) m [] ∷ []
+no_context_no_instance_commands = Command.Boot ∷ Command.Begin r None ∷ Command.Call (Some r) (of_type S) m [] ∷ []
 
 abbrev pub no_context_no_instance_said : List Said
 no_context_no_instance_said =

@@ -11,7 +11,7 @@ use Rattle.cdi_machine.specs.Words.{Name}
 use Rattle.cdi_machine.specs.Tables.{Step, One}
 use Rattle.cdi_machine.specs.Commands.{Command}
 use Rattle.cdi_machine.specs.Container.{Said}
-use Rattle.cdi_machine.specs.Deployments.{Deployment, asked, no_chain, managed, of_context, of_container, first_chosen, Shows, method}
+use Rattle.cdi_machine.specs.Deployments.{Deployment, of_type, no_chain, managed_bean, of_context, of_container, first_chosen, Shows, method}
 
 abbrev r : List ℕ
 r = codes "r"
@@ -31,7 +31,7 @@ body_nop = 0
 abbrev pub deployment : Deployment
 deployment =
     record {
-      beans = managed K scopes.SessionScoped (record { fields = []; plan = Step.Construct [] no_chain ∷ Step.Complete no_chain ∷ []; methods = (m, method K m body_nop 0 []) ∷ []; pre_destroy = no_chain }) ∷ [];
+      beans = managed_bean K scopes.SessionScoped (record { fields = []; plan = Step.Construct [] no_chain ∷ Step.Complete no_chain ∷ []; methods = (m, method K m body_nop 0 []) ∷ []; pre_destroy = no_chain }) ∷ [];
       interceptors = [];
       types = (K, One 0) ∷ [];
       written = [];
@@ -43,7 +43,7 @@ deployment =
     }
 
 abbrev pub session_outlives_its_requests_commands : List Command
-session_outlives_its_requests_commands = Command.Boot ∷ Command.Begin r (Some S) ∷ Command.Call (Some r) (asked K) m [] ∷ Command.End r ∷ Command.Live ∷ Command.Begin r (Some S) ∷ Command.Call (Some r) (asked K) m [] ∷ Command.Shutdown ∷ []
+session_outlives_its_requests_commands = Command.Boot ∷ Command.Begin r (Some S) ∷ Command.Call (Some r) (of_type K) m [] ∷ Command.End r ∷ Command.Live ∷ Command.Begin r (Some S) ∷ Command.Call (Some r) (of_type K) m [] ∷ Command.Shutdown ∷ []
 
 abbrev pub session_outlives_its_requests_said : List Said
 session_outlives_its_requests_said =

@@ -13,7 +13,7 @@ use Rattle.cdi_machine.specs.Tables.{Step, One}
 use Rattle.cdi_machine.specs.Commands.{Command}
 use Rattle.cdi_machine.specs.Container.{Said}
 use Rattle.cdi_machine.specs.Scripts.{Plain, Last, set, proceed, give}
-use Rattle.cdi_machine.specs.Deployments.{Deployment, asked, no_chain, managed, by_role, of_context, of_container, first_chosen, Shows, method}
+use Rattle.cdi_machine.specs.Deployments.{Deployment, of_type, no_chain, managed_bean, by_role, of_context, of_container, first_chosen, Shows, method}
 
 abbrev C : Name
 C = 20
@@ -42,7 +42,7 @@ body_inner = 2
 abbrev pub deployment : Deployment
 deployment =
     record {
-      beans = managed C scopes.ApplicationScoped (record { fields = []; plan = Step.Intercept 0 ∷ Step.Intercept 1 ∷ Step.Construct [] no_chain ∷ Step.Complete (record { chain = 0 ∷ 1 ∷ []; callbacks = [] }) ∷ []; methods = (m, method C m body_nop 0 []) ∷ []; pre_destroy = no_chain }) ∷ [];
+      beans = managed_bean C scopes.ApplicationScoped (record { fields = []; plan = Step.Intercept 0 ∷ Step.Intercept 1 ∷ Step.Construct [] no_chain ∷ Step.Complete (record { chain = 0 ∷ 1 ∷ []; callbacks = [] }) ∷ []; methods = (m, method C m body_nop 0 []) ∷ []; pre_destroy = no_chain }) ∷ [];
       interceptors = record { name = J1; fields = (f, values.Null) ∷ []; injected = []; body = by_role None None (Some body_outer) None } ∷ record { name = J2; fields = []; injected = []; body = by_role None None (Some body_inner) None } ∷ [];
       types = (C, One 0) ∷ [];
       written = [];
@@ -54,7 +54,7 @@ deployment =
     }
 
 abbrev pub proceed_in_a_lifecycle_chain_gives_null_commands : List Command
-proceed_in_a_lifecycle_chain_gives_null_commands = Command.Boot ∷ Command.Call None (asked C) m [] ∷ []
+proceed_in_a_lifecycle_chain_gives_null_commands = Command.Boot ∷ Command.Call None (of_type C) m [] ∷ []
 
 abbrev pub proceed_in_a_lifecycle_chain_gives_null_said : List Said
 proceed_in_a_lifecycle_chain_gives_null_said =

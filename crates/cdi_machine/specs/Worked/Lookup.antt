@@ -13,7 +13,7 @@ use Rattle.cdi_machine.specs.Tables.{Step, One}
 use Rattle.cdi_machine.specs.Commands.{Command}
 use Rattle.cdi_machine.specs.Container.{Said}
 use Rattle.cdi_machine.specs.Scripts.{Plain, Last, call, find, give}
-use Rattle.cdi_machine.specs.Deployments.{Deployment, asked, no_chain, managed, of_context, of_container, first_chosen, Shows, method}
+use Rattle.cdi_machine.specs.Deployments.{Deployment, of_type, no_chain, managed_bean, of_context, of_container, first_chosen, Shows, method}
 
 abbrev H : Name
 H = 20
@@ -36,19 +36,19 @@ body_g = 1
 abbrev pub deployment : Deployment
 deployment =
     record {
-      beans = managed D scopes.Dependent (record { fields = []; plan = Step.Construct [] no_chain ∷ Step.Complete no_chain ∷ []; methods = (m, method D m body_m 0 []) ∷ []; pre_destroy = no_chain }) ∷ managed H scopes.ApplicationScoped (record { fields = []; plan = Step.Construct [] no_chain ∷ Step.Complete no_chain ∷ []; methods = (g, method H g body_g 0 []) ∷ []; pre_destroy = no_chain }) ∷ [];
+      beans = managed_bean D scopes.Dependent (record { fields = []; plan = Step.Construct [] no_chain ∷ Step.Complete no_chain ∷ []; methods = (m, method D m body_m 0 []) ∷ []; pre_destroy = no_chain }) ∷ managed_bean H scopes.ApplicationScoped (record { fields = []; plan = Step.Construct [] no_chain ∷ Step.Complete no_chain ∷ []; methods = (g, method H g body_g 0 []) ∷ []; pre_destroy = no_chain }) ∷ [];
       interceptors = [];
       types = (H, One 1) ∷ (D, One 0) ∷ [];
       written = [];
       observed = [];
       events = [];
-      scripts = (give (Plain (values.Int (pos 8))) ∷ [], []) ∷ (find 0 ∷ call (vias.Local 0) m [] ∷ give Last ∷ [], asked D ∷ []) ∷ [];
+      scripts = (give (Plain (values.Int (pos 8))) ∷ [], []) ∷ (find 0 ∷ call (vias.Local 0) m [] ∷ give Last ∷ [], of_type D ∷ []) ∷ [];
       checked = [];
       texts = [];
     }
 
 abbrev pub what_is_found_belongs_to_the_finder_commands : List Command
-what_is_found_belongs_to_the_finder_commands = Command.Boot ∷ Command.Call None (asked H) g [] ∷ Command.Call None (asked H) g [] ∷ Command.Live ∷ []
+what_is_found_belongs_to_the_finder_commands = Command.Boot ∷ Command.Call None (of_type H) g [] ∷ Command.Call None (of_type H) g [] ∷ Command.Live ∷ []
 
 abbrev pub what_is_found_belongs_to_the_finder_said : List Said
 what_is_found_belongs_to_the_finder_said =

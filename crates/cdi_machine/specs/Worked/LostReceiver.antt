@@ -12,7 +12,7 @@ use Rattle.cdi_machine.specs.Tables.{Step, Source, One}
 use Rattle.cdi_machine.specs.Commands.{Command}
 use Rattle.cdi_machine.specs.Container.{Said}
 use Rattle.cdi_machine.specs.Scripts.{Plain, give}
-use Rattle.cdi_machine.specs.Deployments.{Deployment, asked, no_chain, managed, product, of_context, of_container, first_chosen, Shows, member}
+use Rattle.cdi_machine.specs.Deployments.{Deployment, of_type, no_chain, managed_bean, product_bean, of_context, of_container, first_chosen, Shows, member}
 
 abbrev r : List ℕ
 r = codes "r"
@@ -38,7 +38,7 @@ body_nop = 1
 abbrev pub deployment : Deployment
 deployment =
     record {
-      beans = managed M scopes.RequestScoped (record { fields = []; plan = Step.Construct [] no_chain ∷ Step.Complete no_chain ∷ []; methods = []; pre_destroy = no_chain }) ∷ product M mk scopes.ApplicationScoped (record { declaring = 0; source = Source.ProducerMethod (member M mk body_mk [] []); disposers = member M del body_nop [] [] ∷ [] }) ∷ [];
+      beans = managed_bean M scopes.RequestScoped (record { fields = []; plan = Step.Construct [] no_chain ∷ Step.Complete no_chain ∷ []; methods = []; pre_destroy = no_chain }) ∷ product_bean M mk scopes.ApplicationScoped (record { declaring = 0; source = Source.ProducerMethod (member M mk body_mk [] []); disposers = member M del body_nop [] [] ∷ [] }) ∷ [];
       interceptors = [];
       types = (T, One 1) ∷ [];
       written = [];
@@ -50,7 +50,7 @@ deployment =
     }
 
 abbrev pub disposer_without_receiver_is_not_run_commands : List Command
-disposer_without_receiver_is_not_run_commands = Command.Boot ∷ Command.Begin r None ∷ Command.Read (Some r) (asked T) ∷ Command.End r ∷ Command.Shutdown ∷ []
+disposer_without_receiver_is_not_run_commands = Command.Boot ∷ Command.Begin r None ∷ Command.Read (Some r) (of_type T) ∷ Command.End r ∷ Command.Shutdown ∷ []
 
 abbrev pub disposer_without_receiver_is_not_run_said : List Said
 disposer_without_receiver_is_not_run_said =

@@ -14,7 +14,7 @@ use Rattle.cdi_machine.specs.Tables.{Step, One}
 use Rattle.cdi_machine.specs.Commands.{Command}
 use Rattle.cdi_machine.specs.Container.{Said}
 use Rattle.cdi_machine.specs.Scripts.{Plain, Last, set, call, proceed, keep, peek, give}
-use Rattle.cdi_machine.specs.Deployments.{Deployment, asked, no_chain, managed, by_role, of_context, of_container, first_chosen, Shows, method}
+use Rattle.cdi_machine.specs.Deployments.{Deployment, of_type, no_chain, managed_bean, by_role, of_context, of_container, first_chosen, Shows, method}
 
 abbrev T : Name
 T = 20
@@ -49,7 +49,7 @@ body_round = 2
 abbrev pub deployment : Deployment
 deployment =
     record {
-      beans = managed T scopes.ApplicationScoped (record { fields = []; plan = Step.Intercept 0 ∷ Step.Construct [] no_chain ∷ Step.Inject u (asked U) ∷ Step.Complete no_chain ∷ []; methods = (m, method T m body_m 0 (0 ∷ [])) ∷ []; pre_destroy = no_chain }) ∷ managed U scopes.ApplicationScoped (record { fields = []; plan = Step.Intercept 0 ∷ Step.Construct [] no_chain ∷ Step.Complete no_chain ∷ []; methods = (m, method U m body_nop 0 (0 ∷ [])) ∷ []; pre_destroy = no_chain }) ∷ [];
+      beans = managed_bean T scopes.ApplicationScoped (record { fields = []; plan = Step.Intercept 0 ∷ Step.Construct [] no_chain ∷ Step.Inject u (of_type U) ∷ Step.Complete no_chain ∷ []; methods = (m, method T m body_m 0 (0 ∷ [])) ∷ []; pre_destroy = no_chain }) ∷ managed_bean U scopes.ApplicationScoped (record { fields = []; plan = Step.Intercept 0 ∷ Step.Construct [] no_chain ∷ Step.Complete no_chain ∷ []; methods = (m, method U m body_nop 0 (0 ∷ [])) ∷ []; pre_destroy = no_chain }) ∷ [];
       interceptors = record { name = J; fields = (f, values.Int (pos 9)) ∷ []; injected = []; body = by_role (Some body_round) None None None } ∷ [];
       types = (T, One 0) ∷ (U, One 1) ∷ [];
       written = [];
@@ -61,7 +61,7 @@ deployment =
     }
 
 abbrev pub context_data_is_not_seen_by_inner_invocations_commands : List Command
-context_data_is_not_seen_by_inner_invocations_commands = Command.Boot ∷ Command.Call None (asked T) m [] ∷ []
+context_data_is_not_seen_by_inner_invocations_commands = Command.Boot ∷ Command.Call None (of_type T) m [] ∷ []
 
 abbrev pub context_data_is_not_seen_by_inner_invocations_said : List Said
 context_data_is_not_seen_by_inner_invocations_said =

@@ -12,7 +12,7 @@ use Rattle.cdi_machine.specs.Words.{Name}
 use Rattle.cdi_machine.specs.Tables.{Step, Source, One}
 use Rattle.cdi_machine.specs.Commands.{Command}
 use Rattle.cdi_machine.specs.Container.{Said}
-use Rattle.cdi_machine.specs.Deployments.{Deployment, asked, no_chain, managed, product, of_context, of_container, first_chosen, Shows, member}
+use Rattle.cdi_machine.specs.Deployments.{Deployment, of_type, no_chain, managed_bean, product_bean, of_context, of_container, first_chosen, Shows, member}
 
 abbrev T : Name
 T = 20
@@ -29,7 +29,7 @@ body_nop = 0
 abbrev pub deployment : Deployment
 deployment =
     record {
-      beans = managed M scopes.ApplicationScoped (record { fields = []; plan = Step.Construct [] no_chain ∷ Step.Complete no_chain ∷ []; methods = []; pre_destroy = no_chain }) ∷ product M mk scopes.Dependent (record { declaring = 0; source = Source.ProducerMethod (member M mk body_nop [] []); disposers = [] }) ∷ [];
+      beans = managed_bean M scopes.ApplicationScoped (record { fields = []; plan = Step.Construct [] no_chain ∷ Step.Complete no_chain ∷ []; methods = []; pre_destroy = no_chain }) ∷ product_bean M mk scopes.Dependent (record { declaring = 0; source = Source.ProducerMethod (member M mk body_nop [] []); disposers = [] }) ∷ [];
       interceptors = [];
       types = (T, One 1) ∷ [];
       written = [];
@@ -41,7 +41,7 @@ deployment =
     }
 
 abbrev pub null_product_is_an_empty_reference_commands : List Command
-null_product_is_an_empty_reference_commands = Command.Boot ∷ Command.Read None (asked T) ∷ []
+null_product_is_an_empty_reference_commands = Command.Boot ∷ Command.Read None (of_type T) ∷ []
 
 abbrev pub null_product_is_an_empty_reference_said : List Said
 null_product_is_an_empty_reference_said =

@@ -12,7 +12,7 @@ use Rattle.cdi_machine.specs.Words.{Name}
 use Rattle.cdi_machine.specs.Tables.{Step, One}
 use Rattle.cdi_machine.specs.Commands.{Command}
 use Rattle.cdi_machine.specs.Container.{Said}
-use Rattle.cdi_machine.specs.Deployments.{Deployment, asked, no_chain, managed, by_role, of_context, of_container, first_chosen, Shows, code, method}
+use Rattle.cdi_machine.specs.Deployments.{Deployment, of_type, no_chain, managed_bean, by_role, of_context, of_container, first_chosen, Shows, code, method}
 
 abbrev C : Name
 C = 20
@@ -32,7 +32,7 @@ body_nop = 0
 abbrev pub deployment : Deployment
 deployment =
     record {
-      beans = managed C scopes.ApplicationScoped (record { fields = []; plan = Step.Intercept 0 ∷ Step.Construct [] no_chain ∷ Step.Complete no_chain ∷ []; methods = (m, method C m body_nop 0 []) ∷ []; pre_destroy = (record { chain = 0 ∷ []; callbacks = code C bye body_nop ∷ [] }) }) ∷ [];
+      beans = managed_bean C scopes.ApplicationScoped (record { fields = []; plan = Step.Intercept 0 ∷ Step.Construct [] no_chain ∷ Step.Complete no_chain ∷ []; methods = (m, method C m body_nop 0 []) ∷ []; pre_destroy = (record { chain = 0 ∷ []; callbacks = code C bye body_nop ∷ [] }) }) ∷ [];
       interceptors = record { name = J; fields = []; injected = []; body = by_role None None None (Some body_nop) } ∷ [];
       types = (C, One 0) ∷ [];
       written = [];
@@ -44,7 +44,7 @@ deployment =
     }
 
 abbrev pub pre_destroy_goes_through_its_chain_commands : List Command
-pre_destroy_goes_through_its_chain_commands = Command.Boot ∷ Command.Call None (asked C) m [] ∷ Command.Shutdown ∷ []
+pre_destroy_goes_through_its_chain_commands = Command.Boot ∷ Command.Call None (of_type C) m [] ∷ Command.Shutdown ∷ []
 
 abbrev pub pre_destroy_goes_through_its_chain_said : List Said
 pre_destroy_goes_through_its_chain_said =

@@ -14,7 +14,7 @@ use Rattle.cdi_machine.specs.Tables.{Step, One}
 use Rattle.cdi_machine.specs.Commands.{Command}
 use Rattle.cdi_machine.specs.Container.{Said}
 use Rattle.cdi_machine.specs.Scripts.{proceed}
-use Rattle.cdi_machine.specs.Deployments.{Deployment, asked, no_chain, managed, by_role, of_context, of_container, first_chosen, Shows, code, method}
+use Rattle.cdi_machine.specs.Deployments.{Deployment, of_type, no_chain, managed_bean, by_role, of_context, of_container, first_chosen, Shows, code, method}
 
 abbrev C : Name
 C = 20
@@ -37,7 +37,7 @@ body_post = 1
 abbrev pub deployment : Deployment
 deployment =
     record {
-      beans = managed C scopes.ApplicationScoped (record { fields = []; plan = Step.Intercept 0 ∷ Step.Construct [] no_chain ∷ Step.Complete (record { chain = 0 ∷ []; callbacks = code C p body_nop ∷ [] }) ∷ []; methods = (m, method C m body_nop 0 []) ∷ []; pre_destroy = no_chain }) ∷ [];
+      beans = managed_bean C scopes.ApplicationScoped (record { fields = []; plan = Step.Intercept 0 ∷ Step.Construct [] no_chain ∷ Step.Complete (record { chain = 0 ∷ []; callbacks = code C p body_nop ∷ [] }) ∷ []; methods = (m, method C m body_nop 0 []) ∷ []; pre_destroy = no_chain }) ∷ [];
       interceptors = record { name = J; fields = []; injected = []; body = by_role None None (Some body_post) None } ∷ [];
       types = (C, One 0) ∷ [];
       written = [];
@@ -49,7 +49,7 @@ deployment =
     }
 
 abbrev pub lifecycle_chain_proceeds_once_commands : List Command
-lifecycle_chain_proceeds_once_commands = Command.Boot ∷ Command.Call None (asked C) m [] ∷ []
+lifecycle_chain_proceeds_once_commands = Command.Boot ∷ Command.Call None (of_type C) m [] ∷ []
 
 abbrev pub lifecycle_chain_proceeds_once_said : List Said
 lifecycle_chain_proceeds_once_said =

@@ -13,7 +13,7 @@ use Rattle.cdi_machine.specs.Tables.{Step, One}
 use Rattle.cdi_machine.specs.Commands.{Command}
 use Rattle.cdi_machine.specs.Container.{Said}
 use Rattle.cdi_machine.specs.Scripts.{Plain, Last, proceed, proceed_with, give, throw, catch}
-use Rattle.cdi_machine.specs.Deployments.{Deployment, asked, no_chain, managed, by_role, of_context, of_container, first_chosen, Shows, method}
+use Rattle.cdi_machine.specs.Deployments.{Deployment, of_type, no_chain, managed_bean, by_role, of_context, of_container, first_chosen, Shows, method}
 
 abbrev T : Name
 T = 20
@@ -48,7 +48,7 @@ body_i3 = 3
 abbrev pub deployment : Deployment
 deployment =
     record {
-      beans = managed T scopes.ApplicationScoped (record { fields = []; plan = Step.Intercept 0 ∷ Step.Intercept 1 ∷ Step.Intercept 2 ∷ Step.Construct [] no_chain ∷ Step.Complete no_chain ∷ []; methods = (m, method T m body_m 1 (0 ∷ 1 ∷ 2 ∷ [])) ∷ []; pre_destroy = no_chain }) ∷ [];
+      beans = managed_bean T scopes.ApplicationScoped (record { fields = []; plan = Step.Intercept 0 ∷ Step.Intercept 1 ∷ Step.Intercept 2 ∷ Step.Construct [] no_chain ∷ Step.Complete no_chain ∷ []; methods = (m, method T m body_m 1 (0 ∷ 1 ∷ 2 ∷ [])) ∷ []; pre_destroy = no_chain }) ∷ [];
       interceptors = record { name = I1; fields = []; injected = []; body = by_role (Some body_i1) None None None } ∷ record { name = I2; fields = []; injected = []; body = by_role (Some body_i2) None None None } ∷ record { name = I3; fields = []; injected = []; body = by_role (Some body_i3) None None None } ∷ [];
       types = (T, One 0) ∷ [];
       written = [];
@@ -60,7 +60,7 @@ deployment =
     }
 
 abbrev pub proceeds_again_with_other_values_commands : List Command
-proceeds_again_with_other_values_commands = Command.Boot ∷ Command.Call None (asked T) m (values.Int (pos 1) ∷ []) ∷ []
+proceeds_again_with_other_values_commands = Command.Boot ∷ Command.Call None (of_type T) m (values.Int (pos 1) ∷ []) ∷ []
 
 abbrev pub proceeds_again_with_other_values_said : List Said
 proceeds_again_with_other_values_said =

@@ -13,7 +13,7 @@ use Rattle.cdi_machine.specs.Tables.{Step, One}
 use Rattle.cdi_machine.specs.Commands.{Command}
 use Rattle.cdi_machine.specs.Container.{Said}
 use Rattle.cdi_machine.specs.Scripts.{own}
-use Rattle.cdi_machine.specs.Deployments.{Deployment, asked, no_chain, managed, of_context, of_container, first_chosen, Shows, method}
+use Rattle.cdi_machine.specs.Deployments.{Deployment, of_type, no_chain, managed_bean, of_context, of_container, first_chosen, Shows, method}
 
 abbrev K : Name
 K = 20
@@ -27,7 +27,7 @@ body_a = 0
 abbrev pub deployment : Deployment
 deployment =
     record {
-      beans = managed K scopes.ApplicationScoped (record { fields = []; plan = Step.Construct [] no_chain ∷ Step.Complete no_chain ∷ []; methods = (a, method K a body_a 0 []) ∷ []; pre_destroy = no_chain }) ∷ [];
+      beans = managed_bean K scopes.ApplicationScoped (record { fields = []; plan = Step.Construct [] no_chain ∷ Step.Complete no_chain ∷ []; methods = (a, method K a body_a 0 []) ∷ []; pre_destroy = no_chain }) ∷ [];
       interceptors = [];
       types = (K, One 0) ∷ [];
       written = [];
@@ -39,7 +39,7 @@ deployment =
     }
 
 abbrev pub self_call_is_cut_at_the_last_level_commands : List Command
-self_call_is_cut_at_the_last_level_commands = Command.Boot ∷ Command.Call None (asked K) a [] ∷ Command.Call None (asked K) a [] ∷ []
+self_call_is_cut_at_the_last_level_commands = Command.Boot ∷ Command.Call None (of_type K) a [] ∷ Command.Call None (of_type K) a [] ∷ []
 
 abbrev pub self_call_is_cut_at_the_last_level_said : List Said
 self_call_is_cut_at_the_last_level_said =

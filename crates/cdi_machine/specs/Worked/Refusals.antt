@@ -10,7 +10,7 @@ use Rattle.cdi_machine.specs.Tables.{Step, One}
 use Rattle.cdi_machine.specs.Commands.{Command}
 use Rattle.cdi_machine.specs.Container.{Said}
 use Rattle.cdi_machine.specs.Scripts.{Plain, TheField, Add, set, give}
-use Rattle.cdi_machine.specs.Deployments.{Deployment, asked, no_chain, managed, of_context, of_container, first_chosen, Shows, method}
+use Rattle.cdi_machine.specs.Deployments.{Deployment, of_type, no_chain, managed_bean, of_context, of_container, first_chosen, Shows, method}
 
 abbrev Z : Name
 Z = 20
@@ -36,7 +36,7 @@ body_up = 0
 abbrev pub deployment : Deployment
 deployment =
     record {
-      beans = managed K scopes.ApplicationScoped (record { fields = (n, values.Int (pos 0)) ∷ []; plan = Step.Construct [] no_chain ∷ Step.Complete no_chain ∷ []; methods = (up, method K up body_up 0 []) ∷ []; pre_destroy = no_chain }) ∷ [];
+      beans = managed_bean K scopes.ApplicationScoped (record { fields = (n, values.Int (pos 0)) ∷ []; plan = Step.Construct [] no_chain ∷ Step.Complete no_chain ∷ []; methods = (up, method K up body_up 0 []) ∷ []; pre_destroy = no_chain }) ∷ [];
       interceptors = [];
       types = (K, One 0) ∷ [];
       written = [];
@@ -48,7 +48,7 @@ deployment =
     }
 
 abbrev pub refused_by_name_method_and_count_commands : List Command
-refused_by_name_method_and_count_commands = Command.Boot ∷ Command.Call None (asked Z) up [] ∷ Command.Call None (asked K) x [] ∷ Command.Call None (asked K) up (values.Int (pos 1) ∷ []) ∷ Command.Read None (asked K) ∷ Command.Call (Some r) (asked Z) up [] ∷ []
+refused_by_name_method_and_count_commands = Command.Boot ∷ Command.Call None (of_type Z) up [] ∷ Command.Call None (of_type K) x [] ∷ Command.Call None (of_type K) up (values.Int (pos 1) ∷ []) ∷ Command.Read None (of_type K) ∷ Command.Call (Some r) (of_type Z) up [] ∷ []
 
 abbrev pub refused_by_name_method_and_count_said : List Said
 refused_by_name_method_and_count_said =

@@ -13,7 +13,7 @@ use Rattle.cdi_machine.specs.Tables.{Step, One}
 use Rattle.cdi_machine.specs.Commands.{Command}
 use Rattle.cdi_machine.specs.Container.{Said}
 use Rattle.cdi_machine.specs.Scripts.{Plain, proceed, proceed_with, catch}
-use Rattle.cdi_machine.specs.Deployments.{Deployment, asked, no_chain, managed, by_role, of_context, of_container, first_chosen, Shows, code, method}
+use Rattle.cdi_machine.specs.Deployments.{Deployment, of_type, no_chain, managed_bean, by_role, of_context, of_container, first_chosen, Shows, code, method}
 
 abbrev C : Name
 C = 20
@@ -36,7 +36,7 @@ body_post = 1
 abbrev pub deployment : Deployment
 deployment =
     record {
-      beans = managed C scopes.ApplicationScoped (record { fields = []; plan = Step.Intercept 0 ∷ Step.Construct [] no_chain ∷ Step.Complete (record { chain = 0 ∷ []; callbacks = code C p body_nop ∷ [] }) ∷ []; methods = (m, method C m body_nop 0 []) ∷ []; pre_destroy = no_chain }) ∷ [];
+      beans = managed_bean C scopes.ApplicationScoped (record { fields = []; plan = Step.Intercept 0 ∷ Step.Construct [] no_chain ∷ Step.Complete (record { chain = 0 ∷ []; callbacks = code C p body_nop ∷ [] }) ∷ []; methods = (m, method C m body_nop 0 []) ∷ []; pre_destroy = no_chain }) ∷ [];
       interceptors = record { name = J; fields = []; injected = []; body = by_role None None (Some body_post) None } ∷ [];
       types = (C, One 0) ∷ [];
       written = [];
@@ -48,7 +48,7 @@ deployment =
     }
 
 abbrev pub proceed_with_too_many_values_does_not_count_commands : List Command
-proceed_with_too_many_values_does_not_count_commands = Command.Boot ∷ Command.Call None (asked C) m [] ∷ Command.Live ∷ Command.Shutdown ∷ []
+proceed_with_too_many_values_does_not_count_commands = Command.Boot ∷ Command.Call None (of_type C) m [] ∷ Command.Live ∷ Command.Shutdown ∷ []
 
 abbrev pub proceed_with_too_many_values_does_not_count_said : List Said
 proceed_with_too_many_values_does_not_count_said =

@@ -11,7 +11,7 @@ use Rattle.cdi_machine.specs.Words.{Name}
 use Rattle.cdi_machine.specs.Tables.{Step, One}
 use Rattle.cdi_machine.specs.Commands.{Command}
 use Rattle.cdi_machine.specs.Container.{Said}
-use Rattle.cdi_machine.specs.Deployments.{Deployment, asked, no_chain, constructor_of, managed, of_context, of_container, first_chosen, Shows, code, method}
+use Rattle.cdi_machine.specs.Deployments.{Deployment, of_type, no_chain, constructor_of, managed_bean, of_context, of_container, first_chosen, Shows, code, method}
 
 abbrev A : Name
 A = 20
@@ -40,7 +40,7 @@ body_nop = 0
 abbrev pub deployment : Deployment
 deployment =
     record {
-      beans = managed A scopes.ApplicationScoped (record { fields = []; plan = Step.Construct (asked D ∷ []) (record { chain = []; callbacks = constructor_of A body_nop ∷ [] }) ∷ Step.Inject d (asked D) ∷ Step.Initialize (code A i body_nop) (asked D ∷ []) ∷ Step.Complete (record { chain = []; callbacks = code A p body_nop ∷ [] }) ∷ []; methods = (m, method A m body_nop 0 []) ∷ []; pre_destroy = no_chain }) ∷ managed D scopes.Dependent (record { fields = []; plan = Step.Construct [] no_chain ∷ Step.Complete no_chain ∷ []; methods = []; pre_destroy = no_chain }) ∷ [];
+      beans = managed_bean A scopes.ApplicationScoped (record { fields = []; plan = Step.Construct (of_type D ∷ []) (record { chain = []; callbacks = constructor_of A body_nop ∷ [] }) ∷ Step.Inject d (of_type D) ∷ Step.Initialize (code A i body_nop) (of_type D ∷ []) ∷ Step.Complete (record { chain = []; callbacks = code A p body_nop ∷ [] }) ∷ []; methods = (m, method A m body_nop 0 []) ∷ []; pre_destroy = no_chain }) ∷ managed_bean D scopes.Dependent (record { fields = []; plan = Step.Construct [] no_chain ∷ Step.Complete no_chain ∷ []; methods = []; pre_destroy = no_chain }) ∷ [];
       interceptors = [];
       types = (A, One 0) ∷ (D, One 1) ∷ [];
       written = [];
@@ -52,7 +52,7 @@ deployment =
     }
 
 abbrev pub creation_goes_step_by_step_commands : List Command
-creation_goes_step_by_step_commands = Command.Boot ∷ Command.Call None (asked A) m [] ∷ []
+creation_goes_step_by_step_commands = Command.Boot ∷ Command.Call None (of_type A) m [] ∷ []
 
 abbrev pub creation_goes_step_by_step_said : List Said
 creation_goes_step_by_step_said =
