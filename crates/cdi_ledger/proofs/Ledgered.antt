@@ -15,23 +15,33 @@ use Rattle.cdi_store.specs.declared.instance.Component.TheVariants as components
 use Rattle.cdi_store.specs.declared.instance.Owner.{Owner}
 use Rattle.cdi_store.specs.declared.instance.Owner.TheVariants as owners
 use Rattle.cdi_store.specs.declared.instance.Instance.{Instance}
+use Rattle.cdi_machine.specs.Events.{fire, notify}
+use Rattle.cdi_machine.specs.Contexts.{obtain}
 use Rattle.cdi_machine.specs.Words.{Fields}
 use Rattle.cdi_machine.specs.Tables.{Tables, Bean, Interceptor}
 use Rattle.cdi_machine.specs.World.{World, before_boot, at_begin, Change, after_change, with_entry, instance_at}
 use Rattle.cdi_machine.specs.Programs.{Task, Given, Completion, Gave, Threw, Running, Prog, ret, throw, handle, give_number, require_depth, require_present, note, alter, call, complete, finish, quietly, finally, rethrow, each, instance}
-use Rattle.cdi_machine.specs.Destruction.{latest, destroy, destroy_ready, only_ready, clean_up}
+use Rattle.cdi_machine.specs.Destruction.{destroy, destroy_ready, only_ready, clean_up, release, dismiss, clear}
 use Rattle.cdi_machine.specs.Creation.{create, intercept, create_by, end_creation, discard, make_ready, begin_creation, make, first_fields, inject}
-use Rattle.cdi_machine.specs.Bodies.{run_body}
+use Rattle.cdi_machine.specs.Bodies.{run_body, run_rest, carry_on}
 use Rattle.cdi_machine.specs.Machine.{machine}
 use Rattle.cdi_ledger.specs.Ledger.{Item, Wrote, Between, Fate, Unborn, Made, Readied, Left, Lost, Wrong, if_is, by_new, by_ready, by_drop, by_run, by_end, by_between, by_gone, fate, numbers, InSequence}
 use Rattle.cdi_ledger.proofs.Stages.{eq_true, phase_at, phase_of, if_there, set_to, or_else}
-use Rattle.cdi_ledger.proofs.Plain.{Plain, plainly, stands, standing, Sane, Kept, kept_then, kept_same, Pre, Post, Doing, From, keeps}
+use Rattle.cdi_ledger.proofs.Plain.{plainly, stands, standing, Sane, Kept, kept_then, kept_same, Pre, Post, Doing, From, keeps}
 use Rattle.cdi_ledger.proofs.Steps.{Moved, settled, taken, thrown_away, removed, made}
 use Rattle.cdi_machine.specs.Commands.{Command, task}
 use Rattle.cdi_machine.specs.Runs.{Legal, Outcome, Runs}
 use Rattle.cdi_ledger.specs.Ledger.{items_of, InOrder, Ledger, KeepsOrder}
 use Rattle.cdi_ledger.proofs.Judge.{bind, sound}
-use Rattle.cdi_ledger.proofs.Walk
+use Rattle.cdi_machine.proofs.Walk
+use Rattle.cdi_machine.proofs.Walk.{Plain, plain_of}
+use Rattle.cdi_machine.proofs.Levels.{Height}
+
+bare : Height
+bare = record { invocations = 0; bodies = 0; temporaries = 0 }
+
+plain : {A : Type 0} (p : Prog A) → Walk.Walks bare bare p → Plain p
+plain p q = plain_of bare bare p q
 
 -- ---- tables of the fates
 
@@ -208,7 +218,7 @@ module _ (tables : Tables) (n : ℕ) where
       let left1 : b ≡ true → standing n w1 ≡ Left = λ e. st ∙ is_left b l p k e in (
         g,
         bind tables (Sane n) Pre (Post n) (quietly (clean_up m o.value o.component)) _ throw w1 h1 (F (standing n w1)) (F s)
-            (keeps tables n (quietly (clean_up m o.value o.component)) (standing n w1) w1 h1 (Walk.l_quietly tt (clean_up m o.value o.component) (Walk.l_farewell tt m o.value o.component)) g1 (kept_same n w1))
+            (keeps tables n (quietly (clean_up m o.value o.component)) (standing n w1) w1 h1 (plain (quietly (clean_up m o.value o.component)) (Walk.l_quietly bare (clean_up m o.value o.component) (Walk.l_farewell bare m o.value o.component))) g1 (kept_same n w1))
             (λ a w2 h2 g2 k2. (g2, tt, λ c w3 h3 g3 k3. after m s w1 h (standing n w1) k1 left1 k w3 h3 g3 (kept_then (standing n w1) (standing n w2) (standing n w3) k2 k3) c))
             (λ x w2 h2 g2 k2. (g2, kept_then s (standing n w1) (standing n w2) k1 k2)),
       )
@@ -262,7 +272,7 @@ module _ (tables : Tables) (n : ℕ) where
       runs (Some o) e = (
         g,
         keeps tables n (handle (alter (Change.Start r.instance)) (λ _. finally (call (Task.Acts r)) (alter Change.Stop)) throw) (standing n w) (with_entry (entries.Run r.instance r.place) w) (Wrote (entries.Run r.instance r.place) ∷ h)
-            (plainly (call (Task.Acts r)) (λ a. handle (alter Change.Stop) (λ _. ret a) throw) (λ x. handle (alter Change.Stop) (λ _. throw x) throw) (Walk.l_call tt (Task.Acts r)) (λ _. tt) (λ _. tt)) (running_sane r.instance r.place w h o e g) (kept_same n w),
+            (plainly (call (Task.Acts r)) (λ a. handle (alter Change.Stop) (λ _. ret a) throw) (λ x. handle (alter Change.Stop) (λ _. throw x) throw) (plain (call (Task.Acts r)) (Walk.l_call bare (Task.Acts r))) (λ _. tt) (λ _. tt)) (running_sane r.instance r.place w h o e g) (kept_same n w),
       )
 
       by : (c : Bool)
@@ -336,7 +346,7 @@ module _ (tables : Tables) (n : ℕ) where
       bind tables (Sane n) Pre (Post n) steps (end_creation m) (λ x. handle (discard m) (λ _. rethrow x built_in.CreationException) throw) w h (F (standing n w)) (F s)
       (keeps tables n steps (standing n w) w h q g (kept_same n w))
       (λ a w1 h1 g1 k1. created_does m s a w1 h1 g1 (mine_then m s w w1 i k1))
-      (λ x w1 h1 g1 k1. discard_does m s (rethrow x built_in.CreationException) (Walk.l_rethrow tt Given x built_in.CreationException) w1 h1 g1 (mine_then m s w w1 i k1))
+      (λ x w1 h1 g1 k1. discard_does m s (rethrow x built_in.CreationException) (plain (rethrow {A = Given} x built_in.CreationException) (Walk.l_rethrow bare Given x built_in.CreationException)) w1 h1 g1 (mine_then m s w w1 i k1))
 
   -- a new number, and what is done with it
   new_does : (place : Place) (component : Component) (owner : Owner) (fields : Fields) (f : ℕ → Prog Given) (w : World) (h : List Item) → Sane n w h
@@ -373,7 +383,7 @@ module _ (tables : Tables) (n : ℕ) where
     where
       by : (x : Option Bean) → D (handle (require_present x) (λ x. handle (begin_creation x.place (components.Bean bean) owner (first_fields x.kind)) (λ m. create_by m (make m x x.kind)) throw) throw) w h (F (standing n w))
       by None = (g, kept_same n w)
-      by (Some x) = new_does x.place (components.Bean bean) owner (first_fields x.kind) (λ m. create_by m (make m x x.kind)) w h g (λ m w1 h1 g1 i1. creating_does m (standing n w) (make m x x.kind) (Walk.l_made_by tt m x x.kind) w1 h1 g1 i1)
+      by (Some x) = new_does x.place (components.Bean bean) owner (first_fields x.kind) (λ m. create_by m (make m x x.kind)) w h g (λ m w1 h1 g1 i1. creating_does m (standing n w) (make m x x.kind) (plain (make m x x.kind) (Walk.l_made_by bare m x x.kind)) w1 h1 g1 i1)
 
   pub intercept_does : (i target : ℕ) (w : World) (h : List Item) → Sane n w h → D (intercept i target) w h (F (standing n w))
   intercept_does i target w h g = by (tables.interceptor i)
@@ -382,7 +392,7 @@ module _ (tables : Tables) (n : ℕ) where
       by None = (g, kept_same n w)
       by (Some x) = new_does (places.Class x.name) (components.Interceptor i) (owners.Instance target) x.fields (λ m. create_by m (handle (each x.injected (λ p. inject m p.0 p.1)) (λ _. ret (Given.Number m)) throw)) w h g
           (λ m w1 h1 g1 i1. creating_does m (standing n w) (handle (each x.injected (λ p. inject m p.0 p.1)) (λ _. ret (Given.Number m)) throw)
-          (plainly (each x.injected (λ p. inject m p.0 p.1)) (λ _. ret (Given.Number m)) throw (Walk.l_each tt x.injected (λ p. inject m p.0 p.1) (λ p. Walk.l_inject tt m p.0 p.1)) (λ _. tt) (λ _. tt)) w1 h1 g1 i1)
+          (plainly (each x.injected (λ p. inject m p.0 p.1)) (λ _. ret (Given.Number m)) throw (plain (each x.injected (λ p. inject m p.0 p.1)) (Walk.l_each bare x.injected (λ p. inject m p.0 p.1) (λ p. Walk.l_inject bare m p.0 p.1))) (λ _. tt) (λ _. tt)) w1 h1 g1 i1)
 
   -- ---- all tasks
 
@@ -390,22 +400,22 @@ module _ (tables : Tables) (n : ℕ) where
   plain_does t q w h g = keeps tables n (machine t) (standing n w) w h q g (kept_same n w)
 
   pub task_does : (t : Task) (w : World) (h : List Item) → Sane n w h → D (machine t) w h (F (standing n w))
-  task_does (Task.Obtain b) = plain_does (Task.Obtain b) (Walk.l_obtain tt b)
+  task_does (Task.Obtain b) = plain_does (Task.Obtain b) (plain (obtain b) (Walk.l_obtain bare b))
   task_does (Task.Create b owner) = create_does b owner
   task_does (Task.Intercept i m) = intercept_does i m
-  task_does (Task.Rest chain) = plain_does (Task.Rest chain) (Walk.l_rest tt chain)
+  task_does (Task.Rest chain) = plain_does (Task.Rest chain) (plain (run_rest chain) (Walk.l_rest bare chain))
   task_does (Task.Body r) = body_does r
-  task_does (Task.Acts r) = plain_does (Task.Acts r) (Walk.l_acts tt r)
+  task_does (Task.Acts r) = plain_does (Task.Acts r) (plain (carry_on r) (Walk.l_acts bare r))
   task_does (Task.Destroy m) = destroy_does m
-  task_does (Task.Release m) = plain_does (Task.Release m) (plainly (instance m) _ throw (Walk.l_instance tt m) (λ o. Walk.l_release tt m o.dependents) (λ _. tt))
-  task_does (Task.Fire class qualifiers v) = plain_does (Task.Fire class qualifiers v) (Walk.l_fire tt class qualifiers v)
-  task_does (Task.Notify os v) = plain_does (Task.Notify os v) (Walk.l_notify tt os v)
-  task_does Task.Dismiss = plain_does Task.Dismiss (plainly (Rattle.cdi_machine.specs.Programs.see λ t w. Rattle.cdi_machine.specs.Programs.top w.temporaries) _ throw (λ t w. Walk.l_top tt w.temporaries) (λ ns. Walk.l_latest tt (latest ns)) (λ _. tt))
-  task_does (Task.Clear c) = plain_does (Task.Clear c) (λ t w. Walk.l_clear tt c _)
+  task_does (Task.Release m) = plain_does (Task.Release m) (plain (release m) (Walk.l_releases bare m))
+  task_does (Task.Fire class qualifiers v) = plain_does (Task.Fire class qualifiers v) (plain (fire class qualifiers v) (Walk.l_fire bare class qualifiers v))
+  task_does (Task.Notify os v) = plain_does (Task.Notify os v) (plain (notify os v) (Walk.l_notify bare os v))
+  task_does Task.Dismiss = plain_does Task.Dismiss (plain dismiss (Walk.l_dismiss bare))
+  task_does (Task.Clear c) = plain_does (Task.Clear c) (plain (clear c) (Walk.l_clears bare c))
 
   -- a command, and each run of it
   pub command_does : (c : Command) (w : World) (h : List Item) → Sane n w h → D (task c) w h (F (standing n w))
-  command_does c w h g = keeps tables n (task c) (standing n w) w h (Walk.l_task tt c) g (kept_same n w)
+  command_does c w h g = keeps tables n (task c) (standing n w) w h (plain (task c) (Walk.l_task bare c)) g (kept_same n w)
 
   pub command_keeps : (legal : Legal) (c : Command) (w v : World) (o : Outcome) (h : List Item) (r : Runs tables legal ⊥ (task c) w o v) → Sane n w h → Sane n v (items_of h r)
   command_keeps legal c w v o h r g = (sound tables (Sane n) Pre (Post n) legal (λ t w h g u. task_does t w h g) h (F (standing n w)) r (command_does c w h g)).0

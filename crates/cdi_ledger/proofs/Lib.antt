@@ -1,6 +1,5 @@
 mod Judge
 mod Stages
 mod Plain
-mod Walk
 mod Steps
 pub mod Ledgered

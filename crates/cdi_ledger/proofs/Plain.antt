@@ -1,7 +1,6 @@
 -- Programs that by themselves begin and end no instance: what they leave to a number is what their calls leave.
 use Rattle.std.proofs.Common.{ℕ, ◌≡◌, List, ◌∷◌, refl, sym, ap, ◌∙◌, subst, Option, Some, None, Bool, true, false, ◌⊎◌, inl, inr}
 use Rattle.std.specs.Prelude.{nat_lt}
-use Rattle.cdi_base.specs.declared.act.Act.{Act}
 use Rattle.cdi_base.specs.declared.entry.Entry.{Entry}
 use Rattle.cdi_base.specs.declared.entry.Entry.TheVariants as entries
 use Rattle.cdi_store.specs.declared.instance.Phase.{Phase}
@@ -10,50 +9,10 @@ use Rattle.cdi_machine.specs.Words.{Name}
 use Rattle.cdi_machine.specs.Tables.{Tables}
 use Rattle.cdi_machine.specs.World.{World, Change, after_change, with_entry}
 use Rattle.cdi_machine.specs.Programs.{Task, Given, Completion, Prog, ret, throw, cut, miss, see, change, tick, mark, act, choose, nested, candidates, handle}
+use Rattle.cdi_machine.proofs.Walk.{PlainChange, PlainEntry, Plain, map_change, map_entry}
 use Rattle.cdi_ledger.specs.Ledger.{Item, Wrote, Fate, Unborn, Made, Readied, Left, Lost, fate, numbers, InSequence}
 use Rattle.cdi_ledger.proofs.Stages.{phase_at, adjusted_same}
 use Rattle.cdi_ledger.proofs.Judge.{Does}
-
-abbrev pub PlainChange : Change → Type 0 → Type 0
-PlainChange (Change.Make component owner fields) X = ⊥
-PlainChange (Change.Settle n) X = ⊥
-PlainChange (Change.Discard n) X = ⊥
-PlainChange (Change.Leave n) X = ⊥
-PlainChange (Change.Remove n) X = ⊥
-PlainChange _ X = X
-
-abbrev pub PlainEntry : Entry → Type 0 → Type 0
-PlainEntry (entries.Event class qualifiers) X = X
-PlainEntry (entries.Did a) X = X
-PlainEntry (entries.Pick c i) X = X
-PlainEntry _ X = ⊥
-
-abbrev pub Plain : {A : Type 0} → Prog A → Type 0
-Plain (ret a) = Unit {0}
-Plain (throw x) = Unit {0}
-Plain (cut cause) = Unit {0}
-Plain (miss p) = Plain p
-Plain (see k) = (t : Tables) (w : World) → Plain (k t w)
-Plain (change g p) = PlainChange g (Plain p)
-Plain (tick e p) = PlainEntry e (Plain p)
-Plain (mark n p) = ⊥
-Plain (act b fields view k) = (a : Act) → Plain (k a)
-Plain (choose n k) = (i : ℕ) → Plain (k i)
-Plain (nested t k) = (c : Completion Given) → Plain (k c)
-
-map_change : {X Y : Type 0} (g : Change) → (X → Y) → PlainChange g X → PlainChange g Y
-map_change (Change.Make component owner fields) f x = x
-map_change (Change.Settle n) f x = x
-map_change (Change.Discard n) f x = x
-map_change (Change.Leave n) f x = x
-map_change (Change.Remove n) f x = x
-map_change _ f x = f x
-
-map_entry : {X Y : Type 0} (e : Entry) → (X → Y) → PlainEntry e X → PlainEntry e Y
-map_entry (entries.Event class qualifiers) f x = f x
-map_entry (entries.Did a) f x = f x
-map_entry (entries.Pick c i) f x = f x
-map_entry _ f x = x
 
 pub plainly : {A B : Type 0} (p : Prog A) (f : A → Prog B) (g : Name → Prog B) → Plain p → ((a : A) → Plain (f a)) → ((x : Name) → Plain (g x)) → Plain (handle p f g)
 plainly (ret a) f g q qf qg = qf a

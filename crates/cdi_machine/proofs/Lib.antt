@@ -5,4 +5,5 @@ pub mod Sound
 pub mod Order
 pub mod Worked
 pub mod Levels
+pub mod Walk
 pub mod Rests

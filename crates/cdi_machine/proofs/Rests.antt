@@ -1,51 +1,30 @@
 -- Between commands nothing is running.
-use Rattle.std.proofs.Common.{ℕ, suc, ◌≡◌, List, [], ◌∷◌, length, refl, ◌∙◌, ap, Option, Some, None, Bool, true, false}
-use Rattle.std.specs.Prelude.{nat_lt, ◌^◌, ◌||◌, not, slice_get, remove}
-use Rattle.cdi_base.specs.declared.value.Value.{Value}
+use Rattle.std.proofs.Common.{ℕ, suc, ◌≡◌, length, refl, ◌∙◌, ap, Option, Some, None, Bool, true, false}
+use Rattle.std.specs.Prelude.{nat_lt, ◌^◌}
 use Rattle.cdi_base.specs.declared.value.Value.TheVariants as values
-use Rattle.cdi_base.specs.declared.act.Act.{Act}
-use Rattle.cdi_base.specs.declared.act.Act.TheVariants as acts
-use Rattle.cdi_base.specs.declared.act.Via.{Via}
-use Rattle.cdi_base.specs.declared.act.Via.TheVariants as vias
-use Rattle.cdi_base.specs.declared.act.Answer.TheVariants as answers
 use Rattle.cdi_base.specs.declared.entry.Entry.TheVariants as entries
 use Rattle.cdi_base.specs.declared.place.Place.{Place}
 use Rattle.cdi_base.specs.declared.place.Place.TheVariants as places
-use Rattle.cdi_base.specs.declared.place.InterceptorMethod.{InterceptorMethod}
-use Rattle.cdi_base.specs.declared.place.InterceptorMethod.TheVariants as roles
-use Rattle.cdi_base.specs.declared.scope.Scope.{Scope}
-use Rattle.cdi_base.specs.declared.built_in.BuiltIn.{BuiltIn}
 use Rattle.cdi_base.specs.declared.built_in.BuiltIn.TheVariants as built_in
-use Rattle.cdi_base.specs.declared.uses.Use.{Use}
-use Rattle.cdi_base.specs.BuiltIn.{number_of}
-use Rattle.cdi_base.specs.Maps.{at}
-use Rattle.cdi_store.specs.declared.instance.Context.{Context}
-use Rattle.cdi_store.specs.declared.instance.Context.TheVariants.{Application, Request, Session}
-use Rattle.cdi_contexts.specs.declared.context.Status.{Status}
-use Rattle.cdi_contexts.specs.declared.context.Status.TheVariants.{Ending, Open}
-use Rattle.cdi_contexts.specs.declared.context.Held.{Held}
-use Rattle.cdi_contexts.specs.declared.context.Held.TheVariants.{Is, Making}
 use Rattle.cdi_store.specs.declared.instance.Component.{Component}
 use Rattle.cdi_store.specs.declared.instance.Component.TheVariants as components
 use Rattle.cdi_store.specs.declared.instance.Owner.{Owner}
 use Rattle.cdi_store.specs.declared.instance.Owner.TheVariants as owners
-use Rattle.cdi_store.specs.declared.references.Reference.{Reference}
-use Rattle.cdi_store.specs.declared.references.Reference.TheVariants.{Direct, Proxy}
-use Rattle.cdi_store.specs.declared.references.Reference.TheVariants.{Empty as NoReference}
-use Rattle.cdi_machine.specs.Words.{Name, Fields, Asked}
-use Rattle.cdi_machine.specs.Tables.{Tables, Code, Member, Lifecycle, Step, Source, Product, Kind, Bean, Observer, Resolution, One, Nothing, Many}
-use Rattle.cdi_machine.specs.World.{World, Change, instance_at}
-use Rattle.cdi_machine.specs.Programs.{ActiveContext, Task, Given, Completion, Running, Prog, ret, throw, see, handle, quietly, attempt, require_present, require, call, finish, raise, do_nothing, note, alter, each, top, pick, active_or_raise, context, give_number, require_depth, next_number, require_one, resolve, rethrow, require_number, bean_at, interceptor_at, lookup_at, instance, invocation, finally}
-use Rattle.cdi_machine.specs.Contexts.{find_or_create, obtain, is_normal, direct_reference, refer_to, resolve_point, resolve_points, stays, require_living, reach_instance}
-use Rattle.cdi_machine.specs.DestroyAct.{is_idle, require_made, destroy_idle, destroy_held, destroy_by}
-use Rattle.cdi_machine.specs.Bodies.{invoke_by, provide, invoke, call_back, body_at_start, is_of, first_of, interceptor_of, run_rest, run_body, reference_at, find_reference, method_in, bean_of, method_of, invoke_method, fits, replace_parameters, repeats, proceed, carry_out, find, answer_of, with_answer, after_act, answer_find, perform, carry_on}
-use Rattle.cdi_machine.specs.Destruction.{latest, dismiss_latest, give_back, borrow_for, obtain_receiver, dispose, clean_up_bean, clean_up, destroy, ready_instance, only_ready, release_from, clear_from}
-use Rattle.cdi_machine.specs.Creation.{discard, end_creation, create_by, begin_creation, construct, inject, take_step, call_producer, accept, produce, first_fields, make, create, intercept}
-use Rattle.cdi_machine.specs.Events.{fire, observe, deliver, notify, is_skipped, fire_context_event, fire_container_event, qualifier}
-use Rattle.cdi_machine.specs.Commands.{Command, task, stand_alone_in, close, begin_session, begin, end_session, end, invalidate, use_bean, end_alone, shut_down, requests_of, sessions_of, is_new, is_used}
+use Rattle.cdi_machine.specs.Words.{Name, Fields}
+use Rattle.cdi_machine.specs.Tables.{Tables}
+use Rattle.cdi_machine.specs.World.{Change, instance_at}
+use Rattle.cdi_machine.specs.Programs.{Task, Given, Completion, Running, Prog, ret, throw, handle, quietly, require_present, call, note, alter, each, give_number, require_depth, next_number, rethrow, bean_at, interceptor_at, instance, finally}
+use Rattle.cdi_machine.specs.Contexts.{obtain}
+use Rattle.cdi_machine.specs.Bodies.{run_rest, run_body, carry_on}
+use Rattle.cdi_machine.specs.Destruction.{clean_up, destroy, ready_instance, only_ready, release, dismiss, clear}
+use Rattle.cdi_machine.specs.Creation.{discard, end_creation, create_by, begin_creation, inject, first_fields, make, create, intercept}
+use Rattle.cdi_machine.specs.Events.{fire, notify}
+use Rattle.cdi_machine.specs.Commands.{task}
 use Rattle.cdi_machine.specs.Runs.{Legal, Outcome}
 use Rattle.cdi_machine.specs.Laws.{Rests}
 use Rattle.cdi_machine.proofs.Levels.{Height, height, Steady, steady, TasksLevel, ends_at}
+use Rattle.cdi_machine.proofs.Walk
+use Rattle.cdi_machine.proofs.Walk.{steady_of}
 
 module _ (h : Height) where
   abbrev Level : {A : Type 0} → Prog A → Type 0
@@ -57,282 +36,24 @@ module _ (h : Height) where
   caught : {A B : Type 0} (p : Prog A) (f : A → Prog B) (g : Name → Prog B) → Level p → ((a : A) → Level (f a)) → ((x : Name) → Level (g x)) → Level (handle p f g)
   caught p f g q qf qg = steady h h h p f g q qf qg
 
-  l_if : {A : Type 0} (c : Bool) (p q : Prog A) → Level p → Level q → Level (elim c as (λ _. Prog A) [ true ↦ p | false ↦ q ])
-  l_if true p q a b = a
-  l_if false p q a b = b
-
   l_present : {A : Type 0} (o : Option A) → Level (require_present o)
   l_present None = refl
   l_present (Some a) = refl
-
-  l_require : (b : Bool) (x : BuiltIn) → Level (require b x)
-  l_require true x = refl
-  l_require false x = refl
 
   l_call : (t : Task) → Level (call t)
   l_call t (Completion.Gave g) = refl
   l_call t (Completion.Threw x) = refl
 
-  l_each : {X : Type 0} (xs : List X) (f : X → Prog Given) → ((x : X) → Level (f x)) → Level (each xs f)
-  l_each [] f q = refl
-  l_each (x ∷ []) f q = q x
-  l_each (x ∷ y ∷ xs) f q = then (f x) _ (q x) (λ _. l_each (y ∷ xs) f q)
-
-  l_top : {X : Type 0} (xs : List X) → Level (top xs)
-  l_top [] = refl
-  l_top (x ∷ xs) = refl
-
-  l_active : (o : Option ActiveContext) → Level (active_or_raise o)
-  l_active None = refl
-  l_active (Some a) = refl
-
-  l_one : (x : Resolution) → Level (require_one x)
-  l_one (One b) = refl
-  l_one Nothing = refl
-  l_one Many = refl
-
-  l_number : (g : Given) → Level (require_number g)
-  l_number (Given.Number n) = refl
-  l_number (Given.Result v) = refl
-  l_number Given.Empty = refl
-
-  l_rethrow : (A : Type 0) (x : Name) (b : BuiltIn) → Level (rethrow {A = A} x b)
-  l_rethrow A x b t w = l_if (t.is_checked x) (raise b) (throw x) refl refl
-
-  l_picked : {X : Type 0} (xs : List X) → Level (pick xs)
-  l_picked [] = refl
-  l_picked (x ∷ []) = refl
-  l_picked (x ∷ y ∷ xs) = λ i. refl
-
-  l_bean : (b : ℕ) → Level (bean_at b)
-  l_bean b t w = l_present (t.bean b)
-
-  l_instance : (n : ℕ) → Level (instance n)
-  l_instance n t w = l_present (instance_at w n)
-
-  l_invocation : Level invocation
-  l_invocation t w = l_top w.invocations
-
-  l_resolved : (asked : Asked) → Level (resolve asked)
-  l_resolved asked t w = l_one (t.resolve asked)
-
-  l_context : (s : Scope) → Level (context s)
-  l_context s t w = l_active _
-
-  -- ---- contexts
-
-  l_contextual : (b : ℕ) (c : ActiveContext) (x : Option Held) → Level (find_or_create b c x)
-  l_contextual b c (Some (Is n)) = refl
-  l_contextual b c (Some Making) = refl
-  l_contextual b c None = by c.has.status
-    where
-      by : (s : Status) → Level (elim s as (λ _. Prog Given) [ Open ↦ call (Task.Create b (owners.Context c.context)) | Ending ↦ raise built_in.ContextNotActiveException ])
-      by Open = l_call (Task.Create b (owners.Context c.context))
-      by Ending = refl
-
-  l_obtain : (b : ℕ) → Level (obtain b)
-  l_obtain b = then (bean_at b) _ (l_bean b) λ bean. then (context bean.scope) _ (l_context bean.scope) λ c. l_contextual b c (at c.has.holds b)
-
-  l_reference : (b : ℕ) (owner : Owner) → Level (refer_to b owner)
-  l_reference b owner = then (bean_at b) _ (l_bean b) λ bean. l_if (is_normal bean.scope) (ret (Proxy b)) (handle (call (Task.Create b owner)) (λ made. ret (direct_reference made)) throw) refl (then (call (Task.Create b owner)) _ (l_call (Task.Create b owner)) (λ _. refl))
-
-  l_injected : (point : Asked) (owner : Owner) → Level (resolve_point point owner)
-  l_injected point owner = then (resolve point) _ (l_resolved point) (λ b. l_reference b owner)
-
-  l_all_injected : (points : List Asked) (owner : Owner) → Level (resolve_points points owner)
-  l_all_injected [] owner = refl
-  l_all_injected (point ∷ points) owner = then (resolve_point point owner) _ (l_injected point owner) λ x. then (resolve_points points owner) _ (l_all_injected points owner) (λ _. refl)
-
-  l_living : (n : ℕ) → Level (require_living n)
-  l_living n t w = then (require (stays (instance_at w n)) built_in.IllegalStateException) _ (l_require _ _) (λ _. refl)
-
-  l_use : (x : Reference) → Level (reach_instance x)
-  l_use NoReference = refl
-  l_use (Direct n) = l_living n
-  l_use (Proxy b) = then (call (Task.Obtain b)) _ (l_call (Task.Obtain b)) l_number
-
-  -- ---- the destroy act
-
-  l_idle : (n : ℕ) → Level (destroy_idle n)
-  l_idle n t w = then (require (is_idle w n) built_in.IllegalStateException) _ (l_require _ _) (λ _. l_call (Task.Destroy n))
-
-  l_held : (x : Option Held) → Level (destroy_held x)
-  l_held None = refl
-  l_held (Some Making) = refl
-  l_held (Some (Is n)) = l_idle n
-
-  l_destroy_by : (x : Reference) → Level (destroy_by x)
-  l_destroy_by NoReference = refl
-  l_destroy_by (Direct n) = then (require_made n) (λ _. destroy_idle n) (λ t w. l_require _ _) (λ _. l_idle n)
-  l_destroy_by (Proxy b) = then (bean_at b) _ (l_bean b) λ bean. then (context bean.scope) _ (l_context bean.scope) λ c. l_held (at c.has.holds b)
-
-  l_first_of : (w : World) (i : ℕ) (ns : List ℕ) → Level (first_of w i ns)
-  l_first_of w i [] = refl
-  l_first_of w i (n ∷ ns) = l_if (is_of i (instance_at w n)) (ret n) (first_of w i ns) refl (l_first_of w i ns)
-
-  l_provide : (points : List Asked) (owner : Owner) → Level (provide points owner)
-  l_provide points owner = then (resolve_points points owner) _ (l_all_injected points owner) (λ _. refl)
-
 module _ (h : Height) where
-  -- in an invocation there is one more
-  l_invoked : (n : ℕ) (role : InterceptorMethod) (members : List Code) (args : List Value) (p : Prog Given) → ((k : Height) → Steady k k p) → Steady h h (invoke_by n role members args p)
-  l_invoked n role members args p q =
-      let k : Height = record h { invocations = suc h.invocations } in
-      steady k h k p _ _ (q k) (λ _. refl) (λ _. refl)
-
-  l_give_back : Steady h (record h { temporaries = suc h.temporaries }) give_back
-  l_give_back =
-      let k : Height = record h { temporaries = suc h.temporaries } in
-      steady k h k (call Task.Dismiss) _ _ (l_call k Task.Dismiss) (λ _. refl) (λ _. refl)
-
-  l_borrowing : (p : Prog Given) → ((k : Height) → Steady k k p) → Steady h h (borrow_for p)
-  l_borrowing p q =
-      let k : Height = record h { temporaries = suc h.temporaries } in
-      steady k h k p _ _ (q k) (λ a. steady h h k give_back _ _ l_give_back (λ _. refl) (λ _. refl)) (λ x. steady h h k give_back _ _ l_give_back (λ _. refl) (λ _. refl))
-
-  l_invoke : (n : ℕ) (m : Member) (args : List Value) (owner : Owner) → Steady h h (invoke n m args owner)
-  l_invoke n m args owner = l_invoked n roles.AroundInvoke (m.code ∷ []) args (handle (provide m.points owner) (λ _. call (Task.Rest m.chain)) throw) (λ k. then k (provide m.points owner) (λ _. call (Task.Rest m.chain)) (l_provide k m.points owner) (λ _. l_call k (Task.Rest m.chain)))
-
-  l_lifecycle : (n : ℕ) (role : InterceptorMethod) (callbacks : List Code) (chain : List ℕ) → Steady h h (call_back n role callbacks chain)
-  l_lifecycle n role callbacks chain = l_invoked n role callbacks [] (call (Task.Rest chain)) (λ k. l_call k (Task.Rest chain))
-
-  l_receiver : (b : ℕ) → Steady h h (obtain_receiver b)
-  l_receiver b = then h (refer_to b owners.Borrower) _ (l_reference h b owners.Borrower) (l_use h)
-
-  -- ---- bodies
-
-  l_rest : (chain : List ℕ) → Steady h h (run_rest chain)
-  l_rest [] =
-      then h invocation _ (l_invocation h) λ v. then h (each v.members _) _ (l_each h v.members _ (λ m. l_call h (Task.Body (body_at_start v.target m.place m.body v.parameters v.references [])))) (λ _. refl)
-  l_rest (i ∷ chain) =
-      then h invocation _ (l_invocation h) λ v.
-      then h (interceptor_at i) _ (λ t w. l_present h (t.interceptor i)) λ x.
-      then h (require_present (x.body v.role)) _ (l_present h (x.body v.role)) λ b.
-      then h (interceptor_of v.target i) _ (then h (instance v.target) _ (l_instance h v.target) (λ o t w. l_first_of h w i o.dependents)) λ n.
-      let y = body_at_start n (places.Interceptor x.name v.role) b v.parameters [] chain in
-      then h (call (Task.Body y)) _ (l_call h (Task.Body y)) (λ _. refl)
-
   l_body : (r : Running) → Steady h h (run_body r)
   l_body r t w = by (nat_lt (length w.bodies) w.depth)
     where
       by : (c : Bool) → Steady h h (handle (require_depth c) (λ _. handle (instance r.instance) (λ _. handle (note (entries.Run r.instance r.place)) (λ _. handle (alter (Change.Start r.instance)) (λ _. finally (call (Task.Acts r)) (alter Change.Stop)) throw) throw) throw) throw)
-      by true = then h (instance r.instance) _ (l_instance h r.instance) (λ _. let k : Height = record h { bodies = suc h.bodies } in steady k h k (call (Task.Acts r)) _ _ (l_call k (Task.Acts r)) (λ _. refl) (λ _. refl))
+      by true = then h (instance r.instance) _ (λ t w. l_present h (instance_at w r.instance)) (λ _. let k : Height = record h { bodies = suc h.bodies } in steady k h k (call (Task.Acts r)) _ _ (l_call k (Task.Acts r)) (λ _. refl) (λ _. refl))
       by false = tt
 
-  -- ---- acts
-
-  l_referred : (r : Running) (via : Via) → Steady h h (find_reference r via)
-  l_referred r (vias.Field name) = then h (instance r.instance) _ (l_instance h r.instance) (λ _. refl)
-  l_referred r (vias.Param k) = refl
-  l_referred r (vias.Local k) = refl
-
-  l_method_in : (k : Kind) (name : Name) → Steady h h (method_in k name)
-  l_method_in (Kind.Class c) name = l_present h (at c.methods name)
-  l_method_in (Kind.Producer p) name = refl
-
-  l_bean_of : (component : Component) → Steady h h (bean_of component)
-  l_bean_of (components.Bean b) = l_bean h b
-  l_bean_of (components.Interceptor i) = refl
-
-  l_method_of : (n : ℕ) (name : Name) → Steady h h (method_of n name)
-  l_method_of n name = then h (instance n) _ (l_instance h n) λ o. then h (bean_of o.component) _ (l_bean_of o.component) λ bean. l_method_in bean.kind name
-
-  l_invoke_method : (n : ℕ) (name : Name) (args : List Value) → Steady h h (invoke_method n name args)
-  l_invoke_method n name args = then h (method_of n name) _ (l_method_of n name) (λ m. l_invoked n roles.AroundInvoke (m.code ∷ []) args (call (Task.Rest m.chain)) (λ k. l_call k (Task.Rest m.chain)))
-
-  l_replace : (args : Option (List Value)) → Steady h h (replace_parameters args)
-  l_replace None = refl
-  l_replace (Some args) = refl
-
-  l_proceed : (r : Running) (args : Option (List Value)) → Steady h h (proceed r args)
-  l_proceed r args =
-      then h invocation _ (l_invocation h) λ v.
-      then h (require (fits v.parameters args) built_in.IllegalArgumentException) _ (l_require h _ _) λ _.
-      then h (require (repeats v.role || not r.proceeded) built_in.IllegalStateException) _ (l_require h _ _) λ _.
-      then h (replace_parameters args) (λ _. call (Task.Rest r.rest)) (l_replace args) (λ _. l_call h (Task.Rest r.rest))
-
-  l_does : (r : Running) (a : Act) → Steady h h (carry_out r a)
-  l_does r (acts.Set field v) = refl
-  l_does r (acts.Call via name args) = then h (find_reference r via) _ (l_referred r via) λ x. then h (reach_instance x) _ (l_use h x) λ n. l_invoke_method n name args
-  l_does r (acts.Own name args) = then h (method_of r.instance name) _ (l_method_of r.instance name) (λ m. l_call h (Task.Body (body_at_start r.instance m.code.place m.code.body args [] [])))
-  l_does r (acts.Read via) = then h (find_reference r via) _ (l_referred r via) λ x. then h (reach_instance x) _ (l_use h x) λ n. then h (instance n) _ (l_instance h n) (λ _. refl)
-  l_does r (acts.Write via v) = then h (find_reference r via) _ (l_referred r via) λ x. then h (reach_instance x) _ (l_use h x) (λ n. refl)
-  l_does r (acts.Fire class qualifiers v) = l_call h (Task.Fire class qualifiers v)
-  l_does r (acts.Proceed args) = l_proceed r args
-  l_does r (acts.Find k) = refl
-  l_does r (acts.Keep key v) = refl
-  l_does r (acts.Peek key) = then h invocation _ (l_invocation h) (λ _. refl)
-  l_does r (acts.Destroy k) = l_destroy_by h (reference_at (at r.locals k))
-  l_does r (acts.Give v) = refl
-  l_does r (acts.Throw x) = refl
-
-  l_find : (r : Running) (k : ℕ) → Steady h h (find r k)
-  l_find r k = then h (lookup_at r.body k) _ (λ t w. l_present h (t.lookup r.body k)) λ asked. then h (resolve asked) _ (l_resolved h asked) λ b. l_reference h b (owners.Instance r.instance)
-
-  l_answer : (c : Completion Given) → Steady h h (answer_of c)
-  l_answer (Completion.Gave (Given.Result v)) = refl
-  l_answer (Completion.Gave (Given.Number n)) = refl
-  l_answer (Completion.Gave Given.Empty) = refl
-  l_answer (Completion.Threw x) = λ t w. refl
-
-  l_found : (r : Running) (k : ℕ) (c : Completion Reference) → Steady h h (answer_find r k c)
-  l_found r k (Completion.Gave x) = l_call h (Task.Acts (with_answer (record r { locals = Rattle.cdi_base.specs.Maps.put k x r.locals }) (answers.Found k)))
-  l_found r k (Completion.Threw x) = λ t w. l_call h (Task.Acts (with_answer r (answers.Threw x (t.text x))))
-
-  l_told : (r : Running) (a : Act) → Steady h h (handle (attempt (carry_out r a)) (λ c. handle (answer_of c) (λ answer. call (Task.Acts (with_answer (after_act r a) answer))) throw) throw)
-  l_told r a = then h (attempt (carry_out r a)) _ (caught h (carry_out r a) _ _ (l_does r a) (λ _. refl) (λ _. refl)) λ c. then h (answer_of c) (λ answer. call (Task.Acts (with_answer (after_act r a) answer))) (l_answer c) (λ answer. l_call h (Task.Acts (with_answer (after_act r a) answer)))
-
-  l_perform : (r : Running) (a : Act) → Steady h h (perform r a)
-  l_perform r (acts.Give v) = refl
-  l_perform r (acts.Throw x) = refl
-  l_perform r (acts.Find k) = then h (attempt (find r k)) _ (caught h (find r k) _ _ (l_find r k) (λ _. refl) (λ _. refl)) (l_found r k)
-  l_perform r (acts.Set field v) = l_told r (acts.Set field v)
-  l_perform r (acts.Call via name args) = l_told r (acts.Call via name args)
-  l_perform r (acts.Own name args) = l_told r (acts.Own name args)
-  l_perform r (acts.Read via) = l_told r (acts.Read via)
-  l_perform r (acts.Write via v) = l_told r (acts.Write via v)
-  l_perform r (acts.Fire class qualifiers v) = l_told r (acts.Fire class qualifiers v)
-  l_perform r (acts.Proceed args) = l_told r (acts.Proceed args)
-  l_perform r (acts.Keep key v) = l_told r (acts.Keep key v)
-  l_perform r (acts.Peek key) = l_told r (acts.Peek key)
-  l_perform r (acts.Destroy k) = l_told r (acts.Destroy k)
-
-  l_acts : (r : Running) → Steady h h (carry_on r)
-  l_acts r = then h (instance r.instance) _ (l_instance h r.instance) (λ o a. l_perform r a)
-
-module _ (h : Height) where
-  -- ---- destruction
-
-  l_quietly : (p : Prog Given) → Steady h h p → Steady h h (quietly p)
-  l_quietly p q = caught h p _ _ q (λ _. refl) (λ _. refl)
-
-  l_served : (b : ℕ) (m : Member) (args : List Value) (owner : Owner) → Steady h h (borrow_for (handle (obtain_receiver b) (λ n. invoke n m args owner) throw))
-  l_served b m args owner = l_borrowing h (handle (obtain_receiver b) (λ n. invoke n m args owner) throw) (λ k. then k (obtain_receiver b) (λ n. invoke n m args owner) (l_receiver k b) (λ n. l_invoke k n m args owner))
-
-  l_farewell : (n : ℕ) (v : Value) (component : Component) → Steady h h (clean_up n v component)
-  l_farewell n v (components.Interceptor i) = refl
-  l_farewell n v (components.Bean b) = then h (bean_at b) _ (l_bean h b) (λ bean. by bean.kind)
-    where
-      by : (k : Kind) → Steady h h (clean_up_bean n v k)
-      by (Kind.Class c) = l_lifecycle h n roles.PreDestroy c.pre_destroy.callbacks c.pre_destroy.chain
-      by (Kind.Producer p) = l_each h p.disposers (dispose p v) (λ d. l_served p.declaring d (v ∷ []) owners.Borrower)
-
   l_destroy : (n : ℕ) → Steady h h (destroy n)
-  l_destroy n = then h (ready_instance n) _ (λ t w. l_present h (only_ready (instance_at w n))) λ o. then h (quietly (clean_up n o.value o.component)) _ (l_quietly (clean_up n o.value o.component) (l_farewell n o.value o.component)) λ _. then h (call (Task.Release n)) _ (l_call h (Task.Release n)) (λ _. refl)
-
-  l_release : (n : ℕ) (ns : List ℕ) → Steady h h (release_from n ns)
-  l_release n [] = refl
-  l_release n (d ∷ ns) = then h (pick (d ∷ ns)) _ (l_picked h (d ∷ ns)) λ i. then h (require_present (slice_get (d ∷ ns) i)) _ (l_present h _) λ x. then h (call (Task.Destroy x)) (λ _. call (Task.Release n)) (l_call h (Task.Destroy x)) (λ _. l_call h (Task.Release n))
-
-  l_latest : (o : Option ℕ) → Steady h h (dismiss_latest o)
-  l_latest None = refl
-  l_latest (Some n) = then h (call (Task.Destroy n)) (λ _. call Task.Dismiss) (l_call h (Task.Destroy n)) (λ _. l_call h Task.Dismiss)
-
-  l_clear : (c : Context) (o : Option ℕ) → Steady h h (clear_from c o)
-  l_clear c None = refl
-  l_clear c (Some n) = then h (call (Task.Destroy n)) (λ _. call (Task.Clear c)) (l_call h (Task.Destroy n)) (λ _. l_call h (Task.Clear c))
-
-  -- ---- creation
+  l_destroy n = then h (ready_instance n) _ (λ t w. l_present h (only_ready (instance_at w n))) λ o. then h (quietly (clean_up n o.value o.component)) _ (steady_of h h (quietly (clean_up n o.value o.component)) (Walk.l_quietly h (clean_up n o.value o.component) (Walk.l_farewell h n o.value o.component))) λ _. then h (call (Task.Release n)) _ (l_call h (Task.Release n)) (λ _. refl)
 
   l_discard : (n : ℕ) → Steady h h (discard n)
   l_discard n = then h (call (Task.Release n)) _ (l_call h (Task.Release n)) (λ _. refl)
@@ -345,7 +66,7 @@ module _ (h : Height) where
   l_created n Given.Empty = refl
 
   l_creating : (n : ℕ) (steps : Prog Given) → Steady h h steps → Steady h h (create_by n steps)
-  l_creating n steps q = caught h steps _ _ q (l_created n) (λ x. then h (discard n) _ (l_discard n) (λ _. l_rethrow h _ x built_in.CreationException))
+  l_creating n steps q = caught h steps _ _ q (l_created n) (λ x. then h (discard n) _ (l_discard n) (λ _. steady_of h h (rethrow {A = Given} x built_in.CreationException) (Walk.l_rethrow h Given x built_in.CreationException)))
 
   l_new : (place : Place) (component : Component) (owner : Owner) (fields : Fields) → Steady h h (begin_creation place component owner fields)
   l_new place component owner fields = then h next_number _ (λ t w. by (nat_lt w.next (2 ^ 32)) w.next) (λ n. refl)
@@ -354,148 +75,33 @@ module _ (h : Height) where
       by true n = refl
       by false n = tt
 
-  l_construct : (n : ℕ) (points : List Asked) (chain : Lifecycle) → Steady h h (construct n points chain)
-  l_construct n points chain =
-      l_invoked h n roles.AroundConstruct chain.callbacks [] (handle (provide points (owners.Instance n)) (λ _. handle (call (Task.Rest chain.chain)) (λ _. handle invocation (λ v. handle (require v.completed built_in.CreationException) (λ _. finish) throw) throw) throw) throw) λ k.
-      then k (provide points (owners.Instance n)) _ (l_provide k points (owners.Instance n)) λ _.
-      then k (call (Task.Rest chain.chain)) _ (l_call k (Task.Rest chain.chain)) λ _.
-      then k invocation _ (l_invocation k) λ v. then k (require v.completed built_in.CreationException) _ (l_require k _ _) (λ _. refl)
-
-  l_inject : (n : ℕ) (field : Name) (point : Asked) → Steady h h (inject n field point)
-  l_inject n field point = then h (resolve_point point (owners.Instance n)) _ (l_injected h point (owners.Instance n)) (λ _. refl)
-
-  l_step : (n : ℕ) (s : Step) → Steady h h (take_step n s)
-  l_step n (Step.Intercept i) = l_call h (Task.Intercept i n)
-  l_step n (Step.Construct points chain) = l_construct n points chain
-  l_step n (Step.Inject field point) = l_inject n field point
-  l_step n (Step.Initialize m points) = then h (resolve_points points (owners.Instance n)) (λ rs. call (Task.Body (body_at_start n m.place m.body [] rs []))) (l_all_injected h points (owners.Instance n)) (λ rs. l_call h (Task.Body (body_at_start n m.place m.body [] rs [])))
-  l_step n (Step.Complete chain) = l_lifecycle h n roles.PostConstruct chain.callbacks chain.chain
-
-module _ (h : Height) where
-  l_produced : (n m : ℕ) (s : Source) → Steady h h (call_producer n m s)
-  l_produced n m (Source.ProducerMethod producer) = l_invoke h m producer [] (owners.Instance n)
-  l_produced n m (Source.ProducerField field) = then h (instance m) _ (l_instance h m) λ o. then h (require_present (at o.fields field)) _ (l_present h _) (λ _. refl)
-
-  l_accept : (b : Bool) (n : ℕ) (g : Given) → Steady h h (accept b n g)
-  l_accept true n (Given.Result values.Null) = refl
-  l_accept true n (Given.Result (values.Int i)) = refl
-  l_accept true n (Given.Result (values.Text t)) = refl
-  l_accept true n (Given.Number m) = refl
-  l_accept true n Given.Empty = refl
-  l_accept false n (Given.Result v) = refl
-  l_accept false n (Given.Number m) = refl
-  l_accept false n Given.Empty = refl
-
-module _ (h : Height) where
-  l_produce : (n : ℕ) (scope : Scope) (p : Product) → Steady h h (produce n scope p)
-  l_produce n scope p =
-      then h (borrow_for (handle (obtain_receiver p.declaring) (λ m. call_producer n m p.source) throw)) _
-      (l_borrowing h (handle (obtain_receiver p.declaring) (λ m. call_producer n m p.source) throw) (λ k. then k (obtain_receiver p.declaring) (λ m. call_producer n m p.source) (l_receiver k p.declaring) (λ m. l_produced k n m p.source)))
-      (λ v. l_accept h (is_normal scope) n v)
-
-  l_made_by : (n : ℕ) (bean : Bean) (k : Kind) → Steady h h (make n bean k)
-  l_made_by n bean (Kind.Class c) = then h (each c.plan (take_step n)) _ (l_each h c.plan (take_step n) (l_step h n)) (λ _. refl)
-  l_made_by n bean (Kind.Producer p) = l_produce n bean.scope p
-
   l_create : (b : ℕ) (owner : Owner) → Steady h h (create b owner)
-  l_create b owner = then h (bean_at b) _ (l_bean h b) λ bean. then h (begin_creation bean.place (components.Bean b) owner (first_fields bean.kind)) (λ n. create_by n (make n bean bean.kind)) (l_new h bean.place (components.Bean b) owner (first_fields bean.kind)) (λ n. l_creating h n (make n bean bean.kind) (l_made_by n bean bean.kind))
+  l_create b owner = then h (bean_at b) _ (λ t w. l_present h (t.bean b)) λ bean. then h (begin_creation bean.place (components.Bean b) owner (first_fields bean.kind)) (λ n. create_by n (make n bean bean.kind)) (l_new bean.place (components.Bean b) owner (first_fields bean.kind)) (λ n. l_creating n (make n bean bean.kind) (steady_of h h (make n bean bean.kind) (Walk.l_made_by h n bean bean.kind)))
 
   l_intercept : (i n : ℕ) → Steady h h (intercept i n)
   l_intercept i n =
       then h (interceptor_at i) _ (λ t w. l_present h (t.interceptor i)) λ x.
-      then h (begin_creation (places.Class x.name) (components.Interceptor i) (owners.Instance n) x.fields) _ (l_new h (places.Class x.name) (components.Interceptor i) (owners.Instance n) x.fields) λ m.
-      l_creating h m (handle (each x.injected (λ p. inject m p.0 p.1)) (λ _. ret (Given.Number m)) throw) (then h (each x.injected (λ p. inject m p.0 p.1)) (λ _. ret (Given.Number m)) (l_each h x.injected _ (λ p. l_inject h m p.0 p.1)) (λ _. refl))
-
-  -- ---- events
-
-  l_fire : (class : Name) (qualifiers : List Use) (v : Value) → Steady h h (fire class qualifiers v)
-  l_fire class qualifiers v t w = then h (each (t.observers class qualifiers) (λ group. call (Task.Notify group v))) _ (l_each h (t.observers class qualifiers) _ (λ group. l_call h (Task.Notify group v))) (λ _. refl)
-
-  l_deliver : (o : Observer) (v : Value) → Steady h h (deliver o v)
-  l_deliver o v =
-      then h (bean_at o.bean) _ (l_bean h o.bean) λ bean t w.
-      l_if h (is_skipped w o bean) finish (handle (observe o v) (λ _. finish) (λ x. rethrow x built_in.ObserverException)) refl (caught h (observe o v) _ _ (l_served h o.bean o.member (v ∷ []) owners.Borrower) (λ _. refl) (λ x. l_rethrow h _ x built_in.ObserverException))
-
-  l_notify : (os : List Observer) (v : Value) → Steady h h (notify os v)
-  l_notify [] v = refl
-  l_notify (o ∷ os) v =
-      then h (pick (o ∷ os)) _ (l_picked h (o ∷ os)) λ i. then h (require_present (slice_get (o ∷ os) i)) _ (l_present h _) λ x.
-      then h (deliver x v) (λ _. call (Task.Notify (remove (o ∷ os) i) v)) (l_deliver x v) (λ _. l_call h (Task.Notify (remove (o ∷ os) i) v))
+      then h (begin_creation (places.Class x.name) (components.Interceptor i) (owners.Instance n) x.fields) _ (l_new (places.Class x.name) (components.Interceptor i) (owners.Instance n) x.fields) λ m.
+      l_creating m (handle (each x.injected (λ p. inject m p.0 p.1)) (λ _. ret (Given.Number m)) throw) (then h (each x.injected (λ p. inject m p.0 p.1)) (λ _. ret (Given.Number m)) (steady_of h h (each x.injected (λ p. inject m p.0 p.1)) (Walk.l_each h x.injected (λ p. inject m p.0 p.1) (λ p. Walk.l_inject h m p.0 p.1))) (λ _. refl))
 
 pub tasks_level : TasksLevel
-tasks_level (Task.Obtain b) h = l_obtain h b
+tasks_level (Task.Obtain b) h = steady_of h h (obtain b) (Walk.l_obtain h b)
 tasks_level (Task.Create b owner) h = l_create h b owner
 tasks_level (Task.Intercept i n) h = l_intercept h i n
-tasks_level (Task.Rest chain) h = l_rest h chain
+tasks_level (Task.Rest chain) h = steady_of h h (run_rest chain) (Walk.l_rest h chain)
 tasks_level (Task.Body r) h = l_body h r
-tasks_level (Task.Acts r) h = l_acts h r
+tasks_level (Task.Acts r) h = steady_of h h (carry_on r) (Walk.l_acts h r)
 tasks_level (Task.Destroy n) h = l_destroy h n
-tasks_level (Task.Release n) h = then h (instance n) _ (l_instance h n) (λ o. l_release h n o.dependents)
-tasks_level (Task.Fire class qualifiers v) h = l_fire h class qualifiers v
-tasks_level (Task.Notify os v) h = l_notify h os v
-tasks_level Task.Dismiss h = then h (see λ t w. top w.temporaries) _ (λ t w. l_top h w.temporaries) (λ ns. l_latest h (latest ns))
-tasks_level (Task.Clear c) h = λ t w. l_clear h c _
-
--- ---- commands
-
-module _ (h : Height) where
-  l_event : (what : BuiltIn) (c : Context) → Steady h h (fire_context_event what c)
-  l_event what c = let t = Task.Fire (number_of built_in.Object) (qualifier what c ∷ []) values.Null in l_quietly h (call t) (l_call h t)
-
-  l_container : (class : BuiltIn) → Steady h h (fire_container_event class)
-  l_container class = let t = Task.Fire (number_of class) [] values.Null in l_quietly h (call t) (l_call h t)
-
-  l_close : (c : Context) → Steady h h (close c)
-  l_close c = then h (fire_context_event built_in.BeforeDestroyed c) _ (l_event built_in.BeforeDestroyed c) λ _. then h (call (Task.Clear c)) _ (l_call h (Task.Clear c)) λ _. then h (fire_context_event built_in.Destroyed c) _ (l_event built_in.Destroyed c) (λ _. refl)
-
-  l_begin : (r : List ℕ) (s : Option (List ℕ)) → Steady h h (begin r s)
-  l_begin r None = λ t w. then h (fire_context_event built_in.Initialized (Request r)) _ (l_event built_in.Initialized (Request r)) (λ _. refl)
-  l_begin r (Some s) = λ t w.
-      then h (begin_session s) _ (λ t w. l_if h (is_new w.contexts s) (alter (Change.BeginSession s)) do_nothing refl refl) λ _ t2 w2.
-      then h (elim (is_new w.contexts s) as (λ _. Prog (Unit {0})) [ true ↦ fire_context_event built_in.Initialized (Session s) | false ↦ do_nothing ]) _ (l_if h (is_new w.contexts s) (fire_context_event built_in.Initialized (Session s)) do_nothing (l_event built_in.Initialized (Session s)) refl) λ _.
-      then h (fire_context_event built_in.Initialized (Request r)) _ (l_event built_in.Initialized (Request r)) (λ _. refl)
-
-  l_end_session : (w : World) (s : Option (List ℕ)) → Steady h h (end_session w s)
-  l_end_session w None = refl
-  l_end_session w (Some s) = l_if h _ (close (Session s)) finish (l_close (Session s)) refl
-
-  l_end : (r : List ℕ) → Steady h h (end r)
-  l_end r t w = then h (close (Request r)) _ (l_close (Request r)) (λ _ t2 w2. l_end_session w2 w2.environment.session)
-
-  l_invalidate : (s : List ℕ) → Steady h h (invalidate s)
-  l_invalidate s t w = l_if h (is_used w.contexts s) (handle (alter (Change.Mark s)) (λ _. finish) throw) (handle (stand_alone_in s) (λ _. close (Session s)) throw) refl (l_close (Session s))
-
-  l_end_alone : (s : List ℕ) → Steady h h (end_alone s)
-  l_end_alone s = l_close (Session s)
-
-module _ (h : Height) where
-  l_used : (asked : Asked) (f : ℕ → Prog Given) → ((k : Height) (n : ℕ) → Steady k k (f n)) → Steady h h (use_bean asked f)
-  l_used asked f q =
-      l_borrowing h (handle (resolve asked) (λ b. handle (refer_to b owners.Borrower) (λ r. handle (reach_instance r) f throw) throw) throw) λ k.
-      then k (resolve asked) (λ b. handle (refer_to b owners.Borrower) (λ r. handle (reach_instance r) f throw) throw) (l_resolved k asked) λ b. then k (refer_to b owners.Borrower) (λ r. handle (reach_instance r) f throw) (l_reference k b owners.Borrower) λ r. then k (reach_instance r) f (l_use k r) (q k)
-
-  l_shutdown : Steady h h shut_down
-  l_shutdown t w =
-      then h (each (requests_of w.contexts) end) _ (l_each h (requests_of w.contexts) end (l_end h)) λ _ t2 w2.
-      then h (each (sessions_of w2.contexts) end_alone) _ (l_each h (sessions_of w2.contexts) end_alone (l_end_alone h)) λ _ t3 w3.
-      then h (fire_container_event built_in.Shutdown) _ (l_container h built_in.Shutdown) λ _.
-      then h (close Application) _ (l_close h Application) (λ _. refl)
-
-  l_task : (c : Command) → Steady h h (task c)
-  l_task Command.Boot = then h (fire_context_event built_in.Initialized Application) _ (l_event h built_in.Initialized Application) λ _. then h (fire_container_event built_in.Startup) _ (l_container h built_in.Startup) (λ _. refl)
-  l_task (Command.Begin r s) = l_begin h r s
-  l_task (Command.End r) = l_end h r
-  l_task (Command.Invalidate s) = l_invalidate h s
-  l_task (Command.Call r asked method args) = λ t w. l_used asked (λ n. invoke_method n method args) (λ k n. l_invoke_method k n method args)
-  l_task (Command.Read r asked) = λ t w. l_used asked (λ n. handle (instance n) (λ o. ret (Given.Result o.value)) throw) (λ k n. then k (instance n) _ (l_instance k n) (λ _. refl))
-  l_task (Command.Fire r class qualifiers v) = λ t w t2 w2. l_call h (Task.Fire class (t2.written qualifiers) v)
-  l_task Command.Live = refl
-  l_task Command.Shutdown = l_shutdown
+tasks_level (Task.Release n) h = steady_of h h (release n) (Walk.l_releases h n)
+tasks_level (Task.Fire class qualifiers v) h = steady_of h h (fire class qualifiers v) (Walk.l_fire h class qualifiers v)
+tasks_level (Task.Notify os v) h = steady_of h h (notify os v) (Walk.l_notify h os v)
+tasks_level Task.Dismiss h = steady_of h h dismiss (Walk.l_dismiss h)
+tasks_level (Task.Clear c) h = steady_of h h (clear c) (Walk.l_clears h c)
 
 module _ (tables : Tables) (legal : Legal) where
   pub rests : Rests tables legal
   rests c w v (Outcome.Ends d) r x q =
-      let e : height v ≡ height w = ends_at tables legal tasks_level (height w) r (l_task (height w) c) in
+      let e : height v ≡ height w = ends_at tables legal tasks_level (height w) r (steady_of (height w) (height w) (task c) (Walk.l_task (height w) c)) in
       record {
         invocations = ap (λ (z : Height). z.invocations) e ∙ q.invocations;
         bodies = ap (λ (z : Height). z.bodies) e ∙ q.bodies;
