@@ -14,7 +14,8 @@ pub data Item : Type 0 where
   Between : ℕ → Item
 
 -- The items of a run, the latest first, behind those before it.
-abbrev pub items_of : {tables : Tables} {legal : Legal} {Starved : Type 0} {p : Prog Given} {w v : World} {o : Outcome} → List Item → Runs tables legal Starved p w o v → List Item
+abbrev pub items_of : {tables : Tables} {legal : Legal} {Starved : Type 0} {p : Prog Given} {w v : World} {o : Outcome}
+    → List Item → Runs tables legal Starved p w o v → List Item
 items_of h Runs.returns = h
 items_of h Runs.throws = h
 items_of h Runs.cuts = h
@@ -112,7 +113,8 @@ pub record InOrder (h : List Item) : Type 0 where
 -- The lists of items of a container: after some commands, at the world that they left.
 pub data Ledger (tables : Tables) (legal : Legal) : World → List Item → Type 0 where
   begins : (ticks depth : ℕ) → Ledger tables legal (before_boot ticks depth) []
-  goes : {w v : World} {h : List Item} {o : Outcome} (c : Command) → Ledger tables legal w h → (r : Runs tables legal ⊥ (task c) (at_begin w) o v) → Ledger tables legal v (items_of h r)
+  goes : {w v : World} {h : List Item} {o : Outcome} (c : Command) → Ledger tables legal w h
+      → (r : Runs tables legal ⊥ (task c) (at_begin w) o v) → Ledger tables legal v (items_of h r)
 
 -- At each end of a command, cut or not, what was written is in order.
 abbrev pub KeepsOrder : Tables → Legal → Type 0

@@ -6,7 +6,7 @@ use Rattle.cdi_machine.specs.Tables.{Tables}
 use Rattle.cdi_machine.specs.World.{World}
 use Rattle.cdi_machine.specs.Programs.{Task, Given, Completion, Prog, cut}
 use Rattle.cdi_machine.specs.Machine.{machine}
-use Rattle.cdi_machine.specs.Runs.{Legal, Outcome, Cut, Runs, going_on}
+use Rattle.cdi_machine.specs.Runs.{Legal, Outcome, Cut, Runs, rest_after}
 use Rattle.cdi_machine.specs.Laws.{Goes, IsServed, IsWithin, Ends, OnItsWay, followed_by}
 use Rattle.cdi_machine.proofs.Order.{changed_still, goes, goes_self, goes_trans, longer, widens}
 use Rattle.cdi_machine.proofs.Total.{rank, room, Halts, TasksHalt, free, ranked}
@@ -65,12 +65,12 @@ module _ (tables : Tables) (legal loose : Legal) where
     cut_stays Runs.cuts = (refl, refl)
     cut_stays (Runs.starves s) = (refl, refl)
 
-    called : {t : Task} {k : Completion Given → Prog Given} {w u v : World} {o1 o : Outcome} → Way (machine t) w o1 u → Runs tables legal (Unit {0}) (going_on o1 k) u o v → Way (going_on o1 k) u o v → Way (Prog.nested t k) w o v
+    called : {t : Task} {k : Completion Given → Prog Given} {w u v : World} {o1 o : Outcome} → Way (machine t) w o1 u → Runs tables legal (Unit {0}) (rest_after o1 k) u o v → Way (rest_after o1 k) u o v → Way (Prog.nested t k) w o v
     called (whole r1) r (whole r2) = whole (Runs.calls r1 r2)
     called {w = w} {u = u} {v = v} {o1 = o1} (whole r1) r (short e o' v' s g) = short e o' v' (Runs.calls (widens tables legal (followed_by (length v.trace) legal loose) (within (length v.trace)) _ w u o1 r1) s) g
     called {t = task} {k = k} {w = w} {u = u} {v = v} {o = o} (short e o1' u' s g) r x =
-        let c = cut_stays (subst (λ z. Runs tables legal (Unit {0}) (going_on z k) u o v) e r) in
-        let h = halts tables loose served (going_on o1' k) u' in
+        let c = cut_stays (subst (λ z. Runs tables legal (Unit {0}) (rest_after z k) u o v) e r) in
+        let h = halts tables loose served (rest_after o1' k) u' in
         let m = goes tables loose ⊥ h.2 in
         let a = length-append u.trace g.more in
         let t : length u'.trace ≡ length (u.trace ++ g.more) = ap length g.trace in

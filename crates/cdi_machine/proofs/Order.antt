@@ -9,7 +9,7 @@ use Rattle.cdi_store.specs.declared.instance.Instance.{Instance}
 use Rattle.cdi_machine.specs.Tables.{Tables}
 use Rattle.cdi_machine.specs.World.{World, Change, after_change, with_entry, instance_at, for_instance, with_making, with_owned, without_owned, without_making}
 use Rattle.cdi_machine.specs.Programs.{Given, Prog, candidates}
-use Rattle.cdi_machine.specs.Runs.{Legal, Outcome, Runs, going_on}
+use Rattle.cdi_machine.specs.Runs.{Legal, Outcome, Runs, rest_after}
 use Rattle.cdi_machine.specs.Laws.{SameEnd, OneRun, IsOne, OneSchedule, Widens, Goes, Grows}
 
 -- ---- a change writes nothing
@@ -162,8 +162,8 @@ module _ (tables : Tables) (legal : Legal) where
   same zs (Runs.picks i l c (Runs.is_full h)) (Runs.picks j l' c' (Runs.is_full h')) a b = record { outcome = refl; world = refl }
   same {v' = v'} {o' = o'} zs (Runs.calls {k = k} {u = u} {o1 = o1} r1 r) (Runs.calls {u = u'} {o1 = p1} r1' r') a b =
       let s = same zs r1 r1' (front_trans (front_of (goes tables legal ⊥ r)) a) (front_trans (front_of (goes tables legal ⊥ r')) b) in
-      let at_world = subst (λ z. Runs tables legal ⊥ (going_on p1 k) z o' v') (sym s.world) r' in
-      same zs r (subst (λ z. Runs tables legal ⊥ (going_on z k) u o' v') (sym s.outcome) at_world) a b
+      let at_world = subst (λ z. Runs tables legal ⊥ (rest_after p1 k) z o' v') (sym s.world) r' in
+      same zs r (subst (λ z. Runs tables legal ⊥ (rest_after z k) u o' v') (sym s.outcome) at_world) a b
 
   pub one_run : OneRun tables legal
   one_run p w v v' o o' r r' e = same v.trace r r' (front_self v.trace) (record { rest = []; is = append-nil v'.trace ∙ sym e })
@@ -190,8 +190,8 @@ module _ (tables : Tables) (legal : Legal) where
       one i r (subst (λ (z : ℕ). Runs tables legal ⊥ (Prog.tick (entries.Pick (candidates n) z) (k z)) w o' v') e r')
   one i {v' = v'} {o' = o'} (Runs.calls {k = k} {u = u} {o1 = o1} r1 r) (Runs.calls {u = u'} {o1 = p1} r1' r') =
       let s = one i r1 r1' in
-      let at_world = subst (λ z. Runs tables legal ⊥ (going_on p1 k) z o' v') (sym s.world) r' in
-      one i r (subst (λ z. Runs tables legal ⊥ (going_on z k) u o' v') (sym s.outcome) at_world)
+      let at_world = subst (λ z. Runs tables legal ⊥ (rest_after p1 k) z o' v') (sym s.world) r' in
+      one i r (subst (λ z. Runs tables legal ⊥ (rest_after z k) u o' v') (sym s.outcome) at_world)
 
   pub one_schedule : OneSchedule tables legal
   one_schedule i p w v v' o o' r r' = one i r r'

@@ -13,7 +13,7 @@ use Rattle.cdi_machine.specs.World.{World, instance_at, after_change, with_entry
 use Rattle.cdi_machine.specs.Destruction.{only_ready, destroy_ready}
 use Rattle.cdi_machine.specs.Programs.{Task, Given, Completion, Gave, Threw, require_present, Prog, ret, throw, cut, miss, see, change, tick, mark, act, choose, nested, candidates, handle}
 use Rattle.cdi_machine.specs.Machine.{machine}
-use Rattle.cdi_machine.specs.Runs.{Legal, Outcome, Ends as Completes, Cut, Runs, going_on}
+use Rattle.cdi_machine.specs.Runs.{Legal, Outcome, Ends as Completes, Cut, Runs, rest_after}
 use Rattle.cdi_machine.specs.Laws.{Goes, IsServed}
 use Rattle.cdi_machine.proofs.Order.{Still, changed_still, goes, longer}
 
@@ -134,7 +134,7 @@ module _ (tables : Tables) (legal : Legal) (served : IsServed legal) where
       let b = went a.0 (λ c. free n h (k c) a.1 (omega arith)) in
       (b.0, b.1, Runs.calls a.2 b.2)
     where
-      went : (o : Outcome) {u : World} → ((c : Completion Given) → Halts (k c) u) → Halts (going_on o k) u
+      went : (o : Outcome) {u : World} → ((c : Completion Given) → Halts (k c) u) → Halts (rest_after o k) u
       went (Completes c) f = f c
       went (Cut cause) f = (_, _, Runs.cuts)
 
@@ -145,7 +145,7 @@ module _ (tables : Tables) (legal : Legal) (served : IsServed legal) where
   destroy_grows m None (Runs.misses r) = elim r [ ]
   destroy_grows m (Some o) r = tick_grows r
 
-  after_call : (n : ℕ) → TasksHalt n → (r : ℕ) (t : Task) (k : Completion Given → Prog Given) (w u : World) (o : Outcome) → room w < suc n → Runs tables legal ⊥ (machine t) w o u → Unless t (λ c. Ranked r (k c)) → ((c : Completion Given) → Ranked r (k c) → room u < suc n → Halts (k c) u) → Halts (going_on o k) u
+  after_call : (n : ℕ) → TasksHalt n → (r : ℕ) (t : Task) (k : Completion Given → Prog Given) (w u : World) (o : Outcome) → room w < suc n → Runs tables legal ⊥ (machine t) w o u → Unless t (λ c. Ranked r (k c)) → ((c : Completion Given) → Ranked r (k c) → room u < suc n → Halts (k c) u) → Halts (rest_after o k) u
   after_call n h r t k w u (Cut cause) l a x f = (_, u, Runs.cuts)
   after_call n h r (Task.Destroy m) k w u (Completes (Gave v)) l (Runs.sees a) x f = let g = destroy_grows m (only_ready (instance_at w m)) a in free n h (k (Gave v)) u (omega arith)
   after_call n h r (Task.Destroy m) k w u (Completes (Threw e)) l a x f = let g = goes_room (goes tables legal ⊥ a) in f (Threw e) (x e) (omega arith)

@@ -1,7 +1,7 @@
 -- One walk through the programs for laws of several kinds: what each does by itself to the heights of the stacks, and that it
 -- is plain, but for those that make, begin, run on and destroy an instance.
 use Rattle.std.proofs.Common.{sym, subst, ℕ, suc, ◌≡◌, List, [], ◌∷◌, refl, Option, Some, None, Bool, true, false}
-use Rattle.std.specs.Prelude.{◌||◌, not, slice_get, remove}
+use Rattle.std.specs.Prelude.{nat_eq, length, ◌||◌, not, slice_get, remove}
 use Rattle.cdi_base.specs.declared.value.Value.{Value}
 use Rattle.cdi_base.specs.declared.value.Value.TheVariants as values
 use Rattle.cdi_base.specs.declared.act.Act.{Act}
@@ -36,7 +36,7 @@ use Rattle.cdi_store.specs.declared.references.Reference.TheVariants.{Empty as N
 use Rattle.cdi_machine.specs.Words.{Name, Asked}
 use Rattle.cdi_machine.specs.Tables.{Tables, Code, Member, Lifecycle, Step, Source, Product, Kind, Bean, Observer, Resolution, One, Nothing, Many}
 use Rattle.cdi_machine.specs.World.{World, Change, instance_at}
-use Rattle.cdi_machine.specs.Programs.{ActiveContext, cut, miss, change, tick, mark, act, choose, nested, Task, Given, Completion, Running, Prog, ret, throw, see, handle, quietly, attempt, require_present, require, call, finish, raise, do_nothing, alter, each, top, pick, active_or_raise, context, require_one, resolve, rethrow, require_number, bean_at, interceptor_at, lookup_at, instance, invocation}
+use Rattle.cdi_machine.specs.Programs.{ActiveContext, cut, miss, change, tick, mark, act, choose, nested, Task, Given, Completion, Running, Prog, ret, throw, see, handle, quietly, attempt, require_present, require, expect, text_of, call, finish, raise, do_nothing, alter, each, top, pick, active_or_raise, context, require_one, resolve, rethrow, require_number, bean_at, interceptor_at, lookup_at, instance, invocation}
 use Rattle.cdi_machine.specs.Contexts.{find_or_create, obtain, is_normal, direct_reference, refer_to, resolve_point, resolve_points, stays, require_living, reach_instance}
 use Rattle.cdi_machine.specs.DestroyAct.{is_idle, require_made, destroy_idle, destroy_held, destroy_by}
 use Rattle.cdi_machine.specs.Bodies.{invoke_by, provide, invoke, call_back, body_at_start, is_of, first_of, interceptor_of, run_rest, reference_at, find_reference, method_in, bean_of, method_of, invoke_method, fits, replace_parameters, repeats, proceed, carry_out, find, answer_of, with_answer, after_act, answer_find, perform, carry_on}
@@ -178,6 +178,10 @@ module _ (h : Height) where
   pub l_present : {A : Type 0} (o : Option A) → Level (require_present o)
   l_present None = refl
   l_present (Some a) = refl
+
+  pub l_expect : (b : Bool) → Level (expect b)
+  l_expect true = refl
+  l_expect false = refl
 
   pub l_require : (b : Bool) (x : BuiltIn) → Level (require b x)
   l_require true x = refl
@@ -345,7 +349,7 @@ module _ (h : Height) where
   l_method_of n name = then h (instance n) _ (l_instance h n) λ o. then h (bean_of o.component) _ (l_bean_of o.component) λ bean. l_method_in bean.kind name
 
   pub l_invoke_method : (n : ℕ) (name : Name) (args : List Value) → Walks h h (invoke_method n name args)
-  l_invoke_method n name args = then h (method_of n name) _ (l_method_of n name) (λ m. l_invoked n roles.AroundInvoke (m.code ∷ []) args (call (Task.Rest m.chain)) (λ k. l_call k (Task.Rest m.chain)))
+  l_invoke_method n name args = then h (method_of n name) _ (l_method_of n name) (λ m. then h (expect (nat_eq (length args) m.count)) (λ _. invoke_by n roles.AroundInvoke (m.code ∷ []) args (call (Task.Rest m.chain))) (l_expect h _) (λ _. l_invoked n roles.AroundInvoke (m.code ∷ []) args (call (Task.Rest m.chain)) (λ k. l_call k (Task.Rest m.chain))))
 
   pub l_replace : (args : Option (List Value)) → Walks h h (replace_parameters args)
   l_replace None = refl
@@ -359,9 +363,9 @@ module _ (h : Height) where
       then h (replace_parameters args) (λ _. call (Task.Rest r.rest)) (l_replace args) (λ _. l_call h (Task.Rest r.rest))
 
   pub l_does : (r : Running) (a : Act) → Walks h h (carry_out r a)
-  l_does r (acts.Set field v) = refl
+  l_does r (acts.Set field v) = then h (instance r.instance) _ (l_instance h r.instance) λ o. then h (require_present (at o.fields field)) _ (l_present h (at o.fields field)) (λ _. refl)
   l_does r (acts.Call via name args) = then h (find_reference r via) _ (l_referred r via) λ x. then h (reach_instance x) _ (l_use h x) λ n. l_invoke_method n name args
-  l_does r (acts.Own name args) = then h (method_of r.instance name) _ (l_method_of r.instance name) (λ m. l_call h (Task.Body (body_at_start r.instance m.code.place m.code.body args [] [])))
+  l_does r (acts.Own name args) = then h (method_of r.instance name) _ (l_method_of r.instance name) (λ m. then h (expect (nat_eq (length args) m.count)) (λ _. call (Task.Body (body_at_start r.instance m.code.place m.code.body args [] []))) (l_expect h _) (λ _. l_call h (Task.Body (body_at_start r.instance m.code.place m.code.body args [] []))))
   l_does r (acts.Read via) = then h (find_reference r via) _ (l_referred r via) λ x. then h (reach_instance x) _ (l_use h x) λ n. then h (instance n) _ (l_instance h n) (λ _. refl)
   l_does r (acts.Write via v) = then h (find_reference r via) _ (l_referred r via) λ x. then h (reach_instance x) _ (l_use h x) (λ n. refl)
   l_does r (acts.Fire class qualifiers v) = l_call h (Task.Fire class qualifiers v)
@@ -380,11 +384,11 @@ module _ (h : Height) where
   l_answer (Completion.Gave (Given.Result v)) = refl
   l_answer (Completion.Gave (Given.Number n)) = refl
   l_answer (Completion.Gave Given.Empty) = refl
-  l_answer (Completion.Threw x) = λ t w. refl
+  l_answer (Completion.Threw x) = then h (text_of x) _ (λ t w. l_present h (t.text x)) (λ _. refl)
 
   pub l_found : (r : Running) (k : ℕ) (c : Completion Reference) → Walks h h (answer_find r k c)
   l_found r k (Completion.Gave x) = l_call h (Task.Acts (with_answer (record r { locals = Rattle.cdi_base.specs.Maps.put k x r.locals }) (answers.Found k)))
-  l_found r k (Completion.Threw x) = λ t w. l_call h (Task.Acts (with_answer r (answers.Threw x (t.text x))))
+  l_found r k (Completion.Threw x) = then h (answer_of (Completion.Threw x)) (λ answer. call (Task.Acts (with_answer r answer))) (l_answer (Completion.Threw x)) (λ answer. l_call h (Task.Acts (with_answer r answer)))
 
   pub l_told : (r : Running) (a : Act) → Walks h h (handle (attempt (carry_out r a)) (λ c. handle (answer_of c) (λ answer. call (Task.Acts (with_answer (after_act r a) answer))) throw) throw)
   l_told r a = then h (attempt (carry_out r a)) _ (caught h (carry_out r a) _ _ (l_does r a) (λ _. refl) (λ _. refl)) λ c. then h (answer_of c) (λ answer. call (Task.Acts (with_answer (after_act r a) answer))) (l_answer c) (λ answer. l_call h (Task.Acts (with_answer (after_act r a) answer)))

@@ -1,4 +1,5 @@
--- Invocations, chains and bodies.
+-- Invocations, chains and bodies (Jakarta CDI 4.0, *Container invocations and interception*; Jakarta Interceptors 2.1,
+-- *Business method interceptors*, *Lifecycle callback interceptors* and *Invocation context*).
 use Rattle.std.specs.Prelude.{ℕ, List, [], ◌∷◌, ◌++◌, length, Bool, true, false, not, ◌||◌, Option, Some, None, nat_eq, slice_get}
 use Rattle.cdi_base.specs.declared.value.Value.{Value}
 use Rattle.cdi_base.specs.declared.value.Value.TheVariants as values
@@ -24,18 +25,22 @@ use Rattle.cdi_store.specs.declared.references.Reference.TheVariants.{Empty as N
 use Rattle.cdi_store.specs.declared.instance.Instance.{Instance}
 use Rattle.cdi_machine.specs.Words.{Name, Asked}
 use Rattle.cdi_machine.specs.Tables.{Code, Method, Member, Bean, Kind}
-use Rattle.cdi_machine.specs.World.{World, Change, instance_at}
-use Rattle.cdi_machine.specs.Programs.{Running, Task, Given, Result, Completion, Gave, Threw, Prog, ret, throw, see, act, attempt, finally, do_nothing, tell_missing, require_present, call, finish, require, note, alter, each, bean_at, interceptor_at, lookup_at, text_of, instance, invocation, go_deeper, resolve, ◌>>=◌, ◌>>◌}
+use Rattle.cdi_machine.specs.World.{World, Change, Invocation, instance_at}
+use Rattle.cdi_machine.specs.Programs.{Running, Task, Given, Result, Completion, Gave, Threw, Prog, ret, throw, see, act, attempt, finally, do_nothing, tell_missing, require_present, expect, call, finish, require, note, alter, each, bean_at, interceptor_at, lookup_at, text_of, instance, invocation, go_deeper, resolve, ◌>>=◌, ◌>>◌}
 use Rattle.cdi_machine.specs.Contexts.{refer_to, resolve_points, reach_instance}
 use Rattle.cdi_machine.specs.DestroyAct.{destroy_by}
 
 -- ---- invocations
 
--- Bodies of the target, round which a chain stands. The target is invoked from here on, also while the
--- parameters are obtained.
+abbrev pub invocation_at_start : ℕ → InterceptorMethod → List Code → List Value → Invocation
+invocation_at_start n role members args =
+    record { target = n; role = role; members = members; parameters = args; references = []; data_of = []; completed = false }
+
+-- Bodies of the target, round which a chain stands. The target is invoked from here on, also while the parameters are
+-- obtained.
 abbrev pub invoke_by : ℕ → InterceptorMethod → List Code → List Value → Prog Given → Prog Given
 invoke_by n role members args p = do
-  alter (Change.Enter (record { target = n; role = role; members = members; parameters = args; references = []; data_of = []; completed = false }))
+  alter (Change.Enter (invocation_at_start n role members args))
   finally p (alter Change.Exit)
 
 abbrev pub provide : List Asked → Owner → Prog (Unit {0})
@@ -55,7 +60,7 @@ call_back n role callbacks chain = invoke_by n role callbacks [] (call (Task.Res
 
 -- ---- chains
 
--- lifecycle and construct chains give null
+-- the chains of lifecycle callbacks and constructors give null (Jakarta Interceptors 2.1, *Lifecycle callback interceptors*)
 abbrev pub given_by : InterceptorMethod → Given → Given
 given_by roles.AroundInvoke g = g
 given_by _ g = Result values.Null
@@ -133,8 +138,10 @@ method_of n name = do
 abbrev pub invoke_method : ℕ → Name → List Value → Prog Given
 invoke_method n name args = do
   m ← method_of n name
+  expect (nat_eq (length args) m.count)
   invoke_by n roles.AroundInvoke (m.code ∷ []) args (call (Task.Rest m.chain))
 
+-- as many values as the invocation has parameters (Jakarta Interceptors 2.1, *Invocation context*)
 abbrev pub fits : List Value → Option (List Value) → Bool
 fits parameters None = true
 fits parameters (Some args) = nat_eq (length args) (length parameters)
@@ -147,6 +154,7 @@ abbrev pub repeats : InterceptorMethod → Bool
 repeats roles.AroundInvoke = true
 repeats _ = false
 
+-- the rest of the chain; the chain of a lifecycle callback is run once
 abbrev pub proceed : Running → Option (List Value) → Prog Given
 proceed r args = do
   v ← invocation
@@ -162,6 +170,8 @@ value_at (Some v) = v
 -- what an act does, and gives
 abbrev pub carry_out : Running → Act → Prog Given
 carry_out r (acts.Set field v) = do
+  o ← instance r.instance
+  require_present (at o.fields field)
   alter (Change.Assign r.instance field v)
   finish
 carry_out r (acts.Call via name args) = do
@@ -170,6 +180,7 @@ carry_out r (acts.Call via name args) = do
   invoke_method n name args
 carry_out r (acts.Own name args) = do
   m ← method_of r.instance name
+  expect (nat_eq (length args) m.count)
   call (Task.Body (body_at_start r.instance m.code.place m.code.body args [] []))
 carry_out r (acts.Read via) = do
   target ← find_reference r via
@@ -192,7 +203,7 @@ carry_out r (acts.Peek key) = do
 carry_out r (acts.Destroy k) = destroy_by (reference_at (at r.locals k))
 carry_out r _ = tell_missing
 
--- a lookup; what it finds belongs to the body's own instance
+-- a lookup (Jakarta CDI 4.0, *Programmatic lookup*); what it finds belongs to the body's own instance
 abbrev pub find : Running → ℕ → Prog Reference
 find r k = do
   asked ← lookup_at r.body k

@@ -1,4 +1,5 @@
--- Commands.
+-- Commands: what begins and ends contexts (Jakarta CDI 4.0, *Context management for built-in scopes*), calls, and boot and
+-- shutdown.
 use Rattle.std.specs.Prelude.{ℕ, List, map, Bool, true, false, not, Option, Some, None, is_some}
 use Rattle.std.specs.List.{list_any}
 use Rattle.cdi_base.specs.declared.value.Value.{Value}
@@ -16,15 +17,23 @@ use Rattle.cdi_machine.specs.Bodies.{invoke_method}
 use Rattle.cdi_machine.specs.Destruction.{borrow_for}
 use Rattle.cdi_machine.specs.Events.{fire_context_event, fire_container_event}
 
+-- Requests and sessions are told by the names that the commands give them.
 pub data Command : Type 0 where
+  -- the application begins
   Boot : Command
+  -- a request begins, in a session if one is named, and ends
   Begin : List ℕ → Option (List ℕ) → Command
   End : List ℕ → Command
+  -- a session ends, once no open request has it
   Invalidate : List ℕ → Command
+  -- in a request or in none, a method of the bean that is asked for is called with values, a product is read, an event is
+  -- fired
   Call : Option (List ℕ) → Asked → Name → List Value → Command
   Read : Option (List ℕ) → Asked → Command
   Fire : Option (List ℕ) → Name → List Use → Value → Command
+  -- the numbers of the live instances are asked for
   Live : Command
+  -- all contexts end
   Shutdown : Command
 
 -- ---- environments

@@ -1,4 +1,4 @@
--- Contextual instances and references.
+-- Contextual instances and references (Jakarta CDI 4.0, *Contextual instance of a bean* and *Contextual references*).
 use Rattle.std.specs.Prelude.{ℕ, List, [], ◌∷◌, Bool, true, false, Option, Some, None}
 use Rattle.cdi_base.specs.declared.scope.Scope.{Scope}
 use Rattle.cdi_base.specs.declared.scope.Scope.TheVariants as scopes
@@ -25,6 +25,7 @@ find_or_create b c (Some (Is n)) = ret (Number n)
 find_or_create b c (Some Making) = raise built_in.CreationException
 find_or_create b c None = elim c.has.status [ Open ↦ call (Create b (owners.Context c.context)) | Ending ↦ raise built_in.ContextNotActiveException ]
 
+-- the contextual instance of a bean (Jakarta CDI 4.0, *The active context object for a scope*)
 abbrev pub obtain : ℕ → Prog Given
 obtain b = do
   bean ← bean_at b
@@ -39,7 +40,8 @@ abbrev pub direct_reference : Given → Reference
 direct_reference (Number n) = Direct n
 direct_reference _ = NoReference
 
--- a normal scope gives a proxy and creates nothing; a dependent bean gives a new instance, which belongs to the owner
+-- A normal scope gives a proxy and creates nothing (Jakarta CDI 4.0, *Client proxies*). A dependent bean gives a new
+-- instance, which belongs to the owner (Jakarta CDI 4.0, *Dependent objects*).
 abbrev pub refer_to : ℕ → Owner → Prog Reference
 refer_to b owner = do
   bean ← bean_at b

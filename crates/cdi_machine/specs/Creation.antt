@@ -1,4 +1,6 @@
--- The creation of an instance: of a managed bean, of an interceptor, of a product.
+-- The creation of an instance: of a managed bean (Jakarta CDI 4.0, *Lifecycle of managed beans*), of an interceptor (Jakarta
+-- Interceptors 2.1, *Interceptor class lifecycle*), of a product (Jakarta CDI 4.0, *Lifecycle of producer methods* and
+-- *Lifecycle of producer fields*).
 use Rattle.std.specs.Prelude.{ℕ, List, [], Bool, true}
 use Rattle.cdi_base.specs.declared.value.Value.TheVariants as values
 use Rattle.cdi_base.specs.declared.entry.Entry.TheVariants as entries
@@ -42,7 +44,7 @@ end_creation n (Result values.Null) = do
   ret NoInstance
 end_creation n g = make_ready n
 
--- a creation by its steps: a null product is none, and where they throw, the creation has failed
+-- a creation by its steps: a null product is none, and if they throw, the creation has failed
 abbrev pub create_by : ℕ → Prog Given → Prog Given
 create_by n steps = handle steps (end_creation n) λ x. do
   discard n
@@ -57,7 +59,8 @@ begin_creation place component owner fields = do
 
 -- ---- a managed bean
 
--- a construct chain that doesn't reach the constructor gives no instance
+-- a construct chain that doesn't reach the constructor gives no instance (Jakarta Interceptors 2.1, *Lifecycle callback
+-- interceptors*)
 abbrev pub construct : ℕ → List Asked → Lifecycle → Prog Given
 construct n points chain = invoke_by n roles.AroundConstruct chain.callbacks [] do
   provide points (owners.Instance n)
@@ -93,7 +96,7 @@ call_producer n m (Source.ProducerField field) = do
   v ← require_present (at o.fields field)
   ret (Result v)
 
--- null is a product of no scope but Dependent
+-- null is a product of no scope but Dependent (Jakarta CDI 4.0, *Lifecycle of producer methods*)
 abbrev pub accept : Bool → ℕ → Given → Prog Given
 accept true n (Result values.Null) = raise built_in.IllegalProductException
 accept normal n (Result v) = do

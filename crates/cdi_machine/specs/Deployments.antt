@@ -77,7 +77,7 @@ tables_of d =
       observers = groups_heard d.observed;
       lookup = λ body k. lookup_of (slice_get d.scripts body) k;
       is_checked = contains d.checked;
-      text = λ name. text_or_none (at d.texts name);
+      text = λ name. Some (text_or_none (at d.texts name));
       is_known = λ a. is_some (at d.types a.type);
       is_event = λ class uses. contains d.events class;
     }

@@ -1,4 +1,4 @@
--- The destroy act of a body.
+-- The destroy act of a body (Jakarta CDI 4.0, *Programmatic lookup*: Instance.destroy).
 use Rattle.std.specs.Prelude.{ℕ, zero, suc, List, [], ◌∷◌, Bool, true, false, not, ◌||◌, Option, Some, None, nat_eq}
 use Rattle.cdi_base.specs.declared.built_in.BuiltIn.TheVariants as built_in
 use Rattle.cdi_base.specs.Maps.{at}

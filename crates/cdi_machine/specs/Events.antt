@@ -1,4 +1,4 @@
--- Events and observers.
+-- Events and observers (Jakarta CDI 4.0, *Firing events* and *Observer notification*).
 use Rattle.std.specs.Prelude.{ℕ, List, [], ◌∷◌, Bool, true, false, not, ◌||◌, ◌&&◌, Option, Some, None, slice_get, remove, codes}
 use Rattle.cdi_base.specs.declared.value.Value.{Value}
 use Rattle.cdi_base.specs.declared.value.Value.TheVariants as values
@@ -24,7 +24,7 @@ use Rattle.cdi_machine.specs.Contexts.{is_normal}
 use Rattle.cdi_machine.specs.Bodies.{invoke}
 use Rattle.cdi_machine.specs.Destruction.{borrow_for, obtain_receiver}
 
--- the groups one after the other; a throw ends the delivery
+-- the groups one after the other, by priority (Jakarta CDI 4.0, *Observer ordering*); a throw ends the delivery
 abbrev pub fire : Name → List Use → Value → Prog Given
 fire class qualifiers v = do
   note (entries.Event class qualifiers)
@@ -44,8 +44,8 @@ abbrev pub is_out : Observer → Option Active → Bool
 is_out o None = true
 is_out o (Some c) = not (is_there (at c.holds o.bean)) && (o.conditional || is_ending c.status)
 
--- an observer isn't called in an inactive scope, nor where its instance would have to be made and it is conditional or the
--- context is ending
+-- An observer isn't called in an inactive scope, nor if its instance would have to be made and it is conditional or the
+-- context is ending (Jakarta CDI 4.0, *Conditional observer methods*).
 abbrev pub is_skipped : World → Observer → Bean → Bool
 is_skipped w o bean = is_normal bean.scope && is_out o (active_context w.contexts w.environment bean.scope)
 
@@ -72,7 +72,8 @@ notify observers v = do
   deliver o v
   call (Task.Notify (remove observers i) v)
 
--- ---- the events of the container itself
+-- ---- the events of the container itself (Jakarta CDI 4.0, *Context management for built-in scopes*, *Startup event* and
+-- *Shutdown event*)
 
 abbrev pub scope_name : Context → List ℕ
 scope_name Application = codes "ApplicationScoped"

@@ -17,17 +17,20 @@ pub record SameEnd (o o' : Outcome) (v v' : World) : Type 0 where
 -- two runs of one program from one world whose entries agree have one outcome and one world
 abbrev pub OneRun : Tables → Legal → Type 0
 OneRun tables legal =
-    (p : Prog Given) (w v v' : World) (o o' : Outcome) → Runs tables legal ⊥ p w o v → Runs tables legal ⊥ p w o' v' → v.trace ≡ v'.trace → SameEnd o o' v v'
+    (p : Prog Given) (w v v' : World) (o o' : Outcome) → Runs tables legal ⊥ p w o v
+    → Runs tables legal ⊥ p w o' v' → v.trace ≡ v'.trace → SameEnd o o' v v'
 
 -- at any place at most one act, and at most one pick, is legal
 pub record IsOne (legal : Legal) : Type 0 where
-  pub act : (body entries : ℕ) (fields : Fields) (view : View) (a b : Act) → legal.gives body entries fields view a → legal.gives body entries fields view b → a ≡ b
+  pub act : (body entries : ℕ) (fields : Fields) (view : View) (a b : Act)
+      → legal.gives body entries fields view a → legal.gives body entries fields view b → a ≡ b
   pub pick : (count entries i j : ℕ) → legal.picks count entries i → legal.picks count entries j → i ≡ j
 
 -- two runs of one program from one world, with one schedule, have one outcome and one world
 abbrev pub OneSchedule : Tables → Legal → Type 0
 OneSchedule tables legal =
-    IsOne legal → (p : Prog Given) (w v v' : World) (o o' : Outcome) → Runs tables legal ⊥ p w o v → Runs tables legal ⊥ p w o' v' → SameEnd o o' v v'
+    IsOne legal → (p : Prog Given) (w v v' : World) (o o' : Outcome) → Runs tables legal ⊥ p w o v
+    → Runs tables legal ⊥ p w o' v' → SameEnd o o' v v'
 
 -- entries are only added, within the budget
 pub record Goes (w v : World) : Type 0 where
@@ -42,17 +45,20 @@ Grows tables legal Starved =
 
 -- what is legal under the one is legal under the other
 pub record IsWithin (small large : Legal) : Type 0 where
-  pub act : (body entries : ℕ) (fields : Fields) (view : View) (a : Act) → small.gives body entries fields view a → large.gives body entries fields view a
+  pub act : (body entries : ℕ) (fields : Fields) (view : View) (a : Act)
+      → small.gives body entries fields view a → large.gives body entries fields view a
   pub pick : (count entries i : ℕ) → small.picks count entries i → large.picks count entries i
 
 -- a run under the one is a run under the other
 abbrev pub Widens : Tables → Legal → Legal → Type 0
 Widens tables small large =
-    IsWithin small large → (p : Prog Given) (w v : World) (o : Outcome) → Runs tables small ⊥ p w o v → Runs tables large ⊥ p w o v
+    IsWithin small large → (p : Prog Given) (w v : World) (o : Outcome) → Runs tables small ⊥ p w o v
+    → Runs tables large ⊥ p w o v
 
 -- at any place some act, and of several candidates some pick, is legal
 pub record IsServed (legal : Legal) : Type 0 where
-  pub act : (body entries : ℕ) (fields : Fields) (view : View) → (a : Act) × legal.gives body entries fields view a
+  pub act : (body entries : ℕ) (fields : Fields) (view : View)
+      → (a : Act) × legal.gives body entries fields view a
   pub pick : (count entries : ℕ) → 1 < count → (i : ℕ) × (i < count) × legal.picks count entries i
 
 -- every program has a run from every world: it ends, and its rules leave no gap
@@ -68,11 +74,12 @@ followed_by n first then =
       picks = λ count entries i. first.picks count entries i ⊎ ((n ≤ entries) × then.picks count entries i);
     }
 
--- Where memory runs out, the entries are the first ones of a run: of one in which, behind them, acts and picks need only be
+-- If memory runs out, the entries are the first ones of a run: of one in which, behind them, acts and picks need only be
 -- such as `loose` has it.
 abbrev pub OnItsWay : Tables → Legal → Legal → Type 0
 OnItsWay tables legal loose =
-    IsServed loose → (p : Prog Given) (w v : World) (o : Outcome) → Runs tables legal (Unit {0}) p w o v → (o' : Outcome) × (v' : World) × Runs tables (followed_by (length v.trace) legal loose) ⊥ p w o' v' × Goes v v'
+    IsServed loose → (p : Prog Given) (w v : World) (o : Outcome) → Runs tables legal (Unit {0}) p w o v
+    → (o' : Outcome) × (v' : World) × Runs tables (followed_by (length v.trace) legal loose) ⊥ p w o' v' × Goes v v'
 
 -- ---- what is running
 
@@ -89,4 +96,5 @@ pub record IsAtRest (w : World) : Type 0 where
 -- a command that isn't cut leaves nothing running
 abbrev pub Rests : Tables → Legal → Type 0
 Rests tables legal =
-    (c : Command) (w v : World) (o : Outcome) → Runs tables legal ⊥ (task c) w o v → IsEnd o → IsAtRest w → IsAtRest v
+    (c : Command) (w v : World) (o : Outcome) → Runs tables legal ⊥ (task c) w o v → IsEnd o → IsAtRest w
+    → IsAtRest v

@@ -23,8 +23,8 @@ use Rattle.cdi_machine.specs.Words.{Name, Fields, Asked}
 use Rattle.cdi_machine.specs.Tables.{Tables, Bean, Interceptor, Observer, Resolution, One, Nothing, Many}
 use Rattle.cdi_machine.specs.World.{World, Change, Invocation, instance_at}
 
--- A running body: the instance, the member, its parameters' references, the interceptors behind it in its chain, what it
--- sees and what it has looked up, and whether it has proceeded.
+-- A running body: the instance, the member, its parameters' references, the interceptors behind it in its chain, what
+-- it sees and what it has looked up, and whether it has proceeded.
 pub record Running : Type 0 where
   pub instance : ℕ
   pub place : Place
@@ -122,7 +122,7 @@ p >> q = p >>= λ _. q
 abbrev pub attempt : {A : Type 0} → Prog A → Prog (Completion A)
 attempt p = handle p (λ a. ret (Gave a)) (λ x. ret (Threw x))
 
--- the second also where the first throws
+-- the second also if the first throws
 abbrev pub finally : {A B : Type 0} → Prog A → Prog B → Prog A
 finally p q = handle p (λ a. q >> ret a) (λ x. q >> throw x)
 
@@ -143,6 +143,11 @@ tell_missing = miss (raise built_in.IllegalStateException)
 abbrev pub require_present : {A : Type 0} → Option A → Prog A
 require_present None = tell_missing
 require_present (Some a) = ret a
+
+-- what always holds in an accepted deployment
+abbrev pub expect : Bool → Prog (Unit {0})
+expect true = do_nothing
+expect false = tell_missing
 
 abbrev pub complete : Completion Given → Prog Given
 complete (Gave g) = ret g
@@ -199,7 +204,7 @@ abbrev pub groups_of : Name → List Use → Prog (List (List Observer))
 groups_of class qualifiers = see λ t w. ret (t.observers class qualifiers)
 
 abbrev pub text_of : Name → Prog (List ℕ)
-text_of name = see λ t w. ret (t.text name)
+text_of name = see λ t w. require_present (t.text name)
 
 abbrev pub instance : ℕ → Prog Instance
 instance n = see λ t w. require_present (instance_at w n)

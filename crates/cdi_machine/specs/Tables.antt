@@ -1,4 +1,5 @@
--- What the machine asks of a deployment.
+-- What the machine asks of a deployment: look-ups of beans, interceptors and observers, and resolution (Jakarta CDI 4.0,
+-- *Typesafe resolution* and *Observer resolution*).
 use Rattle.std.specs.Prelude.{ℕ, List, Option, Bool}
 use Rattle.cdi_base.specs.declared.place.Place.{Place}
 use Rattle.cdi_base.specs.declared.place.InterceptorMethod.{InterceptorMethod}
@@ -50,7 +51,7 @@ pub record Managed : Type 0 where
   pub methods : List (Name × Method)
   pub pre_destroy : Lifecycle
 
--- where a product comes from
+-- what a product comes from (Jakarta CDI 4.0, *Producer methods* and *Producer fields*)
 pub data Source : Type 0 where
   ProducerMethod : Member → Source
   ProducerField : Name → Source
@@ -95,7 +96,8 @@ pub record Tables : Type 0 where
   -- what a body looks up
   pub lookup : ℕ → ℕ → Option Asked
   pub is_checked : Name → Bool
-  pub text : Name → List ℕ
+  -- the text of an exception's class
+  pub text : Name → Option (List ℕ)
   -- whether the type and the qualifiers are known; whether it is a class that can be fired
   pub is_known : Asked → Bool
   pub is_event : Name → List Use → Bool
