@@ -140,7 +140,9 @@ owner_same n None f q live = refl
 owner_same n (Some o) f q live = q o.owner live
 
 pub ready_at : (n m : ℕ) (live : Instances) → phase_at n (with_ready m live) ≡ if_there (nat_eq m n) (set_to phases.Ready (phase_at n live)) (phase_at n live)
-ready_at n m live = owner_same n (at live m) (with_dependent m) (dependent_same n m) (in_phase phases.Ready m live) ∙ adjusted_to n m _ phases.Ready (λ x. refl) live
+ready_at n m live =
+    let s = owner_same n (at live m) (with_dependent m) (dependent_same n m) live in
+    adjusted_to n m _ phases.Ready (λ x. refl) (for_owner (at live m) (with_dependent m) live) ∙ ap (λ x. if_there (nat_eq m n) (set_to phases.Ready x) x) s
 
 pub leaving_at : (n m : ℕ) (live : Instances) → phase_at n (with_leaving m live) ≡ if_there (nat_eq m n) (set_to phases.Leaving (phase_at n live)) (phase_at n live)
 leaving_at n m live =
