@@ -2,7 +2,7 @@
 ghost use Rattle.cdi_machine.specs.Tables.{Tables};
 ghost use Rattle.cdi_ledger.specs.Ledger.{KeepsOrder};
 
-use cdi_machine::laws::Driver;
+use cdi_machine::Driver;
 
 /// At the end of each command, cut or not, the entries and marks of every number stand in order: `new`, `ready`,
 /// `end`, a mark, `gone`, or `new`, `drop`, or the front of one of these. Numbers are given from 1, one after another, and

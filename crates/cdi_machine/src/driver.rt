@@ -1,0 +1,44 @@
+//! What drives the machine from outside: bodies give acts, and a chooser picks among candidates.
+ghost use Rattle.std.specs.Prelude.{◌≡◌, ◌<◌, ℕ, IfOk};
+ghost use Rattle.cdi_machine.specs.Laws.{IsWithin};
+
+use cdi_base::{Act, Fields};
+use cdi_bodies::View;
+
+/// Why a driver gives nothing. The command ends there.
+#[derive(Clone, Copy, Debug, PartialEq, Eq)]
+pub enum Failure {
+    /// No memory was left.
+    Memory,
+    /// The driver has nothing to give at this place, as a recording that has come to its end.
+    Exhausted,
+}
+
+/// The acts of bodies, and the picks among candidates whose order is free. It is told each time how many entries the
+/// command has so far, so that one driver can follow a recording. Nothing becomes legal by asking.
+pub trait Driver {
+    ghost use Rattle.std.specs.Prelude.{ℕ, ◌<◌, IfOk};
+    ghost use Rattle.cdi_machine.specs.Runs.{Legal};
+    ghost use Rattle.cdi_machine.specs.Laws.{IsWithin};
+
+    /// There is a body under this number.
+    ghost knows: { Self → ℕ → Type 0 };
+    /// What the bodies may give, and which candidates may be picked.
+    ghost legal: { Self → Legal };
+
+    /// The next act of a body, in its written form.
+    fn act(&mut self, body: u32, entries: u64, fields: &Fields, view: &View) -> Result<Act, Failure>
+        requires { knows self.old body }
+        ensures legal { IfOk result (λ act.
+            (legal self.old).gives body entries fields.now view.now act) }
+        ensures stays { IsWithin (legal self.new) (legal self.old) }
+        ensures still_known { (other : ℕ) → knows self.old other → knows self.new other };
+
+    /// One of two or more candidates.
+    fn pick(&mut self, count: u32, entries: u64) -> Result<u32, Failure>
+        requires { 1 < count }
+        ensures below { IfOk result (λ choice. choice < count) }
+        ensures legal { IfOk result (λ choice. (legal self.old).picks count entries choice) }
+        ensures stays { IsWithin (legal self.new) (legal self.old) }
+        ensures still_known { (other : ℕ) → knows self.old other → knows self.new other };
+}
