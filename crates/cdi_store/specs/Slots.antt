@@ -1,5 +1,5 @@
 -- How the instances lie in their slots: what a contract sees of a store, and what is true of every store.
-use Rattle.std.specs.Prelude.{◌≡◌, ◌≢◌, ℕ, ◌<◌, ◌≤◌, ◌^◌, List, [], ◌∷◌, Option, Some, None, IsSome, slice_index_or, option_map}
+use Rattle.std.specs.Prelude.{◌≡◌, ◌≢◌, ℕ, ◌<◌, ◌≤◌, ◌^◌, List, [], ◌∷◌, Option, Some, None, IsSome, map, slice_index_or, option_map}
 use Rattle.std.specs.List.{AllByRecursion}
 use Rattle.slab.specs.Slab.{Slab, get}
 use Rattle.cdi_base.specs.Maps.{Map}
@@ -49,6 +49,13 @@ pub record IsSound (slots : Slots) (numbers : Map ℕ) (next : ℕ) : Type 0 whe
   pub occupied : AreOccupied slots numbers
   pub positive : 0 < next
   pub most : next ≤ 2 ^ 32
+
+-- The numbers of the live instances rise, each is below the next one, and no two instances have one slot.
+pub record IsOrderly (kept : Kept) : Type 0 where
+  pub rising : AreRising kept.slots
+  pub below : AreBelow kept.next kept.slots
+  pub apart : AreApart kept.slots
+  pub numbers : map (λ p. p.0) kept.instances ≡ map (λ p. p.0) kept.slots
 
 -- the instance in a slot is changed by f, and the other slots stay
 pub record Changes (old new : Slab Instance) (slot : ℕ) (f : Instance → Instance) : Type 0 where

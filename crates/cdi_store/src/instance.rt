@@ -28,8 +28,8 @@ pub enum Owner {
     Context(Context),
     /// A dependent object of the instance with this number (Jakarta CDI 4.0, *Dependent objects*).
     Instance(u32),
-    /// Of the invocation or command that obtained it, and of nothing else (Jakarta CDI 4.0, *Dependent objects
-    /// destruction*).
+    /// Of the invocation or command that obtained it, and of nothing else (Jakarta CDI 4.0,
+    /// *Destruction of objects with scope @Dependent*).
     Borrower,
 }
 

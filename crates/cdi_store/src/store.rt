@@ -5,6 +5,7 @@ ghost use Rattle.cdi_store.specs.Live.{is_live, key_at, owner_at, reference_at, 
 ghost use Rattle.cdi_store.specs.Live.{in_phase, owned_by, with_dependent, without_dependent};
 ghost use Rattle.cdi_store.specs.Live.{with_ready, with_leaving, with_owner};
 ghost use Rattle.cdi_store.specs.Live.{with_newborn, with_field, with_value, with_reference, without_instance};
+ghost use Rattle.cdi_store.specs.Slots.{IsOrderly};
 
 use crate::changes::{
     hold_in, push_dependent_in, put_dependent_last_in, refer_in, remove_dependent_in, set_in,
@@ -109,6 +110,7 @@ impl Store {
             None => false,
         }
     }
+
     /// Makes an instance in phase New, under the next number and in a slot of its own. No number is left once
     /// 4,294,967,295 has been given out, whatever memory there is. On an error nothing changes, and what was handed in
     /// is dropped.
@@ -192,6 +194,7 @@ impl Store {
         self.numbers.remove(&key.number);
         Ok(self.slots.remove(key.slot))
     }
+
     /// Gives a field of a live instance another value. A field that isn't there changes nothing; nor does an error.
     pub fn set(&mut self, key: Key, field: Name, value: Value) -> Result<(), Stale>
         ensures live { IsOk result ↔ IsTrue (is_live self.old key) }
@@ -239,6 +242,7 @@ impl Store {
         refer_in(&mut self.slots, key.slot, field, reference)?;
         Ok(())
     }
+
     /// Ends the creation of a live instance: it is ready, and becomes the last dependent of its owner, if that is a live
     /// instance; only there memory can be wanting (Jakarta CDI 4.0, *Dependent objects*). On an error nothing changes.
     pub fn settle(&mut self, key: Key) -> Result<(), ChangeError>
@@ -256,7 +260,7 @@ impl Store {
     }
 
     /// Begins the destruction of a live instance: it is leaving, and its owner has it no longer (Jakarta CDI 4.0,
-    /// *Dependent objects destruction*). On an error nothing changes.
+    /// *Destruction of objects with scope @Dependent*). On an error nothing changes.
     pub fn leave(&mut self, key: Key) -> Result<(), Stale>
         ensures live { IsOk result ↔ IsTrue (is_live self.old key) }
         ensures ok { OnOk result (self.new ≡ record self.old {
@@ -293,6 +297,14 @@ impl Store {
         ensures { IfOk result (λ numbers. numbers.items ≡ map (λ p. p.0) self.now.instances) }
     {
         self.numbers.keys().copied().collect(alloc)
+    }
+
+    /// The numbers of the live instances rise and are below the next one, and no two instances have one slot. A call does
+    /// nothing: its contract is the law.
+    pub fn law_numbers(&self)
+        ensures { IsOrderly self.now }
+    {
+        let _next = self.next;
     }
 
     /// The key of the live instance that owns a live instance, if one does.
