@@ -34,7 +34,15 @@ use Rattle.cdi_machine.specs.DestroyAct.{destroy_by}
 
 abbrev pub invocation_at_start : ℕ → InterceptorMethod → List Code → List Value → Invocation
 invocation_at_start n role members args =
-    record { target = n; role = role; members = members; parameters = args; references = []; data_of = []; completed = false }
+    record {
+      target = n;
+      role = role;
+      members = members;
+      parameters = args;
+      references = [];
+      data_of = [];
+      completed = false;
+    }
 
 -- Bodies of the target, round which a chain stands. The target is invoked from here on, also while the parameters are
 -- obtained.
@@ -67,11 +75,21 @@ given_by _ g = Result values.Null
 
 abbrev pub body_at_start : ℕ → Place → ℕ → List Value → List Reference → List ℕ → Running
 body_at_start n place code args references chain =
-    record { instance = n; place = place; body = code; references = references; rest = chain; view = record { args = args; answers = [] }; locals = []; proceeded = false }
+    record {
+      instance = n;
+      place = place;
+      body = code;
+      references = references;
+      rest = chain;
+      view = record { args = args; answers = [] };
+      locals = [];
+      proceeded = false;
+    }
 
 abbrev pub is_of : ℕ → Option Instance → Bool
 is_of i None = false
-is_of i (Some o) = elim o.component [ components.Bean b ↦ false | components.Interceptor j ↦ nat_eq i j ]
+is_of i (Some o) =
+    elim o.component [ components.Bean b ↦ false | components.Interceptor j ↦ nat_eq i j ]
 
 abbrev pub first_of : World → ℕ → List ℕ → Prog ℕ
 first_of w i [] = tell_missing
@@ -218,7 +236,8 @@ answer_of (Threw x) = do
   ret (answers.Threw x text)
 
 abbrev pub with_answer : Running → Answer → Running
-with_answer r a = record r { view = record { args = r.view.args; answers = r.view.answers ++ a ∷ [] } }
+with_answer r a =
+    record r { view = record { args = r.view.args; answers = r.view.answers ++ a ∷ [] } }
 
 -- a proceed that was refused for the number of its values doesn't count
 abbrev pub after_act : Running → Act → Running
@@ -227,7 +246,8 @@ after_act r a = r
 
 -- the body goes on with one answer more
 abbrev pub answer_find : Running → ℕ → Completion Reference → Prog Given
-answer_find r k (Gave it) = call (Task.Acts (with_answer (record r { locals = put k it r.locals }) (answers.Found k)))
+answer_find r k (Gave it) =
+    call (Task.Acts (with_answer (record r { locals = put k it r.locals }) (answers.Found k)))
 answer_find r k (Threw x) = do
   answer ← answer_of (Threw x)
   call (Task.Acts (with_answer r answer))

@@ -45,7 +45,8 @@ session_of (Some r) = r.session
 -- a request and its session
 abbrev pub environment_of : Contexts → Option (List ℕ) → Environment
 environment_of c None = no_environment
-environment_of c (Some r) = record { request = Some r; session = session_of (request_in c.requests r) }
+environment_of c (Some r) =
+    record { request = Some r; session = session_of (request_in c.requests r) }
 
 -- the rest of the command runs in the environment of the request
 abbrev pub stand_in : Option (List ℕ) → Prog (Unit {0})
@@ -88,7 +89,11 @@ close c = do
 -- ---- begin, end, invalidate
 
 abbrev pub begin_session : List ℕ → Prog (Unit {0})
-begin_session s = see λ t w. elim (is_new w.contexts s) [ true ↦ alter (Change.BeginSession s) | false ↦ do_nothing ]
+begin_session s =
+    see λ t w. elim (is_new w.contexts s) [
+      | true ↦ alter (Change.BeginSession s)
+      | false ↦ do_nothing
+    ]
 
 -- both contexts are open before the first event
 abbrev pub begin : List ℕ → Option (List ℕ) → Prog Given
@@ -102,7 +107,10 @@ begin r (Some s) = do
   begin_session s
   alter (Change.BeginRequest r (Some s))
   stand_in (Some r)
-  elim (is_new w.contexts s) [ true ↦ fire_context_event built_in.Initialized (Session s) | false ↦ do_nothing ]
+  elim (is_new w.contexts s) [
+    | true ↦ fire_context_event built_in.Initialized (Session s)
+    | false ↦ do_nothing
+  ]
   fire_context_event built_in.Initialized (Request r)
   finish
 

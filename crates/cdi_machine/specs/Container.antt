@@ -51,11 +51,14 @@ refused_by_contexts c (Command.Begin r s) =
     (joins_marked c s, refusals.SessionEnding) ∷
     (not (nat_lt (length c.requests) 256), refusals.TooManyRequests) ∷
     (opens_session c s && not (nat_lt (length c.sessions) 1024), refusals.TooManySessions) ∷ []
-refused_by_contexts c (Command.Invalidate s) = (is_new c s, refusals.NoSession) ∷ (is_marked c s, refusals.SessionEnding) ∷ []
+refused_by_contexts c (Command.Invalidate s) =
+    (is_new c s, refusals.NoSession) ∷ (is_marked c s, refusals.SessionEnding) ∷ []
 refused_by_contexts c (Command.End r) = (lacks_request c (Some r), refusals.NoRequest) ∷ []
-refused_by_contexts c (Command.Call r asked method args) = (lacks_request c r, refusals.NoRequest) ∷ []
+refused_by_contexts c (Command.Call r asked method args) =
+    (lacks_request c r, refusals.NoRequest) ∷ []
 refused_by_contexts c (Command.Read r asked) = (lacks_request c r, refusals.NoRequest) ∷ []
-refused_by_contexts c (Command.Fire r class qualifiers v) = (lacks_request c r, refusals.NoRequest) ∷ []
+refused_by_contexts c (Command.Fire r class qualifiers v) =
+    (lacks_request c r, refusals.NoRequest) ∷ []
 refused_by_contexts c _ = []
 
 abbrev pub no_method : Option Method → Bool
@@ -70,26 +73,38 @@ wrong_count (Some m) n = not (nat_eq m.count n)
 abbrev pub call_refusals : Option Bean → Name → ℕ → List (Bool × Refusal)
 call_refusals None method n = []
 call_refusals (Some bean) method n = elim bean.kind [
-  | Kind.Class c ↦ (no_method (at c.methods method), refusals.NoMethod) ∷ (wrong_count (at c.methods method) n, refusals.WrongCount) ∷ []
+  | Kind.Class c ↦
+      (no_method (at c.methods method), refusals.NoMethod) ∷
+      (wrong_count (at c.methods method) n, refusals.WrongCount) ∷
+      []
   | Kind.Producer p ↦ (true, refusals.NoMethod) ∷ []
 ]
 
 abbrev pub read_refusals : Option Bean → List (Bool × Refusal)
 read_refusals None = []
-read_refusals (Some bean) = elim bean.kind [ Kind.Class c ↦ (true, refusals.NoMethod) ∷ [] | Kind.Producer p ↦ [] ]
+read_refusals (Some bean) =
+    elim bean.kind [ Kind.Class c ↦ (true, refusals.NoMethod) ∷ [] | Kind.Producer p ↦ [] ]
 
 abbrev pub bean_of : Tables → Resolution → Option Bean
 bean_of t (One b) = t.bean b
 bean_of t _ = None
 
 abbrev pub refused_by_tables : Tables → Command → List (Bool × Refusal)
-refused_by_tables t (Command.Call r asked method args) = (not (t.is_known asked), refusals.UnknownName) ∷ call_refusals (bean_of t (t.resolve asked)) method (length args)
-refused_by_tables t (Command.Read r asked) = (not (t.is_known asked), refusals.UnknownName) ∷ read_refusals (bean_of t (t.resolve asked))
-refused_by_tables t (Command.Fire r class qualifiers v) = (not (t.is_event class qualifiers), refusals.UnknownName) ∷ []
+refused_by_tables t (Command.Call r asked method args) =
+    (not (t.is_known asked), refusals.UnknownName) ∷
+    call_refusals (bean_of t (t.resolve asked)) method (length args)
+refused_by_tables t (Command.Read r asked) =
+    (not (t.is_known asked), refusals.UnknownName) ∷ read_refusals (bean_of t (t.resolve asked))
+refused_by_tables t (Command.Fire r class qualifiers v) =
+    (not (t.is_event class qualifiers), refusals.UnknownName) ∷ []
 refused_by_tables t c = []
 
 abbrev pub refusal : Tables → State → Command → Option Refusal
-refusal t s c = first_that_holds ((s.halted, refusals.Halted) ∷ (s.world.down, refusals.Down) ∷ refused_by_contexts s.world.contexts c ++ refused_by_tables t c)
+refusal t s c =
+    first_that_holds
+    ((s.halted, refusals.Halted) ∷
+    (s.world.down, refusals.Down) ∷
+    refused_by_contexts s.world.contexts c ++ refused_by_tables t c)
 
 -- ---- replies
 
@@ -116,8 +131,11 @@ state_after o w = record { world = w; halted = is_cut o }
 
 -- A refused command only ends the trace. Another is carried out, with an empty trace at first, and a cut halts the container.
 pub data Answers (tables : Tables) (legal : Legal) : State → Command → Reply → State → Type 0 where
-  refuses : {s : State} {c : Command} (r : Refusal) → refusal tables s c ≡ Some r → Answers tables legal s c (replies.Refused r) (record s { world = at_begin s.world })
-  carries_out : {s : State} {c : Command} {o : Outcome} {v : World} → refusal tables s c ≡ None → Runs tables legal ⊥ (task c) (at_begin s.world) o v → Answers tables legal s c (reply_to c o v) (state_after o v)
+  refuses : {s : State} {c : Command} (r : Refusal) → refusal tables s c ≡ Some r
+      → Answers tables legal s c (replies.Refused r) (record s { world = at_begin s.world })
+  carries_out : {s : State} {c : Command} {o : Outcome} {v : World} → refusal tables s c ≡ None
+      → Runs tables legal ⊥ (task c) (at_begin s.world) o v
+      → Answers tables legal s c (reply_to c o v) (state_after o v)
 
 -- what was written for a command
 pub record Said : Type 0 where
@@ -126,4 +144,6 @@ pub record Said : Type 0 where
 
 pub data Plays (tables : Tables) (legal : Legal) : State → List Command → List Said → Type 0 where
   ends : {s : State} → Plays tables legal s [] []
-  goes_on : {s t : State} {c : Command} {r : Reply} {cs : List Command} {said : List Said} → Answers tables legal s c r t → Plays tables legal t cs said → Plays tables legal s (c ∷ cs) (record { entries = t.world.trace; reply = r } ∷ said)
+  goes_on : {s t : State} {c : Command} {r : Reply} {cs : List Command} {said : List Said}
+      → Answers tables legal s c r t → Plays tables legal t cs said
+      → Plays tables legal s (c ∷ cs) (record { entries = t.world.trace; reply = r } ∷ said)

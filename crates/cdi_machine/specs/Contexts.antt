@@ -23,7 +23,11 @@ use Rattle.cdi_machine.specs.Programs.Task.{Obtain}
 abbrev pub find_or_create : ℕ → ActiveContext → Option Held → Prog Given
 find_or_create b c (Some (Is n)) = ret (Number n)
 find_or_create b c (Some Making) = raise built_in.CreationException
-find_or_create b c None = elim c.has.status [ Open ↦ call (Create b (owners.Context c.context)) | Ending ↦ raise built_in.ContextNotActiveException ]
+find_or_create b c None =
+    elim c.has.status [
+      | Open ↦ call (Create b (owners.Context c.context))
+      | Ending ↦ raise built_in.ContextNotActiveException
+    ]
 
 -- the contextual instance of a bean (Jakarta CDI 4.0, *The active context object for a scope*)
 abbrev pub obtain : ℕ → Prog Given
@@ -71,7 +75,8 @@ stays None = false
 stays (Some o) = elim o.phase [ phases.New ↦ true | phases.Ready ↦ true | phases.Leaving ↦ false ]
 
 abbrev pub require_living : ℕ → Prog ℕ
-require_living n = see λ t w. require (stays (instance_at w n)) built_in.IllegalStateException >> ret n
+require_living n =
+    see λ t w. require (stays (instance_at w n)) built_in.IllegalStateException >> ret n
 
 -- the instance, at each use of a reference
 abbrev pub reach_instance : Reference → Prog ℕ

@@ -43,13 +43,19 @@ contains (m ∷ ms) n = elim (nat_eq m n) [ true ↦ true | false ↦ contains m
 abbrev pub same_uses : List Use → List Use → Bool
 same_uses us vs = pointwise use_eq us vs
 
-abbrev pub groups_heard : List (Name × List Use × List (List Observer)) → Name → List Use → List (List Observer)
+abbrev pub groups_heard : List (Name × List Use × List (List Observer)) → Name → List Use
+    → List (List Observer)
 groups_heard [] class uses = []
-groups_heard ((c, us, groups) ∷ observed) class uses = elim (nat_eq c class && same_uses us uses) [ true ↦ groups | false ↦ groups_heard observed class uses ]
+groups_heard ((c, us, groups) ∷ observed) class uses =
+    elim (nat_eq c class && same_uses us uses) [
+      | true ↦ groups
+      | false ↦ groups_heard observed class uses
+    ]
 
 abbrev pub rewriting : List (List Use × List Use) → List Use → List Use
 rewriting [] uses = uses
-rewriting ((us, vs) ∷ written) uses = elim (same_uses us uses) [ true ↦ vs | false ↦ rewriting written uses ]
+rewriting ((us, vs) ∷ written) uses =
+    elim (same_uses us uses) [ true ↦ vs | false ↦ rewriting written uses ]
 
 abbrev pub resolution : Option Resolution → Resolution
 resolution None = Nothing
@@ -98,7 +104,13 @@ as_written d a = a
 
 -- the bodies are the scripts
 abbrev pub played_by : Deployment → (ℕ → ℕ → ℕ) → Setting
-played_by d chooses = record { tables = tables_of d; acts = λ body entries fields view. as_written d (next (steps_of (slice_get d.scripts body)) fields view); chooses = chooses }
+played_by d chooses =
+    record {
+      tables = tables_of d;
+      acts =
+          λ body entries fields view. as_written d (next (steps_of (slice_get d.scripts body)) fields view);
+      chooses = chooses;
+    }
 
 -- ---- words to write them
 
@@ -112,20 +124,24 @@ abbrev pub code : Name → Name → ℕ → Code
 code class name body = record { place = places.Member class name; body = body }
 
 abbrev pub method : Name → Name → ℕ → ℕ → List ℕ → Method
-method class name body count chain = record { code = code class name body; count = count; chain = chain }
+method class name body count chain =
+    record { code = code class name body; count = count; chain = chain }
 
 abbrev pub member : Name → Name → ℕ → List Asked → List ℕ → Member
-member class name body points chain = record { code = code class name body; points = points; chain = chain }
+member class name body points chain =
+    record { code = code class name body; points = points; chain = chain }
 
 abbrev pub constructor_of : Name → ℕ → Code
 constructor_of class body = record { place = places.Constructor class; body = body }
 
 -- a class with its plan
 abbrev pub managed_bean : Name → Scope → Managed → Bean
-managed_bean class scope c = record { place = places.Class class; scope = scope; kind = Kind.Class c }
+managed_bean class scope c =
+    record { place = places.Class class; scope = scope; kind = Kind.Class c }
 
 abbrev pub product_bean : Name → Name → Scope → Product → Bean
-product_bean class name scope p = record { place = places.Member class name; scope = scope; kind = Kind.Producer p }
+product_bean class name scope p =
+    record { place = places.Member class name; scope = scope; kind = Kind.Producer p }
 
 -- which role has which body
 abbrev pub by_role : Option ℕ → Option ℕ → Option ℕ → Option ℕ → InterceptorMethod → Option ℕ
@@ -136,7 +152,13 @@ by_role invoke construct post pre roles.PreDestroy = pre
 
 -- the container's own events
 abbrev pub of_context : BuiltIn → List ℕ → Entry
-of_context what scope = entries.Event (number_of built_in.Object) (record { name = number_of what; members = record { name = number_of built_in.Value; value = values.Text scope } ∷ [] } ∷ [])
+of_context what scope =
+    entries.Event (number_of built_in.Object)
+    (record {
+      name = number_of what;
+      members = record { name = number_of built_in.Value; value = values.Text scope } ∷ [];
+    } ∷
+    [])
 
 abbrev pub of_container : BuiltIn → Entry
 of_container class = entries.Event (number_of class) []

@@ -16,13 +16,19 @@ use Rattle.cdi_machine.specs.Contexts.{stays}
 
 abbrev pub dependent_of : Option Instance → Option ℕ
 dependent_of None = None
-dependent_of (Some o) = elim o.owner [ owners.Context c ↦ None | owners.Instance m ↦ elim (stays (Some o)) [ true ↦ Some m | false ↦ None ] | owners.Borrower ↦ None ]
+dependent_of (Some o) =
+    elim o.owner [
+      | owners.Context c ↦ None
+      | owners.Instance m ↦ elim (stays (Some o)) [ true ↦ Some m | false ↦ None ]
+      | owners.Borrower ↦ None
+    ]
 
 -- The one is the other, or owned by it, directly or through others. Owners have smaller numbers, so the number bounds the
 -- steps.
 abbrev pub belongs : ℕ → World → ℕ → ℕ → Bool
 belongs zero w m n = nat_eq m n
-belongs (suc k) w m n = nat_eq m n || elim (dependent_of (instance_at w m)) [ None ↦ false | Some o ↦ belongs k w o n ]
+belongs (suc k) w m n =
+    nat_eq m n || elim (dependent_of (instance_at w m)) [ None ↦ false | Some o ↦ belongs k w o n ]
 
 abbrev pub any_belongs : World → List ℕ → ℕ → Bool
 any_belongs w [] n = false
@@ -44,7 +50,8 @@ destroy_idle n = see λ t w. do
 -- the instance is made, and its destruction hasn't begun
 abbrev pub is_made : Option Instance → Bool
 is_made None = false
-is_made (Some o) = elim o.phase [ phases.New ↦ false | phases.Ready ↦ true | phases.Leaving ↦ false ]
+is_made (Some o) =
+    elim o.phase [ phases.New ↦ false | phases.Ready ↦ true | phases.Leaving ↦ false ]
 
 abbrev pub require_made : ℕ → Prog (Unit {0})
 require_made n = see λ t w. require (is_made (instance_at w n)) built_in.IllegalStateException

@@ -59,7 +59,8 @@ dispose product v disposer = borrow_for do
   invoke n disposer (v ∷ []) owners.Borrower
 
 abbrev pub clean_up_bean : ℕ → Value → Kind → Prog Given
-clean_up_bean n v (Kind.Class c) = call_back n roles.PreDestroy c.pre_destroy.callbacks c.pre_destroy.chain
+clean_up_bean n v (Kind.Class c) =
+    call_back n roles.PreDestroy c.pre_destroy.callbacks c.pre_destroy.chain
 clean_up_bean n v (Kind.Producer p) = each p.disposers (dispose p v)
 
 -- an interceptor's instance has nothing between its end and its dependents'
@@ -71,7 +72,8 @@ clean_up n v (components.Bean b) = do
 
 abbrev pub only_ready : Option Instance → Option Instance
 only_ready None = None
-only_ready (Some o) = elim o.phase [ phases.New ↦ None | phases.Ready ↦ Some o | phases.Leaving ↦ None ]
+only_ready (Some o) =
+    elim o.phase [ phases.New ↦ None | phases.Ready ↦ Some o | phases.Leaving ↦ None ]
 
 -- the instance, which is neither being made nor being destroyed
 abbrev pub ready_instance : ℕ → Prog Instance

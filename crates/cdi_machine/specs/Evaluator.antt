@@ -26,7 +26,11 @@ pub record Setting : Type 0 where
 
 -- just what they answer is legal
 abbrev pub legal_in : Setting → Legal
-legal_in s = record { gives = λ b entries fields view a. a ≡ s.acts b entries fields view; picks = λ n entries i. i ≡ s.chooses n entries }
+legal_in s =
+    record {
+      gives = λ b entries fields view a. a ≡ s.acts b entries fields view;
+      picks = λ n entries i. i ≡ s.chooses n entries;
+    }
 
 abbrev pub Came : Type 0
 Came = Option (Outcome × World)
@@ -37,7 +41,11 @@ after_task (Some (Ends c, w)) f = f c w
 after_task (Some (Cut cause, w)) f = Some (Cut cause, w)
 
 abbrev pub after_entry : Entry → World → (World → Came) → Came
-after_entry e w f = elim (nat_lt (length w.trace) w.ticks) [ true ↦ f (with_entry e w) | false ↦ Some (Cut causes.Ticks, w) ]
+after_entry e w f =
+    elim (nat_lt (length w.trace) w.ticks) [
+      | true ↦ f (with_entry e w)
+      | false ↦ Some (Cut causes.Ticks, w)
+    ]
 
 module _ (s : Setting) where
   abbrev pub steps : (Task → World → Came) → Prog Given → World → Came
@@ -50,7 +58,10 @@ module _ (s : Setting) where
   steps rec (tick e p) w = after_entry e w (λ u. steps rec p u)
   steps rec (mark n p) w = steps rec p w
   steps rec (act b fields view k) w = let a = s.acts b (length w.trace) fields view in after_entry (entries.Did a) w (λ u. steps rec (k a) u)
-  steps rec (choose n k) w = let i = s.chooses (candidates n) (length w.trace) in elim (nat_lt i (candidates n)) [ true ↦ after_entry (entries.Pick (candidates n) i) w (λ u. steps rec (k i) u) | false ↦ None ]
+  steps rec (choose n k) w = let i = s.chooses (candidates n) (length w.trace) in elim (nat_lt i (candidates n)) [
+    | true ↦ after_entry (entries.Pick (candidates n) i) w (λ u. steps rec (k i) u)
+    | false ↦ None
+  ]
   steps rec (nested t k) w = after_task (rec t w) (λ c u. steps rec (k c) u)
 
   abbrev pub exec : ℕ → Task → World → Came
@@ -76,4 +87,5 @@ module _ (s : Setting) where
   -- what is said to commands
   abbrev pub performance : ℕ → State → List Command → Option (List Said)
   performance n u [] = Some []
-  performance n u (c ∷ cs) = elim (answer n c u) [ None ↦ None | Some rt ↦ saying rt.1 rt.0 (performance n rt.1 cs) ]
+  performance n u (c ∷ cs) =
+      elim (answer n c u) [ None ↦ None | Some rt ↦ saying rt.1 rt.0 (performance n rt.1 cs) ]

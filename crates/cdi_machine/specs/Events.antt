@@ -47,7 +47,8 @@ is_out o (Some c) = not (is_there (at c.holds o.bean)) && (o.conditional || is_e
 -- An observer isn't called in an inactive scope, nor if its instance would have to be made and it is conditional or the
 -- context is ending (Jakarta CDI 4.0, *Conditional observer methods*).
 abbrev pub is_skipped : World → Observer → Bean → Bool
-is_skipped w o bean = is_normal bean.scope && is_out o (active_context w.contexts w.environment bean.scope)
+is_skipped w o bean =
+    is_normal bean.scope && is_out o (active_context w.contexts w.environment bean.scope)
 
 abbrev pub observe : Observer → Value → Prog Given
 observe o v = borrow_for do
@@ -81,11 +82,16 @@ scope_name (Session s) = codes "SessionScoped"
 scope_name (Request r) = codes "RequestScoped"
 
 abbrev pub qualifier : BuiltIn → Context → Use
-qualifier what c = record { name = number_of what; members = record { name = number_of built_in.Value; value = values.Text (scope_name c) } ∷ [] }
+qualifier what c =
+    record {
+      name = number_of what;
+      members = record { name = number_of built_in.Value; value = values.Text (scope_name c) } ∷ [];
+    }
 
 -- what is thrown in one is dropped
 abbrev pub fire_context_event : BuiltIn → Context → Prog (Unit {0})
-fire_context_event what c = quietly (call (Task.Fire (number_of built_in.Object) (qualifier what c ∷ []) values.Null))
+fire_context_event what c =
+    quietly (call (Task.Fire (number_of built_in.Object) (qualifier what c ∷ []) values.Null))
 
 abbrev pub fire_container_event : BuiltIn → Prog (Unit {0})
 fire_container_event class = quietly (call (Task.Fire (number_of class) [] values.Null))

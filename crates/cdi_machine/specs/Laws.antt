@@ -24,7 +24,8 @@ OneRun tables legal =
 pub record IsOne (legal : Legal) : Type 0 where
   pub act : (body entries : ℕ) (fields : Fields) (view : View) (a b : Act)
       → legal.gives body entries fields view a → legal.gives body entries fields view b → a ≡ b
-  pub pick : (count entries i j : ℕ) → legal.picks count entries i → legal.picks count entries j → i ≡ j
+  pub pick : (count entries i j : ℕ) → legal.picks count entries i → legal.picks count entries j
+      → i ≡ j
 
 -- two runs of one program from one world, with one schedule, have one outcome and one world
 abbrev pub OneSchedule : Tables → Legal → Type 0
@@ -52,7 +53,8 @@ pub record IsWithin (small large : Legal) : Type 0 where
 -- a run under the one is a run under the other
 abbrev pub Widens : Tables → Legal → Legal → Type 0
 Widens tables small large =
-    IsWithin small large → (p : Prog Given) (w v : World) (o : Outcome) → Runs tables small ⊥ p w o v
+    IsWithin small large → (p : Prog Given) (w v : World) (o : Outcome)
+    → Runs tables small ⊥ p w o v
     → Runs tables large ⊥ p w o v
 
 -- at any place some act, and of several candidates some pick, is legal
@@ -64,21 +66,27 @@ pub record IsServed (legal : Legal) : Type 0 where
 -- every program has a run from every world: it ends, and its rules leave no gap
 abbrev pub Ends : Tables → Legal → Type 0
 Ends tables legal =
-    IsServed legal → (p : Prog Given) (w : World) → (o : Outcome) × (v : World) × Runs tables legal ⊥ p w o v
+    IsServed legal → (p : Prog Given) (w : World)
+    → (o : Outcome) × (v : World) × Runs tables legal ⊥ p w o v
 
 -- so many entries as the one, and from then on as the other
 abbrev pub followed_by : ℕ → Legal → Legal → Legal
 followed_by n first then =
     record {
-      gives = λ body entries fields view a. first.gives body entries fields view a ⊎ ((n ≤ entries) × then.gives body entries fields view a);
-      picks = λ count entries i. first.picks count entries i ⊎ ((n ≤ entries) × then.picks count entries i);
+      gives =
+          λ body entries fields view a. first.gives body entries fields view a
+          ⊎ ((n ≤ entries) × then.gives body entries fields view a);
+      picks =
+          λ count entries i. first.picks count entries i
+          ⊎ ((n ≤ entries) × then.picks count entries i);
     }
 
 -- If memory runs out, the entries are the first ones of a run: of one in which, behind them, acts and picks need only be
 -- such as `loose` has it.
 abbrev pub OnItsWay : Tables → Legal → Legal → Type 0
 OnItsWay tables legal loose =
-    IsServed loose → (p : Prog Given) (w v : World) (o : Outcome) → Runs tables legal (Unit {0}) p w o v
+    IsServed loose → (p : Prog Given) (w v : World) (o : Outcome)
+    → Runs tables legal (Unit {0}) p w o v
     → (o' : Outcome) × (v' : World) × Runs tables (followed_by (length v.trace) legal loose) ⊥ p w o' v' × Goes v v'
 
 -- ---- what is running
@@ -96,5 +104,6 @@ pub record IsAtRest (w : World) : Type 0 where
 -- a command that isn't cut leaves nothing running
 abbrev pub Rests : Tables → Legal → Type 0
 Rests tables legal =
-    (c : Command) (w v : World) (o : Outcome) → Runs tables legal ⊥ (task c) w o v → IsEnd o → IsAtRest w
+    (c : Command) (w v : World) (o : Outcome) → Runs tables legal ⊥ (task c) w o v → IsEnd o
+    → IsAtRest w
     → IsAtRest v

@@ -70,4 +70,5 @@ pub data Runs (tables : Tables) (legal : Legal) (Starved : Type 0) : Prog Given 
       → Runs tables legal Starved (rest_after o1 k) u o v
       → Runs tables legal Starved (nested t k) w o v
   -- memory runs out, and nothing is changed any more
-  starves : {p : Prog Given} {w : World} → Starved → Runs tables legal Starved p w (Cut causes.Memory) w
+  starves : {p : Prog Given} {w : World} → Starved
+      → Runs tables legal Starved p w (Cut causes.Memory) w

@@ -88,7 +88,8 @@ is_catch _ = false
 -- the steps from the next one that is reached on: after an exception a catch, and else none
 abbrev pub from_next : Option Answer → List Step → List Step
 from_next last [] = []
-from_next (Some (answers.Threw x text)) (s ∷ ss) = elim (is_catch s) [ true ↦ s ∷ ss | false ↦ from_next (Some (answers.Threw x text)) ss ]
+from_next (Some (answers.Threw x text)) (s ∷ ss) =
+    elim (is_catch s) [ true ↦ s ∷ ss | false ↦ from_next (Some (answers.Threw x text)) ss ]
 from_next last (s ∷ ss) = elim (is_catch s) [ true ↦ from_next last ss | false ↦ s ∷ ss ]
 
 abbrev pub steps_behind : List Step → List Step

@@ -116,20 +116,24 @@ with_contexts f w = record w { contexts = f w.contexts }
 
 -- its context has it as one that is being made
 abbrev pub with_making : Component → Owner → World → World
-with_making component (owners.Context c) w = with_contexts (with_component_held component Making c) w
+with_making component (owners.Context c) w =
+    with_contexts (with_component_held component Making c) w
 with_making component _ w = w
 
 -- its context or the temporaries have it
 abbrev pub with_owned : ℕ → Component → Owner → World → World
-with_owned n component (owners.Context c) w = with_contexts (with_component_held component (Is n) c) w
+with_owned n component (owners.Context c) w =
+    with_contexts (with_component_held component (Is n) c) w
 with_owned n component (owners.Instance m) w = w
-with_owned n component owners.Borrower w = record w { temporaries = on_top (λ ns. ns ++ n ∷ []) w.temporaries }
+with_owned n component owners.Borrower w =
+    record w { temporaries = on_top (λ ns. ns ++ n ∷ []) w.temporaries }
 
 -- its context and the temporaries have it no longer
 abbrev pub without_owned : ℕ → Component → Owner → World → World
 without_owned n component (owners.Context c) w = with_contexts (with_component_left component c) w
 without_owned n component (owners.Instance m) w = w
-without_owned n component owners.Borrower w = record w { temporaries = map (all_but n) w.temporaries }
+without_owned n component owners.Borrower w =
+    record w { temporaries = map (all_but n) w.temporaries }
 
 abbrev pub without_making : Component → Owner → World → World
 without_making component (owners.Context c) w = with_contexts (with_component_left component c) w
@@ -147,10 +151,17 @@ with_invocation f w = record w { invocations = on_top f w.invocations }
 
 abbrev pub after_change : Change → World → World
 after_change (Make component owner fields) w =
-    with_making component owner (record w { instances = with_newborn w.next component owner fields w.instances; next = w.next + 1 })
-after_change (Settle n) w = for_instance w (instance_at w n) λ o. with_owned n o.component o.owner (with_instances (with_ready n) w)
-after_change (Discard n) w = for_instance w (instance_at w n) λ o. without_making o.component o.owner (with_instances (without n) w)
-after_change (Leave n) w = for_instance w (instance_at w n) λ o. without_owned n o.component o.owner (with_instances (with_leaving n) w)
+    with_making component owner
+    (record w {
+      instances = with_newborn w.next component owner fields w.instances;
+      next = w.next + 1;
+    })
+after_change (Settle n) w =
+    for_instance w (instance_at w n) λ o. with_owned n o.component o.owner (with_instances (with_ready n) w)
+after_change (Discard n) w =
+    for_instance w (instance_at w n) λ o. without_making o.component o.owner (with_instances (without n) w)
+after_change (Leave n) w =
+    for_instance w (instance_at w n) λ o. without_owned n o.component o.owner (with_instances (with_leaving n) w)
 after_change (Remove n) w = with_instances (without n) w
 after_change (Assign n field v) w = with_instances (with_field n field v) w
 after_change (Refer n field r) w = with_instances (with_reference n field r) w

@@ -42,7 +42,15 @@ without_instance n kept =
 -- an instance at the begin of its creation
 abbrev pub newborn : Component → Owner → List (ℕ × Value) → Instance
 newborn component owner fields =
-    record { component = component; owner = owner; phase = New; fields = fields; references = []; value = Null; dependents = [] }
+    record {
+      component = component;
+      owner = owner;
+      phase = New;
+      fields = fields;
+      references = [];
+      value = Null;
+      dependents = [];
+    }
 
 abbrev pub with_newborn : ℕ → Component → Owner → List (ℕ × Value) → Instances → Instances
 with_newborn n component owner fields live = live ++ (n, newborn component owner fields) ∷ []
@@ -53,7 +61,8 @@ with_field n field value = adjusted n (λ o. record o { fields = set o.fields fi
 
 -- an injected field has a reference
 abbrev pub with_reference : ℕ → ℕ → Reference → Instances → Instances
-with_reference n field reference = adjusted n (λ o. record o { references = put field reference o.references })
+with_reference n field reference =
+    adjusted n (λ o. record o { references = put field reference o.references })
 
 -- a product has a value
 abbrev pub with_value : ℕ → Value → Instances → Instances
@@ -73,13 +82,15 @@ all_but n numbers = filter (λ m. not (m == n)) numbers
 
 -- the owner has the instance as its last dependent
 abbrev pub with_dependent : ℕ → Owner → Instances → Instances
-with_dependent n (owners.Instance m) live = adjusted m (λ o. record o { dependents = o.dependents ++ n ∷ [] }) live
+with_dependent n (owners.Instance m) live =
+    adjusted m (λ o. record o { dependents = o.dependents ++ n ∷ [] }) live
 with_dependent n (owners.Context context) live = live
 with_dependent n owners.Borrower live = live
 
 -- the owner has the instance no longer
 abbrev pub without_dependent : ℕ → Owner → Instances → Instances
-without_dependent n (owners.Instance m) live = adjusted m (λ o. record o { dependents = all_but n o.dependents }) live
+without_dependent n (owners.Instance m) live =
+    adjusted m (λ o. record o { dependents = all_but n o.dependents }) live
 without_dependent n (owners.Context context) live = live
 without_dependent n owners.Borrower live = live
 

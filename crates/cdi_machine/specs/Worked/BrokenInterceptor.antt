@@ -40,8 +40,41 @@ body_oops = 1
 abbrev pub deployment : Deployment
 deployment =
     record {
-      beans = managed_bean C scopes.ApplicationScoped (record { fields = []; plan = Step.Intercept 0 ∷ Step.Construct [] (record { chain = 0 ∷ []; callbacks = constructor_of C body_nop ∷ [] }) ∷ Step.Complete no_chain ∷ []; methods = (m, method C m body_nop 0 []) ∷ []; pre_destroy = no_chain }) ∷ managed_bean E scopes.Dependent (record { fields = []; plan = Step.Construct [] (record { chain = []; callbacks = constructor_of E body_oops ∷ [] }) ∷ Step.Complete no_chain ∷ []; methods = []; pre_destroy = no_chain }) ∷ [];
-      interceptors = record { name = J; fields = []; injected = (e, of_type E) ∷ []; body = by_role None (Some body_nop) None None } ∷ [];
+      beans =
+          managed_bean C scopes.ApplicationScoped (record {
+            fields = [];
+            plan =
+                Step.Intercept 0 ∷
+                Step.Construct [] (record {
+                  chain = 0 ∷ [];
+                  callbacks = constructor_of C body_nop ∷ [];
+                }) ∷
+                Step.Complete no_chain ∷
+                [];
+            methods = (m, method C m body_nop 0 []) ∷ [];
+            pre_destroy = no_chain;
+          }) ∷
+          managed_bean E scopes.Dependent (record {
+            fields = [];
+            plan =
+                Step.Construct [] (record {
+                  chain = [];
+                  callbacks = constructor_of E body_oops ∷ [];
+                }) ∷
+                Step.Complete no_chain ∷
+                [];
+            methods = [];
+            pre_destroy = no_chain;
+          }) ∷
+          [];
+      interceptors =
+          record {
+            name = J;
+            fields = [];
+            injected = (e, of_type E) ∷ [];
+            body = by_role None (Some body_nop) None None;
+          } ∷
+          [];
       types = (C, One 0) ∷ (E, One 1) ∷ [];
       written = [];
       observed = [];
@@ -56,9 +89,31 @@ failed_creation_of_an_interceptor_commands = Command.Boot ∷ Command.Call None 
 
 abbrev pub failed_creation_of_an_interceptor_said : List Said
 failed_creation_of_an_interceptor_said =
-    (record { entries = of_context built_in.Initialized (codes "ApplicationScoped") ∷ of_container built_in.Startup ∷ []; reply = replies.Done }) ∷
-    (record { entries = entries.New 1 (places.Class C) ∷ entries.New 2 (places.Class J) ∷ entries.New 3 (places.Class E) ∷ entries.Run 3 (places.Constructor E) ∷ entries.Did (acts.Throw Oops) ∷ entries.Drop 3 ∷ entries.Drop 2 ∷ entries.Drop 1 ∷ []; reply = replies.Threw Oops }) ∷ []
+    (record {
+      entries =
+          of_context built_in.Initialized (codes "ApplicationScoped") ∷
+          of_container built_in.Startup ∷
+          [];
+      reply = replies.Done;
+    }) ∷
+    (record {
+      entries =
+          entries.New 1 (places.Class C) ∷
+          entries.New 2 (places.Class J) ∷
+          entries.New 3 (places.Class E) ∷
+          entries.Run 3 (places.Constructor E) ∷
+          entries.Did (acts.Throw Oops) ∷
+          entries.Drop 3 ∷
+          entries.Drop 2 ∷
+          entries.Drop 1 ∷
+          [];
+      reply = replies.Threw Oops;
+    }) ∷
+    []
 
 -- each creation that was begun is dropped
 abbrev pub failed_creation_of_an_interceptor : Type 0
-failed_creation_of_an_interceptor = Shows deployment first_chosen 100000 32 failed_creation_of_an_interceptor_commands failed_creation_of_an_interceptor_said
+failed_creation_of_an_interceptor =
+    Shows deployment first_chosen 100000 32
+    failed_creation_of_an_interceptor_commands
+    failed_creation_of_an_interceptor_said

@@ -44,7 +44,28 @@ body_nop = 1
 abbrev pub deployment : Deployment
 deployment =
     record {
-      beans = managed_bean A scopes.ApplicationScoped (record { fields = []; plan = Step.Construct (of_type D ∷ []) (record { chain = []; callbacks = constructor_of A body_chk ∷ [] }) ∷ Step.Inject d (of_type D) ∷ Step.Initialize (code A i body_nop) (of_type D ∷ []) ∷ Step.Complete (record { chain = []; callbacks = code A p body_nop ∷ [] }) ∷ []; methods = (m, method A m body_nop 0 []) ∷ []; pre_destroy = no_chain }) ∷ managed_bean D scopes.Dependent (record { fields = []; plan = Step.Construct [] no_chain ∷ Step.Complete no_chain ∷ []; methods = []; pre_destroy = no_chain }) ∷ [];
+      beans =
+          managed_bean A scopes.ApplicationScoped (record {
+            fields = [];
+            plan =
+                Step.Construct (of_type D ∷ []) (record {
+                  chain = [];
+                  callbacks = constructor_of A body_chk ∷ [];
+                }) ∷
+                Step.Inject d (of_type D) ∷
+                Step.Initialize (code A i body_nop) (of_type D ∷ []) ∷
+                Step.Complete (record { chain = []; callbacks = code A p body_nop ∷ [] }) ∷
+                [];
+            methods = (m, method A m body_nop 0 []) ∷ [];
+            pre_destroy = no_chain;
+          }) ∷
+          managed_bean D scopes.Dependent (record {
+            fields = [];
+            plan = Step.Construct [] no_chain ∷ Step.Complete no_chain ∷ [];
+            methods = [];
+            pre_destroy = no_chain;
+          }) ∷
+          [];
       interceptors = [];
       types = (A, One 0) ∷ (D, One 1) ∷ [];
       written = [];
@@ -60,9 +81,31 @@ checked_exception_becomes_another_commands = Command.Boot ∷ Command.Call None 
 
 abbrev pub checked_exception_becomes_another_said : List Said
 checked_exception_becomes_another_said =
-    (record { entries = of_context built_in.Initialized (codes "ApplicationScoped") ∷ of_container built_in.Startup ∷ []; reply = replies.Done }) ∷
-    (record { entries = entries.New 1 (places.Class A) ∷ entries.New 2 (places.Class D) ∷ entries.Ready 2 ∷ entries.Run 1 (places.Constructor A) ∷ entries.Did (acts.Throw Chk) ∷ entries.End 2 ∷ entries.Gone 2 ∷ entries.Drop 1 ∷ []; reply = replies.Threw (number_of built_in.CreationException) }) ∷ []
+    (record {
+      entries =
+          of_context built_in.Initialized (codes "ApplicationScoped") ∷
+          of_container built_in.Startup ∷
+          [];
+      reply = replies.Done;
+    }) ∷
+    (record {
+      entries =
+          entries.New 1 (places.Class A) ∷
+          entries.New 2 (places.Class D) ∷
+          entries.Ready 2 ∷
+          entries.Run 1 (places.Constructor A) ∷
+          entries.Did (acts.Throw Chk) ∷
+          entries.End 2 ∷
+          entries.Gone 2 ∷
+          entries.Drop 1 ∷
+          [];
+      reply = replies.Threw (number_of built_in.CreationException);
+    }) ∷
+    []
 
 -- the dependents so far are destroyed, and the exception becomes a CreationException
 abbrev pub checked_exception_becomes_another : Type 0
-checked_exception_becomes_another = Shows deployment first_chosen 100000 32 checked_exception_becomes_another_commands checked_exception_becomes_another_said
+checked_exception_becomes_another =
+    Shows deployment first_chosen 100000 32
+    checked_exception_becomes_another_commands
+    checked_exception_becomes_another_said

@@ -30,8 +30,29 @@ body_nop = 0
 abbrev pub deployment : Deployment
 deployment =
     record {
-      beans = managed_bean C scopes.ApplicationScoped (record { fields = []; plan = Step.Intercept 0 ∷ Step.Construct [] (record { chain = 0 ∷ []; callbacks = constructor_of C body_nop ∷ [] }) ∷ Step.Complete no_chain ∷ []; methods = (m, method C m body_nop 0 []) ∷ []; pre_destroy = no_chain }) ∷ [];
-      interceptors = record { name = J; fields = []; injected = []; body = by_role None (Some body_nop) None None } ∷ [];
+      beans =
+          managed_bean C scopes.ApplicationScoped (record {
+            fields = [];
+            plan =
+                Step.Intercept 0 ∷
+                Step.Construct [] (record {
+                  chain = 0 ∷ [];
+                  callbacks = constructor_of C body_nop ∷ [];
+                }) ∷
+                Step.Complete no_chain ∷
+                [];
+            methods = (m, method C m body_nop 0 []) ∷ [];
+            pre_destroy = no_chain;
+          }) ∷
+          [];
+      interceptors =
+          record {
+            name = J;
+            fields = [];
+            injected = [];
+            body = by_role None (Some body_nop) None None;
+          } ∷
+          [];
       types = (C, One 0) ∷ [];
       written = [];
       observed = [];
@@ -46,9 +67,31 @@ constructor_that_is_not_reached_commands = Command.Boot ∷ Command.Call None (o
 
 abbrev pub constructor_that_is_not_reached_said : List Said
 constructor_that_is_not_reached_said =
-    (record { entries = of_context built_in.Initialized (codes "ApplicationScoped") ∷ of_container built_in.Startup ∷ []; reply = replies.Done }) ∷
-    (record { entries = entries.New 1 (places.Class C) ∷ entries.New 2 (places.Class J) ∷ entries.Ready 2 ∷ entries.Run 2 (places.Interceptor J roles.AroundConstruct) ∷ entries.Did (acts.Give values.Null) ∷ entries.End 2 ∷ entries.Gone 2 ∷ entries.Drop 1 ∷ []; reply = replies.Threw (number_of built_in.CreationException) }) ∷ []
+    (record {
+      entries =
+          of_context built_in.Initialized (codes "ApplicationScoped") ∷
+          of_container built_in.Startup ∷
+          [];
+      reply = replies.Done;
+    }) ∷
+    (record {
+      entries =
+          entries.New 1 (places.Class C) ∷
+          entries.New 2 (places.Class J) ∷
+          entries.Ready 2 ∷
+          entries.Run 2 (places.Interceptor J roles.AroundConstruct) ∷
+          entries.Did (acts.Give values.Null) ∷
+          entries.End 2 ∷
+          entries.Gone 2 ∷
+          entries.Drop 1 ∷
+          [];
+      reply = replies.Threw (number_of built_in.CreationException);
+    }) ∷
+    []
 
 -- an instance whose constructor was not reached is dropped
 abbrev pub constructor_that_is_not_reached : Type 0
-constructor_that_is_not_reached = Shows deployment first_chosen 100000 32 constructor_that_is_not_reached_commands constructor_that_is_not_reached_said
+constructor_that_is_not_reached =
+    Shows deployment first_chosen 100000 32
+    constructor_that_is_not_reached_commands
+    constructor_that_is_not_reached_said

@@ -42,26 +42,94 @@ body_k2 = 2
 abbrev pub deployment : Deployment
 deployment =
     record {
-      beans = managed_bean T scopes.ApplicationScoped (record { fields = []; plan = Step.Intercept 0 ∷ Step.Intercept 1 ∷ Step.Construct [] no_chain ∷ Step.Complete no_chain ∷ []; methods = (m, method T m body_nop 0 (0 ∷ 1 ∷ [])) ∷ []; pre_destroy = no_chain }) ∷ [];
-      interceptors = record { name = K1; fields = []; injected = []; body = by_role (Some body_k1) None None None } ∷ record { name = K2; fields = []; injected = []; body = by_role (Some body_k2) None None None } ∷ [];
+      beans =
+          managed_bean T scopes.ApplicationScoped (record {
+            fields = [];
+            plan =
+                Step.Intercept 0 ∷
+                Step.Intercept 1 ∷
+                Step.Construct [] no_chain ∷
+                Step.Complete no_chain ∷
+                [];
+            methods = (m, method T m body_nop 0 (0 ∷ 1 ∷ [])) ∷ [];
+            pre_destroy = no_chain;
+          }) ∷
+          [];
+      interceptors =
+          record {
+            name = K1;
+            fields = [];
+            injected = [];
+            body = by_role (Some body_k1) None None None;
+          } ∷
+          record {
+            name = K2;
+            fields = [];
+            injected = [];
+            body = by_role (Some body_k2) None None None;
+          } ∷
+          [];
       types = (T, One 0) ∷ [];
       written = [];
       observed = [];
       events = [];
-      scripts = ([], []) ∷ (keep k (Plain (values.Int (pos 3))) ∷ proceed ∷ give Last ∷ [], []) ∷ (peek k ∷ give Last ∷ [], []) ∷ [];
+      scripts =
+          ([], []) ∷
+          (keep k (Plain (values.Int (pos 3))) ∷ proceed ∷ give Last ∷ [], []) ∷
+          (peek k ∷ give Last ∷ [], []) ∷
+          [];
       checked = [];
       texts = [];
     }
 
 abbrev pub context_data_belongs_to_the_invocation_commands : List Command
-context_data_belongs_to_the_invocation_commands = Command.Boot ∷ Command.Call None (of_type T) m [] ∷ Command.Call None (of_type T) m [] ∷ []
+context_data_belongs_to_the_invocation_commands =
+    Command.Boot ∷ Command.Call None (of_type T) m [] ∷ Command.Call None (of_type T) m [] ∷ []
 
 abbrev pub context_data_belongs_to_the_invocation_said : List Said
 context_data_belongs_to_the_invocation_said =
-    (record { entries = of_context built_in.Initialized (codes "ApplicationScoped") ∷ of_container built_in.Startup ∷ []; reply = replies.Done }) ∷
-    (record { entries = entries.New 1 (places.Class T) ∷ entries.New 2 (places.Class K1) ∷ entries.Ready 2 ∷ entries.New 3 (places.Class K2) ∷ entries.Ready 3 ∷ entries.Ready 1 ∷ entries.Run 2 (places.Interceptor K1 roles.AroundInvoke) ∷ entries.Did (acts.Keep k (values.Int (pos 3))) ∷ entries.Did (acts.Proceed None) ∷ entries.Run 3 (places.Interceptor K2 roles.AroundInvoke) ∷ entries.Did (acts.Peek k) ∷ entries.Did (acts.Give (values.Int (pos 3))) ∷ entries.Did (acts.Give (values.Int (pos 3))) ∷ []; reply = replies.Value (values.Int (pos 3)) }) ∷
-    (record { entries = entries.Run 2 (places.Interceptor K1 roles.AroundInvoke) ∷ entries.Did (acts.Keep k (values.Int (pos 3))) ∷ entries.Did (acts.Proceed None) ∷ entries.Run 3 (places.Interceptor K2 roles.AroundInvoke) ∷ entries.Did (acts.Peek k) ∷ entries.Did (acts.Give (values.Int (pos 3))) ∷ entries.Did (acts.Give (values.Int (pos 3))) ∷ []; reply = replies.Value (values.Int (pos 3)) }) ∷ []
+    (record {
+      entries =
+          of_context built_in.Initialized (codes "ApplicationScoped") ∷
+          of_container built_in.Startup ∷
+          [];
+      reply = replies.Done;
+    }) ∷
+    (record {
+      entries =
+          entries.New 1 (places.Class T) ∷
+          entries.New 2 (places.Class K1) ∷
+          entries.Ready 2 ∷
+          entries.New 3 (places.Class K2) ∷
+          entries.Ready 3 ∷
+          entries.Ready 1 ∷
+          entries.Run 2 (places.Interceptor K1 roles.AroundInvoke) ∷
+          entries.Did (acts.Keep k (values.Int (pos 3))) ∷
+          entries.Did (acts.Proceed None) ∷
+          entries.Run 3 (places.Interceptor K2 roles.AroundInvoke) ∷
+          entries.Did (acts.Peek k) ∷
+          entries.Did (acts.Give (values.Int (pos 3))) ∷
+          entries.Did (acts.Give (values.Int (pos 3))) ∷
+          [];
+      reply = replies.Value (values.Int (pos 3));
+    }) ∷
+    (record {
+      entries =
+          entries.Run 2 (places.Interceptor K1 roles.AroundInvoke) ∷
+          entries.Did (acts.Keep k (values.Int (pos 3))) ∷
+          entries.Did (acts.Proceed None) ∷
+          entries.Run 3 (places.Interceptor K2 roles.AroundInvoke) ∷
+          entries.Did (acts.Peek k) ∷
+          entries.Did (acts.Give (values.Int (pos 3))) ∷
+          entries.Did (acts.Give (values.Int (pos 3))) ∷
+          [];
+      reply = replies.Value (values.Int (pos 3));
+    }) ∷
+    []
 
 -- what the one keeps the other sees
 abbrev pub context_data_belongs_to_the_invocation : Type 0
-context_data_belongs_to_the_invocation = Shows deployment first_chosen 100000 32 context_data_belongs_to_the_invocation_commands context_data_belongs_to_the_invocation_said
+context_data_belongs_to_the_invocation =
+    Shows deployment first_chosen 100000 32
+    context_data_belongs_to_the_invocation_commands
+    context_data_belongs_to_the_invocation_said

@@ -33,11 +33,24 @@ body_oops = 0
 abbrev pub deployment : Deployment
 deployment =
     record {
-      beans = managed_bean L scopes.ApplicationScoped (record { fields = []; plan = Step.Construct [] no_chain ∷ Step.Complete no_chain ∷ []; methods = []; pre_destroy = no_chain }) ∷ [];
+      beans =
+          managed_bean L scopes.ApplicationScoped (record {
+            fields = [];
+            plan = Step.Construct [] no_chain ∷ Step.Complete no_chain ∷ [];
+            methods = [];
+            pre_destroy = no_chain;
+          }) ∷
+          [];
       interceptors = [];
       types = [];
       written = [];
-      observed = (number_of built_in.Object, ((record { name = number_of built_in.Initialized; members = record { name = number_of built_in.Value; value = values.Text (codes "RequestScoped") } ∷ [] }) ∷ []), ((record { bean = 0; member = member L o body_oops [] []; conditional = false }) ∷ []) ∷ []) ∷ [];
+      observed = (
+        number_of built_in.Object,
+        ((record { name = number_of built_in.Initialized; members = record { name = number_of built_in.Value; value = values.Text (codes "RequestScoped") } ∷ [] }) ∷ []),
+        ((record { bean = 0; member = member L o body_oops [] []; conditional = false }) ∷ []) ∷
+            [],
+      ) ∷
+          [];
       events = [];
       scripts = (throw Oops ∷ [], []) ∷ [];
       checked = [];
@@ -49,9 +62,28 @@ exception_in_a_context_event_is_dropped_commands = Command.Boot ∷ Command.Begi
 
 abbrev pub exception_in_a_context_event_is_dropped_said : List Said
 exception_in_a_context_event_is_dropped_said =
-    (record { entries = of_context built_in.Initialized (codes "ApplicationScoped") ∷ of_container built_in.Startup ∷ []; reply = replies.Done }) ∷
-    (record { entries = of_context built_in.Initialized (codes "RequestScoped") ∷ entries.New 1 (places.Class L) ∷ entries.Ready 1 ∷ entries.Run 1 (places.Member L o) ∷ entries.Did (acts.Throw Oops) ∷ []; reply = replies.Done }) ∷ []
+    (record {
+      entries =
+          of_context built_in.Initialized (codes "ApplicationScoped") ∷
+          of_container built_in.Startup ∷
+          [];
+      reply = replies.Done;
+    }) ∷
+    (record {
+      entries =
+          of_context built_in.Initialized (codes "RequestScoped") ∷
+          entries.New 1 (places.Class L) ∷
+          entries.Ready 1 ∷
+          entries.Run 1 (places.Member L o) ∷
+          entries.Did (acts.Throw Oops) ∷
+          [];
+      reply = replies.Done;
+    }) ∷
+    []
 
 -- the command goes on
 abbrev pub exception_in_a_context_event_is_dropped : Type 0
-exception_in_a_context_event_is_dropped = Shows deployment first_chosen 100000 32 exception_in_a_context_event_is_dropped_commands exception_in_a_context_event_is_dropped_said
+exception_in_a_context_event_is_dropped =
+    Shows deployment first_chosen 100000 32
+    exception_in_a_context_event_is_dropped_commands
+    exception_in_a_context_event_is_dropped_said

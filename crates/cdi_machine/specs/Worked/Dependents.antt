@@ -34,7 +34,25 @@ body_nop = 0
 abbrev pub deployment : Deployment
 deployment =
     record {
-      beans = managed_bean D scopes.Dependent (record { fields = []; plan = Step.Construct [] no_chain ∷ Step.Complete no_chain ∷ []; methods = []; pre_destroy = no_chain }) ∷ managed_bean B scopes.ApplicationScoped (record { fields = []; plan = Step.Construct [] no_chain ∷ Step.Inject d1 (of_type D) ∷ Step.Inject d2 (of_type D) ∷ Step.Complete no_chain ∷ []; methods = (m, method B m body_nop 0 []) ∷ []; pre_destroy = no_chain }) ∷ [];
+      beans =
+          managed_bean D scopes.Dependent (record {
+            fields = [];
+            plan = Step.Construct [] no_chain ∷ Step.Complete no_chain ∷ [];
+            methods = [];
+            pre_destroy = no_chain;
+          }) ∷
+          managed_bean B scopes.ApplicationScoped (record {
+            fields = [];
+            plan =
+                Step.Construct [] no_chain ∷
+                Step.Inject d1 (of_type D) ∷
+                Step.Inject d2 (of_type D) ∷
+                Step.Complete no_chain ∷
+                [];
+            methods = (m, method B m body_nop 0 []) ∷ [];
+            pre_destroy = no_chain;
+          }) ∷
+          [];
       interceptors = [];
       types = (B, One 1) ∷ (D, One 0) ∷ [];
       written = [];
@@ -46,15 +64,52 @@ deployment =
     }
 
 abbrev pub each_point_gets_its_own_dependent_commands : List Command
-each_point_gets_its_own_dependent_commands = Command.Boot ∷ Command.Call None (of_type B) m [] ∷ Command.Live ∷ Command.Shutdown ∷ []
+each_point_gets_its_own_dependent_commands =
+    Command.Boot ∷ Command.Call None (of_type B) m [] ∷ Command.Live ∷ Command.Shutdown ∷ []
 
 abbrev pub each_point_gets_its_own_dependent_said : List Said
 each_point_gets_its_own_dependent_said =
-    (record { entries = of_context built_in.Initialized (codes "ApplicationScoped") ∷ of_container built_in.Startup ∷ []; reply = replies.Done }) ∷
-    (record { entries = entries.New 1 (places.Class B) ∷ entries.New 2 (places.Class D) ∷ entries.Ready 2 ∷ entries.New 3 (places.Class D) ∷ entries.Ready 3 ∷ entries.Ready 1 ∷ entries.Run 1 (places.Member B m) ∷ entries.Did (acts.Give values.Null) ∷ []; reply = replies.Value values.Null }) ∷
+    (record {
+      entries =
+          of_context built_in.Initialized (codes "ApplicationScoped") ∷
+          of_container built_in.Startup ∷
+          [];
+      reply = replies.Done;
+    }) ∷
+    (record {
+      entries =
+          entries.New 1 (places.Class B) ∷
+          entries.New 2 (places.Class D) ∷
+          entries.Ready 2 ∷
+          entries.New 3 (places.Class D) ∷
+          entries.Ready 3 ∷
+          entries.Ready 1 ∷
+          entries.Run 1 (places.Member B m) ∷
+          entries.Did (acts.Give values.Null) ∷
+          [];
+      reply = replies.Value values.Null;
+    }) ∷
     (record { entries = []; reply = replies.Live (1 ∷ 2 ∷ 3 ∷ []) }) ∷
-    (record { entries = of_container built_in.Shutdown ∷ of_context built_in.BeforeDestroyed (codes "ApplicationScoped") ∷ entries.End 1 ∷ entries.Pick 2 0 ∷ entries.End 2 ∷ entries.Gone 2 ∷ entries.End 3 ∷ entries.Gone 3 ∷ entries.Gone 1 ∷ of_context built_in.Destroyed (codes "ApplicationScoped") ∷ []; reply = replies.Done }) ∷ []
+    (record {
+      entries =
+          of_container built_in.Shutdown ∷
+          of_context built_in.BeforeDestroyed (codes "ApplicationScoped") ∷
+          entries.End 1 ∷
+          entries.Pick 2 0 ∷
+          entries.End 2 ∷
+          entries.Gone 2 ∷
+          entries.End 3 ∷
+          entries.Gone 3 ∷
+          entries.Gone 1 ∷
+          of_context built_in.Destroyed (codes "ApplicationScoped") ∷
+          [];
+      reply = replies.Done;
+    }) ∷
+    []
 
 -- each point gets an instance of its own, and they are destroyed one at a time
 abbrev pub each_point_gets_its_own_dependent : Type 0
-each_point_gets_its_own_dependent = Shows deployment first_chosen 100000 32 each_point_gets_its_own_dependent_commands each_point_gets_its_own_dependent_said
+each_point_gets_its_own_dependent =
+    Shows deployment first_chosen 100000 32
+    each_point_gets_its_own_dependent_commands
+    each_point_gets_its_own_dependent_said

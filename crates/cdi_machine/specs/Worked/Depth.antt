@@ -32,7 +32,17 @@ body_nop = 1
 abbrev pub deployment : Deployment
 deployment =
     record {
-      beans = managed_bean R scopes.Dependent (record { fields = []; plan = Step.Construct [] no_chain ∷ Step.Complete (record { chain = []; callbacks = code R p body_p ∷ [] }) ∷ []; methods = (m, method R m body_nop 0 []) ∷ []; pre_destroy = no_chain }) ∷ [];
+      beans =
+          managed_bean R scopes.Dependent (record {
+            fields = [];
+            plan =
+                Step.Construct [] no_chain ∷
+                Step.Complete (record { chain = []; callbacks = code R p body_p ∷ [] }) ∷
+                [];
+            methods = (m, method R m body_nop 0 []) ∷ [];
+            pre_destroy = no_chain;
+          }) ∷
+          [];
       interceptors = [];
       types = (R, One 0) ∷ [];
       written = [];
@@ -48,9 +58,28 @@ cut_at_the_last_level_commands = Command.Boot ∷ Command.Call None (of_type R) 
 
 abbrev pub cut_at_the_last_level_said : List Said
 cut_at_the_last_level_said =
-    (record { entries = of_context built_in.Initialized (codes "ApplicationScoped") ∷ of_container built_in.Startup ∷ []; reply = replies.Done }) ∷
-    (record { entries = entries.New 1 (places.Class R) ∷ entries.Run 1 (places.Member R p) ∷ entries.Did (acts.Find 0) ∷ entries.New 2 (places.Class R) ∷ entries.Run 2 (places.Member R p) ∷ entries.Did (acts.Find 0) ∷ entries.New 3 (places.Class R) ∷ []; reply = replies.Halted causes.Depth }) ∷ []
+    (record {
+      entries =
+          of_context built_in.Initialized (codes "ApplicationScoped") ∷
+          of_container built_in.Startup ∷
+          [];
+      reply = replies.Done;
+    }) ∷
+    (record {
+      entries =
+          entries.New 1 (places.Class R) ∷
+          entries.Run 1 (places.Member R p) ∷
+          entries.Did (acts.Find 0) ∷
+          entries.New 2 (places.Class R) ∷
+          entries.Run 2 (places.Member R p) ∷
+          entries.Did (acts.Find 0) ∷
+          entries.New 3 (places.Class R) ∷
+          [];
+      reply = replies.Halted causes.Depth;
+    }) ∷
+    []
 
 -- below the last level a body is cut before its entry
 abbrev pub cut_at_the_last_level : Type 0
-cut_at_the_last_level = Shows deployment first_chosen 100000 2 cut_at_the_last_level_commands cut_at_the_last_level_said
+cut_at_the_last_level =
+    Shows deployment first_chosen 100000 2 cut_at_the_last_level_commands cut_at_the_last_level_said

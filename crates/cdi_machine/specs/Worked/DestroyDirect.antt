@@ -36,13 +36,27 @@ body_g = 1
 abbrev pub deployment : Deployment
 deployment =
     record {
-      beans = managed_bean D scopes.Dependent (record { fields = []; plan = Step.Construct [] no_chain ∷ Step.Complete no_chain ∷ []; methods = []; pre_destroy = (record { chain = []; callbacks = code D bye body_nop ∷ [] }) }) ∷ managed_bean H scopes.ApplicationScoped (record { fields = []; plan = Step.Construct [] no_chain ∷ Step.Complete no_chain ∷ []; methods = (g, method H g body_g 0 []) ∷ []; pre_destroy = no_chain }) ∷ [];
+      beans =
+          managed_bean D scopes.Dependent (record {
+            fields = [];
+            plan = Step.Construct [] no_chain ∷ Step.Complete no_chain ∷ [];
+            methods = [];
+            pre_destroy = (record { chain = []; callbacks = code D bye body_nop ∷ [] });
+          }) ∷
+          managed_bean H scopes.ApplicationScoped (record {
+            fields = [];
+            plan = Step.Construct [] no_chain ∷ Step.Complete no_chain ∷ [];
+            methods = (g, method H g body_g 0 []) ∷ [];
+            pre_destroy = no_chain;
+          }) ∷
+          [];
       interceptors = [];
       types = (H, One 1) ∷ (D, One 0) ∷ [];
       written = [];
       observed = [];
       events = [];
-      scripts = ([], []) ∷ (find 0 ∷ destroy 0 ∷ destroy 0 ∷ catch (give Last) ∷ [], of_type D ∷ []) ∷ [];
+      scripts =
+          ([], []) ∷ (find 0 ∷ destroy 0 ∷ destroy 0 ∷ catch (give Last) ∷ [], of_type D ∷ []) ∷ [];
       checked = [];
       texts = (number_of built_in.IllegalStateException, codes "IllegalStateException") ∷ [];
     }
@@ -52,10 +66,34 @@ destroyed_once_only_commands = Command.Boot ∷ Command.Call None (of_type H) g 
 
 abbrev pub destroyed_once_only_said : List Said
 destroyed_once_only_said =
-    (record { entries = of_context built_in.Initialized (codes "ApplicationScoped") ∷ of_container built_in.Startup ∷ []; reply = replies.Done }) ∷
-    (record { entries = entries.New 1 (places.Class H) ∷ entries.Ready 1 ∷ entries.Run 1 (places.Member H g) ∷ entries.Did (acts.Find 0) ∷ entries.New 2 (places.Class D) ∷ entries.Ready 2 ∷ entries.Did (acts.Destroy 0) ∷ entries.End 2 ∷ entries.Run 2 (places.Member D bye) ∷ entries.Did (acts.Give values.Null) ∷ entries.Gone 2 ∷ entries.Did (acts.Destroy 0) ∷ entries.Did (acts.Give (values.Text (codes "IllegalStateException"))) ∷ []; reply = replies.Value (values.Text (codes "IllegalStateException")) }) ∷
+    (record {
+      entries =
+          of_context built_in.Initialized (codes "ApplicationScoped") ∷
+          of_container built_in.Startup ∷
+          [];
+      reply = replies.Done;
+    }) ∷
+    (record {
+      entries =
+          entries.New 1 (places.Class H) ∷
+          entries.Ready 1 ∷
+          entries.Run 1 (places.Member H g) ∷
+          entries.Did (acts.Find 0) ∷
+          entries.New 2 (places.Class D) ∷
+          entries.Ready 2 ∷
+          entries.Did (acts.Destroy 0) ∷
+          entries.End 2 ∷
+          entries.Run 2 (places.Member D bye) ∷
+          entries.Did (acts.Give values.Null) ∷
+          entries.Gone 2 ∷
+          entries.Did (acts.Destroy 0) ∷
+          entries.Did (acts.Give (values.Text (codes "IllegalStateException"))) ∷
+          [];
+      reply = replies.Value (values.Text (codes "IllegalStateException"));
+    }) ∷
     (record { entries = []; reply = replies.Live (1 ∷ []) }) ∷ []
 
 -- a second destroy of it is refused
 abbrev pub destroyed_once_only : Type 0
-destroyed_once_only = Shows deployment first_chosen 100000 32 destroyed_once_only_commands destroyed_once_only_said
+destroyed_once_only =
+    Shows deployment first_chosen 100000 32 destroyed_once_only_commands destroyed_once_only_said

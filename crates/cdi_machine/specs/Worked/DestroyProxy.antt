@@ -36,13 +36,36 @@ body_nop = 1
 abbrev pub deployment : Deployment
 deployment =
     record {
-      beans = managed_bean Y scopes.ApplicationScoped (record { fields = []; plan = Step.Construct [] no_chain ∷ Step.Complete no_chain ∷ []; methods = (g, method Y g body_g 0 []) ∷ []; pre_destroy = no_chain }) ∷ managed_bean X scopes.ApplicationScoped (record { fields = []; plan = Step.Construct [] no_chain ∷ Step.Complete no_chain ∷ []; methods = (m, method X m body_nop 0 []) ∷ []; pre_destroy = no_chain }) ∷ [];
+      beans =
+          managed_bean Y scopes.ApplicationScoped (record {
+            fields = [];
+            plan = Step.Construct [] no_chain ∷ Step.Complete no_chain ∷ [];
+            methods = (g, method Y g body_g 0 []) ∷ [];
+            pre_destroy = no_chain;
+          }) ∷
+          managed_bean X scopes.ApplicationScoped (record {
+            fields = [];
+            plan = Step.Construct [] no_chain ∷ Step.Complete no_chain ∷ [];
+            methods = (m, method X m body_nop 0 []) ∷ [];
+            pre_destroy = no_chain;
+          }) ∷
+          [];
       interceptors = [];
       types = (Y, One 0) ∷ (X, One 1) ∷ [];
       written = [];
       observed = [];
       events = [];
-      scripts = (find 0 ∷ call (vias.Local 0) m [] ∷ destroy 0 ∷ call (vias.Local 0) m [] ∷ [], of_type X ∷ []) ∷ ([], []) ∷ [];
+      scripts = (
+        find 0 ∷
+            call (vias.Local 0) m [] ∷
+            destroy 0 ∷
+            call (vias.Local 0) m [] ∷
+            [],
+        of_type X ∷
+            [],
+      ) ∷
+          ([], []) ∷
+          [];
       checked = [];
       texts = [];
     }
@@ -52,9 +75,39 @@ proxy_obtains_anew_commands = Command.Boot ∷ Command.Call None (of_type Y) g [
 
 abbrev pub proxy_obtains_anew_said : List Said
 proxy_obtains_anew_said =
-    (record { entries = of_context built_in.Initialized (codes "ApplicationScoped") ∷ of_container built_in.Startup ∷ []; reply = replies.Done }) ∷
-    (record { entries = entries.New 1 (places.Class Y) ∷ entries.Ready 1 ∷ entries.Run 1 (places.Member Y g) ∷ entries.Did (acts.Find 0) ∷ entries.Did (acts.Call (vias.Local 0) m []) ∷ entries.New 2 (places.Class X) ∷ entries.Ready 2 ∷ entries.Run 2 (places.Member X m) ∷ entries.Did (acts.Give values.Null) ∷ entries.Did (acts.Destroy 0) ∷ entries.End 2 ∷ entries.Gone 2 ∷ entries.Did (acts.Call (vias.Local 0) m []) ∷ entries.New 3 (places.Class X) ∷ entries.Ready 3 ∷ entries.Run 3 (places.Member X m) ∷ entries.Did (acts.Give values.Null) ∷ entries.Did (acts.Give values.Null) ∷ []; reply = replies.Value values.Null }) ∷ []
+    (record {
+      entries =
+          of_context built_in.Initialized (codes "ApplicationScoped") ∷
+          of_container built_in.Startup ∷
+          [];
+      reply = replies.Done;
+    }) ∷
+    (record {
+      entries =
+          entries.New 1 (places.Class Y) ∷
+          entries.Ready 1 ∷
+          entries.Run 1 (places.Member Y g) ∷
+          entries.Did (acts.Find 0) ∷
+          entries.Did (acts.Call (vias.Local 0) m []) ∷
+          entries.New 2 (places.Class X) ∷
+          entries.Ready 2 ∷
+          entries.Run 2 (places.Member X m) ∷
+          entries.Did (acts.Give values.Null) ∷
+          entries.Did (acts.Destroy 0) ∷
+          entries.End 2 ∷
+          entries.Gone 2 ∷
+          entries.Did (acts.Call (vias.Local 0) m []) ∷
+          entries.New 3 (places.Class X) ∷
+          entries.Ready 3 ∷
+          entries.Run 3 (places.Member X m) ∷
+          entries.Did (acts.Give values.Null) ∷
+          entries.Did (acts.Give values.Null) ∷
+          [];
+      reply = replies.Value values.Null;
+    }) ∷
+    []
 
 -- the next use makes another instance
 abbrev pub proxy_obtains_anew : Type 0
-proxy_obtains_anew = Shows deployment first_chosen 100000 32 proxy_obtains_anew_commands proxy_obtains_anew_said
+proxy_obtains_anew =
+    Shows deployment first_chosen 100000 32 proxy_obtains_anew_commands proxy_obtains_anew_said

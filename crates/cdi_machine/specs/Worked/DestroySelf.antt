@@ -26,7 +26,14 @@ body_m = 0
 abbrev pub deployment : Deployment
 deployment =
     record {
-      beans = managed_bean S scopes.ApplicationScoped (record { fields = []; plan = Step.Construct [] no_chain ∷ Step.Complete no_chain ∷ []; methods = (m, method S m body_m 0 []) ∷ []; pre_destroy = no_chain }) ∷ [];
+      beans =
+          managed_bean S scopes.ApplicationScoped (record {
+            fields = [];
+            plan = Step.Construct [] no_chain ∷ Step.Complete no_chain ∷ [];
+            methods = (m, method S m body_m 0 []) ∷ [];
+            pre_destroy = no_chain;
+          }) ∷
+          [];
       interceptors = [];
       types = (S, One 0) ∷ [];
       written = [];
@@ -42,9 +49,29 @@ running_instance_is_not_destroyed_commands = Command.Boot ∷ Command.Call None 
 
 abbrev pub running_instance_is_not_destroyed_said : List Said
 running_instance_is_not_destroyed_said =
-    (record { entries = of_context built_in.Initialized (codes "ApplicationScoped") ∷ of_container built_in.Startup ∷ []; reply = replies.Done }) ∷
-    (record { entries = entries.New 1 (places.Class S) ∷ entries.Ready 1 ∷ entries.Run 1 (places.Member S m) ∷ entries.Did (acts.Find 0) ∷ entries.Did (acts.Destroy 0) ∷ entries.Did (acts.Throw (number_of built_in.IllegalStateException)) ∷ []; reply = replies.Threw (number_of built_in.IllegalStateException) }) ∷ []
+    (record {
+      entries =
+          of_context built_in.Initialized (codes "ApplicationScoped") ∷
+          of_container built_in.Startup ∷
+          [];
+      reply = replies.Done;
+    }) ∷
+    (record {
+      entries =
+          entries.New 1 (places.Class S) ∷
+          entries.Ready 1 ∷
+          entries.Run 1 (places.Member S m) ∷
+          entries.Did (acts.Find 0) ∷
+          entries.Did (acts.Destroy 0) ∷
+          entries.Did (acts.Throw (number_of built_in.IllegalStateException)) ∷
+          [];
+      reply = replies.Threw (number_of built_in.IllegalStateException);
+    }) ∷
+    []
 
 -- an instance with a running body is not idle
 abbrev pub running_instance_is_not_destroyed : Type 0
-running_instance_is_not_destroyed = Shows deployment first_chosen 100000 32 running_instance_is_not_destroyed_commands running_instance_is_not_destroyed_said
+running_instance_is_not_destroyed =
+    Shows deployment first_chosen 100000 32
+    running_instance_is_not_destroyed_commands
+    running_instance_is_not_destroyed_said

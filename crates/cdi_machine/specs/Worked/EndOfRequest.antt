@@ -39,11 +39,35 @@ body_d = 1
 abbrev pub deployment : Deployment
 deployment =
     record {
-      beans = managed_bean R scopes.RequestScoped (record { fields = []; plan = Step.Construct [] no_chain ∷ Step.Complete no_chain ∷ []; methods = []; pre_destroy = no_chain }) ∷ managed_bean A scopes.ApplicationScoped (record { fields = []; plan = Step.Construct [] no_chain ∷ Step.Complete no_chain ∷ []; methods = []; pre_destroy = no_chain }) ∷ [];
+      beans =
+          managed_bean R scopes.RequestScoped (record {
+            fields = [];
+            plan = Step.Construct [] no_chain ∷ Step.Complete no_chain ∷ [];
+            methods = [];
+            pre_destroy = no_chain;
+          }) ∷
+          managed_bean A scopes.ApplicationScoped (record {
+            fields = [];
+            plan = Step.Construct [] no_chain ∷ Step.Complete no_chain ∷ [];
+            methods = [];
+            pre_destroy = no_chain;
+          }) ∷
+          [];
       interceptors = [];
       types = (R, One 0) ∷ (A, One 1) ∷ [];
       written = [];
-      observed = (number_of built_in.Object, ((record { name = number_of built_in.BeforeDestroyed; members = record { name = number_of built_in.Value; value = values.Text (codes "RequestScoped") } ∷ [] }) ∷ []), ((record { bean = 0; member = member R o body_nop [] []; conditional = false }) ∷ []) ∷ []) ∷ (number_of built_in.Object, ((record { name = number_of built_in.Destroyed; members = record { name = number_of built_in.Value; value = values.Text (codes "RequestScoped") } ∷ [] }) ∷ []), ((record { bean = 1; member = member A d body_d [] []; conditional = false }) ∷ []) ∷ []) ∷ [];
+      observed = (
+        number_of built_in.Object,
+        ((record { name = number_of built_in.BeforeDestroyed; members = record { name = number_of built_in.Value; value = values.Text (codes "RequestScoped") } ∷ [] }) ∷ []),
+        ((record { bean = 0; member = member R o body_nop [] []; conditional = false }) ∷ []) ∷
+            [],
+      ) ∷ (
+        number_of built_in.Object,
+        ((record { name = number_of built_in.Destroyed; members = record { name = number_of built_in.Value; value = values.Text (codes "RequestScoped") } ∷ [] }) ∷ []),
+        ((record { bean = 1; member = member A d body_d [] []; conditional = false }) ∷ []) ∷
+            [],
+      ) ∷
+          [];
       events = [];
       scripts = ([], []) ∷ (find 0 ∷ destroy 0 ∷ [], of_type R ∷ []) ∷ [];
       checked = [];
@@ -51,14 +75,46 @@ deployment =
     }
 
 abbrev pub context_is_open_before_its_end_and_gone_behind_it_commands : List Command
-context_is_open_before_its_end_and_gone_behind_it_commands = Command.Boot ∷ Command.Begin r None ∷ Command.End r ∷ []
+context_is_open_before_its_end_and_gone_behind_it_commands =
+    Command.Boot ∷ Command.Begin r None ∷ Command.End r ∷ []
 
 abbrev pub context_is_open_before_its_end_and_gone_behind_it_said : List Said
 context_is_open_before_its_end_and_gone_behind_it_said =
-    (record { entries = of_context built_in.Initialized (codes "ApplicationScoped") ∷ of_container built_in.Startup ∷ []; reply = replies.Done }) ∷
-    (record { entries = of_context built_in.Initialized (codes "RequestScoped") ∷ []; reply = replies.Done }) ∷
-    (record { entries = of_context built_in.BeforeDestroyed (codes "RequestScoped") ∷ entries.New 1 (places.Class R) ∷ entries.Ready 1 ∷ entries.Run 1 (places.Member R o) ∷ entries.Did (acts.Give values.Null) ∷ entries.End 1 ∷ entries.Gone 1 ∷ of_context built_in.Destroyed (codes "RequestScoped") ∷ entries.New 2 (places.Class A) ∷ entries.Ready 2 ∷ entries.Run 2 (places.Member A d) ∷ entries.Did (acts.Find 0) ∷ entries.Did (acts.Destroy 0) ∷ entries.Did (acts.Throw (number_of built_in.ContextNotActiveException)) ∷ []; reply = replies.Done }) ∷ []
+    (record {
+      entries =
+          of_context built_in.Initialized (codes "ApplicationScoped") ∷
+          of_container built_in.Startup ∷
+          [];
+      reply = replies.Done;
+    }) ∷
+    (record {
+      entries = of_context built_in.Initialized (codes "RequestScoped") ∷ [];
+      reply = replies.Done;
+    }) ∷
+    (record {
+      entries =
+          of_context built_in.BeforeDestroyed (codes "RequestScoped") ∷
+          entries.New 1 (places.Class R) ∷
+          entries.Ready 1 ∷
+          entries.Run 1 (places.Member R o) ∷
+          entries.Did (acts.Give values.Null) ∷
+          entries.End 1 ∷
+          entries.Gone 1 ∷
+          of_context built_in.Destroyed (codes "RequestScoped") ∷
+          entries.New 2 (places.Class A) ∷
+          entries.Ready 2 ∷
+          entries.Run 2 (places.Member A d) ∷
+          entries.Did (acts.Find 0) ∷
+          entries.Did (acts.Destroy 0) ∷
+          entries.Did (acts.Throw (number_of built_in.ContextNotActiveException)) ∷
+          [];
+      reply = replies.Done;
+    }) ∷
+    []
 
 -- an instance can be made until the end begins, and in the last event the context is not active
 abbrev pub context_is_open_before_its_end_and_gone_behind_it : Type 0
-context_is_open_before_its_end_and_gone_behind_it = Shows deployment first_chosen 100000 32 context_is_open_before_its_end_and_gone_behind_it_commands context_is_open_before_its_end_and_gone_behind_it_said
+context_is_open_before_its_end_and_gone_behind_it =
+    Shows deployment first_chosen 100000 32
+    context_is_open_before_its_end_and_gone_behind_it_commands
+    context_is_open_before_its_end_and_gone_behind_it_said

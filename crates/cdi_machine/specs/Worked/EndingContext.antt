@@ -43,7 +43,24 @@ body_nop = 1
 abbrev pub deployment : Deployment
 deployment =
     record {
-      beans = managed_bean Y scopes.ApplicationScoped (record { fields = []; plan = Step.Construct [] no_chain ∷ Step.Inject x (of_type X) ∷ Step.Complete no_chain ∷ []; methods = (go, method Y go body_go 0 []) ∷ []; pre_destroy = (record { chain = []; callbacks = code Y bye body_go ∷ [] }) }) ∷ managed_bean X scopes.ApplicationScoped (record { fields = []; plan = Step.Construct [] no_chain ∷ Step.Complete no_chain ∷ []; methods = (m, method X m body_nop 0 []) ∷ []; pre_destroy = no_chain }) ∷ [];
+      beans =
+          managed_bean Y scopes.ApplicationScoped (record {
+            fields = [];
+            plan =
+                Step.Construct [] no_chain ∷
+                Step.Inject x (of_type X) ∷
+                Step.Complete no_chain ∷
+                [];
+            methods = (go, method Y go body_go 0 []) ∷ [];
+            pre_destroy = (record { chain = []; callbacks = code Y bye body_go ∷ [] });
+          }) ∷
+          managed_bean X scopes.ApplicationScoped (record {
+            fields = [];
+            plan = Step.Construct [] no_chain ∷ Step.Complete no_chain ∷ [];
+            methods = (m, method X m body_nop 0 []) ∷ [];
+            pre_destroy = no_chain;
+          }) ∷
+          [];
       interceptors = [];
       types = (Y, One 0) ∷ (X, One 1) ∷ [];
       written = [];
@@ -55,14 +72,52 @@ deployment =
     }
 
 abbrev pub nothing_is_made_in_an_ending_context_commands : List Command
-nothing_is_made_in_an_ending_context_commands = Command.Boot ∷ Command.Call None (of_type Y) go [] ∷ Command.Shutdown ∷ []
+nothing_is_made_in_an_ending_context_commands =
+    Command.Boot ∷ Command.Call None (of_type Y) go [] ∷ Command.Shutdown ∷ []
 
 abbrev pub nothing_is_made_in_an_ending_context_said : List Said
 nothing_is_made_in_an_ending_context_said =
-    (record { entries = of_context built_in.Initialized (codes "ApplicationScoped") ∷ of_container built_in.Startup ∷ []; reply = replies.Done }) ∷
-    (record { entries = entries.New 1 (places.Class Y) ∷ entries.Ready 1 ∷ entries.Run 1 (places.Member Y go) ∷ entries.Did (acts.Call (vias.Field x) m []) ∷ entries.New 2 (places.Class X) ∷ entries.Ready 2 ∷ entries.Run 2 (places.Member X m) ∷ entries.Did (acts.Give values.Null) ∷ entries.Did (acts.Give values.Null) ∷ []; reply = replies.Value values.Null }) ∷
-    (record { entries = of_container built_in.Shutdown ∷ of_context built_in.BeforeDestroyed (codes "ApplicationScoped") ∷ entries.End 2 ∷ entries.Gone 2 ∷ entries.End 1 ∷ entries.Run 1 (places.Member Y bye) ∷ entries.Did (acts.Call (vias.Field x) m []) ∷ entries.Did (acts.Throw (number_of built_in.ContextNotActiveException)) ∷ entries.Gone 1 ∷ of_context built_in.Destroyed (codes "ApplicationScoped") ∷ []; reply = replies.Done }) ∷ []
+    (record {
+      entries =
+          of_context built_in.Initialized (codes "ApplicationScoped") ∷
+          of_container built_in.Startup ∷
+          [];
+      reply = replies.Done;
+    }) ∷
+    (record {
+      entries =
+          entries.New 1 (places.Class Y) ∷
+          entries.Ready 1 ∷
+          entries.Run 1 (places.Member Y go) ∷
+          entries.Did (acts.Call (vias.Field x) m []) ∷
+          entries.New 2 (places.Class X) ∷
+          entries.Ready 2 ∷
+          entries.Run 2 (places.Member X m) ∷
+          entries.Did (acts.Give values.Null) ∷
+          entries.Did (acts.Give values.Null) ∷
+          [];
+      reply = replies.Value values.Null;
+    }) ∷
+    (record {
+      entries =
+          of_container built_in.Shutdown ∷
+          of_context built_in.BeforeDestroyed (codes "ApplicationScoped") ∷
+          entries.End 2 ∷
+          entries.Gone 2 ∷
+          entries.End 1 ∷
+          entries.Run 1 (places.Member Y bye) ∷
+          entries.Did (acts.Call (vias.Field x) m []) ∷
+          entries.Did (acts.Throw (number_of built_in.ContextNotActiveException)) ∷
+          entries.Gone 1 ∷
+          of_context built_in.Destroyed (codes "ApplicationScoped") ∷
+          [];
+      reply = replies.Done;
+    }) ∷
+    []
 
 -- no instance is made in a context that is ending
 abbrev pub nothing_is_made_in_an_ending_context : Type 0
-nothing_is_made_in_an_ending_context = Shows deployment first_chosen 100000 32 nothing_is_made_in_an_ending_context_commands nothing_is_made_in_an_ending_context_said
+nothing_is_made_in_an_ending_context =
+    Shows deployment first_chosen 100000 32
+    nothing_is_made_in_an_ending_context_commands
+    nothing_is_made_in_an_ending_context_said

@@ -43,7 +43,25 @@ body_nop = 1
 abbrev pub deployment : Deployment
 deployment =
     record {
-      beans = managed_bean A scopes.ApplicationScoped (record { fields = []; plan = Step.Construct [] no_chain ∷ Step.Inject d1 (of_type D) ∷ Step.Inject d2 (of_type D) ∷ Step.Complete (record { chain = []; callbacks = code A p body_p ∷ [] }) ∷ []; methods = (m, method A m body_nop 0 []) ∷ []; pre_destroy = no_chain }) ∷ managed_bean D scopes.Dependent (record { fields = []; plan = Step.Construct [] no_chain ∷ Step.Complete no_chain ∷ []; methods = []; pre_destroy = no_chain }) ∷ [];
+      beans =
+          managed_bean A scopes.ApplicationScoped (record {
+            fields = [];
+            plan =
+                Step.Construct [] no_chain ∷
+                Step.Inject d1 (of_type D) ∷
+                Step.Inject d2 (of_type D) ∷
+                Step.Complete (record { chain = []; callbacks = code A p body_p ∷ [] }) ∷
+                [];
+            methods = (m, method A m body_nop 0 []) ∷ [];
+            pre_destroy = no_chain;
+          }) ∷
+          managed_bean D scopes.Dependent (record {
+            fields = [];
+            plan = Step.Construct [] no_chain ∷ Step.Complete no_chain ∷ [];
+            methods = [];
+            pre_destroy = no_chain;
+          }) ∷
+          [];
       interceptors = [];
       types = (A, One 0) ∷ (D, One 1) ∷ [];
       written = [];
@@ -55,27 +73,117 @@ deployment =
     }
 
 abbrev pub failed_creation_releases_in_the_first_order_commands : List Command
-failed_creation_releases_in_the_first_order_commands = Command.Boot ∷ Command.Call None (of_type A) m [] ∷ Command.Call None (of_type A) m [] ∷ []
+failed_creation_releases_in_the_first_order_commands =
+    Command.Boot ∷ Command.Call None (of_type A) m [] ∷ Command.Call None (of_type A) m [] ∷ []
 
 abbrev pub failed_creation_releases_in_the_first_order_said : List Said
 failed_creation_releases_in_the_first_order_said =
-    (record { entries = of_context built_in.Initialized (codes "ApplicationScoped") ∷ of_container built_in.Startup ∷ []; reply = replies.Done }) ∷
-    (record { entries = entries.New 1 (places.Class A) ∷ entries.New 2 (places.Class D) ∷ entries.Ready 2 ∷ entries.New 3 (places.Class D) ∷ entries.Ready 3 ∷ entries.Run 1 (places.Member A p) ∷ entries.Did (acts.Throw Oops) ∷ entries.Pick 2 0 ∷ entries.End 2 ∷ entries.Gone 2 ∷ entries.End 3 ∷ entries.Gone 3 ∷ entries.Drop 1 ∷ []; reply = replies.Threw Oops }) ∷
-    (record { entries = entries.New 4 (places.Class A) ∷ entries.New 5 (places.Class D) ∷ entries.Ready 5 ∷ entries.New 6 (places.Class D) ∷ entries.Ready 6 ∷ entries.Run 4 (places.Member A p) ∷ entries.Did (acts.Throw Oops) ∷ entries.Pick 2 0 ∷ entries.End 5 ∷ entries.Gone 5 ∷ entries.End 6 ∷ entries.Gone 6 ∷ entries.Drop 4 ∷ []; reply = replies.Threw Oops }) ∷ []
+    (record {
+      entries =
+          of_context built_in.Initialized (codes "ApplicationScoped") ∷
+          of_container built_in.Startup ∷
+          [];
+      reply = replies.Done;
+    }) ∷
+    (record {
+      entries =
+          entries.New 1 (places.Class A) ∷
+          entries.New 2 (places.Class D) ∷
+          entries.Ready 2 ∷
+          entries.New 3 (places.Class D) ∷
+          entries.Ready 3 ∷
+          entries.Run 1 (places.Member A p) ∷
+          entries.Did (acts.Throw Oops) ∷
+          entries.Pick 2 0 ∷
+          entries.End 2 ∷
+          entries.Gone 2 ∷
+          entries.End 3 ∷
+          entries.Gone 3 ∷
+          entries.Drop 1 ∷
+          [];
+      reply = replies.Threw Oops;
+    }) ∷
+    (record {
+      entries =
+          entries.New 4 (places.Class A) ∷
+          entries.New 5 (places.Class D) ∷
+          entries.Ready 5 ∷
+          entries.New 6 (places.Class D) ∷
+          entries.Ready 6 ∷
+          entries.Run 4 (places.Member A p) ∷
+          entries.Did (acts.Throw Oops) ∷
+          entries.Pick 2 0 ∷
+          entries.End 5 ∷
+          entries.Gone 5 ∷
+          entries.End 6 ∷
+          entries.Gone 6 ∷
+          entries.Drop 4 ∷
+          [];
+      reply = replies.Threw Oops;
+    }) ∷
+    []
 
 -- the dependents are destroyed, and no pre-destroy runs
 abbrev pub failed_creation_releases_in_the_first_order : Type 0
-failed_creation_releases_in_the_first_order = Shows deployment first_chosen 100000 32 failed_creation_releases_in_the_first_order_commands failed_creation_releases_in_the_first_order_said
+failed_creation_releases_in_the_first_order =
+    Shows deployment first_chosen 100000 32
+    failed_creation_releases_in_the_first_order_commands
+    failed_creation_releases_in_the_first_order_said
 
 abbrev pub failed_creation_releases_in_the_last_order_commands : List Command
-failed_creation_releases_in_the_last_order_commands = Command.Boot ∷ Command.Call None (of_type A) m [] ∷ Command.Call None (of_type A) m [] ∷ []
+failed_creation_releases_in_the_last_order_commands =
+    Command.Boot ∷ Command.Call None (of_type A) m [] ∷ Command.Call None (of_type A) m [] ∷ []
 
 abbrev pub failed_creation_releases_in_the_last_order_said : List Said
 failed_creation_releases_in_the_last_order_said =
-    (record { entries = of_context built_in.Initialized (codes "ApplicationScoped") ∷ of_container built_in.Startup ∷ []; reply = replies.Done }) ∷
-    (record { entries = entries.New 1 (places.Class A) ∷ entries.New 2 (places.Class D) ∷ entries.Ready 2 ∷ entries.New 3 (places.Class D) ∷ entries.Ready 3 ∷ entries.Run 1 (places.Member A p) ∷ entries.Did (acts.Throw Oops) ∷ entries.Pick 2 1 ∷ entries.End 3 ∷ entries.Gone 3 ∷ entries.End 2 ∷ entries.Gone 2 ∷ entries.Drop 1 ∷ []; reply = replies.Threw Oops }) ∷
-    (record { entries = entries.New 4 (places.Class A) ∷ entries.New 5 (places.Class D) ∷ entries.Ready 5 ∷ entries.New 6 (places.Class D) ∷ entries.Ready 6 ∷ entries.Run 4 (places.Member A p) ∷ entries.Did (acts.Throw Oops) ∷ entries.Pick 2 1 ∷ entries.End 6 ∷ entries.Gone 6 ∷ entries.End 5 ∷ entries.Gone 5 ∷ entries.Drop 4 ∷ []; reply = replies.Threw Oops }) ∷ []
+    (record {
+      entries =
+          of_context built_in.Initialized (codes "ApplicationScoped") ∷
+          of_container built_in.Startup ∷
+          [];
+      reply = replies.Done;
+    }) ∷
+    (record {
+      entries =
+          entries.New 1 (places.Class A) ∷
+          entries.New 2 (places.Class D) ∷
+          entries.Ready 2 ∷
+          entries.New 3 (places.Class D) ∷
+          entries.Ready 3 ∷
+          entries.Run 1 (places.Member A p) ∷
+          entries.Did (acts.Throw Oops) ∷
+          entries.Pick 2 1 ∷
+          entries.End 3 ∷
+          entries.Gone 3 ∷
+          entries.End 2 ∷
+          entries.Gone 2 ∷
+          entries.Drop 1 ∷
+          [];
+      reply = replies.Threw Oops;
+    }) ∷
+    (record {
+      entries =
+          entries.New 4 (places.Class A) ∷
+          entries.New 5 (places.Class D) ∷
+          entries.Ready 5 ∷
+          entries.New 6 (places.Class D) ∷
+          entries.Ready 6 ∷
+          entries.Run 4 (places.Member A p) ∷
+          entries.Did (acts.Throw Oops) ∷
+          entries.Pick 2 1 ∷
+          entries.End 6 ∷
+          entries.Gone 6 ∷
+          entries.End 5 ∷
+          entries.Gone 5 ∷
+          entries.Drop 4 ∷
+          [];
+      reply = replies.Threw Oops;
+    }) ∷
+    []
 
 -- the same with the last candidate picked
 abbrev pub failed_creation_releases_in_the_last_order : Type 0
-failed_creation_releases_in_the_last_order = Shows deployment last_chosen 100000 32 failed_creation_releases_in_the_last_order_commands failed_creation_releases_in_the_last_order_said
+failed_creation_releases_in_the_last_order =
+    Shows deployment last_chosen 100000 32
+    failed_creation_releases_in_the_last_order_commands
+    failed_creation_releases_in_the_last_order_said

@@ -25,7 +25,14 @@ body_nop = 0
 abbrev pub deployment : Deployment
 deployment =
     record {
-      beans = managed_bean S scopes.SessionScoped (record { fields = []; plan = Step.Construct [] no_chain ∷ Step.Complete no_chain ∷ []; methods = (m, method S m body_nop 0 []) ∷ []; pre_destroy = no_chain }) ∷ [];
+      beans =
+          managed_bean S scopes.SessionScoped (record {
+            fields = [];
+            plan = Step.Construct [] no_chain ∷ Step.Complete no_chain ∷ [];
+            methods = (m, method S m body_nop 0 []) ∷ [];
+            pre_destroy = no_chain;
+          }) ∷
+          [];
       interceptors = [];
       types = (S, One 0) ∷ [];
       written = [];
@@ -37,14 +44,31 @@ deployment =
     }
 
 abbrev pub no_context_no_instance_commands : List Command
-no_context_no_instance_commands = Command.Boot ∷ Command.Begin r None ∷ Command.Call (Some r) (of_type S) m [] ∷ []
+no_context_no_instance_commands =
+    Command.Boot ∷ Command.Begin r None ∷ Command.Call (Some r) (of_type S) m [] ∷ []
 
 abbrev pub no_context_no_instance_said : List Said
 no_context_no_instance_said =
-    (record { entries = of_context built_in.Initialized (codes "ApplicationScoped") ∷ of_container built_in.Startup ∷ []; reply = replies.Done }) ∷
-    (record { entries = of_context built_in.Initialized (codes "RequestScoped") ∷ []; reply = replies.Done }) ∷
-    (record { entries = []; reply = replies.Threw (number_of built_in.ContextNotActiveException) }) ∷ []
+    (record {
+      entries =
+          of_context built_in.Initialized (codes "ApplicationScoped") ∷
+          of_container built_in.Startup ∷
+          [];
+      reply = replies.Done;
+    }) ∷
+    (record {
+      entries = of_context built_in.Initialized (codes "RequestScoped") ∷ [];
+      reply = replies.Done;
+    }) ∷
+    (record {
+      entries = [];
+      reply = replies.Threw (number_of built_in.ContextNotActiveException);
+    }) ∷
+    []
 
 -- no instance where no context of the scope is active
 abbrev pub no_context_no_instance : Type 0
-no_context_no_instance = Shows deployment first_chosen 100000 32 no_context_no_instance_commands no_context_no_instance_said
+no_context_no_instance =
+    Shows deployment first_chosen 100000 32
+    no_context_no_instance_commands
+    no_context_no_instance_said

@@ -38,7 +38,19 @@ body_nop = 1
 abbrev pub deployment : Deployment
 deployment =
     record {
-      beans = managed_bean M scopes.RequestScoped (record { fields = []; plan = Step.Construct [] no_chain ∷ Step.Complete no_chain ∷ []; methods = []; pre_destroy = no_chain }) ∷ product_bean M mk scopes.ApplicationScoped (record { declaring = 0; source = Source.ProducerMethod (member M mk body_mk [] []); disposers = member M del body_nop [] [] ∷ [] }) ∷ [];
+      beans =
+          managed_bean M scopes.RequestScoped (record {
+            fields = [];
+            plan = Step.Construct [] no_chain ∷ Step.Complete no_chain ∷ [];
+            methods = [];
+            pre_destroy = no_chain;
+          }) ∷
+          product_bean M mk scopes.ApplicationScoped (record {
+            declaring = 0;
+            source = Source.ProducerMethod (member M mk body_mk [] []);
+            disposers = member M del body_nop [] [] ∷ [];
+          }) ∷
+          [];
       interceptors = [];
       types = (T, One 1) ∷ [];
       written = [];
@@ -50,16 +62,62 @@ deployment =
     }
 
 abbrev pub disposer_without_receiver_is_not_run_commands : List Command
-disposer_without_receiver_is_not_run_commands = Command.Boot ∷ Command.Begin r None ∷ Command.Read (Some r) (of_type T) ∷ Command.End r ∷ Command.Shutdown ∷ []
+disposer_without_receiver_is_not_run_commands =
+    Command.Boot ∷
+    Command.Begin r None ∷
+    Command.Read (Some r) (of_type T) ∷
+    Command.End r ∷
+    Command.Shutdown ∷
+    []
 
 abbrev pub disposer_without_receiver_is_not_run_said : List Said
 disposer_without_receiver_is_not_run_said =
-    (record { entries = of_context built_in.Initialized (codes "ApplicationScoped") ∷ of_container built_in.Startup ∷ []; reply = replies.Done }) ∷
-    (record { entries = of_context built_in.Initialized (codes "RequestScoped") ∷ []; reply = replies.Done }) ∷
-    (record { entries = entries.New 1 (places.Member M mk) ∷ entries.New 2 (places.Class M) ∷ entries.Ready 2 ∷ entries.Run 2 (places.Member M mk) ∷ entries.Did (acts.Give (values.Int (pos 3))) ∷ entries.Ready 1 ∷ []; reply = replies.Value (values.Int (pos 3)) }) ∷
-    (record { entries = of_context built_in.BeforeDestroyed (codes "RequestScoped") ∷ entries.End 2 ∷ entries.Gone 2 ∷ of_context built_in.Destroyed (codes "RequestScoped") ∷ []; reply = replies.Done }) ∷
-    (record { entries = of_container built_in.Shutdown ∷ of_context built_in.BeforeDestroyed (codes "ApplicationScoped") ∷ entries.End 1 ∷ entries.Gone 1 ∷ of_context built_in.Destroyed (codes "ApplicationScoped") ∷ []; reply = replies.Done }) ∷ []
+    (record {
+      entries =
+          of_context built_in.Initialized (codes "ApplicationScoped") ∷
+          of_container built_in.Startup ∷
+          [];
+      reply = replies.Done;
+    }) ∷
+    (record {
+      entries = of_context built_in.Initialized (codes "RequestScoped") ∷ [];
+      reply = replies.Done;
+    }) ∷
+    (record {
+      entries =
+          entries.New 1 (places.Member M mk) ∷
+          entries.New 2 (places.Class M) ∷
+          entries.Ready 2 ∷
+          entries.Run 2 (places.Member M mk) ∷
+          entries.Did (acts.Give (values.Int (pos 3))) ∷
+          entries.Ready 1 ∷
+          [];
+      reply = replies.Value (values.Int (pos 3));
+    }) ∷
+    (record {
+      entries =
+          of_context built_in.BeforeDestroyed (codes "RequestScoped") ∷
+          entries.End 2 ∷
+          entries.Gone 2 ∷
+          of_context built_in.Destroyed (codes "RequestScoped") ∷
+          [];
+      reply = replies.Done;
+    }) ∷
+    (record {
+      entries =
+          of_container built_in.Shutdown ∷
+          of_context built_in.BeforeDestroyed (codes "ApplicationScoped") ∷
+          entries.End 1 ∷
+          entries.Gone 1 ∷
+          of_context built_in.Destroyed (codes "ApplicationScoped") ∷
+          [];
+      reply = replies.Done;
+    }) ∷
+    []
 
 -- the product is destroyed, and its disposer is not run
 abbrev pub disposer_without_receiver_is_not_run : Type 0
-disposer_without_receiver_is_not_run = Shows deployment first_chosen 100000 32 disposer_without_receiver_is_not_run_commands disposer_without_receiver_is_not_run_said
+disposer_without_receiver_is_not_run =
+    Shows deployment first_chosen 100000 32
+    disposer_without_receiver_is_not_run_commands
+    disposer_without_receiver_is_not_run_said

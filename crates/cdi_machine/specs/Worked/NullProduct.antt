@@ -29,7 +29,19 @@ body_nop = 0
 abbrev pub deployment : Deployment
 deployment =
     record {
-      beans = managed_bean M scopes.ApplicationScoped (record { fields = []; plan = Step.Construct [] no_chain ∷ Step.Complete no_chain ∷ []; methods = []; pre_destroy = no_chain }) ∷ product_bean M mk scopes.Dependent (record { declaring = 0; source = Source.ProducerMethod (member M mk body_nop [] []); disposers = [] }) ∷ [];
+      beans =
+          managed_bean M scopes.ApplicationScoped (record {
+            fields = [];
+            plan = Step.Construct [] no_chain ∷ Step.Complete no_chain ∷ [];
+            methods = [];
+            pre_destroy = no_chain;
+          }) ∷
+          product_bean M mk scopes.Dependent (record {
+            declaring = 0;
+            source = Source.ProducerMethod (member M mk body_nop [] []);
+            disposers = [];
+          }) ∷
+          [];
       interceptors = [];
       types = (T, One 1) ∷ [];
       written = [];
@@ -45,9 +57,29 @@ null_product_is_an_empty_reference_commands = Command.Boot ∷ Command.Read None
 
 abbrev pub null_product_is_an_empty_reference_said : List Said
 null_product_is_an_empty_reference_said =
-    (record { entries = of_context built_in.Initialized (codes "ApplicationScoped") ∷ of_container built_in.Startup ∷ []; reply = replies.Done }) ∷
-    (record { entries = entries.New 1 (places.Member M mk) ∷ entries.New 2 (places.Class M) ∷ entries.Ready 2 ∷ entries.Run 2 (places.Member M mk) ∷ entries.Did (acts.Give values.Null) ∷ entries.Drop 1 ∷ []; reply = replies.Threw (number_of built_in.NullPointerException) }) ∷ []
+    (record {
+      entries =
+          of_context built_in.Initialized (codes "ApplicationScoped") ∷
+          of_container built_in.Startup ∷
+          [];
+      reply = replies.Done;
+    }) ∷
+    (record {
+      entries =
+          entries.New 1 (places.Member M mk) ∷
+          entries.New 2 (places.Class M) ∷
+          entries.Ready 2 ∷
+          entries.Run 2 (places.Member M mk) ∷
+          entries.Did (acts.Give values.Null) ∷
+          entries.Drop 1 ∷
+          [];
+      reply = replies.Threw (number_of built_in.NullPointerException);
+    }) ∷
+    []
 
 -- the product is dropped, and the reference is empty
 abbrev pub null_product_is_an_empty_reference : Type 0
-null_product_is_an_empty_reference = Shows deployment first_chosen 100000 32 null_product_is_an_empty_reference_commands null_product_is_an_empty_reference_said
+null_product_is_an_empty_reference =
+    Shows deployment first_chosen 100000 32
+    null_product_is_an_empty_reference_commands
+    null_product_is_an_empty_reference_said

@@ -32,8 +32,22 @@ body_nop = 0
 abbrev pub deployment : Deployment
 deployment =
     record {
-      beans = managed_bean C scopes.ApplicationScoped (record { fields = []; plan = Step.Intercept 0 ∷ Step.Construct [] no_chain ∷ Step.Complete no_chain ∷ []; methods = (m, method C m body_nop 0 []) ∷ []; pre_destroy = (record { chain = 0 ∷ []; callbacks = code C bye body_nop ∷ [] }) }) ∷ [];
-      interceptors = record { name = J; fields = []; injected = []; body = by_role None None None (Some body_nop) } ∷ [];
+      beans =
+          managed_bean C scopes.ApplicationScoped (record {
+            fields = [];
+            plan = Step.Intercept 0 ∷ Step.Construct [] no_chain ∷ Step.Complete no_chain ∷ [];
+            methods = (m, method C m body_nop 0 []) ∷ [];
+            pre_destroy = (record { chain = 0 ∷ []; callbacks = code C bye body_nop ∷ [] });
+          }) ∷
+          [];
+      interceptors =
+          record {
+            name = J;
+            fields = [];
+            injected = [];
+            body = by_role None None None (Some body_nop);
+          } ∷
+          [];
       types = (C, One 0) ∷ [];
       written = [];
       observed = [];
@@ -44,14 +58,48 @@ deployment =
     }
 
 abbrev pub pre_destroy_goes_through_its_chain_commands : List Command
-pre_destroy_goes_through_its_chain_commands = Command.Boot ∷ Command.Call None (of_type C) m [] ∷ Command.Shutdown ∷ []
+pre_destroy_goes_through_its_chain_commands =
+    Command.Boot ∷ Command.Call None (of_type C) m [] ∷ Command.Shutdown ∷ []
 
 abbrev pub pre_destroy_goes_through_its_chain_said : List Said
 pre_destroy_goes_through_its_chain_said =
-    (record { entries = of_context built_in.Initialized (codes "ApplicationScoped") ∷ of_container built_in.Startup ∷ []; reply = replies.Done }) ∷
-    (record { entries = entries.New 1 (places.Class C) ∷ entries.New 2 (places.Class J) ∷ entries.Ready 2 ∷ entries.Ready 1 ∷ entries.Run 1 (places.Member C m) ∷ entries.Did (acts.Give values.Null) ∷ []; reply = replies.Value values.Null }) ∷
-    (record { entries = of_container built_in.Shutdown ∷ of_context built_in.BeforeDestroyed (codes "ApplicationScoped") ∷ entries.End 1 ∷ entries.Run 2 (places.Interceptor J roles.PreDestroy) ∷ entries.Did (acts.Give values.Null) ∷ entries.End 2 ∷ entries.Gone 2 ∷ entries.Gone 1 ∷ of_context built_in.Destroyed (codes "ApplicationScoped") ∷ []; reply = replies.Done }) ∷ []
+    (record {
+      entries =
+          of_context built_in.Initialized (codes "ApplicationScoped") ∷
+          of_container built_in.Startup ∷
+          [];
+      reply = replies.Done;
+    }) ∷
+    (record {
+      entries =
+          entries.New 1 (places.Class C) ∷
+          entries.New 2 (places.Class J) ∷
+          entries.Ready 2 ∷
+          entries.Ready 1 ∷
+          entries.Run 1 (places.Member C m) ∷
+          entries.Did (acts.Give values.Null) ∷
+          [];
+      reply = replies.Value values.Null;
+    }) ∷
+    (record {
+      entries =
+          of_container built_in.Shutdown ∷
+          of_context built_in.BeforeDestroyed (codes "ApplicationScoped") ∷
+          entries.End 1 ∷
+          entries.Run 2 (places.Interceptor J roles.PreDestroy) ∷
+          entries.Did (acts.Give values.Null) ∷
+          entries.End 2 ∷
+          entries.Gone 2 ∷
+          entries.Gone 1 ∷
+          of_context built_in.Destroyed (codes "ApplicationScoped") ∷
+          [];
+      reply = replies.Done;
+    }) ∷
+    []
 
 -- the chain stands between the end and the dependents
 abbrev pub pre_destroy_goes_through_its_chain : Type 0
-pre_destroy_goes_through_its_chain = Shows deployment first_chosen 100000 32 pre_destroy_goes_through_its_chain_commands pre_destroy_goes_through_its_chain_said
+pre_destroy_goes_through_its_chain =
+    Shows deployment first_chosen 100000 32
+    pre_destroy_goes_through_its_chain_commands
+    pre_destroy_goes_through_its_chain_said

@@ -37,8 +37,26 @@ body_post = 1
 abbrev pub deployment : Deployment
 deployment =
     record {
-      beans = managed_bean C scopes.ApplicationScoped (record { fields = []; plan = Step.Intercept 0 ∷ Step.Construct [] no_chain ∷ Step.Complete (record { chain = 0 ∷ []; callbacks = code C p body_nop ∷ [] }) ∷ []; methods = (m, method C m body_nop 0 []) ∷ []; pre_destroy = no_chain }) ∷ [];
-      interceptors = record { name = J; fields = []; injected = []; body = by_role None None (Some body_post) None } ∷ [];
+      beans =
+          managed_bean C scopes.ApplicationScoped (record {
+            fields = [];
+            plan =
+                Step.Intercept 0 ∷
+                Step.Construct [] no_chain ∷
+                Step.Complete (record { chain = 0 ∷ []; callbacks = code C p body_nop ∷ [] }) ∷
+                [];
+            methods = (m, method C m body_nop 0 []) ∷ [];
+            pre_destroy = no_chain;
+          }) ∷
+          [];
+      interceptors =
+          record {
+            name = J;
+            fields = [];
+            injected = [];
+            body = by_role None None (Some body_post) None;
+          } ∷
+          [];
       types = (C, One 0) ∷ [];
       written = [];
       observed = [];
@@ -53,9 +71,35 @@ lifecycle_chain_proceeds_once_commands = Command.Boot ∷ Command.Call None (of_
 
 abbrev pub lifecycle_chain_proceeds_once_said : List Said
 lifecycle_chain_proceeds_once_said =
-    (record { entries = of_context built_in.Initialized (codes "ApplicationScoped") ∷ of_container built_in.Startup ∷ []; reply = replies.Done }) ∷
-    (record { entries = entries.New 1 (places.Class C) ∷ entries.New 2 (places.Class J) ∷ entries.Ready 2 ∷ entries.Run 2 (places.Interceptor J roles.PostConstruct) ∷ entries.Did (acts.Proceed None) ∷ entries.Run 1 (places.Member C p) ∷ entries.Did (acts.Give values.Null) ∷ entries.Did (acts.Proceed None) ∷ entries.Did (acts.Throw (number_of built_in.IllegalStateException)) ∷ entries.End 2 ∷ entries.Gone 2 ∷ entries.Drop 1 ∷ []; reply = replies.Threw (number_of built_in.IllegalStateException) }) ∷ []
+    (record {
+      entries =
+          of_context built_in.Initialized (codes "ApplicationScoped") ∷
+          of_container built_in.Startup ∷
+          [];
+      reply = replies.Done;
+    }) ∷
+    (record {
+      entries =
+          entries.New 1 (places.Class C) ∷
+          entries.New 2 (places.Class J) ∷
+          entries.Ready 2 ∷
+          entries.Run 2 (places.Interceptor J roles.PostConstruct) ∷
+          entries.Did (acts.Proceed None) ∷
+          entries.Run 1 (places.Member C p) ∷
+          entries.Did (acts.Give values.Null) ∷
+          entries.Did (acts.Proceed None) ∷
+          entries.Did (acts.Throw (number_of built_in.IllegalStateException)) ∷
+          entries.End 2 ∷
+          entries.Gone 2 ∷
+          entries.Drop 1 ∷
+          [];
+      reply = replies.Threw (number_of built_in.IllegalStateException);
+    }) ∷
+    []
 
 -- the second proceed of a lifecycle chain is refused
 abbrev pub lifecycle_chain_proceeds_once : Type 0
-lifecycle_chain_proceeds_once = Shows deployment first_chosen 100000 32 lifecycle_chain_proceeds_once_commands lifecycle_chain_proceeds_once_said
+lifecycle_chain_proceeds_once =
+    Shows deployment first_chosen 100000 32
+    lifecycle_chain_proceeds_once_commands
+    lifecycle_chain_proceeds_once_said

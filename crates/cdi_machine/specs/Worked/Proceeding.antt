@@ -48,25 +48,118 @@ body_i3 = 3
 abbrev pub deployment : Deployment
 deployment =
     record {
-      beans = managed_bean T scopes.ApplicationScoped (record { fields = []; plan = Step.Intercept 0 ∷ Step.Intercept 1 ∷ Step.Intercept 2 ∷ Step.Construct [] no_chain ∷ Step.Complete no_chain ∷ []; methods = (m, method T m body_m 1 (0 ∷ 1 ∷ 2 ∷ [])) ∷ []; pre_destroy = no_chain }) ∷ [];
-      interceptors = record { name = I1; fields = []; injected = []; body = by_role (Some body_i1) None None None } ∷ record { name = I2; fields = []; injected = []; body = by_role (Some body_i2) None None None } ∷ record { name = I3; fields = []; injected = []; body = by_role (Some body_i3) None None None } ∷ [];
+      beans =
+          managed_bean T scopes.ApplicationScoped (record {
+            fields = [];
+            plan =
+                Step.Intercept 0 ∷
+                Step.Intercept 1 ∷
+                Step.Intercept 2 ∷
+                Step.Construct [] no_chain ∷
+                Step.Complete no_chain ∷
+                [];
+            methods = (m, method T m body_m 1 (0 ∷ 1 ∷ 2 ∷ [])) ∷ [];
+            pre_destroy = no_chain;
+          }) ∷
+          [];
+      interceptors =
+          record {
+            name = I1;
+            fields = [];
+            injected = [];
+            body = by_role (Some body_i1) None None None;
+          } ∷
+          record {
+            name = I2;
+            fields = [];
+            injected = [];
+            body = by_role (Some body_i2) None None None;
+          } ∷
+          record {
+            name = I3;
+            fields = [];
+            injected = [];
+            body = by_role (Some body_i3) None None None;
+          } ∷
+          [];
       types = (T, One 0) ∷ [];
       written = [];
       observed = [];
       events = [];
-      scripts = (throw Bad ∷ [], []) ∷ (proceed ∷ catch (proceed) ∷ catch (give (Plain (values.Int (pos 7)))) ∷ give Last ∷ [], []) ∷ (proceed_with [] ∷ catch (proceed_with (Plain (values.Int (pos 5)) ∷ [])) ∷ give Last ∷ [], []) ∷ (proceed ∷ give Last ∷ [], []) ∷ [];
+      scripts =
+          (throw Bad ∷ [], []) ∷ (
+            proceed ∷
+                catch (proceed) ∷
+                catch (give (Plain (values.Int (pos 7)))) ∷
+                give Last ∷
+                [],
+            [],
+          ) ∷ (
+            proceed_with [] ∷
+                catch (proceed_with (Plain (values.Int (pos 5)) ∷ [])) ∷
+                give Last ∷
+                [],
+            [],
+          ) ∷
+          (proceed ∷ give Last ∷ [], []) ∷
+          [];
       checked = [];
       texts = [];
     }
 
 abbrev pub proceeds_again_with_other_values_commands : List Command
-proceeds_again_with_other_values_commands = Command.Boot ∷ Command.Call None (of_type T) m (values.Int (pos 1) ∷ []) ∷ []
+proceeds_again_with_other_values_commands =
+    Command.Boot ∷ Command.Call None (of_type T) m (values.Int (pos 1) ∷ []) ∷ []
 
 abbrev pub proceeds_again_with_other_values_said : List Said
 proceeds_again_with_other_values_said =
-    (record { entries = of_context built_in.Initialized (codes "ApplicationScoped") ∷ of_container built_in.Startup ∷ []; reply = replies.Done }) ∷
-    (record { entries = entries.New 1 (places.Class T) ∷ entries.New 2 (places.Class I1) ∷ entries.Ready 2 ∷ entries.New 3 (places.Class I2) ∷ entries.Ready 3 ∷ entries.New 4 (places.Class I3) ∷ entries.Ready 4 ∷ entries.Ready 1 ∷ entries.Run 2 (places.Interceptor I1 roles.AroundInvoke) ∷ entries.Did (acts.Proceed None) ∷ entries.Run 3 (places.Interceptor I2 roles.AroundInvoke) ∷ entries.Did (acts.Proceed (Some [])) ∷ entries.Did (acts.Proceed (Some (values.Int (pos 5) ∷ []))) ∷ entries.Run 4 (places.Interceptor I3 roles.AroundInvoke) ∷ entries.Did (acts.Proceed None) ∷ entries.Run 1 (places.Member T m) ∷ entries.Did (acts.Throw Bad) ∷ entries.Did (acts.Throw Bad) ∷ entries.Did (acts.Throw Bad) ∷ entries.Did (acts.Proceed None) ∷ entries.Run 3 (places.Interceptor I2 roles.AroundInvoke) ∷ entries.Did (acts.Proceed (Some [])) ∷ entries.Did (acts.Proceed (Some (values.Int (pos 5) ∷ []))) ∷ entries.Run 4 (places.Interceptor I3 roles.AroundInvoke) ∷ entries.Did (acts.Proceed None) ∷ entries.Run 1 (places.Member T m) ∷ entries.Did (acts.Throw Bad) ∷ entries.Did (acts.Throw Bad) ∷ entries.Did (acts.Throw Bad) ∷ entries.Did (acts.Give (values.Int (pos 7))) ∷ []; reply = replies.Value (values.Int (pos 7)) }) ∷ []
+    (record {
+      entries =
+          of_context built_in.Initialized (codes "ApplicationScoped") ∷
+          of_container built_in.Startup ∷
+          [];
+      reply = replies.Done;
+    }) ∷
+    (record {
+      entries =
+          entries.New 1 (places.Class T) ∷
+          entries.New 2 (places.Class I1) ∷
+          entries.Ready 2 ∷
+          entries.New 3 (places.Class I2) ∷
+          entries.Ready 3 ∷
+          entries.New 4 (places.Class I3) ∷
+          entries.Ready 4 ∷
+          entries.Ready 1 ∷
+          entries.Run 2 (places.Interceptor I1 roles.AroundInvoke) ∷
+          entries.Did (acts.Proceed None) ∷
+          entries.Run 3 (places.Interceptor I2 roles.AroundInvoke) ∷
+          entries.Did (acts.Proceed (Some [])) ∷
+          entries.Did (acts.Proceed (Some (values.Int (pos 5) ∷ []))) ∷
+          entries.Run 4 (places.Interceptor I3 roles.AroundInvoke) ∷
+          entries.Did (acts.Proceed None) ∷
+          entries.Run 1 (places.Member T m) ∷
+          entries.Did (acts.Throw Bad) ∷
+          entries.Did (acts.Throw Bad) ∷
+          entries.Did (acts.Throw Bad) ∷
+          entries.Did (acts.Proceed None) ∷
+          entries.Run 3 (places.Interceptor I2 roles.AroundInvoke) ∷
+          entries.Did (acts.Proceed (Some [])) ∷
+          entries.Did (acts.Proceed (Some (values.Int (pos 5) ∷ []))) ∷
+          entries.Run 4 (places.Interceptor I3 roles.AroundInvoke) ∷
+          entries.Did (acts.Proceed None) ∷
+          entries.Run 1 (places.Member T m) ∷
+          entries.Did (acts.Throw Bad) ∷
+          entries.Did (acts.Throw Bad) ∷
+          entries.Did (acts.Throw Bad) ∷
+          entries.Did (acts.Give (values.Int (pos 7))) ∷
+          [];
+      reply = replies.Value (values.Int (pos 7));
+    }) ∷
+    []
 
 -- a proceed runs the rest of the chain each time, with the values given last
 abbrev pub proceeds_again_with_other_values : Type 0
-proceeds_again_with_other_values = Shows deployment first_chosen 100000 32 proceeds_again_with_other_values_commands proceeds_again_with_other_values_said
+proceeds_again_with_other_values =
+    Shows deployment first_chosen 100000 32
+    proceeds_again_with_other_values_commands
+    proceeds_again_with_other_values_said

@@ -27,7 +27,14 @@ body_a = 0
 abbrev pub deployment : Deployment
 deployment =
     record {
-      beans = managed_bean K scopes.ApplicationScoped (record { fields = []; plan = Step.Construct [] no_chain ∷ Step.Complete no_chain ∷ []; methods = (a, method K a body_a 0 []) ∷ []; pre_destroy = no_chain }) ∷ [];
+      beans =
+          managed_bean K scopes.ApplicationScoped (record {
+            fields = [];
+            plan = Step.Construct [] no_chain ∷ Step.Complete no_chain ∷ [];
+            methods = (a, method K a body_a 0 []) ∷ [];
+            pre_destroy = no_chain;
+          }) ∷
+          [];
       interceptors = [];
       types = (K, One 0) ∷ [];
       written = [];
@@ -39,14 +46,94 @@ deployment =
     }
 
 abbrev pub self_call_is_cut_at_the_last_level_commands : List Command
-self_call_is_cut_at_the_last_level_commands = Command.Boot ∷ Command.Call None (of_type K) a [] ∷ Command.Call None (of_type K) a [] ∷ []
+self_call_is_cut_at_the_last_level_commands =
+    Command.Boot ∷ Command.Call None (of_type K) a [] ∷ Command.Call None (of_type K) a [] ∷ []
 
 abbrev pub self_call_is_cut_at_the_last_level_said : List Said
 self_call_is_cut_at_the_last_level_said =
-    (record { entries = of_context built_in.Initialized (codes "ApplicationScoped") ∷ of_container built_in.Startup ∷ []; reply = replies.Done }) ∷
-    (record { entries = entries.New 1 (places.Class K) ∷ entries.Ready 1 ∷ entries.Run 1 (places.Member K a) ∷ entries.Did (acts.Own a []) ∷ entries.Run 1 (places.Member K a) ∷ entries.Did (acts.Own a []) ∷ entries.Run 1 (places.Member K a) ∷ entries.Did (acts.Own a []) ∷ entries.Run 1 (places.Member K a) ∷ entries.Did (acts.Own a []) ∷ entries.Run 1 (places.Member K a) ∷ entries.Did (acts.Own a []) ∷ entries.Run 1 (places.Member K a) ∷ entries.Did (acts.Own a []) ∷ entries.Run 1 (places.Member K a) ∷ entries.Did (acts.Own a []) ∷ entries.Run 1 (places.Member K a) ∷ entries.Did (acts.Own a []) ∷ entries.Run 1 (places.Member K a) ∷ entries.Did (acts.Own a []) ∷ entries.Run 1 (places.Member K a) ∷ entries.Did (acts.Own a []) ∷ entries.Run 1 (places.Member K a) ∷ entries.Did (acts.Own a []) ∷ entries.Run 1 (places.Member K a) ∷ entries.Did (acts.Own a []) ∷ entries.Run 1 (places.Member K a) ∷ entries.Did (acts.Own a []) ∷ entries.Run 1 (places.Member K a) ∷ entries.Did (acts.Own a []) ∷ entries.Run 1 (places.Member K a) ∷ entries.Did (acts.Own a []) ∷ entries.Run 1 (places.Member K a) ∷ entries.Did (acts.Own a []) ∷ entries.Run 1 (places.Member K a) ∷ entries.Did (acts.Own a []) ∷ entries.Run 1 (places.Member K a) ∷ entries.Did (acts.Own a []) ∷ entries.Run 1 (places.Member K a) ∷ entries.Did (acts.Own a []) ∷ entries.Run 1 (places.Member K a) ∷ entries.Did (acts.Own a []) ∷ entries.Run 1 (places.Member K a) ∷ entries.Did (acts.Own a []) ∷ entries.Run 1 (places.Member K a) ∷ entries.Did (acts.Own a []) ∷ entries.Run 1 (places.Member K a) ∷ entries.Did (acts.Own a []) ∷ entries.Run 1 (places.Member K a) ∷ entries.Did (acts.Own a []) ∷ entries.Run 1 (places.Member K a) ∷ entries.Did (acts.Own a []) ∷ entries.Run 1 (places.Member K a) ∷ entries.Did (acts.Own a []) ∷ entries.Run 1 (places.Member K a) ∷ entries.Did (acts.Own a []) ∷ entries.Run 1 (places.Member K a) ∷ entries.Did (acts.Own a []) ∷ entries.Run 1 (places.Member K a) ∷ entries.Did (acts.Own a []) ∷ entries.Run 1 (places.Member K a) ∷ entries.Did (acts.Own a []) ∷ entries.Run 1 (places.Member K a) ∷ entries.Did (acts.Own a []) ∷ entries.Run 1 (places.Member K a) ∷ entries.Did (acts.Own a []) ∷ []; reply = replies.Halted causes.Depth }) ∷
+    (record {
+      entries =
+          of_context built_in.Initialized (codes "ApplicationScoped") ∷
+          of_container built_in.Startup ∷
+          [];
+      reply = replies.Done;
+    }) ∷
+    (record {
+      entries =
+          entries.New 1 (places.Class K) ∷
+          entries.Ready 1 ∷
+          entries.Run 1 (places.Member K a) ∷
+          entries.Did (acts.Own a []) ∷
+          entries.Run 1 (places.Member K a) ∷
+          entries.Did (acts.Own a []) ∷
+          entries.Run 1 (places.Member K a) ∷
+          entries.Did (acts.Own a []) ∷
+          entries.Run 1 (places.Member K a) ∷
+          entries.Did (acts.Own a []) ∷
+          entries.Run 1 (places.Member K a) ∷
+          entries.Did (acts.Own a []) ∷
+          entries.Run 1 (places.Member K a) ∷
+          entries.Did (acts.Own a []) ∷
+          entries.Run 1 (places.Member K a) ∷
+          entries.Did (acts.Own a []) ∷
+          entries.Run 1 (places.Member K a) ∷
+          entries.Did (acts.Own a []) ∷
+          entries.Run 1 (places.Member K a) ∷
+          entries.Did (acts.Own a []) ∷
+          entries.Run 1 (places.Member K a) ∷
+          entries.Did (acts.Own a []) ∷
+          entries.Run 1 (places.Member K a) ∷
+          entries.Did (acts.Own a []) ∷
+          entries.Run 1 (places.Member K a) ∷
+          entries.Did (acts.Own a []) ∷
+          entries.Run 1 (places.Member K a) ∷
+          entries.Did (acts.Own a []) ∷
+          entries.Run 1 (places.Member K a) ∷
+          entries.Did (acts.Own a []) ∷
+          entries.Run 1 (places.Member K a) ∷
+          entries.Did (acts.Own a []) ∷
+          entries.Run 1 (places.Member K a) ∷
+          entries.Did (acts.Own a []) ∷
+          entries.Run 1 (places.Member K a) ∷
+          entries.Did (acts.Own a []) ∷
+          entries.Run 1 (places.Member K a) ∷
+          entries.Did (acts.Own a []) ∷
+          entries.Run 1 (places.Member K a) ∷
+          entries.Did (acts.Own a []) ∷
+          entries.Run 1 (places.Member K a) ∷
+          entries.Did (acts.Own a []) ∷
+          entries.Run 1 (places.Member K a) ∷
+          entries.Did (acts.Own a []) ∷
+          entries.Run 1 (places.Member K a) ∷
+          entries.Did (acts.Own a []) ∷
+          entries.Run 1 (places.Member K a) ∷
+          entries.Did (acts.Own a []) ∷
+          entries.Run 1 (places.Member K a) ∷
+          entries.Did (acts.Own a []) ∷
+          entries.Run 1 (places.Member K a) ∷
+          entries.Did (acts.Own a []) ∷
+          entries.Run 1 (places.Member K a) ∷
+          entries.Did (acts.Own a []) ∷
+          entries.Run 1 (places.Member K a) ∷
+          entries.Did (acts.Own a []) ∷
+          entries.Run 1 (places.Member K a) ∷
+          entries.Did (acts.Own a []) ∷
+          entries.Run 1 (places.Member K a) ∷
+          entries.Did (acts.Own a []) ∷
+          entries.Run 1 (places.Member K a) ∷
+          entries.Did (acts.Own a []) ∷
+          entries.Run 1 (places.Member K a) ∷
+          entries.Did (acts.Own a []) ∷
+          entries.Run 1 (places.Member K a) ∷
+          entries.Did (acts.Own a []) ∷
+          [];
+      reply = replies.Halted causes.Depth;
+    }) ∷
     (record { entries = []; reply = replies.Refused refusals.Halted }) ∷ []
 
 -- a self call goes one level deeper
 abbrev pub self_call_is_cut_at_the_last_level : Type 0
-self_call_is_cut_at_the_last_level = Shows deployment first_chosen 100000 32 self_call_is_cut_at_the_last_level_commands self_call_is_cut_at_the_last_level_said
+self_call_is_cut_at_the_last_level =
+    Shows deployment first_chosen 100000 32
+    self_call_is_cut_at_the_last_level_commands
+    self_call_is_cut_at_the_last_level_said

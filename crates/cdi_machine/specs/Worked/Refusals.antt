@@ -36,23 +36,44 @@ body_up = 0
 abbrev pub deployment : Deployment
 deployment =
     record {
-      beans = managed_bean K scopes.ApplicationScoped (record { fields = (n, values.Int (pos 0)) ∷ []; plan = Step.Construct [] no_chain ∷ Step.Complete no_chain ∷ []; methods = (up, method K up body_up 0 []) ∷ []; pre_destroy = no_chain }) ∷ [];
+      beans =
+          managed_bean K scopes.ApplicationScoped (record {
+            fields = (n, values.Int (pos 0)) ∷ [];
+            plan = Step.Construct [] no_chain ∷ Step.Complete no_chain ∷ [];
+            methods = (up, method K up body_up 0 []) ∷ [];
+            pre_destroy = no_chain;
+          }) ∷
+          [];
       interceptors = [];
       types = (K, One 0) ∷ [];
       written = [];
       observed = [];
       events = [];
-      scripts = (set n (Add (TheField n) (Plain (values.Int (pos 1)))) ∷ give (TheField n) ∷ [], []) ∷ [];
+      scripts =
+          (set n (Add (TheField n) (Plain (values.Int (pos 1)))) ∷ give (TheField n) ∷ [], []) ∷ [];
       checked = [];
       texts = [];
     }
 
 abbrev pub refused_by_name_method_and_count_commands : List Command
-refused_by_name_method_and_count_commands = Command.Boot ∷ Command.Call None (of_type Z) up [] ∷ Command.Call None (of_type K) x [] ∷ Command.Call None (of_type K) up (values.Int (pos 1) ∷ []) ∷ Command.Read None (of_type K) ∷ Command.Call (Some r) (of_type Z) up [] ∷ []
+refused_by_name_method_and_count_commands =
+    Command.Boot ∷
+    Command.Call None (of_type Z) up [] ∷
+    Command.Call None (of_type K) x [] ∷
+    Command.Call None (of_type K) up (values.Int (pos 1) ∷ []) ∷
+    Command.Read None (of_type K) ∷
+    Command.Call (Some r) (of_type Z) up [] ∷
+    []
 
 abbrev pub refused_by_name_method_and_count_said : List Said
 refused_by_name_method_and_count_said =
-    (record { entries = of_context built_in.Initialized (codes "ApplicationScoped") ∷ of_container built_in.Startup ∷ []; reply = replies.Done }) ∷
+    (record {
+      entries =
+          of_context built_in.Initialized (codes "ApplicationScoped") ∷
+          of_container built_in.Startup ∷
+          [];
+      reply = replies.Done;
+    }) ∷
     (record { entries = []; reply = replies.Refused refusals.UnknownName }) ∷
     (record { entries = []; reply = replies.Refused refusals.NoMethod }) ∷
     (record { entries = []; reply = replies.Refused refusals.WrongCount }) ∷
@@ -61,4 +82,7 @@ refused_by_name_method_and_count_said =
 
 -- names first, then methods, then the number of values
 abbrev pub refused_by_name_method_and_count : Type 0
-refused_by_name_method_and_count = Shows deployment first_chosen 100000 32 refused_by_name_method_and_count_commands refused_by_name_method_and_count_said
+refused_by_name_method_and_count =
+    Shows deployment first_chosen 100000 32
+    refused_by_name_method_and_count_commands
+    refused_by_name_method_and_count_said

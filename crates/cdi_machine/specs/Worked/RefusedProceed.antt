@@ -36,27 +36,86 @@ body_post = 1
 abbrev pub deployment : Deployment
 deployment =
     record {
-      beans = managed_bean C scopes.ApplicationScoped (record { fields = []; plan = Step.Intercept 0 ∷ Step.Construct [] no_chain ∷ Step.Complete (record { chain = 0 ∷ []; callbacks = code C p body_nop ∷ [] }) ∷ []; methods = (m, method C m body_nop 0 []) ∷ []; pre_destroy = no_chain }) ∷ [];
-      interceptors = record { name = J; fields = []; injected = []; body = by_role None None (Some body_post) None } ∷ [];
+      beans =
+          managed_bean C scopes.ApplicationScoped (record {
+            fields = [];
+            plan =
+                Step.Intercept 0 ∷
+                Step.Construct [] no_chain ∷
+                Step.Complete (record { chain = 0 ∷ []; callbacks = code C p body_nop ∷ [] }) ∷
+                [];
+            methods = (m, method C m body_nop 0 []) ∷ [];
+            pre_destroy = no_chain;
+          }) ∷
+          [];
+      interceptors =
+          record {
+            name = J;
+            fields = [];
+            injected = [];
+            body = by_role None None (Some body_post) None;
+          } ∷
+          [];
       types = (C, One 0) ∷ [];
       written = [];
       observed = [];
       events = [];
-      scripts = ([], []) ∷ (proceed_with (Plain (values.Int (pos 1)) ∷ []) ∷ catch (proceed) ∷ [], []) ∷ [];
+      scripts =
+          ([], []) ∷
+          (proceed_with (Plain (values.Int (pos 1)) ∷ []) ∷ catch (proceed) ∷ [], []) ∷
+          [];
       checked = [];
       texts = [];
     }
 
 abbrev pub proceed_with_too_many_values_does_not_count_commands : List Command
-proceed_with_too_many_values_does_not_count_commands = Command.Boot ∷ Command.Call None (of_type C) m [] ∷ Command.Live ∷ Command.Shutdown ∷ []
+proceed_with_too_many_values_does_not_count_commands =
+    Command.Boot ∷ Command.Call None (of_type C) m [] ∷ Command.Live ∷ Command.Shutdown ∷ []
 
 abbrev pub proceed_with_too_many_values_does_not_count_said : List Said
 proceed_with_too_many_values_does_not_count_said =
-    (record { entries = of_context built_in.Initialized (codes "ApplicationScoped") ∷ of_container built_in.Startup ∷ []; reply = replies.Done }) ∷
-    (record { entries = entries.New 1 (places.Class C) ∷ entries.New 2 (places.Class J) ∷ entries.Ready 2 ∷ entries.Run 2 (places.Interceptor J roles.PostConstruct) ∷ entries.Did (acts.Proceed (Some (values.Int (pos 1) ∷ []))) ∷ entries.Did (acts.Proceed None) ∷ entries.Run 1 (places.Member C p) ∷ entries.Did (acts.Give values.Null) ∷ entries.Did (acts.Give values.Null) ∷ entries.Ready 1 ∷ entries.Run 1 (places.Member C m) ∷ entries.Did (acts.Give values.Null) ∷ []; reply = replies.Value values.Null }) ∷
+    (record {
+      entries =
+          of_context built_in.Initialized (codes "ApplicationScoped") ∷
+          of_container built_in.Startup ∷
+          [];
+      reply = replies.Done;
+    }) ∷
+    (record {
+      entries =
+          entries.New 1 (places.Class C) ∷
+          entries.New 2 (places.Class J) ∷
+          entries.Ready 2 ∷
+          entries.Run 2 (places.Interceptor J roles.PostConstruct) ∷
+          entries.Did (acts.Proceed (Some (values.Int (pos 1) ∷ []))) ∷
+          entries.Did (acts.Proceed None) ∷
+          entries.Run 1 (places.Member C p) ∷
+          entries.Did (acts.Give values.Null) ∷
+          entries.Did (acts.Give values.Null) ∷
+          entries.Ready 1 ∷
+          entries.Run 1 (places.Member C m) ∷
+          entries.Did (acts.Give values.Null) ∷
+          [];
+      reply = replies.Value values.Null;
+    }) ∷
     (record { entries = []; reply = replies.Live (1 ∷ 2 ∷ []) }) ∷
-    (record { entries = of_container built_in.Shutdown ∷ of_context built_in.BeforeDestroyed (codes "ApplicationScoped") ∷ entries.End 1 ∷ entries.End 2 ∷ entries.Gone 2 ∷ entries.Gone 1 ∷ of_context built_in.Destroyed (codes "ApplicationScoped") ∷ []; reply = replies.Done }) ∷ []
+    (record {
+      entries =
+          of_container built_in.Shutdown ∷
+          of_context built_in.BeforeDestroyed (codes "ApplicationScoped") ∷
+          entries.End 1 ∷
+          entries.End 2 ∷
+          entries.Gone 2 ∷
+          entries.Gone 1 ∷
+          of_context built_in.Destroyed (codes "ApplicationScoped") ∷
+          [];
+      reply = replies.Done;
+    }) ∷
+    []
 
 -- a proceed that is refused for the number of its values does not count
 abbrev pub proceed_with_too_many_values_does_not_count : Type 0
-proceed_with_too_many_values_does_not_count = Shows deployment first_chosen 100000 32 proceed_with_too_many_values_does_not_count_commands proceed_with_too_many_values_does_not_count_said
+proceed_with_too_many_values_does_not_count =
+    Shows deployment first_chosen 100000 32
+    proceed_with_too_many_values_does_not_count_commands
+    proceed_with_too_many_values_does_not_count_said

@@ -40,7 +40,28 @@ body_nop = 0
 abbrev pub deployment : Deployment
 deployment =
     record {
-      beans = managed_bean A scopes.ApplicationScoped (record { fields = []; plan = Step.Construct (of_type D ∷ []) (record { chain = []; callbacks = constructor_of A body_nop ∷ [] }) ∷ Step.Inject d (of_type D) ∷ Step.Initialize (code A i body_nop) (of_type D ∷ []) ∷ Step.Complete (record { chain = []; callbacks = code A p body_nop ∷ [] }) ∷ []; methods = (m, method A m body_nop 0 []) ∷ []; pre_destroy = no_chain }) ∷ managed_bean D scopes.Dependent (record { fields = []; plan = Step.Construct [] no_chain ∷ Step.Complete no_chain ∷ []; methods = []; pre_destroy = no_chain }) ∷ [];
+      beans =
+          managed_bean A scopes.ApplicationScoped (record {
+            fields = [];
+            plan =
+                Step.Construct (of_type D ∷ []) (record {
+                  chain = [];
+                  callbacks = constructor_of A body_nop ∷ [];
+                }) ∷
+                Step.Inject d (of_type D) ∷
+                Step.Initialize (code A i body_nop) (of_type D ∷ []) ∷
+                Step.Complete (record { chain = []; callbacks = code A p body_nop ∷ [] }) ∷
+                [];
+            methods = (m, method A m body_nop 0 []) ∷ [];
+            pre_destroy = no_chain;
+          }) ∷
+          managed_bean D scopes.Dependent (record {
+            fields = [];
+            plan = Step.Construct [] no_chain ∷ Step.Complete no_chain ∷ [];
+            methods = [];
+            pre_destroy = no_chain;
+          }) ∷
+          [];
       interceptors = [];
       types = (A, One 0) ∷ (D, One 1) ∷ [];
       written = [];
@@ -56,9 +77,39 @@ creation_goes_step_by_step_commands = Command.Boot ∷ Command.Call None (of_typ
 
 abbrev pub creation_goes_step_by_step_said : List Said
 creation_goes_step_by_step_said =
-    (record { entries = of_context built_in.Initialized (codes "ApplicationScoped") ∷ of_container built_in.Startup ∷ []; reply = replies.Done }) ∷
-    (record { entries = entries.New 1 (places.Class A) ∷ entries.New 2 (places.Class D) ∷ entries.Ready 2 ∷ entries.Run 1 (places.Constructor A) ∷ entries.Did (acts.Give values.Null) ∷ entries.New 3 (places.Class D) ∷ entries.Ready 3 ∷ entries.New 4 (places.Class D) ∷ entries.Ready 4 ∷ entries.Run 1 (places.Member A i) ∷ entries.Did (acts.Give values.Null) ∷ entries.Run 1 (places.Member A p) ∷ entries.Did (acts.Give values.Null) ∷ entries.Ready 1 ∷ entries.Run 1 (places.Member A m) ∷ entries.Did (acts.Give values.Null) ∷ []; reply = replies.Value values.Null }) ∷ []
+    (record {
+      entries =
+          of_context built_in.Initialized (codes "ApplicationScoped") ∷
+          of_container built_in.Startup ∷
+          [];
+      reply = replies.Done;
+    }) ∷
+    (record {
+      entries =
+          entries.New 1 (places.Class A) ∷
+          entries.New 2 (places.Class D) ∷
+          entries.Ready 2 ∷
+          entries.Run 1 (places.Constructor A) ∷
+          entries.Did (acts.Give values.Null) ∷
+          entries.New 3 (places.Class D) ∷
+          entries.Ready 3 ∷
+          entries.New 4 (places.Class D) ∷
+          entries.Ready 4 ∷
+          entries.Run 1 (places.Member A i) ∷
+          entries.Did (acts.Give values.Null) ∷
+          entries.Run 1 (places.Member A p) ∷
+          entries.Did (acts.Give values.Null) ∷
+          entries.Ready 1 ∷
+          entries.Run 1 (places.Member A m) ∷
+          entries.Did (acts.Give values.Null) ∷
+          [];
+      reply = replies.Value values.Null;
+    }) ∷
+    []
 
 -- constructor, injected fields, initializers, callbacks
 abbrev pub creation_goes_step_by_step : Type 0
-creation_goes_step_by_step = Shows deployment first_chosen 100000 32 creation_goes_step_by_step_commands creation_goes_step_by_step_said
+creation_goes_step_by_step =
+    Shows deployment first_chosen 100000 32
+    creation_goes_step_by_step_commands
+    creation_goes_step_by_step_said
