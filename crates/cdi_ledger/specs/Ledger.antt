@@ -110,7 +110,7 @@ pub record InOrder (h : List Item) : Type 0 where
   pub new_numbers : InSequence h
   pub each_way : (n : ℕ) → fate n h ≡ Wrong → ⊥
 
--- The lists of items of a container: after some commands, at the world that they left.
+-- The lists of items of a container: after some commands with memory, at the world that they left.
 pub data Ledger (tables : Tables) (legal : Legal) : World → List Item → Type 0 where
   begins : (ticks depth : ℕ) → Ledger tables legal (before_boot ticks depth) []
   goes : {w v : World} {h : List Item} {o : Outcome} (c : Command) → Ledger tables legal w h
@@ -119,3 +119,9 @@ pub data Ledger (tables : Tables) (legal : Legal) : World → List Item → Type
 -- At each end of a command, cut or not, what was written is in order.
 abbrev pub KeepsOrder : Tables → Legal → Type 0
 KeepsOrder tables legal = (w : World) (h : List Item) → Ledger tables legal w h → InOrder h
+
+-- Also if memory runs out in one more command. That halts the container, so no other follows.
+abbrev pub KeepsOrderIfShort : Tables → Legal → Type 0
+KeepsOrderIfShort tables legal =
+    (w v : World) (h : List Item) (c : Command) (o : Outcome) → Ledger tables legal w h
+    → (r : Runs tables legal (Unit {0}) (task c) (at_begin w) o v) → InOrder (items_of h r)
