@@ -28,7 +28,7 @@ pub enum Act {
         value: Value,
     },
     /// Calls a business method of the instance behind a reference, through its interceptors
-    /// (Jakarta Interceptors 2.1, *Business method interceptors*). Answered by its value or exception.
+    /// (Jakarta Interceptors 2.1, *Business Method Interceptor Methods*). Answered by its value or exception.
     Call {
         via: Via,
         method: Name,
@@ -56,7 +56,7 @@ pub enum Act {
         value: Value,
     },
     /// Goes on with the rest of an interceptor chain, with the parameters as they are or with others
-    /// (Jakarta Interceptors 2.1, *Invocation context*). Answered by the value or exception of that rest.
+    /// (Jakarta Interceptors 2.1, *InvocationContext*). Answered by the value or exception of that rest.
     Proceed {
         args: Option<Seq<Value>>,
     },
@@ -64,7 +64,7 @@ pub enum Act {
     Find {
         lookup: u32,
     },
-    /// Keeps a value in the context data of the invocation (Jakarta Interceptors 2.1, *Invocation context*).
+    /// Keeps a value in the context data of the invocation (Jakarta Interceptors 2.1, *InvocationContext*).
     Keep {
         key: Name,
         value: Value,

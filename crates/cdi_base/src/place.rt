@@ -1,8 +1,8 @@
 //! Where in a deployment something stands.
 use crate::name::Name;
 
-/// The methods that an interceptor can have (Jakarta Interceptors 2.1, *Business method interceptors* and
-/// *Lifecycle callback interceptors*).
+/// The methods that an interceptor can have (Jakarta Interceptors 2.1, *Business Method Interceptor Methods* and
+/// *Interceptor Methods for Lifecycle Event Callbacks*).
 #[derive(Clone, Copy, Debug, PartialEq, Eq)]
 pub enum InterceptorMethod {
     /// Around-invoke, written `invoke`.

@@ -53,7 +53,7 @@ pub struct Shape {
     /// The exceptions that it may throw of its own accord.
     pub throws: Seq<Name>,
     /// Whether it may go on with an interceptor chain, and keep or read context data of the invocation
-    /// (Jakarta Interceptors 2.1, *Invocation context*).
+    /// (Jakarta Interceptors 2.1, *InvocationContext*).
     pub chain: bool,
 }
 

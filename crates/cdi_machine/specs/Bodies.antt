@@ -1,5 +1,5 @@
 -- Invocations, chains and bodies (Jakarta CDI 4.0, *Container invocations and interception*; Jakarta Interceptors 2.1,
--- *Business method interceptors*, *Lifecycle callback interceptors* and *Invocation context*).
+-- *Business Method Interceptor Methods*, *Interceptor Methods for Lifecycle Event Callbacks* and *InvocationContext*).
 use Rattle.std.specs.Prelude.{ℕ, List, [], ◌∷◌, ◌++◌, length, Bool, true, false, not, ◌||◌, Option, Some, None, nat_eq, slice_get}
 use Rattle.cdi_base.specs.declared.value.Value.{Value}
 use Rattle.cdi_base.specs.declared.value.Value.TheVariants as values
@@ -68,7 +68,7 @@ call_back n role callbacks chain = invoke_by n role callbacks [] (call (Task.Res
 
 -- ---- chains
 
--- the chains of lifecycle callbacks and constructors give null (Jakarta Interceptors 2.1, *Lifecycle callback interceptors*)
+-- the chains of lifecycle callbacks and constructors give null (Jakarta Interceptors 2.1, *Interceptor Methods for Lifecycle Event Callbacks*)
 abbrev pub given_by : InterceptorMethod → Given → Given
 given_by roles.AroundInvoke g = g
 given_by _ g = Result values.Null
@@ -159,7 +159,7 @@ invoke_method n name args = do
   expect (nat_eq (length args) m.count)
   invoke_by n roles.AroundInvoke (m.code ∷ []) args (call (Task.Rest m.chain))
 
--- as many values as the invocation has parameters (Jakarta Interceptors 2.1, *Invocation context*)
+-- as many values as the invocation has parameters (Jakarta Interceptors 2.1, *InvocationContext*)
 abbrev pub fits : List Value → Option (List Value) → Bool
 fits parameters None = true
 fits parameters (Some args) = nat_eq (length args) (length parameters)

@@ -129,7 +129,7 @@ state_after o w = record { world = w; halted = is_cut o }
 
 -- ---- a command
 
--- A refused command only ends the trace. Another is carried out, with an empty trace at first, and a cut halts the container.
+-- A refused command only ends the trace and the environment of the command before it. Another is carried out, with an empty trace at first, and a cut halts the container.
 pub data Answers (tables : Tables) (legal : Legal) : State → Command → Reply → State → Type 0 where
   refuses : {s : State} {c : Command} (r : Refusal) → refusal tables s c ≡ Some r
       → Answers tables legal s c (replies.Refused r) (record s { world = at_begin s.world })

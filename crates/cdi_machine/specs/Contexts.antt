@@ -1,4 +1,4 @@
--- Contextual instances and references (Jakarta CDI 4.0, *Contextual instance of a bean* and *Contextual references*).
+-- Contextual instances and references (Jakarta CDI 4.0, *Contextual instance of a bean* and *Contextual reference for a bean*).
 use Rattle.std.specs.Prelude.{ℕ, List, [], ◌∷◌, Bool, true, false, Option, Some, None}
 use Rattle.cdi_base.specs.declared.scope.Scope.{Scope}
 use Rattle.cdi_base.specs.declared.scope.Scope.TheVariants as scopes

@@ -1,5 +1,5 @@
 -- The creation of an instance: of a managed bean (Jakarta CDI 4.0, *Lifecycle of managed beans*), of an interceptor (Jakarta
--- Interceptors 2.1, *Interceptor class lifecycle*), of a product (Jakarta CDI 4.0, *Lifecycle of producer methods* and
+-- Interceptors 2.1, *Interceptor Life Cycle*), of a product (Jakarta CDI 4.0, *Lifecycle of producer methods* and
 -- *Lifecycle of producer fields*).
 use Rattle.std.specs.Prelude.{ℕ, List, [], Bool, true}
 use Rattle.cdi_base.specs.declared.value.Value.TheVariants as values
@@ -59,7 +59,7 @@ begin_creation place component owner fields = do
 
 -- ---- a managed bean
 
--- a construct chain that doesn't reach the constructor gives no instance (Jakarta Interceptors 2.1, *Lifecycle callback
+-- a construct chain that doesn't get through the constructor gives no instance (Jakarta Interceptors 2.1, *Lifecycle callback
 -- interceptors*)
 abbrev pub construct : ℕ → List Asked → Lifecycle → Prog Given
 construct n points chain = invoke_by n roles.AroundConstruct chain.callbacks [] do

@@ -38,7 +38,7 @@ abbrev pub any_target : World → List Invocation → ℕ → Bool
 any_target w [] n = false
 any_target w (v ∷ vs) n = belongs v.target w v.target n || any_target w vs n
 
--- neither it nor what it owns is the target of an invocation or has a running body
+-- neither it nor what it owns, and whose destruction hasn't begun, is the target of an invocation or has a running body
 abbrev pub is_idle : World → ℕ → Bool
 is_idle w n = not (any_target w w.invocations n || any_belongs w w.bodies n)
 

@@ -1,4 +1,4 @@
--- Destruction (Jakarta CDI 4.0, *Lifecycle of managed beans* and *Destruction of dependent objects*), and what lives as long
+-- Destruction (Jakarta CDI 4.0, *Lifecycle of managed beans* and *Destruction of objects with scope @Dependent*), and what lives as long
 -- as an invocation (Jakarta CDI 4.0, *Dependent objects*).
 use Rattle.std.specs.Prelude.{ℕ, List, [], ◌∷◌, Option, Some, None, slice_get}
 use Rattle.cdi_base.specs.declared.value.Value.{Value}

@@ -75,7 +75,7 @@ pub data Prog (A : Type 0) : Type 0 where
   throw : Name → Prog A
   -- the end of the command
   cut : Cause → Prog A
-  -- what has to be there is missing; in an accepted deployment no run comes here
+  -- what has to be there is missing; no run of an accepted deployment is to come here
   miss : Prog A → Prog A
   -- looks at the tables and the world
   see : (Tables → World → Prog A) → Prog A
@@ -144,7 +144,7 @@ abbrev pub require_present : {A : Type 0} → Option A → Prog A
 require_present None = tell_missing
 require_present (Some a) = ret a
 
--- what always holds in an accepted deployment
+-- what is always to hold in an accepted deployment
 abbrev pub expect : Bool → Prog (Unit {0})
 expect true = do_nothing
 expect false = tell_missing

@@ -39,7 +39,7 @@ pub record World : Type 0 where
   pub contexts : Contexts
   pub down : Bool
   -- of the running command: its environment, its invocations and the instances with a running body, innermost first, and
-  -- the temporaries of each invocation under way
+  -- what each call of a producer, disposer or observer, or a call or read command, has borrowed
   pub environment : Environment
   pub invocations : List Invocation
   pub bodies : List ℕ

@@ -5,7 +5,7 @@ ghost use Rattle.cdi_machine.specs.Laws.{IsWithin};
 use cdi_base::{Act, Fields};
 use cdi_bodies::View;
 
-/// Why a driver gives nothing. The command ends there.
+/// Why a driver gives nothing. The command ends there; only want of memory has a rule of the definition yet.
 #[derive(Clone, Copy, Debug, PartialEq, Eq)]
 pub enum Failure {
     /// No memory was left.

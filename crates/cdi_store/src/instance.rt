@@ -8,7 +8,7 @@ use cdi_base::{Fields, Seq, Text, Value};
 pub enum Component {
     /// The bean with this index: a managed bean, or a producer, whose instance is the product.
     Bean(u32),
-    /// The interceptor with this index (Jakarta Interceptors 2.1, *Interceptor class lifecycle*).
+    /// The interceptor with this index (Jakarta Interceptors 2.1, *Interceptor Life Cycle*).
     Interceptor(u32),
 }
 

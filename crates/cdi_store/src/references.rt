@@ -9,7 +9,7 @@ use std::alloc::{AllocError, Global};
 use std::marker::Model;
 
 /// How an injected field, an injected parameter or the result of a lookup reaches a contextual instance
-/// (Jakarta CDI 4.0, *Contextual references*).
+/// (Jakarta CDI 4.0, *Contextual reference for a bean*).
 #[derive(Clone, Copy, Debug, PartialEq, Eq)]
 pub enum Reference {
     /// A client proxy for the bean with this index: each use obtains its contextual instance anew

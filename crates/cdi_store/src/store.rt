@@ -22,8 +22,8 @@ use std::collections::BTreeMap;
 use std::marker::Model;
 
 /// The live instances of a container, each under a number of its own and in a slot, which contracts see as the
-/// instances by their numbers, the slots by the same numbers, and the next number. Its memory grows with the live
-/// instances and not with those that were ever made: a slot is used again, a number never.
+/// instances by their numbers, the slots by the same numbers, and the next number. Slots are used again, so that there are
+/// no more of them than instances that lived at one time; a number is never used again.
 #[derive(Drop)]
 pub struct Store {
     /// The slot of each live instance.
@@ -274,7 +274,8 @@ impl Store {
     }
 
     /// Gives a live instance another owner: it leaves the dependents of the old one and becomes the last dependent of
-    /// the new one, in one step. On an error nothing changes.
+    /// the new one, in one step. It should be ready: one that is adopted before it is settled stands twice among the
+    /// dependents once it is. On an error nothing changes.
     pub fn adopt(&mut self, owner: Key, key: Key) -> Result<(), ChangeError>
         ensures stale { (result ≡ Err ChangeError.Stale)
             ↔ ((is_live self.old owner && is_live self.old key) ≡ false) }

@@ -47,7 +47,7 @@ pub(super) fn ended<D: Driver>(
     Ok(Next::Goes(Task::Start(Call::Release { number })))
 }
 
-/// Chooses the dependent that is destroyed next (Jakarta CDI 4.0, *Destruction of dependent objects*).
+/// Chooses the dependent that is destroyed next (Jakarta CDI 4.0, *Destruction of objects with scope @Dependent*).
 #[tactic(auto, using(crate::proofs::Rules::leads))]
 pub(super) fn release<D: Driver>(
     tables: &Tables,
