@@ -537,7 +537,7 @@ module _ (h : Height) where
   l_end r t w = then h (close (Request r)) _ (l_close (Request r)) (λ _ t2 w2. l_end_session w2 w2.environment.session)
 
   pub l_invalidate : (s : List ℕ) → Walks h h (invalidate s)
-  l_invalidate s t w = l_if h (is_used w.contexts s) (handle (alter (Change.Mark s)) (λ _. finish) throw) (handle (stand_alone_in s) (λ _. close (Session s)) throw) refl (l_close (Session s))
+  l_invalidate s t w = l_if h (is_used w.contexts s) finish (handle (stand_alone_in s) (λ _. close (Session s)) throw) refl (l_close (Session s))
 
   pub l_end_alone : (s : List ℕ) → Walks h h (end_alone s)
   l_end_alone s = l_close (Session s)

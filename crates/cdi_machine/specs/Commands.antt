@@ -126,11 +126,14 @@ end r = do
   w ← world
   end_session w w.environment.session
 
+-- a session is marked; one that no request has ends at once
 abbrev pub invalidate : List ℕ → Prog Given
-invalidate s = see λ t w. elim (is_used w.contexts s) [
-  | true ↦ alter (Change.Mark s) >> finish
-  | false ↦ stand_alone_in s >> close (Session s)
-]
+invalidate s = do
+  alter (Change.Mark s)
+  see λ t w. elim (is_used w.contexts s) [
+    | true ↦ finish
+    | false ↦ stand_alone_in s >> close (Session s)
+  ]
 
 -- ---- call, read
 
