@@ -1,5 +1,5 @@
 -- What a map in order makes of its entries.
-use Rattle.std.proofs.Common.{◌≡◌, ◌∙◌, ℕ, refl, ap, sym, subst, [], ◌∷◌, cond, not, true, false, Bool, Some, ◌==◌, arith}
+use Rattle.std.proofs.Common.{◌≡◌, ◌∙◌, ℕ, refl, ap, sym, subst, [], ◌∷◌, cond, not, true, false, Bool, Some, Option, ◌==◌, arith}
 use Rattle.std.specs.Bool.{nat_lt}
 use Rattle.std.specs.Map.{lookup, remove_entry, keys_of}
 use Rattle.std.specs.BTreeMap.{insert_entry, is_at}
@@ -14,7 +14,7 @@ use Rattle.cdi_base.specs.Maps.{Map, at, put_in_order, without}
 apart : (k j : ℕ) → nat_lt k j ≡ true → (k == j) ≡ false
 apart k j h = grind arith
 
-is_equal : (k j : ℕ) → is_at (nat_cmp k) j ≡ (k == j)
+pub is_equal : (k j : ℕ) → is_at (nat_cmp k) j ≡ (k == j)
 is_equal k j = by (nat_lt k j) (k == j) (apart k j)
   where
     by : (l e : Bool) → (l ≡ true → e ≡ false) → is_eq (cond l Less (cond e Equal Greater)) ≡ e
@@ -55,3 +55,8 @@ module _ {X : Type 0} where
       by : (b : Bool) → (k == p.0) ≡ b → remove_entry (is_at (nat_cmp k)) more ≡ without k more → cond b more (p ∷ remove_entry (is_at (nat_cmp k)) more) ≡ cond (not b) (p ∷ without k more) (without k more)
       by true e rest = sym (stays k more (subst (λ j. AllByRecursion (λ i. nat_cmp j i ≡ Less) (keys_of more)) (sym (exact_unsigned_eq k p.0 e)) (sorted_head nat_cmp p.0 (keys_of more) h)))
       by false e rest = ap (λ r. p ∷ r) rest
+
+  -- a change by key, as a map in order states it
+  pub at-changed : (m after : Map X) (k : ℕ) (w : Option X) → ((q : ℕ) → lookup (is_at (nat_cmp q)) after ≡ cond (is_at (nat_cmp k) q) w (lookup (is_at (nat_cmp q)) m)) → (b : ℕ) → at after b ≡ cond (k == b) w (at m b)
+  at-changed m after k w h b =
+      sym (at-lookup after b) ∙ h b ∙ ap (λ t. cond t w (lookup (is_at (nat_cmp b)) m)) (is_equal k b) ∙ ap (cond (k == b) w) (at-lookup m b)

@@ -2,3 +2,5 @@ pub mod Entries
 pub mod Slots
 pub mod ByName
 pub mod Begins
+pub mod Numbers
+pub mod Orderly

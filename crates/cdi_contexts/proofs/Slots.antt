@@ -197,7 +197,7 @@ named-push (p ∷ more) slot name n h e = by (bytes_eq p.1 n) h (λ i. named-pus
     by false i rest = rest i
 
 -- what is found past a first that isn't it
-past : {A : Type 0} (b : Bool) (x : A) (o : Option A) → cond b (Some x) o ≡ None → (b ≡ false) × (o ≡ None)
+pub past : {A : Type 0} (b : Bool) (x : A) (o : Option A) → cond b (Some x) o ≡ None → (b ≡ false) × (o ≡ None)
 past true x o h = absurd cc
 past false x o h = (refl, h)
 

@@ -1,5 +1,5 @@
 -- The contexts that are there, and how they change.
-use Rattle.std.specs.Prelude.{ℕ, Bool, true, false, not, ◌&&◌, ◌++◌, ◌∷◌, [], List, max, bytes_eq, Option, Some, None, is_some, option_map}
+use Rattle.std.specs.Prelude.{ℕ, Bool, true, false, not, ◌&&◌, ◌==◌, ◌++◌, ◌∷◌, [], List, max, bytes_eq, Option, Some, None, option_map}
 use Rattle.std.specs.List.{list_any}
 use Rattle.cdi_base.specs.Maps.{Map, at, put_in_order, without}
 use Rattle.cdi_base.specs.declared.scope.Scope.{Scope}
@@ -65,10 +65,17 @@ abbrev pub context_among : Contexts → Option Context → Option Active
 context_among c None = None
 context_among c (Some context) = context_at c context
 
--- something can be put there for the bean without memory: it has an entry, or the context is gone
-abbrev pub has_place : Option Active → ℕ → Bool
-has_place None bean = true
-has_place (Some a) bean = is_some (at a.holds bean)
+-- an entry takes the place of what the bean has without memory: it is the same, or the bean has one and it is `Making`
+abbrev pub fits : Option Held → Held → Bool
+fits None held = false
+fits (Some before) Making = true
+fits (Some Making) (Is n) = false
+fits (Some (Is m)) (Is n) = m == n
+
+-- the entry can be put there for the bean without memory: it fits, or the context is gone
+abbrev pub has_place : Option Active → ℕ → Held → Bool
+has_place None bean held = true
+has_place (Some a) bean held = fits (at a.holds bean) held
 
 -- the active context of a scope
 abbrev pub active_context : Contexts → Environment → Scope → Option Active

@@ -2,3 +2,4 @@ pub mod Named
 pub mod Contexts
 pub mod Standing
 pub mod Group
+pub mod Places

@@ -1,11 +1,13 @@
 -- The contexts with the slots that they are reached by, and what is refused.
-use Rattle.std.specs.Prelude.{◌≡◌, ℕ, Bool, false, not, nat_le, ◌==◌, ◌&&◌, ◌||◌, ◌++◌, ◌∷◌, [], List, length, filter, Option, Some, None, is_some, if◌then◌else◌, option_map}
+use Rattle.std.specs.Prelude.{◌≡◌, ℕ, Bool, false, not, nat_eq, nat_le, ◌==◌, ◌&&◌, ◌||◌, ◌++◌, ◌∷◌, [], List, length, filter, Option, Some, None, is_some, if◌then◌else◌, option_map}
+use Rattle.std.specs.List.{IsDistinct}
 use Rattle.cdi_base.specs.declared.reply.Refusal.{Refusal}
 use Rattle.cdi_base.specs.declared.reply.Refusal.TheVariants as refusals
 use Rattle.cdi_base.specs.declared.scope.Scope.{Scope}
 use Rattle.cdi_base.specs.declared.scope.Scope.TheVariants as scopes
 use Rattle.cdi_store.specs.declared.instance.Context.{Context}
 use Rattle.cdi_store.specs.declared.instance.Context.TheVariants as contexts
+use Rattle.cdi_contexts.specs.Named.{HaveOwnNames}
 use Rattle.cdi_contexts.specs.declared.context.Env.{Env}
 use Rattle.cdi_contexts.specs.Contexts.{Active, Contexts, Environment, OpenRequest, OpenSession, request_in, session_in, active_context, context_of, at_boot, is_due, is_ending, with_mark, with_request, with_session, with_ending, without_context}
 
@@ -14,6 +16,15 @@ pub record Standing : Type 0 where
   pub contexts : Contexts
   pub request_slots : List ℕ
   pub session_slots : List ℕ
+
+-- Each request and each session has a slot and a name of its own.
+pub record IsOrderly (s : Standing) : Type 0 where
+  pub request_slots : IsDistinct nat_eq s.request_slots
+  pub session_slots : IsDistinct nat_eq s.session_slots
+  pub request_names : HaveOwnNames (λ r. r.name) s.contexts.requests
+  pub session_names : HaveOwnNames (λ r. r.name) s.contexts.sessions
+  pub requests : length s.request_slots ≡ length s.contexts.requests
+  pub sessions : length s.session_slots ≡ length s.contexts.sessions
 
 -- the thing whose slot this is
 abbrev pub in_slot : {X : Type 0} → List ℕ → List X → ℕ → Option X

@@ -2,7 +2,7 @@
 ghost use Rattle.std.specs.Prelude.{◌≡◌, OnOk, OnErr, IsOk, IsTrue, is_some, option_map};
 ghost use Rattle.std.specs.Option.{option_copied};
 ghost use Rattle.cdi_contexts.specs.Contexts.{active_with, active_without, entry_in, has_place, is_ending_in, last_in, with_held, with_nothing};
-ghost use Rattle.cdi_contexts.specs.Standing.{active_in, in_env, nothing_begun};
+ghost use Rattle.cdi_contexts.specs.Standing.{active_in, in_env, nothing_begun, IsOrderly};
 
 mod begin;
 mod ending;
@@ -47,6 +47,15 @@ impl Contexts {
             requests: Group::new(alloc),
             sessions: Group::new(alloc),
         }
+    }
+
+    /// Each request and each session has a slot and a name of its own among those that are there. A call does nothing: its
+    /// contract is the law.
+    pub fn law_slots(&self)
+        ensures { IsOrderly self.now }
+    {
+        self.requests.law_apart();
+        self.sessions.law_apart();
     }
 
     /// What the active context of a scope has.
@@ -94,11 +103,12 @@ impl Contexts {
     }
 
     /// Gives the active context of a scope something for a bean. Where the scope has no active context, nothing changes.
-    /// Memory can be wanting only for a bean that has no entry yet. On an error nothing changes.
+    /// Memory can be wanting only for a bean that has no entry yet, and for the number of an instance that the bean
+    /// doesn't have yet. On an error nothing changes.
     pub fn put(&mut self, scope: Scope, bean: u32, env: Env, held: Held) -> Result<(), AllocError>
         ensures ok { OnOk result (self.new ≡ in_env env scope (with_held bean held) self.old) }
         ensures err { OnErr result (self.new ≡ self.old) }
-        ensures there { IsTrue (has_place (active_in self.old env scope) bean) → IsOk result }
+        ensures there { IsTrue (has_place (active_in self.old env scope) bean held) → IsOk result }
     {
         match scope {
             Scope::ApplicationScoped => put_in(&mut self.application, bean, held),
@@ -126,7 +136,7 @@ impl Contexts {
 fn put_in(application: &mut Option<Table>, bean: u32, held: Held) -> Result<(), AllocError>
     ensures ok { OnOk result (application.new ≡ option_map (active_with bean held) application.old) }
     ensures err { OnErr result (application.new ≡ application.old) }
-    ensures there { IsTrue (has_place application.old bean) → IsOk result }
+    ensures there { IsTrue (has_place application.old bean held) → IsOk result }
 {
     match application {
         Some(table) => table.put(bean, held),

@@ -62,6 +62,13 @@ impl<D> Group<D> {
         self.kept.len()
     }
 
+    /// No two have one slot or one name. A call does nothing: its contract is the law.
+    pub fn law_apart(&self)
+        ensures { AreApart (outline self.now) }
+    {
+        let _len = self.kept.len();
+    }
+
     /// What the context in a slot has.
     pub fn table(&self, slot: Option<usize>) -> Option<&Table>
         ensures value { option_copied result ≡ table_at self.now slot }
@@ -122,12 +129,12 @@ impl<D> Group<D> {
         Ok(slot)
     }
 
-    /// Gives a context something for a bean, if its slot is that of one. A bean that has an entry needs no memory. On an
-    /// error nothing changes.
+    /// Gives a context something for a bean, if its slot is that of one. What the bean has already, and `Held::Making`
+    /// for a bean that has an entry, need no memory. On an error nothing changes.
     pub fn put(&mut self, slot: usize, bean: u32, held: Held) -> Result<(), AllocError>
         ensures ok { OnOk result (self.new ≡ with_table slot (active_with bean held) self.old) }
         ensures err { OnErr result (self.new ≡ self.old) }
-        ensures there { IsTrue (has_place (table_at self.old (Some slot)) bean) → IsOk result }
+        ensures there { IsTrue (has_place (table_at self.old (Some slot)) bean held) → IsOk result }
         ensures apart { AreApart (outline self.old) }
     {
         let Some(index) = self.kept.get_index_of(&slot) else {
@@ -164,7 +171,7 @@ impl<D> Group<D> {
     pub fn put_at(&mut self, slot: Option<usize>, bean: u32, held: Held) -> Result<(), AllocError>
         ensures ok { OnOk result (self.new ≡ with_table_at slot (active_with bean held) self.old) }
         ensures err { OnErr result (self.new ≡ self.old) }
-        ensures there { IsTrue (has_place (table_at self.old slot) bean) → IsOk result }
+        ensures there { IsTrue (has_place (table_at self.old slot) bean held) → IsOk result }
         ensures apart { OnSome slot (AreApart (outline self.old)) }
     {
         match slot {

@@ -4,6 +4,7 @@
 pub mod context;
 pub mod contexts;
 mod group;
+mod places;
 mod table;
 
 pub use context::{Env, Held, Status};

@@ -1,30 +1,34 @@
 //! What one context has.
-ghost use Rattle.std.specs.Prelude.{◌≡◌, None, IsOk, IsSome, OnOk, OnErr};
-ghost use Rattle.cdi_base.specs.Maps.{at, put_in_order, without};
-ghost use Rattle.cdi_contexts.specs.Contexts.{fresh, greater, greatest};
+ghost use Rattle.std.specs.Prelude.{◌≡◌, None, IsOk, IsTrue, OnOk, OnErr};
+ghost use Rattle.cdi_base.specs.Maps.{at};
+ghost use Rattle.cdi_contexts.specs.Contexts.{active_with, active_without, fits, fresh, greatest};
 
 use crate::context::{Held, Status};
+use crate::places::Places;
 use std::alloc::{AllocError, Global};
 use std::collections::BTreeMap;
 use std::marker::Model;
 
-/// What one context has: for beans, by their indices in rising order, their instances.
+/// What one context has: for beans, by their indices in rising order, their instances, and beside that the numbers of
+/// those in order.
 #[derive(Drop)]
 pub struct Table {
     status: Status,
     held: BTreeMap<u32, Held>,
+    places: Places,
 }
 
 impl Model for Table {
     ghost use Rattle.std.specs.Ordering.{nat_cmp};
     ghost use Rattle.std.specs.BTreeMap.{IsOrdered};
     ghost use Rattle.cdi_contexts.specs.Contexts.{Active};
+    ghost use Rattle.cdi_contexts.specs.Places.{IsOutline};
 
     ghost Value = { Active };
 
     ghost view = { λ t. record { status = t.status; holds = t.held.entries } };
 
-    ghost invariant = { λ t. IsOrdered nat_cmp t.held };
+    ghost invariant = { λ t. IsOrdered nat_cmp t.held × IsOutline t.held.entries t.places };
 }
 
 impl Table {
@@ -35,6 +39,7 @@ impl Table {
         Table {
             status: Status::Open,
             held: BTreeMap::new(alloc),
+            places: Places::new(alloc),
         }
     }
 
@@ -52,21 +57,33 @@ impl Table {
         self.held.get(&bean).copied()
     }
 
-    /// Gives the context something for a bean. A bean that has an entry needs no memory. On an error nothing changes.
+    /// Gives the context something for a bean. What the bean has already, and `Held::Making` for a bean that has an
+    /// entry, need no memory. On an error nothing changes.
     pub fn put(&mut self, bean: u32, held: Held) -> Result<(), AllocError>
-        ensures ok { OnOk result (self.new ≡ record self.old { holds = put_in_order bean held self.old.holds }) }
+        ensures ok { OnOk result (self.new ≡ active_with bean held self.old) }
         ensures err { OnErr result (self.new ≡ self.old) }
-        ensures there { IsSome (at self.old.holds bean) → IsOk result }
+        ensures there { IsTrue (fits (at self.old.holds bean) held) → IsOk result }
     {
-        self.held.insert(bean, held)?;
-        Ok(())
+        self.places.add(bean, held)?;
+        match self.held.insert(bean, held) {
+            Ok(before) => {
+                self.places.replace(bean, before, held);
+                Ok(())
+            }
+            Err(_) => {
+                self.places.remove(bean, held);
+                Err(AllocError)
+            }
+        }
     }
 
     /// Takes from the context what it has for a bean.
     pub fn leave(&mut self, bean: u32)
-        ensures { self.new ≡ record self.old { holds = without bean self.old.holds } }
+        ensures { self.new ≡ active_without bean self.old }
     {
-        let _ = self.held.remove(&bean);
+        if let Some(before) = self.held.remove(&bean) {
+            self.places.remove(bean, before);
+        }
     }
 
     /// No more instances are made in the context.
@@ -80,21 +97,6 @@ impl Table {
     pub fn last(&self) -> Option<u32>
         ensures { result ≡ greatest None self.now.holds }
     {
-        let mut last = None;
-        for (_bean, held) in self.held.iter() {
-            last = later(last, *held);
-        }
-        last
-    }
-}
-
-/// The greater of a number, if there is one, and that of an entry.
-fn later(last: Option<u32>, held: Held) -> Option<u32>
-    ensures { result ≡ greater last held }
-{
-    match (last, held) {
-        (last, Held::Making) => last,
-        (None, Held::Is(number)) => Some(number),
-        (Some(most), Held::Is(number)) => Some(most.max(number)),
+        self.places.last()
     }
 }

@@ -17,7 +17,7 @@ pub returns-in-SessionScoped-clause-there : goal.returns-in-SessionScoped-clause
 returns-in-SessionScoped-clause-there c = λ h.
     let e = session_table c.self.inside.application c.self.inside.requests c.self.inside.sessions c.args.env c.put_at.ensures.apart
     ∙ ap (λ s. active_in s c.args.env scopes.SessionScoped) c.self.view_is ∙ ap (active_in c.args.self.now c.args.env) (sym c.in-SessionScoped.is) in
-    c.put_at.ensures.there (ap (λ o. has_place o c.args.bean) e ∙ h)
+    c.put_at.ensures.there (ap (λ o. has_place o c.args.bean c.args.held) e ∙ h)
 
 pub returns-in-RequestScoped-clause-ok : goal.returns-in-RequestScoped-clause-ok
 returns-in-RequestScoped-clause-ok c =
@@ -29,4 +29,4 @@ pub returns-in-RequestScoped-clause-there : goal.returns-in-RequestScoped-clause
 returns-in-RequestScoped-clause-there c = λ h.
     let e = request_table c.self.inside.application c.self.inside.requests c.self.inside.sessions c.args.env c.put_at-in-RequestScoped.ensures.apart
     ∙ ap (λ s. active_in s c.args.env scopes.RequestScoped) c.self.view_is ∙ ap (active_in c.args.self.now c.args.env) (sym c.in-RequestScoped.is) in
-    c.put_at-in-RequestScoped.ensures.there (ap (λ o. has_place o c.args.bean) e ∙ h)
+    c.put_at-in-RequestScoped.ensures.there (ap (λ o. has_place o c.args.bean c.args.held) e ∙ h)
