@@ -1,5 +1,5 @@
 -- The contexts with the slots that they are reached by, and what is refused.
-use Rattle.std.specs.Prelude.{◌≡◌, ℕ, Bool, false, not, nat_eq, nat_le, ◌==◌, ◌&&◌, ◌||◌, ◌++◌, ◌∷◌, [], List, length, filter, Option, Some, None, is_some, if◌then◌else◌, option_map}
+use Rattle.std.specs.Prelude.{◌≡◌, ℕ, Bool, false, not, nat_eq, nat_le, ◌==◌, ◌&&◌, ◌++◌, ◌∷◌, [], List, length, filter, Option, Some, None, is_some, if◌then◌else◌, option_map}
 use Rattle.std.specs.List.{IsDistinct}
 use Rattle.cdi_base.specs.declared.reply.Refusal.{Refusal}
 use Rattle.cdi_base.specs.declared.reply.Refusal.TheVariants as refusals
@@ -46,10 +46,10 @@ environment_of s env =
 
 -- ---- what is refused
 
--- no more requests begin in the session: it is marked or being destroyed
-abbrev pub is_closing : Option OpenSession → Bool
-is_closing None = false
-is_closing (Some s) = s.is_marked || is_ending s.active.status
+-- the session is there, and marked: no more requests begin in it
+abbrev pub is_marked_in : Option OpenSession → Bool
+is_marked_in None = false
+is_marked_in (Some s) = s.is_marked
 
 -- the session, if a request names one that is there
 abbrev pub session_for : Contexts → Option (List ℕ) → Option OpenSession
@@ -65,7 +65,7 @@ is_new c (Some name) = not (is_some (session_in c.sessions name))
 abbrev pub begin_refusal : Contexts → List ℕ → Option (List ℕ) → Option Refusal
 begin_refusal c request session =
     if is_some (request_in c.requests request) then Some refusals.RequestOpen
-    else if is_closing (session_for c session) then Some refusals.SessionEnding
+    else if is_marked_in (session_for c session) then Some refusals.SessionEnding
     else if nat_le 256 (length c.requests) then Some refusals.TooManyRequests
     else if is_new c session && nat_le 1024 (length c.sessions) then Some refusals.TooManySessions
     else None
@@ -74,7 +74,7 @@ begin_refusal c request session =
 abbrev pub invalidate_refusal : Contexts → List ℕ → Option Refusal
 invalidate_refusal c name =
     if not (is_some (session_in c.sessions name)) then Some refusals.NoSession
-    else if is_closing (session_in c.sessions name) then Some refusals.SessionEnding
+    else if is_marked_in (session_in c.sessions name) then Some refusals.SessionEnding
     else None
 
 -- ---- environments

@@ -4,10 +4,10 @@ ghost use Rattle.std.specs.Option.{option_copied};
 ghost use Rattle.cdi_contexts.specs.declared.contexts.begin.BeginError.TheVariants.{Memory};
 ghost use Rattle.cdi_contexts.specs.Contexts.{fresh, request_in, session_in};
 ghost use Rattle.std.specs.Prelude.{false};
-ghost use Rattle.cdi_contexts.specs.Standing.{Begins, begin_refusal, is_closing, is_new, session_for};
+ghost use Rattle.cdi_contexts.specs.Standing.{Begins, begin_refusal, is_marked_in, is_new, session_for};
 
 use super::Contexts;
-use crate::context::{Env, Status};
+use crate::context::Env;
 use crate::group::Kept;
 use crate::table::Table;
 use cdi_base::{Refusal, Text};
@@ -40,15 +40,15 @@ impl From<AllocError> for BeginError {
 }
 
 impl Contexts {
-    /// Whether a session is named that is there and takes no further request.
-    fn is_closing(&self, session: Option<&str>) -> bool
-        ensures { result ≡ is_closing (session_for self.now.contexts (option_copied session.entry)) }
+    /// Whether a session is named that is there and is marked.
+    fn is_marked(&self, session: Option<&str>) -> bool
+        ensures { result ≡ is_marked_in (session_for self.now.contexts (option_copied session.entry)) }
     {
         let Some(name) = session else {
             return false;
         };
         match self.session(name) {
-            Some((_slot, kept)) => kept.detail || kept.table.status() == Status::Ending,
+            Some((_slot, kept)) => kept.detail,
             None => false,
         }
     }
@@ -64,7 +64,7 @@ impl Contexts {
     }
 
     /// Why a request doesn't begin, if it doesn't: the first of these that holds. [`Refusal::RequestOpen`]: a request of
-    /// this name is there. [`Refusal::SessionEnding`]: its session is there, and is marked or being destroyed.
+    /// this name is there. [`Refusal::SessionEnding`]: its session is there, and is marked.
     /// [`Refusal::TooManyRequests`]: [`MAX_REQUESTS`] are there. [`Refusal::TooManySessions`]: its session is new, and
     /// [`MAX_SESSIONS`] are there.
     pub fn refuses_begin(&self, request: &str, session: Option<&str>) -> Option<Refusal>
@@ -72,7 +72,7 @@ impl Contexts {
     {
         if self.has_request(request) {
             Some(Refusal::RequestOpen)
-        } else if self.is_closing(session) {
+        } else if self.is_marked(session) {
             Some(Refusal::SessionEnding)
         } else if self.requests.len() >= MAX_REQUESTS {
             Some(Refusal::TooManyRequests)

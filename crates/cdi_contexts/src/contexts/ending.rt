@@ -60,13 +60,13 @@ impl Contexts {
     }
 
     /// Why a session isn't invalidated, if it isn't: [`Refusal::NoSession`] if none of this name is there, and
-    /// [`Refusal::SessionEnding`] if it is marked already or being destroyed.
+    /// [`Refusal::SessionEnding`] if it is marked already.
     pub fn refuses_invalidate(&self, session: &str) -> Option<Refusal>
         ensures { result ≡ invalidate_refusal self.now.contexts session.now }
     {
         match self.session(session) {
             Some((_slot, kept)) => {
-                if kept.detail || kept.table.status() == Status::Ending {
+                if kept.detail {
                     Some(Refusal::SessionEnding)
                 } else {
                     None
@@ -76,7 +76,7 @@ impl Contexts {
         }
     }
 
-    /// Marks a session: it ends with its last request. The environment holds it alone. It is refused exactly as
+    /// Marks a session: it ends with its last request, and one that no request has is due at once ([`Contexts::due`]). The environment holds it alone. It is refused exactly as
     /// [`Contexts::refuses_invalidate`] says, and then nothing changes.
     pub fn invalidate(&mut self, session: &str) -> Result<Env, Refusal>
         ensures marked { OnOk result (self.new ≡ with_marked session.now self.old) }
