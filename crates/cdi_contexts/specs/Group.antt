@@ -4,11 +4,15 @@ use Rattle.std.specs.Borrow.{Bor}
 use Rattle.slab.specs.Slab.{Slab, get}
 use Rattle.cdi_base.specs.Maps.{Map, at, adjusted, without}
 use Rattle.cdi_contexts.specs.Named.{named}
-use Rattle.cdi_contexts.specs.Contexts.{Active, OpenRequest, OpenSession}
-use Rattle.cdi_contexts.specs.Standing.{Standing, first_open}
+use Rattle.cdi_contexts.specs.Contexts.{Active, OpenRequest, OpenSession, fresh}
+use Rattle.cdi_contexts.specs.Standing.{Standing, first_open, request_at, session_at}
 use Rattle.cdi_contexts.specs.declared.group.Kept.{Kept}
 
 module _ {D : Type 0} where
+  -- a request or a session at its begin
+  abbrev pub at_begin : List ℕ → D → Kept D
+  at_begin name detail = record { name = name; detail = detail; table = fresh }
+
   -- what is there by its name
   abbrev pub kept_named : Map (Kept D) → List ℕ → Option (ℕ × Kept D)
   kept_named = named (λ p. p.1.name)
@@ -52,12 +56,26 @@ AreApart (p ∷ more) = (at more p.0 ≡ None) × (named (λ q. q.1) more p.1 �
 abbrev pub IsFree : {X Y : Type 0} → Slab Y → Map X → Type 0
 IsFree taken m = (slot : ℕ) → get taken slot ≡ None → at m slot ≡ None
 
--- a request and a session, and what stands
+-- a request and a session
 abbrev pub request_of : Kept (Option (List ℕ)) → OpenRequest
 request_of k = record { name = k.name; session = k.detail; active = k.table }
 
 abbrev pub session_of : Kept Bool → OpenSession
 session_of k = record { name = k.name; is_marked = k.detail; active = k.table }
+
+-- a request and a session that were found
+abbrev pub request_found : ℕ × Bor (Kept (Option (List ℕ))) → OpenRequest
+request_found p = request_of p.1.now
+
+abbrev pub session_found : ℕ × Bor (Kept Bool) → OpenSession
+session_found p = session_of p.1.now
+
+-- what was found stands in the slot that it was found in
+abbrev pub IsRequestOf : Standing → ℕ × Bor (Kept (Option (List ℕ))) → Type 0
+IsRequestOf s p = request_at s p.0 ≡ Some (request_found p)
+
+abbrev pub IsSessionOf : Standing → ℕ × Bor (Kept Bool) → Type 0
+IsSessionOf s p = session_at s p.0 ≡ Some (session_found p)
 
 abbrev pub standing : Option Active → Map (Kept (Option (List ℕ))) → Map (Kept Bool) → Standing
 standing application requests sessions =

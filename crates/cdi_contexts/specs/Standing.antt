@@ -36,6 +36,32 @@ abbrev pub of_slot : {X Y : Type 0} → (ℕ → Option X) → Option ℕ → (X
 of_slot f None g = None
 of_slot f (Some slot) g = option_map g (f slot)
 
+-- the request and the session of a slot, and those of a name
+abbrev pub request_at : Standing → ℕ → Option OpenRequest
+request_at s = in_slot s.request_slots s.contexts.requests
+
+abbrev pub session_at : Standing → ℕ → Option OpenSession
+session_at s = in_slot s.session_slots s.contexts.sessions
+
+abbrev pub request_by : Standing → List ℕ → Option OpenRequest
+request_by s = request_in s.contexts.requests
+
+abbrev pub session_by : Standing → List ℕ → Option OpenSession
+session_by s = session_in s.contexts.sessions
+
+-- the name of what is in a slot, and the name if something has it
+abbrev pub request_name_at : Standing → Option ℕ → Option (List ℕ)
+request_name_at s slot = of_slot (request_at s) slot (λ r. r.name)
+
+abbrev pub session_name_at : Standing → Option ℕ → Option (List ℕ)
+session_name_at s slot = of_slot (session_at s) slot (λ r. r.name)
+
+abbrev pub request_name : Standing → List ℕ → Option (List ℕ)
+request_name s name = option_map (λ r. r.name) (request_by s name)
+
+abbrev pub session_name : Standing → List ℕ → Option (List ℕ)
+session_name s name = option_map (λ r. r.name) (session_by s name)
+
 -- the names of the contexts in the slots
 abbrev pub environment_of : Standing → Env → Environment
 environment_of s env =
@@ -56,6 +82,14 @@ abbrev pub session_for : Contexts → Option (List ℕ) → Option OpenSession
 session_for c None = None
 session_for c (Some name) = session_in c.sessions name
 
+-- the name of the session, if a request names one that is there
+abbrev pub session_name_for : Standing → Option (List ℕ) → Option (List ℕ)
+session_name_for s session = option_map (λ r. r.name) (session_for s.contexts session)
+
+-- a session is named that is marked or being destroyed
+abbrev pub is_marked_for : Contexts → Option (List ℕ) → Bool
+is_marked_for c session = is_marked_in (session_for c session)
+
 -- a session is named that isn't there
 abbrev pub is_new : Contexts → Option (List ℕ) → Bool
 is_new c None = false
@@ -70,6 +104,10 @@ begin_refusal c request session =
     else if is_new c session && nat_le 1024 (length c.sessions) then Some refusals.TooManySessions
     else None
 
+-- the same of what stands
+abbrev pub refusal_at : Standing → List ℕ → Option (List ℕ) → Option Refusal
+refusal_at s = begin_refusal s.contexts
+
 -- why a session isn't invalidated
 abbrev pub invalidate_refusal : Contexts → List ℕ → Option Refusal
 invalidate_refusal c name =
@@ -77,11 +115,31 @@ invalidate_refusal c name =
     else if is_marked_in (session_in c.sessions name) then Some refusals.SessionEnding
     else None
 
+-- a refusal is this one
+abbrev pub IsBy : Option Refusal → Refusal → Type 0
+IsBy refusal r = refusal ≡ Some r
+
+-- the end of a request is refused, as none of this name is there
+abbrev pub RefusesEnd : Standing → List ℕ → Refusal → Type 0
+RefusesEnd s name r = (r ≡ refusals.NoRequest) × (request_by s name ≡ None)
+
 -- ---- environments
+
+-- the names of an environment, if there is one
+abbrev pub environment_if : Standing → Option Env → Option Environment
+environment_if s env = option_map (environment_of s) env
+
+-- the environment has this session alone
+abbrev pub IsAloneIn : Standing → List ℕ → Env → Type 0
+IsAloneIn s name env = environment_of s env ≡ record { request = None; session = Some name }
 
 -- a request and its session, if that is there
 abbrev pub environment_for : Contexts → OpenRequest → Environment
 environment_for c r = record { request = Some r.name; session = option_map (λ s. s.name) (session_for c r.session) }
+
+-- the environment is that of the request of this name
+abbrev pub EndsIn : Standing → List ℕ → Env → Type 0
+EndsIn s name env = Some (environment_of s env) ≡ option_map (environment_for s.contexts) (request_by s name)
 
 abbrev pub session_environment : OpenSession → Environment
 session_environment s = record { request = None; session = Some s.name }
@@ -98,6 +156,12 @@ environment_with c (contexts.Session name) =
 abbrev pub first_open : {X : Type 0} → (X → Active) → List X → Option X
 first_open active [] = None
 first_open active (x ∷ more) = if is_ending (active x).status then first_open active more else Some x
+
+abbrev pub first_open_request : Standing → Option OpenRequest
+first_open_request s = first_open (λ r. r.active) s.contexts.requests
+
+abbrev pub first_open_session : Standing → Option OpenSession
+first_open_session s = first_open (λ s. s.active) s.contexts.sessions
 
 -- the environment of the first context of a scope that isn't being destroyed
 abbrev pub oldest_environment : Contexts → Scope → Option Environment

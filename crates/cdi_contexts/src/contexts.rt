@@ -1,7 +1,8 @@
 //! The contexts that are there.
 ghost use Rattle.std.specs.Prelude.{◌≡◌, OnOk, OnErr, IsOk, IsTrue, is_some, option_map};
 ghost use Rattle.std.specs.Option.{option_copied};
-ghost use Rattle.cdi_contexts.specs.Contexts.{active_with, active_without, entry_in, has_place, is_ending_in, last_in, with_held, with_nothing};
+ghost use Rattle.cdi_contexts.specs.Contexts.{active_with, active_without, entry_in, has_place};
+ghost use Rattle.cdi_contexts.specs.Contexts.{is_ending_in, last_in, with_held, with_nothing};
 ghost use Rattle.cdi_contexts.specs.Standing.{active_in, in_env, nothing_begun, IsOrderly};
 
 mod begin;
@@ -16,8 +17,8 @@ use cdi_base::{Scope, Text};
 use std::alloc::{AllocError, Global};
 use std::marker::Model;
 
-/// The contexts that are there (Jakarta CDI 4.0, *Context management for built-in scopes*): the application, and the
-/// requests and sessions, each in a slot that an [`Env`] names.
+/// The contexts that are there (Jakarta CDI 4.0, *Context management for built-in scopes*): the
+/// application, and the requests and sessions, each in a slot that an [`Env`] names.
 #[derive(Drop)]
 pub struct Contexts {
     alloc: Global,
@@ -49,8 +50,8 @@ impl Contexts {
         }
     }
 
-    /// Each request and each session has a slot and a name of its own among those that are there. A call does nothing: its
-    /// contract is the law.
+    /// Each request and each session has a slot and a name of its own among those that are there. A
+    /// call does nothing: its contract is the law.
     pub fn law_slots(&self)
         ensures { IsOrderly self.now }
     {
@@ -70,7 +71,8 @@ impl Contexts {
         }
     }
 
-    /// Whether the scope has an active context (Jakarta CDI 4.0, *The active context object for a scope*).
+    /// Whether the scope has an active context (Jakarta CDI 4.0, *The active context object for a
+    /// scope*).
     pub fn active(&self, scope: Scope, env: Env) -> bool
         ensures { result ≡ is_some (active_in self.now env scope) }
     {
@@ -87,24 +89,25 @@ impl Contexts {
         }
     }
 
-    /// What the active context of a scope has for a bean; nothing where the scope has no active context.
+    /// What the active context of a scope has for a bean; nothing where the scope has no active
+    /// context.
     pub fn entry(&self, scope: Scope, bean: u32, env: Env) -> Option<Held>
         ensures { result ≡ entry_in (active_in self.now env scope) bean }
     {
         self.table(scope, env)?.entry(bean)
     }
 
-    /// The greatest number of an instance that the active context of a scope has; none where it has no instance, or the
-    /// scope has no active context.
+    /// The greatest number of an instance that the active context of a scope has; none where it has
+    /// no instance, or the scope has no active context.
     pub fn last(&self, scope: Scope, env: Env) -> Option<u32>
         ensures { result ≡ last_in (active_in self.now env scope) }
     {
         self.table(scope, env)?.last()
     }
 
-    /// Gives the active context of a scope something for a bean. Where the scope has no active context, nothing changes.
-    /// Memory can be wanting only for a bean that has no entry yet, and for the number of an instance that the bean
-    /// doesn't have yet. On an error nothing changes.
+    /// Gives the active context of a scope something for a bean. Where the scope has no active
+    /// context, nothing changes. Memory can be wanting only for a bean that has no entry yet, and
+    /// for the number of an instance that the bean doesn't have yet. On an error nothing changes.
     pub fn put(&mut self, scope: Scope, bean: u32, env: Env, held: Held) -> Result<(), AllocError>
         ensures ok { OnOk result (self.new ≡ in_env env scope (with_held bean held) self.old) }
         ensures err { OnErr result (self.new ≡ self.old) }
@@ -118,8 +121,8 @@ impl Contexts {
         }
     }
 
-    /// Takes from the active context of a scope what it has for a bean. Where the scope has no active context, nothing
-    /// changes.
+    /// Takes from the active context of a scope what it has for a bean. Where the scope has no
+    /// active context, nothing changes.
     pub fn leave(&mut self, scope: Scope, bean: u32, env: Env)
         ensures { self.new ≡ in_env env scope (with_nothing bean) self.old }
     {
@@ -134,7 +137,8 @@ impl Contexts {
 
 /// Gives the application, if it is there, something for a bean. On an error nothing changes.
 fn put_in(application: &mut Option<Table>, bean: u32, held: Held) -> Result<(), AllocError>
-    ensures ok { OnOk result (application.new ≡ option_map (active_with bean held) application.old) }
+    ensures ok { OnOk result (
+        application.new ≡ option_map (active_with bean held) application.old) }
     ensures err { OnErr result (application.new ≡ application.old) }
     ensures there { IsTrue (has_place application.old bean held) → IsOk result }
 {

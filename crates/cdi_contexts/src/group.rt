@@ -1,11 +1,15 @@
 //! Requests or sessions in their slots.
-ghost use Rattle.std.specs.Prelude.{◌≡◌, ◌∷◌, ◌++◌, [], None, Some, length, option_map, IfOk, IsOk, IsTrue, OnSome, OnOk, OnErr};
+ghost use Rattle.std.specs.Prelude.{◌≡◌, ◌∷◌, ◌++◌, [], None, Some, length, option_map, IfOk, IsOk};
+ghost use Rattle.std.specs.Prelude.{IsTrue, OnSome, OnOk, OnErr};
 ghost use Rattle.std.specs.Option.{option_copied};
 ghost use Rattle.std.specs.List.{list_any};
 ghost use Rattle.std.specs.Prelude.{map};
 ghost use Rattle.cdi_base.specs.Maps.{adjusted, at, without};
-ghost use Rattle.cdi_contexts.specs.Contexts.{belongs_to, has_place, active_with, active_without, ending_active};
-ghost use Rattle.cdi_contexts.specs.Group.{first_kept, kept_named, marked, outline, request_of, shown, table_at, without_at, with_table, with_table_at, AreApart};
+ghost use Rattle.cdi_contexts.specs.Contexts.{belongs_to, has_place, active_with, active_without};
+ghost use Rattle.cdi_contexts.specs.Contexts.{ending_active};
+ghost use Rattle.cdi_contexts.specs.Group.{first_kept, kept_named, marked, outline, request_of};
+ghost use Rattle.cdi_contexts.specs.Group.{shown, table_at, without_at, with_table, with_table_at};
+ghost use Rattle.cdi_contexts.specs.Group.{AreApart};
 
 use crate::context::{Held, Status};
 use crate::table::Table;
@@ -15,8 +19,8 @@ use slab::Slab;
 use std::alloc::{AllocError, Global};
 use std::marker::Model;
 
-/// A request or a session: its name, the session that a request belongs to or whether a session is marked, and what it
-/// has.
+/// A request or a session: its name, the session that a request belongs to or whether a session is
+/// marked, and what it has.
 #[derive(Drop)]
 pub struct Kept<D> {
     pub name: Text,
@@ -24,7 +28,8 @@ pub struct Kept<D> {
     pub table: Table,
 }
 
-/// The requests or the sessions that are there, in the order in which they came, each in a slot of its own.
+/// The requests or the sessions that are there, in the order in which they came, each in a slot of
+/// its own.
 #[derive(Drop)]
 pub struct Group<D> {
     taken: Slab<()>,
@@ -129,8 +134,9 @@ impl<D> Group<D> {
         Ok(slot)
     }
 
-    /// Gives a context something for a bean, if its slot is that of one. What the bean has already, and `Held::Making`
-    /// for a bean that has an entry, need no memory. On an error nothing changes.
+    /// Gives a context something for a bean, if its slot is that of one. What the bean has already,
+    /// and `Held::Making` for a bean that has an entry, need no memory. On an error nothing
+    /// changes.
     pub fn put(&mut self, slot: usize, bean: u32, held: Held) -> Result<(), AllocError>
         ensures ok { OnOk result (self.new ≡ with_table slot (active_with bean held) self.old) }
         ensures err { OnErr result (self.new ≡ self.old) }

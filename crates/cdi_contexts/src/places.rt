@@ -1,6 +1,7 @@
 //! The numbers of the instances that a context has, in order.
 ghost use Rattle.std.specs.Prelude.{◌≡◌, [], Some, IsOk, IsTrue, OnOk, OnErr};
-ghost use Rattle.cdi_contexts.specs.Places.{is_listed, Adds, IsLast, IsOutline, IsSame, Replaces, Takes};
+ghost use Rattle.cdi_contexts.specs.Places.{is_listed, Adds, IsLast, IsOutline, IsSame, Replaces};
+ghost use Rattle.cdi_contexts.specs.Places.{Takes};
 
 use crate::context::Held;
 use std::alloc::{AllocError, Global};
@@ -29,8 +30,8 @@ impl Places {
         }
     }
 
-    /// Adds the number of what a bean has, if that is one. One that is there already needs no memory. On an error
-    /// nothing changes.
+    /// Adds the number of what a bean has, if that is one. One that is there already needs no
+    /// memory. On an error nothing changes.
     pub fn add(&mut self, bean: u32, held: Held) -> Result<(), AllocError>
         ensures ok { OnOk result (Adds bean held self.old self.new) }
         ensures err { OnErr result (IsSame self.old self.new) }
@@ -51,7 +52,8 @@ impl Places {
         }
     }
 
-    /// Takes out the number of what a bean had before, if that is one and isn't the number of what it has now.
+    /// Takes out the number of what a bean had before, if that is one and isn't the number of what
+    /// it has now.
     pub fn replace(&mut self, bean: u32, before: Option<Held>, held: Held)
         ensures { Replaces bean before held self.old self.new }
     {

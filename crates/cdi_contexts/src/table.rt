@@ -9,8 +9,8 @@ use std::alloc::{AllocError, Global};
 use std::collections::BTreeMap;
 use std::marker::Model;
 
-/// What one context has: for beans, by their indices in rising order, their instances, and beside that the numbers of
-/// those in order.
+/// What one context has: for beans, by their indices in rising order, their instances, and beside
+/// that the numbers of those in order.
 #[derive(Drop)]
 pub struct Table {
     status: Status,
@@ -57,8 +57,8 @@ impl Table {
         self.held.get(&bean).copied()
     }
 
-    /// Gives the context something for a bean. What the bean has already, and `Held::Making` for a bean that has an
-    /// entry, need no memory. On an error nothing changes.
+    /// Gives the context something for a bean. What the bean has already, and `Held::Making` for a
+    /// bean that has an entry, need no memory. On an error nothing changes.
     pub fn put(&mut self, bean: u32, held: Held) -> Result<(), AllocError>
         ensures ok { OnOk result (self.new ≡ active_with bean held self.old) }
         ensures err { OnErr result (self.new ≡ self.old) }

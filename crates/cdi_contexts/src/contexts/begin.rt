@@ -1,10 +1,11 @@
 //! How requests and sessions begin.
 ghost use Rattle.std.specs.Prelude.{◌≡◌, is_some, IfOk, IfErr, IfSome, OnErr, None, Some, Err};
+ghost use Rattle.std.specs.Prelude.{false};
 ghost use Rattle.std.specs.Option.{option_copied};
 ghost use Rattle.cdi_contexts.specs.declared.contexts.begin.BeginError.TheVariants.{Memory};
-ghost use Rattle.cdi_contexts.specs.Contexts.{fresh, request_in, session_in};
-ghost use Rattle.std.specs.Prelude.{false};
-ghost use Rattle.cdi_contexts.specs.Standing.{Begins, begin_refusal, is_marked_in, is_new, session_for};
+ghost use Rattle.cdi_contexts.specs.Contexts.{request_in, session_in};
+ghost use Rattle.cdi_contexts.specs.Group.{at_begin};
+ghost use Rattle.cdi_contexts.specs.Standing.{Begins, is_marked_for, is_new, refusal_at};
 
 use super::Contexts;
 use crate::context::Env;
@@ -42,7 +43,7 @@ impl From<AllocError> for BeginError {
 impl Contexts {
     /// Whether a session is named that is there and is marked.
     fn is_marked(&self, session: Option<&str>) -> bool
-        ensures { result ≡ is_marked_in (session_for self.now.contexts (option_copied session.entry)) }
+        ensures { result ≡ is_marked_for self.now.contexts (option_copied session.entry) }
     {
         let Some(name) = session else {
             return false;
@@ -63,12 +64,13 @@ impl Contexts {
         }
     }
 
-    /// Why a request doesn't begin, if it doesn't: the first of these that holds. [`Refusal::RequestOpen`]: a request of
-    /// this name is there. [`Refusal::SessionEnding`]: its session is there, and is marked.
-    /// [`Refusal::TooManyRequests`]: [`MAX_REQUESTS`] are there. [`Refusal::TooManySessions`]: its session is new, and
+    /// Why a request doesn't begin, if it doesn't: the first of these that holds.
+    /// [`Refusal::RequestOpen`]: a request of this name is there. [`Refusal::SessionEnding`]: its
+    /// session is there, and is marked. [`Refusal::TooManyRequests`]:
+    /// [`MAX_REQUESTS`] are there. [`Refusal::TooManySessions`]: its session is new, and
     /// [`MAX_SESSIONS`] are there.
     pub fn refuses_begin(&self, request: &str, session: Option<&str>) -> Option<Refusal>
-        ensures { result ≡ begin_refusal self.now.contexts request.now (option_copied session.entry) }
+        ensures { result ≡ refusal_at self.now request.now (option_copied session.entry) }
     {
         if self.has_request(request) {
             Some(Refusal::RequestOpen)
@@ -83,13 +85,17 @@ impl Contexts {
         }
     }
 
-    /// Begins a request, in its session if it names one. A session that isn't there yet begins with it. Both are open
-    /// and empty, and the environment is theirs; their slots are no one's until then. It is refused exactly as
-    /// [`Contexts::refuses_begin`] says, whatever memory there is. On an error nothing changes.
+    /// Begins a request, in its session if it names one. A session that isn't there yet begins with
+    /// it. Both are open and empty, and the environment is theirs; their slots are no one's until
+    /// then. It is refused exactly as [`Contexts::refuses_begin`] says, whatever memory there is.
+    /// On an error nothing changes.
     pub fn begin(&mut self, request: &str, session: Option<&str>) -> Result<Env, BeginError>
-        ensures begun { IfOk result (λ env. Begins request.now (option_copied session.entry) self.old env self.new) }
-        ensures refused { IfSome (begin_refusal self.old.contexts request.now (option_copied session.entry)) (λ r. result ≡ Err (BeginError.Refused r)) }
-        ensures memory { begin_refusal self.old.contexts request.now (option_copied session.entry) ≡ None → IfErr result (λ e. e ≡ BeginError.Memory) }
+        ensures begun { IfOk result (λ env.
+            Begins request.now (option_copied session.entry) self.old env self.new) }
+        ensures refused { IfSome (refusal_at self.old request.now (option_copied session.entry))
+            (λ r. result ≡ Err (BeginError.Refused r)) }
+        ensures memory { refusal_at self.old request.now (option_copied session.entry) ≡ None
+            → IfErr result (λ e. e ≡ BeginError.Memory) }
         ensures err { OnErr result (self.new ≡ self.old) }
     {
         if let Some(refusal) = self.refuses_begin(request, session) {
@@ -118,7 +124,8 @@ impl Contexts {
     /// Begins a request that is new, in its session.
     fn begin_in(&mut self, request: &str, session: &str) -> Result<Env, AllocError>
         requires { request_in self.old.contexts.requests request.now ≡ None }
-        ensures begun { IfOk result (λ env. Begins request.now (Some session.now) self.old env self.new) }
+        ensures begun { IfOk result (λ env.
+            Begins request.now (Some session.now) self.old env self.new) }
         ensures err { OnErr result (self.new ≡ self.old) }
     {
         let Some((session_slot, _kept)) = self.session(session) else {
@@ -136,7 +143,8 @@ impl Contexts {
     fn begin_both(&mut self, request: &str, session: &str) -> Result<Env, AllocError>
         requires request { request_in self.old.contexts.requests request.now ≡ None }
         requires session { session_in self.old.contexts.sessions session.now ≡ None }
-        ensures begun { IfOk result (λ env. Begins request.now (Some session.now) self.old env self.new) }
+        ensures begun { IfOk result (λ env.
+            Begins request.now (Some session.now) self.old env self.new) }
         ensures err { OnErr result (self.new ≡ self.old) }
     {
         let kept = new_request(self.alloc, request, Some(session))?;
@@ -161,7 +169,7 @@ fn new_request(
     name: &str,
     session: Option<&str>,
 ) -> Result<Kept<Option<Text>>, AllocError>
-    ensures { IfOk result (λ k. k ≡ record { name = name.now; detail = option_copied session.entry; table = fresh }) }
+    ensures { IfOk result (λ k. k ≡ at_begin name.now (option_copied session.entry)) }
 {
     let session = match session {
         Some(name) => Some(Text::from_str(alloc, name)?),
@@ -176,7 +184,7 @@ fn new_request(
 
 /// A session at its begin.
 fn new_session(alloc: Global, name: &str) -> Result<Kept<bool>, AllocError>
-    ensures { IfOk result (λ k. k ≡ record { name = name.now; detail = false; table = fresh }) }
+    ensures { IfOk result (λ k. k ≡ at_begin name.now false) }
 {
     Ok(Kept {
         name: Text::from_str(alloc, name)?,

@@ -1,7 +1,13 @@
 //! How requests and sessions end.
-ghost use Rattle.std.specs.Prelude.{◌≡◌, IfOk, IfErr, OnOk, OnErr, Some, None, option_map};
-ghost use Rattle.cdi_contexts.specs.Contexts.{ending_active, request_in, session_in, with_ending};
-ghost use Rattle.cdi_contexts.specs.Standing.{with_marked, active_in, in_env, with_step, without_env, environment_for, environment_of, environment_with, in_slot, invalidate_refusal, is_due_in, oldest_environment, of_slot, session_for};
+ghost use Rattle.std.specs.Prelude.{◌≡◌, IfOk, IfErr, OnOk, OnErr, None, option_map};
+ghost use Rattle.cdi_contexts.specs.Contexts.{ending_active, with_ending};
+ghost use Rattle.cdi_contexts.specs.Standing.{active_in, in_env, with_marked, with_step};
+ghost use Rattle.cdi_contexts.specs.Standing.{without_env};
+ghost use Rattle.cdi_contexts.specs.Standing.{environment_if, environment_of, environment_with};
+ghost use Rattle.cdi_contexts.specs.Standing.{invalidate_refusal, is_due_in, oldest_environment};
+ghost use Rattle.cdi_contexts.specs.Standing.{request_name, request_name_at, session_name};
+ghost use Rattle.cdi_contexts.specs.Standing.{session_name_at, session_name_for};
+ghost use Rattle.cdi_contexts.specs.Standing.{EndsIn, IsAloneIn, IsBy, RefusesEnd};
 
 use super::Contexts;
 use crate::context::{Env, Status};
@@ -10,11 +16,12 @@ use cdi_base::{Refusal, Scope, Text};
 use cdi_store::Context;
 
 impl Contexts {
-    /// The environment of a request that ends: its own and that of its session, if that is there. It is refused with
-    /// [`Refusal::NoRequest`] if no request of this name is there. Nothing changes.
+    /// The environment of a request that ends: its own and that of its session, if that is there.
+    /// It is refused with [`Refusal::NoRequest`] if no request of this name is there. Nothing
+    /// changes.
     pub fn end(&self, request: &str) -> Result<Env, Refusal>
-        ensures ok { IfOk result (λ env. Some (environment_of self.now env) ≡ option_map (environment_for self.now.contexts) (request_in self.now.contexts.requests request.now)) }
-        ensures refused { IfErr result (λ r. (r ≡ Refusal.NoRequest) × (request_in self.now.contexts.requests request.now ≡ None)) }
+        ensures ok { IfOk result (EndsIn self.now request.now) }
+        ensures refused { IfErr result (RefusesEnd self.now request.now) }
     {
         let Some((slot, kept)) = self.request(request) else {
             return Err(Refusal::NoRequest);
@@ -27,7 +34,7 @@ impl Contexts {
 
     /// The slot of a request's session, if that is there.
     fn slot_for(&self, session: &Option<Text>) -> Option<usize>
-        ensures { of_slot (in_slot self.now.session_slots self.now.contexts.sessions) result (λ s. s.name) ≡ option_map (λ s. s.name) (session_for self.now.contexts session.now) }
+        ensures { session_name_at self.now result ≡ session_name_for self.now session.now }
     {
         match session {
             Some(name) => self.session_slot(name.as_str()),
@@ -35,10 +42,11 @@ impl Contexts {
         }
     }
 
-    /// The environment of the first request, or the first session, that isn't being destroyed: of a request as
-    /// [`Contexts::end`] gives it, of a session with it alone. There is none for the other scopes.
+    /// The environment of the first request, or the first session, that isn't being destroyed: of a
+    /// request as [`Contexts::end`] gives it, of a session with it alone. There is none for the
+    /// other scopes.
     pub fn oldest(&self, scope: Scope) -> Option<Env>
-        ensures { option_map (environment_of self.now) result ≡ oldest_environment self.now.contexts scope }
+        ensures { environment_if self.now result ≡ oldest_environment self.now.contexts scope }
     {
         match scope {
             Scope::RequestScoped => {
@@ -59,8 +67,8 @@ impl Contexts {
         }
     }
 
-    /// Why a session isn't invalidated, if it isn't: [`Refusal::NoSession`] if none of this name is there, and
-    /// [`Refusal::SessionEnding`] if it is marked already.
+    /// Why a session isn't invalidated, if it isn't: [`Refusal::NoSession`] if none of this name is
+    /// there, and [`Refusal::SessionEnding`] if it is marked already.
     pub fn refuses_invalidate(&self, session: &str) -> Option<Refusal>
         ensures { result ≡ invalidate_refusal self.now.contexts session.now }
     {
@@ -76,13 +84,14 @@ impl Contexts {
         }
     }
 
-    /// Marks a session: it ends with its last request, and one that no request has is due at once ([`Contexts::due`]). The environment holds it alone. It is refused exactly as
-    /// [`Contexts::refuses_invalidate`] says, and then nothing changes.
+    /// Marks a session: it ends with its last request, and one that no request has is due at once
+    /// ([`Contexts::due`]). The environment holds it alone. It is
+    /// refused exactly as [`Contexts::refuses_invalidate`] says, and then nothing changes.
     pub fn invalidate(&mut self, session: &str) -> Result<Env, Refusal>
         ensures marked { OnOk result (self.new ≡ with_marked session.now self.old) }
-        ensures environment { IfOk result (λ env. environment_of self.new env ≡ record { request = None; session = Some session.now }) }
+        ensures environment { IfOk result (IsAloneIn self.new session.now) }
         ensures goes { OnOk result (invalidate_refusal self.old.contexts session.now ≡ None) }
-        ensures refused { IfErr result (λ r. invalidate_refusal self.old.contexts session.now ≡ Some r) }
+        ensures refused { IfErr result (IsBy (invalidate_refusal self.old.contexts session.now)) }
         ensures err { OnErr result (self.new ≡ self.old) }
     {
         if let Some(refusal) = self.refuses_invalidate(session) {
@@ -98,7 +107,8 @@ impl Contexts {
         })
     }
 
-    /// Whether the session of an environment is marked and no request that is there belongs to it, so that it ends.
+    /// Whether the session of an environment is marked and no request that is there belongs to it,
+    /// so that it ends.
     pub fn due(&self, env: Env) -> bool
         ensures { result ≡ is_due_in self.now.contexts (environment_of self.now env).session }
     {
@@ -132,22 +142,22 @@ impl Contexts {
     }
 
     fn request_slot(&self, name: &str) -> Option<usize>
-        ensures { of_slot (in_slot self.now.request_slots self.now.contexts.requests) result (λ r. r.name) ≡ option_map (λ r. r.name) (request_in self.now.contexts.requests name.now) }
+        ensures { request_name_at self.now result ≡ request_name self.now name.now }
     {
         let (slot, _kept) = self.request(name)?;
         Some(slot)
     }
 
     fn session_slot(&self, name: &str) -> Option<usize>
-        ensures { of_slot (in_slot self.now.session_slots self.now.contexts.sessions) result (λ s. s.name) ≡ option_map (λ s. s.name) (session_in self.now.contexts.sessions name.now) }
+        ensures { session_name_at self.now result ≡ session_name self.now name.now }
     {
         let (slot, _kept) = self.session(name)?;
         Some(slot)
     }
 
-    /// A context takes its next step towards its end: an open one begins to be destroyed, so that no more instances are
-    /// made in it, and one that is being destroyed is gone, so that its slot may be given again. Where the scope has no
-    /// active context, nothing changes.
+    /// A context takes its next step towards its end: an open one begins to be destroyed, so that
+    /// no more instances are made in it, and one that is being destroyed is gone, so that its slot
+    /// may be given again. Where the scope has no active context, nothing changes.
     pub fn step(&mut self, scope: Scope, env: Env)
         ensures { self.new ≡ with_step env scope (active_in self.old env scope) self.old }
     {

@@ -1,8 +1,8 @@
 //! Requests and sessions by their names.
-ghost use Rattle.std.specs.Prelude.{◌≡◌, is_some, IfSome, Some, option_map};
-ghost use Rattle.cdi_contexts.specs.Contexts.{request_in, session_in};
-ghost use Rattle.cdi_contexts.specs.Group.{request_of, session_of};
-ghost use Rattle.cdi_contexts.specs.Standing.{first_open, in_slot, of_slot, session_for};
+ghost use Rattle.std.specs.Prelude.{◌≡◌, is_some, IfSome, option_map};
+ghost use Rattle.cdi_contexts.specs.Group.{request_found, session_found, IsRequestOf, IsSessionOf};
+ghost use Rattle.cdi_contexts.specs.Standing.{first_open_request, first_open_session};
+ghost use Rattle.cdi_contexts.specs.Standing.{request_by, session_by};
 
 use super::Contexts;
 use crate::group::Kept;
@@ -11,46 +11,46 @@ use cdi_base::Text;
 impl Contexts {
     /// The request of a name, with its slot.
     pub(super) fn request(&self, name: &str) -> Option<(usize, &Kept<Option<Text>>)>
-        ensures value { option_map (λ p. request_of p.1.now) result ≡ request_in self.now.contexts.requests name.now }
-        ensures there { IfSome result (λ p. in_slot self.now.request_slots self.now.contexts.requests p.0 ≡ Some (request_of p.1.now)) }
+        ensures value { option_map request_found result ≡ request_by self.now name.now }
+        ensures there { IfSome result (IsRequestOf self.now) }
     {
         self.requests.find(name)
     }
 
     /// The session of a name, with its slot.
     pub(super) fn session(&self, name: &str) -> Option<(usize, &Kept<bool>)>
-        ensures value { option_map (λ p. session_of p.1.now) result ≡ session_in self.now.contexts.sessions name.now }
-        ensures there { IfSome result (λ p. in_slot self.now.session_slots self.now.contexts.sessions p.0 ≡ Some (session_of p.1.now)) }
+        ensures value { option_map session_found result ≡ session_by self.now name.now }
+        ensures there { IfSome result (IsSessionOf self.now) }
     {
         self.sessions.find(name)
     }
 
     /// The first request that isn't being destroyed, with its slot.
     pub(super) fn first_request(&self) -> Option<(usize, &Kept<Option<Text>>)>
-        ensures value { option_map (λ p. request_of p.1.now) result ≡ first_open (λ r. r.active) self.now.contexts.requests }
-        ensures there { IfSome result (λ p. in_slot self.now.request_slots self.now.contexts.requests p.0 ≡ Some (request_of p.1.now)) }
+        ensures value { option_map request_found result ≡ first_open_request self.now }
+        ensures there { IfSome result (IsRequestOf self.now) }
     {
         self.requests.first_open()
     }
 
     /// The first session that isn't being destroyed, with its slot.
     pub(super) fn first_session(&self) -> Option<(usize, &Kept<bool>)>
-        ensures value { option_map (λ p. session_of p.1.now) result ≡ first_open (λ s. s.active) self.now.contexts.sessions }
-        ensures there { IfSome result (λ p. in_slot self.now.session_slots self.now.contexts.sessions p.0 ≡ Some (session_of p.1.now)) }
+        ensures value { option_map session_found result ≡ first_open_session self.now }
+        ensures there { IfSome result (IsSessionOf self.now) }
     {
         self.sessions.first_open()
     }
 
     /// Whether a request of this name is there, open or being destroyed.
     pub fn has_request(&self, name: &str) -> bool
-        ensures { result ≡ is_some (request_in self.now.contexts.requests name.now) }
+        ensures { result ≡ is_some (request_by self.now name.now) }
     {
         self.request(name).is_some()
     }
 
     /// Whether a session of this name is there, open or being destroyed.
     pub fn has_session(&self, name: &str) -> bool
-        ensures { result ≡ is_some (session_in self.now.contexts.sessions name.now) }
+        ensures { result ≡ is_some (session_by self.now name.now) }
     {
         self.session(name).is_some()
     }
