@@ -1,4 +1,6 @@
 pub mod Entries
+pub mod Kept
 pub mod Numbers
+pub mod Owned
 pub mod Owners
 pub mod Slots

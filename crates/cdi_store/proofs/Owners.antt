@@ -1,10 +1,10 @@
 -- An instance in the list of its owner, and its references.
-use Rattle.std.proofs.Common.{◌≡◌, ◌≢◌, ℕ, Bool, true, false, [], ◌∷◌, cond, Option, Some, None, IsSome, IsNone, IsSomeAnd, is_some, inl, inr, refl, sym, ap, ◌∙◌}
+use Rattle.std.proofs.Common.{◌≡◌, ◌≢◌, ℕ, ◌++◌, Bool, true, false, List, [], ◌∷◌, cond, Option, Some, None, IsSome, IsNone, IsSomeAnd, is_some, inl, inr, refl, sym, ap, ◌∙◌}
 use Rattle.cdi_base.specs.Maps.{Map, at, adjusted}
 use Rattle.cdi_store.specs.declared.instance.Instance.{Instance}
 use Rattle.cdi_store.specs.declared.instance.Owner.{Owner}
 use Rattle.cdi_store.specs.declared.instance.Owner.TheVariants as owners
-use Rattle.cdi_store.specs.Live.{Instances, with_dependent, without_dependent, for_owner, number_of, owner_in, owner_at, reference_in}
+use Rattle.cdi_store.specs.Live.{Instances, all_but, with_dependent, without_dependent, for_owner, number_of, owner_in, owner_at, other_than, reference_in}
 use Rattle.cdi_store.proofs.Numbers.{equal_or_not}
 
 -- ---- changes of instances
@@ -31,6 +31,14 @@ module _ {X : Type 0} where
     ]
   ]
 
+  -- equal changes
+  pub adjusted-agree : (n : ℕ) (f g : X → X) (m : Map X) → ((x : X) → f x ≡ g x) → adjusted n f m ≡ adjusted n g m
+  adjusted-agree n f g [] h = refl
+  adjusted-agree n f g (p ∷ more) h = elim (equal_or_not n p.0) [
+    | inl s ↦ rw s.0 (ap (λ (x : X). (p.0, x) ∷ more) (h p.1))
+    | inr s ↦ rw s.0 (ap (λ r. p ∷ r) (adjusted-agree n f g more h))
+  ]
+
   -- two changes of one number are one
   pub adjusted-twice : (n : ℕ) (f g : X → X) (m : Map X) → adjusted n f (adjusted n g m) ≡ adjusted n (λ x. f (g x)) m
   adjusted-twice n f g [] = refl
@@ -45,7 +53,7 @@ number-cond : (b : Bool) (k m : ℕ) → cond b (Some k) None ≡ Some m → k �
 number-cond true k m h = cc
 number-cond false k m h = absurd (cc)
 
-absent-cond : (o : Option Instance) (k : ℕ) → cond (is_some o) (Some k) None ≡ None → o ≡ None
+pub absent-cond : (o : Option Instance) (k : ℕ) → cond (is_some o) (Some k) None ≡ None → o ≡ None
 absent-cond None k h = refl
 absent-cond (Some x) k h = absurd (cc)
 
@@ -91,6 +99,72 @@ leaves-owner n m live e = by_owner (without_dependent n) (without_dependent n) l
 
 pub leaves-no_owner : (n : ℕ) (live : Instances) → None ≡ owner_at n live → for_owner (at live n) (without_dependent n) live ≡ live
 leaves-no_owner n live e = by_none (without_dependent n) (without_dependent n) live (at live n) (leaves-none n live) (sym e)
+
+-- who has it no longer
+abbrev pub taken_from : Option ℕ → ℕ → Instances → Instances
+taken_from None n live = live
+taken_from (Some m) n live = without_dependent n (owners.Instance m) live
+
+pub leaves-taken : (n : ℕ) (live : Instances) → for_owner (at live n) (without_dependent n) live ≡ taken_from (owner_at n live) n live
+leaves-taken n live = by (owner_at n live) refl
+  where
+    by : (o : Option ℕ) → o ≡ owner_at n live → for_owner (at live n) (without_dependent n) live ≡ taken_from o n live
+    by None e = leaves-no_owner n live e
+    by (Some m) e = leaves-owner n m live e
+
+all_but-twice : (n : ℕ) (ms : List ℕ) → all_but n (all_but n ms) ≡ all_but n ms
+all_but-twice n [] = refl
+all_but-twice n (m ∷ ms) = elim (equal_or_not m n) [
+  | inl s ↦ rw s.0 (all_but-twice n ms)
+  | inr s ↦ rw (s.0, s.0) (ap (λ r. m ∷ r) (all_but-twice n ms))
+]
+
+-- It may join the new list first, if it then only leaves the list of another.
+pub moves : (n m : ℕ) (live : Instances) (o : Option ℕ) → taken_from (other_than m o) n (with_dependent n (owners.Instance m) live) ≡ with_dependent n (owners.Instance m) (taken_from o n live)
+moves n m live None = refl
+moves n m live (Some k) = elim (equal_or_not k m) [
+  | inl s ↦
+      rw (s.0, s.1, adjusted-twice m _ _ live)
+      (adjusted-agree m _ _ live (λ o. ap (λ ms. let is : Instance = record o { dependents = ms ++ n ∷ [] } in is) (sym (all_but-twice n o.dependents))))
+  | inr s ↦ rw s.0 (adjusted-apart k m _ _ live s.1)
+]
+
+-- ---- who owns an instance
+
+owner-number : (live : Instances) (w : Owner) (m : ℕ) → Some m ≡ number_of live w → w ≡ owners.Instance m
+owner-number live (owners.Instance k) m h = ap (λ j. owners.Instance j) (number-cond (is_some (at live k)) k m (sym h))
+owner-number live (owners.Context context) m h = absurd (cc)
+owner-number live owners.Borrower m h = absurd (cc)
+
+-- an instance of the number lives and has this owner
+abbrev pub Owns : Instances → ℕ → Owner → Type 0
+Owns live n w = (x : Instance) × (at live n ≡ Some x) × (x.owner ≡ w)
+
+pub owns-by : (n m : ℕ) (live : Instances) → Some m ≡ owner_at n live → Owns live n (owners.Instance m)
+owns-by n m live h = by (at live n) refl h
+  where
+    by : (o : Option Instance) → at live n ≡ o → Some m ≡ owner_in live o → Owns live n (owners.Instance m)
+    by None e h = absurd (cc)
+    by (Some x) e h = (x, e, owner-number live x.owner m h)
+
+lives-cond : (o : Option Instance) (k m : ℕ) → Some m ≡ cond (is_some o) (Some k) None → (y : Instance) × (o ≡ Some y)
+lives-cond None k m h = absurd (cc)
+lives-cond (Some y) k m h = (y, refl)
+
+lives-owner : (live : Instances) (w : Owner) (m : ℕ) → Some m ≡ number_of live w → (y : Instance) × (at live m ≡ Some y)
+lives-owner live (owners.Instance k) m h =
+    let e : k ≡ m = number-cond (is_some (at live k)) k m (sym h) in
+    rw (← e) (lives-cond (at live k) k m h)
+lives-owner live (owners.Context context) m h = absurd (cc)
+lives-owner live owners.Borrower m h = absurd (cc)
+
+-- the owner lives
+pub owner-lives : (n m : ℕ) (live : Instances) → Some m ≡ owner_at n live → (y : Instance) × (at live m ≡ Some y)
+owner-lives n m live h = by (at live n) h
+  where
+    by : (o : Option Instance) → Some m ≡ owner_in live o → (y : Instance) × (at live m ≡ Some y)
+    by None h = absurd (cc)
+    by (Some x) h = lives-owner live x.owner m h
 
 -- ---- references
 

@@ -147,7 +147,7 @@ sound-changed f old new m slot next changes s =
 
 -- ---- slots that all stay
 
-instances_in-same : (old new : Slab Instance) (m : Map ℕ) → SameValues old new → instances_in new.slots m ≡ instances_in old.slots m
+pub instances_in-same : (old new : Slab Instance) (m : Map ℕ) → SameValues old new → instances_in new.slots m ≡ instances_in old.slots m
 instances_in-same old new [] same = refl
 instances_in-same old new (p ∷ more) same =
     rw (same p.1) (ap (preceded p.0 (slot_at old.slots p.1)) (instances_in-same old new more same))

@@ -80,10 +80,10 @@ owned_by owner n = adjusted n (λ o. record o { owner = owner })
 abbrev pub all_but : ℕ → List ℕ → List ℕ
 all_but n numbers = filter (λ m. not (m == n)) numbers
 
--- the owner has the instance as its last dependent
+-- the owner has the instance once, as its last dependent
 abbrev pub with_dependent : ℕ → Owner → Instances → Instances
 with_dependent n (owners.Instance m) live =
-    adjusted m (λ o. record o { dependents = o.dependents ++ n ∷ [] }) live
+    adjusted m (λ o. record o { dependents = all_but n o.dependents ++ n ∷ [] }) live
 with_dependent n (owners.Context context) live = live
 with_dependent n owners.Borrower live = live
 
@@ -124,6 +124,14 @@ owner_in live (Some o) = number_of live o.owner
 -- the number of the live instance that owns an instance, if one does
 abbrev pub owner_at : ℕ → Instances → Option ℕ
 owner_at n live = owner_in live (at live n)
+
+abbrev pub other_than : ℕ → Option ℕ → Option ℕ
+other_than m None = None
+other_than m (Some k) = if k == m then None else Some k
+
+-- the number of the live instance that owns an instance, if one does and it isn't m
+abbrev pub other_owner_at : ℕ → ℕ → Instances → Option ℕ
+other_owner_at m n live = other_than m (owner_at n live)
 
 -- the reference of an injected field, if the instance lives and the field has one
 abbrev pub reference_in : Option Instance → ℕ → Option Reference

@@ -1,10 +1,12 @@
 -- How the instances lie in their slots: what a contract sees of a store, and what is true of every store.
 use Rattle.std.specs.Prelude.{◌≡◌, ◌≢◌, ℕ, ◌<◌, ◌≤◌, ◌^◌, List, [], ◌∷◌, Option, Some, None, IsSome, map, slice_index_or, option_map}
 use Rattle.std.specs.List.{AllByRecursion}
-use Rattle.slab.specs.Slab.{Slab, get}
+use Rattle.slab.specs.Slab.{Slab, get, SameValues}
 use Rattle.cdi_base.specs.Maps.{Map}
 use Rattle.cdi_store.specs.declared.instance.Instance.{Instance}
+use Rattle.cdi_store.specs.declared.key.Key.{Key}
 use Rattle.cdi_store.specs.Live.{Instances, Kept}
+use Rattle.cdi_store.specs.Owned.{AreOwned}
 
 abbrev pub Slots : Type 0
 Slots = List (Option Instance)
@@ -50,6 +52,11 @@ pub record IsSound (slots : Slots) (numbers : Map ℕ) (next : ℕ) : Type 0 whe
   pub positive : 0 < next
   pub most : next ≤ 2 ^ 32
 
+-- what is true of every store
+pub record IsKept (slots : Slots) (numbers : Map ℕ) (next : ℕ) : Type 0 where
+  pub sound : IsSound slots numbers next
+  pub owned : AreOwned (instances_in slots numbers) next
+
 -- The numbers of the live instances rise, each is below the next one, and no two instances have one slot.
 pub record IsOrderly (kept : Kept) : Type 0 where
   pub rising : AreRising kept.slots
@@ -61,3 +68,8 @@ pub record IsOrderly (kept : Kept) : Type 0 where
 pub record Changes (old new : Slab Instance) (slot : ℕ) (f : Instance → Instance) : Type 0 where
   pub changed : get new slot ≡ option_map f (get old slot)
   pub others : (other : ℕ) → other ≢ slot → get new other ≡ get old other
+
+-- the same for the slot of a key, if there is one
+abbrev pub ChangesAt : Slab Instance → Slab Instance → Option Key → (Instance → Instance) → Type 0
+ChangesAt old new None f = SameValues old new
+ChangesAt old new (Some key) f = Changes old new key.slot f

@@ -4,14 +4,15 @@ ghost use Rattle.slab.specs.Slab.{get, SameValues};
 ghost use Rattle.cdi_base.specs.Fields.{set};
 ghost use Rattle.cdi_base.specs.Maps.{at, put};
 ghost use Rattle.cdi_store.specs.Live.{all_but};
-ghost use Rattle.cdi_store.specs.Slots.{Changes};
+ghost use Rattle.cdi_store.specs.Slots.{Changes, ChangesAt};
 
 use crate::dependents::{put_last, remove_from};
 use crate::instance::{Instance, Owner, Phase};
+use crate::key::Key;
 use crate::references::Reference;
 use cdi_base::{Name, Value};
 use slab::Slab;
-use std::alloc::{AllocError, AllocFailed, Global};
+use std::alloc::{AllocError, Global};
 
 /// Gives a field of the instance another value, if it is there.
 pub(crate) fn set_in(slots: &mut Slab<Instance>, slot: usize, field: Name, value: Value)
@@ -69,34 +70,28 @@ pub(crate) fn set_owner_in(slots: &mut Slab<Instance>, slot: usize, owner: Owner
     }
 }
 
-/// Adds a dependent at the end of the instance's list. On an error nothing changes.
-pub(crate) fn push_dependent_in(
-    slots: &mut Slab<Instance>,
-    slot: usize,
-    number: u32,
-) -> Result<(), AllocFailed<u32>>
-    ensures ok { OnOk result (Changes slots.old slots.new slot
-        (λ o. record o { dependents = o.dependents ++ number ∷ [] })) }
-    ensures err { OnErr result (SameValues slots.old slots.new) }
-{
-    match slots.get_mut(slot) {
-        Some(instance) => instance.dependents.push(number),
-        None => Ok(()),
-    }
-}
-
 /// Takes a dependent out of the instance's list.
-pub(crate) fn remove_dependent_in(
-    slots: &mut Slab<Instance>,
-    slot: usize,
-    number: u32,
-    alloc: Global,
-)
+fn remove_dependent_in(slots: &mut Slab<Instance>, slot: usize, number: u32, alloc: Global)
     ensures { Changes slots.old slots.new slot
         (λ o. record o { dependents = all_but number o.dependents }) }
 {
     if let Some(instance) = slots.get_mut(slot) {
         remove_from(&mut instance.dependents, number, alloc);
+    }
+}
+
+/// Takes a dependent out of the list of the instance with a key, if there is one.
+pub(crate) fn remove_dependent_from(
+    slots: &mut Slab<Instance>,
+    key: Option<Key>,
+    number: u32,
+    alloc: Global,
+)
+    ensures { ChangesAt slots.old slots.new key
+        (λ o. record o { dependents = all_but number o.dependents }) }
+{
+    if let Some(key) = key {
+        remove_dependent_in(slots, key.slot, number, alloc);
     }
 }
 

@@ -64,11 +64,3 @@ impl From<AllocError> for ChangeError {
         ChangeError::Memory
     }
 }
-
-impl<T: Drop> From<AllocFailed<T>> for ChangeError {
-    ghost from_gives = { λ _ e. e ≡ change.Memory };
-
-    fn from(_error: AllocFailed<T>) -> ChangeError {
-        ChangeError::Memory
-    }
-}

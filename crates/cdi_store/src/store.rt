@@ -1,15 +1,16 @@
 //! The live instances of a container, each under a key.
 ghost use Rattle.std.specs.Prelude.{◌≡◌, ◌≢◌, ◌+◌, ◌<◌, ◌≤◌, ◌^◌, ◌++◌, ◌∷◌, ◌↔◌, [], length, IfOk, OnOk, OnErr, IfSome, IsTrue, IsOk, IsSome, IsNone, Some, Err, IsSomeAnd, IfErr, false, ◌&&◌, map, option_map};
-ghost use Rattle.cdi_base.specs.Maps.{at, adjusted};
-ghost use Rattle.cdi_store.specs.Live.{is_live, key_at, owner_at, reference_at, for_owner, all_but};
-ghost use Rattle.cdi_store.specs.Live.{in_phase, owned_by, with_dependent, without_dependent};
+ghost use Rattle.cdi_base.specs.Maps.{at};
+ghost use Rattle.cdi_store.specs.Live.{is_live, key_at, owner_at, other_owner_at, reference_at};
+ghost use Rattle.cdi_store.specs.Live.{for_owner, in_phase, with_dependent, without_dependent};
 ghost use Rattle.cdi_store.specs.Live.{with_ready, with_leaving, with_owner};
 ghost use Rattle.cdi_store.specs.Live.{with_newborn, with_field, with_value, with_reference, without_instance};
+ghost use Rattle.cdi_store.specs.Owned.{AreOwned};
 ghost use Rattle.cdi_store.specs.Slots.{IsOrderly};
 
 use crate::changes::{
-    hold_in, push_dependent_in, put_dependent_last_in, refer_in, remove_dependent_in, set_in,
-    set_owner_in, set_phase_in,
+    hold_in, put_dependent_last_in, refer_in, remove_dependent_from, set_in, set_owner_in,
+    set_phase_in,
 };
 use crate::errors::{ChangeError, MakeError, Stale};
 use crate::instance::{Component, Instance, Owner, Phase};
@@ -39,11 +40,11 @@ impl Model for Store {
 
     ghost Value = { Kept };
 
-    ghost use Rattle.cdi_store.specs.Slots.{kept_in, IsSound};
+    ghost use Rattle.cdi_store.specs.Slots.{kept_in, IsKept};
 
     ghost view = { λ s. kept_in s.slots.slots s.numbers.entries s.next };
 
-    ghost invariant = { λ s. IsSound s.slots.slots s.numbers.entries s.next };
+    ghost invariant = { λ s. IsKept s.slots.slots s.numbers.entries s.next };
 }
 
 impl Store {
@@ -274,8 +275,7 @@ impl Store {
     }
 
     /// Gives a live instance another owner: it leaves the dependents of the old one and becomes the last dependent of
-    /// the new one, in one step. It should be ready: one that is adopted before it is settled stands twice among the
-    /// dependents once it is. On an error nothing changes.
+    /// the new one, in one step. On an error nothing changes.
     pub fn adopt(&mut self, owner: Key, key: Key) -> Result<(), ChangeError>
         ensures stale { (result ≡ Err ChangeError.Stale)
             ↔ ((is_live self.old owner && is_live self.old key) ≡ false) }
@@ -288,8 +288,10 @@ impl Store {
         if !self.is_live(owner) {
             return Err(ChangeError::Stale);
         }
-        self.move_dependent(owner, key)?;
-        self.set_owner(key, Owner::Instance(owner.number));
+        let before = self.other_owner(owner, key)?;
+        put_dependent_last_in(&mut self.slots, owner.slot, key.number, self.alloc)?;
+        remove_dependent_from(&mut self.slots, before, key.number, self.alloc);
+        set_owner_in(&mut self.slots, key.slot, Owner::Instance(owner.number));
         Ok(())
     }
 
@@ -308,6 +310,14 @@ impl Store {
         let _next = self.next;
     }
 
+    /// No number stands twice among the dependents of all live instances, a live instance stands only among those of its
+    /// owner, and each that stands there is below the next number. A call does nothing: its contract is the law.
+    pub fn law_dependents(&self)
+        ensures { AreOwned self.now.instances self.now.next }
+    {
+        let _next = self.next;
+    }
+
     /// The key of the live instance that owns a live instance, if one does.
     fn owner(&self, key: Key) -> Result<Option<Key>, Stale>
         ensures live { IsOk result ↔ IsTrue (is_live self.now key) }
@@ -322,7 +332,22 @@ impl Store {
         }
     }
 
-    /// Adds a live instance to the dependents of the live instance that owns it, if one does.
+    /// The key of the live instance that owns a live instance, if one does and it is another than this.
+    fn other_owner(&self, owner: Key, key: Key) -> Result<Option<Key>, Stale>
+        ensures live { IsOk result ↔ IsTrue (is_live self.now key) }
+        ensures number { IfOk result (λ other.
+            option_map (λ k. k.number) other
+            ≡ other_owner_at owner.number key.number self.now.instances) }
+        ensures other_lives { IfOk result (λ other.
+            IfSome other (λ k. IsTrue (is_live self.now k))) }
+    {
+        match self.owner(key)? {
+            Some(other) if other.number != owner.number => Ok(Some(other)),
+            _ => Ok(None),
+        }
+    }
+
+    /// Makes a live instance the last dependent of the live instance that owns it, if one does.
     fn join_owner(&mut self, key: Key) -> Result<(), ChangeError>
         ensures stale { (result ≡ Err ChangeError.Stale) ↔ (is_live self.old key ≡ false) }
         ensures memory { result ≡ Err ChangeError.Memory
@@ -334,7 +359,10 @@ impl Store {
         ensures err { OnErr result (self.new ≡ self.old) }
     {
         match self.owner(key)? {
-            Some(owner) => self.push_dependent(owner, key.number),
+            Some(owner) => {
+                put_dependent_last_in(&mut self.slots, owner.slot, key.number, self.alloc)?;
+                Ok(())
+            }
             None => Ok(()),
         }
     }
@@ -348,37 +376,9 @@ impl Store {
         }) }
         ensures err { OnErr result (self.new ≡ self.old) }
     {
-        match self.owner(key)? {
-            Some(owner) => {
-                self.remove_dependent(owner, key.number);
-                Ok(())
-            }
-            None => Ok(()),
-        }
-    }
-
-    /// Moves a live instance from the dependents of the live instance that owns it, if one does, to those of another.
-    fn move_dependent(&mut self, owner: Key, key: Key) -> Result<(), ChangeError>
-        requires { IsTrue (is_live self.old owner) }
-        ensures stale { (result ≡ Err ChangeError.Stale) ↔ (is_live self.old key ≡ false) }
-        ensures ok { OnOk result (self.new ≡ record self.old {
-          instances
-              = with_dependent key.number (Owner.Instance owner.number) (for_owner
-              (at self.old.instances key.number) (without_dependent key.number) self.old.instances);
-        }) }
-        ensures err { OnErr result (self.new ≡ self.old) }
-    {
-        match self.owner(key)? {
-            Some(before) if before.number == owner.number => {
-                self.put_dependent_last(owner, key.number)
-            }
-            Some(before) => {
-                self.push_dependent(owner, key.number)?;
-                self.remove_dependent(before, key.number);
-                Ok(())
-            }
-            None => self.push_dependent(owner, key.number),
-        }
+        let owner = self.owner(key)?;
+        remove_dependent_from(&mut self.slots, owner, key.number, self.alloc);
+        Ok(())
     }
 
     fn set_phase(&mut self, key: Key, phase: Phase)
@@ -388,51 +388,5 @@ impl Store {
         } }
     {
         set_phase_in(&mut self.slots, key.slot, phase);
-    }
-
-    fn set_owner(&mut self, key: Key, owner: Owner)
-        requires { IsTrue (is_live self.old key) }
-        ensures { self.new ≡ record self.old {
-          instances = owned_by owner key.number self.old.instances;
-        } }
-    {
-        set_owner_in(&mut self.slots, key.slot, owner);
-    }
-
-    fn push_dependent(&mut self, owner: Key, number: u32) -> Result<(), ChangeError>
-        requires { IsTrue (is_live self.old owner) }
-        ensures memory { IfErr result (λ e. e ≡ ChangeError.Memory) }
-        ensures ok { OnOk result (self.new ≡ record self.old {
-          instances
-              = with_dependent number (Owner.Instance owner.number) self.old.instances;
-        }) }
-        ensures err { OnErr result (self.new ≡ self.old) }
-    {
-        push_dependent_in(&mut self.slots, owner.slot, number)?;
-        Ok(())
-    }
-
-    fn remove_dependent(&mut self, owner: Key, number: u32)
-        requires { IsTrue (is_live self.old owner) }
-        ensures { self.new ≡ record self.old {
-          instances
-              = without_dependent number (Owner.Instance owner.number) self.old.instances;
-        } }
-    {
-        remove_dependent_in(&mut self.slots, owner.slot, number, self.alloc);
-    }
-
-    fn put_dependent_last(&mut self, owner: Key, number: u32) -> Result<(), ChangeError>
-        requires { IsTrue (is_live self.old owner) }
-        ensures memory { IfErr result (λ e. e ≡ ChangeError.Memory) }
-        ensures ok { OnOk result (self.new ≡ record self.old {
-          instances = adjusted owner.number
-              (λ o. record o { dependents = all_but number o.dependents ++ number ∷ [] })
-              self.old.instances;
-        }) }
-        ensures err { OnErr result (self.new ≡ self.old) }
-    {
-        put_dependent_last_in(&mut self.slots, owner.slot, number, self.alloc)?;
-        Ok(())
     }
 }

@@ -180,6 +180,28 @@ fn moves_dependents_between_owners(rt: HostRuntime) {
     check_adopted(&rt, &mut store, third, fourth, &[4]);
 }
 
+/// Settles an instance of an owner, which then has these dependents.
+fn check_settled(rt: &impl Abort, store: &mut Store, owner: Key, key: Key, wanted: &[u32]) {
+    expect_same(rt, &store.settle(key), &Ok(()));
+    check_dependents(rt, store, owner, wanted);
+    check_state(rt, store, key, Phase::Ready, Owner::Instance(owner.number));
+}
+
+#[test]
+fn has_a_dependent_once(rt: HostRuntime) {
+    let mut store = Store::new(rt.alloc());
+    let owner = make_free(&rt, rt.alloc(), &mut store);
+    let second = make_free(&rt, rt.alloc(), &mut store);
+    let third = make(&rt, rt.alloc(), &mut store, Owner::Instance(1));
+    check_adopted(&rt, &mut store, owner, second, &[2]);
+    check_adopted(&rt, &mut store, owner, second, &[2]);
+    check_settled(&rt, &mut store, owner, second, &[2]);
+    check_settled(&rt, &mut store, owner, third, &[2, 3]);
+    check_settled(&rt, &mut store, owner, second, &[3, 2]);
+    expect_same(&rt, &store.leave(second), &Ok(()));
+    check_dependents(&rt, &store, owner, &[3]);
+}
+
 /// The key of each number is found, and the numbers ascend from 1.
 fn check_numbers(rt: &impl Abort, alloc: Global, store: &Store, count: u32) {
     let numbers = store.numbers(alloc).expect(rt, "memory");

@@ -29,7 +29,7 @@ returns-in_err-slot-clause-live c =
     let same : is_some c.from_residual.result ≡ is_some (at c.args.self.now.instances n) =
     ap is_some c.from_residual.ensures
     ∙ ap is_some (c.in_err-slot.ensures.value ∙ lookup-at es n)
-    ∙ is_some-instances_in c.self.inside.slots.slots es n c.self.invariant.occupied
+    ∙ is_some-instances_in c.self.inside.slots.slots es n c.self.invariant.sound.occupied
     ∙ ap (λ s. is_some (at s.instances n)) c.self.view_is in
     (λ h. sym same ∙ h, λ h. same ∙ h)
 
@@ -39,6 +39,6 @@ returns-clause-live c =
     let es = c.self.inside.numbers.entries in
     let same : true ≡ is_some (at c.args.self.now.instances n) =
     ap is_some (c.in_ok-slot.ensures.value ∙ lookup-at es n)
-    ∙ is_some-instances_in c.self.inside.slots.slots es n c.self.invariant.occupied
+    ∙ is_some-instances_in c.self.inside.slots.slots es n c.self.invariant.sound.occupied
     ∙ ap (λ s. is_some (at s.instances n)) c.self.view_is in
     (λ _. sym same, λ _. refl)

@@ -7,7 +7,7 @@ pub returns : goal.returns
 returns c =
     let s = c.self.inside in
     let m = s.numbers.entries in
-    let sound = c.self.invariant in
+    let sound = c.self.invariant.sound in
     subst IsOrderly c.self.view_is (record {
       rising = sound.rising;
       below = sound.below;

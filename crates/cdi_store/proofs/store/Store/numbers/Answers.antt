@@ -8,4 +8,4 @@ returns c =
     let s = c.self.inside in
     let m = s.numbers.entries in
     let all : IfOk c.collect.result (λ v. v.items ≡ keys_of m) = search rules in
-    rw (sym (ap (λ k. map (λ p. p.0) k.instances) c.self.view_is) ∙ numbers-instances_in s.slots.slots m c.self.invariant.occupied) all
+    rw (sym (ap (λ k. map (λ p. p.0) k.instances) c.self.view_is) ∙ numbers-instances_in s.slots.slots m c.self.invariant.sound.occupied) all
