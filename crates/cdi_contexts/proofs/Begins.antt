@@ -4,7 +4,8 @@ use Rattle.std.proofs.lemmas.List.{map_push}
 use Rattle.cdi_base.specs.Maps.{Map, at, without}
 use Rattle.cdi_contexts.specs.declared.group.Kept.{Kept}
 use Rattle.cdi_contexts.specs.Contexts.{Active, Contexts, OpenRequest, OpenSession, fresh, request_in, session_in}
-use Rattle.cdi_contexts.specs.Standing.{Begins, begin_refusal, in_slot}
+use Rattle.cdi_contexts.specs.Refusals.{begin_refusal}
+use Rattle.cdi_contexts.specs.Standing.{Begins, in_slot}
 use Rattle.cdi_contexts.specs.Group.{kept_named, request_of, session_of, standing}
 use Rattle.cdi_contexts.proofs.Slots.{own_number, same_bytes, nothing}
 use Rattle.cdi_contexts.proofs.ByName.{in_slot_seen, named_seen}

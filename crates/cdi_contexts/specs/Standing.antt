@@ -1,13 +1,13 @@
 -- The contexts with the slots that they are reached by, and what is refused.
-use Rattle.std.specs.Prelude.{◌≡◌, ℕ, Bool, false, not, nat_eq, nat_le, ◌==◌, ◌&&◌, ◌++◌, ◌∷◌, [], List, length, filter, Option, Some, None, is_some, if◌then◌else◌, option_map}
+use Rattle.std.specs.Prelude.{◌≡◌, ℕ, Bool, false, not, nat_eq, ◌==◌, ◌++◌, ◌∷◌, [], List, length, filter, Option, Some, None, if◌then◌else◌, option_map}
 use Rattle.std.specs.List.{IsDistinct}
 use Rattle.cdi_base.specs.declared.reply.Refusal.{Refusal}
-use Rattle.cdi_base.specs.declared.reply.Refusal.TheVariants as refusals
 use Rattle.cdi_base.specs.declared.scope.Scope.{Scope}
 use Rattle.cdi_base.specs.declared.scope.Scope.TheVariants as scopes
 use Rattle.cdi_store.specs.declared.instance.Context.{Context}
 use Rattle.cdi_store.specs.declared.instance.Context.TheVariants as contexts
 use Rattle.cdi_contexts.specs.Named.{HaveOwnNames}
+use Rattle.cdi_contexts.specs.Refusals.{session_for, is_new, opens_session, begin_refusal, request_refusal}
 use Rattle.cdi_contexts.specs.declared.context.Env.{Env}
 use Rattle.cdi_contexts.specs.Contexts.{Active, Contexts, Environment, OpenRequest, OpenSession, request_in, session_in, active_context, context_of, at_boot, is_due, is_ending, with_mark, with_request, with_session, with_ending, without_context}
 
@@ -70,58 +70,23 @@ environment_of s env =
       session = of_slot (in_slot s.session_slots s.contexts.sessions) env.session (λ r. r.name);
     }
 
--- ---- what is refused
-
--- the session is there, and marked: no more requests begin in it
-abbrev pub is_marked_in : Option OpenSession → Bool
-is_marked_in None = false
-is_marked_in (Some s) = s.is_marked
-
--- the session, if a request names one that is there
-abbrev pub session_for : Contexts → Option (List ℕ) → Option OpenSession
-session_for c None = None
-session_for c (Some name) = session_in c.sessions name
-
 -- the name of the session, if a request names one that is there
 abbrev pub session_name_for : Standing → Option (List ℕ) → Option (List ℕ)
 session_name_for s session = option_map (λ r. r.name) (session_for s.contexts session)
 
--- a session is named that is marked or being destroyed
-abbrev pub is_marked_for : Contexts → Option (List ℕ) → Bool
-is_marked_for c session = is_marked_in (session_for c session)
+-- ---- what is refused
 
--- a session is named that isn't there
-abbrev pub is_new : Contexts → Option (List ℕ) → Bool
-is_new c None = false
-is_new c (Some name) = not (is_some (session_in c.sessions name))
-
--- why a request doesn't begin: the first of these that holds
-abbrev pub begin_refusal : Contexts → List ℕ → Option (List ℕ) → Option Refusal
-begin_refusal c request session =
-    if is_some (request_in c.requests request) then Some refusals.RequestOpen
-    else if is_marked_in (session_for c session) then Some refusals.SessionEnding
-    else if nat_le 256 (length c.requests) then Some refusals.TooManyRequests
-    else if is_new c session && nat_le 1024 (length c.sessions) then Some refusals.TooManySessions
-    else None
-
--- the same of what stands
+-- why a request doesn't begin: the first reason that holds
 abbrev pub refusal_at : Standing → List ℕ → Option (List ℕ) → Option Refusal
 refusal_at s = begin_refusal s.contexts
-
--- why a session isn't invalidated
-abbrev pub invalidate_refusal : Contexts → List ℕ → Option Refusal
-invalidate_refusal c name =
-    if not (is_some (session_in c.sessions name)) then Some refusals.NoSession
-    else if is_marked_in (session_in c.sessions name) then Some refusals.SessionEnding
-    else None
 
 -- a refusal is this one
 abbrev pub IsBy : Option Refusal → Refusal → Type 0
 IsBy refusal r = refusal ≡ Some r
 
--- the end of a request is refused, as none of this name is there
+-- the end of a request is refused
 abbrev pub RefusesEnd : Standing → List ℕ → Refusal → Type 0
-RefusesEnd s name r = (r ≡ refusals.NoRequest) × (request_by s name ≡ None)
+RefusesEnd s name r = IsBy (request_refusal s.contexts (Some name)) r
 
 -- ---- environments
 
@@ -180,7 +145,7 @@ is_due_in c (Some name) = is_due c name
 abbrev pub with_begun : List ℕ → Option (List ℕ) → Contexts → Contexts
 with_begun request None c = with_request request None c
 with_begun request (Some session) c =
-    with_request request (Some session) (if is_new c (Some session) then with_session session c else c)
+    with_request request (Some session) (if is_new c session then with_session session c else c)
 
 abbrev pub with_slot : Option ℕ → List ℕ → List ℕ
 with_slot None slots = slots
@@ -192,7 +157,7 @@ pub record Begins (request : List ℕ) (session : Option (List ℕ)) (old : Stan
   pub environment : environment_of new env ≡ record { request = Some request; session = session }
   pub earlier : environment_of old env ≡ record { request = None; session = option_map (λ s. s.name) (session_for old.contexts session) }
   pub request_slots : new.request_slots ≡ with_slot env.request old.request_slots
-  pub session_slots : new.session_slots ≡ (if is_new old.contexts session then with_slot env.session old.session_slots else old.session_slots)
+  pub session_slots : new.session_slots ≡ (if opens_session old.contexts session then with_slot env.session old.session_slots else old.session_slots)
 
 -- ---- changes in an environment
 

@@ -33,6 +33,7 @@ use Rattle.cdi_store.specs.declared.instance.Owner.TheVariants as owners
 use Rattle.cdi_store.specs.declared.references.Reference.{Reference}
 use Rattle.cdi_store.specs.declared.references.Reference.TheVariants.{Direct, Proxy}
 use Rattle.cdi_store.specs.declared.references.Reference.TheVariants.{Empty as NoReference}
+use Rattle.cdi_contexts.specs.Refusals.{is_new}
 use Rattle.cdi_machine.specs.Words.{Name, Asked}
 use Rattle.cdi_machine.specs.Tables.{Tables, Code, Member, Lifecycle, Step, Source, Product, Kind, Bean, Observer, Resolution, One, Nothing, Many}
 use Rattle.cdi_machine.specs.World.{World, Change, instance_at}
@@ -43,7 +44,7 @@ use Rattle.cdi_machine.specs.Bodies.{invoke_by, provide, invoke, call_back, body
 use Rattle.cdi_machine.specs.Destruction.{latest, dismiss_latest, give_back, borrow_for, obtain_receiver, dispose, clean_up_bean, clean_up, release_from, release, dismiss, clear_from, clear}
 use Rattle.cdi_machine.specs.Creation.{construct, inject, take_step, call_producer, accept, produce, make}
 use Rattle.cdi_machine.specs.Events.{fire, observe, deliver, notify, is_skipped, fire_context_event, fire_container_event, qualifier}
-use Rattle.cdi_machine.specs.Commands.{Command, task, stand_alone_in, close, begin_session, begin, end_session, end, invalidate, use_bean, end_alone, shut_down, requests_of, sessions_of, is_new, is_used}
+use Rattle.cdi_machine.specs.Commands.{Command, task, stand_alone_in, close, begin_session, begin, end_session, end, invalidate, use_bean, end_alone, shut_down, requests_of, sessions_of, is_used}
 use Rattle.cdi_machine.proofs.Levels.{Height, shift, Steady}
 
 -- ---- what doesn't begin or end an instance

@@ -1,6 +1,6 @@
 -- Commands: what begins and ends contexts (Jakarta CDI 4.0, *Context management for built-in scopes*), calls, and boot and
 -- shutdown.
-use Rattle.std.specs.Prelude.{ℕ, List, map, Bool, true, false, not, Option, Some, None, is_some}
+use Rattle.std.specs.Prelude.{ℕ, List, map, Bool, true, false, Option, Some, None}
 use Rattle.std.specs.List.{list_any}
 use Rattle.cdi_base.specs.declared.value.Value.{Value}
 use Rattle.cdi_base.specs.declared.built_in.BuiltIn.TheVariants as built_in
@@ -8,7 +8,8 @@ use Rattle.cdi_base.specs.declared.uses.Use.{Use}
 use Rattle.cdi_store.specs.declared.instance.Context.{Context}
 use Rattle.cdi_store.specs.declared.instance.Context.TheVariants.{Application, Request, Session}
 use Rattle.cdi_store.specs.declared.instance.Owner.TheVariants as owners
-use Rattle.cdi_contexts.specs.Contexts.{Contexts, Environment, OpenRequest, request_in, session_in, belongs_to, is_due}
+use Rattle.cdi_contexts.specs.Contexts.{Contexts, Environment, OpenRequest, request_in, belongs_to, is_due}
+use Rattle.cdi_contexts.specs.Refusals.{is_new}
 use Rattle.cdi_machine.specs.Words.{Name, Asked}
 use Rattle.cdi_machine.specs.World.{World, Change, no_environment}
 use Rattle.cdi_machine.specs.Programs.{Task, Given, Result, Prog, ret, see, do_nothing, call, finish, alter, each, instance, resolve, world, written_of, ◌>>=◌, ◌>>◌}
@@ -68,13 +69,6 @@ sessions_of c = map (λ s. s.name) c.sessions
 -- an open request has the session
 abbrev pub is_used : Contexts → List ℕ → Bool
 is_used c s = list_any (belongs_to s) c.requests
-
-abbrev pub is_open : Contexts → List ℕ → Bool
-is_open c r = is_some (request_in c.requests r)
-
--- no such session is there
-abbrev pub is_new : Contexts → List ℕ → Bool
-is_new c s = not (is_some (session_in c.sessions s))
 
 -- a context ends
 abbrev pub close : Context → Prog Given

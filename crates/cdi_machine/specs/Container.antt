@@ -1,17 +1,18 @@
 -- A container between commands: which commands are refused, and what the others are answered.
-use Rattle.std.specs.Prelude.{ℕ, ◌≡◌, ◌++◌, List, [], ◌∷◌, map, length, Bool, true, false, not, ◌&&◌, Option, Some, None, nat_eq, nat_lt}
+use Rattle.std.specs.Prelude.{ℕ, ◌≡◌, ◌++◌, List, [], ◌∷◌, map, length, Bool, true, false, not, Option, Some, None, nat_eq}
 use Rattle.cdi_base.specs.declared.entry.Entry.{Entry}
 use Rattle.cdi_base.specs.declared.reply.Reply.{Reply}
 use Rattle.cdi_base.specs.declared.reply.Reply.TheVariants as replies
 use Rattle.cdi_base.specs.declared.reply.Refusal.{Refusal}
 use Rattle.cdi_base.specs.declared.reply.Refusal.TheVariants as refusals
 use Rattle.cdi_base.specs.Maps.{at}
-use Rattle.cdi_contexts.specs.Contexts.{Contexts, session_in}
+use Rattle.cdi_contexts.specs.Contexts.{Contexts}
+use Rattle.cdi_contexts.specs.Refusals.{first_that_holds, begin_refusals, invalidate_refusals, request_refusals}
 use Rattle.cdi_machine.specs.Words.{Name}
 use Rattle.cdi_machine.specs.Tables.{Tables, Method, Kind, Bean, Resolution, One}
 use Rattle.cdi_machine.specs.World.{World, at_begin, before_boot}
 use Rattle.cdi_machine.specs.Programs.{Given, Result, Completion}
-use Rattle.cdi_machine.specs.Commands.{Command, task, is_open, is_new}
+use Rattle.cdi_machine.specs.Commands.{Command, task}
 use Rattle.cdi_machine.specs.Runs.{Legal, Outcome, Ends, Cut, Runs}
 
 pub record State : Type 0 where
@@ -23,42 +24,14 @@ before_commands ticks depth = record { world = before_boot ticks depth; halted =
 
 -- ---- refusals
 
--- the first whose condition holds
-abbrev pub first_that_holds : List (Bool × Refusal) → Option Refusal
-first_that_holds [] = None
-first_that_holds ((b, r) ∷ rs) = elim b [ true ↦ Some r | false ↦ first_that_holds rs ]
-
-abbrev pub lacks_request : Contexts → Option (List ℕ) → Bool
-lacks_request c None = false
-lacks_request c (Some r) = not (is_open c r)
-
-abbrev pub opens_session : Contexts → Option (List ℕ) → Bool
-opens_session c None = false
-opens_session c (Some s) = is_new c s
-
--- the session is there, and marked
-abbrev pub is_marked : Contexts → List ℕ → Bool
-is_marked c s = elim (session_in c.sessions s) [ None ↦ false | Some z ↦ z.is_marked ]
-
-abbrev pub joins_marked : Contexts → Option (List ℕ) → Bool
-joins_marked c None = false
-joins_marked c (Some s) = is_marked c s
-
 -- what the contexts refuse
 abbrev pub refused_by_contexts : Contexts → Command → List (Bool × Refusal)
-refused_by_contexts c (Command.Begin r s) =
-    (is_open c r, refusals.RequestOpen) ∷
-    (joins_marked c s, refusals.SessionEnding) ∷
-    (not (nat_lt (length c.requests) 256), refusals.TooManyRequests) ∷
-    (opens_session c s && not (nat_lt (length c.sessions) 1024), refusals.TooManySessions) ∷ []
-refused_by_contexts c (Command.Invalidate s) =
-    (is_new c s, refusals.NoSession) ∷ (is_marked c s, refusals.SessionEnding) ∷ []
-refused_by_contexts c (Command.End r) = (lacks_request c (Some r), refusals.NoRequest) ∷ []
-refused_by_contexts c (Command.Call r asked method args) =
-    (lacks_request c r, refusals.NoRequest) ∷ []
-refused_by_contexts c (Command.Read r asked) = (lacks_request c r, refusals.NoRequest) ∷ []
-refused_by_contexts c (Command.Fire r class qualifiers v) =
-    (lacks_request c r, refusals.NoRequest) ∷ []
+refused_by_contexts c (Command.Begin r s) = begin_refusals c r s
+refused_by_contexts c (Command.Invalidate s) = invalidate_refusals c s
+refused_by_contexts c (Command.End r) = request_refusals c (Some r)
+refused_by_contexts c (Command.Call r asked method args) = request_refusals c r
+refused_by_contexts c (Command.Read r asked) = request_refusals c r
+refused_by_contexts c (Command.Fire r class qualifiers v) = request_refusals c r
 refused_by_contexts c _ = []
 
 abbrev pub no_method : Option Method → Bool
@@ -136,6 +109,13 @@ pub data Answers (tables : Tables) (legal : Legal) : State → Command → Reply
   carries_out : {s : State} {c : Command} {o : Outcome} {v : World} → refusal tables s c ≡ None
       → Runs tables legal ⊥ (task c) (at_begin s.world) o v
       → Answers tables legal s c (reply_to c o v) (state_after o v)
+
+-- the commands, one after the other, lead a container from the one state to the other
+pub data Leads (tables : Tables) (legal : Legal) : State → List Command → State → Type 0 where
+  stays : {s : State} → Leads tables legal s [] s
+  goes_on : {s t u : State} {c : Command} {r : Reply} {cs : List Command}
+      → Answers tables legal s c r t → Leads tables legal t cs u
+      → Leads tables legal s (c ∷ cs) u
 
 -- what was written for a command
 pub record Said : Type 0 where

@@ -173,6 +173,19 @@ fn entries(rt: HostRuntime) {
 }
 
 #[test]
+fn refused_in_a_request_that_is_not_there(rt: HostRuntime) {
+    let mut contexts = Contexts::new(rt.alloc());
+    let env = begun(&rt, &mut contexts, "R", None);
+    assert_eq!(rt; contexts.refuses_in(None), None);
+    assert_eq!(rt; contexts.refuses_in(Some("R")), None);
+    assert_eq!(rt; contexts.refuses_in(Some("Q")), Some(Refusal::NoRequest));
+    contexts.step(Scope::RequestScoped, env);
+    assert_eq!(rt; contexts.refuses_in(Some("R")), None);
+    contexts.step(Scope::RequestScoped, env);
+    assert_eq!(rt; contexts.refuses_in(Some("R")), Some(Refusal::NoRequest));
+}
+
+#[test]
 fn inactive_scopes(rt: HostRuntime) {
     let mut contexts = Contexts::new(rt.alloc());
     let env = begun(&rt, &mut contexts, "r", None);

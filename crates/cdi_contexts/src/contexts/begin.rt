@@ -5,7 +5,8 @@ ghost use Rattle.std.specs.Option.{option_copied};
 ghost use Rattle.cdi_contexts.specs.declared.contexts.begin.BeginError.TheVariants.{Memory};
 ghost use Rattle.cdi_contexts.specs.Contexts.{request_in, session_in};
 ghost use Rattle.cdi_contexts.specs.Group.{at_begin};
-ghost use Rattle.cdi_contexts.specs.Standing.{Begins, is_marked_for, is_new, refusal_at};
+ghost use Rattle.cdi_contexts.specs.Refusals.{joins_marked, opens_session};
+ghost use Rattle.cdi_contexts.specs.Standing.{Begins, refusal_at};
 
 use super::Contexts;
 use crate::context::Env;
@@ -42,8 +43,8 @@ impl From<AllocError> for BeginError {
 
 impl Contexts {
     /// Whether a session is named that is there and is marked.
-    fn is_marked(&self, session: Option<&str>) -> bool
-        ensures { result ≡ is_marked_for self.now.contexts (option_copied session.entry) }
+    fn joins_marked(&self, session: Option<&str>) -> bool
+        ensures { result ≡ joins_marked self.now.contexts (option_copied session.entry) }
     {
         let Some(name) = session else {
             return false;
@@ -55,8 +56,8 @@ impl Contexts {
     }
 
     /// Whether a session is named that isn't there.
-    fn is_new(&self, session: Option<&str>) -> bool
-        ensures { result ≡ is_new self.now.contexts (option_copied session.entry) }
+    fn opens_session(&self, session: Option<&str>) -> bool
+        ensures { result ≡ opens_session self.now.contexts (option_copied session.entry) }
     {
         match session {
             Some(name) => !self.has_session(name),
@@ -74,11 +75,11 @@ impl Contexts {
     {
         if self.has_request(request) {
             Some(Refusal::RequestOpen)
-        } else if self.is_marked(session) {
+        } else if self.joins_marked(session) {
             Some(Refusal::SessionEnding)
         } else if self.requests.len() >= MAX_REQUESTS {
             Some(Refusal::TooManyRequests)
-        } else if self.is_new(session) && self.sessions.len() >= MAX_SESSIONS {
+        } else if self.opens_session(session) && self.sessions.len() >= MAX_SESSIONS {
             Some(Refusal::TooManySessions)
         } else {
             None

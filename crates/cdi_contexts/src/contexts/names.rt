@@ -1,12 +1,14 @@
 //! Requests and sessions by their names.
 ghost use Rattle.std.specs.Prelude.{◌≡◌, is_some, IfSome, option_map};
+ghost use Rattle.std.specs.Option.{option_copied};
+ghost use Rattle.cdi_contexts.specs.Refusals.{request_refusal};
 ghost use Rattle.cdi_contexts.specs.Group.{request_found, session_found, IsRequestOf, IsSessionOf};
 ghost use Rattle.cdi_contexts.specs.Standing.{first_open_request, first_open_session};
 ghost use Rattle.cdi_contexts.specs.Standing.{request_by, session_by};
 
 use super::Contexts;
 use crate::group::Kept;
-use cdi_base::Text;
+use cdi_base::{Refusal, Text};
 
 impl Contexts {
     /// The request of a name, with its slot.
@@ -53,5 +55,16 @@ impl Contexts {
         ensures { result ≡ is_some (session_by self.now name.now) }
     {
         self.session(name).is_some()
+    }
+
+    /// Why nothing is done in a request, if it isn't: [`Refusal::NoRequest`] if a request is named that
+    /// isn't there.
+    pub fn refuses_in(&self, request: Option<&str>) -> Option<Refusal>
+        ensures { result ≡ request_refusal self.now.contexts (option_copied request.entry) }
+    {
+        match request {
+            Some(name) if !self.has_request(name) => Some(Refusal::NoRequest),
+            _ => None,
+        }
     }
 }
