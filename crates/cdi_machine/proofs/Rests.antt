@@ -1,27 +1,30 @@
 -- Between commands nothing is running.
-use Rattle.std.proofs.Common.{ℕ, suc, ◌≡◌, length, refl, ◌∙◌, ap, Option, Some, None, Bool, true, false}
+use Rattle.std.proofs.Common.{ℕ, suc, ◌≡◌, List, length, refl, ◌∙◌, ap, cond, Option, Some, None, Bool, true, false}
 use Rattle.std.specs.Prelude.{nat_lt, ◌^◌}
 use Rattle.cdi_base.specs.declared.value.Value.TheVariants as values
 use Rattle.cdi_base.specs.declared.entry.Entry.TheVariants as entries
 use Rattle.cdi_base.specs.declared.place.Place.{Place}
 use Rattle.cdi_base.specs.declared.place.Place.TheVariants as places
 use Rattle.cdi_base.specs.declared.built_in.BuiltIn.TheVariants as built_in
+use Rattle.cdi_base.specs.declared.reply.Reply.{Reply}
+use Rattle.cdi_base.specs.declared.reply.Refusal.{Refusal}
 use Rattle.cdi_store.specs.declared.instance.Component.{Component}
 use Rattle.cdi_store.specs.declared.instance.Component.TheVariants as components
 use Rattle.cdi_store.specs.declared.instance.Owner.{Owner}
 use Rattle.cdi_store.specs.declared.instance.Owner.TheVariants as owners
 use Rattle.cdi_machine.specs.Words.{Name, Fields}
 use Rattle.cdi_machine.specs.Tables.{Tables}
-use Rattle.cdi_machine.specs.World.{Change, instance_at}
+use Rattle.cdi_machine.specs.World.{World, Change, instance_at, at_begin}
 use Rattle.cdi_machine.specs.Programs.{Task, Given, Completion, Running, Prog, ret, throw, handle, quietly, require_present, call, note, alter, each, give_number, require_depth, next_number, rethrow, bean_at, interceptor_at, instance, finally}
 use Rattle.cdi_machine.specs.Contexts.{obtain}
 use Rattle.cdi_machine.specs.Bodies.{run_rest, run_body, carry_on}
 use Rattle.cdi_machine.specs.Destruction.{clean_up, destroy, ready_instance, only_ready, release, dismiss, clear}
 use Rattle.cdi_machine.specs.Creation.{discard, end_creation, create_by, begin_creation, inject, first_fields, make, create, intercept}
 use Rattle.cdi_machine.specs.Events.{fire, notify}
-use Rattle.cdi_machine.specs.Commands.{task}
+use Rattle.cdi_machine.specs.Commands.{Command, task}
 use Rattle.cdi_machine.specs.Runs.{Legal, Outcome}
-use Rattle.cdi_machine.specs.Laws.{Rests}
+use Rattle.cdi_machine.specs.Container.{State, is_cut, Answers, Leads}
+use Rattle.cdi_machine.specs.Laws.{IsEnd, IsAtRest, Rests, RestsBetween}
 use Rattle.cdi_machine.proofs.Levels.{Height, height, Steady, steady, TasksLevel, ends_at}
 use Rattle.cdi_machine.proofs.Walk
 use Rattle.cdi_machine.proofs.Walk.{steady_of}
@@ -108,3 +111,31 @@ module _ (tables : Tables) (legal : Legal) where
         temporaries = ap (λ (z : Height). z.temporaries) e ∙ q.temporaries;
       }
   rests c w v (Outcome.Cut cause) r x q = absurd x
+
+  -- ---- over lists of commands
+
+  abbrev Resting : State → Type 0
+  Resting s = s.halted ≡ false → IsAtRest s.world
+
+  at_its_begin : (w : World) → IsAtRest w → IsAtRest (at_begin w)
+  at_its_begin w q = record { invocations = q.invocations; bodies = q.bodies; temporaries = q.temporaries }
+
+  not_cut : (o : Outcome) → is_cut o ≡ false → IsEnd o
+  not_cut (Outcome.Ends c) e = tt
+  not_cut (Outcome.Cut cause) e = absurd (cc)
+
+  not_halted : (b : Bool) (r : Refusal) (o : Option Refusal) → cond b (Some r) o ≡ None → b ≡ false
+  not_halted true r o e = absurd (cc)
+  not_halted false r o e = refl
+
+  answered : {s t : State} {c : Command} {r : Reply} → Answers tables legal s c r t → Resting s → Resting t
+  answered {s = s} (Answers.refuses r e) q h = at_its_begin s.world (q h)
+  answered {s = s} {c = c} (Answers.carries_out {o = o} {v = v} e run) q h =
+      rests c (at_begin s.world) v o run (not_cut o h) (at_its_begin s.world (q (not_halted s.halted _ _ e)))
+
+  led : {s t : State} {cs : List Command} → Leads tables legal s cs t → Resting s → Resting t
+  led Leads.stays q = q
+  led (Leads.goes_on a l) q = led l (answered a q)
+
+  pub rests_between : RestsBetween tables legal
+  rests_between ticks depth cs s l = led l (λ _. record { invocations = refl; bodies = refl; temporaries = refl })

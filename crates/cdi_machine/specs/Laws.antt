@@ -1,5 +1,5 @@
 -- Laws of the machine, over all its runs.
-use Rattle.std.specs.Prelude.{ℕ, ◌≡◌, ◌<◌, ◌≤◌, ◌++◌, ◌⊎◌, List, length}
+use Rattle.std.specs.Prelude.{ℕ, ◌≡◌, ◌<◌, ◌≤◌, ◌++◌, ◌⊎◌, List, length, false}
 use Rattle.cdi_base.specs.declared.act.Act.{Act}
 use Rattle.cdi_base.specs.declared.entry.Entry.{Entry}
 use Rattle.cdi_bodies.specs.declared.view.View.{View}
@@ -9,6 +9,7 @@ use Rattle.cdi_machine.specs.World.{World}
 use Rattle.cdi_machine.specs.Programs.{Given, Prog}
 use Rattle.cdi_machine.specs.Commands.{Command, task}
 use Rattle.cdi_machine.specs.Runs.{Legal, Outcome, Cut, Runs}
+use Rattle.cdi_machine.specs.Container.{State, before_commands, Leads}
 
 pub record SameEnd (o o' : Outcome) (v v' : World) : Type 0 where
   pub outcome : o ≡ o'
@@ -107,3 +108,11 @@ Rests tables legal =
     (c : Command) (w v : World) (o : Outcome) → Runs tables legal ⊥ (task c) w o v → IsEnd o
     → IsAtRest w
     → IsAtRest v
+
+-- nor is anything running behind any commands that a container began with, unless it is halted
+abbrev pub RestsBetween : Tables → Legal → Type 0
+RestsBetween tables legal =
+    (ticks depth : ℕ) (cs : List Command) (s : State)
+    → Leads tables legal (before_commands ticks depth) cs s
+    → s.halted ≡ false
+    → IsAtRest s.world
