@@ -1,0 +1,4 @@
+pub mod Stack
+pub mod Invocation
+pub mod Application
+pub mod Home

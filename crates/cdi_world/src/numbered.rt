@@ -1,0 +1,69 @@
+//! The store by the numbers of its instances. A number that no live instance has changes nothing.
+ghost use Rattle.std.specs.Prelude.{◌≡◌, IsErr, IsSome, OnOk, OnErr};
+ghost use Rattle.std.specs.Option.{option_copied};
+ghost use Rattle.cdi_base.specs.Maps.{at};
+ghost use Rattle.cdi_store.specs.Live.{owner_at, with_field, with_leaving, with_ready};
+ghost use Rattle.cdi_store.specs.Live.{without_instance};
+
+use cdi_base::{Name, Value};
+use cdi_store::{Instance, Store};
+use std::alloc::AllocError;
+
+/// The live instance with a number.
+pub(crate) fn instance_in(store: &Store, number: u32) -> Option<&Instance>
+    ensures { option_copied result ≡ at store.now.instances number }
+{
+    match store.key(number) {
+        Some(key) => store.instance(key).ok(),
+        None => None,
+    }
+}
+
+/// Gives a field of the instance another value, if it is there.
+pub(crate) fn set_in(store: &mut Store, number: u32, field: Name, value: Value)
+    ensures { store.new ≡ record store.old {
+      instances = with_field number field value store.old.instances;
+    } }
+{
+    if let Some(key) = store.key(number) {
+        let _ = store.set(key, field, value);
+    }
+}
+
+/// The instance is ready, and its owner has it. Memory can be wanting only if its owner is a live
+/// instance. On an error nothing changes.
+pub(crate) fn settle_in(store: &mut Store, number: u32) -> Result<(), AllocError>
+    ensures ok { OnOk result (store.new ≡ record store.old {
+      instances = with_ready number store.old.instances;
+    }) }
+    ensures err { OnErr result (store.new ≡ store.old) }
+    ensures memory { IsErr result → IsSome (owner_at number store.old.instances) }
+{
+    let Some(key) = store.key(number) else {
+        return Ok(());
+    };
+    match store.settle(key) {
+        Ok(()) => Ok(()),
+        Err(_) => Err(AllocError),
+    }
+}
+
+/// The destruction of the instance has begun, and its owner has it no longer.
+pub(crate) fn leave_in(store: &mut Store, number: u32)
+    ensures { store.new ≡ record store.old {
+      instances = with_leaving number store.old.instances;
+    } }
+{
+    if let Some(key) = store.key(number) {
+        let _ = store.leave(key);
+    }
+}
+
+/// The instance is gone.
+pub(crate) fn free_in(store: &mut Store, number: u32)
+    ensures { store.new ≡ without_instance number store.old }
+{
+    if let Some(key) = store.key(number) {
+        let _ = store.free(key);
+    }
+}
