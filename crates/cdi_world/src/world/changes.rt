@@ -23,7 +23,7 @@ impl World {
             return Ok(());
         };
         self.take_home(number, home)?;
-        self.make_ready(number)
+        self.set_ready(number)
     }
 
     /// The creation of the instance has failed: it is gone, and its context has it no longer.
@@ -47,7 +47,7 @@ impl World {
             return;
         };
         self.leave_home(number, home);
-        self.make_leaving(number);
+        self.set_leaving(number);
     }
 
     /// The instance is gone.

@@ -47,7 +47,7 @@ impl World {
 
     /// The instance is ready, and its owner has it. Memory can be wanting only if its owner is a
     /// live instance. On an error nothing changes.
-    pub(super) fn make_ready(&mut self, number: u32) -> Result<(), AllocError>
+    pub(super) fn set_ready(&mut self, number: u32) -> Result<(), AllocError>
         ensures ok { OnOk result (self.new ≡ with_instances (with_ready number) self.old) }
         ensures err { OnErr result (self.new ≡ self.old) }
         ensures memory { IsErr result → IsSome (owner_at number self.old.instances) }
@@ -56,7 +56,7 @@ impl World {
     }
 
     /// The destruction of the instance has begun, and its owner has it no longer.
-    pub(super) fn make_leaving(&mut self, number: u32)
+    pub(super) fn set_leaving(&mut self, number: u32)
         ensures { self.new ≡ with_instances (with_leaving number) self.old }
     {
         leave_in(&mut self.store, number);
