@@ -2,3 +2,4 @@ pub mod Eligible
 pub mod Built
 pub mod Checked
 pub mod Accepted
+pub mod Served

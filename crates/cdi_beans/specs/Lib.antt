@@ -5,3 +5,4 @@ pub mod Duplicates
 pub mod WrongBodies
 pub mod Check
 pub mod Accepted
+pub mod Served
