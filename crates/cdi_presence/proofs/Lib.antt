@@ -1,0 +1,4 @@
+mod Safe
+mod Maps
+mod Whole
+mod Changes
