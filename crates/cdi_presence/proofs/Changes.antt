@@ -3,6 +3,7 @@ use Rattle.std.proofs.Common.{ℕ, ◌+◌, ◌≡◌, ◌≢◌, ◌<◌, ◌�
 use Rattle.std.specs.Prelude.{map, option_map}
 use Rattle.std.specs.List.{AllByRecursion}
 use Rattle.cdi_base.specs.declared.value.Value.{Value}
+use Rattle.cdi_base.specs.declared.entry.Entry.{Entry}
 use Rattle.cdi_base.specs.Maps.{Map, at, adjusted, without}
 use Rattle.cdi_base.specs.Fields.{has, set}
 use Rattle.cdi_store.specs.declared.instance.Component.{Component}
@@ -20,7 +21,7 @@ use Rattle.cdi_contexts.specs.declared.context.Held.{Held}
 use Rattle.cdi_contexts.specs.declared.context.Held.TheVariants.{Making, Is}
 use Rattle.cdi_contexts.specs.Contexts.{Active, Contexts, active_with, active_without, ending_active}
 use Rattle.cdi_machine.specs.Words.{Name, Fields}
-use Rattle.cdi_machine.specs.World.{World, Change, after_change, instance_at, for_instance, with_owned, without_owned, with_instances, on_top, below}
+use Rattle.cdi_machine.specs.World.{World, Change, after_change, instance_at, for_instance, with_owned, without_owned, with_instances, with_entry, on_top, below}
 use Rattle.cdi_beans.specs.declared.bean.Bean.{Bean}
 use Rattle.cdi_beans.specs.declared.tables.Tables.{Tables}
 use Rattle.cdi_beans.specs.Beans.{bean_of, first_fields}
@@ -264,9 +265,9 @@ module _ (tables : Tables) (w : World) (bean : ℕ) (plan : Bean) (known : bean_
   Makes owner u = After tables w u × Stands u.instances w.next (components.Bean bean) owner phases.Ready
 
   -- a new instance is ready, and its owner has it
-  pub made_shared : Makes (owners.Context Application) (after_change (Change.Settle w.next) (after_change (Change.Make (components.Bean bean) (owners.Context Application) (fields_of plan)) w))
-  made_shared =
-      subst (Makes (owners.Context Application)) (sym (settled_is (after_change (Change.Make (components.Bean bean) (owners.Context Application) (fields_of plan)) w) w.next _ (first_there (owners.Context Application)) tt)) (
+  pub made_shared : (e : Entry) → Makes (owners.Context Application) (after_change (Change.Settle w.next) (with_entry e (after_change (Change.Make (components.Bean bean) (owners.Context Application) (fields_of plan)) w)))
+  made_shared e =
+      subst (Makes (owners.Context Application)) (sym (settled_is (with_entry e (after_change (Change.Make (components.Bean bean) (owners.Context Application) (fields_of plan)) w)) w.next _ (first_there (owners.Context Application)) tt)) (
         record {
           good = record {
             live = made_whole (owners.Context Application) tt;
@@ -281,9 +282,9 @@ module _ (tables : Tables) (w : World) (bean : ℕ) (plan : Bean) (known : bean_
         made_stands (owners.Context Application),
       )
 
-  pub made_borrowed : Makes owners.Borrower (after_change (Change.Settle w.next) (after_change (Change.Make (components.Bean bean) owners.Borrower (fields_of plan)) w))
-  made_borrowed =
-      subst (Makes owners.Borrower) (sym (settled_is (after_change (Change.Make (components.Bean bean) owners.Borrower (fields_of plan)) w) w.next _ (first_there owners.Borrower) tt)) (
+  pub made_borrowed : (e : Entry) → Makes owners.Borrower (after_change (Change.Settle w.next) (with_entry e (after_change (Change.Make (components.Bean bean) owners.Borrower (fields_of plan)) w)))
+  made_borrowed e =
+      subst (Makes owners.Borrower) (sym (settled_is (with_entry e (after_change (Change.Make (components.Bean bean) owners.Borrower (fields_of plan)) w)) w.next _ (first_there owners.Borrower) tt)) (
         record {
           good = record {
             live = made_whole owners.Borrower tt;
@@ -300,7 +301,7 @@ module _ (tables : Tables) (w : World) (bean : ℕ) (plan : Bean) (known : bean_
 
 -- ---- destruction
 
-abbrev IsLeaving : Instances → ℕ → Type 0
+abbrev pub IsLeaving : Instances → ℕ → Type 0
 IsLeaving instances n = (o : Instance) × (at instances n ≡ Some o) × (o.phase ≡ phases.Leaving)
 
 module _ (tables : Tables) (w : World) (n : ℕ) (o : Instance) (there : instance_at w n ≡ Some o) (g : Good tables w) where

@@ -2,3 +2,5 @@ mod Safe
 mod Maps
 mod Whole
 mod Changes
+mod Terms
+mod Tasks
