@@ -128,6 +128,10 @@ module _ (classes : List ℕ) (tables : Tables) (legal : Legal) (serves : GivesS
   pub found : {A B : Type 0} (o : Option A) (x : A) (f : A → Prog B) (w : World) (Q : Completion B → World → Type 0) → o ≡ Some x → Goes (f x) w Q → Goes (handle (require_present o) f throw) w Q
   found o x f w Q e d = subst (λ z. Goes (handle (require_present z) f throw) w Q) (sym e) d
 
+  -- for two programs
+  found_two : {A B C : Type 0} (o : Option A) (x : A) (f : A → Prog B) (g : B → Prog C) (w : World) (Q : Completion C → World → Type 0) → o ≡ Some x → Goes (handle (f x) g throw) w Q → Goes (handle (handle (require_present o) f throw) g throw) w Q
+  found_two o x f g w Q e d = subst (λ z. Goes (handle (handle (require_present z) f throw) g throw) w Q) (sym e) d
+
   found_last : {A : Type 0} (o : Option A) (x : A) (w : World) (Q : Completion A → World → Type 0) → o ≡ Some x → Q (Gave x) w → Goes (require_present o) w Q
   found_last o x w Q e d = subst (λ z. Goes (require_present z) w Q) (sym e) d
 
@@ -277,3 +281,188 @@ module _ (classes : List ℕ) (tables : Tables) (legal : Legal) (serves : GivesS
       method_safe n bean name plan takes.method _ w _ lives known takes.has (
       expected (nat_eq (length args) takes.method.count) _ w _ (same_count takes.method (length args) takes.takes) (
       calling (Task.Rest []) _ _ (after_change (Change.Enter (invocation_at_start n roles.AroundInvoke ((machine_method takes.method).code ∷ []) args)) w) _ (g, (record { bean = bean; plan = plan; known = known; name = name; method = takes.method; has = takes.has; is = refl; lives = lives }, tt)) (λ a u p. p.0) (λ x u p. p.0)))
+
+  -- ---- acts
+
+  -- the body goes on with one answer more
+  go_on : (r : Running) (answer : Answer) (start w : World) → After tables start w → Runs tables w.instances r → IsAnswered tables answer
+      → Goes (call (Task.Acts (with_answer r answer))) w (λ c u. After tables start u × Told tables c)
+  go_on r answer start w a h q = called (Task.Acts (with_answer r answer)) w _ (a.good, (h.0, all_last (IsAnswered tables) r.view.answers answer h.1 q)) (λ c u p. (after_trans a p.0, p.1))
+
+  answer_safe : (r : Running) (c : Completion Given) (start w : World) → After tables start w → Runs tables w.instances r → Told tables c
+      → Goes (handle (answer_of c) (λ answer. call (Task.Acts (with_answer r answer))) throw) w (λ c u. After tables start u × Told tables c)
+  answer_safe r (Gave (Given.Result v)) start w a h q = go_on r (answers.Done v) start w a h tt
+  answer_safe r (Gave (Given.Number n)) start w a h q = go_on r (answers.Done values.Null) start w a h tt
+  answer_safe r (Gave Given.Empty) start w a h q = go_on r (answers.Done values.Null) start w a h tt
+  answer_safe r (Threw x) start w a h q = found_two (slice_get tables.names x) q.0 _ _ w _ q.1 (go_on r (answers.Threw x q.0) start w a h q)
+
+  -- what an act came to is answered
+  told_safe : (r : Running) (p : Prog Given) (w : World) → Good tables w → Runs tables w.instances r → Goes p w (λ c u. After tables w u × Told tables c)
+      → Goes (handle (attempt p) (λ c. handle (answer_of c) (λ answer. call (Task.Acts (with_answer r answer))) throw) throw) w (λ c u. After tables w u × Told tables c)
+  told_safe r p w g h d =
+      then (attempt p) _ throw w came _
+      (then p (λ a. ret (Gave a)) (λ x. ret (Threw x)) w (λ c u. After tables w u × Told tables c) came d (λ a u q. q) (λ x u q. q))
+      (λ c u q. answer_safe r c w u q.0 (serves_then q.0.keeps h.0, h.1) q.1)
+      (λ x u q. absurd q)
+    where
+      came : Completion (Completion Given) → World → Type 0
+      came (Gave c) u = After tables w u × Told tables c
+      came (Threw x) u = ⊥
+
+  set_safe : (r : Running) (field : Name) (v : Value) (w : World) → Good tables w → (h : Runs tables w.instances r) → has (first_fields h.0.plan.fields) field ≡ true
+      → Goes (carry_out r (acts.Set field v)) w (λ c u. After tables w u × Told tables c)
+  set_safe r field v w g h served =
+      let lives = h.0.lives in
+      let same = fields_of (g.live.whole r.instance lives.instance lives.there) lives.of h.0.known field in
+      let x = has_at lives.instance.fields field (same ∙ served) in
+      found (instance_at w r.instance) lives.instance _ w _ lives.there (found (at lives.instance.fields field) x.0 _ w _ x.1 (assigned tables w r.instance field v g, tt))
+
+  own_safe : (r : Running) (name : Name) (args : List Value) (w : World) → Good tables w → (h : Runs tables w.instances r) → Takes h.0.plan.methods name (length args)
+      → Goes (carry_out r (acts.Own name args)) w (λ c u. After tables w u × Told tables c)
+  own_safe r name args w g h takes =
+      let s = h.0 in
+      let m = machine_method takes.method in
+      method_safe r.instance s.bean name s.plan takes.method _ w _ s.lives s.known takes.has (
+      expected (nat_eq (length args) takes.method.count) _ w _ (same_count takes.method (length args) takes.takes) (
+      called (Task.Body (body_at_start r.instance m.code.place m.code.body args [] [])) w _
+      (g, (record { bean = s.bean; plan = s.plan; known = s.known; name = name; method = takes.method; has = takes.has; is = refl; lives = s.lives }, tt)) (λ c u p. p)))
+
+  perform_safe : (r : Running) (a : Act) (w : World) → Good tables w → (h : Runs tables w.instances r) → IsServed tables h.0.plan r.view a → Goes (perform r a) w (λ c u. After tables w u × Told tables c)
+  perform_safe r (acts.Set field v) w g h q = told_safe r (carry_out r (acts.Set field v)) w g h (set_safe r field v w g h q)
+  perform_safe r (acts.Own name args) w g h q = told_safe r (carry_out r (acts.Own name args)) w g h (own_safe r name args w g h q)
+  perform_safe r (acts.Give v) w g h q = (after_self tables w g, tt)
+  perform_safe r (acts.Throw x) w g h q = (after_self tables w g, elim q [ inl text ↦ text | inr e ↦ thrown_text tables x r.view h.1 e ])
+  perform_safe r (acts.Call via name args) w g h q = absurd q
+  perform_safe r (acts.Read via) w g h q = absurd q
+  perform_safe r (acts.Write via v) w g h q = absurd q
+  perform_safe r (acts.Fire class qualifiers v) w g h q = absurd q
+  perform_safe r (acts.Proceed args) w g h q = absurd q
+  perform_safe r (acts.Find k) w g h q = absurd q
+  perform_safe r (acts.Keep key v) w g h q = absurd q
+  perform_safe r (acts.Peek key) w g h q = absurd q
+  perform_safe r (acts.Destroy k) w g h q = absurd q
+
+  acts_safe : (r : Running) (w : World) → Good tables w → Runs tables w.instances r → Goes (carry_on r) w (λ c u. After tables w u × Told tables c)
+  acts_safe r w g h =
+      let s = h.0 in
+      found (instance_at w r.instance) s.lives.instance _ w _ s.lives.there (
+      λ count a given. perform_safe r a (with_entry (entries.Did a) w) g h
+      (serves s.bean s.name count s.plan s.method s.lives.instance.fields r.view a s.known s.has
+      (subst (λ b. legal.gives b count s.lives.instance.fields r.view a) (sym s.is) given)))
+
+  -- ---- destruction
+
+  -- the instance has no callbacks
+  clean_up_safe : (n bean : ℕ) (v : Value) (component : Component) (w : World) → Good tables w → component ≡ components.Bean bean → IsKnown tables bean → Goes (clean_up n v component) w (λ c u. After tables w u)
+  clean_up_safe n bean v component w g of known =
+      subst (λ z. Goes (clean_up n v z) w (λ c u. After tables w u)) (sym of)
+      (found (option_map machine_bean (bean_of tables bean)) (machine_bean known.0) _ w _ (ap (option_map machine_bean) known.1) (
+      calling (Task.Rest []) _ _ (after_change (Change.Enter (invocation_at_start n roles.PreDestroy [] [])) w) _ (g, tt) (λ a u p. p.0) (λ x u p. p.0)))
+
+  release_safe : (n : ℕ) (w : World) → Good tables w → IsThere w.instances n → Goes (release n) w (λ c u. After tables w u)
+  release_safe n w g there =
+      found (instance_at w n) there.0 _ w _ there.1
+      (subst (λ ds. Goes (release_from n ds) w (λ c u. After tables w u)) (sym (g.live.whole n there.0 there.1).alone) (after_self tables w g))
+
+  still_leaving : {before after : Instances} (n : ℕ) → Keeps before after → IsLeaving before n → IsLeaving after n
+  still_leaving n k l = let s = k.stay n l.0 l.1 in (s.instance, s.there, s.stage ∙ l.2)
+
+  only_if_ready : (o : Instance) (p : Phase) → p ≡ phases.Ready → (elim p as (λ _. Option Instance) [ phases.New ↦ None | phases.Ready ↦ Some o | phases.Leaving ↦ None ]) ≡ Some o
+  only_if_ready o phases.New e = absurd (cc)
+  only_if_ready o phases.Ready e = refl
+  only_if_ready o phases.Leaving e = absurd (cc)
+
+  destroy_safe : (n : ℕ) (w : World) → Good tables w → IsReady w.instances n → Goes (destroy n) w (λ c u. Leaves tables w u)
+  destroy_safe n w g ready =
+      found (only_ready (instance_at w n)) o _ w _ (ap only_ready ready.1 ∙ only_if_ready o o.phase ready.2) (
+      then (Rattle.cdi_machine.specs.Programs.quietly (clean_up n o.value o.component)) _ throw w2 (λ c u. After tables w2 u) _
+      (then (clean_up n o.value o.component) _ _ w2 (λ c u. After tables w2 u) (λ c u. After tables w2 u) (clean_up_safe n h.bean o.value o.component w2 left.0.good h.of (h.plan, h.known)) (λ a u p. p) (λ x u p. p))
+      (λ _ u p. calling (Task.Release n) _ throw u _ (p.good, (let s = still_leaving n p.keeps left.1 in (s.0, s.1)))
+      (λ a v q. let s = still_leaving n q.keeps (still_leaving n p.keeps left.1) in leaves_trans (leaves_trans left.0 (leaves_after (after_trans p q))) (removed tables (with_entry (entries.Gone n) v) n s.0 s.1 q.good s.2))
+      (λ x v q. leaves_trans left.0 (leaves_after (after_trans p q))))
+      (λ x u p. leaves_trans left.0 (leaves_after p)))
+    where
+      o : Instance
+      o = ready.0
+
+      h : IsWhole tables ready.0
+      h = g.live.whole n ready.0 ready.1
+
+      w2 : World
+      w2 = after_change (Change.Leave n) (with_entry (entries.End n) w)
+
+      left : Leaves tables w (after_change (Change.Leave n) (with_entry (entries.End n) w)) × IsLeaving (after_change (Change.Leave n) (with_entry (entries.End n) w)).instances n
+      left = goes tables (with_entry (entries.End n) w) n ready.0 ready.1 g
+
+  dismiss_safe : (w : World) → Good tables w → HasTop w.temporaries → Goes dismiss w (λ c u. Leaves tables w u)
+  dismiss_safe w g h = topped w.temporaries _ w _ none one
+    where
+      none : w.temporaries ≡ [] → ⊥
+      none e = subst HasTop e h
+
+      has_top : (ts : List (List ℕ)) (u : World) → length ts ≡ length w.temporaries → HasTop ts
+      has_top [] u e = by w.temporaries h e
+        where
+          by : (xs : List (List ℕ)) → HasTop xs → 0 ≡ length xs → ⊥
+          by [] q e = absurd q
+          by (x ∷ xs) q e = absurd (omega arith)
+      has_top (t ∷ ts) u e = tt
+
+      borrowed : (ns : List ℕ) (more : List (List ℕ)) → w.temporaries ≡ ns ∷ more → AllByRecursion (IsBorrowed w.instances) ns
+      borrowed ns more e = (let q : AllBorrowed w.instances (ns ∷ more) = subst (AllBorrowed w.instances) e g.borrowed in q.0)
+
+      ready : (n : ℕ) → IsBorrowed w.instances n → IsReady w.instances n
+      ready n b = (b.1.instance, b.1.there, b.1.stage)
+
+      by : (x : Option ℕ) → ((n : ℕ) → x ≡ Some n → IsReady w.instances n) → Goes (dismiss_latest x) w (λ c u. Leaves tables w u)
+      by None q = leaves_after (after_self tables w g)
+      by (Some n) q =
+          calling (Task.Destroy n) _ throw w _ (g, q n refl)
+          (λ a u p. called Task.Dismiss u _ (p.good, has_top u.temporaries u p.level) (λ c v r. leaves_trans p r))
+          (λ x u p. p)
+
+      one : (ns : List ℕ) (more : List (List ℕ)) → w.temporaries ≡ ns ∷ more → Goes (dismiss_latest (latest ns)) w (λ c u. Leaves tables w u)
+      one ns more e = by (latest ns) (λ n q. ready n (latest_in (IsBorrowed w.instances) ns n (borrowed ns more e) q))
+
+  clear_safe : (w : World) → Good tables w → Goes (clear Application) w (λ c u. Leaves tables w u)
+  clear_safe w g = by (greatest_in w.contexts.application) (of_context w.contexts.application g.held)
+    where
+      ready : (bean : ℕ) (held : Held) → HeldBy w.instances Application bean held → (m : ℕ) → held ≡ Is m → IsReady w.instances m
+      ready bean Making h m e = absurd (cc)
+      ready bean (Is n) h m e = let q : n ≡ m = cc in subst (IsReady w.instances) q (h.instance, h.there, h.stage)
+
+      never : (n m : ℕ) → ◌≡◌ {A = Option ℕ} None (Some m) → IsReady w.instances m
+      never n m e = absurd (cc)
+
+      of_context : (a : Option Active) → AllHeld w.instances Application a → (n : ℕ) → greatest_in a ≡ Some n → IsReady w.instances n
+      of_context None h n e = absurd (cc)
+      of_context (Some a) h n e =
+          greatest_is (IsReady w.instances) None a.holds n (never n)
+          (all_weaker (λ p. HeldBy w.instances Application p.0 p.1) (λ p. (m : ℕ) → p.1 ≡ Is m → IsReady w.instances m) a.holds (λ p. ready p.0 p.1) h) e
+
+      by : (x : Option ℕ) → ((n : ℕ) → x ≡ Some n → IsReady w.instances n) → Goes (clear_from Application x) w (λ c u. Leaves tables w u)
+      by None q = leaves_after (after_self tables w g)
+      by (Some n) q =
+          calling (Task.Destroy n) _ throw w _ (g, q n refl)
+          (λ a u p. called (Task.Clear Application) u _ p.good (λ c v r. leaves_trans p r))
+          (λ x u p. p)
+
+  -- ---- all tasks
+
+  pub task_safe : (t : Task) (w : World) → Pre tables t w → Goes (program t) w (Post tables t w)
+  task_safe (Task.Obtain b) w h = obtain_safe b w h.0 h.1
+  task_safe (Task.Create b owner) w h = create_safe b owner w h.0 h.1 h.2
+  task_safe (Task.Intercept i n) w h = absurd h
+  task_safe (Task.Rest []) w h = rest_safe w h.0 h.1
+  task_safe (Task.Rest (i ∷ chain)) w h = absurd h
+  task_safe (Task.Body r) w h = body_safe r w h.0 h.1
+  task_safe (Task.Acts r) w h = acts_safe r w h.0 h.1
+  task_safe (Task.Destroy n) w h = destroy_safe n w h.0 h.1
+  task_safe (Task.Release n) w h = release_safe n w h.0 h.1
+  task_safe (Task.Fire class qualifiers v) w h = after_self tables w h
+  task_safe (Task.Notify [] v) w h = after_self tables w h
+  task_safe (Task.Notify (o ∷ os) v) w h = absurd h
+  task_safe Task.Dismiss w h = dismiss_safe w h.0 h.1
+  task_safe (Task.Clear Application) w h = clear_safe w h
+  task_safe (Task.Clear (Request name)) w h = absurd h
+  task_safe (Task.Clear (Session name)) w h = absurd h
