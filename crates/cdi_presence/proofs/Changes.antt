@@ -1,14 +1,13 @@
 -- Worlds stay whole under the changes that are made in what is served.
-use Rattle.std.proofs.Common.{ℕ, ◌+◌, ◌≡◌, ◌≢◌, ◌<◌, ◌⊎◌, inl, inr, List, [], ◌∷◌, ◌++◌, length, Bool, true, false, cond, not, Option, Some, None, refl, sym, ap, ◌∙◌, subst, arith, nat_eq}
+use Rattle.std.proofs.Common.{ℕ, ◌+◌, ◌≡◌, ◌≢◌, ◌<◌, ◌⊎◌, inl, inr, List, [], ◌∷◌, ◌++◌, length, Bool, true, false, cond, Option, Some, None, refl, sym, ap, ◌∙◌, subst, arith, nat_eq}
 use Rattle.std.specs.Prelude.{map, option_map}
 use Rattle.std.specs.List.{AllByRecursion}
 use Rattle.cdi_base.specs.declared.value.Value.{Value}
 use Rattle.cdi_base.specs.declared.entry.Entry.{Entry}
-use Rattle.cdi_base.specs.Maps.{Map, at, adjusted, without}
+use Rattle.cdi_base.specs.Maps.{at, adjusted, without}
 use Rattle.cdi_base.specs.Fields.{has, set}
 use Rattle.cdi_store.specs.declared.instance.Component.{Component}
 use Rattle.cdi_store.specs.declared.instance.Component.TheVariants as components
-use Rattle.cdi_store.specs.declared.instance.Context.{Context}
 use Rattle.cdi_store.specs.declared.instance.Context.TheVariants.{Application, Request, Session}
 use Rattle.cdi_store.specs.declared.instance.Owner.{Owner}
 use Rattle.cdi_store.specs.declared.instance.Owner.TheVariants as owners
@@ -19,14 +18,14 @@ use Rattle.cdi_store.specs.Live.{Instances, newborn, with_newborn, with_field, i
 use Rattle.cdi_store.proofs.Numbers.{equal_or_not}
 use Rattle.cdi_contexts.specs.declared.context.Held.{Held}
 use Rattle.cdi_contexts.specs.declared.context.Held.TheVariants.{Making, Is}
-use Rattle.cdi_contexts.specs.Contexts.{Active, Contexts, active_with, active_without, ending_active}
+use Rattle.cdi_contexts.specs.Contexts.{Active, active_with, active_without, ending_active}
 use Rattle.cdi_machine.specs.Words.{Name, Fields}
 use Rattle.cdi_machine.specs.World.{World, Change, after_change, instance_at, for_instance, with_owned, without_owned, with_instances, with_entry, on_top, below}
 use Rattle.cdi_beans.specs.declared.bean.Bean.{Bean}
 use Rattle.cdi_beans.specs.declared.tables.Tables.{Tables}
 use Rattle.cdi_beans.specs.Beans.{bean_of, first_fields}
 use Rattle.cdi_presence.proofs.Maps.{at_changed, at_other, found_before, at_gone, at_left, at_added, at_before, all_put, all_left, all_weaker, all_last}
-use Rattle.cdi_presence.proofs.Whole.{IsServedOwner, IsWhole, Stands, HeldBy, AllHeld, IsBorrowed, AllBorrowed, AllWhole, Whole, Good, Keeps, KeepsBut, stands_then, stands_but, all_held_then, all_borrowed_then, AfterOf, After, LeavesOf, Leaves}
+use Rattle.cdi_presence.proofs.Whole.{IsServedOwner, IsWhole, Stands, HeldBy, AllHeld, IsBorrowed, AllBorrowed, AllWhole, Good, Keeps, KeepsBut, stands_but, all_held_then, all_borrowed_then, After, Leaves}
 
 -- two numbers are equal or not
 abbrev Tested : ℕ → ℕ → Type 0

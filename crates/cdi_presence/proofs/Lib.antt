@@ -4,3 +4,5 @@ mod Whole
 mod Changes
 mod Terms
 mod Tasks
+mod Commands
+pub mod Presence

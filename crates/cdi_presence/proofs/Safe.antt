@@ -45,6 +45,20 @@ module _ (tables : Tables) (legal : Legal) (Pre : Task → World → Type 0) (Po
   bind (choose n k) f g w R Q d kf kg = λ i l. bind (k i) f g (with_entry (entries.Pick (candidates n) i) w) R Q (d i l) kf kg
   bind (nested t k) f g w R Q d kf kg = (d.0, λ c u q. bind (k c) f g u R Q (d.1 c u q) kf kg)
 
+  -- and what is wanted less
+  pub weaker : {A : Type 0} (p : Prog A) (w : World) (R Q : Completion A → World → Type 0) → Safe p w R → ((c : Completion A) (u : World) → R c u → Q c u) → Safe p w Q
+  weaker (ret a) w R Q d f = f (Gave a) w d
+  weaker (throw x) w R Q d f = f (Threw x) w d
+  weaker (cut cause) w R Q d f = tt
+  weaker (miss p) w R Q d f = d
+  weaker (see k) w R Q d f = weaker (k tables w) w R Q d f
+  weaker (change x p) w R Q d f = weaker p (after_change x w) R Q d f
+  weaker (tick e p) w R Q d f = weaker p (with_entry e w) R Q d f
+  weaker (mark n p) w R Q d f = weaker p w R Q d f
+  weaker (act b fields view k) w R Q d f = λ n a l. weaker (k a) (with_entry (entries.Did a) w) R Q (d n a l) f
+  weaker (choose n k) w R Q d f = λ i l. weaker (k i) (with_entry (entries.Pick (candidates n) i) w) R Q (d i l) f
+  weaker (nested t k) w R Q d f = (d.0, λ c u q. weaker (k c) u R Q (d.1 c u q) f)
+
   -- what follows a call is safe after it
   goes_on : (Q : Completion Given → World → Type 0) (t : Task) (k : Completion Given → Prog Given) (w u : World) → ((c : Completion Given) (u : World) → Post t w c u → Safe (k c) u Q) → (o : Outcome) → UnlessCut (Post t w) o u → Safe (rest_after o k) u Q
   goes_on Q t k w u d (Ends c) h = d c u h

@@ -1,5 +1,5 @@
 -- Each task misses nothing if it has what it needs, and what is promised holds after it.
-use Rattle.std.proofs.Common.{ℕ, suc, ◌+◌, ◌≡◌, ◌≢◌, ◌<◌, ◌⊎◌, inl, inr, List, [], ◌∷◌, ◌++◌, length, Bool, true, false, cond, Option, Some, None, refl, sym, ap, ◌∙◌, subst, arith, nat_eq}
+use Rattle.std.proofs.Common.{ℕ, ◌≡◌, ◌⊎◌, inl, inr, List, [], ◌∷◌, length, Bool, true, false, cond, Option, Some, None, refl, sym, ap, ◌∙◌, subst, arith, nat_eq}
 use Rattle.std.specs.Prelude.{option_map, nat_lt, slice_get, max, ◌^◌}
 use Rattle.std.specs.List.{AllByRecursion}
 use Rattle.cdi_base.specs.declared.value.Value.{Value}
@@ -9,17 +9,13 @@ use Rattle.cdi_base.specs.declared.act.Act.TheVariants as acts
 use Rattle.cdi_base.specs.declared.act.Answer.{Answer}
 use Rattle.cdi_base.specs.declared.act.Answer.TheVariants as answers
 use Rattle.cdi_base.specs.declared.entry.Entry.TheVariants as entries
-use Rattle.cdi_base.specs.declared.built_in.BuiltIn.{BuiltIn}
 use Rattle.cdi_base.specs.declared.built_in.BuiltIn.TheVariants as built_in
 use Rattle.cdi_base.specs.declared.place.Place.TheVariants as places
-use Rattle.cdi_base.specs.declared.place.InterceptorMethod.{InterceptorMethod}
 use Rattle.cdi_base.specs.declared.place.InterceptorMethod.TheVariants as roles
-use Rattle.cdi_base.specs.BuiltIn.{number_of}
 use Rattle.cdi_base.specs.Maps.{Map, at}
 use Rattle.cdi_base.specs.Fields.{has}
 use Rattle.cdi_store.specs.declared.instance.Component.{Component}
 use Rattle.cdi_store.specs.declared.instance.Component.TheVariants as components
-use Rattle.cdi_store.specs.declared.instance.Context.{Context}
 use Rattle.cdi_store.specs.declared.instance.Context.TheVariants.{Application, Request, Session}
 use Rattle.cdi_store.specs.declared.instance.Owner.{Owner}
 use Rattle.cdi_store.specs.declared.instance.Owner.TheVariants as owners
@@ -34,17 +30,15 @@ use Rattle.cdi_contexts.specs.declared.context.Held.TheVariants.{Making, Is}
 use Rattle.cdi_contexts.specs.Contexts.{Active, greatest, greater}
 use Rattle.cdi_deploy.specs.declared.deployment.Scope.{Scope}
 use Rattle.cdi_deploy.specs.declared.deployment.Scope.TheVariants as scopes
-use Rattle.cdi_bodies.specs.declared.view.View.{View}
-use Rattle.cdi_machine.specs.Words.{Name, Asked, Fields}
+use Rattle.cdi_machine.specs.Words.{Name, Fields}
 use Rattle.cdi_machine.specs.Tables as machine
 use Rattle.cdi_machine.specs.World.{World, Change, Invocation, after_change, with_entry, instance_at}
 use Rattle.cdi_machine.specs.Programs.{Task, Given, Completion, Gave, Threw, Running, Prog, ActiveContext, ret, throw, handle, attempt, require_present, expect, complete, call, require, each, top, give_number, require_depth, active_or_raise, context}
 use Rattle.cdi_machine.specs.Machine.{machine as program}
 use Rattle.cdi_machine.specs.Contexts.{find_or_create, obtain}
 use Rattle.cdi_machine.specs.Bodies.{invocation_at_start, invoke_by, body_at_start, run_rest, run_body, bean_of as component_bean, method_in, method_of, invoke_method, carry_out, answer_of, with_answer, perform, carry_on}
-use Rattle.cdi_machine.specs.Destruction.{latest, dismiss_latest, dismiss, clean_up, only_ready, destroy_ready, destroy, release_from, release, greatest_in, clear_from, clear}
+use Rattle.cdi_machine.specs.Destruction.{latest, dismiss_latest, dismiss, clean_up, only_ready, destroy, release_from, release, greatest_in, clear_from, clear}
 use Rattle.cdi_machine.specs.Creation.{create}
-use Rattle.cdi_machine.specs.Events.{fire, notify}
 use Rattle.cdi_machine.specs.Runs.{Legal}
 use Rattle.cdi_beans.specs.declared.bean.Bean.{Bean}
 use Rattle.cdi_beans.specs.declared.bean.Method.{Method}
@@ -52,12 +46,12 @@ use Rattle.cdi_beans.specs.declared.tables.Tables.{Tables}
 use Rattle.cdi_beans.specs.Beans.{bean_of, find_method, first_fields}
 use Rattle.cdi_beans.specs.Served.{machine_tables, machine_bean, machine_method, machine_methods, machine_scope}
 use Rattle.cdi_beans.proofs.Served.{at_method}
-use Rattle.cdi_presence.specs.Missing.{Takes, HasText, IsServed, GivesServed}
+use Rattle.cdi_presence.specs.Missing.{Takes, IsServed, GivesServed}
 use Rattle.cdi_presence.proofs.Safe.{Safe, bind}
 use Rattle.cdi_presence.proofs.Maps.{all_at, all_weaker, all_last}
 use Rattle.cdi_presence.proofs.Whole.{IsServedOwner, IsWhole, Stands, HeldBy, AllHeld, IsBorrowed, AllBorrowed, Good, Keeps, After, Leaves, after_self, after_trans, leaves_trans, leaves_after}
 use Rattle.cdi_presence.proofs.Changes.{IsLeaving, made_shared, made_borrowed, goes, removed, assigned}
-use Rattle.cdi_presence.proofs.Terms.{IsKnown, Lives, IsThere, IsReady, Serves, Invokes, IsAnswered, Told, Runs, HasTop, Pre, Gets, Post, lives_then, serves_then, thrown_text}
+use Rattle.cdi_presence.proofs.Terms.{IsKnown, Lives, IsThere, IsReady, Serves, Invokes, IsAnswered, Told, Runs, HasTop, Pre, Post, serves_then, thrown_text}
 
 -- ---- fields
 

@@ -1,6 +1,6 @@
 -- Worlds whose parts fit one another: what a context or a borrower has is a live instance that is ready and theirs, and what
 -- is live has a bean of the tables.
-use Rattle.std.proofs.Common.{ℕ, ◌≡◌, ◌≢◌, ◌<◌, ◌⊎◌, inl, inr, List, [], ◌∷◌, length, Bool, true, false, cond, Option, Some, None, refl, sym, ap, ◌∙◌, subst, arith, nat_eq}
+use Rattle.std.proofs.Common.{ℕ, ◌≡◌, ◌≢◌, ◌<◌, List, [], length, Option, Some, None, refl, ◌∙◌}
 use Rattle.std.specs.List.{AllByRecursion}
 use Rattle.cdi_base.specs.Maps.{at}
 use Rattle.cdi_base.specs.Fields.{has}

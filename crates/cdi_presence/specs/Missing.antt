@@ -1,5 +1,5 @@
 -- Runs in which nothing is missing, as far as commands, beans and acts are served now.
-use Rattle.std.specs.Prelude.{ℕ, ◌≡◌, ◌⊎◌, List, length, Option, Some, None, slice_get, true}
+use Rattle.std.specs.Prelude.{ℕ, ◌≡◌, ◌⊎◌, List, length, Some, None, slice_get, true}
 use Rattle.cdi_base.specs.declared.act.Act.{Act}
 use Rattle.cdi_base.specs.declared.act.Act.TheVariants as acts
 use Rattle.cdi_base.specs.declared.reply.Reply.{Reply}
@@ -94,10 +94,11 @@ pub data Reached (tables : machine.Tables) (legal : Legal) : State → Type 0 wh
       → Answers tables legal s c r t
       → Reached tables legal t
 
--- if the bodies give acts that are served, no command misses anything
-abbrev pub MissesNothing : List ℕ → Tables → Legal → Type 0 → Type 0
-MissesNothing classes tables legal Starved =
-    GivesServed tables legal → (s : State) → Reached (machine_tables classes tables) legal s
+-- if the bodies give acts that are served, no command misses anything, whichever the classes of the deployment are
+abbrev pub MissesNothing : Tables → Legal → Type 0 → Type 0
+MissesNothing tables legal Starved =
+    (classes : List ℕ) → GivesServed tables legal → (s : State)
+    → Reached (machine_tables classes tables) legal s
     → (c : Command) → refusal (machine_tables classes tables) s c ≡ None → IsServedCommand c
     → (o : Outcome) (v : World)
     → (r : Runs (machine_tables classes tables) legal Starved (task c) (at_begin s.world) o v)

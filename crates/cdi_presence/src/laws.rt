@@ -1,5 +1,4 @@
 //! The law that nothing is missing. A call of it does nothing: its contract is the law.
-ghost use Rattle.std.specs.Prelude.{ℕ, List};
 ghost use Rattle.cdi_presence.specs.Missing.{MissesNothing};
 
 use cdi_beans::tables::Tables;
@@ -9,10 +8,9 @@ use cdi_machine::Driver;
 /// which a bean, a method, a field, an instance, an invocation or the text of an exception isn't there. That holds in
 /// every state that commands lead to, refused ones included, for every command but one that begins a request, and also if
 /// memory runs out on the way.
-#[tactic(auto, using(crate::proofs::Presence::misses_nothing))]
 pub fn law_nothing_missing<D: Driver>(tables: &Tables, driver: &D)
-    ensures with_memory { (classes : List ℕ) → MissesNothing classes tables.now (D.legal driver.now) ⊥ }
-    ensures short_of_memory { (classes : List ℕ) → MissesNothing classes tables.now (D.legal driver.now) (Unit {0}) }
+    ensures with_memory { MissesNothing tables.now (D.legal driver.now) ⊥ }
+    ensures short_of_memory { MissesNothing tables.now (D.legal driver.now) (Unit {0}) }
 {
     let _tables = tables;
     let _driver = driver;
