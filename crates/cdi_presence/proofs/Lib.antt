@@ -6,3 +6,4 @@ mod Terms
 mod Tasks
 mod Commands
 pub mod Presence
+mod Distinct

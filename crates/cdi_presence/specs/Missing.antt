@@ -21,7 +21,8 @@ use Rattle.cdi_beans.specs.Beans.{bean_of, find_method, first_fields, resolve}
 use Rattle.cdi_beans.specs.Served.{machine_tables}
 
 -- no point of the run is one at which something is missing
-abbrev pub NothingMissing : {tables : machine.Tables} {legal : Legal} {Starved : Type 0} {p : Prog Given} {w v : World} {o : Outcome}
+abbrev pub NothingMissing : {tables : machine.Tables} {legal : Legal} {Starved : Type 0} {p : Prog Given}
+    {w v : World} {o : Outcome}
     → Runs tables legal Starved p w o v → Type 0
 NothingMissing (Runs.misses r) = ⊥
 NothingMissing Runs.returns = Unit {0}
