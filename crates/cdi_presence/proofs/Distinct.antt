@@ -1,15 +1,13 @@
 -- In an accepted deployment no name stands twice in a class.
-use Rattle.std.proofs.Common.{◌≡◌, ℕ, Bool, true, false, cond, List, [], ◌∷◌, ◌++◌, map, refl, sym, ap, ◌∙◌, subst, nat_eq}
+use Rattle.std.proofs.Common.{◌≡◌, ℕ, Bool, true, false, cond, List, [], ◌∷◌, ◌++◌, map, refl, ap, subst, nat_eq}
 use Rattle.std.specs.Prelude.{fold, ◌||◌}
 use Rattle.std.specs.List.{list_any}
 use Rattle.cdi_base.specs.declared.place.Place.{Place}
 use Rattle.cdi_deploy.specs.declared.deployment.Class.{Class}
 use Rattle.cdi_deploy.specs.declared.deployment.Deployment.{Deployment}
-use Rattle.cdi_beans.specs.declared.problem.Problem.{Problem}
 use Rattle.cdi_beans.specs.declared.problem.ProblemKind.{ProblemKind}
 use Rattle.cdi_beans.specs.Check.{problems_at}
 use Rattle.cdi_beans.specs.Duplicates.{stands_in, repeated, names_in, repeated_in, repeated_at, built_in_types, in_classes, same_place, with_place, once, duplicates}
-use Rattle.cdi_beans.proofs.Accepted.{empty_first, empty_second}
 
 module _ {X Y : Type 0} where
   pub nothing_mapped : (f : X → Y) (xs : List X) → map f xs ≡ [] → xs ≡ []

@@ -7,3 +7,4 @@ mod Tasks
 mod Commands
 pub mod Presence
 mod Distinct
+pub mod Serving

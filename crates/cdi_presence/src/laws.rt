@@ -1,7 +1,13 @@
-//! The law that nothing is missing. A call of it does nothing: its contract is the law.
+//! The laws that nothing is missing. A call of one of these does nothing: its contract is the law.
+ghost use Rattle.std.specs.Prelude.{◌≡◌, []};
+ghost use Rattle.cdi_bodies.specs.Table.{entries_of};
+ghost use Rattle.cdi_beans.specs.Check.{problems_of};
+ghost use Rattle.cdi_presence.specs.Accepted.{AcceptedServes};
 ghost use Rattle.cdi_presence.specs.Missing.{MissesNothing};
 
 use cdi_beans::tables::Tables;
+use cdi_bodies::Bodies;
+use cdi_deploy::Deployment;
 use cdi_machine::Driver;
 
 /// No look-up fails: if the bodies give only acts that are served, a command that isn't refused never comes to a point at
@@ -14,4 +20,15 @@ pub fn law_nothing_missing<D: Driver>(tables: &Tables, driver: &D)
 {
     let _tables = tables;
     let _driver = driver;
+}
+
+/// The bodies of an accepted deployment give only acts that are served, and so what `law_nothing_missing` asks of them:
+/// they set fields and call methods that the bean has, with as many values as a method takes, and throw only what they
+/// were answered with.
+pub fn law_accepted_serves(deployment: &Deployment, bodies: &Bodies)
+    requires { problems_of deployment.now (entries_of bodies.now) ≡ [] }
+    ensures { AcceptedServes deployment.now (entries_of bodies.now) }
+{
+    let _deployment = deployment;
+    Bodies::gives_in_shape(bodies);
 }
