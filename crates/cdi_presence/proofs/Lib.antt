@@ -1,10 +1,10 @@
 mod Safe
 mod Maps
-mod Whole
+pub mod Whole
 mod Changes
-mod Terms
-mod Tasks
-mod Commands
+pub mod Terms
+pub mod Tasks
+pub mod Commands
 pub mod Presence
 mod Distinct
 pub mod Serving

@@ -3,6 +3,8 @@ use Rattle.std.proofs.Common.{ℕ, ◌≡◌, List, ◌∷◌, ◌++◌, Option,
 use Rattle.cdi_base.specs.declared.reply.Refusal.{Refusal}
 use Rattle.cdi_base.specs.declared.reply.Refusal.TheVariants as refusals
 use Rattle.cdi_store.specs.declared.instance.Instance.{Instance}
+use Rattle.cdi_bodies.specs.declared.entry.Entry.{Entry}
+use Rattle.cdi_deploy.specs.declared.deployment.Deployment.{Deployment}
 use Rattle.cdi_machine.specs.World.{World, at_begin, before_boot}
 use Rattle.cdi_machine.specs.Commands.{Command, task}
 use Rattle.cdi_machine.specs.Container.{State, refusal, Answers, is_cut, first_that_holds, refused_by_contexts, refused_by_tables}
@@ -10,6 +12,7 @@ use Rattle.cdi_machine.specs.Runs.{Legal, Outcome, Ends, Cut, Runs}
 use Rattle.cdi_beans.specs.declared.tables.Tables.{Tables}
 use Rattle.cdi_beans.specs.Served.{machine_tables}
 use Rattle.cdi_presence.specs.Missing.{NothingMissing, GivesServed, IsServedCommand, Reached, MissesNothing}
+use Rattle.cdi_presence.specs.Accepted.{legal_of, AcceptedServes, NoneMissed}
 use Rattle.cdi_presence.proofs.Safe.{UnlessCut, misses_none}
 use Rattle.cdi_presence.proofs.Whole.{Good}
 use Rattle.cdi_presence.proofs.Terms.{Pre, Post}
@@ -58,5 +61,8 @@ module _ (classes : List ℕ) (tables : Tables) (legal : Legal) (serves : GivesS
       after_end o v (carried_out ⊥ s c o v (reached before (not_halted s c e)) (served e) e r).1 h
 
 pub misses_nothing : (tables : Tables) (legal : Legal) (Starved : Type 0) → MissesNothing tables legal Starved
-misses_nothing tables legal Starved classes serves s before c e q o v r =
+misses_nothing tables legal Starved serves classes s before c e q o v r =
     (carried_out classes tables legal serves Starved s c o v (reached classes tables legal serves before (not_halted classes tables legal serves s c e)) q e r).0
+
+pub none_missed : {X : Type 0} {F : X → Type 0} {g : _} (deployment : Deployment) (entries : List (Entry X F g)) (Starved : Type 0) → AcceptedServes deployment entries → NoneMissed deployment entries Starved
+none_missed deployment entries Starved serves tables same = misses_nothing tables (legal_of entries) Starved (serves tables same)

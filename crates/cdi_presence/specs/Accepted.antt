@@ -6,7 +6,7 @@ use Rattle.cdi_deploy.specs.declared.deployment.Deployment.{Deployment}
 use Rattle.cdi_machine.specs.Runs.{Legal}
 use Rattle.cdi_beans.specs.declared.tables.Tables.{Tables}
 use Rattle.cdi_beans.specs.Build.{beans_of}
-use Rattle.cdi_presence.specs.Missing.{GivesServed}
+use Rattle.cdi_presence.specs.Missing.{GivesServed, MissesNone}
 
 -- any act that the registered bodies may give; of several candidates the first is picked
 abbrev pub legal_of : {X : Type 0} {F : X → Type 0} {g : _} → List (Entry X F g) → Legal
@@ -21,3 +21,9 @@ abbrev pub AcceptedServes : {X : Type 0} {F : X → Type 0} {g : _} → Deployme
 AcceptedServes deployment entries =
     (tables : Tables) → tables.beans ≡ beans_of deployment.classes entries
     → GivesServed tables (legal_of entries)
+
+-- in a container of the deployment with these bodies no command misses anything
+abbrev pub NoneMissed : {X : Type 0} {F : X → Type 0} {g : _} → Deployment → List (Entry X F g) → Type 0 → Type 0
+NoneMissed deployment entries Starved =
+    (tables : Tables) → tables.beans ≡ beans_of deployment.classes entries
+    → MissesNone tables (legal_of entries) Starved

@@ -95,12 +95,15 @@ pub data Reached (tables : machine.Tables) (legal : Legal) : State → Type 0 wh
       → Answers tables legal s c r t
       → Reached tables legal t
 
--- if the bodies give acts that are served, no command misses anything, whichever the classes of the deployment are
-abbrev pub MissesNothing : Tables → Legal → Type 0 → Type 0
-MissesNothing tables legal Starved =
-    (classes : List ℕ) → GivesServed tables legal → (s : State)
-    → Reached (machine_tables classes tables) legal s
+-- in no state that commands lead to does a command miss anything, whichever the classes of the deployment are
+abbrev pub MissesNone : Tables → Legal → Type 0 → Type 0
+MissesNone tables legal Starved =
+    (classes : List ℕ) (s : State) → Reached (machine_tables classes tables) legal s
     → (c : Command) → refusal (machine_tables classes tables) s c ≡ None → IsServedCommand c
     → (o : Outcome) (v : World)
     → (r : Runs (machine_tables classes tables) legal Starved (task c) (at_begin s.world) o v)
     → NothingMissing r
+
+-- if the bodies give acts that are served, no command misses anything
+abbrev pub MissesNothing : Tables → Legal → Type 0 → Type 0
+MissesNothing tables legal Starved = GivesServed tables legal → MissesNone tables legal Starved

@@ -2,7 +2,7 @@
 ghost use Rattle.std.specs.Prelude.{◌≡◌, []};
 ghost use Rattle.cdi_bodies.specs.Table.{entries_of};
 ghost use Rattle.cdi_beans.specs.Check.{problems_of};
-ghost use Rattle.cdi_presence.specs.Accepted.{AcceptedServes};
+ghost use Rattle.cdi_presence.specs.Accepted.{AcceptedServes, NoneMissed};
 ghost use Rattle.cdi_presence.specs.Missing.{MissesNothing};
 
 use cdi_beans::tables::Tables;
@@ -31,4 +31,14 @@ pub fn law_accepted_serves(deployment: &Deployment, bodies: &Bodies)
 {
     let _deployment = deployment;
     Bodies::gives_in_shape(bodies);
+}
+
+/// In a container of an accepted deployment no look-up fails: `law_nothing_missing` with what `law_accepted_serves`
+/// shows of the bodies. It holds of every state that commands lead to, and also if memory runs out.
+pub fn law_none_missed(deployment: &Deployment, bodies: &Bodies)
+    requires { problems_of deployment.now (entries_of bodies.now) ≡ [] }
+    ensures with_memory { NoneMissed deployment.now (entries_of bodies.now) ⊥ }
+    ensures short_of_memory { NoneMissed deployment.now (entries_of bodies.now) (Unit {0}) }
+{
+    law_accepted_serves(deployment, bodies);
 }
