@@ -65,6 +65,13 @@ impl Fields {
         }
     }
 
+    /// Whether a field is there.
+    pub fn has(&self, name: Name) -> bool
+        ensures { result ≡ spec.has self.now name }
+    {
+        self.entries.contains_key(&name)
+    }
+
     /// The value of a field, null if it is absent.
     pub fn get(&self, name: Name) -> &Value
         ensures { result.now ≡ spec.get self.now name }

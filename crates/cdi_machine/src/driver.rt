@@ -1,9 +1,11 @@
 //! What drives the machine from outside: bodies give acts, and a chooser picks among candidates.
 ghost use Rattle.std.specs.Prelude.{◌≡◌, ◌<◌, ℕ, IfOk};
 ghost use Rattle.cdi_machine.specs.Laws.{IsWithin};
+ghost use Rattle.cdi_machine.specs.declared.driver.Failure.TheVariants.{Memory};
 
 use cdi_base::{Act, Fields};
-use cdi_bodies::View;
+use cdi_bodies::{BodyId, View};
+use std::alloc::AllocError;
 
 /// Why a driver gives nothing. The command ends there; only want of memory has a rule of the definition yet.
 #[derive(Clone, Copy, Debug, PartialEq, Eq)]
@@ -12,6 +14,14 @@ pub enum Failure {
     Memory,
     /// The driver has nothing to give at this place, as a recording that has come to its end.
     Exhausted,
+}
+
+impl From<AllocError> for Failure {
+    ghost from_gives = { λ _ f. f ≡ Memory };
+
+    fn from(_error: AllocError) -> Failure {
+        Failure::Memory
+    }
 }
 
 /// The acts of bodies, and the picks among candidates whose order is free. It is told each time how many entries the
@@ -27,7 +37,7 @@ pub trait Driver {
     ghost legal: { Self → Legal };
 
     /// The next act of a body, in its written form.
-    fn act(&mut self, body: u32, entries: u64, fields: &Fields, view: &View) -> Result<Act, Failure>
+    fn act(&mut self, body: BodyId, entries: u64, fields: &Fields, view: &View) -> Result<Act, Failure>
         requires { knows self.old body }
         ensures legal { IfOk result (λ act.
             (legal self.old).gives body entries fields.now view.now act) }

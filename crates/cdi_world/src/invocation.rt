@@ -1,17 +1,18 @@
 //! Invocations.
-ghost use Rattle.std.specs.Prelude.{◌≡◌, option_to_list};
+ghost use Rattle.std.specs.Prelude.{◌≡◌, [], option_to_list};
 ghost use Rattle.std.specs.Option.{option_copied};
 ghost use Rattle.cdi_machine.specs.Bodies.{invocation_at_start};
 ghost use Rattle.cdi_world.specs.Invocation.{reached};
 
 use cdi_base::{InterceptorMethod, Place, Seq, Value};
+use cdi_bodies::BodyId;
 use std::marker::Model;
 
 /// A body, and the member that it is of.
 #[derive(Clone, Copy, Debug, PartialEq, Eq)]
 pub struct Code {
     place: Place,
-    body: u32,
+    body: BodyId,
 }
 
 impl Model for Code {
@@ -26,7 +27,7 @@ impl Model for Code {
 
 impl Code {
     /// The body of a member.
-    pub fn new(place: Place, body: u32) -> Code
+    pub fn new(place: Place, body: BodyId) -> Code
         ensures { result ≡ record { place = place; body = body } }
     {
         Code { place, body }
@@ -40,7 +41,7 @@ impl Code {
     }
 
     /// The number of the body.
-    pub fn body(self) -> u32
+    pub fn body(self) -> BodyId
         ensures { result ≡ self.body }
     {
         self.body
@@ -117,10 +118,17 @@ impl Invocation {
     }
 
     /// The values that the body takes.
-    pub fn parameters(&self) -> &[Value]
+    pub fn parameters(&self) -> &Seq<Value>
         ensures { result.now ≡ self.now.parameters }
     {
-        self.parameters.as_slice()
+        &self.parameters
+    }
+
+    /// Nothing has injected parameters yet. A call does nothing: its contract is the law.
+    pub fn law_references(&self)
+        ensures { self.now.references ≡ [] }
+    {
+        let _role = self.role;
     }
 
     /// Whether the chain's end has been reached.

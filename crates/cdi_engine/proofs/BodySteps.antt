@@ -1,0 +1,297 @@
+-- The steps of bodies are those of the machine.
+use Rattle.std.proofs.Common.{ℕ, ◌≡◌, ◌<◌, ◌≤◌, ◌∷◌, [], List, length, refl, sym, ◌∙◌, ap, arith, Option, Some, None, Bool, true, false}
+use Rattle.std.proofs.Math.Path.{fun_ext}
+use Rattle.std.specs.Prelude.{suc, ◌^◌, nat_eq, nat_lt, slice_get, option_map, option_and_then, is_some}
+use Rattle.cdi_base.specs.declared.value.Value.{Value}
+use Rattle.cdi_base.specs.declared.value.Value.TheVariants as values
+use Rattle.cdi_base.specs.declared.act.Act.{Act}
+use Rattle.cdi_base.specs.declared.act.Act.TheVariants as acts
+use Rattle.cdi_base.specs.declared.act.Answer.{Answer}
+use Rattle.cdi_base.specs.declared.act.Answer.TheVariants as answers
+use Rattle.cdi_base.specs.declared.entry.Entry.{Entry}
+use Rattle.cdi_base.specs.declared.entry.Entry.TheVariants as entries
+use Rattle.cdi_base.specs.declared.reply.Cause.TheVariants as causes
+use Rattle.cdi_base.specs.declared.place.Place.TheVariants as places
+use Rattle.cdi_base.specs.declared.place.InterceptorMethod.{InterceptorMethod}
+use Rattle.cdi_base.specs.declared.place.InterceptorMethod.TheVariants as roles
+use Rattle.cdi_base.specs.declared.built_in.BuiltIn.TheVariants as built_in
+use Rattle.cdi_base.specs.BuiltIn.{number_of}
+use Rattle.cdi_base.specs.Maps.{at}
+use Rattle.cdi_base.specs.Fields.{has}
+use Rattle.cdi_store.specs.declared.instance.Component.{Component}
+use Rattle.cdi_store.specs.declared.instance.Component.TheVariants as components
+use Rattle.cdi_store.specs.declared.instance.Context.TheVariants.{Application}
+use Rattle.cdi_store.specs.declared.instance.Instance.{Instance}
+use Rattle.cdi_store.specs.declared.instance.Owner.{Owner}
+use Rattle.cdi_store.specs.declared.instance.Owner.TheVariants as owners
+use Rattle.cdi_store.specs.declared.instance.Phase.TheVariants as phases
+use Rattle.cdi_beans.specs.declared.bean.Bean.{Bean as CodeBean}
+use Rattle.cdi_beans.specs.declared.bean.Method.{Method as CodeMethod}
+use Rattle.cdi_beans.specs.Served.{machine_bean, machine_method, machine_resolution, machine_scope}
+use Rattle.cdi_machine.specs.Words.{Name, Fields, Asked}
+use Rattle.cdi_machine.specs.Tables.{Tables, Code, Bean, Method, Kind, Resolution, One, Nothing, Many, Observer}
+use Rattle.cdi_machine.specs.World.{World, Change, Invocation, after_change, instance_at}
+use Rattle.cdi_machine.specs.Programs as machine
+use Rattle.cdi_machine.specs.Programs.{Given, Number, Completion, Gave, Threw, Prog, ret, throw, see, nested, tick, change, choose, act, handle, finally, quietly, do_nothing, tell_missing, require_present, require, require_one, expect, complete, call, finish, note, alter, each, raise, require_number, give_number, next_number, require_depth, go_deeper, top, instance, bean_at, resolve, attempt, ◌>>=◌, ◌>>◌}
+use Rattle.cdi_engine.specs.Setting.{Setting, GivesTo}
+use Rattle.cdi_engine.specs.Asked.{of_type, method_in, method_at, method_of_component, method_of_instance, has_field_in, dependents_in, number_left, top_of, latest_in}
+use Rattle.cdi_engine.specs.Words.{given_of, completion_of, running_of, class_of, qualifiers_of, task_of}
+use Rattle.cdi_engine.specs.Points.{over, rest, waits, node, first, around, fields_of, make_instance, settle, start_body, stop_body, go_on_with, told, reach_end, let_go, free_dependents, end_clean_up, clean_up_quietly, end_instance, free_picked, use_for, use_lent, exit_with, give_back_with, return_with, start_container, deliver, bring_down, close_application, finish_application, empty_application}
+use Rattle.cdi_engine.specs.Leads.{settled, walked, Comes, Leads, Settles}
+use Rattle.cdi_engine.specs.declared.task.Call.TheVariants as calls
+use Rattle.cdi_engine.specs.declared.task.Completion.{Completion as CodeCompletion}
+use Rattle.cdi_engine.specs.declared.task.Completion.TheVariants as completions
+use Rattle.cdi_engine.specs.declared.task.Given.{Given as CodeGiven}
+use Rattle.cdi_engine.specs.declared.task.Given.TheVariants as givens
+use Rattle.cdi_engine.specs.declared.task.Outcome.TheVariants as outcomes
+use Rattle.cdi_engine.specs.declared.task.Running.{Running}
+use Rattle.cdi_engine.specs.declared.task.Task.{Task}
+use Rattle.cdi_engine.specs.declared.task.Task.TheVariants as tasks
+use Rattle.cdi_engine.specs.declared.task.Frame.TheVariants as frames
+use Rattle.cdi_engine.specs.declared.task.Next.{Next}
+use Rattle.cdi_engine.specs.declared.task.Next.TheVariants as nexts
+use Rattle.cdi_bodies.specs.declared.view.View.{View}
+use Rattle.cdi_machine.specs.Bodies as bodies
+use Rattle.cdi_machine.specs.Bodies.{run_body, carry_on, carry_out, perform, answer_of, with_answer, after_act, body_at_start}
+use Rattle.cdi_engine.proofs.InvocationSteps.{with_method, method_settled}
+
+-- a field is there just if the fields have it
+at_field : (fields : Fields) (name : Name) → has fields name ≡ true → (v : Value) × (at fields name ≡ Some v)
+at_field [] name e = absurd (cc)
+at_field (f ∷ fs) name e =
+    elim (nat_eq name f.0) as (λ b. nat_eq name f.0 ≡ b → (v : Value) × (at (f ∷ fs) name ≡ Some v)) [
+      | true ↦ λ h. (f.1, rw h refl)
+      | false ↦ λ h. let r = at_field fs name (rw h at e) in (r.0, rw h r.1)
+    ] refl
+
+no_field : (fields : Fields) (name : Name) → has fields name ≡ false → at fields name ≡ None
+no_field [] name e = refl
+no_field (f ∷ fs) name e =
+    elim (nat_eq name f.0) as (λ b. nat_eq name f.0 ≡ b → at (f ∷ fs) name ≡ None) [
+      | true ↦ λ h. absurd (let r = rw h at e in cc)
+      | false ↦ λ h. rw h (no_field fs name (rw h at e))
+    ] refl
+
+module _ (s : Setting) where
+  abbrev t : Tables
+  t = s.tables
+
+  -- ---- a body
+
+  abbrev started : machine.Running → Bool → Option Instance → Prog Given
+  started r x o = do
+    require_depth x
+    require_present o
+    note (entries.Run r.instance r.place)
+    start_body r
+
+  pub body_too_deep : (r : Running) (w : World) → nat_lt (length w.bodies) w.depth ≡ false
+      → Leads s (tasks.Start (calls.Body r)) w (nexts.Finished (outcomes.Cut causes.Depth)) w
+  body_too_deep r w h = Comes.same (ap (λ x. settled t (require_depth x >>= λ _. instance r.instance >>= λ _. note (entries.Run r.instance r.place) >>= λ _. start_body (running_of r)) w) h)
+
+  body_in : (r : Running) {o : Option Instance} (w : World) → nat_lt (length w.bodies) w.depth ≡ true → instance_at w r.instance ≡ o
+      → settled t (run_body (running_of r)) w ≡ settled t (started (running_of r) true o) w
+  body_in r w h e =
+      ap (λ x. settled t (require_depth x >>= λ _. instance r.instance >>= λ _. note (entries.Run r.instance r.place) >>= λ _. start_body (running_of r)) w) h
+      ∙ ap (λ o. settled t (started (running_of r) true o) w) e
+
+  pub body_missing : (r : Running) (w : World) → nat_lt (length w.bodies) w.depth ≡ true → instance_at w r.instance ≡ None
+      → Leads s (tasks.Start (calls.Body r)) w (nexts.Finished (outcomes.Ends (completions.Threw (number_of built_in.IllegalStateException)))) w
+  body_missing r w h e = Comes.same (body_in r w h e)
+
+  pub body_first : (r : Running) {o : Instance} (w : World) → nat_lt (length w.bodies) w.depth ≡ true → instance_at w r.instance ≡ Some o
+      → Leads s (tasks.Start (calls.Body r)) w (nexts.Writes (entries.Run r.instance r.place) (tasks.Entered r)) w
+  body_first r w h e = Comes.same (body_in r w h e)
+
+  pub body_there : (r : Running) (w : World) → nat_lt (length w.bodies) w.depth ≡ true → is_some (instance_at w r.instance) ≡ true
+      → Leads s (tasks.Start (calls.Body r)) w (nexts.Writes (entries.Run r.instance r.place) (tasks.Entered r)) w
+  body_there r w h e = by (instance_at w r.instance) refl e
+    where
+      by : (x : Option Instance) → instance_at w r.instance ≡ x → is_some x ≡ true
+          → Leads s (tasks.Start (calls.Body r)) w (nexts.Writes (entries.Run r.instance r.place) (tasks.Entered r)) w
+      by None q z = absurd (cc)
+      by (Some o) q z = body_first r w h q
+
+  stops : (c : Completion Given)
+      → handle (complete c) (λ g. alter Change.Stop >> ret g) (λ x. alter Change.Stop >> throw x) ≡ stop_body c
+  stops (Gave g) = refl
+  stops (Threw x) = refl
+
+  pub entered_leads : (r : Running) (w : World)
+      → Leads s (tasks.Entered r) w (nexts.Needs (calls.Acts r) frames.Stopping) (after_change (Change.Start r.instance) w)
+  entered_leads r w = Comes.same (ap (λ k. (nested (machine.Acts (running_of r)) k, after_change (Change.Start r.instance) w)) (fun_ext stops))
+
+  pub stopped_leads : (c : CodeCompletion) (w : World)
+      → Leads s (tasks.Stopped c) w (nexts.Finished (outcomes.Ends c)) (after_change Change.Stop w)
+  stopped_leads (completions.Gave g) w = Comes.same refl
+  stopped_leads (completions.Threw x) w = Comes.same refl
+
+  -- ---- acts
+
+  abbrev acting : machine.Running → Option Instance → Prog Given
+  acting r o = require_present o >>= λ o. machine.act r.body o.fields r.view ret >>= perform r
+
+  pub acts_missing : (r : Running) (w : World) → instance_at w r.instance ≡ None
+      → Leads s (tasks.Start (calls.Acts r)) w (nexts.Finished (outcomes.Ends (completions.Threw (number_of built_in.IllegalStateException)))) w
+  acts_missing r w e = Comes.same (ap (λ o. settled t (acting (running_of r) o) w) e)
+
+  pub acts_first : (r : Running) (a copy : Act) (w : World) → GivesTo s w r a → copy ≡ a
+      → Leads s (tasks.Start (calls.Acts r)) w (nexts.Writes (entries.Did copy) (tasks.Acted r a)) w
+  acts_first r a copy w g c =
+      let here : settled t (carry_on (running_of r)) w ≡ (machine.act r.body g.instance.fields r.view (perform (running_of r)), w) = ap (λ o. settled t (acting (running_of r) o) w) g.lives in
+      Comes.does {a = a} here g.gives (ap (λ x. tick (entries.Did x) (perform (running_of r) a)) c)
+
+  pub give_leads : (r : Running) (v : Value) (w : World)
+      → Leads s (tasks.Acted r (acts.Give v)) w (nexts.Finished (outcomes.Ends (completions.Gave (givens.Result v)))) w
+  give_leads r v w = Comes.same refl
+
+  pub throw_leads : (r : Running) (x : Name) (w : World)
+      → Leads s (tasks.Acted r (acts.Throw x)) w (nexts.Finished (outcomes.Ends (completions.Threw x))) w
+  throw_leads r x w = Comes.same refl
+
+  -- ---- answers
+
+  pub answer_gave : (r q : Running) (g : CodeGiven) (answer : Answer) (w : World)
+      → running_of q ≡ with_answer (running_of r) answer → answer ≡ told g
+      → Settles s (go_on_with (running_of r) (machine.Gave (given_of g))) w (nexts.Goes (tasks.Start (calls.Acts q))) w
+  answer_gave r q (givens.Result v) answer w e h = rw (e, h) refl
+  answer_gave r q (givens.Number n) answer w e h = rw (e, h) refl
+  answer_gave r q givens.Empty answer w e h = rw (e, h) refl
+
+  pub answer_threw : (r q : Running) (x : Name) (text : List ℕ) (w : World)
+      → running_of q ≡ with_answer (running_of r) (answers.Threw x text) → t.text x ≡ Some text
+      → Settles s (go_on_with (running_of r) (machine.Threw x)) w (nexts.Goes (tasks.Start (calls.Acts q))) w
+  answer_threw r q x text w e h =
+      ap (λ z. settled t ((require_present z >>= λ text. ret (answers.Threw x text)) >>= λ a. call (machine.Acts (with_answer (running_of r) a))) w) h
+      ∙ ap (λ z. (nested (machine.Acts z) complete, w)) (sym e)
+
+  pub answer_missing : (r : Running) (x : Name) (w : World) → t.text x ≡ None
+      → Settles s (go_on_with (running_of r) (machine.Threw x)) w (nexts.Finished (outcomes.Ends (completions.Threw (number_of built_in.IllegalStateException)))) w
+  answer_missing r x w h =
+      ap (λ z. settled t ((require_present z >>= λ text. ret (answers.Threw x text)) >>= λ a. call (machine.Acts (with_answer (running_of r) a))) w) h
+
+  pub answered_leads : (r : Running) (c : CodeCompletion) (next : Next) (w v : World)
+      → Settles s (go_on_with (running_of r) (completion_of c)) w next v
+      → Leads s (tasks.Answered r c) w next v
+  answered_leads r c next w v e = Comes.same e
+
+  -- ---- a field is set
+
+  abbrev field_set : machine.Running → Name → Value → Option Value → Prog Given
+  field_set r field v x =
+      attempt (require_present x >>= λ _. alter (Change.Assign r.instance field v) >>= λ _. finish)
+      >>= λ c. go_on_with r c
+
+  abbrev instance_set : machine.Running → Name → Value → Option Instance → Prog Given
+  instance_set r field v x =
+      attempt (require_present x >>= λ o. require_present (at o.fields field) >>= λ _. alter (Change.Assign r.instance field v) >>= λ _. finish)
+      >>= λ c. go_on_with r c
+
+  pub set_missing : (r : Running) (field : Name) (v : Value) (next : Next) (w u : World)
+      → has_field_in (instance_at w r.instance) field ≡ false
+      → Settles s (go_on_with (running_of r) (machine.Threw (number_of built_in.IllegalStateException))) w next u
+      → Leads s (tasks.Acted r (acts.Set field v)) w next u
+  set_missing r field v next w u h e = Comes.same (by (instance_at w r.instance) refl h ∙ e)
+    where
+      by : (x : Option Instance) → instance_at w r.instance ≡ x → has_field_in x field ≡ false
+          → settled t (perform (running_of r) (acts.Set field v)) w
+          ≡ settled t (go_on_with (running_of r) (machine.Threw (number_of built_in.IllegalStateException))) w
+      by None q z = ap (λ x. settled t (instance_set (running_of r) field v x) w) q
+      by (Some o) q z =
+          ap (λ x. settled t (instance_set (running_of r) field v x) w) q
+          ∙ ap (λ x. settled t (field_set (running_of r) field v x) w) (no_field o.fields field z)
+
+  pub set_leads : (r q : Running) (field : Name) (v : Value) (w : World)
+      → has_field_in (instance_at w r.instance) field ≡ true
+      → running_of q ≡ with_answer (running_of r) (answers.Done values.Null)
+      → Leads s (tasks.Acted r (acts.Set field v)) w (nexts.Goes (tasks.Start (calls.Acts q))) (after_change (Change.Assign r.instance field v) w)
+  set_leads r q field v w h e = Comes.same (by (instance_at w r.instance) refl h ∙ ap (λ z. (nested (machine.Acts z) complete, after_change (Change.Assign r.instance field v) w)) (sym e))
+    where
+      by : (x : Option Instance) → instance_at w r.instance ≡ x → has_field_in x field ≡ true
+          → settled t (perform (running_of r) (acts.Set field v)) w
+          ≡ (call (machine.Acts (with_answer (running_of r) (answers.Done values.Null))), after_change (Change.Assign r.instance field v) w)
+      by None q z = absurd (cc)
+      by (Some o) q z =
+          ap (λ x. settled t (instance_set (running_of r) field v x) w) q
+          ∙ ap (λ x. settled t (field_set (running_of r) field v x) w) (at_field o.fields field z).1
+
+  -- ---- a method of its own is called
+
+  abbrev own : machine.Running → List Value → Method → Prog Given
+  own r args m = do
+    expect (nat_eq (length args) m.count)
+    call (machine.Body (body_at_start r.instance m.code.place m.code.body args [] []))
+
+  abbrev own_counted : machine.Running → List Value → Method → Bool → Prog Given
+  own_counted r args m x =
+      attempt (expect x >>= λ _. call (machine.Body (body_at_start r.instance m.code.place m.code.body args [] [])))
+      >>= λ c. go_on_with r c
+
+  -- what is left of the act behind the look-up of the method
+  abbrev own_then : machine.Running → List Value → Option Method → Prog Given
+  own_then r args x = attempt (with_method x (own r args)) >>= λ c. go_on_with r c
+
+  abbrev answering : machine.Running → Completion Given → Prog Given
+  answering r c = handle (attempt (complete c)) (go_on_with r) throw
+
+  answers_with : (r : machine.Running) (c : Completion Given) → answering r c ≡ go_on_with r c
+  answers_with r (Gave g) = refl
+  answers_with r (Threw x) = refl
+
+  -- the look-up of a method in front of what goes on also after a miss
+  module _ (r : machine.Running) (name : Name) (args : List Value) where
+    by_kind : (x : Kind) (w : World)
+        → settled t (attempt (bodies.method_in x name >>= own r args) >>= λ c. go_on_with r c) w
+        ≡ settled t (own_then r args (method_in x name)) w
+    by_kind (Kind.Class c) w = refl
+    by_kind (Kind.Producer p) w = refl
+
+    by_bean : (x : Option Bean) (w : World)
+        → settled t (attempt ((require_present x >>= λ bean. bodies.method_in bean.kind name) >>= own r args) >>= λ c. go_on_with r c) w
+        ≡ settled t (own_then r args (option_and_then (λ (bean : Bean). method_in bean.kind name) x)) w
+    by_bean None w = refl
+    by_bean (Some bean) w = by_kind bean.kind w
+
+    by_component : (x : Component) (w : World)
+        → settled t (attempt ((bodies.bean_of x >>= λ bean. bodies.method_in bean.kind name) >>= own r args) >>= λ c. go_on_with r c) w
+        ≡ settled t (own_then r args (method_of_component t x name)) w
+    by_component (components.Bean b) w = by_bean (t.bean b) w
+    by_component (components.Interceptor i) w = refl
+
+    by_instance : (x : Option Instance) (w : World)
+        → settled t (attempt ((require_present x >>= λ o. bodies.bean_of o.component >>= λ bean. bodies.method_in bean.kind name) >>= own r args) >>= λ c. go_on_with r c) w
+        ≡ settled t (own_then r args (method_of_instance t x name)) w
+    by_instance None w = refl
+    by_instance (Some o) w = by_component o.component w
+
+    own_settled : {x : Option Method} (w : World) → method_of_instance t (instance_at w r.instance) name ≡ x
+        → settled t (perform r (acts.Own name args)) w ≡ settled t (own_then r args x) w
+    own_settled w e = by_instance (instance_at w r.instance) w ∙ ap (λ x. settled t (own_then r args x) w) e
+
+  pub own_missing : (r : Running) (name : Name) (args : List Value) (next : Next) (w u : World)
+      → method_of_instance t (instance_at w r.instance) name ≡ None
+      → Settles s (go_on_with (running_of r) (machine.Threw (number_of built_in.IllegalStateException))) w next u
+      → Leads s (tasks.Acted r (acts.Own name args)) w next u
+  own_missing r name args next w u e h = Comes.same (own_settled (running_of r) name args w e ∙ h)
+
+  pub own_miscounted : (r : Running) (name : Name) (args : List Value) (m : CodeMethod) (next : Next) (w u : World)
+      → method_of_instance t (instance_at w r.instance) name ≡ Some (machine_method m)
+      → nat_eq (length args) m.count ≡ false
+      → Settles s (go_on_with (running_of r) (machine.Threw (number_of built_in.IllegalStateException))) w next u
+      → Leads s (tasks.Acted r (acts.Own name args)) w next u
+  own_miscounted r name args m next w u e q h =
+      Comes.same (own_settled (running_of r) name args w e
+      ∙ ap (λ x. settled t (own_counted (running_of r) args (machine_method m) x) w) q ∙ h)
+
+  pub own_first : (r q : Running) (name : Name) (args : List Value) (m : CodeMethod) (w : World)
+      → method_of_instance t (instance_at w r.instance) name ≡ Some (machine_method m)
+      → nat_eq (length args) m.count ≡ true
+      → running_of q ≡ body_at_start r.instance m.place m.body args [] []
+      → Leads s (tasks.Acted r (acts.Own name args)) w (nexts.Needs (calls.Body q) (frames.Answering r)) w
+  own_first r q name args m w e h b =
+      Comes.same (own_settled (running_of r) name args w e
+      ∙ ap (λ x. settled t (own_counted (running_of r) args (machine_method m) x) w) h
+      ∙ ap (λ z. (nested (machine.Body z) (answering (running_of r)), w)) (sym b)
+      ∙ ap (λ k. (nested (machine.Body (running_of q)) k, w)) (fun_ext (answers_with (running_of r))))
+
+pub ruleset leads = (body_too_deep, body_missing, body_first, entered_leads, stopped_leads, acts_missing, acts_first, give_leads, throw_leads, answer_gave, answer_threw, answer_missing, answered_leads, set_missing, set_leads, own_missing, own_miscounted, own_first)

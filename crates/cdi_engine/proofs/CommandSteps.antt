@@ -1,0 +1,167 @@
+-- The steps of commands, and of the container's own events, are those of the machine.
+use Rattle.std.proofs.Common.{ℕ, ◌≡◌, ◌<◌, ◌≤◌, ◌∷◌, [], List, length, refl, sym, ◌∙◌, ap, arith, Option, Some, None, Bool, true, false}
+use Rattle.std.proofs.Math.Path.{fun_ext}
+use Rattle.std.specs.Prelude.{suc, ◌^◌, nat_eq, nat_lt, slice_get, option_map, option_and_then, map}
+use Rattle.cdi_base.specs.declared.value.Value.{Value}
+use Rattle.cdi_base.specs.declared.value.Value.TheVariants as values
+use Rattle.cdi_base.specs.declared.act.Act.{Act}
+use Rattle.cdi_base.specs.declared.act.Act.TheVariants as acts
+use Rattle.cdi_base.specs.declared.act.Answer.{Answer}
+use Rattle.cdi_base.specs.declared.act.Answer.TheVariants as answers
+use Rattle.cdi_base.specs.declared.entry.Entry.{Entry}
+use Rattle.cdi_base.specs.declared.entry.Entry.TheVariants as entries
+use Rattle.cdi_base.specs.declared.reply.Cause.TheVariants as causes
+use Rattle.cdi_base.specs.declared.place.Place.TheVariants as places
+use Rattle.cdi_base.specs.declared.place.InterceptorMethod.{InterceptorMethod}
+use Rattle.cdi_base.specs.declared.place.InterceptorMethod.TheVariants as roles
+use Rattle.cdi_base.specs.declared.built_in.BuiltIn.TheVariants as built_in
+use Rattle.cdi_base.specs.BuiltIn.{number_of}
+use Rattle.cdi_base.specs.Maps.{at}
+use Rattle.cdi_base.specs.Fields.{has}
+use Rattle.cdi_store.specs.declared.instance.Component.{Component}
+use Rattle.cdi_store.specs.declared.instance.Component.TheVariants as components
+use Rattle.cdi_store.specs.declared.instance.Context.TheVariants.{Application}
+use Rattle.cdi_store.specs.declared.instance.Instance.{Instance}
+use Rattle.cdi_store.specs.declared.instance.Owner.{Owner}
+use Rattle.cdi_store.specs.declared.instance.Owner.TheVariants as owners
+use Rattle.cdi_store.specs.declared.instance.Phase.TheVariants as phases
+use Rattle.cdi_beans.specs.declared.bean.Bean.{Bean as CodeBean}
+use Rattle.cdi_beans.specs.declared.bean.Method.{Method as CodeMethod}
+use Rattle.cdi_beans.specs.Served.{machine_bean, machine_method, machine_resolution, machine_scope}
+use Rattle.cdi_machine.specs.Words.{Name, Fields, Asked}
+use Rattle.cdi_machine.specs.Tables.{Tables, Code, Bean, Method, Kind, Resolution, One, Nothing, Many, Observer}
+use Rattle.cdi_machine.specs.World.{World, Change, Invocation, after_change, instance_at}
+use Rattle.cdi_machine.specs.Programs as machine
+use Rattle.cdi_machine.specs.Programs.{Given, Number, Completion, Gave, Threw, Prog, ret, throw, see, nested, tick, change, choose, act, handle, finally, quietly, do_nothing, tell_missing, require_present, require, require_one, expect, complete, call, finish, note, alter, each, raise, require_number, give_number, next_number, require_depth, go_deeper, top, instance, bean_at, resolve, attempt, ◌>>=◌, ◌>>◌}
+use Rattle.cdi_engine.specs.Setting.{Setting, GivesTo}
+use Rattle.cdi_engine.specs.Asked.{of_type, method_in, method_at, method_of_component, method_of_instance, has_field_in, dependents_in, number_left, top_of, latest_in}
+use Rattle.cdi_engine.specs.Words.{given_of, completion_of, running_of, class_of, qualifiers_of, task_of}
+use Rattle.cdi_engine.specs.Points.{over, rest, waits, node, first, around, fields_of, make_instance, settle, start_body, stop_body, go_on_with, reach_end, let_go, free_dependents, end_clean_up, clean_up_quietly, end_instance, free_picked, use_for, use_lent, exit_with, give_back_with, return_with, start_container, deliver, bring_down, close_application, finish_application, empty_application, finish_context, close_context}
+use Rattle.cdi_engine.specs.Leads.{settled, walked, Comes, Leads, Settles}
+use Rattle.cdi_engine.specs.declared.task.Call.TheVariants as calls
+use Rattle.cdi_engine.specs.declared.task.Completion.{Completion as CodeCompletion}
+use Rattle.cdi_engine.specs.declared.task.Completion.TheVariants as completions
+use Rattle.cdi_engine.specs.declared.task.Given.{Given as CodeGiven}
+use Rattle.cdi_engine.specs.declared.task.Given.TheVariants as givens
+use Rattle.cdi_engine.specs.declared.task.Outcome.{Outcome}
+use Rattle.cdi_engine.specs.declared.task.Outcome.TheVariants as outcomes
+use Rattle.cdi_engine.specs.declared.task.Running.{Running}
+use Rattle.cdi_engine.specs.declared.task.Task.{Task}
+use Rattle.cdi_engine.specs.declared.task.Task.TheVariants as tasks
+use Rattle.cdi_engine.specs.declared.task.Frame.TheVariants as frames
+use Rattle.cdi_engine.specs.declared.task.Next.{Next}
+use Rattle.cdi_engine.specs.declared.task.Next.TheVariants as nexts
+use Rattle.cdi_base.specs.declared.uses.Use.{Use}
+use Rattle.cdi_contexts.specs.Contexts.{OpenRequest, OpenSession}
+use Rattle.cdi_machine.specs.World.{no_environment}
+use Rattle.cdi_machine.specs.Events.{fire_context_event, fire_container_event}
+use Rattle.cdi_machine.specs.Commands.{Command, task, boot, call_method, shut_down, requests_of, sessions_of, end, end_alone, stand_in, close}
+use Rattle.cdi_machine.specs.Destruction.{give_back}
+use Rattle.cdi_engine.specs.declared.task.ContainerEvent.{ContainerEvent}
+use Rattle.cdi_engine.specs.declared.task.ContainerEvent.TheVariants as events
+use Rattle.cdi_engine.specs.declared.task.Job.TheVariants as jobs
+
+-- whatever an event comes to, its sender goes on
+after_event : {A : Type 0} (p : Prog A) (c : Completion Given) → handle (quietly (complete c)) (λ _. p) throw ≡ p
+after_event p (Gave g) = refl
+after_event p (Threw x) = refl
+
+-- and so what stands behind that
+after_event_within : (p : Prog Given) (c : Completion Given)
+    → handle (handle (quietly (complete c)) (λ _. p) throw) (λ _. bring_down) throw ≡ handle p (λ _. bring_down) throw
+after_event_within p (Gave g) = refl
+after_event_within p (Threw x) = refl
+
+module _ (s : Setting) where
+  abbrev t : Tables
+  t = s.tables
+
+  -- ---- events
+
+  pub fire_leads : (e : ContainerEvent) (w : World)
+      → Leads s (tasks.Start (calls.Fire e)) w (nexts.Writes (entries.Event (class_of e) (qualifiers_of e)) (tasks.Fired e)) w
+  fire_leads e w = Comes.same refl
+
+  pub fired_leads : (e : ContainerEvent) (w : World) → ((class : ℕ) (uses : List Use) → t.observers class uses ≡ [])
+      → Leads s (tasks.Fired e) w (nexts.Finished (outcomes.Ends (completions.Gave (givens.Result values.Null)))) w
+  fired_leads e w h =
+      Comes.same (ap (λ gs. settled t (each gs (λ group. call (machine.Notify group values.Null)) >>= λ _. finish) w) (h (class_of e) (qualifiers_of e)))
+
+  -- ---- boot
+
+  pub boot_leads : (w : World)
+      → Leads s (tasks.Begin jobs.Boot) w (nexts.Needs (calls.Fire events.Initialized) frames.Initializing) w
+  boot_leads w = Comes.same (ap (λ k. (nested (task_of (calls.Fire events.Initialized)) k, w)) (fun_ext (after_event start_container)))
+
+  pub starting_leads : (w : World)
+      → Leads s tasks.Starting w (nexts.Needs (calls.Fire events.Startup) frames.Starting) w
+  starting_leads w = Comes.same (ap (λ k. (nested (task_of (calls.Fire events.Startup)) k, w)) (fun_ext (after_event finish)))
+
+  -- ---- a call
+
+  pub call_leads : (type method : Name) (args : List Value) (w : World)
+      → Leads s (tasks.Begin (jobs.Call type method args)) w (nexts.Within (tasks.Using type method args) frames.Using)
+        (after_change (Change.Stand no_environment) (after_change Change.Borrow w))
+  call_leads type method args w = Comes.within 3 refl
+
+  pub returning_leads : (c : CodeCompletion) (w : World)
+      → Leads s (tasks.Returning c) w (nexts.Needs calls.Dismiss (frames.Returning c)) w
+  returning_leads c w = Comes.same refl
+
+  pub returned_leads : (c : CodeCompletion) (w : World)
+      → Leads s (tasks.Returned c) w (nexts.Finished (outcomes.Ends c)) (after_change Change.Return w)
+  returned_leads (completions.Gave g) w = Comes.same refl
+  returned_leads (completions.Threw x) w = Comes.same refl
+
+  -- ---- shutdown
+
+  -- what is left if no request, and no session, is there
+  abbrev after_sessions : List (List ℕ) → Prog Given
+  after_sessions names = do
+    each names end_alone
+    stand_in None
+    fire_container_event built_in.Shutdown
+    close_application
+
+  abbrev after_requests : List (List ℕ) → Prog Given
+  after_requests names = do
+    each names end
+    sessions ← see λ t w. ret (sessions_of w.contexts)
+    after_sessions sessions
+
+  pub shut_down_leads : (w : World) → w.contexts.requests ≡ [] → w.contexts.sessions ≡ []
+      → Leads s (tasks.Begin jobs.Shutdown) w (nexts.Needs (calls.Fire events.Shutdown) frames.Closing) (after_change (Change.Stand no_environment) w)
+  shut_down_leads w r z =
+      Comes.same
+      (ap (λ rs. settled t (after_requests (map (λ (r : OpenRequest). r.name) rs)) w) r
+      ∙ ap (λ ss. settled t (after_sessions (map (λ (s : OpenSession). s.name) ss)) w) z
+      ∙ ap (λ k. (nested (task_of (calls.Fire events.Shutdown)) k, after_change (Change.Stand no_environment) w)) (fun_ext (after_event close_application)))
+
+  pub closing_leads : (w : World)
+      → Leads s tasks.Closing w (nexts.Needs (calls.Fire events.BeforeDestroyed) frames.Finishing) w
+  closing_leads w = Comes.same (ap (λ k. (nested (task_of (calls.Fire events.BeforeDestroyed)) k, w)) (fun_ext (after_event_within (finish_context Application))))
+
+  pub finishing_leads : (w : World)
+      → Leads s tasks.Finishing w (nexts.Needs calls.Clear frames.Emptying) (after_change (Change.Finish Application) w)
+  finishing_leads w = Comes.same refl
+
+  pub emptied_leads : (w : World)
+      → Leads s tasks.Emptied w (nexts.Needs (calls.Fire events.Destroyed) frames.GoingDown) (after_change (Change.Close Application) w)
+  emptied_leads w = Comes.same (ap (λ k. (nested (task_of (calls.Fire events.Destroyed)) k, after_change (Change.Close Application) w)) (fun_ext (after_event_within finish)))
+
+  pub going_down_leads : (w : World)
+      → Leads s tasks.GoingDown w (nexts.Finished (outcomes.Ends (completions.Gave (givens.Result values.Null)))) (after_change Change.Down w)
+  going_down_leads w = Comes.same refl
+
+  -- ---- ends
+
+  pub missing_leads : (w : World)
+      → Leads s tasks.Missing w (nexts.Finished (outcomes.Ends (completions.Threw (number_of built_in.IllegalStateException)))) w
+  missing_leads w = Comes.same refl
+
+  pub over_leads : (o : Outcome) (w : World) → Leads s (tasks.Over o) w (nexts.Finished o) w
+  over_leads (outcomes.Ends (completions.Gave g)) w = Comes.same refl
+  over_leads (outcomes.Ends (completions.Threw x)) w = Comes.same refl
+  over_leads (outcomes.Cut cause) w = Comes.same refl
+
+pub ruleset leads = (fire_leads, fired_leads, boot_leads, starting_leads, call_leads, returning_leads, returned_leads, shut_down_leads, closing_leads, finishing_leads, emptied_leads, going_down_leads)

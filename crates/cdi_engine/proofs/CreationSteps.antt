@@ -1,0 +1,128 @@
+-- The steps of creation are those of the machine.
+use Rattle.std.proofs.Common.{ℕ, ◌≡◌, ◌<◌, ◌≤◌, ◌∷◌, [], List, length, refl, sym, ◌∙◌, ap, arith, Option, Some, None, Bool, true, false}
+use Rattle.std.proofs.Math.Path.{fun_ext}
+use Rattle.std.specs.Prelude.{suc, ◌^◌, nat_eq, nat_lt, slice_get, option_map}
+use Rattle.cdi_base.specs.declared.value.Value.{Value}
+use Rattle.cdi_base.specs.declared.value.Value.TheVariants as values
+use Rattle.cdi_base.specs.declared.act.Act.{Act}
+use Rattle.cdi_base.specs.declared.act.Act.TheVariants as acts
+use Rattle.cdi_base.specs.declared.act.Answer.{Answer}
+use Rattle.cdi_base.specs.declared.act.Answer.TheVariants as answers
+use Rattle.cdi_base.specs.declared.entry.Entry.{Entry}
+use Rattle.cdi_base.specs.declared.entry.Entry.TheVariants as entries
+use Rattle.cdi_base.specs.declared.reply.Cause.TheVariants as causes
+use Rattle.cdi_base.specs.declared.place.Place.TheVariants as places
+use Rattle.cdi_base.specs.declared.place.InterceptorMethod.{InterceptorMethod}
+use Rattle.cdi_base.specs.declared.place.InterceptorMethod.TheVariants as roles
+use Rattle.cdi_base.specs.declared.built_in.BuiltIn.TheVariants as built_in
+use Rattle.cdi_base.specs.BuiltIn.{number_of}
+use Rattle.cdi_base.specs.Maps.{at}
+use Rattle.cdi_base.specs.Fields.{has}
+use Rattle.cdi_store.specs.declared.instance.Component.{Component}
+use Rattle.cdi_store.specs.declared.instance.Component.TheVariants as components
+use Rattle.cdi_store.specs.declared.instance.Context.TheVariants.{Application}
+use Rattle.cdi_store.specs.declared.instance.Instance.{Instance}
+use Rattle.cdi_store.specs.declared.instance.Owner.{Owner}
+use Rattle.cdi_store.specs.declared.instance.Owner.TheVariants as owners
+use Rattle.cdi_store.specs.declared.instance.Phase.TheVariants as phases
+use Rattle.cdi_beans.specs.declared.bean.Bean.{Bean as CodeBean}
+use Rattle.cdi_beans.specs.declared.bean.Method.{Method as CodeMethod}
+use Rattle.cdi_beans.specs.Served.{machine_bean, machine_method, machine_resolution, machine_scope}
+use Rattle.cdi_machine.specs.Words.{Name, Fields, Asked}
+use Rattle.cdi_machine.specs.Tables.{Tables, Bean, Method, Kind, Resolution, One, Nothing, Many, Observer}
+use Rattle.cdi_machine.specs.World.{World, Change, Invocation, after_change, instance_at}
+use Rattle.cdi_machine.specs.Programs as machine
+use Rattle.cdi_machine.specs.Programs.{Given, Number, Completion, Gave, Threw, Prog, ret, throw, see, nested, tick, change, choose, act, handle, finally, quietly, do_nothing, tell_missing, require_present, require, require_one, expect, complete, call, finish, note, alter, each, raise, require_number, give_number, next_number, require_depth, go_deeper, top, instance, bean_at, resolve, attempt, ◌>>=◌, ◌>>◌}
+use Rattle.cdi_engine.specs.Setting.{Setting, GivesTo}
+use Rattle.cdi_engine.specs.Asked.{of_type, method_in, method_at, method_of_component, method_of_instance, has_field_in, dependents_in, number_left, top_of, latest_in}
+use Rattle.cdi_engine.specs.Words.{given_of, completion_of, running_of, class_of, qualifiers_of, task_of}
+use Rattle.cdi_engine.specs.Points.{over, rest, waits, node, first, around, fields_of, make_instance, settle, start_body, stop_body, go_on_with, reach_end, let_go, free_dependents, end_clean_up, clean_up_quietly, end_instance, free_picked, use_for, use_lent, exit_with, give_back_with, return_with, start_container, deliver, bring_down, close_application, finish_application, empty_application}
+use Rattle.cdi_engine.specs.Leads.{settled, walked, Comes, Leads, Settles}
+use Rattle.cdi_engine.specs.declared.task.Call.TheVariants as calls
+use Rattle.cdi_engine.specs.declared.task.Completion.{Completion as CodeCompletion}
+use Rattle.cdi_engine.specs.declared.task.Completion.TheVariants as completions
+use Rattle.cdi_engine.specs.declared.task.Given.{Given as CodeGiven}
+use Rattle.cdi_engine.specs.declared.task.Given.TheVariants as givens
+use Rattle.cdi_engine.specs.declared.task.Outcome.TheVariants as outcomes
+use Rattle.cdi_engine.specs.declared.task.Running.{Running}
+use Rattle.cdi_engine.specs.declared.task.Task.{Task}
+use Rattle.cdi_engine.specs.declared.task.Task.TheVariants as tasks
+use Rattle.cdi_engine.specs.declared.task.Frame.TheVariants as frames
+use Rattle.cdi_engine.specs.declared.task.Next.{Next}
+use Rattle.cdi_engine.specs.declared.task.Next.TheVariants as nexts
+use Rattle.cdi_machine.specs.Creation.{create, create_by, begin_creation, make, make_ready, first_fields}
+
+abbrev create_with : ℕ → Owner → Option Bean → Prog Given
+create_with b owner x =
+    require_present x >>= λ bean.
+    begin_creation bean.place (components.Bean b) owner (first_fields bean.kind) >>= λ n.
+    create_by n (make n bean bean.kind)
+
+abbrev numbered : ℕ → Owner → Bean → Bool → ℕ → Prog Given
+numbered b owner bean x m =
+    (give_number x m >>= λ n. note (entries.New n bean.place)
+        >>= λ _. alter (Change.Make (components.Bean b) owner (first_fields bean.kind))
+        >>= λ _. ret n)
+    >>= λ n. create_by n (make n bean bean.kind)
+
+module _ (t : Tables) where
+  pub create_missing : (b : ℕ) (owner : Owner) (w : World) → t.bean b ≡ None
+      → settled t (create b owner) w ≡ (raise built_in.IllegalStateException, w)
+  create_missing b owner w e = ap (λ x. settled t (create_with b owner x) w) e
+
+  create_at : (b : ℕ) (owner : Owner) {a : Bean} (x : Bool) (w : World) → t.bean b ≡ Some a
+      → nat_lt w.next (2 ^ 32) ≡ x
+      → settled t (create b owner) w ≡ settled t (numbered b owner a x w.next) w
+  create_at b owner {a = a} x w e h =
+      ap (λ y. settled t (create_with b owner y) w) e ∙ ap (λ y. settled t (numbered b owner a y w.next) w) h
+
+  pub create_last : (b : ℕ) (owner : Owner) (p : CodeBean) (w : World)
+      → t.bean b ≡ Some (machine_bean p) → number_left w ≡ None
+      → settled t (create b owner) w ≡ (machine.cut causes.Numbers, w)
+  create_last b owner p w e q =
+      let h : nat_lt w.next (2 ^ 32) ≡ false = flag (nat_lt w.next (2 ^ 32)) q in
+      create_at b owner false w e h
+    where
+      flag : (x : Bool) → elim x as (λ _. Option ℕ) [ true ↦ Some w.next | false ↦ None ] ≡ None → x ≡ false
+      flag true z = absurd (cc)
+      flag false z = refl
+
+  pub create_first : (b : ℕ) (owner : Owner) (p : CodeBean) (n : ℕ) (w : World)
+      → t.bean b ≡ Some (machine_bean p) → number_left w ≡ Some n
+      → settled t (create b owner) w ≡ (tick (entries.New n (places.Class p.class)) (make_instance t n b owner), w)
+  create_first b owner p n w e q = by_flag (nat_lt w.next (2 ^ 32)) refl q
+    where
+      by_flag : (x : Bool) → nat_lt w.next (2 ^ 32) ≡ x
+          → elim x as (λ _. Option ℕ) [ true ↦ Some w.next | false ↦ None ] ≡ Some n
+          → settled t (create b owner) w ≡ (tick (entries.New n (places.Class p.class)) (make_instance t n b owner), w)
+      by_flag true h z =
+          let m : w.next ≡ n = cc in
+          create_at b owner true w e h
+          ∙ ap (λ k. (tick (entries.New k (places.Class p.class)) (change (Change.Make (components.Bean b) owner (first_fields (machine_bean p).kind)) (make_ready k)), w)) m
+          ∙ ap (λ x. (tick (entries.New n (places.Class p.class)) (change (Change.Make (components.Bean b) owner (fields_of x)) (make_ready n)), w)) (sym e)
+      by_flag false h z = absurd (cc)
+
+module _ (s : Setting) where
+  pub create_missing_leads : (b : ℕ) (owner : Owner) (w : World) → s.tables.bean b ≡ None
+      → Leads s (tasks.Start (calls.Create b owner)) w (nexts.Finished (outcomes.Ends (completions.Threw (number_of built_in.IllegalStateException)))) w
+  create_missing_leads b owner w e = Comes.same (create_missing s.tables b owner w e)
+
+  pub create_last_leads : (b : ℕ) (owner : Owner) (p : CodeBean) (w : World)
+      → s.tables.bean b ≡ Some (machine_bean p) → number_left w ≡ None
+      → Leads s (tasks.Start (calls.Create b owner)) w (nexts.Finished (outcomes.Cut causes.Numbers)) w
+  create_last_leads b owner p w e q = Comes.same (create_last s.tables b owner p w e q)
+
+  pub create_first_leads : (b : ℕ) (owner : Owner) (p : CodeBean) (n : ℕ) (w : World)
+      → s.tables.bean b ≡ Some (machine_bean p) → number_left w ≡ Some n
+      → Leads s (tasks.Start (calls.Create b owner)) w (nexts.Writes (entries.New n (places.Class p.class)) (tasks.Made n b owner)) w
+  create_first_leads b owner p n w e q = Comes.same (create_first s.tables b owner p n w e q)
+
+  pub made_leads : (n b : ℕ) (owner : Owner) (w : World) (fields : Fields) → fields ≡ fields_of (s.tables.bean b)
+      → Leads s (tasks.Made n b owner) w (nexts.Writes (entries.Ready n) (tasks.Readied n)) (after_change (Change.Make (components.Bean b) owner fields) w)
+  made_leads n b owner w fields e = rw e (Comes.same refl)
+
+  pub readied_leads : (n : ℕ) (w : World)
+      → Leads s (tasks.Readied n) w (nexts.Finished (outcomes.Ends (completions.Gave (givens.Number n)))) (after_change (Change.Settle n) w)
+  readied_leads n w = Comes.same refl
+
+pub ruleset leads = (create_missing_leads, create_last_leads, create_first_leads, made_leads, readied_leads)

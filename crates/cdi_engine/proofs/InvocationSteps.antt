@@ -1,0 +1,187 @@
+-- The steps of invocations are those of the machine.
+use Rattle.std.proofs.Common.{ℕ, ◌≡◌, ◌<◌, ◌≤◌, ◌∷◌, [], List, length, refl, sym, ◌∙◌, ap, arith, Option, Some, None, Bool, true, false}
+use Rattle.std.proofs.Math.Path.{fun_ext}
+use Rattle.std.specs.Prelude.{suc, ◌^◌, nat_eq, nat_lt, slice_get, option_map, option_and_then}
+use Rattle.cdi_base.specs.declared.value.Value.{Value}
+use Rattle.cdi_base.specs.declared.value.Value.TheVariants as values
+use Rattle.cdi_base.specs.declared.act.Act.{Act}
+use Rattle.cdi_base.specs.declared.act.Act.TheVariants as acts
+use Rattle.cdi_base.specs.declared.act.Answer.{Answer}
+use Rattle.cdi_base.specs.declared.act.Answer.TheVariants as answers
+use Rattle.cdi_base.specs.declared.entry.Entry.{Entry}
+use Rattle.cdi_base.specs.declared.entry.Entry.TheVariants as entries
+use Rattle.cdi_base.specs.declared.reply.Cause.TheVariants as causes
+use Rattle.cdi_base.specs.declared.place.Place.TheVariants as places
+use Rattle.cdi_base.specs.declared.place.InterceptorMethod.{InterceptorMethod}
+use Rattle.cdi_base.specs.declared.place.InterceptorMethod.TheVariants as roles
+use Rattle.cdi_base.specs.declared.built_in.BuiltIn.TheVariants as built_in
+use Rattle.cdi_base.specs.BuiltIn.{number_of}
+use Rattle.cdi_base.specs.Maps.{at}
+use Rattle.cdi_base.specs.Fields.{has}
+use Rattle.cdi_store.specs.declared.instance.Component.{Component}
+use Rattle.cdi_store.specs.declared.instance.Component.TheVariants as components
+use Rattle.cdi_store.specs.declared.instance.Context.TheVariants.{Application}
+use Rattle.cdi_store.specs.declared.instance.Instance.{Instance}
+use Rattle.cdi_store.specs.declared.instance.Owner.{Owner}
+use Rattle.cdi_store.specs.declared.instance.Owner.TheVariants as owners
+use Rattle.cdi_store.specs.declared.instance.Phase.TheVariants as phases
+use Rattle.cdi_beans.specs.declared.bean.Bean.{Bean as CodeBean}
+use Rattle.cdi_beans.specs.declared.bean.Method.{Method as CodeMethod}
+use Rattle.cdi_beans.specs.Served.{machine_bean, machine_method, machine_resolution, machine_scope}
+use Rattle.cdi_machine.specs.Words.{Name, Fields, Asked}
+use Rattle.cdi_machine.specs.Tables.{Tables, Code, Bean, Method, Kind, Resolution, One, Nothing, Many, Observer}
+use Rattle.cdi_machine.specs.World.{World, Change, Invocation, after_change, instance_at}
+use Rattle.cdi_machine.specs.Programs as machine
+use Rattle.cdi_machine.specs.Programs.{Given, Number, Completion, Gave, Threw, Prog, ret, throw, see, nested, tick, change, choose, act, handle, finally, quietly, do_nothing, tell_missing, require_present, require, require_one, expect, complete, call, finish, note, alter, each, raise, require_number, give_number, next_number, require_depth, go_deeper, top, instance, bean_at, resolve, attempt, ◌>>=◌, ◌>>◌}
+use Rattle.cdi_engine.specs.Setting.{Setting, GivesTo}
+use Rattle.cdi_engine.specs.Asked.{of_type, method_in, method_at, method_of_component, method_of_instance, has_field_in, dependents_in, number_left, top_of, latest_in}
+use Rattle.cdi_engine.specs.Words.{given_of, completion_of, running_of, class_of, qualifiers_of, task_of}
+use Rattle.cdi_engine.specs.Points.{over, rest, waits, node, first, around, fields_of, make_instance, settle, start_body, stop_body, go_on_with, reach_end, let_go, free_dependents, end_clean_up, clean_up_quietly, end_instance, free_picked, use_for, use_lent, exit_with, give_back_with, return_with, start_container, deliver, bring_down, close_application, finish_application, empty_application}
+use Rattle.cdi_engine.specs.Leads.{settled, walked, Comes, Leads, Settles}
+use Rattle.cdi_engine.specs.declared.task.Call.TheVariants as calls
+use Rattle.cdi_engine.specs.declared.task.Completion.{Completion as CodeCompletion}
+use Rattle.cdi_engine.specs.declared.task.Completion.TheVariants as completions
+use Rattle.cdi_engine.specs.declared.task.Given.{Given as CodeGiven}
+use Rattle.cdi_engine.specs.declared.task.Given.TheVariants as givens
+use Rattle.cdi_engine.specs.declared.task.Outcome.TheVariants as outcomes
+use Rattle.cdi_engine.specs.declared.task.Running.{Running}
+use Rattle.cdi_engine.specs.declared.task.Task.{Task}
+use Rattle.cdi_engine.specs.declared.task.Task.TheVariants as tasks
+use Rattle.cdi_engine.specs.declared.task.Frame.TheVariants as frames
+use Rattle.cdi_engine.specs.declared.task.Next.{Next}
+use Rattle.cdi_engine.specs.declared.task.Next.TheVariants as nexts
+use Rattle.cdi_machine.specs.Bodies.{invoke_method, method_of, bean_of, invoke_by, invocation_at_start, run_rest, given_by, body_at_start}
+use Rattle.cdi_machine.specs.Bodies as bodies
+
+-- ---- a method of an instance
+
+-- goes on with a method, if it is there
+abbrev pub with_method : {A : Type 0} → Option Method → (Method → Prog A) → Prog A
+with_method x k = require_present x >>= k
+
+module _ (t : Tables) (name : Name) (k : Method → Prog Given) where
+  by_kind : (x : Kind) (w : World)
+      → settled t (bodies.method_in x name >>= k) w ≡ settled t (with_method (method_in x name) k) w
+  by_kind (Kind.Class c) w = refl
+  by_kind (Kind.Producer p) w = refl
+
+  by_bean : (x : Option Bean) (w : World)
+      → settled t ((require_present x >>= λ bean. bodies.method_in bean.kind name) >>= k) w
+      ≡ settled t (with_method (option_and_then (λ (bean : Bean). method_in bean.kind name) x) k) w
+  by_bean None w = refl
+  by_bean (Some bean) w = by_kind bean.kind w
+
+  by_component : (x : Component) (w : World)
+      → settled t ((bean_of x >>= λ bean. bodies.method_in bean.kind name) >>= k) w
+      ≡ settled t (with_method (method_of_component t x name) k) w
+  by_component (components.Bean b) w = by_bean (t.bean b) w
+  by_component (components.Interceptor i) w = refl
+
+  by_instance : (x : Option Instance) (w : World)
+      → settled t ((require_present x >>= λ o. bean_of o.component >>= λ bean. bodies.method_in bean.kind name) >>= k) w
+      ≡ settled t (with_method (method_of_instance t x name) k) w
+  by_instance None w = refl
+  by_instance (Some o) w = by_component o.component w
+
+  pub method_settled : (n : ℕ) {x : Option Method} (w : World) → method_of_instance t (instance_at w n) name ≡ x
+      → settled t (method_of n name >>= k) w ≡ settled t (with_method x k) w
+  method_settled n w e = by_instance (instance_at w n) w ∙ ap (λ x. settled t (with_method x k) w) e
+
+-- ---- invoking
+
+abbrev invoking : ℕ → List Value → Method → Prog Given
+invoking n args m = do
+  expect (nat_eq (length args) m.count)
+  invoke_by n roles.AroundInvoke (m.code ∷ []) args (call (machine.Rest m.chain))
+
+abbrev counted : ℕ → List Value → Method → Bool → Prog Given
+counted n args m x = do
+  expect x
+  invoke_by n roles.AroundInvoke (m.code ∷ []) args (call (machine.Rest m.chain))
+
+abbrev pub invocation_of : ℕ → List Value → CodeMethod → Invocation
+invocation_of n args m = invocation_at_start n roles.AroundInvoke ((machine_method m).code ∷ []) args
+
+exits : (c : Completion Given)
+    → handle (complete c) (λ g. alter Change.Exit >> ret g) (λ x. alter Change.Exit >> throw x) ≡ exit_with c
+exits (Gave g) = refl
+exits (Threw x) = refl
+
+module _ (s : Setting) where
+  pub invoke_none : (n : ℕ) (name : Name) (args : List Value) (w : World)
+      → method_of_instance s.tables (instance_at w n) name ≡ None
+      → Settles s (invoke_method n name args) w (nexts.Finished (outcomes.Ends (completions.Threw (number_of built_in.IllegalStateException)))) w
+  invoke_none n name args w e = method_settled s.tables name (invoking n args) n w e
+
+  pub invoke_miscounted : (n : ℕ) (name : Name) (args : List Value) (m : CodeMethod) (w : World)
+      → method_of_instance s.tables (instance_at w n) name ≡ Some (machine_method m)
+      → nat_eq (length args) m.count ≡ false
+      → Settles s (invoke_method n name args) w (nexts.Finished (outcomes.Ends (completions.Threw (number_of built_in.IllegalStateException)))) w
+  invoke_miscounted n name args m w e h =
+      method_settled s.tables name (invoking n args) n w e
+      ∙ ap (λ x. settled s.tables (counted n args (machine_method m) x) w) h
+
+  pub invoke_first : (n : ℕ) (name : Name) (args : List Value) (m : CodeMethod) (w : World)
+      → method_of_instance s.tables (instance_at w n) name ≡ Some (machine_method m)
+      → nat_eq (length args) m.count ≡ true
+      → Settles s (invoke_method n name args) w (nexts.Needs calls.Rest frames.Exiting) (after_change (Change.Enter (invocation_of n args m)) w)
+  invoke_first n name args m w e h =
+      method_settled s.tables name (invoking n args) n w e
+      ∙ ap (λ x. settled s.tables (counted n args (machine_method m) x) w) h
+      ∙ ap (λ k. (nested (machine.Rest []) k, after_change (Change.Enter (invocation_of n args m)) w)) (fun_ext exits)
+
+  pub exiting_leads : (c : CodeCompletion) (w : World)
+      → Leads s (tasks.Exiting c) w (nexts.Finished (outcomes.Ends c)) (after_change Change.Exit w)
+  exiting_leads (completions.Gave g) w = Comes.same refl
+  exiting_leads (completions.Threw x) w = Comes.same refl
+
+  pub reached_leads : (g : CodeGiven) (w : World)
+      → Leads s (tasks.Reached g) w (nexts.Finished (outcomes.Ends (completions.Gave g))) (after_change Change.Reach w)
+  reached_leads g w = Comes.same refl
+
+  -- ---- the end of a chain
+
+  abbrev with_invocation : Option Invocation → Prog Given
+  with_invocation None = tell_missing
+  with_invocation (Some v) = each v.members (λ m. call (machine.Body (body_at_start v.target m.place m.body v.parameters v.references []))) >>= λ g. reach_end (given_by v.role g)
+
+  by_top : (vs : List Invocation) (w : World)
+      → settled s.tables (top vs >>= λ v. each v.members (λ m. call (machine.Body (body_at_start v.target m.place m.body v.parameters v.references []))) >>= λ g. alter Change.Reach >> ret (given_by v.role g)) w
+      ≡ settled s.tables (with_invocation (top_of vs)) w
+  by_top [] w = refl
+  by_top (v ∷ vs) w = refl
+
+  rest_settled : {x : Option Invocation} (w : World) → top_of w.invocations ≡ x
+      → settled s.tables (run_rest []) w ≡ settled s.tables (with_invocation x) w
+  rest_settled w e = by_top w.invocations w ∙ ap (λ x. settled s.tables (with_invocation x) w) e
+
+  pub rest_missing : (w : World) → top_of w.invocations ≡ None
+      → Leads s (tasks.Start calls.Rest) w (nexts.Finished (outcomes.Ends (completions.Threw (number_of built_in.IllegalStateException)))) w
+  rest_missing w e = Comes.same (rest_settled w e)
+
+  pub rest_empty : (v : Invocation) (w : World) → top_of w.invocations ≡ Some v → v.members ≡ []
+      → Leads s (tasks.Start calls.Rest) w (nexts.Finished (outcomes.Ends (completions.Gave (givens.Result values.Null)))) (after_change Change.Reach w)
+  rest_empty v w e h =
+      Comes.same
+      (rest_settled w e
+      ∙ ap (λ ms. settled s.tables (each ms (λ m. call (machine.Body (body_at_start v.target m.place m.body v.parameters v.references []))) >>= λ g. reach_end (given_by v.role g)) w) h
+      ∙ by_role v.role)
+    where
+      by_role : (r : InterceptorMethod) → ◌≡◌ {A = Prog Given × World} (ret (given_by r (machine.Result values.Null)), after_change Change.Reach w) (ret (machine.Result values.Null), after_change Change.Reach w)
+      by_role roles.AroundInvoke = refl
+      by_role roles.AroundConstruct = refl
+      by_role roles.PostConstruct = refl
+      by_role roles.PreDestroy = refl
+
+  pub rest_first : (v : Invocation) (m : Code) (r : Running) (role : InterceptorMethod) (w : World)
+      → top_of w.invocations ≡ Some v → v.members ≡ m ∷ [] → role ≡ v.role
+      → running_of r ≡ body_at_start v.target m.place m.body v.parameters v.references []
+      → Leads s (tasks.Start calls.Rest) w (nexts.Needs (calls.Body r) (frames.AtEnd role)) w
+  rest_first v m r role w e h q b =
+      Comes.same
+      (rest_settled w e
+      ∙ ap (λ ms. settled s.tables (each ms (λ m. call (machine.Body (body_at_start v.target m.place m.body v.parameters v.references []))) >>= λ g. reach_end (given_by v.role g)) w) h
+      ∙ ap (λ x. (nested (machine.Body x) (λ c. complete c >>= λ g. reach_end (given_by v.role g)), w)) (sym b)
+      ∙ ap (λ x. (nested (machine.Body (running_of r)) (λ c. complete c >>= λ g. reach_end (given_by x g)), w)) (sym q))
+
+pub ruleset leads = (invoke_none, invoke_miscounted, invoke_first, exiting_leads, reached_leads, rest_missing, rest_empty, rest_first)

@@ -1,0 +1,9 @@
+pub mod Sound
+pub mod Cost
+pub mod StaysKnown
+pub mod CreationSteps
+pub mod InvocationSteps
+pub mod BodySteps
+pub mod ObtainingSteps
+pub mod DestructionSteps
+pub mod CommandSteps

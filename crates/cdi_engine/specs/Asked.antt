@@ -1,0 +1,70 @@
+-- What is asked of the tables and of the world, as the definition has it.
+use Rattle.std.specs.Prelude.{ℕ, ◌^◌, ◌<◌, List, [], ◌∷◌, length, Bool, true, false, Option, Some, None, nat_lt, option_map, option_and_then}
+use Rattle.cdi_base.specs.declared.place.Place.TheVariants as places
+use Rattle.cdi_base.specs.declared.scope.Scope.{Scope}
+use Rattle.cdi_base.specs.Fields.{has}
+use Rattle.cdi_base.specs.Maps.{at}
+use Rattle.cdi_store.specs.declared.instance.Component.{Component}
+use Rattle.cdi_store.specs.declared.instance.Component.TheVariants as components
+use Rattle.cdi_store.specs.declared.instance.Instance.{Instance}
+use Rattle.cdi_contexts.specs.declared.context.Held.{Held}
+use Rattle.cdi_contexts.specs.declared.context.Status.{Status}
+use Rattle.cdi_contexts.specs.Contexts.{context_of, active_context, entry_in}
+use Rattle.cdi_machine.specs.Words.{Name, Asked}
+use Rattle.cdi_machine.specs.Tables.{Tables, Bean, Method, Kind}
+use Rattle.cdi_machine.specs.World.{World, instance_at}
+use Rattle.cdi_machine.specs.Destruction.{latest}
+
+-- ---- the deployment
+
+-- with the qualifier Default
+abbrev pub of_type : Name → Asked
+of_type type = record { type = type; qualifiers = [] }
+
+abbrev pub method_in : Kind → Name → Option Method
+method_in (Kind.Class c) name = at c.methods name
+method_in (Kind.Producer p) name = None
+
+-- the method of a bean
+abbrev pub method_at : Tables → ℕ → Name → Option Method
+method_at t b name = option_and_then (λ (bean : Bean). method_in bean.kind name) (t.bean b)
+
+-- the method of an instance of a bean
+abbrev pub method_of_component : Tables → Component → Name → Option Method
+method_of_component t (components.Bean b) name = method_at t b name
+method_of_component t (components.Interceptor i) name = None
+
+abbrev pub method_of_instance : Tables → Option Instance → Name → Option Method
+method_of_instance t None name = None
+method_of_instance t (Some o) name = method_of_component t o.component name
+
+-- ---- the world
+
+abbrev pub has_field_in : Option Instance → Name → Bool
+has_field_in None field = false
+has_field_in (Some o) field = has o.fields field
+
+-- the dependents of an instance, none if it isn't there
+abbrev pub dependents_in : Option Instance → List ℕ
+dependents_in None = []
+dependents_in (Some o) = o.dependents
+
+abbrev pub HasSeveral : Option Instance → Type 0
+HasSeveral o = 1 < length (dependents_in o)
+
+abbrev pub status_in : World → Scope → Option Status
+status_in w scope = option_map (λ a. a.status) (active_context w.contexts w.environment scope)
+
+abbrev pub held_in : World → Scope → ℕ → Option Held
+held_in w scope b = entry_in (active_context w.contexts w.environment scope) b
+
+-- the next number, if there is one
+abbrev pub number_left : World → Option ℕ
+number_left w = elim (nat_lt w.next (2 ^ 32)) [ true ↦ Some w.next | false ↦ None ]
+
+abbrev pub top_of : {X : Type 0} → List X → Option X
+top_of [] = None
+top_of (x ∷ xs) = Some x
+
+abbrev pub latest_in : World → Option (Option ℕ)
+latest_in w = option_map latest (top_of w.temporaries)

@@ -1,0 +1,261 @@
+//! The steps of bodies.
+ghost use Rattle.std.specs.Prelude.{◌≡◌, IfOk, OnErr, IfSome, IsTrue, option_map};
+ghost use Rattle.cdi_base.specs.BuiltIn.{number_of};
+ghost use Rattle.cdi_base.specs.declared.act.Act.TheVariants.{Set, Own};
+ghost use Rattle.cdi_beans.specs.Served.{machine_method};
+ghost use Rattle.cdi_machine.specs.World.{instance_at};
+ghost use Rattle.cdi_machine.specs.Bodies.{with_answer, invoke_method};
+ghost use Rattle.cdi_engine.specs.Setting.{Narrows, is_served};
+ghost use Rattle.cdi_engine.specs.Asked.{method_of_instance, has_field_in};
+ghost use Rattle.cdi_engine.specs.Words.{running_of, completion_of};
+ghost use Rattle.cdi_engine.specs.Points.{go_on_with, told};
+ghost use Rattle.cdi_engine.specs.Leads.{Leads, Settles};
+ghost use Rattle.cdi_engine.specs.Falls.{Falls};
+ghost use Rattle.cdi_engine.specs.Known.{KnownNext};
+
+use crate::host::Host;
+use crate::step::invocations::method_of;
+use crate::step::missing;
+use crate::task::{Call, Completion, Frame, Given, Next, Outcome, Running, Task};
+use cdi_base::{
+    Act, Answer, BuiltIn, Cause, Entry, Name, Seq, Text, Value,
+};
+use cdi_bodies::View;
+use cdi_machine::Failure;
+use std::alloc::AllocError;
+
+// ---- bodies
+
+/// Begins a body.
+#[tactic(auto, using(crate::proofs::BodySteps::leads))]
+pub(super) fn body<H: Host>(host: &H, running: Running) -> Next
+    requires { (H.setting host.now).knows running.body }
+    ensures leads { Leads (H.setting host.now) (Task.Start (Call.Body running))
+        (H.world host.now) result (H.world host.now) }
+    ensures falls { Falls (Task.Start (Call.Body running))
+        (H.world host.now) result (H.world host.now) }
+    ensures known { KnownNext (H.setting host.now) (H.world host.now) result }
+{
+    if !host.may_go_deeper() {
+        return Next::Finished(Outcome::Cut(Cause::Depth));
+    }
+    if host.instance(running.instance).is_none() {
+        return missing();
+    }
+    let entry = Entry::Run {
+        number: running.instance,
+        member: running.place,
+    };
+    Next::Writes(entry, Task::Entered(running))
+}
+
+/// Runs the acts of a body.
+#[tactic(auto, using(crate::proofs::BodySteps::leads))]
+pub(super) fn entered<H: Host>(host: &mut H, running: Running) -> Result<Next, AllocError>
+    requires { (H.setting host.old).knows running.body }
+    ensures leads { IfOk result (λ next. Leads (H.setting host.old) (Task.Entered running)
+        (H.world host.old) next (H.world host.new)) }
+    ensures falls { IfOk result (λ next. Falls (Task.Entered running)
+        (H.world host.old) next (H.world host.new)) }
+    ensures known { IfOk result (KnownNext (H.setting host.new) (H.world host.new)) }
+    ensures narrows { Narrows (H.setting host.old) (H.setting host.new) }
+    ensures kept { OnErr result (H.world host.new ≡ H.world host.old) }
+{
+    host.start(running.instance)?;
+    Ok(Next::Needs(Call::Acts(running), Frame::Stopping))
+}
+
+/// Ends a body.
+#[tactic(auto, using(crate::proofs::BodySteps::leads))]
+pub(super) fn stopped<H: Host>(host: &mut H, completion: Completion) -> Next
+    ensures leads { Leads (H.setting host.old) (Task.Stopped completion)
+        (H.world host.old) result (H.world host.new) }
+    ensures falls { Falls (Task.Stopped completion) (H.world host.old) result (H.world host.new) }
+    ensures known { KnownNext (H.setting host.new) (H.world host.new) result }
+    ensures narrows { Narrows (H.setting host.old) (H.setting host.new) }
+{
+    host.stop();
+    Next::Finished(Outcome::Ends(completion))
+}
+
+// ---- acts
+
+/// Asks a body for its next act.
+#[tactic(auto, using(crate::proofs::BodySteps::leads))]
+pub(super) fn acts<H: Host>(host: &mut H, running: Running) -> Result<Next, Failure>
+    requires { (H.setting host.old).knows running.body }
+    ensures leads { IfOk result (λ next. Leads (H.setting host.old) (Task.Start (Call.Acts running))
+        (H.world host.old) next (H.world host.new)) }
+    ensures falls { IfOk result (λ next. Falls (Task.Start (Call.Acts running))
+        (H.world host.old) next (H.world host.new)) }
+    ensures known { IfOk result (KnownNext (H.setting host.new) (H.world host.new)) }
+    ensures narrows { Narrows (H.setting host.old) (H.setting host.new) }
+    ensures kept { OnErr result (H.world host.new ≡ H.world host.old) }
+{
+    if host.instance(running.instance).is_none() {
+        return Ok(missing());
+    }
+    let act = host.act(&running)?;
+    let entry = Entry::Did(act.clone()?);
+    Ok(Next::Writes(entry, Task::Acted(running, act)))
+}
+
+/// Does what a body gave.
+#[tactic(auto, using(crate::proofs::BodySteps::leads))]
+pub(super) fn acted<H: Host>(host: &mut H, running: Running, act: Act) -> Result<Next, AllocError>
+    requires known { (H.setting host.old).knows running.body }
+    requires served { IsTrue (is_served act) }
+    ensures leads { IfOk result (λ next. Leads (H.setting host.old) (Task.Acted running act)
+        (H.world host.old) next (H.world host.new)) }
+    ensures falls { IfOk result (λ next. Falls (Task.Acted running act)
+        (H.world host.old) next (H.world host.new)) }
+    ensures known { IfOk result (KnownNext (H.setting host.new) (H.world host.new)) }
+    ensures narrows { Narrows (H.setting host.old) (H.setting host.new) }
+    ensures kept { OnErr result (H.world host.new ≡ H.world host.old) }
+{
+    match act {
+        Act::Give { value } => {
+            Ok(Next::Finished(Outcome::Ends(Completion::Gave(Given::Result(value)))))
+        }
+        Act::Throw { exception } => Ok(Next::Finished(Outcome::Ends(Completion::Threw(exception)))),
+        Act::Set { field, value } => set_field(host, running, field, value),
+        Act::Own { method, args } => call_own(host, running, method, args),
+        _ => unreachable!(),
+    }
+}
+
+/// Gives a field of a body's own instance another value.
+#[tactic(auto, using(crate::proofs::BodySteps::leads))]
+fn set_field<H: Host>(
+    host: &mut H,
+    running: Running,
+    field: Name,
+    value: Value,
+) -> Result<Next, AllocError>
+    requires { (H.setting host.old).knows running.body }
+    ensures leads { IfOk result (λ next. Leads (H.setting host.old)
+        (Task.Acted running (Set field value)) (H.world host.old) next (H.world host.new)) }
+    ensures falls { IfOk result (λ next. Falls (Task.Acted running (Set field value))
+        (H.world host.old) next (H.world host.new)) }
+    ensures known { IfOk result (KnownNext (H.setting host.new) (H.world host.new)) }
+    ensures narrows { Narrows (H.setting host.old) (H.setting host.new) }
+    ensures kept { OnErr result (H.world host.new ≡ H.world host.old) }
+{
+    let number = running.instance;
+    if !has_field(host, number, field) {
+        return answer(host, running, missed());
+    }
+    let running = with_answer(running, Answer::Done(Value::Null))?;
+    host.assign(number, field, value);
+    Ok(Next::Goes(Task::Start(Call::Acts(running))))
+}
+
+/// Whether a live instance has a field.
+fn has_field<H: Host>(host: &H, number: u32, field: Name) -> bool
+    ensures { has_field_in (instance_at (H.world host.now) number) field ≡ result }
+{
+    match host.instance(number) {
+        Some(instance) => instance.fields.has(field),
+        None => false,
+    }
+}
+
+/// What an act comes to that misses something.
+fn missed() -> Completion
+    ensures { result ≡ Completion.Threw (number_of BuiltIn.IllegalStateException) }
+{
+    Completion::Threw(BuiltIn::IllegalStateException.name())
+}
+
+/// Calls a method of a body's own instance: no business method invocation (Jakarta CDI 4.0, *Container invocations and
+/// interception*).
+#[tactic(auto, using(crate::proofs::BodySteps::leads))]
+fn call_own<H: Host>(
+    host: &H,
+    running: Running,
+    method: Name,
+    args: Seq<Value>,
+) -> Result<Next, AllocError>
+    requires { (H.setting host.now).knows running.body }
+    ensures leads { IfOk result (λ next. Leads (H.setting host.now)
+        (Task.Acted running (Own method args)) (H.world host.now) next (H.world host.now)) }
+    ensures falls { IfOk result (λ next. Falls (Task.Acted running (Own method args))
+        (H.world host.now) next (H.world host.now)) }
+    ensures known { IfOk result (KnownNext (H.setting host.now) (H.world host.now)) }
+{
+    let Some(method) = method_of(host, running.instance, method) else {
+        return answer(host, running, missed());
+    };
+    if args.len() != method.count as usize {
+        return answer(host, running, missed());
+    }
+    let call = Call::Body(Running {
+        instance: running.instance,
+        place: method.place,
+        body: method.body,
+        view: View {
+            args,
+            answers: Seq::empty(host.alloc()),
+        },
+    });
+    Ok(Next::Needs(call, Frame::Answering(running)))
+}
+
+/// The running body with one answer more.
+fn with_answer(running: Running, answer: Answer) -> Result<Running, AllocError>
+    ensures answered { IfOk result (λ r. running_of r ≡ with_answer (running_of running) answer) }
+    ensures body { IfOk result (λ r. r.body ≡ running.body) }
+{
+    let Running {
+        instance,
+        place,
+        body,
+        view,
+    } = running;
+    let View { args, mut answers } = view;
+    answers.push(answer)?;
+    Ok(Running {
+        instance,
+        place,
+        body,
+        view: View { args, answers },
+    })
+}
+
+/// What a body is told of what a call gave.
+fn told(given: Given) -> Answer
+    ensures { result ≡ told given }
+{
+    match given {
+        Given::Result(value) => Answer::Done(value),
+        _ => Answer::Done(Value::Null),
+    }
+}
+
+/// Answers a body with what it asked for came to.
+#[tactic(auto, using(crate::proofs::BodySteps::leads))]
+pub(super) fn answer<H: Host>(
+    host: &H,
+    running: Running,
+    completion: Completion,
+) -> Result<Next, AllocError>
+    requires { (H.setting host.now).knows running.body }
+    ensures leads { IfOk result (λ next. Settles (H.setting host.now)
+        (go_on_with (running_of running) (completion_of completion))
+        (H.world host.now) next (H.world host.now)) }
+    ensures falls { IfOk result (λ next. Falls (Task.Answered running completion)
+        (H.world host.now) next (H.world host.now)) }
+    ensures known { IfOk result (KnownNext (H.setting host.now) (H.world host.now)) }
+{
+    let answer = match completion {
+        Completion::Gave(given) => told(given),
+        Completion::Threw(exception) => match host.text(exception) {
+            Some(text) => Answer::Threw {
+                exception,
+                text: Text::from_str(host.alloc(), text)?,
+            },
+            None => return Ok(missing()),
+        },
+    };
+    Ok(Next::Goes(Task::Start(Call::Acts(with_answer(running, answer)?))))
+}

@@ -1,0 +1,167 @@
+//! The steps of commands, and of the container's own events.
+ghost use Rattle.std.specs.Prelude.{◌≡◌, IfOk, OnErr};
+ghost use Rattle.cdi_engine.specs.Setting.{Narrows};
+ghost use Rattle.cdi_engine.specs.Leads.{Leads};
+ghost use Rattle.cdi_engine.specs.Falls.{Falls};
+ghost use Rattle.cdi_engine.specs.Known.{KnownNext};
+
+use crate::events::entry_of;
+use crate::host::Host;
+use crate::step::null;
+use crate::task::{Call, Completion, ContainerEvent, Frame, Job, Next, Outcome, Task};
+use cdi_base::{Name, Seq, Value};
+use std::alloc::AllocError;
+
+/// Begins what a command has done.
+#[tactic(auto, using(crate::proofs::CommandSteps::leads))]
+pub(super) fn begin<H: Host>(host: &mut H, job: Job) -> Result<Next, AllocError>
+    ensures leads { IfOk result (λ next. Leads (H.setting host.old) (Task.Begin job)
+        (H.world host.old) next (H.world host.new)) }
+    ensures falls { IfOk result (λ next. Falls (Task.Begin job)
+        (H.world host.old) next (H.world host.new)) }
+    ensures known { IfOk result (KnownNext (H.setting host.new) (H.world host.new)) }
+    ensures narrows { Narrows (H.setting host.old) (H.setting host.new) }
+    ensures kept { OnErr result (H.world host.new ≡ H.world host.old) }
+{
+    match job {
+        Job::Boot => {
+            let call = Call::Fire(ContainerEvent::Initialized);
+            Ok(Next::Needs(call, Frame::Initializing))
+        }
+        Job::Call {
+            bean_type,
+            method,
+            args,
+        } => call_bean(host, bean_type, method, args),
+        Job::Shutdown => Ok(shut_down(host)),
+    }
+}
+
+/// Calls a method of the bean with a type, with what is borrowed for the time of the command.
+#[tactic(auto, using(crate::proofs::CommandSteps::leads))]
+fn call_bean<H: Host>(
+    host: &mut H,
+    bean_type: Name,
+    method: Name,
+    args: Seq<Value>,
+) -> Result<Next, AllocError>
+    ensures leads { IfOk result (λ next. Leads (H.setting host.old)
+        (Task.Begin (Job.Call bean_type method args)) (H.world host.old) next (H.world host.new)) }
+    ensures falls { IfOk result (λ next. Falls (Task.Begin (Job.Call bean_type method args))
+        (H.world host.old) next (H.world host.new)) }
+    ensures known { IfOk result (KnownNext (H.setting host.new) (H.world host.new)) }
+    ensures narrows { Narrows (H.setting host.old) (H.setting host.new) }
+    ensures kept { OnErr result (H.world host.new ≡ H.world host.old) }
+{
+    host.borrow()?;
+    host.stand_alone();
+    let part = Task::Using {
+        bean_type,
+        method,
+        args,
+    };
+    Ok(Next::Within(part, Frame::Using))
+}
+
+/// Destroys what was borrowed.
+pub(super) fn returning(completion: Completion) -> Next
+    ensures { result ≡ Next.Needs Call.Dismiss (Frame.Returning completion) }
+{
+    Next::Needs(Call::Dismiss, Frame::Returning(completion))
+}
+
+/// Ends the command.
+#[tactic(auto, using(crate::proofs::CommandSteps::leads))]
+pub(super) fn returned<H: Host>(host: &mut H, completion: Completion) -> Next
+    ensures leads { Leads (H.setting host.old) (Task.Returned completion)
+        (H.world host.old) result (H.world host.new) }
+    ensures falls { Falls (Task.Returned completion) (H.world host.old) result (H.world host.new) }
+    ensures known { KnownNext (H.setting host.new) (H.world host.new) result }
+    ensures narrows { Narrows (H.setting host.old) (H.setting host.new) }
+{
+    host.give_back();
+    Next::Finished(Outcome::Ends(completion))
+}
+
+// ---- events
+
+/// Fires an event of the container itself.
+#[tactic(auto, using(crate::proofs::CommandSteps::leads))]
+pub(super) fn fire<H: Host>(host: &H, event: ContainerEvent) -> Result<Next, AllocError>
+    ensures leads { IfOk result (λ next. Leads (H.setting host.now) (Task.Start (Call.Fire event))
+        (H.world host.now) next (H.world host.now)) }
+    ensures falls { IfOk result (λ next. Falls (Task.Start (Call.Fire event))
+        (H.world host.now) next (H.world host.now)) }
+    ensures known { IfOk result (KnownNext (H.setting host.now) (H.world host.now)) }
+{
+    let entry = entry_of(host.alloc(), event)?;
+    Ok(Next::Writes(entry, Task::Fired(event)))
+}
+
+/// Delivers an event, which nothing observes.
+#[tactic(auto, using(crate::proofs::CommandSteps::leads))]
+pub(super) fn fired<H: Host>(host: &H, event: ContainerEvent) -> Next
+    ensures leads { Leads (H.setting host.now) (Task.Fired event)
+        (H.world host.now) result (H.world host.now) }
+    ensures falls { Falls (Task.Fired event) (H.world host.now) result (H.world host.now) }
+    ensures known { KnownNext (H.setting host.now) (H.world host.now) result }
+{
+    let _event = event;
+    host.law_unobserved();
+    null()
+}
+
+// ---- shutdown
+
+/// Begins the end of the container.
+#[tactic(auto, using(crate::proofs::CommandSteps::leads))]
+fn shut_down<H: Host>(host: &mut H) -> Next
+    ensures leads { Leads (H.setting host.old) (Task.Begin Job.Shutdown)
+        (H.world host.old) result (H.world host.new) }
+    ensures falls { Falls (Task.Begin Job.Shutdown) (H.world host.old) result (H.world host.new) }
+    ensures known { KnownNext (H.setting host.new) (H.world host.new) result }
+    ensures narrows { Narrows (H.setting host.old) (H.setting host.new) }
+{
+    host.law_alone();
+    host.stand_alone();
+    Next::Needs(Call::Fire(ContainerEvent::Shutdown), Frame::Closing)
+}
+
+/// Ends the application context.
+#[tactic(auto, using(crate::proofs::CommandSteps::leads))]
+pub(super) fn finishing<H: Host>(host: &mut H) -> Next
+    ensures leads { Leads (H.setting host.old) Task.Finishing
+        (H.world host.old) result (H.world host.new) }
+    ensures falls { Falls Task.Finishing (H.world host.old) result (H.world host.new) }
+    ensures known { KnownNext (H.setting host.new) (H.world host.new) result }
+    ensures narrows { Narrows (H.setting host.old) (H.setting host.new) }
+{
+    host.finish_application();
+    Next::Needs(Call::Clear, Frame::Emptying)
+}
+
+/// The application context is gone.
+#[tactic(auto, using(crate::proofs::CommandSteps::leads))]
+pub(super) fn emptied<H: Host>(host: &mut H) -> Next
+    ensures leads { Leads (H.setting host.old) Task.Emptied
+        (H.world host.old) result (H.world host.new) }
+    ensures falls { Falls Task.Emptied (H.world host.old) result (H.world host.new) }
+    ensures known { KnownNext (H.setting host.new) (H.world host.new) result }
+    ensures narrows { Narrows (H.setting host.old) (H.setting host.new) }
+{
+    host.close_application();
+    Next::Needs(Call::Fire(ContainerEvent::Destroyed), Frame::GoingDown)
+}
+
+/// The container is down.
+#[tactic(auto, using(crate::proofs::CommandSteps::leads))]
+pub(super) fn going_down<H: Host>(host: &mut H) -> Next
+    ensures leads { Leads (H.setting host.old) Task.GoingDown
+        (H.world host.old) result (H.world host.new) }
+    ensures falls { Falls Task.GoingDown (H.world host.old) result (H.world host.new) }
+    ensures known { KnownNext (H.setting host.new) (H.world host.new) result }
+    ensures narrows { Narrows (H.setting host.old) (H.setting host.new) }
+{
+    host.bring_down();
+    null()
+}

@@ -1,0 +1,111 @@
+//! The steps of obtaining contextual instances, and instances for the time of a command.
+ghost use Rattle.std.specs.Prelude.{◌≡◌, IfOk, OnErr};
+ghost use Rattle.cdi_machine.specs.World.{instance_at};
+ghost use Rattle.cdi_machine.specs.Contexts.{stays};
+ghost use Rattle.cdi_engine.specs.Setting.{Narrows};
+ghost use Rattle.cdi_engine.specs.Leads.{Leads};
+ghost use Rattle.cdi_engine.specs.Falls.{Falls};
+ghost use Rattle.cdi_engine.specs.Known.{KnownNext};
+
+use crate::host::Host;
+use crate::step::invocations::invoke;
+use crate::step::{given, missing, raised, scope_of};
+use crate::task::{Call, Frame, Given, Next, Task};
+use cdi_base::{BuiltIn, Name, Seq, Value};
+use cdi_beans::bean::Resolution;
+use cdi_contexts::{Held, Status};
+use cdi_deploy::deployment::Scope;
+use cdi_store::{Context, Owner, Phase};
+use std::alloc::AllocError;
+
+/// Obtains the contextual instance of a bean (Jakarta CDI 4.0, *Contextual instance of a bean*).
+#[tactic(auto, using(crate::proofs::ObtainingSteps::leads))]
+pub(super) fn obtain<H: Host>(host: &H, bean: u32) -> Next
+    ensures leads { Leads (H.setting host.now) (Task.Start (Call.Obtain bean))
+        (H.world host.now) result (H.world host.now) }
+    ensures falls { Falls (Task.Start (Call.Obtain bean))
+        (H.world host.now) result (H.world host.now) }
+    ensures known { KnownNext (H.setting host.now) (H.world host.now) result }
+{
+    let Some(plan) = host.bean(bean) else {
+        return missing();
+    };
+    let scope = scope_of(plan.scope);
+    let Some(status) = host.status(scope) else {
+        return raised(BuiltIn::ContextNotActiveException);
+    };
+    match host.held(scope, bean) {
+        Some(Held::Is(number)) => given(Given::Number(number)),
+        Some(Held::Making) => raised(BuiltIn::CreationException),
+        None => match status {
+            Status::Open => Next::Goes(Task::Start(Call::Create {
+                bean,
+                owner: Owner::Context(Context::Application),
+            })),
+            Status::Ending => raised(BuiltIn::ContextNotActiveException),
+        },
+    }
+}
+
+/// Uses the bean with a type for a command: a contextual instance, or one that lasts as long as the command.
+#[tactic(auto, using(crate::proofs::ObtainingSteps::leads))]
+pub(super) fn using<H: Host>(host: &H, bean_type: Name, method: Name, args: Seq<Value>) -> Next
+    ensures leads { Leads (H.setting host.now) (Task.Using bean_type method args)
+        (H.world host.now) result (H.world host.now) }
+    ensures falls { Falls (Task.Using bean_type method args)
+        (H.world host.now) result (H.world host.now) }
+    ensures known { KnownNext (H.setting host.now) (H.world host.now) result }
+{
+    let bean = match host.resolve(bean_type) {
+        Resolution::One(bean) => bean,
+        Resolution::Nothing => return raised(BuiltIn::UnsatisfiedResolutionException),
+        Resolution::Many => return raised(BuiltIn::AmbiguousResolutionException),
+    };
+    let Some(plan) = host.bean(bean) else {
+        return missing();
+    };
+    match plan.scope {
+        Scope::ApplicationScoped => {
+            Next::Needs(Call::Obtain { bean }, Frame::Reaching { method, args })
+        }
+        Scope::Dependent => {
+            let owner = Owner::Borrower;
+            Next::Needs(Call::Create { bean, owner }, Frame::Borrowing { method, args })
+        }
+    }
+}
+
+/// Invokes a method of an instance that was made for the command.
+#[tactic(auto, using(crate::proofs::ObtainingSteps::leads))]
+pub(super) fn lent<H: Host>(
+    host: &mut H,
+    number: u32,
+    method: Name,
+    args: Seq<Value>,
+) -> Result<Next, AllocError>
+    ensures leads { IfOk result (λ next. Leads (H.setting host.old)
+        (Task.Lent number method args) (H.world host.old) next (H.world host.new)) }
+    ensures falls { IfOk result (λ next. Falls (Task.Lent number method args)
+        (H.world host.old) next (H.world host.new)) }
+    ensures known { IfOk result (KnownNext (H.setting host.new) (H.world host.new)) }
+    ensures narrows { Narrows (H.setting host.old) (H.setting host.new) }
+    ensures kept { OnErr result (H.world host.new ≡ H.world host.old) }
+{
+    if !stays(host, number) {
+        return Ok(raised(BuiltIn::IllegalStateException));
+    }
+    invoke(host, number, method, args)
+}
+
+/// Whether an instance lives and its destruction hasn't begun.
+fn stays<H: Host>(host: &H, number: u32) -> bool
+    ensures { stays (instance_at (H.world host.now) number) ≡ result }
+{
+    match host.instance(number) {
+        Some(instance) => match instance.phase {
+            Phase::New | Phase::Ready => true,
+            Phase::Leaving => false,
+        },
+        None => false,
+    }
+}
