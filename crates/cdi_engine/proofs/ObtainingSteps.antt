@@ -34,7 +34,8 @@ use Rattle.cdi_machine.specs.World.{World, Change, Invocation, after_change, ins
 use Rattle.cdi_machine.specs.Programs as machine
 use Rattle.cdi_machine.specs.Programs.{Given, Number, Completion, Gave, Threw, Prog, ret, throw, see, nested, tick, change, choose, act, handle, finally, quietly, do_nothing, tell_missing, require_present, require, require_one, expect, complete, call, finish, note, alter, each, raise, require_number, give_number, next_number, require_depth, go_deeper, top, instance, bean_at, resolve, attempt, ◌>>=◌, ◌>>◌}
 use Rattle.cdi_engine.specs.Setting.{Setting, GivesTo}
-use Rattle.cdi_engine.specs.Asked.{of_type, method_in, method_at, method_of_component, method_of_instance, has_field_in, dependents_in, number_left, top_of, latest_in}
+use Rattle.cdi_store.specs.Owned.{dependents_in}
+use Rattle.cdi_engine.specs.Asked.{of_type, method_in, method_at, method_of_component, method_of_instance, has_field_in, number_left, top_of, latest_in}
 use Rattle.cdi_engine.specs.Words.{given_of, completion_of, running_of, class_of, qualifiers_of, task_of}
 use Rattle.cdi_engine.specs.Points.{over, rest, waits, node, first, around, fields_of, make_instance, settle, start_body, stop_body, go_on_with, reach_end, let_go, free_dependents, end_clean_up, clean_up_quietly, end_instance, free_picked, use_for, use_lent, exit_with, give_back_with, return_with, start_container, deliver, bring_down, close_application, finish_application, empty_application}
 use Rattle.cdi_engine.specs.Leads.{settled, walked, Comes, Leads, Settles}

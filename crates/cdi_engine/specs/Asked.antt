@@ -7,6 +7,7 @@ use Rattle.cdi_base.specs.Maps.{at}
 use Rattle.cdi_store.specs.declared.instance.Component.{Component}
 use Rattle.cdi_store.specs.declared.instance.Component.TheVariants as components
 use Rattle.cdi_store.specs.declared.instance.Instance.{Instance}
+use Rattle.cdi_store.specs.Owned.{dependents_in}
 use Rattle.cdi_contexts.specs.declared.context.Held.{Held}
 use Rattle.cdi_contexts.specs.declared.context.Status.{Status}
 use Rattle.cdi_contexts.specs.Contexts.{context_of, active_context, entry_in}
@@ -44,11 +45,7 @@ abbrev pub has_field_in : Option Instance → Name → Bool
 has_field_in None field = false
 has_field_in (Some o) field = has o.fields field
 
--- the dependents of an instance, none if it isn't there
-abbrev pub dependents_in : Option Instance → List ℕ
-dependents_in None = []
-dependents_in (Some o) = o.dependents
-
+-- it has two dependents or more
 abbrev pub HasSeveral : Option Instance → Type 0
 HasSeveral o = 1 < length (dependents_in o)
 

@@ -1,9 +1,10 @@
 -- What the engine works with: tables, what is legal, and which bodies there are.
-use Rattle.std.specs.Prelude.{ℕ, ◌≡◌, List, [], ◌∷◌, length, Bool, true, false, Option, Some, None}
+use Rattle.std.specs.Prelude.{ℕ, ◌≡◌, length, Bool, true, false, Some}
+use Rattle.std.specs.List.{AllByRecursion}
 use Rattle.cdi_base.specs.declared.act.Act.{Act}
 use Rattle.cdi_base.specs.declared.act.Act.TheVariants as acts
 use Rattle.cdi_store.specs.declared.instance.Instance.{Instance}
-use Rattle.cdi_machine.specs.Tables.{Tables, Code}
+use Rattle.cdi_machine.specs.Tables.{Tables}
 use Rattle.cdi_machine.specs.World.{World, Invocation, instance_at}
 use Rattle.cdi_machine.specs.Runs.{Legal}
 use Rattle.cdi_machine.specs.Laws.{IsWithin}
@@ -35,10 +36,6 @@ is_served (acts.Give v) = true
 is_served (acts.Throw x) = true
 is_served _ = false
 
-abbrev pub knows_each : Setting → List Code → Type 0
-knows_each s [] = Unit {0}
-knows_each s (m ∷ ms) = s.knows m.body × knows_each s ms
-
 -- the bodies at the end of an invocation's chain are known
 abbrev pub knows_member : Setting → Invocation → Type 0
-knows_member s v = knows_each s v.members
+knows_member s v = AllByRecursion (λ m. s.knows m.body) v.members

@@ -21,7 +21,8 @@ pub trait Host {
     ghost use Rattle.cdi_machine.specs.Destruction.{greatest_in};
     ghost use Rattle.cdi_engine.specs.Setting.{Setting, Narrows, GivesTo, is_served, knows_member};
     ghost use Rattle.cdi_beans.specs.Served.{machine_bean, machine_method, machine_resolution};
-    ghost use Rattle.cdi_engine.specs.Asked.{of_type, method_at, dependents_in, status_in, held_in, number_left, latest_in, top_of};
+    ghost use Rattle.cdi_store.specs.Owned.{dependents_in};
+    ghost use Rattle.cdi_engine.specs.Asked.{of_type, method_at, status_in, held_in, number_left, latest_in, top_of};
 
     /// The tables, what is legal, and which bodies there are.
     ghost setting: { Self → Setting };

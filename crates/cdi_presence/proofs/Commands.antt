@@ -24,8 +24,9 @@ use Rattle.cdi_machine.specs.Contexts.{is_normal, direct_reference, refer_to, st
 use Rattle.cdi_machine.specs.Destruction.{borrow_for, give_back}
 use Rattle.cdi_machine.specs.Bodies.{invoke_method}
 use Rattle.cdi_machine.specs.Events.{qualifier, fire_context_event, fire_container_event}
-use Rattle.cdi_machine.specs.Commands.{Command, task, close, use_bean, requests_of, sessions_of, end, end_alone, shut_down, boot, is_open, is_new}
-use Rattle.cdi_machine.specs.Container.{State, refusal, first_that_holds, call_refusals, read_refusals, refused_by_contexts, refused_by_tables, no_method, wrong_count, is_marked}
+use Rattle.cdi_contexts.specs.Refusals.{is_open, is_new, is_marked, first_that_holds}
+use Rattle.cdi_machine.specs.Commands.{Command, task, close, use_bean, requests_of, sessions_of, end, end_alone, shut_down, boot}
+use Rattle.cdi_machine.specs.Container.{State, refusal, call_refusals, read_refusals, refused_by_contexts, refused_by_tables, no_method, wrong_count}
 use Rattle.cdi_machine.specs.Runs.{Legal}
 use Rattle.cdi_beans.specs.declared.bean.Bean.{Bean}
 use Rattle.cdi_beans.specs.declared.bean.Method.{Method}

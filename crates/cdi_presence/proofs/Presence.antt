@@ -7,7 +7,8 @@ use Rattle.cdi_bodies.specs.declared.entry.Entry.{Entry}
 use Rattle.cdi_deploy.specs.declared.deployment.Deployment.{Deployment}
 use Rattle.cdi_machine.specs.World.{World, at_begin, before_boot}
 use Rattle.cdi_machine.specs.Commands.{Command, task}
-use Rattle.cdi_machine.specs.Container.{State, refusal, Answers, is_cut, first_that_holds, refused_by_contexts, refused_by_tables}
+use Rattle.cdi_contexts.specs.Refusals.{first_that_holds}
+use Rattle.cdi_machine.specs.Container.{State, refusal, Answers, is_cut, refused_by_contexts, refused_by_tables}
 use Rattle.cdi_machine.specs.Runs.{Legal, Outcome, Ends, Cut, Runs}
 use Rattle.cdi_beans.specs.declared.tables.Tables.{Tables}
 use Rattle.cdi_beans.specs.Served.{machine_tables}

@@ -20,7 +20,7 @@ use Rattle.cdi_store.proofs.Slots.{Others, Taking, lying, at-instances_in, slot_
 
 pub begun-kept : (slots : Slots) (m : Map ℕ) (next : ℕ) → m ≡ [] → 0 < next → next ≤ 2 ^ 32 → IsKept slots m next
 begun-kept slots m next none positive most = rw none (record {
-  sound = record { rising = tt; below = tt; apart = tt; occupied = tt; positive = positive; most = most };
+  sound = record { rising = tt; below = tt; from_one = tt; apart = tt; occupied = tt; positive = positive; most = most };
   owned = owned-none next;
 })
 
@@ -34,8 +34,9 @@ still-kept f old new m n slot next list owner changes e k = record {
 
 -- ---- who has a slot
 
-below-next : (slots : Slots) (m : Map ℕ) (n slot next : ℕ) → IsSound slots m next → at m n ≡ Some slot → n < next
-below-next slots m n slot next s e = All-at (λ p. p.0 < next) m n slot s.below e
+below-next : (slots : Slots) (m : Map ℕ) (n slot next : ℕ) → IsSound slots m next → at m n ≡ Some slot → (0 < n) × (n < next)
+below-next slots m n slot next s e =
+    (All-at (λ p. 0 < p.0) m n slot s.from_one e, All-at (λ p. p.0 < next) m n slot s.below e)
 
 some-is : (o : Option Instance) → IsSome o → (x : Instance) × (o ≡ Some x)
 some-is None h = absurd (cc)

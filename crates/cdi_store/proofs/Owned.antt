@@ -1,5 +1,5 @@
 -- What changes of instances are to the dependents of all of them.
-use Rattle.std.proofs.Common.{◌≡◌, ◌≢◌, ℕ, zero, suc, ◌+◌, ◌<◌, ◌≤◌, ◌==◌, List, [], ◌∷◌, ◌++◌, cond, Option, Some, None, IfSome, inl, inr, refl, sym, ap, subst, ◌∙◌, arith}
+use Rattle.std.proofs.Common.{◌≡◌, ◌≢◌, ℕ, zero, suc, ◌+◌, ◌<◌, ◌≤◌, ◌==◌, List, [], ◌∷◌, ◌++◌, length, cond, Option, Some, None, IfSome, inl, inr, refl, sym, ap, subst, ◌∙◌, arith}
 use Rattle.std.specs.Option.{option_map}
 use Rattle.std.proofs.lemmas.List.Sums.{sum_by-cons, sum_by-append}
 use Rattle.std.proofs.lemmas.List.Concat.{flat_map-append}
@@ -230,7 +230,7 @@ pub owned-same : (live : Instances) (next k : ℕ) (f : Instance → Instance) �
 owned-same live next k f list owner h = record {
   once = λ n. rw (same-total k f list live n) (h.once n);
   owner = λ n. owners-by live k n f owner (same-lists k f list live n) (same-total k f list live n) (h.owner n);
-  below = λ n p. h.below n (rw (same-total k f list live n) at p);
+  given = λ n p. h.given n (rw (same-total k f list live n) at p);
 }
 
 -- ---- a change of the list in which an instance stands
@@ -284,7 +284,7 @@ has-owner live n m o h =
     let is : times n (dependents_of live o.0.owner) ≡ total n live = rw o.2 h in
     subst (HasOwner live n) (sym o.1) is
 
-owned-relisted : (live : Instances) (next n m : ℕ) (g : List ℕ → List ℕ) (y : Instance) → Relists n g → at live m ≡ Some y → Owns live n (owners.Instance m) → n < next → AreOwned live next → AreOwned (adjusted m (relisted g) live) next
+owned-relisted : (live : Instances) (next n m : ℕ) (g : List ℕ → List ℕ) (y : Instance) → Relists n g → at live m ≡ Some y → Owns live n (owners.Instance m) → (0 < n) × (n < next) → AreOwned live next → AreOwned (adjusted m (relisted g) live) next
 owned-relisted live next n m g y r there o given h =
     let new : Instances = adjusted m (relisted g) live in
     let before : times n (dependents_of live o.0.owner) ≡ total n live = owner-is live next n o.0 h o.1 in
@@ -302,18 +302,18 @@ owned-relisted live next n m g y r there o given h =
         | inr s ↦
             owners-by live m k (relisted g) (λ x. refl) (lists-other live m g y there n k r s.1) (total-other live m g y there n k r s.1) (h.owner k)
       ];
-      below = λ k p. elim (equal_or_not k n) [
+      given = λ k p. elim (equal_or_not k n) [
         | inl s ↦ rw s.1 given
-        | inr s ↦ h.below k (rw (total-other live m g y there n k r s.1) at p)
+        | inr s ↦ h.given k (rw (total-other live m g y there n k r s.1) at p)
       ];
     }
 
-pub owned-joined : (live : Instances) (next n m : ℕ) → Some m ≡ owner_at n live → n < next → AreOwned live next → AreOwned (with_dependent n (owners.Instance m) live) next
+pub owned-joined : (live : Instances) (next n m : ℕ) → Some m ≡ owner_at n live → (0 < n) × (n < next) → AreOwned live next → AreOwned (with_dependent n (owners.Instance m) live) next
 owned-joined live next n m e given h =
     let y = owner-lives n m live e in
     owned-relisted live next n m (put_last n) y.0 (relists-put_last n) y.1 (owns-by n m live e) given h
 
-pub owned-taken : (live : Instances) (next n : ℕ) (o : Option ℕ) → o ≡ owner_at n live → n < next → AreOwned live next → AreOwned (taken_from o n live) next
+pub owned-taken : (live : Instances) (next n : ℕ) (o : Option ℕ) → o ≡ owner_at n live → (0 < n) × (n < next) → AreOwned live next → AreOwned (taken_from o n live) next
 owned-taken live next n None e given h = h
 owned-taken live next n (Some m) e given h =
     let y = owner-lives n m live e in
@@ -350,7 +350,7 @@ abbrev pub owned_now : Owner → Instance → Instance
 owned_now w o = record o { owner = w }
 
 -- one that stands nowhere is given to an owner
-owned-given : (live : Instances) (next n m : ℕ) (y : Instance) → total n live ≡ 0 → at live m ≡ Some y → n < next → AreOwned live next → AreOwned (owned_by (owners.Instance m) n (with_dependent n (owners.Instance m) live)) next
+owned-given : (live : Instances) (next n m : ℕ) (y : Instance) → total n live ≡ 0 → at live m ≡ Some y → (0 < n) × (n < next) → AreOwned live next → AreOwned (owned_by (owners.Instance m) n (with_dependent n (owners.Instance m) live)) next
 owned-given live next n m y none there given h =
     let f = owned_now (owners.Instance m) in
     let r = relists-put_last n in
@@ -375,9 +375,9 @@ owned-given live next n m y none there given h =
             let before : HasOwner mid k (at mid k) = owners-by live m k (relisted (put_last n)) (λ x. refl) (lists-other live m (put_last n) y there n k r s.1) (total-other live m (put_last n) y there n k r s.1) (h.owner k) in
             subst (HasOwner new k) (sym (at-adjusted_other k n f mid s.1)) (owner-kept mid new k (at mid k) (same-lists n f (λ x. refl) mid k) (stays k) before)
       ];
-      below = λ k p. elim (equal_or_not k n) [
+      given = λ k p. elim (equal_or_not k n) [
         | inl s ↦ rw s.1 given
-        | inr s ↦ h.below k (rw (other k s.1) at p)
+        | inr s ↦ h.given k (rw (other k s.1) at p)
       ];
     }
   where
@@ -385,7 +385,7 @@ owned-given live next n m y none there given h =
     given-to new n m f is None all = tt
     given-to new n m f is (Some x) all = rw (is x) all
 
-pub owned-adopted : (live : Instances) (next n m : ℕ) (x y : Instance) → at live n ≡ Some x → at live m ≡ Some y → n < next → AreOwned live next → AreOwned (with_owner n (owners.Instance m) live) next
+pub owned-adopted : (live : Instances) (next n m : ℕ) (x y : Instance) → at live n ≡ Some x → at live m ≡ Some y → (0 < n) × (n < next) → AreOwned live next → AreOwned (with_owner n (owners.Instance m) live) next
 owned-adopted live next n m x y there to given h =
     let o = owner_at n live in
     let z = at-taken live n m y o to in
@@ -412,7 +412,7 @@ owned-born live next component owner fields absent h =
         | inr s ↦
             subst (HasOwner new k) (sym (at-added_other k next o live s.1)) (owner-kept live new k (at live k) (lists k) (stays k) (h.owner k))
       ];
-      below = λ k p. let q = h.below k (rw (stays k) at p) in omega arith;
+      given = λ k p. let q = h.given k (rw (stays k) at p) in (q.0, let b = q.1 in omega arith);
     }
   where
     append-none : (ms : List ℕ) → ms ++ [] ≡ ms
@@ -430,7 +430,7 @@ owned-born live next component owner fields absent h =
       where
         by : (t : ℕ) → total next live ≡ t → t ≡ 0
         by zero e = refl
-        by (suc t) e = absurd (let b : next < next = h.below next (omega arith) in omega arith)
+        by (suc t) e = absurd (let b : next < next = (h.given next (omega arith)).1 in omega arith)
 
 pub owned-gone : (live : Instances) (next n : ℕ) → AreOwned live next → AreOwned (without n live) next
 owned-gone live next n h =
@@ -443,7 +443,7 @@ owned-gone live next n h =
         | inr s ↦
             subst (HasOwner new k) (sym (at-without_other k n live s.1)) (left live n k (at live k) (h.owner k))
       ];
-      below = λ k p. let a = fewer k in h.below k (omega arith);
+      given = λ k p. let a = fewer k in h.given k (omega arith);
     }
   where
     left-of : (live : Instances) (n k : ℕ) (w : Owner) → times k (dependents_of live w) ≡ total k live → times k (dependents_of (without n live) w) ≡ total k (without n live)
@@ -469,5 +469,56 @@ pub owned-none : (next : ℕ) → AreOwned [] next
 owned-none next = record {
   once = λ n. omega (arith, times-none n);
   owner = λ n. tt;
-  below = λ n p. absurd (let z = times-none n in omega arith);
+  given = λ n p. absurd (let z = times-none n in omega arith);
 }
+
+-- ---- how many there are
+
+length-all_but : (n : ℕ) (ms : List ℕ) → length (all_but n ms) + times n ms ≡ length ms
+length-all_but n [] = omega (arith, times-none n)
+length-all_but n (m ∷ ms) = elim (equal_or_not m n) [
+  | inl s ↦ rw (s.0, times-cons n m ms, s.0) (omega (arith, length-all_but n ms))
+  | inr s ↦ rw (s.0, times-cons n m ms, s.0) (omega (arith, length-all_but n ms))
+]
+
+-- numbers below a bound of which none stands twice are at most so many
+at_most : (bound : ℕ) (ns : List ℕ) → ((n : ℕ) → times n ns ≤ 1) → ((n : ℕ) → 0 < times n ns → n < bound) → length ns ≤ bound
+at_most zero [] once below = omega arith
+at_most zero (m ∷ ns) once below = absurd (let b = below m (times-first m ns) in omega arith)
+  where
+    times-first : (m : ℕ) (ns : List ℕ) → 0 < times m (m ∷ ns)
+    times-first m ns = elim (equal_or_not m m) [
+      | inl s ↦ rw (times-cons m m ns, s.0) (omega arith)
+      | inr s ↦ absurd (s.1 refl)
+    ]
+at_most (suc bound) ns once below =
+    let rest : List ℕ = all_but bound ns in
+    let few = at_most bound rest (λ n. elim (equal_or_not n bound) [
+      | inl s ↦ rw s.1 (omega (arith, times-all_but bound ns))
+      | inr s ↦ rw (times-all_but_other n bound ns s.1) (once n)
+    ]) (λ n p. elim (equal_or_not n bound) [
+      | inl s ↦ absurd (let z = times-all_but bound ns in let q = rw s.1 at p in omega arith)
+      | inr s ↦ let b = below n (rw (times-all_but_other n bound ns s.1) at p) in let r = s.1 in grind arith
+    ]) in
+    let count = length-all_but bound ns in
+    let one = once bound in
+    omega arith
+
+-- an instance has fewer dependents than the next number
+pub few-dependents : (live : Instances) (next m : ℕ) → 0 < next → AreOwned live next → length (dependents_in (at live m)) < next
+few-dependents live next m positive h =
+    let ns : List ℕ = dependents_in (at live m) in
+    let part : (n : ℕ) → times n ns ≤ total n live = λ n. in-total n m live in
+    let no_zero : times 0 ns ≡ 0 = by (times 0 ns) refl in
+    let all : length (0 ∷ ns) ≤ next = at_most next (0 ∷ ns) (λ n. elim (equal_or_not 0 n) [
+      | inl s ↦ rw (times-cons n 0 ns, s.0) (rw (← s.1) (omega (arith, no_zero)))
+      | inr s ↦ rw (times-cons n 0 ns, s.0) (let a = part n in let b = h.once n in omega arith)
+    ]) (λ n p. elim (equal_or_not 0 n) [
+      | inl s ↦ rw (← s.1) positive
+      | inr s ↦ (h.given n (let a = part n in let q = rw (times-cons n 0 ns, s.0) at p in omega arith)).1
+    ]) in
+    omega arith
+  where
+    by : (t : ℕ) → times 0 (dependents_in (at live m)) ≡ t → t ≡ 0
+    by zero e = refl
+    by (suc t) e = absurd (let a = in-total 0 m live in let b = (h.given 0 (omega arith)).0 in omega arith)

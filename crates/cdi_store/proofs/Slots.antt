@@ -139,7 +139,7 @@ kept-changed f old new m n slot next s view sound e changes =
     rw (instances_in-changed f old.slots new.slots m n slot changes.changed changes.others sound.occupied sound.apart e) (ap (λ k. let is : Kept = record k { instances = adjusted n f k.instances } in is) view)
 
 sound-by : (old new : Slots) (m : Map ℕ) (next : ℕ) → IsSound old m next → AreOccupied new m → IsSound new m next
-sound-by old new m next s h = record { rising = s.rising; below = s.below; apart = s.apart; occupied = h; positive = s.positive; most = s.most }
+sound-by old new m next s h = record { rising = s.rising; below = s.below; from_one = s.from_one; apart = s.apart; occupied = h; positive = s.positive; most = s.most }
 
 pub sound-changed : (f : Instance → Instance) (old new : Slab Instance) (m : Map ℕ) (slot next : ℕ) → Changes old new slot f → IsSound old.slots m next → IsSound new.slots m next
 sound-changed f old new m slot next changes s =
@@ -185,6 +185,7 @@ sound-taken old new m n slot o vacant taken stay left s =
     record {
       rising = rising-last m n slot s.below s.rising;
       below = All-last (λ p. p.0 < n + 1) m (n, slot) (All-weaker (λ p. p.0 < n) (λ p. p.0 < n + 1) m (λ p b. omega arith) s.below) (omega arith);
+      from_one = All-last (λ p. 0 < p.0) m (n, slot) s.from_one s.positive;
       apart = apart-last m n slot apart s.apart;
       occupied = All-last (λ p. IsSome (slot_at new p.1)) m (n, slot) (occupied-others old new m slot stay apart s.occupied) (rw taken refl);
       positive = omega arith;
@@ -232,6 +233,7 @@ pub sound-left : (old new : Slots) (m : Map ℕ) (n slot next : ℕ) → Others 
 sound-left old new m n slot next stay e s = record {
   rising = rising-without m n s.rising;
   below = All-without (λ p. p.0 < next) m n s.below;
+  from_one = All-without (λ p. 0 < p.0) m n s.from_one;
   apart = apart-without m n s.apart;
   occupied = occupied-others old new (without n m) slot stay (slot-without m n slot s.apart e) (All-without (λ p. IsSome (slot_at old p.1)) m n s.occupied);
   positive = s.positive;

@@ -25,9 +25,9 @@ abbrev pub all_dependents : Instances → List ℕ
 all_dependents live = flat_map (λ p. p.1.dependents) live
 
 -- No number stands twice among the dependents of all instances, a live instance stands only among those of its owner, and
--- each that stands there is below the next number.
+-- each that stands there is at least 1 and below the next number.
 pub record AreOwned (live : Instances) (next : ℕ) : Type 0 where
   pub once : (n : ℕ) → times n (all_dependents live) ≤ 1
   pub owner : (n : ℕ) → IfSome (at live n)
       (λ o. times n (dependents_of live o.owner) ≡ times n (all_dependents live))
-  pub below : (n : ℕ) → 0 < times n (all_dependents live) → n < next
+  pub given : (n : ℕ) → 0 < times n (all_dependents live) → (0 < n) × (n < next)

@@ -40,6 +40,9 @@ AreApart (p ∷ more) = AllByRecursion (λ q. q.1 ≢ p.1) more × AreApart more
 abbrev pub AreBelow : ℕ → Map ℕ → Type 0
 AreBelow next numbers = AllByRecursion (λ p. p.0 < next) numbers
 
+abbrev pub AreFromOne : Map ℕ → Type 0
+AreFromOne numbers = AllByRecursion (λ p. 0 < p.0) numbers
+
 -- each number's slot has an instance
 abbrev pub AreOccupied : Slots → Map ℕ → Type 0
 AreOccupied slots numbers = AllByRecursion (λ p. IsSome (slot_at slots p.1)) numbers
@@ -47,6 +50,7 @@ AreOccupied slots numbers = AllByRecursion (λ p. IsSome (slot_at slots p.1)) nu
 pub record IsSound (slots : Slots) (numbers : Map ℕ) (next : ℕ) : Type 0 where
   pub rising : AreRising numbers
   pub below : AreBelow next numbers
+  pub from_one : AreFromOne numbers
   pub apart : AreApart numbers
   pub occupied : AreOccupied slots numbers
   pub positive : 0 < next

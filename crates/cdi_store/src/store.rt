@@ -5,7 +5,7 @@ ghost use Rattle.cdi_store.specs.Live.{is_live, key_at, owner_at, other_owner_at
 ghost use Rattle.cdi_store.specs.Live.{for_owner, in_phase, with_dependent, without_dependent};
 ghost use Rattle.cdi_store.specs.Live.{with_ready, with_leaving, with_owner};
 ghost use Rattle.cdi_store.specs.Live.{with_newborn, with_field, with_value, with_reference, without_instance};
-ghost use Rattle.cdi_store.specs.Owned.{AreOwned};
+ghost use Rattle.cdi_store.specs.Owned.{AreOwned, dependents_in};
 ghost use Rattle.cdi_store.specs.Slots.{IsOrderly};
 
 use crate::changes::{
@@ -311,9 +311,16 @@ impl Store {
     }
 
     /// No number stands twice among the dependents of all live instances, a live instance stands only among those of its
-    /// owner, and each that stands there is below the next number. A call does nothing: its contract is the law.
+    /// owner, and each that stands there is at least 1 and below the next number. A call does nothing: its contract is the law.
     pub fn law_dependents(&self)
         ensures { AreOwned self.now.instances self.now.next }
+    {
+        let _next = self.next;
+    }
+
+    /// An instance has fewer dependents than there are numbers. A call does nothing: its contract is the law.
+    pub fn law_few(&self, number: u32)
+        ensures { length (dependents_in (at self.now.instances number)) < 2 ^ 32 }
     {
         let _next = self.next;
     }

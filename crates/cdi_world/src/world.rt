@@ -2,6 +2,7 @@
 ghost use Rattle.std.specs.Prelude.{◌≡◌, ◌<◌, ◌^◌, ◌↔◌, [], length, map, option_map};
 ghost use Rattle.std.specs.Prelude.{IsTrue, IsSome, IfOk, IfSome};
 ghost use Rattle.std.specs.Option.{option_copied};
+ghost use Rattle.cdi_store.specs.Owned.{dependents_in};
 ghost use Rattle.cdi_store.specs.declared.instance.Context.TheVariants.{Application};
 ghost use Rattle.cdi_contexts.specs.Contexts.{active_context, context_at, entry_in};
 ghost use Rattle.cdi_machine.specs.Destruction.{greatest_in, latest};
@@ -94,6 +95,14 @@ impl World {
         ensures { option_copied result ≡ instance_at self.now number }
     {
         instance_in(&self.store, number)
+    }
+
+    /// An instance has fewer dependents than there are numbers. A call does nothing: its contract is
+    /// the law.
+    pub fn law_few(&self, number: u32)
+        ensures { length (dependents_in (instance_at self.now number)) < 2 ^ 32 }
+    {
+        self.store.law_few(number);
     }
 
     /// The number of the next instance. There is none once 4,294,967,295 has been given out.

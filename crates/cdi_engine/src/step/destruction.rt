@@ -3,7 +3,8 @@ ghost use Rattle.std.specs.Prelude.{◌≡◌, length, slice_get, option_map, If
 ghost use Rattle.cdi_machine.specs.World.{instance_at};
 ghost use Rattle.cdi_machine.specs.Destruction.{only_ready};
 ghost use Rattle.cdi_engine.specs.Setting.{Narrows};
-ghost use Rattle.cdi_engine.specs.Asked.{dependents_in, HasSeveral};
+ghost use Rattle.cdi_store.specs.Owned.{dependents_in};
+ghost use Rattle.cdi_engine.specs.Asked.{HasSeveral};
 ghost use Rattle.cdi_engine.specs.Leads.{Leads};
 ghost use Rattle.cdi_engine.specs.Falls.{Falls};
 ghost use Rattle.cdi_engine.specs.Known.{KnownNext};

@@ -1,5 +1,5 @@
 use Rattle.std.proofs.Common.{refl}
-use Rattle.cdi_store.proofs.Kept.{still-kept}
+use Rattle.cdi_store.proofs.Kept.{same-kept, still-kept}
 use Rattle.cdi_store.proofs.Slots.{slot_of_live, at-kept, kept-changed}
 use Rattle.cdi_store.proofs.Owners.{no_reference}
 use Rattle.cdi_store.proofs.store.Store.refer.Goals as goal
@@ -25,3 +25,8 @@ returns-clause-ok c =
     let m = s.numbers.entries in
     let e = slot_of_live s.slots.slots m s.next c.args.key c.args.self.now c.self.view_is c.if-not-is_live.ensures in
     kept-changed _ s.slots c.refer_in.new.slots m c.args.key.number c.args.key.slot s.next c.args.self.now c.self.view_is c.self.invariant.sound e c.in_ok-refer_in.ensures.ok
+
+pub invariant_of-self : goal.invariant_of-self
+invariant_of-self c =
+    let s = c.self.inside in
+    same-kept s.slots c.refer_in.new.slots s.numbers.entries s.next c.in_err-refer_in.ensures.err c.self.invariant
