@@ -6,7 +6,10 @@
                                                all edits, here and in must-fail/, many in one check: each in a function of
                                                its own, and refused if a complaint stands at that function
   planted/planted.py run NAME.. | --since COMMIT | --all
-                                               the edits here one after the other, by rt must-fail in a copy of the repository
+                                               the edits of bodies here one after the other, by rt must-fail in a copy of the
+                                               repository
+
+An edit of a definition has a line 'only: LAW'. together tries it by a check of that function alone, which has to fail.
 
 together takes --jobs N in front of the names, and then tries so many crates at a time. Both take what `rt all check` kept in
 out/. The last line is 'N refused, M failed'; the status is 0 if M is 0.
@@ -62,6 +65,12 @@ def all_edits(crate):
     return [*rt.edits_of(crate)[0], *planted(crate.name)]
 
 
+def law_of(edit):
+    """Returns the law that an edit of a definition names, or nothing."""
+    found = re.search(r"^only: (\S+)$", read(edit), re.M)
+    return found[1] if found else ""
+
+
 # ---- fast
 
 
@@ -73,12 +82,18 @@ def fast(crates):
             failed += 1
     for crate in crates.values():
         for edit in all_edits(crate):
-            why = rt.read_edit(edit, crate.folder)[1] or repeated(seen, crate.name, edit)
+            why = rt.read_edit(edit, crate.folder)[1] or lawless(edit) or repeated(seen, crate.name, edit)
             if why:
                 print(f"{os.path.relpath(edit, TOP)}: {why}")
             count, failed = count + 1, failed + bool(why)
     print(f"{count} edits looked at, {failed} failed")
     return failed
+
+
+def lawless(edit):
+    """Returns what an edit of a definition lacks."""
+    turns = re.search(r"^file: (specs|proofs)/", read(edit), re.M)
+    return "it turns a definition and names no law in a line 'only: '" if turns and not law_of(edit) else None
 
 
 def repeated(seen, name, edit):
@@ -194,10 +209,27 @@ def in_groups(crate, edits, kept):
     return told, checks
 
 
+def by_law(crate, edit, kept):
+    """Returns whether a check of the law that the edit names fails with it, and what to say."""
+    label = f"planted {crate.name}/{os.path.basename(edit)}"
+    texts, why = rt.read_edit(edit, crate.folder)
+    if why:
+        return False, f"{label}: BAD EDIT: {why}"
+    ran = rt.checked(crate, texts, [*ONE, "--only", law_of(edit)], kept)
+    lines = ran.stdout.rstrip("\n").split("\n")
+    bad = next((it for it in lines if rt.unread(it, texts)), "")
+    if bad:
+        return False, f"{label}: BAD EDIT: the prover cannot read it: {bad[:200]}"
+    told = next((it for it in lines if re.match(r"(\./)?proofs/\S+: error: |note: src/.*it is not proved", it)), "")
+    if ran.returncode == 1 and told and lines[-1].startswith("only=1 proved=0"):
+        return True, f"{label}: refused by {law_of(edit)}: {told[:160]}"
+    return False, f"{label}: NOT REFUSED by {law_of(edit)}: {lines[-1][:160]}"
+
+
 def try_crate(crate):
     """Tries all edits of a crate, those alone that no check of many refuses. Returns how many were refused, how many not, and what to print."""
     edits = all_edits(crate)
-    good = [it for it in edits if not rt.read_edit(it, crate.folder)[1]]
+    good = [it for it in edits if not rt.read_edit(it, crate.folder)[1] and not law_of(it)]
     # (without an edit nothing may be complained of; what is built already was proved)
     if crate.build_rlib(ONE, anew=False):
         return 0, len(edits), [f"planted: {crate.name} is not proved"]
@@ -206,7 +238,7 @@ def try_crate(crate):
             shutil.copytree(f"{crate.folder}/out/incremental", kept, dirs_exist_ok=True)
         told, checks = in_groups(crate, good, kept)
         alone = [it for it in edits if it not in told]
-        tried = [rt.must_fail(crate, it, ONE, kept) for it in alone]
+        tried = [by_law(crate, it, kept) if law_of(it) else rt.must_fail(crate, it, ONE, kept) for it in alone]
     refused = len(told) + sum(well for well, _ in tried)
     said = [f"rt: {text}" for _, text in tried]
     said.append(f"planted: {crate.name}: {len(edits)} edits, {checks} checks of many, {len(alone)} of one")
@@ -239,13 +271,17 @@ def copy_without_edits(room):
     subprocess.run(["git", "init", "-q", room], check=True)
 
 
+def of_bodies(crate):
+    return [it for it in planted(crate.name) if not law_of(it)]
+
+
 def run_one(room, crate):
     """Returns how many of the crate's edits the kit's own way refuses, tried one after the other in a copy of the repository."""
     for dep in crate.below():
         if os.path.isdir(f"{dep.folder}/out/rlib"):
             shutil.copytree(f"{dep.folder}/out/rlib", f"{room}/crates/{dep.name}/out/rlib", dirs_exist_ok=True)
     os.makedirs(f"{room}/crates/{crate.name}/must-fail")
-    for edit in planted(crate.name):
+    for edit in of_bodies(crate):
         shutil.copy(edit, f"{room}/crates/{crate.name}/must-fail")
     words = ["rt", "must-fail", crate.name]
     ran = subprocess.run(words, cwd=room, stdin=subprocess.DEVNULL, stdout=subprocess.PIPE, text=True, errors="replace")
@@ -258,7 +294,7 @@ def run(crates):
     with tempfile.TemporaryDirectory(prefix="planted-") as room:
         copy_without_edits(room)
         for crate in crates:
-            edits = planted(crate.name)
+            edits = of_bodies(crate)
             well = run_one(room, crate) if edits else 0
             refused, failed = refused + well, failed + len(edits) - well
     print(f"{refused} refused, {failed} failed")

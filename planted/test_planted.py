@@ -32,6 +32,21 @@ SMALLER = "file: src/lib.rt\nold: if a < b { b } else { a }\nnew: if a < b { a }
 ONE = "file: src/lib.rt\nold:     0\nnew:     1\n"
 TOP_OF_ALL = "file: src/lib.rt\nold: if a < b { b } else { a }\nnew: if a < b { b } else if a > b { 255 } else { a }\n"
 NO_CODE = "file: src/lib.rt\nold: if a < b { b } else { a }\nnew: if a < b { c } else { a }\n"
+TWO = """use Rattle.std.specs.Prelude.{ℕ, ◌+◌}
+
+abbrev pub two : ℕ
+two = 2
+"""
+LAW = """
+ghost use Rattle.small.specs.Two.{two};
+
+/// Two is two.
+pub fn law_two()
+    ensures { two ≡ 2 }
+{}
+"""
+THREE = "file: specs/Two.antt\nold: two = 2\nnew: two = 3\n"
+SUM = "file: specs/Two.antt\nold: two = 2\nnew: two = 1 + 1\n"
 GONE = "file: src/lib.rt\nold: if a <= b { b } else { a }\nnew: a\n"
 
 
@@ -110,6 +125,26 @@ class Planted(unittest.TestCase):
         self.edit("smaller", SMALLER)
         self.edit("proved", TOP_OF_ALL)
         self.assertEqual(self.tried("run", "small")[:2], (1, "1 refused, 1 failed"))
+
+    def test_edits_of_a_definition(self):
+        os.makedirs(f"{self.top}/crates/small/specs")
+        self.write("crates/small/specs/Lib.antt", "pub mod Two\n")
+        self.write("crates/small/specs/Two.antt", TWO)
+        self.write("crates/small/src/lib.rt", CODE + LAW)
+        self.edit("three", "only: small::law_two\n" + THREE)
+        self.edit("one", ONE)
+        status, last, said = self.tried("together", "small")
+        self.assertEqual((status, last), (0, "2 refused, 0 failed"))
+        self.assertIn("small/three.edit: refused by small::law_two", said)
+        self.edit("sum", "only: small::law_two\n" + SUM)
+        self.edit("lawless", THREE)
+        status, last, said = self.tried("fast")
+        self.assertEqual((status, last), (1, "4 edits looked at, 1 failed"))
+        self.assertIn("planted/small/lawless.edit: it turns a definition", said)
+        os.remove(f"{self.top}/planted/small/lawless.edit")
+        status, last, said = self.tried("together", "small")
+        self.assertEqual((status, last), (1, "2 refused, 1 failed"))
+        self.assertIn("small/sum.edit: NOT REFUSED by small::law_two", said)
 
     def test_what_changed(self):
         subprocess.run(["git", "-C", self.top, "-c", "user.name=t", "-c", "user.email=t@t", "commit", "-qm", "a"], check=True)
