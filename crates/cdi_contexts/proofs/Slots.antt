@@ -146,7 +146,7 @@ pub nothing : {A B : Type 0} (f : A → B) (o : Option A) → option_map f o ≡
 nothing f None h = refl
 nothing f (Some x) h = absurd cc
 
-same_name : {D : Type 0} (m : Map (Kept D)) (slot : ℕ) (f : Kept D → Kept D) → ((k : Kept D) → (f k).name ≡ k.name) → outline (adjusted slot f m) ≡ outline m
+pub same_name : {D : Type 0} (m : Map (Kept D)) (slot : ℕ) (f : Kept D → Kept D) → ((k : Kept D) → (f k).name ≡ k.name) → outline (adjusted slot f m) ≡ outline m
 same_name [] slot f e = refl
 same_name (p ∷ more) slot f e = by (slot == p.0) (same_name more slot f e)
   where
@@ -229,11 +229,11 @@ apart-without (p ∷ more) slot h = by (slot == p.0) (apart-without more slot h.
     by false rest = (at-without more slot p.0 h.0, named-without more slot p.1 h.1, rest)
 
 module _ {D : Type 0} where
-  outline-push : (m : Map (Kept D)) (slot : ℕ) (k : Kept D) → outline (m ++ (slot, k) ∷ []) ≡ outline m ++ (slot, k.name) ∷ []
+  pub outline-push : (m : Map (Kept D)) (slot : ℕ) (k : Kept D) → outline (m ++ (slot, k) ∷ []) ≡ outline m ++ (slot, k.name) ∷ []
   outline-push [] slot k = refl
   outline-push (p ∷ more) slot k = ap (λ r. (p.0, p.1.name) ∷ r) (outline-push more slot k)
 
-  outline-without : (m : Map (Kept D)) (slot : ℕ) → outline (without slot m) ≡ without slot (outline m)
+  pub outline-without : (m : Map (Kept D)) (slot : ℕ) → outline (without slot m) ≡ without slot (outline m)
   outline-without [] slot = refl
   outline-without (p ∷ more) slot = by (slot == p.0) (outline-without more slot)
     where

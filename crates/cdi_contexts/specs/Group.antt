@@ -4,9 +4,11 @@ use Rattle.std.specs.Borrow.{Bor}
 use Rattle.slab.specs.Slab.{Slab, get}
 use Rattle.cdi_base.specs.Maps.{Map, at, adjusted, without}
 use Rattle.cdi_contexts.specs.Named.{named}
+use Rattle.cdi_contexts.specs.NameIndex.{slot_of}
 use Rattle.cdi_contexts.specs.Contexts.{Active, OpenRequest, OpenSession, fresh}
 use Rattle.cdi_contexts.specs.Standing.{Standing, first_open, request_at, session_at}
 use Rattle.cdi_contexts.specs.declared.group.Kept.{Kept}
+use Rattle.cdi_contexts.specs.declared.name_index.NameIndex.{NameIndex}
 
 module _ {D : Type 0} where
   -- a request or a session at its begin
@@ -51,6 +53,11 @@ module _ {D : Type 0} where
 abbrev pub AreApart : List (ℕ × List ℕ) → Type 0
 AreApart [] = Unit {0}
 AreApart (p ∷ more) = (at more p.0 ≡ None) × (named (λ q. q.1) more p.1 ≡ None) × AreApart more
+
+-- each name has the slot of what has it, if there is one
+abbrev pub IsIndexOf : List (ℕ × List ℕ) → NameIndex → Type 0
+IsIndexOf o index =
+    (name : List ℕ) → slot_of index name ≡ option_map (λ p. p.0) (named (λ q. q.1) o name)
 
 -- a slot that isn't taken is no one's
 abbrev pub IsFree : {X Y : Type 0} → Slab Y → Map X → Type 0

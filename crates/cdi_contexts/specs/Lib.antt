@@ -2,5 +2,6 @@ pub mod Named
 pub mod Contexts
 pub mod Refusals
 pub mod Standing
+pub mod NameIndex
 pub mod Group
 pub mod Places

@@ -12,6 +12,7 @@ ghost use Rattle.cdi_contexts.specs.Group.{shown, table_at, without_at, with_tab
 ghost use Rattle.cdi_contexts.specs.Group.{AreApart};
 
 use crate::context::{Held, Status};
+use crate::name_index::NameIndex;
 use crate::table::Table;
 use cdi_base::Text;
 use indexmap::IndexMap;
@@ -34,6 +35,7 @@ pub struct Kept<D> {
 pub struct Group<D> {
     taken: Slab<()>,
     kept: IndexMap<usize, Kept<D>>,
+    names: NameIndex,
 }
 
 impl<D> Model for Group<D> {
@@ -42,11 +44,12 @@ impl<D> Model for Group<D> {
 
     ghost Value = { List (ℕ × AnyKept D) };
 
-    ghost use Rattle.cdi_contexts.specs.Group.{outline, AreApart, IsFree};
+    ghost use Rattle.cdi_contexts.specs.Group.{outline, AreApart, IsFree, IsIndexOf};
 
     ghost view = { λ g. g.kept.entries };
 
-    ghost invariant = { λ g. IsFree g.taken g.kept.entries × AreApart (outline g.kept.entries) };
+    ghost invariant = { λ g. IsFree g.taken g.kept.entries × AreApart (outline g.kept.entries)
+        × IsIndexOf (outline g.kept.entries) g.names };
 }
 
 impl<D> Group<D> {
@@ -57,6 +60,7 @@ impl<D> Group<D> {
         Group {
             taken: Slab::new(alloc),
             kept: IndexMap::new(alloc),
+            names: NameIndex::new(alloc),
         }
     }
 
@@ -98,12 +102,8 @@ impl<D> Group<D> {
         ensures value { option_map shown result ≡ kept_named self.now name.now }
         ensures apart { AreApart (outline self.now) }
     {
-        for (slot, kept) in self.kept.iter() {
-            if kept.name.as_str() == name {
-                return Some((*slot, kept));
-            }
-        }
-        None
+        let slot = self.names.find(name)?;
+        Some((slot, self.kept.get(&slot)?))
     }
 
     /// The first that isn't being destroyed, with its slot.
@@ -128,8 +128,10 @@ impl<D> Group<D> {
         ensures free { IfOk result (λ slot. at self.old slot ≡ None) }
         ensures err { OnErr result (self.new ≡ self.old) }
     {
+        let name = kept.name.clone()?.into_string();
         self.kept.reserve(1)?;
         let slot = self.taken.insert(())?;
+        self.names.add(name, slot)?;
         self.kept.insert(slot, kept)?;
         Ok(slot)
     }
@@ -214,7 +216,9 @@ impl<D> Group<D> {
         ensures apart { AreApart (outline self.old) }
     {
         let _ = self.taken.try_remove(slot);
-        let _ = self.kept.shift_remove(&slot);
+        if let Some(kept) = self.kept.shift_remove(&slot) {
+            self.names.remove(kept.name.as_str());
+        }
     }
 
     /// As `remove`, if there is a slot.

@@ -4,6 +4,7 @@
 pub mod context;
 pub mod contexts;
 mod group;
+mod name_index;
 mod places;
 mod table;
 

@@ -105,6 +105,32 @@ fn begin_sessions(rt: &impl Abort, alloc: Global, contexts: &mut Contexts, count
     }
 }
 
+/// Ends so many sessions, each by its name.
+fn end_sessions(rt: &impl Abort, alloc: Global, contexts: &mut Contexts, count: u32) {
+    for number in 0..count {
+        let name = Text::new(name_of(rt, alloc, number));
+        let env = contexts.environment(&Context::Session(name));
+        contexts.step(Scope::SessionScoped, env);
+        contexts.step(Scope::SessionScoped, env);
+    }
+}
+
+/// Checks of each number from one to another whether a session of its name is there.
+fn check_sessions(
+    rt: &impl Abort,
+    alloc: Global,
+    contexts: &Contexts,
+    from: u32,
+    to: u32,
+    answer: bool,
+) {
+    for number in from..to {
+        let name = name_of(rt, alloc, number);
+        assert_eq!(rt; contexts.has_session(name.as_str()), answer);
+        assert!(rt; !contexts.has_request(name.as_str()));
+    }
+}
+
 #[test]
 fn at_most_256_requests(rt: HostRuntime) {
     let mut contexts = Contexts::new(rt.alloc());
@@ -125,6 +151,21 @@ fn at_most_256_requests(rt: HostRuntime) {
         contexts.end("n1").ok()
     );
     let _env = begun(&rt, &mut contexts, "one more", None);
+}
+
+#[test]
+fn finds_each_of_1024_sessions(rt: HostRuntime) {
+    let mut contexts = Contexts::new(rt.alloc());
+    begin_sessions(&rt, rt.alloc(), &mut contexts, 1_024);
+    check_sessions(&rt, rt.alloc(), &contexts, 0, 1_024, true);
+    end_sessions(&rt, rt.alloc(), &mut contexts, 512);
+    check_sessions(&rt, rt.alloc(), &contexts, 0, 512, false);
+    check_sessions(&rt, rt.alloc(), &contexts, 512, 1_024, true);
+    begin_sessions(&rt, rt.alloc(), &mut contexts, 512);
+    check_sessions(&rt, rt.alloc(), &contexts, 0, 1_024, true);
+    let oldest = contexts.oldest(Scope::SessionScoped);
+    let first = contexts.environment(&Context::Session(Text::new(name_of(&rt, rt.alloc(), 512))));
+    assert_eq!(rt; oldest, Some(first));
 }
 
 #[test]
