@@ -102,7 +102,7 @@ module _ (s : Setting) where
 
   pub call_leads : (type method : Name) (args : List Value) (w : World)
       → Leads s (tasks.Begin (jobs.Call type method args)) w (nexts.Within (tasks.Using type method args) frames.Using)
-        (after_change (Change.Stand no_environment) (after_change Change.Borrow w))
+      (after_change (Change.Stand no_environment) (after_change Change.Borrow w))
   call_leads type method args w = Comes.within 3 refl
 
   pub returning_leads : (c : CodeCompletion) (w : World)

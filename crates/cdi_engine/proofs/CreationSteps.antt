@@ -62,8 +62,8 @@ create_with b owner x =
 abbrev numbered : ℕ → Owner → Bean → Bool → ℕ → Prog Given
 numbered b owner bean x m =
     (give_number x m >>= λ n. note (entries.New n bean.place)
-        >>= λ _. alter (Change.Make (components.Bean b) owner (first_fields bean.kind))
-        >>= λ _. ret n)
+    >>= λ _. alter (Change.Make (components.Bean b) owner (first_fields bean.kind))
+    >>= λ _. ret n)
     >>= λ n. create_by n (make n bean bean.kind)
 
 module _ (t : Tables) where

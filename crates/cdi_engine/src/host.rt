@@ -1,11 +1,11 @@
 //! What the engine works upon: the tables of a deployment, a driver, and a world.
+use crate::task::Running;
 use cdi_base::{Act, Entry, Fields, Name, Scope, Value};
 use cdi_beans::bean::{Bean, Method, Resolution};
 use cdi_contexts::{Held, Status};
 use cdi_machine::Failure;
 use cdi_store::{Component, Instance, Owner};
 use cdi_world::Invocation;
-use crate::task::Running;
 use std::alloc::{AllocError, Global};
 
 /// All that the engine asks and changes. Each change of the world is one of the machine's definition. Asking the driver

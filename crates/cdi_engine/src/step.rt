@@ -99,14 +99,20 @@ fn go_on<H: Host>(host: &H, frame: Frame, given: Given) -> Task
         Frame::Dismissing => Task::Start(Call::Dismiss),
         Frame::Clearing => Task::Start(Call::Clear),
         Frame::Reaching { method, args } => match given {
-            Given::Number(number) => Task::Invoking { number, method, args },
+            Given::Number(number) => Task::Invoking {
+                number,
+                method,
+                args,
+            },
             _ => Task::Missing,
         },
         Frame::Borrowing { method, args } => match given {
-            Given::Number(number) => Task::Lent { number, method, args },
-            _ => Task::Over(Outcome::Ends(Completion::Threw(
-                BuiltIn::NullPointerException.name(),
-            ))),
+            Given::Number(number) => Task::Lent {
+                number,
+                method,
+                args,
+            },
+            _ => Task::Over(Outcome::Ends(Completion::Threw(BuiltIn::NullPointerException.name()))),
         },
         Frame::Exiting => Task::Exiting(Completion::Gave(given)),
         Frame::Using => Task::Returning(Completion::Gave(given)),
@@ -158,30 +164,49 @@ pub(crate) fn step<H: Host>(host: &mut H, task: Task) -> Result<Next, Failure>
     match task {
         Task::Start(call) => start(host, call),
         Task::Begin(job) => Ok(commands::begin(host, job)?),
-        Task::Made { number, bean, owner } => Ok(creation::made(host, number, bean, owner)?),
+        Task::Made {
+            number,
+            bean,
+            owner,
+        } => Ok(creation::made(host, number, bean, owner)?),
         Task::Readied { number } => Ok(creation::readied(host, number)?),
         Task::Entered(running) => Ok(bodies::entered(host, running)?),
         Task::Stopped(completion) => Ok(bodies::stopped(host, completion)),
         Task::Acted(running, act) => Ok(bodies::acted(host, running, act)?),
         Task::Answered(running, completion) => Ok(bodies::answer(host, running, completion)?),
         Task::Reached(given) => Ok(invocations::reached(host, given)),
-        Task::Ended { number, component, value } => {
-            Ok(destruction::ended(host, number, component, value))
-        }
-        Task::Leaving { number, component, value } => {
-            Ok(destruction::leaving(host, number, component, value)?)
-        }
+        Task::Ended {
+            number,
+            component,
+            value,
+        } => { Ok(destruction::ended(host, number, component, value)) }
+        Task::Leaving {
+            number,
+            component,
+            value,
+        } => { Ok(destruction::leaving(host, number, component, value)?) }
         Task::CleanedUp { number } => Ok(destruction::cleaned_up(host, number)),
-        Task::Released { number } => Ok(Next::Writes(Entry::Gone { number }, Task::Removed { number })),
+        Task::Released { number } => Ok(Next::Writes(
+            Entry::Gone { number },
+            Task::Removed { number },
+        )),
         Task::Removed { number } => Ok(destruction::removed(host, number)),
         Task::Picked { number, dependent } => Ok(destruction::free_one(number, dependent)),
-        Task::Using { bean_type, method, args } => {
-            Ok(obtaining::using(host, bean_type, method, args))
-        }
-        Task::Lent { number, method, args } => Ok(obtaining::lent(host, number, method, args)?),
-        Task::Invoking { number, method, args } => {
-            Ok(invocations::invoke(host, number, method, args)?)
-        }
+        Task::Using {
+            bean_type,
+            method,
+            args,
+        } => { Ok(obtaining::using(host, bean_type, method, args)) }
+        Task::Lent {
+            number,
+            method,
+            args,
+        } => Ok(obtaining::lent(host, number, method, args)?),
+        Task::Invoking {
+            number,
+            method,
+            args,
+        } => { Ok(invocations::invoke(host, number, method, args)?) }
         Task::Exiting(completion) => Ok(invocations::exiting(host, completion)),
         Task::Returning(completion) => Ok(commands::returning(completion)),
         Task::Returned(completion) => Ok(commands::returned(host, completion)),

@@ -44,14 +44,9 @@ pub struct Running {
 #[derive(Drop)]
 pub enum Call {
     /// Obtains the contextual instance of a bean with a normal scope.
-    Obtain {
-        bean: u32,
-    },
+    Obtain { bean: u32 },
     /// Creates an instance of a bean for an owner.
-    Create {
-        bean: u32,
-        owner: Owner,
-    },
+    Create { bean: u32, owner: Owner },
     /// Runs what stands at the end of the innermost invocation's chain.
     Rest,
     /// Runs a body from its first act to its last.
@@ -59,13 +54,9 @@ pub enum Call {
     /// Runs a body from its next act on.
     Acts(Running),
     /// Destroys an instance.
-    Destroy {
-        number: u32,
-    },
+    Destroy { number: u32 },
     /// Destroys the dependents of an instance.
-    Release {
-        number: u32,
-    },
+    Release { number: u32 },
     /// Fires an event of the container itself, which nothing observes.
     Fire(ContainerEvent),
     /// Destroys the innermost temporaries.
@@ -207,39 +198,25 @@ pub enum Task {
 #[derive(Drop)]
 pub enum Frame {
     /// The end of a chain waits for its body.
-    AtEnd {
-        role: InterceptorMethod,
-    },
+    AtEnd { role: InterceptorMethod },
     /// A body waits for the end of its acts.
     Stopping,
     /// A body waits for what it asked for.
     Answering(Running),
     /// A destruction waits for its callbacks, whatever they throw.
-    CleaningUp {
-        number: u32,
-    },
+    CleaningUp { number: u32 },
     /// A destruction waits for the dependents.
-    Releasing {
-        number: u32,
-    },
+    Releasing { number: u32 },
     /// The dependents that are left wait for the destruction of one.
-    Freeing {
-        number: u32,
-    },
+    Freeing { number: u32 },
     /// The temporaries that are left wait for the destruction of one.
     Dismissing,
     /// What is left in the application context waits for the destruction of one.
     Clearing,
     /// A command waits for the contextual instance.
-    Reaching {
-        method: Name,
-        args: Seq<Value>,
-    },
+    Reaching { method: Name, args: Seq<Value> },
     /// A command waits for an instance of its own.
-    Borrowing {
-        method: Name,
-        args: Seq<Value>,
-    },
+    Borrowing { method: Name, args: Seq<Value> },
     /// An invocation waits for its chain.
     Exiting,
     /// A command waits for its use of the bean.

@@ -17,9 +17,7 @@ use crate::host::Host;
 use crate::step::invocations::method_of;
 use crate::step::missing;
 use crate::task::{Call, Completion, Frame, Given, Next, Outcome, Running, Task};
-use cdi_base::{
-    Act, Answer, BuiltIn, Cause, Entry, Name, Seq, Text, Value,
-};
+use cdi_base::{Act, Answer, BuiltIn, Cause, Entry, Name, Seq, Text, Value};
 use cdi_bodies::View;
 use cdi_machine::Failure;
 use std::alloc::AllocError;

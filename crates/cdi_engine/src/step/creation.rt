@@ -32,7 +32,14 @@ pub(super) fn create<H: Host>(host: &H, bean: u32, owner: Owner) -> Next
         number,
         bean: Place::Class(plan.class),
     };
-    Next::Writes(entry, Task::Made { number, bean, owner })
+    Next::Writes(
+        entry,
+        Task::Made {
+            number,
+            bean,
+            owner,
+        },
+    )
 }
 
 /// The fields of a new instance of a bean, none if there is no such bean.

@@ -53,12 +53,7 @@ fn ready_instance<H: Host>(host: &H, number: u32) -> Option<&Instance>
 
 /// Takes the instance from what has it.
 #[tactic(auto, using(crate::proofs::DestructionSteps::leads))]
-pub(super) fn ended<H: Host>(
-    host: &mut H,
-    number: u32,
-    component: Component,
-    value: Value,
-) -> Next
+pub(super) fn ended<H: Host>(host: &mut H, number: u32, component: Component, value: Value) -> Next
     ensures leads { Leads (H.setting host.old) (Task.Ended number component value)
         (H.world host.old) result (H.world host.new) }
     ensures falls { Falls (Task.Ended number component value)

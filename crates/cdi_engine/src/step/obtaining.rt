@@ -70,7 +70,10 @@ pub(super) fn using<H: Host>(host: &H, bean_type: Name, method: Name, args: Seq<
         }
         Scope::Dependent => {
             let owner = Owner::Borrower;
-            Next::Needs(Call::Create { bean, owner }, Frame::Borrowing { method, args })
+            Next::Needs(
+                Call::Create { bean, owner },
+                Frame::Borrowing { method, args },
+            )
         }
     }
 }

@@ -1,0 +1,263 @@
+//! What a container works with at run time.
+ghost use Rattle.std.specs.Prelude.{◌≡◌};
+ghost use Rattle.cdi_beans.specs.Beans.{KnowsEach};
+ghost use Rattle.cdi_machine.specs.World.{before_boot, at_begin};
+ghost use Rattle.cdi_presence.specs.Missing.{GivesServed};
+ghost use Rattle.cdi_runtime.specs.Standing as spec;
+
+use cdi_base::{Act, Entry, Fields, Limits, Name, Scope, Seq, Value};
+use cdi_beans::bean::{Bean, Code, Method, Resolution};
+use cdi_beans::tables::Tables;
+use cdi_contexts::{Held, Status};
+use cdi_engine::Host;
+use cdi_engine::task::Running;
+use cdi_machine::{Driver, Failure};
+use cdi_store::{Component, Instance, Owner};
+use cdi_world::{Invocation, World};
+use std::alloc::{AllocError, Global};
+use std::marker::Model;
+
+/// The tables of an accepted deployment, what drives its bodies and picks, and the world of its container.
+#[derive(Drop)]
+pub struct Runtime<D: Driver> {
+    alloc: Global,
+    tables: Tables,
+    /// The classes of the deployment: with the built-in ones, all types.
+    classes: Seq<Name>,
+    driver: D,
+    world: World,
+}
+
+impl<D: Driver> Model for Runtime<D> {
+    ghost use Rattle.cdi_runtime.specs.Standing.{Standing, IsWorking};
+
+    ghost Value = { Standing D };
+
+    ghost view = { λ r. record { tables = r.tables; classes = r.classes; driver = r.driver; world = r.world } };
+
+    ghost invariant = { λ r. IsWorking (D.knows r.driver) (D.legal r.driver) r.tables r.world };
+}
+
+impl<D: Driver> Runtime<D> {
+    /// A deployment that nothing has been done with. The driver has to have a body for each method of the tables, and
+    /// these have to give only acts that are served.
+    pub fn new(
+        alloc: Global,
+        tables: Tables,
+        classes: Seq<Name>,
+        driver: D,
+        limits: Limits,
+    ) -> Runtime<D>
+        requires knows { KnowsEach (D.knows driver) tables.beans }
+        requires serves { GivesServed tables (D.legal driver) }
+        ensures { result ≡ record {
+          tables = tables;
+          classes = classes;
+          driver = driver;
+          world = before_boot limits.ticks limits.depth;
+        } }
+    {
+        Runtime {
+            alloc,
+            tables,
+            classes,
+            driver,
+            world: World::new(alloc, limits),
+        }
+    }
+
+    /// The tables of the deployment.
+    pub fn tables(&self) -> &Tables
+        ensures { result.now ≡ self.now.tables }
+    {
+        &self.tables
+    }
+
+    /// The classes of the deployment.
+    pub fn classes(&self) -> &Seq<Name>
+        ensures { result.now ≡ self.now.classes }
+    {
+        &self.classes
+    }
+
+    /// What the container holds.
+    pub fn world(&self) -> &World
+        ensures { result.now ≡ self.now.world }
+    {
+        &self.world
+    }
+
+    /// A command begins: it has no entry yet, and runs in no request and no session.
+    pub fn begin(&mut self)
+        ensures { self.new ≡ record self.old { world = at_begin self.old.world } }
+    {
+        self.world.begin();
+    }
+}
+
+impl<D: Driver> Host for Runtime<D> {
+    ghost use Rattle.cdi_beans.specs.Served.{machine_tables};
+    ghost use Rattle.cdi_runtime.specs.Standing.{IsMethodBody};
+
+    ghost setting = { λ r. record {
+      tables = machine_tables r.classes r.tables;
+      legal = D.legal r.driver;
+      knows = IsMethodBody r.tables;
+    } };
+
+    ghost world = { λ r. r.world };
+
+    fn alloc(&self) -> Global {
+        self.alloc
+    }
+
+    fn bean(&self, bean: u32) -> Option<&Bean> {
+        self.tables.bean(bean)
+    }
+
+    fn method(&self, bean: u32, name: Name) -> Option<&Method> {
+        self.tables.method(&Code::Method { bean, method: name })
+    }
+
+    fn resolve(&self, bean_type: Name) -> Resolution {
+        self.tables.resolve(bean_type)
+    }
+
+    fn text(&self, exception: Name) -> Option<&str> {
+        self.tables.names.get(exception)
+    }
+
+    fn law_unobserved(&self) {}
+
+    fn act(&mut self, running: &Running) -> Result<Act, Failure> {
+        let entries = self.world.entries();
+        match self.world.instance(running.instance) {
+            Some(instance) => {
+                self.driver
+                    .act(running.body, entries, &instance.fields, &running.view)
+            }
+            None => unreachable!(),
+        }
+    }
+
+    fn pick(&mut self, count: u32) -> Result<u32, Failure> {
+        self.driver.pick(count, self.world.entries())
+    }
+
+    fn has_room(&self) -> bool {
+        self.world.has_room()
+    }
+
+    fn may_go_deeper(&self) -> bool {
+        self.world.levels() < self.world.depth() as usize
+    }
+
+    fn next_number(&self) -> Option<u32> {
+        self.world.next_number()
+    }
+
+    fn instance(&self, number: u32) -> Option<&Instance> {
+        self.world.instance(number)
+    }
+
+    fn law_few(&self, number: u32) {
+        self.world.law_few(number);
+    }
+
+    fn status(&self, scope: Scope) -> Option<Status> {
+        self.world.status(scope)
+    }
+
+    fn held(&self, scope: Scope, bean: u32) -> Option<Held> {
+        self.world.held(scope, bean)
+    }
+
+    fn last_in_application(&self) -> Option<u32> {
+        self.world.last_in_application()
+    }
+
+    fn invocation(&self) -> Option<&Invocation> {
+        self.world.invocation()
+    }
+
+    fn latest_temporary(&self) -> Option<Option<u32>> {
+        self.world.latest_temporary()
+    }
+
+    fn law_alone(&self) {
+        self.world.law_alone();
+    }
+
+    fn write(&mut self, entry: Entry) -> Result<(), AllocError> {
+        self.world.write(entry)
+    }
+
+    fn make(
+        &mut self,
+        component: Component,
+        owner: Owner,
+        fields: Fields,
+    ) -> Result<(), AllocError> {
+        self.world.make(component, owner, fields)
+    }
+
+    fn settle(&mut self, number: u32) -> Result<(), AllocError> {
+        self.world.settle(number)
+    }
+
+    fn leave(&mut self, number: u32) {
+        self.world.leave(number);
+    }
+
+    fn remove(&mut self, number: u32) {
+        self.world.remove(number);
+    }
+
+    fn assign(&mut self, number: u32, field: Name, value: Value) {
+        self.world.assign(number, field, value);
+    }
+
+    fn finish_application(&mut self) {
+        self.world.finish_application();
+    }
+
+    fn close_application(&mut self) {
+        self.world.close_application();
+    }
+
+    fn stand_alone(&mut self) {
+        self.world.stand_alone();
+    }
+
+    fn enter(&mut self, invocation: Invocation) -> Result<(), AllocError> {
+        self.world.enter(invocation)
+    }
+
+    fn reach(&mut self) {
+        self.world.reach();
+    }
+
+    fn exit(&mut self) {
+        self.world.exit();
+    }
+
+    fn start(&mut self, number: u32) -> Result<(), AllocError> {
+        self.world.start(number)
+    }
+
+    fn stop(&mut self) {
+        self.world.stop();
+    }
+
+    fn borrow(&mut self) -> Result<(), AllocError> {
+        self.world.borrow()
+    }
+
+    fn give_back(&mut self) {
+        self.world.give_back();
+    }
+
+    fn bring_down(&mut self) {
+        self.world.bring_down();
+    }
+}
