@@ -18,14 +18,15 @@ use Rattle.cdi_store.specs.Live.{Instances, newborn, with_newborn, with_field, i
 use Rattle.cdi_store.proofs.Numbers.{equal_or_not}
 use Rattle.cdi_contexts.specs.declared.context.Held.{Held}
 use Rattle.cdi_contexts.specs.declared.context.Held.TheVariants.{Making, Is}
-use Rattle.cdi_contexts.specs.Contexts.{Active, active_with, active_without, ending_active}
+use Rattle.cdi_contexts.specs.Contexts.{Active, Contexts, active_with, active_without, ending_active}
 use Rattle.cdi_machine.specs.Words.{Name, Fields}
 use Rattle.cdi_machine.specs.World.{World, Change, after_change, instance_at, for_instance, with_owned, without_owned, with_instances, with_entry, on_top, below}
 use Rattle.cdi_beans.specs.declared.bean.Bean.{Bean}
 use Rattle.cdi_beans.specs.declared.tables.Tables.{Tables}
 use Rattle.cdi_beans.specs.Beans.{bean_of, first_fields}
-use Rattle.cdi_presence.proofs.Maps.{at_changed, at_other, found_before, at_gone, at_left, at_added, at_before, all_put, all_left, all_weaker, all_last}
-use Rattle.cdi_presence.proofs.Whole.{IsServedOwner, IsWhole, Stands, HeldBy, AllHeld, IsBorrowed, AllBorrowed, AllWhole, Good, Keeps, KeepsBut, stands_but, all_held_then, all_borrowed_then, After, Leaves}
+use Rattle.cdi_presence.specs.Left.{HasIt}
+use Rattle.cdi_presence.proofs.Maps.{at_changed, at_other, found_before, at_gone, at_left, at_added, at_before, all_put, all_left, at_put, at_put_other, all_weaker, all_last}
+use Rattle.cdi_presence.proofs.Whole.{IsServedOwner, IsWhole, Stands, HeldBy, AllHeld, IsBorrowed, AllBorrowed, AllWhole, Whole, Good, Keeps, KeepsBut, stands_but, all_held_then, all_borrowed_then, After, IsIn, IsAmong, IsPlaced, AllPlaced, placed_map, WasSo, Settles, SettlesBut}
 
 -- two numbers are equal or not
 abbrev Tested : ℕ → ℕ → Type 0
@@ -182,6 +183,121 @@ pub map_length : {X Y : Type 0} (f : X → Y) (xs : List X) → length (map f xs
 map_length f [] = refl
 map_length f (x ∷ xs) = let h = map_length f xs in omega arith
 
+-- ---- where what is ready stands
+
+-- the context is there and has nothing for the bean
+abbrev pub IsFree : Option Active → ℕ → Type 0
+IsFree None bean = ⊥
+IsFree (Some a) bean = at a.holds bean ≡ None
+
+abbrev with_both : ℕ → ℕ → Option Active → Option Active
+with_both bean n a = option_map (active_with bean (Is n)) (option_map (active_with bean Making) a)
+
+has_new : (a : Option Active) (bean n : ℕ) → IsFree a bean → HasIt (with_both bean n a) (components.Bean bean) n
+has_new None bean n h = absurd h
+has_new (Some a) bean n h = at_put _ bean (Is n)
+
+has_old : (a : Option Active) (bean n : ℕ) (component : Component) (m : ℕ) → IsFree a bean → HasIt a component m → HasIt (with_both bean n a) component m
+has_old None bean n component m h q = absurd h
+has_old (Some a) bean n (components.Interceptor i) m h q = absurd q
+has_old (Some a) bean n (components.Bean other) m h q = at_put_other _ bean other (Is n) apart ∙ (at_put_other a.holds bean other Making apart ∙ q)
+  where
+    apart : other ≢ bean
+    apart e = let t : at a.holds bean ≡ Some (Is m) = subst (λ b. at a.holds b ≡ Some (Is m)) e q in absurd (cc)
+
+-- another instance has another bean there
+has_left : (a : Option Active) (bean n : ℕ) (component : Component) (m : ℕ) → m ≢ n → HasIt a (components.Bean bean) n → HasIt a component m → HasIt (option_map (active_without bean) a) component m
+has_left None bean n component m d h q = absurd h
+has_left (Some a) bean n (components.Interceptor i) m d h q = absurd q
+has_left (Some a) bean n (components.Bean other) m d h q = at_left a.holds bean other apart ∙ q
+  where
+    apart : other ≢ bean
+    apart e =
+        let t : at a.holds bean ≡ Some (Is m) = subst (λ b. at a.holds b ≡ Some (Is m)) e q in
+        let s : Is m ≡ Is n = cc in
+        d cc
+
+has_ending : (a : Option Active) (component : Component) (m : ℕ) → HasIt a component m → HasIt (option_map ending_active a) component m
+has_ending None component m h = h
+has_ending (Some a) (components.Bean b) m h = h
+has_ending (Some a) (components.Interceptor i) m h = h
+
+-- nothing is held
+abbrev pub NoneHeld : Option Active → Type 0
+NoneHeld a = (component : Component) (m : ℕ) → HasIt a component m → ⊥
+
+in_last : (n : ℕ) (ns : List ℕ) → IsIn n (ns ++ n ∷ [])
+in_last n [] = inl refl
+in_last n (m ∷ ns) = inr (in_last n ns)
+
+in_front : (m n : ℕ) (ns : List ℕ) → IsIn m ns → IsIn m (ns ++ n ∷ [])
+in_front m n [] h = absurd h
+in_front m n (k ∷ ns) (inl e) = inl e
+in_front m n (k ∷ ns) (inr h) = inr (in_front m n ns h)
+
+abbrev pub HasTop : List (List ℕ) → Type 0
+HasTop [] = ⊥
+HasTop (ns ∷ more) = Unit {0}
+
+among_new : (n : ℕ) (temporaries : List (List ℕ)) → HasTop temporaries → IsAmong n (on_top (λ ns. ns ++ n ∷ []) temporaries)
+among_new n [] h = absurd h
+among_new n (ns ∷ more) h = inl (in_last n ns)
+
+among_old : (m n : ℕ) (temporaries : List (List ℕ)) → IsAmong m temporaries → IsAmong m (on_top (λ ns. ns ++ n ∷ []) temporaries)
+among_old m n [] h = h
+among_old m n (ns ∷ more) (inl h) = inl (in_front m n ns h)
+among_old m n (ns ∷ more) (inr h) = inr h
+
+in_others : (m n : ℕ) (ns : List ℕ) → m ≢ n → IsIn m ns → IsIn m (all_but n ns)
+in_others m n [] d h = h
+in_others m n (k ∷ ns) d h = elim (equal_or_not k n) [
+  | inl s ↦ rw s.0 (elim h [ inl e ↦ absurd (d (sym e ∙ s.1)) | inr q ↦ in_others m n ns d q ])
+  | inr s ↦ rw s.0 (elim h [ inl e ↦ inl e | inr q ↦ inr (in_others m n ns d q) ])
+]
+
+among_others : (m n : ℕ) (temporaries : List (List ℕ)) → m ≢ n → IsAmong m temporaries → IsAmong m (map (all_but n) temporaries)
+among_others m n [] d h = h
+among_others m n (ns ∷ more) d (inl h) = inl (in_others m n ns d h)
+among_others m n (ns ∷ more) d (inr h) = inr (among_others m n more d h)
+
+-- the innermost list has none
+abbrev pub TopEmpty : List (List ℕ) → Type 0
+TopEmpty [] = Unit {0}
+TopEmpty ([] ∷ more) = Unit {0}
+TopEmpty ((n ∷ ns) ∷ more) = ⊥
+
+among_below : (m : ℕ) (temporaries : List (List ℕ)) → TopEmpty temporaries → IsAmong m temporaries → IsAmong m (below temporaries)
+among_below m [] t h = h
+among_below m ([] ∷ more) t (inl h) = absurd h
+among_below m ([] ∷ more) t (inr h) = h
+among_below m ((n ∷ ns) ∷ more) t h = absurd t
+
+-- ---- what is being made or destroyed
+
+field_settles : (instances : Instances) (k : ℕ) (field : Name) (v : Value) → Settles instances (with_field k field v instances)
+field_settles instances k field v = record { begun = λ n y e. (let b = found_before instances k n _ y e in inr (b.0, b.1, by y b.0 b.2)) }
+  where
+    by : (y x : Instance) → (y ≡ record x { fields = set x.fields field v }) ⊎ (y ≡ x) → x.phase ≡ y.phase
+    by y x (inl e) = ap (λ (z : Instance). z.phase) (sym e)
+    by y x (inr e) = ap (λ (z : Instance). z.phase) (sym e)
+
+field_placed : {instances : Instances} {a : Option Active} {temporaries : List (List ℕ)} (k : ℕ) (field : Name) (v : Value) → AllPlaced instances a temporaries → AllPlaced (with_field k field v instances) a temporaries
+field_placed {instances} {a} {temporaries} k field v h = record { placed = λ n y e r. (let b = found_before instances k n _ y e in by n y b.0 b.1 b.2 r) }
+  where
+    by : (n : ℕ) (y x : Instance) → at instances n ≡ Some x → (y ≡ record x { fields = set x.fields field v }) ⊎ (y ≡ x) → y.phase ≡ phases.Ready → IsPlaced a temporaries n y.component y.owner
+    by n y x e (inl q) r = subst (λ (z : Instance). IsPlaced a temporaries n z.component z.owner) (sym q) (h.placed n x e (subst (λ (z : Instance). z.phase ≡ phases.Ready) q r))
+    by n y x e (inr q) r = subst (λ (z : Instance). IsPlaced a temporaries n z.component z.owner) (sym q) (h.placed n x e (subst (λ (z : Instance). z.phase ≡ phases.Ready) q r))
+
+phase_settles : (instances : Instances) (k : ℕ) (p : Phase) → SettlesBut k instances (in_phase p k instances)
+phase_settles instances k p = record { begun = λ n y d e. inr (y, sym (at_other instances k n _ d) ∙ e, refl) }
+
+pub gone_settles : {k : ℕ} {before after : Instances} → SettlesBut k before after → Settles before (without k after)
+gone_settles {k} {before} {after} f = record { begun = λ n y e. by n y e (equal_or_not n k) }
+  where
+    by : (n : ℕ) (y : Instance) → at (without k after) n ≡ Some y → Tested n k → (y.phase ≡ phases.Ready) ⊎ WasSo before n y.phase
+    by n y e (inl s) = let z : at (without k after) n ≡ None = subst (λ i. at (without i after) n ≡ None) s.1 (at_gone after n) in absurd (cc)
+    by n y e (inr s) = f.begun n y s.1 (sym (at_left after k n s.1) ∙ e)
+
 -- ---- changes of the world
 
 no_dependent : (n : ℕ) (owner : Owner) (live : Instances) → IsServedOwner owner → with_dependent n owner live ≡ live
@@ -260,39 +376,66 @@ module _ (tables : Tables) (w : World) (bean : ℕ) (plan : Bean) (known : bean_
       other : (n : ℕ) (o : Instance) → at w.instances n ≡ Some o → n ≢ w.next
       other n o e d = let l = g.live.below n o e in omega arith
 
+  old_there : (owner : Owner) (m : ℕ) (y : Instance) → m ≢ w.next → at (with_made bean owner plan w.next w.instances) m ≡ Some y → at w.instances m ≡ Some y
+  old_there owner m y d e = sym (at_other (with_new bean owner plan w.next w.instances) w.next m _ d ∙ at_before w.instances w.next m _ d) ∙ e
+
+  made_settles : (owner : Owner) → Settles w.instances (with_made bean owner plan w.next w.instances)
+  made_settles owner = record { begun = λ m y e. by m y e (equal_or_not m w.next) }
+    where
+      by : (m : ℕ) (y : Instance) → at (with_made bean owner plan w.next w.instances) m ≡ Some y → Tested m w.next → (y.phase ≡ phases.Ready) ⊎ WasSo w.instances m y.phase
+      by m y e (inl s) = inl (same_phase m y e (made_stands owner) (sym s.1))
+      by m y e (inr s) = inr (y, old_there owner m y s.1 e, refl)
+
+  -- what is ready stands where it stood, and the new one where its owner says
+  made_placed : (owner : Owner) (a : Option Active) (temporaries : List (List ℕ)) → IsPlaced a temporaries w.next (components.Bean bean) owner
+      → ((m : ℕ) (component : Component) (other : Owner) → IsPlaced w.contexts.application w.temporaries m component other → IsPlaced a temporaries m component other)
+      → AllPlaced (with_made bean owner plan w.next w.instances) a temporaries
+  made_placed owner a temporaries new old = record { placed = λ m y e r. by m y e r (equal_or_not m w.next) }
+    where
+      by : (m : ℕ) (y : Instance) → at (with_made bean owner plan w.next w.instances) m ≡ Some y → y.phase ≡ phases.Ready → Tested m w.next → IsPlaced a temporaries m y.component y.owner
+      by m y e r (inl s) =
+          subst (λ c. IsPlaced a temporaries m c y.owner) (sym (same_component m y e (made_stands owner) (sym s.1)))
+          (subst (λ x. IsPlaced a temporaries m (components.Bean bean) x) (sym (same_owner m y e (made_stands owner) (sym s.1)))
+          (subst (λ i. IsPlaced a temporaries i (components.Bean bean) owner) (sym s.1) new))
+      by m y e r (inr s) = old m y.component y.owner (g.placed.placed m y (old_there owner m y s.1 e) r)
+
   abbrev Makes : Owner → World → Type 0
   Makes owner u = After tables w u × Stands u.instances w.next (components.Bean bean) owner phases.Ready
 
   -- a new instance is ready, and its owner has it
-  pub made_shared : (e : Entry) → Makes (owners.Context Application) (after_change (Change.Settle w.next) (with_entry e (after_change (Change.Make (components.Bean bean) (owners.Context Application) (fields_of plan)) w)))
-  made_shared e =
+  pub made_shared : (e : Entry) → IsFree w.contexts.application bean → Makes (owners.Context Application) (after_change (Change.Settle w.next) (with_entry e (after_change (Change.Make (components.Bean bean) (owners.Context Application) (fields_of plan)) w)))
+  made_shared e free =
       subst (Makes (owners.Context Application)) (sym (settled_is (with_entry e (after_change (Change.Make (components.Bean bean) (owners.Context Application) (fields_of plan)) w)) w.next _ (first_there (owners.Context Application)) tt)) (
         record {
           good = record {
             live = made_whole (owners.Context Application) tt;
             held = put_held _ _ bean (Is w.next) (made_stands (owners.Context Application)) (put_held _ w.contexts.application bean Making tt (all_held_then Application w.contexts.application (made_keeps (owners.Context Application)) g.held));
             borrowed = all_borrowed_then w.temporaries (made_keeps (owners.Context Application)) g.borrowed;
+            placed = made_placed (owners.Context Application) _ w.temporaries (has_new w.contexts.application bean w.next free) (λ m c o q. placed_map w.contexts.application _ w.temporaries w.temporaries m c o (has_old w.contexts.application bean w.next c m free) (λ h. h) q);
             requests = g.requests;
             sessions = g.sessions;
           };
           keeps = made_keeps (owners.Context Application);
+          begun = made_settles (owners.Context Application);
           level = refl;
         },
         made_stands (owners.Context Application),
       )
 
-  pub made_borrowed : (e : Entry) → Makes owners.Borrower (after_change (Change.Settle w.next) (with_entry e (after_change (Change.Make (components.Bean bean) owners.Borrower (fields_of plan)) w)))
-  made_borrowed e =
+  pub made_borrowed : (e : Entry) → HasTop w.temporaries → Makes owners.Borrower (after_change (Change.Settle w.next) (with_entry e (after_change (Change.Make (components.Bean bean) owners.Borrower (fields_of plan)) w)))
+  made_borrowed e top =
       subst (Makes owners.Borrower) (sym (settled_is (with_entry e (after_change (Change.Make (components.Bean bean) owners.Borrower (fields_of plan)) w)) w.next _ (first_there owners.Borrower) tt)) (
         record {
           good = record {
             live = made_whole owners.Borrower tt;
             held = all_held_then Application w.contexts.application (made_keeps owners.Borrower) g.held;
             borrowed = top_borrowed _ w.next w.temporaries (bean, made_stands owners.Borrower) (all_borrowed_then w.temporaries (made_keeps owners.Borrower) g.borrowed);
+            placed = made_placed owners.Borrower w.contexts.application _ (among_new w.next w.temporaries top) (λ m c o q. placed_map w.contexts.application w.contexts.application w.temporaries _ m c o (λ h. h) (among_old m w.next w.temporaries) q);
             requests = g.requests;
             sessions = g.sessions;
           };
           keeps = made_keeps owners.Borrower;
+          begun = made_settles owners.Borrower;
           level = top_length _ w.temporaries;
         },
         made_stands owners.Borrower,
@@ -303,55 +446,78 @@ module _ (tables : Tables) (w : World) (bean : ℕ) (plan : Bean) (known : bean_
 abbrev pub IsLeaving : Instances → ℕ → Type 0
 IsLeaving instances n = (o : Instance) × (at instances n ≡ Some o) × (o.phase ≡ phases.Leaving)
 
-module _ (tables : Tables) (w : World) (n : ℕ) (o : Instance) (there : instance_at w n ≡ Some o) (g : Good tables w) where
-  leaving : Instances
-  leaving = in_phase phases.Leaving n w.instances
+-- one whose destruction begins is being destroyed, and all others are as they were
+pub record Begins (tables : Tables) (n : ℕ) (before : Instances) (levels : ℕ) (instances : Instances) (next : ℕ) (contexts : Contexts) (temporaries : List (List ℕ)) : Type 0 where
+  pub good : Whole tables instances next contexts temporaries
+  pub begun : SettlesBut n before instances
+  pub level : length temporaries ≡ levels
+  pub leaving : IsLeaving instances n
 
+module _ (tables : Tables) (w : World) (n : ℕ) (o : Instance) (there : instance_at w n ≡ Some o) (g : Good tables w) where
   abbrev Goes : World → Type 0
-  Goes u = Leaves tables w u × IsLeaving u.instances n
+  Goes u = Begins tables n w.instances (length w.temporaries) u.instances u.next u.contexts u.temporaries
 
   is_leaving : IsLeaving (in_phase phases.Leaving n w.instances) n
   is_leaving = (record o { phase = phases.Leaving }, at_changed w.instances n _ o there, refl)
 
-  goes_shared : (bean : ℕ) → o.component ≡ components.Bean bean → o.owner ≡ owners.Context Application → Goes (without_owned n (components.Bean bean) (owners.Context Application) (with_instances (in_phase phases.Leaving n) w))
-  goes_shared bean of owned = (
-    record {
-      good = record {
-        live = phase_whole n phases.Leaving g.live;
-        held = left_held w.instances _ w.contexts.application bean (λ other m d s. stands_but (phase_keeps w.instances n phases.Leaving) (λ e. d (let q = same_component n o there s e in let r : components.Bean bean ≡ components.Bean other = sym of ∙ q in cc)) s) g.held;
-        borrowed = other_borrowed w.instances _ w.temporaries (λ m b. (b.0, stands_but (phase_keeps w.instances n phases.Leaving) (λ e. let q = same_owner n o there b.1 e in let r : owners.Context Application ≡ owners.Borrower = sym owned ∙ q in absurd (cc)) b.1)) g.borrowed;
-        requests = g.requests;
-        sessions = g.sessions;
-      };
-      level = refl;
-    },
-    is_leaving,
-  )
+  -- the others stand where they stood
+  left_placed : (a : Option Active) (temporaries : List (List ℕ)) → ((m : ℕ) (component : Component) (owner : Owner) → m ≢ n → IsPlaced w.contexts.application w.temporaries m component owner → IsPlaced a temporaries m component owner)
+      → AllPlaced (in_phase phases.Leaving n w.instances) a temporaries
+  left_placed a temporaries f = record { placed = λ m y e r. by m y e r (equal_or_not m n) }
+    where
+      by : (m : ℕ) (y : Instance) → at (in_phase phases.Leaving n w.instances) m ≡ Some y → y.phase ≡ phases.Ready → Tested m n → IsPlaced a temporaries m y.component y.owner
+      by m y e r (inl s) =
+          let z : at (in_phase phases.Leaving n w.instances) m ≡ Some (record o { phase = phases.Leaving }) = subst (λ i. at (in_phase phases.Leaving n w.instances) i ≡ Some (record o { phase = phases.Leaving })) (sym s.1) (at_changed w.instances n _ o there) in
+          let q : y ≡ record o { phase = phases.Leaving } = cc in
+          let t : phases.Leaving ≡ phases.Ready = subst (λ (x : Instance). x.phase ≡ phases.Ready) q r in
+          absurd (cc)
+      by m y e r (inr s) = f m y.component y.owner s.1 (g.placed.placed m y (sym (at_other w.instances n m _ s.1) ∙ e) r)
+
+  goes_shared : (bean : ℕ) → o.component ≡ components.Bean bean → o.owner ≡ owners.Context Application → HasIt w.contexts.application (components.Bean bean) n
+      → Goes (without_owned n (components.Bean bean) (owners.Context Application) (with_instances (in_phase phases.Leaving n) w))
+  goes_shared bean of owned has_it = record {
+    good = record {
+      live = phase_whole n phases.Leaving g.live;
+      held = left_held w.instances _ w.contexts.application bean (λ other m d s. stands_but (phase_keeps w.instances n phases.Leaving) (λ e. d (let q = same_component n o there s e in let r : components.Bean bean ≡ components.Bean other = sym of ∙ q in cc)) s) g.held;
+      borrowed = other_borrowed w.instances _ w.temporaries (λ m b. (b.0, stands_but (phase_keeps w.instances n phases.Leaving) (λ e. let q = same_owner n o there b.1 e in let r : owners.Context Application ≡ owners.Borrower = sym owned ∙ q in absurd (cc)) b.1)) g.borrowed;
+      placed = left_placed _ w.temporaries (λ m c x d q. placed_map w.contexts.application _ w.temporaries w.temporaries m c x (has_left w.contexts.application bean n c m d has_it) (λ h. h) q);
+      requests = g.requests;
+      sessions = g.sessions;
+    };
+    begun = phase_settles w.instances n phases.Leaving;
+    level = refl;
+    leaving = is_leaving;
+  }
 
   goes_borrowed : (bean : ℕ) → o.owner ≡ owners.Borrower → Goes (without_owned n (components.Bean bean) owners.Borrower (with_instances (in_phase phases.Leaving n) w))
-  goes_borrowed bean owned = (
-    record {
-      good = record {
-        live = phase_whole n phases.Leaving g.live;
-        held = other_held w.instances _ w.contexts.application (λ other m s. stands_but (phase_keeps w.instances n phases.Leaving) (λ e. let q = same_owner n o there s e in let r : owners.Borrower ≡ owners.Context Application = sym owned ∙ q in absurd (cc)) s) g.held;
-        borrowed = all_but_all (IsBorrowed w.instances) (IsBorrowed (in_phase phases.Leaving n w.instances)) n w.temporaries (λ m d b. (b.0, stands_but (phase_keeps w.instances n phases.Leaving) d b.1)) g.borrowed;
-        requests = g.requests;
-        sessions = g.sessions;
-      };
-      level = map_length (all_but n) w.temporaries;
-    },
-    is_leaving,
-  )
+  goes_borrowed bean owned = record {
+    good = record {
+      live = phase_whole n phases.Leaving g.live;
+      held = other_held w.instances _ w.contexts.application (λ other m s. stands_but (phase_keeps w.instances n phases.Leaving) (λ e. let q = same_owner n o there s e in let r : owners.Borrower ≡ owners.Context Application = sym owned ∙ q in absurd (cc)) s) g.held;
+      borrowed = all_but_all (IsBorrowed w.instances) (IsBorrowed (in_phase phases.Leaving n w.instances)) n w.temporaries (λ m d b. (b.0, stands_but (phase_keeps w.instances n phases.Leaving) d b.1)) g.borrowed;
+      placed = left_placed w.contexts.application _ (λ m c x d q. placed_map w.contexts.application w.contexts.application w.temporaries _ m c x (λ h. h) (among_others m n w.temporaries d) q);
+      requests = g.requests;
+      sessions = g.sessions;
+    };
+    begun = phase_settles w.instances n phases.Leaving;
+    level = map_length (all_but n) w.temporaries;
+    leaving = is_leaving;
+  }
 
   -- its destruction begins, and nothing has it any more
-  pub goes : Goes (after_change (Change.Leave n) w)
-  goes =
+  pub goes : o.phase ≡ phases.Ready → Goes (after_change (Change.Leave n) w)
+  goes ready =
       let h = g.live.whole n o there in
       subst Goes (sym (left_is w n o there h.owner)) (
       subst (λ c. Goes (without_owned n c o.owner (with_instances (in_phase phases.Leaving n) w))) (sym h.of) (by h.bean h.of o.owner refl h.owner))
     where
+      has_it : (bean : ℕ) → o.component ≡ components.Bean bean → o.owner ≡ owners.Context Application → HasIt w.contexts.application (components.Bean bean) n
+      has_it bean of owned =
+          subst (λ c. HasIt w.contexts.application c n) of
+          (subst (λ x. IsPlaced w.contexts.application w.temporaries n o.component x) owned (g.placed.placed n o there ready))
+
       by : (bean : ℕ) → o.component ≡ components.Bean bean → (owner : Owner) → o.owner ≡ owner → IsServedOwner owner → Goes (without_owned n (components.Bean bean) owner (with_instances (in_phase phases.Leaving n) w))
-      by bean of (owners.Context Application) e q = goes_shared bean of e
+      by bean of (owners.Context Application) e q = goes_shared bean of e (has_it bean of e)
       by bean of (owners.Context (Request name)) e q = absurd q
       by bean of (owners.Context (Session name)) e q = absurd q
       by bean of (owners.Instance m) e q = absurd q
@@ -360,17 +526,22 @@ module _ (tables : Tables) (w : World) (n : ℕ) (o : Instance) (there : instanc
   not_ready : o.phase ≡ phases.Leaving → {m : ℕ} {component : Component} {owner : Owner} → Stands w.instances m component owner phases.Ready → m ≢ n
   not_ready left s e = let q = same_phase n o there s e in let r : phases.Leaving ≡ phases.Ready = sym left ∙ q in absurd (cc)
 
+  gone_placed : AllPlaced (without n w.instances) w.contexts.application w.temporaries
+  gone_placed = record { placed = λ m y e r. by m y e r (equal_or_not m n) }
+    where
+      by : (m : ℕ) (y : Instance) → at (without n w.instances) m ≡ Some y → y.phase ≡ phases.Ready → Tested m n → IsPlaced w.contexts.application w.temporaries m y.component y.owner
+      by m y e r (inl s) = let z : at (without n w.instances) m ≡ None = subst (λ i. at (without i w.instances) m ≡ None) s.1 (at_gone w.instances m) in absurd (cc)
+      by m y e r (inr s) = g.placed.placed m y (sym (at_left w.instances n m s.1) ∙ e) r
+
   -- what has left is gone
-  pub removed : o.phase ≡ phases.Leaving → Leaves tables w (after_change (Change.Remove n) w)
+  pub removed : o.phase ≡ phases.Leaving → Good tables (after_change (Change.Remove n) w)
   removed left = record {
-    good = record {
-      live = gone_whole n g.live;
-      held = other_held w.instances _ w.contexts.application (λ other m s. stands_but (gone_keeps w.instances n) (not_ready left s) s) g.held;
-      borrowed = other_borrowed w.instances _ w.temporaries (λ m b. (b.0, stands_but (gone_keeps w.instances n) (not_ready left b.1) b.1)) g.borrowed;
-      requests = g.requests;
-      sessions = g.sessions;
-    };
-    level = refl;
+    live = gone_whole n g.live;
+    held = other_held w.instances _ w.contexts.application (λ other m s. stands_but (gone_keeps w.instances n) (not_ready left s) s) g.held;
+    borrowed = other_borrowed w.instances _ w.temporaries (λ m b. (b.0, stands_but (gone_keeps w.instances n) (not_ready left b.1) b.1)) g.borrowed;
+    placed = gone_placed;
+    requests = g.requests;
+    sessions = g.sessions;
   }
 
 -- ---- fields, temporaries and the context
@@ -381,21 +552,28 @@ assigned tables w n field v g = record {
     live = field_whole n field v g.live;
     held = all_held_then Application w.contexts.application (field_keeps w.instances n field v) g.held;
     borrowed = all_borrowed_then w.temporaries (field_keeps w.instances n field v) g.borrowed;
+    placed = field_placed n field v g.placed;
     requests = g.requests;
     sessions = g.sessions;
   };
   keeps = field_keeps w.instances n field v;
+  begun = field_settles w.instances n field v;
   level = refl;
 }
 
-pub borrows : (tables : Tables) (w : World) → Good tables w → Good tables (after_change Change.Borrow w)
-borrows tables w g = record { live = g.live; held = g.held; borrowed = (tt, g.borrowed); requests = g.requests; sessions = g.sessions }
+-- nothing else moves
+moves : {instances : Instances} {a : Option Active} {temporaries : List (List ℕ)} (b : Option Active) (us : List (List ℕ)) → ((m : ℕ) (component : Component) → HasIt a component m → HasIt b component m) → ((m : ℕ) → IsAmong m temporaries → IsAmong m us)
+    → AllPlaced instances a temporaries → AllPlaced instances b us
+moves {instances} {a} {temporaries} b us f g h = record { placed = λ m y e r. placed_map a b temporaries us m y.component y.owner (f m y.component) (g m) (h.placed m y e r) }
 
-pub returns : (tables : Tables) (w : World) → Good tables w → Good tables (after_change Change.Return w)
-returns tables w g = record { live = g.live; held = g.held; borrowed = below_borrowed w.instances w.temporaries g.borrowed; requests = g.requests; sessions = g.sessions }
+pub borrows : (tables : Tables) (w : World) → Good tables w → Good tables (after_change Change.Borrow w)
+borrows tables w g = record { live = g.live; held = g.held; borrowed = (tt, g.borrowed); placed = moves w.contexts.application _ (λ m c h. h) (λ m h. inr h) g.placed; requests = g.requests; sessions = g.sessions }
+
+pub returns : (tables : Tables) (w : World) → Good tables w → TopEmpty w.temporaries → Good tables (after_change Change.Return w)
+returns tables w g t = record { live = g.live; held = g.held; borrowed = below_borrowed w.instances w.temporaries g.borrowed; placed = moves w.contexts.application _ (λ m c h. h) (λ m. among_below m w.temporaries t) g.placed; requests = g.requests; sessions = g.sessions }
 
 pub finishes : (tables : Tables) (w : World) → Good tables w → Good tables (after_change (Change.Finish Application) w)
-finishes tables w g = record { live = g.live; held = ending_held w.instances w.contexts.application g.held; borrowed = g.borrowed; requests = g.requests; sessions = g.sessions }
+finishes tables w g = record { live = g.live; held = ending_held w.instances w.contexts.application g.held; borrowed = g.borrowed; placed = moves _ w.temporaries (λ m c. has_ending w.contexts.application c m) (λ m h. h) g.placed; requests = g.requests; sessions = g.sessions }
 
-pub closes : (tables : Tables) (w : World) → Good tables w → Good tables (after_change (Change.Close Application) w)
-closes tables w g = record { live = g.live; held = tt; borrowed = g.borrowed; requests = g.requests; sessions = g.sessions }
+pub closes : (tables : Tables) (w : World) → Good tables w → NoneHeld w.contexts.application → Good tables (after_change (Change.Close Application) w)
+closes tables w g none = record { live = g.live; held = tt; borrowed = g.borrowed; placed = moves None w.temporaries (λ m c h. absurd (none c m h)) (λ m h. h) g.placed; requests = g.requests; sessions = g.sessions }

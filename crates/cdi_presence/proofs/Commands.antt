@@ -15,11 +15,11 @@ use Rattle.cdi_store.specs.declared.references.Reference.{Reference}
 use Rattle.cdi_store.specs.declared.references.Reference.TheVariants.{Direct, Proxy}
 use Rattle.cdi_store.specs.declared.references.Reference.TheVariants.{Empty as NoReference}
 use Rattle.cdi_store.specs.Live.{Instances}
-use Rattle.cdi_contexts.specs.Contexts.{OpenRequest, OpenSession, request_in, session_in}
+use Rattle.cdi_contexts.specs.Contexts.{Contexts, OpenRequest, OpenSession, request_in, session_in}
 use Rattle.cdi_machine.specs.Words.{Name, Asked}
 use Rattle.cdi_machine.specs.Tables as machine
-use Rattle.cdi_machine.specs.World.{World, Change, after_change, instance_at, no_environment}
-use Rattle.cdi_machine.specs.Programs.{Task, Given, Completion, Gave, Threw, Prog, ret, throw, handle, call, each, require, require_one, quietly, raise, resolve as resolve_asked}
+use Rattle.cdi_machine.specs.World.{World, Change, after_change, instance_at, no_environment, below}
+use Rattle.cdi_machine.specs.Programs.{Task, Given, Completion, Gave, Threw, Prog, ret, throw, handle, call, each, require, require_one, quietly, raise, resolve as resolve_asked, instance}
 use Rattle.cdi_machine.specs.Contexts.{is_normal, direct_reference, refer_to, stays, reach_instance}
 use Rattle.cdi_machine.specs.Destruction.{borrow_for, give_back}
 use Rattle.cdi_machine.specs.Bodies.{invoke_method}
@@ -38,9 +38,9 @@ use Rattle.cdi_beans.specs.Served.{machine_tables, machine_bean, machine_method,
 use Rattle.cdi_beans.proofs.Served.{at_method, resolved_is_there}
 use Rattle.cdi_presence.specs.Missing.{Takes, GivesServed, IsServedCommand, IsAdmitted}
 use Rattle.cdi_presence.proofs.Safe.{weaker}
-use Rattle.cdi_presence.proofs.Whole.{Good, After, after_self, after_trans}
-use Rattle.cdi_presence.proofs.Changes.{borrows, returns, finishes, closes}
-use Rattle.cdi_presence.proofs.Terms.{IsKnown, Lives, HasTop, Pre, Gets, Post}
+use Rattle.cdi_presence.proofs.Whole.{Good, After, Leaves, Settles, settles_trans, after_self, after_trans, leaves_trans, leaves_after}
+use Rattle.cdi_presence.proofs.Changes.{borrows, returns, finishes, closes, NoneHeld, HasTop}
+use Rattle.cdi_presence.proofs.Terms.{IsKnown, Lives, Pre, Gets, Post, Gives}
 use Rattle.cdi_presence.proofs.Tasks.{Goes, then, found, calling, invoke_safe}
 
 -- a reference to a bean: its proxy, or an instance
@@ -53,6 +53,15 @@ RefersTo instances b (Threw x) = Unit {0}
 abbrev Reaches : Instances → ℕ → Completion ℕ → Type 0
 Reaches instances b (Gave n) = Lives instances n b
 Reaches instances b (Threw x) = Unit {0}
+
+-- a shutdown leaves no application context
+abbrev pub IsDone : Command → World → Type 0
+IsDone Command.Shutdown u = u.contexts.application ≡ None
+IsDone _ u = Unit {0}
+
+-- the value of a product
+abbrev read_value : ℕ → Prog Given
+read_value n = handle (instance n) (λ o. ret (Given.Result o.value)) throw
 
 module _ (classes : List ℕ) (tables : Tables) (legal : Legal) (serves : GivesServed tables legal) where
   abbrev Does : {A : Type 0} → Prog A → World → (Completion A → World → Type 0) → Type 0
@@ -67,40 +76,51 @@ module _ (classes : List ℕ) (tables : Tables) (legal : Legal) (serves : GivesS
 
   -- ---- events
 
-  event_safe : (what : BuiltIn) (c : Context) (w : World) → Good tables w → Does (fire_context_event what c) w (λ d u. After tables w u)
+  event_safe : (what : BuiltIn) (c : Context) (w : World) → Good tables w → Does (fire_context_event what c) w (λ d u. Gives d (After tables w u × (u.contexts ≡ w.contexts)))
   event_safe what c w g = calling classes tables legal serves (Task.Fire (number_of built_in.Object) (qualifier what c ∷ []) values.Null) _ _ w _ g (λ a u p. p) (λ x u p. p)
 
-  container_event_safe : (class : BuiltIn) (w : World) → Good tables w → Does (fire_container_event class) w (λ d u. After tables w u)
+  container_event_safe : (class : BuiltIn) (w : World) → Good tables w → Does (fire_container_event class) w (λ d u. Gives d (After tables w u × (u.contexts ≡ w.contexts)))
   container_event_safe class w g = calling classes tables legal serves (Task.Fire (number_of class) [] values.Null) _ _ w _ g (λ a u p. p) (λ x u p. p)
 
   -- ---- boot and shutdown
 
-  boot_safe : (w : World) → Good tables w → Does boot w (λ c u. Good tables u)
+  boot_safe : (w : World) → Good tables w → Does boot w (λ c u. Leaves tables w u)
   boot_safe w g =
-      next (fire_context_event built_in.Initialized Application) _ throw w (λ d u. After tables w u) _ (event_safe built_in.Initialized Application w g)
-      (λ _ u p. next (fire_container_event built_in.Startup) _ throw u (λ d v. After tables u v) _ (container_event_safe built_in.Startup u p.good) (λ _ v q. q.good) (λ x v q. q.good))
-      (λ x u p. p.good)
+      next (fire_context_event built_in.Initialized Application) _ throw w (λ d u. Gives d (After tables w u × (u.contexts ≡ w.contexts))) _ (event_safe built_in.Initialized Application w g)
+      (λ _ u p. next (fire_container_event built_in.Startup) _ throw u (λ d v. Gives d (After tables u v × (v.contexts ≡ u.contexts))) _ (container_event_safe built_in.Startup u p.0.good) (λ _ v q. leaves_after (after_trans p.0 q.0)) (λ x v q. absurd q))
+      (λ x u p. absurd p)
 
-  close_safe : (w : World) → Good tables w → Does (close Application) w (λ c u. Good tables u)
+  -- the application context is gone
+  abbrev Closed : World → Completion Given → World → Type 0
+  Closed w c u = Gives c (Leaves tables w u × (u.contexts.application ≡ None))
+
+  finished : (w u : World) → After tables w u → Leaves tables w (after_change (Change.Finish Application) u)
+  finished w u a = record { good = finishes tables u a.good; begun = a.begun; level = a.level }
+
+  closed : (w u : World) → Leaves tables w u → NoneHeld u.contexts.application → Leaves tables w (after_change (Change.Close Application) u)
+  closed w u a none = record { good = closes tables u a.good none; begun = a.begun; level = a.level }
+
+  close_safe : (w : World) → Good tables w → Does (close Application) w (λ c u. Gives c (Leaves tables w u × (u.contexts.application ≡ None)))
   close_safe w g =
-      next (fire_context_event built_in.BeforeDestroyed Application) _ throw w (λ d u. After tables w u) _ (event_safe built_in.BeforeDestroyed Application w g)
-      (λ _ u p. calling classes tables legal serves (Task.Clear Application) _ throw (after_change (Change.Finish Application) u) _ (finishes tables u p.good)
-      (λ a v q. next (fire_context_event built_in.Destroyed Application) _ throw (after_change (Change.Close Application) v) (λ d x. After tables (after_change (Change.Close Application) v) x) _
-      (event_safe built_in.Destroyed Application (after_change (Change.Close Application) v) (closes tables v q.good)) (λ _ x r. r.good) (λ x y r. r.good))
-      (λ x v q. q.good))
-      (λ x u p. p.good)
+      next (fire_context_event built_in.BeforeDestroyed Application) _ throw w (λ d u. Gives d (After tables w u × (u.contexts ≡ w.contexts))) _ (event_safe built_in.BeforeDestroyed Application w g)
+      (λ _ u p. calling classes tables legal serves (Task.Clear Application) _ throw (after_change (Change.Finish Application) u) _ (finishes tables u p.0.good)
+      (λ a v q. let l : Leaves tables w (after_change (Change.Close Application) v) = closed w v (leaves_trans (finished w u p.0) q.0) q.1 in
+      next (fire_context_event built_in.Destroyed Application) _ throw (after_change (Change.Close Application) v) (λ d x. Gives d (After tables (after_change (Change.Close Application) v) x × (x.contexts ≡ (after_change (Change.Close Application) v).contexts))) _
+      (event_safe built_in.Destroyed Application (after_change (Change.Close Application) v) l.good) (λ _ x r. (leaves_trans l (leaves_after r.0), ap (λ (c : Contexts). c.application) r.1)) (λ x y r. absurd r))
+      (λ x v q. absurd q))
+      (λ x u p. absurd p)
 
   -- there is nothing to do it for
   none_left : {X B : Type 0} (xs : List X) (f : X → Prog Given) (k : Given → Prog B) (w : World) (Q : Completion B → World → Type 0) → xs ≡ [] → Does (k (Given.Result values.Null)) w Q → Does (handle (each xs f) k throw) w Q
   none_left xs f k w Q e d = subst (λ z. Does (handle (each z f) k throw) w Q) (sym e) d
 
-  shutdown_safe : (w : World) → Good tables w → Does shut_down w (λ c u. Good tables u)
+  shutdown_safe : (w : World) → Good tables w → Does shut_down w (λ c u. Leaves tables w u × (u.contexts.application ≡ None))
   shutdown_safe w g =
       none_left (requests_of w.contexts) end _ w _ (ap (map (λ (r : OpenRequest). r.name)) g.requests) (
       none_left (sessions_of w.contexts) end_alone _ w _ (ap (map (λ (s : OpenSession). s.name)) g.sessions) (
-      next (fire_container_event built_in.Shutdown) _ throw (after_change (Change.Stand no_environment) w) (λ d u. After tables w u) _ (container_event_safe built_in.Shutdown (after_change (Change.Stand no_environment) w) g)
-      (λ _ u p. next (close Application) _ throw u (λ c v. Good tables v) _ (close_safe u p.good) (λ _ v q. q) (λ x v q. q))
-      (λ x u p. p.good)))
+      next (fire_container_event built_in.Shutdown) _ throw (after_change (Change.Stand no_environment) w) (λ d u. Gives d (After tables w u × (u.contexts ≡ w.contexts))) _ (container_event_safe built_in.Shutdown (after_change (Change.Stand no_environment) w) g)
+      (λ _ u p. next (close Application) _ throw u (λ c v. Gives c (Leaves tables u v × (v.contexts.application ≡ None))) _ (close_safe u p.0.good) (λ _ v q. (leaves_trans (leaves_after p.0) q.0, q.1)) (λ x v q. absurd q))
+      (λ x u p. absurd p)))
 
   -- ---- what a command borrows
 
@@ -108,20 +128,37 @@ module _ (classes : List ℕ) (tables : Tables) (legal : Legal) (serves : GivesS
   has_top [] n e = absurd (omega arith)
   has_top (t ∷ ts) n e = tt
 
-  give_back_safe : (w : World) → Good tables w → HasTop w.temporaries → Does give_back w (λ c u. Good tables u)
-  give_back_safe w g h = calling classes tables legal serves Task.Dismiss _ _ w _ (g, h) (λ a u p. returns tables u p.good) (λ x u p. returns tables u p.good)
+  one_less : (ts us : List (List ℕ)) → HasTop us → length ts ≡ length us → suc (length (below ts)) ≡ length us
+  one_less ts [] h e = absurd h
+  one_less [] (u ∷ us) h e = absurd (omega arith)
+  one_less (t ∷ ts) (u ∷ us) h e = e
 
-  borrow_safe : (p : Prog Given) (w : World) → Good tables w → Does p (after_change Change.Borrow w) (λ c u. After tables (after_change Change.Borrow w) u) → Does (borrow_for p) w (λ c u. Good tables u)
+  -- the innermost temporaries are gone
+  give_back_safe : (w : World) → Good tables w → HasTop w.temporaries → Does give_back w (λ c u. Good tables u × Settles w.instances u.instances × (suc (length u.temporaries) ≡ length w.temporaries))
+  give_back_safe w g h =
+      calling classes tables legal serves Task.Dismiss _ _ w _ (g, h)
+      (λ a u p. (returns tables u p.0.good p.1, p.0.begun, one_less u.temporaries w.temporaries h p.0.level)) (λ x u p. absurd p)
+
+  borrow_safe : (p : Prog Given) (w : World) → Good tables w → Does p (after_change Change.Borrow w) (λ c u. After tables (after_change Change.Borrow w) u) → Does (borrow_for p) w (λ c u. Leaves tables w u)
   borrow_safe p w g d =
       next p _ _ (after_change Change.Borrow w) (λ c u. After tables (after_change Change.Borrow w) u) _ d
-      (λ a u q. next give_back _ throw u (λ c v. Good tables v) _ (give_back_safe u q.good (has_top u.temporaries (length w.temporaries) (suc_length u.temporaries w.temporaries q.level))) (λ _ v r. r) (λ x v r. r))
-      (λ x u q. next give_back _ throw u (λ c v. Good tables v) _ (give_back_safe u q.good (has_top u.temporaries (length w.temporaries) (suc_length u.temporaries w.temporaries q.level))) (λ _ v r. r) (λ y v r. r))
+      (λ a u q. next give_back _ throw u (λ c v. Good tables v × Settles u.instances v.instances × (suc (length v.temporaries) ≡ length u.temporaries)) _ (given_back u q) (λ _ v r. ended u v q r.0 r.1 r.2) (λ x v r. ended u v q r.0 r.1 r.2))
+      (λ x u q. next give_back _ throw u (λ c v. Good tables v × Settles u.instances v.instances × (suc (length v.temporaries) ≡ length u.temporaries)) _ (given_back u q) (λ _ v r. ended u v q r.0 r.1 r.2) (λ y v r. ended u v q r.0 r.1 r.2))
     where
       suc_length : (ts us : List (List ℕ)) → length ts ≡ length ([] ∷ us) → length ts ≡ suc (length us)
       suc_length ts us e = omega arith
 
-  refer_safe : (b : ℕ) (w : World) → Good tables w → IsKnown tables b → Does (refer_to b owners.Borrower) w (λ c u. After tables w u × RefersTo u.instances b c)
-  refer_safe b w g known =
+      given_back : (u : World) → After tables (after_change Change.Borrow w) u → Does give_back u (λ c v. Good tables v × Settles u.instances v.instances × (suc (length v.temporaries) ≡ length u.temporaries))
+      given_back u q = give_back_safe u q.good (has_top u.temporaries (length w.temporaries) (suc_length u.temporaries w.temporaries q.level))
+
+      same_length : (ts us vs : List (List ℕ)) → length us ≡ length ([] ∷ ts) → suc (length vs) ≡ length us → length vs ≡ length ts
+      same_length ts us vs e f = omega arith
+
+      ended : (u v : World) → After tables (after_change Change.Borrow w) u → Good tables v → Settles u.instances v.instances → suc (length v.temporaries) ≡ length u.temporaries → Leaves tables w v
+      ended u v q good begun level = record { good = good; begun = settles_trans q.begun begun; level = same_length w.temporaries u.temporaries v.temporaries q.level level }
+
+  refer_safe : (b : ℕ) (w : World) → Good tables w → HasTop w.temporaries → IsKnown tables b → Does (refer_to b owners.Borrower) w (λ c u. After tables w u × RefersTo u.instances b c)
+  refer_safe b w g top known =
       found classes tables legal serves (option_map machine_bean (bean_of tables b)) (machine_bean known.0) _ w _ (ap (option_map machine_bean) known.1) (by (is_normal (machine_scope known.0.scope)))
     where
       referred : (instances : Instances) (a : Given) → Gets instances b (Gave a) → RefersTo instances b (Gave (direct_reference a))
@@ -131,7 +168,7 @@ module _ (classes : List ℕ) (tables : Tables) (legal : Legal) (serves : GivesS
 
       by : (c : Bool) → Does (elim c as (λ _. Prog Reference) [ true ↦ ret (Proxy b) | false ↦ handle (call (Task.Create b owners.Borrower)) (λ made. ret (direct_reference made)) throw ]) w (λ c u. After tables w u × RefersTo u.instances b c)
       by true = (after_self tables w g, refl)
-      by false = calling classes tables legal serves (Task.Create b owners.Borrower) _ throw w _ (g, known, tt) (λ a u p. (p.0, referred u.instances a p.1)) (λ x u p. (p.0, tt))
+      by false = calling classes tables legal serves (Task.Create b owners.Borrower) _ throw w _ (g, known, top) (λ a u p. (p.0, referred u.instances a p.1)) (λ x u p. (p.0, tt))
 
   reach_safe : (r : Reference) (b : ℕ) (w : World) → Good tables w → IsKnown tables b → RefersTo w.instances b (Gave r) → Does (reach_instance r) w (λ c u. After tables w u × Reaches u.instances b c)
   reach_safe NoReference b w g known q = (after_self tables w g, tt)
@@ -150,7 +187,7 @@ module _ (classes : List ℕ) (tables : Tables) (legal : Legal) (serves : GivesS
   -- the bean that is asked for is used for the time of the command
   use_safe : (asked : Asked) (f : ℕ → Prog Given) (w : World) → Good tables w
       → ((b n : ℕ) (plan : Bean) (u : World) → resolve tables asked.type ≡ resolutions.One b → bean_of tables b ≡ Some plan → Good tables u → Lives u.instances n b → Does (f n) u (λ c v. After tables u v))
-      → Does (use_bean asked f) w (λ c u. Good tables u)
+      → Does (use_bean asked f) w (λ c u. Leaves tables w u)
   use_safe asked f w g k = borrow_safe (handle (resolve_asked asked) (λ b. handle (refer_to b owners.Borrower) (λ r. handle (reach_instance r) f throw) throw) throw) w g (by (resolve tables asked.type) refl)
     where
       start : World
@@ -159,7 +196,7 @@ module _ (classes : List ℕ) (tables : Tables) (legal : Legal) (serves : GivesS
       of_bean : (b : ℕ) → resolve tables asked.type ≡ resolutions.One b → IsKnown tables b
           → Does (handle (refer_to b owners.Borrower) (λ r. handle (reach_instance r) f throw) throw) (after_change Change.Borrow w) (λ c u. After tables (after_change Change.Borrow w) u)
       of_bean b e known =
-          next (refer_to b owners.Borrower) _ throw (after_change Change.Borrow w) (λ c u. After tables (after_change Change.Borrow w) u × RefersTo u.instances b c) _ (refer_safe b (after_change Change.Borrow w) (borrows tables w g) known)
+          next (refer_to b owners.Borrower) _ throw (after_change Change.Borrow w) (λ c u. After tables (after_change Change.Borrow w) u × RefersTo u.instances b c) _ (refer_safe b (after_change Change.Borrow w) (borrows tables w g) tt known)
           (λ r u p. next (reach_instance r) f throw u (λ c v. After tables u v × Reaches v.instances b c) _ (reach_safe r b u p.0.good known p.1)
           (λ n v q. next_last n u v p.0 q)
           (λ x v q. after_trans p.0 q.0))
@@ -176,14 +213,18 @@ module _ (classes : List ℕ) (tables : Tables) (legal : Legal) (serves : GivesS
 
   -- ---- commands
 
-  pub command_safe : (c : Command) (w : World) → Good tables w → IsAdmitted tables c → Does (task c) w (λ d u. Good tables u)
-  command_safe Command.Boot w g h = boot_safe w g
+  pub command_safe : (c : Command) (w : World) → Good tables w → IsAdmitted tables c → Does (task c) w (λ d u. Leaves tables w u × IsDone c u)
+  command_safe Command.Boot w g h = loosen boot w (λ d u. Leaves tables w u) _ (boot_safe w g) (λ d u q. (q, tt))
   command_safe (Command.Call None asked method args) w g h =
-      use_safe asked (λ n. invoke_method n method args) (after_change (Change.Stand no_environment) w) g
-      (λ b n plan u e known g1 lives. invoke_safe classes tables legal serves n b method args plan u g1 lives known (h b plan e known))
+      loosen (use_bean asked (λ n. invoke_method n method args)) (after_change (Change.Stand no_environment) w) (λ d u. Leaves tables w u) _
+      (use_safe asked (λ n. invoke_method n method args) (after_change (Change.Stand no_environment) w) g
+      (λ b n plan u e known g1 lives. invoke_safe classes tables legal serves n b method args plan u g1 lives known (h b plan e known)))
+      (λ d u q. (q, tt))
   command_safe (Command.Read None asked) w g h =
-      use_safe asked _ (after_change (Change.Stand no_environment) w) g (λ b n plan u e known g1 lives. absurd (h b plan e known))
-  command_safe Command.Live w g h = g
+      loosen (use_bean asked read_value) (after_change (Change.Stand no_environment) w) (λ d u. Leaves tables w u) _
+      (use_safe asked read_value (after_change (Change.Stand no_environment) w) g (λ b n plan u e known g1 lives. absurd (h b plan e known)))
+      (λ d u q. (q, tt))
+  command_safe Command.Live w g h = (leaves_after (after_self tables w g), tt)
   command_safe Command.Shutdown w g h = shutdown_safe w g
   command_safe (Command.Begin r s) w g h = absurd h
   command_safe (Command.End r) w g h = absurd h

@@ -90,6 +90,31 @@ module _ {X : Type 0} where
       by true r = (q, h)
       by false r = (h.0, r)
 
+  pub at_put : (m : Map X) (k : ℕ) (x : X) → at (put_in_order k x m) k ≡ Some x
+  at_put [] k x = elim (equal_or_not k k) [ inl s ↦ rw s.0 refl | inr s ↦ absurd (s.1 refl) ]
+  at_put (p ∷ more) k x = elim (equal_or_not k p.0) [
+    | inl s ↦ rw s.0 (rw s.0 refl)
+    | inr s ↦ rw s.0 (by (nat_lt k p.0) s.0 (at_put more k x))
+  ]
+    where
+      by : (b : Bool) → nat_eq k p.0 ≡ false → at (put_in_order k x more) k ≡ Some x → at (cond b ((k, x) ∷ p ∷ more) (p ∷ put_in_order k x more)) k ≡ Some x
+      by true e h = elim (equal_or_not k k) [ inl s ↦ rw s.0 refl | inr s ↦ absurd (s.1 refl) ]
+      by false e h = rw e h
+
+  pub at_put_other : (m : Map X) (k n : ℕ) (x : X) → n ≢ k → at (put_in_order k x m) n ≡ at m n
+  at_put_other [] k n x h = elim (equal_or_not n k) [ inl s ↦ absurd (h s.1) | inr s ↦ rw s.0 refl ]
+  at_put_other (p ∷ more) k n x h = elim (equal_or_not k p.0) [
+    | inl s ↦ elim (equal_or_not n p.0) [
+      | inl t ↦ absurd (h (t.1 ∙ sym s.1))
+      | inr t ↦ rw (s.0, t.0) refl
+    ]
+    | inr s ↦ rw s.0 (by (nat_lt k p.0) (at_put_other more k n x h))
+  ]
+    where
+      by : (b : Bool) → at (put_in_order k x more) n ≡ at more n → at (cond b ((k, x) ∷ p ∷ more) (p ∷ put_in_order k x more)) n ≡ cond (nat_eq n p.0) (Some p.1) (at more n)
+      by true e = elim (equal_or_not n k) [ inl s ↦ absurd (h s.1) | inr s ↦ rw s.0 refl ]
+      by false e = ap (cond (nat_eq n p.0) (Some p.1)) e
+
   -- of what is left, the key is another
   pub all_left : (P Q : ℕ × X → Type 0) (m : Map X) (k : ℕ) → ((p : ℕ × X) → k ≢ p.0 → P p → Q p) → AllByRecursion P m → AllByRecursion Q (without k m)
   all_left P Q [] k f h = tt

@@ -33,7 +33,7 @@ use Rattle.cdi_deploy.specs.declared.deployment.Scope.TheVariants as scopes
 use Rattle.cdi_machine.specs.Words.{Name, Fields}
 use Rattle.cdi_machine.specs.Tables as machine
 use Rattle.cdi_machine.specs.World.{World, Change, Invocation, after_change, with_entry, instance_at}
-use Rattle.cdi_machine.specs.Programs.{Task, Given, Completion, Gave, Threw, Running, Prog, ActiveContext, ret, throw, handle, attempt, require_present, expect, complete, call, require, each, top, give_number, require_depth, active_or_raise, context}
+use Rattle.cdi_machine.specs.Programs.{Task, Given, Completion, Gave, Threw, Running, Prog, ActiveContext, ret, throw, handle, attempt, require_present, expect, complete, call, require, each, top, give_number, require_depth, active_or_raise, context, quietly}
 use Rattle.cdi_machine.specs.Machine.{machine as program}
 use Rattle.cdi_machine.specs.Contexts.{find_or_create, obtain}
 use Rattle.cdi_machine.specs.Bodies.{invocation_at_start, invoke_by, body_at_start, run_rest, run_body, bean_of as component_bean, method_in, method_of, invoke_method, carry_out, answer_of, with_answer, perform, carry_on}
@@ -49,9 +49,9 @@ use Rattle.cdi_beans.proofs.Served.{at_method}
 use Rattle.cdi_presence.specs.Missing.{Takes, IsServed, GivesServed}
 use Rattle.cdi_presence.proofs.Safe.{Safe, bind}
 use Rattle.cdi_presence.proofs.Maps.{all_at, all_weaker, all_last}
-use Rattle.cdi_presence.proofs.Whole.{IsServedOwner, IsWhole, Stands, HeldBy, AllHeld, IsBorrowed, AllBorrowed, Good, Keeps, After, Leaves, after_self, after_trans, leaves_trans, leaves_after}
-use Rattle.cdi_presence.proofs.Changes.{IsLeaving, made_shared, made_borrowed, goes, removed, assigned}
-use Rattle.cdi_presence.proofs.Terms.{IsKnown, Lives, IsThere, IsReady, Serves, Invokes, IsAnswered, Told, Runs, HasTop, Pre, Post, serves_then, thrown_text}
+use Rattle.cdi_presence.proofs.Whole.{IsServedOwner, IsWhole, Stands, HeldBy, AllHeld, IsBorrowed, AllBorrowed, Good, Keeps, After, Leaves, after_self, after_trans, leaves_trans, leaves_after, settles_but_then}
+use Rattle.cdi_presence.proofs.Changes.{IsLeaving, IsFree, NoneHeld, HasTop, TopEmpty, Begins, gone_settles, made_shared, made_borrowed, goes, removed, assigned}
+use Rattle.cdi_presence.proofs.Terms.{IsKnown, Lives, IsThere, IsReady, Serves, Invokes, IsAnswered, Told, Runs, Pre, Post, serves_then, thrown_text, CanHave, Gives}
 
 -- ---- fields
 
@@ -95,6 +95,33 @@ greatest_is P most (p ∷ holds) n f h e = greatest_is P (greater most p.1) hold
       | inr r ↦ let s : max j k ≡ m = cc in g m (ap Is (sym r ∙ s))
     ]
 
+some_latest : (n : ℕ) (ns : List ℕ) → latest (n ∷ ns) ≡ None → ⊥
+some_latest n [] e = cc
+some_latest n (m ∷ ns) e = some_latest m ns e
+
+-- if no number is the greatest, none is held
+some_greatest : (k : ℕ) (holds : Map Held) → greatest (Some k) holds ≡ None → ⊥
+some_greatest k [] e = cc
+some_greatest k (p ∷ holds) e = by p.1 (λ j h. some_greatest j holds h) e
+  where
+    by : (held : Held) → ((j : ℕ) → greatest (Some j) holds ≡ None → ⊥) → greatest (greater (Some k) held) holds ≡ None → ⊥
+    by Making f h = f k h
+    by (Is m) f h = f (max k m) h
+
+not_there : (holds : Map Held) → greatest None holds ≡ None → (b n : ℕ) → at holds b ≡ Some (Is n) → ⊥
+not_there [] e b n h = cc
+not_there (p ∷ holds) e b n h = by p.1 (nat_eq b p.0) (not_there holds) e h
+  where
+    by : (held : Held) (same : Bool) → (greatest None holds ≡ None → (b n : ℕ) → at holds b ≡ Some (Is n) → ⊥) → greatest (greater None held) holds ≡ None → cond same (Some held) (at holds b) ≡ Some (Is n) → ⊥
+    by Making true f q h = cc
+    by Making false f q h = f q b n h
+    by (Is m) same f q h = some_greatest m holds q
+
+none_held : (a : Option Active) → greatest_in a ≡ None → NoneHeld a
+none_held None e component m h = absurd h
+none_held (Some a) e (components.Bean b) m h = not_there a.holds e b m h
+none_held (Some a) e (components.Interceptor i) m h = absurd h
+
 latest_in : (P : ℕ → Type 0) (ns : List ℕ) (n : ℕ) → AllByRecursion P ns → latest ns ≡ Some n → P n
 latest_in P [] n h e = absurd (cc)
 latest_in P (m ∷ []) n h e = let q : m ≡ n = cc in subst P q h.0
@@ -107,6 +134,10 @@ with_created b owner plan w =
     (with_entry (entries.Ready w.next)
     (after_change (Change.Make (components.Bean b) owner (first_fields plan.fields))
     (with_entry (entries.New w.next (places.Class plan.class)) w)))
+
+-- and where a destruction begins
+abbrev with_left : ℕ → World → World
+with_left n w = after_change (Change.Leave n) (with_entry (entries.End n) w)
 
 module _ (classes : List ℕ) (tables : Tables) (legal : Legal) (serves : GivesServed tables legal) where
   -- from this world the program misses nothing, and what is wanted holds after it
@@ -167,9 +198,9 @@ module _ (classes : List ℕ) (tables : Tables) (legal : Legal) (serves : GivesS
   obtain_safe : (b : ℕ) (w : World) → Good tables w → IsKnown tables b → Goes (obtain b) w (Post tables (Task.Obtain b) w)
   obtain_safe b w g known = found (option_map machine_bean (bean_of tables b)) (machine_bean known.0) _ w _ (ap (option_map machine_bean) known.1) (by_scope known.0.scope)
     where
-      by_status : (a : Active) (s : Status) → Goes (elim s as (λ _. Prog Given) [ Open ↦ call (Task.Create b (owners.Context Application)) | Ending ↦ Rattle.cdi_machine.specs.Programs.raise built_in.ContextNotActiveException ]) w (Post tables (Task.Obtain b) w)
-      by_status a Open = called (Task.Create b (owners.Context Application)) w _ (g, known, tt) (λ c u p. p)
-      by_status a Ending = (after_self tables w g, tt)
+      by_status : (a : Active) (s : Status) → w.contexts.application ≡ Some a → at a.holds b ≡ None → Goes (elim s as (λ _. Prog Given) [ Open ↦ call (Task.Create b (owners.Context Application)) | Ending ↦ Rattle.cdi_machine.specs.Programs.raise built_in.ContextNotActiveException ]) w (Post tables (Task.Obtain b) w)
+      by_status a Open e h = called (Task.Create b (owners.Context Application)) w _ (g, known, subst (λ x. IsFree x b) (sym e) h) (λ c u p. p)
+      by_status a Ending e h = (after_self tables w g, tt)
 
       lives : (a : Active) (n : ℕ) → w.contexts.application ≡ Some a → at a.holds b ≡ Some (Is n) → Lives w.instances n b
       lives a n e h =
@@ -178,7 +209,7 @@ module _ (classes : List ℕ) (tables : Tables) (legal : Legal) (serves : GivesS
           record { instance = s.instance; there = s.there; of = s.of }
 
       by_held : (a : Active) (x : Option Held) → w.contexts.application ≡ Some a → at a.holds b ≡ x → Goes (find_or_create b (record { context = Application; has = a }) x) w (Post tables (Task.Obtain b) w)
-      by_held a None e h = by_status a a.status
+      by_held a None e h = by_status a a.status e h
       by_held a (Some Making) e h = (after_self tables w g, tt)
       by_held a (Some (Is n)) e h = (after_self tables w g, lives a n e h)
 
@@ -190,16 +221,16 @@ module _ (classes : List ℕ) (tables : Tables) (legal : Legal) (serves : GivesS
       by_scope scopes.ApplicationScoped = by_context w.contexts.application refl
       by_scope scopes.Dependent = (after_self tables w g, tt)
 
-  create_safe : (b : ℕ) (owner : Owner) (w : World) → Good tables w → IsKnown tables b → IsServedOwner owner → Goes (create b owner) w (Post tables (Task.Create b owner) w)
+  create_safe : (b : ℕ) (owner : Owner) (w : World) → Good tables w → IsKnown tables b → CanHave w b owner → Goes (create b owner) w (Post tables (Task.Create b owner) w)
   create_safe b owner w g known h = found (option_map machine_bean (bean_of tables b)) (machine_bean known.0) _ w _ (ap (option_map machine_bean) known.1) (numbered (nat_lt w.next (2 ^ 32)) w.next _ _ w _ (by owner h))
     where
       made : (owner : Owner) (u : World) → After tables w u × Stands u.instances w.next (components.Bean b) owner phases.Ready → After tables w u × Lives u.instances w.next b
       made owner u m = (m.0, record { instance = m.1.instance; there = m.1.there; of = m.1.of })
 
-      by : (owner : Owner) → IsServedOwner owner → After tables w (with_created b owner known.0 w) × Lives (with_created b owner known.0 w).instances w.next b
+      by : (owner : Owner) → CanHave w b owner → After tables w (with_created b owner known.0 w) × Lives (with_created b owner known.0 w).instances w.next b
       by (owners.Context Application) h =
-          made (owners.Context Application) (with_created b (owners.Context Application) known.0 w) (made_shared tables (with_entry (entries.New w.next (places.Class known.0.class)) w) b known.0 known.1 g (entries.Ready w.next))
-      by owners.Borrower h = made owners.Borrower (with_created b owners.Borrower known.0 w) (made_borrowed tables (with_entry (entries.New w.next (places.Class known.0.class)) w) b known.0 known.1 g (entries.Ready w.next))
+          made (owners.Context Application) (with_created b (owners.Context Application) known.0 w) (made_shared tables (with_entry (entries.New w.next (places.Class known.0.class)) w) b known.0 known.1 g (entries.Ready w.next) h)
+      by owners.Borrower h = made owners.Borrower (with_created b owners.Borrower known.0 w) (made_borrowed tables (with_entry (entries.New w.next (places.Class known.0.class)) w) b known.0 known.1 g (entries.Ready w.next) h)
       by (owners.Context (Request name)) h = absurd h
       by (owners.Context (Session name)) h = absurd h
       by (owners.Instance m) h = absurd h
@@ -353,10 +384,10 @@ module _ (classes : List ℕ) (tables : Tables) (legal : Legal) (serves : GivesS
       (found (option_map machine_bean (bean_of tables bean)) (machine_bean known.0) _ w _ (ap (option_map machine_bean) known.1) (
       calling (Task.Rest []) _ _ (after_change (Change.Enter (invocation_at_start n roles.PreDestroy [] [])) w) _ (g, tt) (λ a u p. p.0) (λ x u p. p.0)))
 
-  release_safe : (n : ℕ) (w : World) → Good tables w → IsThere w.instances n → Goes (release n) w (λ c u. After tables w u)
+  release_safe : (n : ℕ) (w : World) → Good tables w → IsThere w.instances n → Goes (release n) w (λ c u. Gives c (After tables w u))
   release_safe n w g there =
       found (instance_at w n) there.0 _ w _ there.1
-      (subst (λ ds. Goes (release_from n ds) w (λ c u. After tables w u)) (sym (g.live.whole n there.0 there.1).alone) (after_self tables w g))
+      (subst (λ ds. Goes (release_from n ds) w (λ c u. Gives c (After tables w u))) (sym (g.live.whole n there.0 there.1).alone) (after_self tables w g))
 
   still_leaving : {before after : Instances} (n : ℕ) → Keeps before after → IsLeaving before n → IsLeaving after n
   still_leaving n k l = let s = k.stay n l.0 l.1 in (s.instance, s.there, s.stage ∙ l.2)
@@ -366,29 +397,27 @@ module _ (classes : List ℕ) (tables : Tables) (legal : Legal) (serves : GivesS
   only_if_ready o phases.Ready e = refl
   only_if_ready o phases.Leaving e = absurd (cc)
 
-  destroy_safe : (n : ℕ) (w : World) → Good tables w → IsReady w.instances n → Goes (destroy n) w (λ c u. Leaves tables w u)
+  destroy_safe : (n : ℕ) (w : World) → Good tables w → IsReady w.instances n → Goes (destroy n) w (λ c u. Gives c (Leaves tables w u))
   destroy_safe n w g ready =
-      found (only_ready (instance_at w n)) o _ w _ (ap only_ready ready.1 ∙ only_if_ready o o.phase ready.2) (
-      then (Rattle.cdi_machine.specs.Programs.quietly (clean_up n o.value o.component)) _ throw w2 (λ c u. After tables w2 u) _
-      (then (clean_up n o.value o.component) _ _ w2 (λ c u. After tables w2 u) (λ c u. After tables w2 u) (clean_up_safe n h.bean o.value o.component w2 left.0.good h.of (h.plan, h.known)) (λ a u p. p) (λ x u p. p))
-      (λ _ u p. calling (Task.Release n) _ throw u _ (p.good, (let s = still_leaving n p.keeps left.1 in (s.0, s.1)))
-      (λ a v q. let s = still_leaving n q.keeps (still_leaving n p.keeps left.1) in leaves_trans (leaves_trans left.0 (leaves_after (after_trans p q))) (removed tables (with_entry (entries.Gone n) v) n s.0 s.1 q.good s.2))
-      (λ x v q. leaves_trans left.0 (leaves_after (after_trans p q))))
-      (λ x u p. leaves_trans left.0 (leaves_after p)))
+      found (only_ready (instance_at w n)) ready.0 _ w _ (ap only_ready ready.1 ∙ only_if_ready ready.0 ready.0.phase ready.2) (
+      then (quietly (clean_up n ready.0.value ready.0.component)) _ throw (with_left n w) (λ c u. Gives c (After tables (with_left n w) u)) _
+      (then (clean_up n ready.0.value ready.0.component) _ _ (with_left n w) (λ c u. After tables (with_left n w) u) (λ c u. Gives c (After tables (with_left n w) u)) (clean_up_safe n h.bean ready.0.value ready.0.component (with_left n w) left.good h.of (h.plan, h.known)) (λ a u p. p) (λ x u p. p))
+      (λ _ u p. calling (Task.Release n) _ throw u _ (p.good, (let s = still_leaving n p.keeps left.leaving in (s.0, s.1))) (λ a v q. ended u v p q) (λ x v q. absurd q))
+      (λ x u p. absurd p))
     where
-      o : Instance
-      o = ready.0
-
       h : IsWhole tables ready.0
       h = g.live.whole n ready.0 ready.1
 
-      w2 : World
-      w2 = after_change (Change.Leave n) (with_entry (entries.End n) w)
+      left : Begins tables n w.instances (length w.temporaries) (with_left n w).instances (with_left n w).next (with_left n w).contexts (with_left n w).temporaries
+      left = goes tables (with_entry (entries.End n) w) n ready.0 ready.1 g ready.2
 
-      left : Leaves tables w (after_change (Change.Leave n) (with_entry (entries.End n) w)) × IsLeaving (after_change (Change.Leave n) (with_entry (entries.End n) w)).instances n
-      left = goes tables (with_entry (entries.End n) w) n ready.0 ready.1 g
+      ended : (u v : World) → After tables (with_left n w) u → After tables u v → Leaves tables w (after_change (Change.Remove n) (with_entry (entries.Gone n) v))
+      ended u v p q =
+          let a = after_trans p q in
+          let s = still_leaving n a.keeps left.leaving in
+          record { good = removed tables (with_entry (entries.Gone n) v) n s.0 s.1 a.good s.2; begun = gone_settles (settles_but_then left.begun a.begun); level = a.level ∙ left.level }
 
-  dismiss_safe : (w : World) → Good tables w → HasTop w.temporaries → Goes dismiss w (λ c u. Leaves tables w u)
+  dismiss_safe : (w : World) → Good tables w → HasTop w.temporaries → Goes dismiss w (λ c u. Gives c (Leaves tables w u × TopEmpty u.temporaries))
   dismiss_safe w g h = topped w.temporaries _ w _ none one
     where
       none : w.temporaries ≡ [] → ⊥
@@ -408,18 +437,26 @@ module _ (classes : List ℕ) (tables : Tables) (legal : Legal) (serves : GivesS
       ready : (n : ℕ) → IsBorrowed w.instances n → IsReady w.instances n
       ready n b = (b.1.instance, b.1.there, b.1.stage)
 
-      by : (x : Option ℕ) → ((n : ℕ) → x ≡ Some n → IsReady w.instances n) → Goes (dismiss_latest x) w (λ c u. Leaves tables w u)
-      by None q = leaves_after (after_self tables w g)
-      by (Some n) q =
+      on_with : (u : World) → Leaves tables w u → (c : Completion Given) (v : World) → Gives c (Leaves tables u v × TopEmpty v.temporaries) → Gives c (Leaves tables w v × TopEmpty v.temporaries)
+      on_with u p (Gave a) v r = (leaves_trans p r.0, r.1)
+      on_with u p (Threw x) v r = absurd r
+
+      no_top : (ns : List ℕ) (more : List (List ℕ)) → latest ns ≡ None → TopEmpty (ns ∷ more)
+      no_top [] more e = tt
+      no_top (n ∷ ns) more e = absurd (some_latest n ns e)
+
+      by : (x : Option ℕ) → ((n : ℕ) → x ≡ Some n → IsReady w.instances n) → (x ≡ None → TopEmpty w.temporaries) → Goes (dismiss_latest x) w (λ c u. Gives c (Leaves tables w u × TopEmpty u.temporaries))
+      by None q none = (leaves_after (after_self tables w g), none refl)
+      by (Some n) q none =
           calling (Task.Destroy n) _ throw w _ (g, q n refl)
-          (λ a u p. called Task.Dismiss u _ (p.good, has_top u.temporaries u p.level) (λ c v r. leaves_trans p r))
-          (λ x u p. p)
+          (λ a u p. called Task.Dismiss u _ (p.good, has_top u.temporaries u p.level) (λ c v r. on_with u p c v r))
+          (λ x u p. absurd p)
 
-      one : (ns : List ℕ) (more : List (List ℕ)) → w.temporaries ≡ ns ∷ more → Goes (dismiss_latest (latest ns)) w (λ c u. Leaves tables w u)
-      one ns more e = by (latest ns) (λ n q. ready n (latest_in (IsBorrowed w.instances) ns n (borrowed ns more e) q))
+      one : (ns : List ℕ) (more : List (List ℕ)) → w.temporaries ≡ ns ∷ more → Goes (dismiss_latest (latest ns)) w (λ c u. Gives c (Leaves tables w u × TopEmpty u.temporaries))
+      one ns more e = by (latest ns) (λ n q. ready n (latest_in (IsBorrowed w.instances) ns n (borrowed ns more e) q)) (λ q. subst TopEmpty (sym e) (no_top ns more q))
 
-  clear_safe : (w : World) → Good tables w → Goes (clear Application) w (λ c u. Leaves tables w u)
-  clear_safe w g = by (greatest_in w.contexts.application) (of_context w.contexts.application g.held)
+  clear_safe : (w : World) → Good tables w → Goes (clear Application) w (λ c u. Gives c (Leaves tables w u × NoneHeld u.contexts.application))
+  clear_safe w g = by (greatest_in w.contexts.application) (of_context w.contexts.application g.held) (none_held w.contexts.application)
     where
       ready : (bean : ℕ) (held : Held) → HeldBy w.instances Application bean held → (m : ℕ) → held ≡ Is m → IsReady w.instances m
       ready bean Making h m e = absurd (cc)
@@ -434,12 +471,16 @@ module _ (classes : List ℕ) (tables : Tables) (legal : Legal) (serves : GivesS
           greatest_is (IsReady w.instances) None a.holds n (never n)
           (all_weaker (λ p. HeldBy w.instances Application p.0 p.1) (λ p. (m : ℕ) → p.1 ≡ Is m → IsReady w.instances m) a.holds (λ p. ready p.0 p.1) h) e
 
-      by : (x : Option ℕ) → ((n : ℕ) → x ≡ Some n → IsReady w.instances n) → Goes (clear_from Application x) w (λ c u. Leaves tables w u)
-      by None q = leaves_after (after_self tables w g)
-      by (Some n) q =
+      on_with : (u : World) → Leaves tables w u → (c : Completion Given) (v : World) → Gives c (Leaves tables u v × NoneHeld v.contexts.application) → Gives c (Leaves tables w v × NoneHeld v.contexts.application)
+      on_with u p (Gave a) v r = (leaves_trans p r.0, r.1)
+      on_with u p (Threw x) v r = absurd r
+
+      by : (x : Option ℕ) → ((n : ℕ) → x ≡ Some n → IsReady w.instances n) → (x ≡ None → NoneHeld w.contexts.application) → Goes (clear_from Application x) w (λ c u. Gives c (Leaves tables w u × NoneHeld u.contexts.application))
+      by None q none = (leaves_after (after_self tables w g), none refl)
+      by (Some n) q none =
           calling (Task.Destroy n) _ throw w _ (g, q n refl)
-          (λ a u p. called (Task.Clear Application) u _ p.good (λ c v r. leaves_trans p r))
-          (λ x u p. p)
+          (λ a u p. called (Task.Clear Application) u _ p.good (λ c v r. on_with u p c v r))
+          (λ x u p. absurd p)
 
   -- ---- all tasks
 
@@ -453,7 +494,7 @@ module _ (classes : List ℕ) (tables : Tables) (legal : Legal) (serves : GivesS
   task_safe (Task.Acts r) w h = acts_safe r w h.0 h.1
   task_safe (Task.Destroy n) w h = destroy_safe n w h.0 h.1
   task_safe (Task.Release n) w h = release_safe n w h.0 h.1
-  task_safe (Task.Fire class qualifiers v) w h = after_self tables w h
+  task_safe (Task.Fire class qualifiers v) w h = (after_self tables w h, refl)
   task_safe (Task.Notify [] v) w h = after_self tables w h
   task_safe (Task.Notify (o ∷ os) v) w h = absurd h
   task_safe Task.Dismiss w h = dismiss_safe w h.0 h.1

@@ -6,6 +6,8 @@ use Rattle.cdi_base.specs.declared.act.Answer.TheVariants as answers
 use Rattle.cdi_base.specs.Maps.{at}
 use Rattle.cdi_store.specs.declared.instance.Component.TheVariants as components
 use Rattle.cdi_store.specs.declared.instance.Context.TheVariants.{Application, Request, Session}
+use Rattle.cdi_store.specs.declared.instance.Owner.{Owner}
+use Rattle.cdi_store.specs.declared.instance.Owner.TheVariants as owners
 use Rattle.cdi_store.specs.declared.instance.Phase.TheVariants as phases
 use Rattle.cdi_store.specs.declared.instance.Instance.{Instance}
 use Rattle.cdi_store.specs.Live.{Instances}
@@ -20,7 +22,8 @@ use Rattle.cdi_beans.specs.declared.tables.Tables.{Tables}
 use Rattle.cdi_beans.specs.Beans.{bean_of, find_method}
 use Rattle.cdi_presence.specs.Missing.{HasText}
 use Rattle.cdi_presence.proofs.Maps.{all_get}
-use Rattle.cdi_presence.proofs.Whole.{IsServedOwner, Good, Keeps, After, Leaves}
+use Rattle.cdi_presence.proofs.Whole.{Good, Keeps, After, Leaves}
+use Rattle.cdi_presence.proofs.Changes.{IsFree, NoneHeld, HasTop, TopEmpty}
 
 -- the bean is one of the tables
 abbrev pub IsKnown : Tables → ℕ → Type 0
@@ -67,13 +70,22 @@ Told tables (Threw x) = HasText tables x
 abbrev pub Runs : Tables → Instances → Running → Type 0
 Runs tables instances r = Serves tables instances r.instance r.body × AllByRecursion (IsAnswered tables) r.view.answers
 
-abbrev pub HasTop : List (List ℕ) → Type 0
-HasTop [] = ⊥
-HasTop (ns ∷ more) = Unit {0}
+-- the owner can have an instance of the bean: the context is there and has none, or there are temporaries
+abbrev pub CanHave : World → ℕ → Owner → Type 0
+CanHave w b (owners.Context Application) = IsFree w.contexts.application b
+CanHave w b (owners.Context (Request name)) = ⊥
+CanHave w b (owners.Context (Session name)) = ⊥
+CanHave w b (owners.Instance m) = ⊥
+CanHave w b owners.Borrower = HasTop w.temporaries
+
+-- a value is given, and this holds
+abbrev pub Gives : {A : Type 0} → Completion A → Type 0 → Type 0
+Gives (Gave a) P = P
+Gives (Threw x) P = ⊥
 
 abbrev pub Pre : Tables → Task → World → Type 0
 Pre tables (Task.Obtain b) w = Good tables w × IsKnown tables b
-Pre tables (Task.Create b owner) w = Good tables w × IsKnown tables b × IsServedOwner owner
+Pre tables (Task.Create b owner) w = Good tables w × IsKnown tables b × CanHave w b owner
 Pre tables (Task.Intercept i n) w = ⊥
 Pre tables (Task.Rest []) w = Good tables w × Invokes tables w.instances w.invocations
 Pre tables (Task.Rest (i ∷ chain)) w = ⊥
@@ -103,12 +115,12 @@ Post tables (Task.Intercept i n) w c u = Leaves tables w u
 Post tables (Task.Rest chain) w c u = After tables w u × Told tables c
 Post tables (Task.Body r) w c u = After tables w u × Told tables c
 Post tables (Task.Acts r) w c u = After tables w u × Told tables c
-Post tables (Task.Destroy n) w c u = Leaves tables w u
-Post tables (Task.Release n) w c u = After tables w u
-Post tables (Task.Fire class qualifiers v) w c u = After tables w u
+Post tables (Task.Destroy n) w c u = Gives c (Leaves tables w u)
+Post tables (Task.Release n) w c u = Gives c (After tables w u)
+Post tables (Task.Fire class qualifiers v) w c u = After tables w u × (u.contexts ≡ w.contexts)
 Post tables (Task.Notify os v) w c u = After tables w u
-Post tables Task.Dismiss w c u = Leaves tables w u
-Post tables (Task.Clear c) w d u = Leaves tables w u
+Post tables Task.Dismiss w c u = Gives c (Leaves tables w u × TopEmpty u.temporaries)
+Post tables (Task.Clear context) w c u = Gives c (Leaves tables w u × NoneHeld u.contexts.application)
 
 -- ---- what stays
 

@@ -1,6 +1,6 @@
 -- Worlds whose parts fit one another: what a context or a borrower has is a live instance that is ready and theirs, and what
 -- is live has a bean of the tables.
-use Rattle.std.proofs.Common.{ℕ, ◌≡◌, ◌≢◌, ◌<◌, List, [], length, Option, Some, None, refl, ◌∙◌}
+use Rattle.std.proofs.Common.{ℕ, ◌≡◌, ◌≢◌, ◌<◌, ◌⊎◌, inl, inr, List, [], ◌∷◌, length, Option, Some, None, refl, sym, ◌∙◌}
 use Rattle.std.specs.List.{AllByRecursion}
 use Rattle.cdi_base.specs.Maps.{at}
 use Rattle.cdi_base.specs.Fields.{has}
@@ -21,6 +21,7 @@ use Rattle.cdi_machine.specs.World.{World}
 use Rattle.cdi_beans.specs.declared.bean.Bean.{Bean}
 use Rattle.cdi_beans.specs.declared.tables.Tables.{Tables}
 use Rattle.cdi_beans.specs.Beans.{bean_of, first_fields}
+use Rattle.cdi_presence.specs.Left.{HasIt}
 use Rattle.cdi_presence.proofs.Maps.{all_weaker}
 
 -- an instance belongs to the application context, or to who borrowed it
@@ -65,6 +66,26 @@ IsBorrowed instances n = (bean : ℕ) × Stands instances n (components.Bean bea
 abbrev pub AllBorrowed : Instances → List (List ℕ) → Type 0
 AllBorrowed instances temporaries = AllByRecursion (AllByRecursion (IsBorrowed instances)) temporaries
 
+abbrev pub IsIn : ℕ → List ℕ → Type 0
+IsIn n [] = ⊥
+IsIn n (m ∷ ns) = (m ≡ n) ⊎ IsIn n ns
+
+-- it is temporary
+abbrev pub IsAmong : ℕ → List (List ℕ) → Type 0
+IsAmong n [] = ⊥
+IsAmong n (ns ∷ more) = IsIn n ns ⊎ IsAmong n more
+
+-- it stands where its owner says
+abbrev pub IsPlaced : Option Active → List (List ℕ) → ℕ → Component → Owner → Type 0
+IsPlaced a temporaries n component (owners.Context Application) = HasIt a component n
+IsPlaced a temporaries n component (owners.Context (Request name)) = ⊥
+IsPlaced a temporaries n component (owners.Context (Session name)) = ⊥
+IsPlaced a temporaries n component (owners.Instance m) = ⊥
+IsPlaced a temporaries n component owners.Borrower = IsAmong n temporaries
+
+pub record AllPlaced (instances : Instances) (a : Option Active) (temporaries : List (List ℕ)) : Type 0 where
+  pub placed : (n : ℕ) (o : Instance) → at instances n ≡ Some o → o.phase ≡ phases.Ready → IsPlaced a temporaries n o.component o.owner
+
 -- what is live has a number below the next one, and a bean
 pub record AllWhole (tables : Tables) (instances : Instances) (next : ℕ) : Type 0 where
   pub below : (n : ℕ) (o : Instance) → at instances n ≡ Some o → n < next
@@ -74,6 +95,7 @@ pub record Whole (tables : Tables) (instances : Instances) (next : ℕ) (context
   pub live : AllWhole tables instances next
   pub held : AllHeld instances Application contexts.application
   pub borrowed : AllBorrowed instances temporaries
+  pub placed : AllPlaced instances contexts.application temporaries
   pub requests : contexts.requests ≡ []
   pub sessions : contexts.sessions ≡ []
 
@@ -118,36 +140,74 @@ all_borrowed_then {before} {after} temporaries k h =
     all_weaker (AllByRecursion (IsBorrowed before)) (AllByRecursion (IsBorrowed after)) temporaries
     (λ ns. all_weaker (IsBorrowed before) (IsBorrowed after) ns (λ n q. (q.0, stands_then k q.1))) h
 
+pub placed_map : (a b : Option Active) (ts us : List (List ℕ)) (n : ℕ) (component : Component) (owner : Owner) → (HasIt a component n → HasIt b component n) → (IsAmong n ts → IsAmong n us) → IsPlaced a ts n component owner → IsPlaced b us n component owner
+placed_map a b ts us n component (owners.Context Application) f g q = f q
+placed_map a b ts us n component (owners.Context (Request name)) f g q = q
+placed_map a b ts us n component (owners.Context (Session name)) f g q = q
+placed_map a b ts us n component (owners.Instance m) f g q = q
+placed_map a b ts us n component owners.Borrower f g q = g q
+
+-- ---- what is being made or destroyed
+
+abbrev pub WasSo : Instances → ℕ → Phase → Type 0
+WasSo before n phase = (x : Instance) × (at before n ≡ Some x) × (x.phase ≡ phase)
+
+-- what isn't ready afterwards was in its phase before
+pub record Settles (before after : Instances) : Type 0 where
+  pub begun : (n : ℕ) (o : Instance) → at after n ≡ Some o → (o.phase ≡ phases.Ready) ⊎ WasSo before n o.phase
+
+-- but for this one
+pub record SettlesBut (k : ℕ) (before after : Instances) : Type 0 where
+  pub begun : (n : ℕ) (o : Instance) → n ≢ k → at after n ≡ Some o → (o.phase ≡ phases.Ready) ⊎ WasSo before n o.phase
+
+pub settles_self : (instances : Instances) → Settles instances instances
+settles_self instances = record { begun = λ n o e. inr (o, e, refl) }
+
+settles_on : {a b : Instances} (n : ℕ) (phase : Phase) → Settles a b → (phase ≡ phases.Ready) ⊎ WasSo b n phase → (phase ≡ phases.Ready) ⊎ WasSo a n phase
+settles_on n phase f (inl r) = inl r
+settles_on n phase f (inr s) = elim (f.begun n s.0 s.1) [ inl r ↦ inl (sym s.2 ∙ r) | inr t ↦ inr (t.0, t.1, t.2 ∙ s.2) ]
+
+pub settles_trans : {a b c : Instances} → Settles a b → Settles b c → Settles a c
+settles_trans f g = record { begun = λ n o e. settles_on n o.phase f (g.begun n o e) }
+
+pub settles_but_then : {k : ℕ} {a b c : Instances} → SettlesBut k a b → Settles b c → SettlesBut k a c
+settles_but_then {k} {a} {b} {c} f g = record { begun = λ n o d e. by n o d (g.begun n o e) }
+  where
+    by : (n : ℕ) (o : Instance) → n ≢ k → (o.phase ≡ phases.Ready) ⊎ WasSo b n o.phase → (o.phase ≡ phases.Ready) ⊎ WasSo a n o.phase
+    by n o d (inl r) = inl r
+    by n o d (inr s) = elim (f.begun n s.0 d s.1) [ inl r ↦ inl (sym s.2 ∙ r) | inr t ↦ inr (t.0, t.1, t.2 ∙ s.2) ]
+
 -- ---- from one world to another
 
 -- a task that destroys nothing leaves this
 pub record AfterOf (tables : Tables) (before : Instances) (levels : ℕ) (instances : Instances) (next : ℕ) (contexts : Contexts) (temporaries : List (List ℕ)) : Type 0 where
   pub good : Whole tables instances next contexts temporaries
   pub keeps : Keeps before instances
+  pub begun : Settles before instances
   pub level : length temporaries ≡ levels
 
 abbrev pub After : Tables → World → World → Type 0
 After tables w u = AfterOf tables w.instances (length w.temporaries) u.instances u.next u.contexts u.temporaries
 
 -- and any task this
-pub record LeavesOf (tables : Tables) (levels : ℕ) (instances : Instances) (next : ℕ) (contexts : Contexts) (temporaries : List (List ℕ)) : Type 0 where
+pub record LeavesOf (tables : Tables) (before : Instances) (levels : ℕ) (instances : Instances) (next : ℕ) (contexts : Contexts) (temporaries : List (List ℕ)) : Type 0 where
   pub good : Whole tables instances next contexts temporaries
+  pub begun : Settles before instances
   pub level : length temporaries ≡ levels
 
 abbrev pub Leaves : Tables → World → World → Type 0
-Leaves tables w u = LeavesOf tables (length w.temporaries) u.instances u.next u.contexts u.temporaries
+Leaves tables w u = LeavesOf tables w.instances (length w.temporaries) u.instances u.next u.contexts u.temporaries
 
 pub after_self : (tables : Tables) (w : World) → Good tables w → After tables w w
-after_self tables w g = record { good = g; keeps = keeps_self w.instances; level = refl }
+after_self tables w g = record { good = g; keeps = keeps_self w.instances; begun = settles_self w.instances; level = refl }
 
 module _ {tables : Tables} {before between instances : Instances} {levels m next : ℕ} {c contexts : Contexts} {t temporaries : List (List ℕ)} where
   pub after_trans : AfterOf tables before levels between m c t → AfterOf tables between (length t) instances next contexts temporaries → AfterOf tables before levels instances next contexts temporaries
-  after_trans a b = record { good = b.good; keeps = keeps_trans a.keeps b.keeps; level = b.level ∙ a.level }
+  after_trans a b = record { good = b.good; keeps = keeps_trans a.keeps b.keeps; begun = settles_trans a.begun b.begun; level = b.level ∙ a.level }
 
-module _ {tables : Tables} {between instances : Instances} {levels m next : ℕ} {c contexts : Contexts} {t temporaries : List (List ℕ)} where
-  pub leaves_trans : LeavesOf tables levels between m c t → LeavesOf tables (length t) instances next contexts temporaries → LeavesOf tables levels instances next contexts temporaries
-  leaves_trans a b = record { good = b.good; level = b.level ∙ a.level }
+  pub leaves_trans : LeavesOf tables before levels between m c t → LeavesOf tables between (length t) instances next contexts temporaries → LeavesOf tables before levels instances next contexts temporaries
+  leaves_trans a b = record { good = b.good; begun = settles_trans a.begun b.begun; level = b.level ∙ a.level }
 
 module _ {tables : Tables} {before instances : Instances} {levels next : ℕ} {contexts : Contexts} {temporaries : List (List ℕ)} where
-  pub leaves_after : AfterOf tables before levels instances next contexts temporaries → LeavesOf tables levels instances next contexts temporaries
-  leaves_after a = record { good = a.good; level = a.level }
+  pub leaves_after : AfterOf tables before levels instances next contexts temporaries → LeavesOf tables before levels instances next contexts temporaries
+  leaves_after a = record { good = a.good; begun = a.begun; level = a.level }

@@ -1,2 +1,3 @@
 pub mod Missing
 pub mod Accepted
+pub mod Left

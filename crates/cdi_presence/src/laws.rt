@@ -1,8 +1,9 @@
-//! The laws that nothing is missing. A call of one of these does nothing: its contract is the law.
+//! The laws that nothing is missing and nothing is left. A call of one of these does nothing: its contract is the law.
 ghost use Rattle.std.specs.Prelude.{◌≡◌, []};
 ghost use Rattle.cdi_bodies.specs.Table.{entries_of};
 ghost use Rattle.cdi_beans.specs.Check.{problems_of};
 ghost use Rattle.cdi_presence.specs.Accepted.{AcceptedServes, NoneMissed};
+ghost use Rattle.cdi_presence.specs.Left.{LeavesTidy};
 ghost use Rattle.cdi_presence.specs.Missing.{MissesNothing};
 
 use cdi_beans::tables::Tables;
@@ -41,4 +42,16 @@ pub fn law_none_missed(deployment: &Deployment, bodies: &Bodies)
     ensures short_of_memory { NoneMissed deployment.now (entries_of bodies.now) (Unit {0}) }
 {
     law_accepted_serves(deployment, bodies);
+}
+
+/// Nothing is left behind: if the bodies give only acts that are served, and a command that isn't refused isn't cut,
+/// then nothing is being made or destroyed after it, and each instance that lives is ready and stands in the
+/// application context for its bean. So what the command borrowed is destroyed at its end (Jakarta CDI 4.0,
+/// *Destruction of objects with scope @Dependent*), and after a shutdown nothing lives (Jakarta CDI 4.0, *Context
+/// management for built-in scopes*).
+pub fn law_leaves_tidy<D: Driver>(tables: &Tables, driver: &D)
+    ensures { LeavesTidy tables.now (D.legal driver.now) }
+{
+    let _tables = tables;
+    let _driver = driver;
 }
