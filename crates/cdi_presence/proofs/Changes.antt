@@ -24,7 +24,7 @@ use Rattle.cdi_machine.specs.World.{World, Change, after_change, instance_at, fo
 use Rattle.cdi_beans.specs.declared.bean.Bean.{Bean}
 use Rattle.cdi_beans.specs.declared.tables.Tables.{Tables}
 use Rattle.cdi_beans.specs.Beans.{bean_of, first_fields}
-use Rattle.cdi_presence.specs.Left.{HasIt}
+use Rattle.cdi_presence.specs.Left.{IsHeld}
 use Rattle.cdi_presence.proofs.Maps.{at_changed, at_other, found_before, at_gone, at_left, at_added, at_before, all_put, all_left, at_put, at_put_other, all_weaker, all_last}
 use Rattle.cdi_presence.proofs.Whole.{IsServedOwner, IsWhole, Stands, HeldBy, AllHeld, IsBorrowed, AllBorrowed, AllWhole, Whole, Good, Keeps, KeepsBut, stands_but, all_held_then, all_borrowed_then, After, IsIn, IsAmong, IsPlaced, AllPlaced, placed_map, WasSo, Settles, SettlesBut}
 
@@ -193,11 +193,11 @@ IsFree (Some a) bean = at a.holds bean ≡ None
 abbrev with_both : ℕ → ℕ → Option Active → Option Active
 with_both bean n a = option_map (active_with bean (Is n)) (option_map (active_with bean Making) a)
 
-has_new : (a : Option Active) (bean n : ℕ) → IsFree a bean → HasIt (with_both bean n a) (components.Bean bean) n
+has_new : (a : Option Active) (bean n : ℕ) → IsFree a bean → IsHeld (with_both bean n a) (components.Bean bean) n
 has_new None bean n h = absurd h
 has_new (Some a) bean n h = at_put _ bean (Is n)
 
-has_old : (a : Option Active) (bean n : ℕ) (component : Component) (m : ℕ) → IsFree a bean → HasIt a component m → HasIt (with_both bean n a) component m
+has_old : (a : Option Active) (bean n : ℕ) (component : Component) (m : ℕ) → IsFree a bean → IsHeld a component m → IsHeld (with_both bean n a) component m
 has_old None bean n component m h q = absurd h
 has_old (Some a) bean n (components.Interceptor i) m h q = absurd q
 has_old (Some a) bean n (components.Bean other) m h q = at_put_other _ bean other (Is n) apart ∙ (at_put_other a.holds bean other Making apart ∙ q)
@@ -206,7 +206,7 @@ has_old (Some a) bean n (components.Bean other) m h q = at_put_other _ bean othe
     apart e = let t : at a.holds bean ≡ Some (Is m) = subst (λ b. at a.holds b ≡ Some (Is m)) e q in absurd (cc)
 
 -- another instance has another bean there
-has_left : (a : Option Active) (bean n : ℕ) (component : Component) (m : ℕ) → m ≢ n → HasIt a (components.Bean bean) n → HasIt a component m → HasIt (option_map (active_without bean) a) component m
+has_left : (a : Option Active) (bean n : ℕ) (component : Component) (m : ℕ) → m ≢ n → IsHeld a (components.Bean bean) n → IsHeld a component m → IsHeld (option_map (active_without bean) a) component m
 has_left None bean n component m d h q = absurd h
 has_left (Some a) bean n (components.Interceptor i) m d h q = absurd q
 has_left (Some a) bean n (components.Bean other) m d h q = at_left a.holds bean other apart ∙ q
@@ -217,14 +217,14 @@ has_left (Some a) bean n (components.Bean other) m d h q = at_left a.holds bean 
         let s : Is m ≡ Is n = cc in
         d cc
 
-has_ending : (a : Option Active) (component : Component) (m : ℕ) → HasIt a component m → HasIt (option_map ending_active a) component m
+has_ending : (a : Option Active) (component : Component) (m : ℕ) → IsHeld a component m → IsHeld (option_map ending_active a) component m
 has_ending None component m h = h
 has_ending (Some a) (components.Bean b) m h = h
 has_ending (Some a) (components.Interceptor i) m h = h
 
 -- nothing is held
 abbrev pub NoneHeld : Option Active → Type 0
-NoneHeld a = (component : Component) (m : ℕ) → HasIt a component m → ⊥
+NoneHeld a = (component : Component) (m : ℕ) → IsHeld a component m → ⊥
 
 in_last : (n : ℕ) (ns : List ℕ) → IsIn n (ns ++ n ∷ [])
 in_last n [] = inl refl
@@ -473,7 +473,7 @@ module _ (tables : Tables) (w : World) (n : ℕ) (o : Instance) (there : instanc
           absurd (cc)
       by m y e r (inr s) = f m y.component y.owner s.1 (g.placed.placed m y (sym (at_other w.instances n m _ s.1) ∙ e) r)
 
-  goes_shared : (bean : ℕ) → o.component ≡ components.Bean bean → o.owner ≡ owners.Context Application → HasIt w.contexts.application (components.Bean bean) n
+  goes_shared : (bean : ℕ) → o.component ≡ components.Bean bean → o.owner ≡ owners.Context Application → IsHeld w.contexts.application (components.Bean bean) n
       → Goes (without_owned n (components.Bean bean) (owners.Context Application) (with_instances (in_phase phases.Leaving n) w))
   goes_shared bean of owned has_it = record {
     good = record {
@@ -511,9 +511,9 @@ module _ (tables : Tables) (w : World) (n : ℕ) (o : Instance) (there : instanc
       subst Goes (sym (left_is w n o there h.owner)) (
       subst (λ c. Goes (without_owned n c o.owner (with_instances (in_phase phases.Leaving n) w))) (sym h.of) (by h.bean h.of o.owner refl h.owner))
     where
-      has_it : (bean : ℕ) → o.component ≡ components.Bean bean → o.owner ≡ owners.Context Application → HasIt w.contexts.application (components.Bean bean) n
+      has_it : (bean : ℕ) → o.component ≡ components.Bean bean → o.owner ≡ owners.Context Application → IsHeld w.contexts.application (components.Bean bean) n
       has_it bean of owned =
-          subst (λ c. HasIt w.contexts.application c n) of
+          subst (λ c. IsHeld w.contexts.application c n) of
           (subst (λ x. IsPlaced w.contexts.application w.temporaries n o.component x) owned (g.placed.placed n o there ready))
 
       by : (bean : ℕ) → o.component ≡ components.Bean bean → (owner : Owner) → o.owner ≡ owner → IsServedOwner owner → Goes (without_owned n (components.Bean bean) owner (with_instances (in_phase phases.Leaving n) w))
@@ -562,7 +562,7 @@ assigned tables w n field v g = record {
 }
 
 -- nothing else moves
-moves : {instances : Instances} {a : Option Active} {temporaries : List (List ℕ)} (b : Option Active) (us : List (List ℕ)) → ((m : ℕ) (component : Component) → HasIt a component m → HasIt b component m) → ((m : ℕ) → IsAmong m temporaries → IsAmong m us)
+moves : {instances : Instances} {a : Option Active} {temporaries : List (List ℕ)} (b : Option Active) (us : List (List ℕ)) → ((m : ℕ) (component : Component) → IsHeld a component m → IsHeld b component m) → ((m : ℕ) → IsAmong m temporaries → IsAmong m us)
     → AllPlaced instances a temporaries → AllPlaced instances b us
 moves {instances} {a} {temporaries} b us f g h = record { placed = λ m y e r. placed_map a b temporaries us m y.component y.owner (f m y.component) (g m) (h.placed m y e r) }
 

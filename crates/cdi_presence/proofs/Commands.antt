@@ -36,7 +36,7 @@ use Rattle.cdi_beans.specs.declared.tables.Tables.{Tables}
 use Rattle.cdi_beans.specs.Beans.{bean_of, find_method, resolve}
 use Rattle.cdi_beans.specs.Served.{machine_tables, machine_bean, machine_method, machine_resolution, machine_scope, is_type}
 use Rattle.cdi_beans.proofs.Served.{at_method, resolved_is_there}
-use Rattle.cdi_presence.specs.Missing.{Takes, GivesServed, IsServedCommand, IsAdmitted}
+use Rattle.cdi_presence.specs.Missing.{HasMethod, GivesServed, IsServedCommand, IsAdmitted}
 use Rattle.cdi_presence.proofs.Safe.{weaker}
 use Rattle.cdi_presence.proofs.Whole.{Good, After, Leaves, Settles, settles_trans, after_self, after_trans, leaves_trans, leaves_after}
 use Rattle.cdi_presence.proofs.Changes.{borrows, returns, finishes, closes, NoneHeld, HasTop}
@@ -266,7 +266,7 @@ module _ (classes : List ℕ) (tables : Tables) (s : State) (g : Good tables s.w
       absurd (cc)
 
   -- what the bean of a call doesn't refuse
-  taken : (b : Bean) (name count : ℕ) → first_that_holds (call_refusals (Some (machine_bean b)) name count) ≡ None → Takes b.methods name count
+  taken : (b : Bean) (name count : ℕ) → first_that_holds (call_refusals (Some (machine_bean b)) name count) ≡ None → HasMethod b.methods name count
   taken b name count e = by (find_method b.methods name) refl (subst (λ x. first_that_holds ((no_method x, refusals.NoMethod) ∷ (wrong_count x count, refusals.WrongCount) ∷ []) ≡ None) (at_method b.methods name) e)
     where
       same : (m : Method) → not (nat_eq m.count count) ≡ false → m.count ≡ count
@@ -276,7 +276,7 @@ module _ (classes : List ℕ) (tables : Tables) (s : State) (g : Good tables s.w
           turn true q = refl
           turn false q = absurd (cc)
 
-      by : (x : Option Method) → find_method b.methods name ≡ x → first_that_holds ((no_method (option_map machine_method x), refusals.NoMethod) ∷ (wrong_count (option_map machine_method x) count, refusals.WrongCount) ∷ []) ≡ None → Takes b.methods name count
+      by : (x : Option Method) → find_method b.methods name ≡ x → first_that_holds ((no_method (option_map machine_method x), refusals.NoMethod) ∷ (wrong_count (option_map machine_method x) count, refusals.WrongCount) ∷ []) ≡ None → HasMethod b.methods name count
       by None f h = absurd (cc)
       by (Some m) f h = record { method = m; has = f; takes = same m (passes (not (nat_eq m.count count)) refusals.WrongCount [] h).0 }
 

@@ -20,9 +20,9 @@ use Rattle.cdi_machine.specs.Container.{State, refusal, Answers, is_cut, refused
 use Rattle.cdi_machine.specs.Runs.{Legal, Outcome, Ends, Cut, Runs}
 use Rattle.cdi_beans.specs.declared.tables.Tables.{Tables}
 use Rattle.cdi_beans.specs.Served.{machine_tables}
-use Rattle.cdi_presence.specs.Missing.{NothingMissing, GivesServed, IsServedCommand, Reached, MissesNothing}
+use Rattle.cdi_presence.specs.Missing.{NothingMissing, GivesServed, IsServedCommand, IsReachable, AsksWhatIsThere, MissesNothing}
 use Rattle.cdi_presence.specs.Accepted.{legal_of, AcceptedServes, NoneMissed}
-use Rattle.cdi_presence.specs.Left.{HasIt, IsTidy, LeavesTidy}
+use Rattle.cdi_presence.specs.Left.{IsHeld, IsTidy, LeavesTidy}
 use Rattle.cdi_presence.proofs.Safe.{UnlessCut, misses_none}
 use Rattle.cdi_presence.proofs.Whole.{Good, IsAmong, IsPlaced, WasSo, Leaves}
 use Rattle.cdi_presence.proofs.Terms.{Pre, Post}
@@ -43,7 +43,7 @@ not_among n (ns ∷ more) e h = absurd (omega arith)
 tidy : (tables : Tables) (w : World) → Rests tables w → IsTidy w
 tidy tables w r = record { ready = r.ready; held = λ n o e. by n o.component o.owner (r.good.placed.placed n o e (r.ready n o e)) }
   where
-    by : (n : ℕ) (component : Component) (owner : Owner) → IsPlaced w.contexts.application w.temporaries n component owner → HasIt w.contexts.application component n
+    by : (n : ℕ) (component : Component) (owner : Owner) → IsPlaced w.contexts.application w.temporaries n component owner → IsHeld w.contexts.application component n
     by n component (owners.Context Application) q = q
     by n component (owners.Context (Request name)) q = absurd q
     by n component (owners.Context (Session name)) q = absurd q
@@ -56,7 +56,7 @@ none_lives (p ∷ more) f = absurd (elim (equal_or_not p.0 p.0) [ inl s ↦ f p.
 
 -- without its context nothing lives
 emptied : (tables : Tables) (w : World) → Rests tables w → w.contexts.application ≡ None → w.instances ≡ []
-emptied tables w r e = none_lives w.instances (λ n o h. subst (λ a. HasIt a o.component n) e ((tidy tables w r).held n o h))
+emptied tables w r e = none_lives w.instances (λ n o h. subst (λ a. IsHeld a o.component n) e ((tidy tables w r).held n o h))
 
 module _ (classes : List ℕ) (tables : Tables) (legal : Legal) (serves : GivesServed tables legal) where
   -- a command that isn't refused misses nothing, and what is left fits again
@@ -102,10 +102,10 @@ module _ (classes : List ℕ) (tables : Tables) (legal : Legal) (serves : GivesS
   after_end w c (Cut cause) v r g e = absurd (cc)
 
   -- a container that isn't halted is at rest between commands
-  reached : {s : State} → Reached (machine_tables classes tables) legal s → s.halted ≡ false → Rests tables s.world
-  reached (Reached.begins ticks depth) h = first ticks depth
-  reached (Reached.goes_on {s = s} before served (Answers.refuses r e)) h = let a = reached before h in record { good = a.good; ready = a.ready; level = a.level }
-  reached (Reached.goes_on {s = s} {c = c} before served (Answers.carries_out {o = o} {v = v} e r)) h =
+  reached : {s : State} → IsReachable (machine_tables classes tables) legal s → s.halted ≡ false → Rests tables s.world
+  reached (IsReachable.begins ticks depth) h = first ticks depth
+  reached (IsReachable.goes_on {s = s} before served (Answers.refuses r e)) h = let a = reached before h in record { good = a.good; ready = a.ready; level = a.level }
+  reached (IsReachable.goes_on {s = s} {c = c} before served (Answers.carries_out {o = o} {v = v} e r)) h =
       let a = reached before (not_halted s c e) in
       after_end s.world c o v a (carried_out ⊥ s c o v a.good (served e) e r).1 h
 
@@ -115,6 +115,10 @@ misses_nothing tables legal Starved serves classes s before c e q o v r =
 
 pub none_missed : {X : Type 0} {F : X → Type 0} {g : _} (deployment : Deployment) (entries : List (Entry X F g)) (Starved : Type 0) → AcceptedServes deployment entries → NoneMissed deployment entries Starved
 none_missed deployment entries Starved serves tables same = misses_nothing tables (legal_of entries) Starved (serves tables same)
+
+pub asks_what_is_there : (tables : Tables) (legal : Legal) → AsksWhatIsThere tables legal
+asks_what_is_there tables legal classes serves s before c e q =
+    admitted classes tables s (reached classes tables legal serves before (not_halted classes tables legal serves s c e)).good c q e
 
 pub leaves_tidy : (tables : Tables) (legal : Legal) → LeavesTidy tables legal
 leaves_tidy tables legal classes serves s before c e q d v r =

@@ -33,7 +33,7 @@ use Rattle.cdi_beans.specs.Check.{problems_at, too_many, or_else, problems_of}
 use Rattle.cdi_beans.specs.Duplicates.{member_name, field_names, names_in, repeated, stands_in, duplicates}
 use Rattle.cdi_beans.specs.WrongBodies.{has_field, has_method, lacks_field, lacks_method, names_others, is_any, is_outside, is_wrong, problem_at, has_wrong_body, wrong_members, wrong_in, wrong_of_kind, wrong_bodies}
 use Rattle.cdi_beans.proofs.Accepted.{neither, empty_first, empty_second}
-use Rattle.cdi_presence.specs.Missing.{Takes, IsServed}
+use Rattle.cdi_presence.specs.Missing.{HasMethod, IsServed}
 use Rattle.cdi_presence.specs.Accepted.{AcceptedServes}
 use Rattle.cdi_presence.proofs.Distinct.{AreDistinct, are_distinct, past_front, stands_once, behind}
 
@@ -98,7 +98,7 @@ all_put_has before (f ∷ fields) name e = by (nat_eq f.name name) refl (all_put
 -- an act that is served, by the fields and methods of the class
 abbrev ServedBy : List Field → List Method → View → Act → Type 0
 ServedBy fields ms view (acts.Set field v) = has (first_fields fields) field ≡ true
-ServedBy fields ms view (acts.Own method args) = Takes ms method (length args)
+ServedBy fields ms view (acts.Own method args) = HasMethod ms method (length args)
 ServedBy fields ms view (acts.Give v) = Unit {0}
 ServedBy fields ms view (acts.Throw x) = is_thrown x (last_answer view) ≡ true
 ServedBy fields ms view _ = ⊥
@@ -127,23 +127,23 @@ module _ (shape : ℕ → Option Shape) (registered : ℕ → Option ℕ) where
   named name = option_and_then shape (registered name)
 
   -- a method that the class declares is the one of its methods with that name
-  finds_own : (class : Class) (ms : List Member) (own : OwnCall) (before : List ℕ) → wrong_members named kinds.UnknownBody class ms ≡ [] → repeated before (map member_name ms) ≡ [] → has_method ms own ≡ true → Takes (methods_of registered class.name ms) own.method own.count
+  finds_own : (class : Class) (ms : List Member) (own : OwnCall) (before : List ℕ) → wrong_members named kinds.UnknownBody class ms ≡ [] → repeated before (map member_name ms) ≡ [] → has_method ms own ≡ true → HasMethod (methods_of registered class.name ms) own.method own.count
   finds_own class [] own before e d h = absurd (cc)
   finds_own class (members.Method m ∷ ms) own before e d h =
       let q = none_here (problem_at kinds.UnknownBody class) (is_wrong kinds.UnknownBody class (named m.body)) (members.Method m) (filter (has_wrong_body named kinds.UnknownBody class) ms) e in
       by (finds_own class ms own (before ++ m.name ∷ []) q.1 (behind before m.name (map member_name ms) d)) (registered m.body) q.0
     where
-      later : (b : Bool) → nat_eq m.name own.method ≡ true → has_method ms own ≡ true → Takes (methods_of registered class.name ms) own.method own.count
+      later : (b : Bool) → nat_eq m.name own.method ≡ true → has_method ms own ≡ true → HasMethod (methods_of registered class.name ms) own.method own.count
       later b t there = absurd (stands_once before m.name (map member_name ms) own.method d t (is_named ms own there))
 
       at_name : (x : Method) → x.count ≡ m.args → (same count : Bool) → nat_eq m.name own.method ≡ same → nat_eq m.args own.count ≡ count
-          → (has_method ms own ≡ true → Takes (methods_of registered class.name ms) own.method own.count) → ((same && count) || has_method ms own) ≡ true
+          → (has_method ms own ≡ true → HasMethod (methods_of registered class.name ms) own.method own.count) → ((same && count) || has_method ms own) ≡ true
           → (y : Method) × (cond same (Some x) (find_method (methods_of registered class.name ms) own.method) ≡ Some y) × (y.count ≡ own.count)
       at_name x c true true t s tail test = (x, refl, c ∙ exact_unsigned_eq m.args own.count s)
       at_name x c true false t s tail test = absurd (stands_once before m.name (map member_name ms) own.method d t (is_named ms own test))
       at_name x c false count t s tail test = let k = tail test in (k.method, k.has, k.takes)
 
-      by : (has_method ms own ≡ true → Takes (methods_of registered class.name ms) own.method own.count) → (body : Option ℕ) → is_wrong kinds.UnknownBody class (option_and_then shape body) ≡ false → Takes (method_before class.name m body (methods_of registered class.name ms)) own.method own.count
+      by : (has_method ms own ≡ true → HasMethod (methods_of registered class.name ms) own.method own.count) → (body : Option ℕ) → is_wrong kinds.UnknownBody class (option_and_then shape body) ≡ false → HasMethod (method_before class.name m body (methods_of registered class.name ms)) own.method own.count
       by tail None wrong = absurd (cc)
       by tail (Some body) wrong = let k = at_name _ refl (nat_eq m.name own.method) (nat_eq m.args own.count) refl refl tail h in record { method = k.0; has = k.1; takes = k.2 }
 
@@ -178,19 +178,19 @@ module _ (shape : ℕ → Option Shape) (registered : ℕ → Option ℕ) where
 
   -- an own call that is listed is one of a method that there is
   own_served : (class : Class) (owns : List OwnCall) (method count : ℕ) (before : List ℕ) → wrong_members named kinds.UnknownBody class class.members ≡ [] → repeated before (map member_name class.members) ≡ [] → lacks_method class.members owns ≡ false
-      → list_any (λ c. nat_eq c.method method && nat_eq c.count count) owns ≡ true → Takes (methods_of registered class.name class.members) method count
+      → list_any (λ c. nat_eq c.method method && nat_eq c.count count) owns ≡ true → HasMethod (methods_of registered class.name class.members) method count
   own_served class [] method count before whole d e h = absurd (cc)
   own_served class (own ∷ owns) method count before whole d e h =
       by (has_method class.members own) refl (nat_eq own.method method) refl (nat_eq own.count count) refl (own_served class owns method count before whole d (or_parts (not (has_method class.members own)) (lacks_method class.members owns) e).1) (or_parts (not (has_method class.members own)) (lacks_method class.members owns) e).0 h
     where
       by : (there : Bool) → has_method class.members own ≡ there → (same : Bool) → nat_eq own.method method ≡ same → (many : Bool) → nat_eq own.count count ≡ many
-          → (list_any (λ c. nat_eq c.method method && nat_eq c.count count) owns ≡ true → Takes (methods_of registered class.name class.members) method count)
+          → (list_any (λ c. nat_eq c.method method && nat_eq c.count count) owns ≡ true → HasMethod (methods_of registered class.name class.members) method count)
           → not there ≡ false → ((same && many) || list_any (λ c. nat_eq c.method method && nat_eq c.count count) owns) ≡ true
-          → Takes (methods_of registered class.name class.members) method count
+          → HasMethod (methods_of registered class.name class.members) method count
       by false a same t many s tail b test = absurd (cc)
       by true a true t true s tail b test =
-          subst (λ n. Takes (methods_of registered class.name class.members) method n) (exact_unsigned_eq own.count count s)
-          (subst (λ n. Takes (methods_of registered class.name class.members) n own.count) (exact_unsigned_eq own.method method t) (finds_own class class.members own before whole d a))
+          subst (λ n. HasMethod (methods_of registered class.name class.members) method n) (exact_unsigned_eq own.count count s)
+          (subst (λ n. HasMethod (methods_of registered class.name class.members) n own.count) (exact_unsigned_eq own.method method t) (finds_own class class.members own before whole d a))
       by true a true t false s tail b test = tail test
       by true a false t many s tail b test = tail test
 

@@ -46,10 +46,10 @@ use Rattle.cdi_beans.specs.declared.tables.Tables.{Tables}
 use Rattle.cdi_beans.specs.Beans.{bean_of, find_method, first_fields}
 use Rattle.cdi_beans.specs.Served.{machine_tables, machine_bean, machine_method, machine_methods, machine_scope}
 use Rattle.cdi_beans.proofs.Served.{at_method}
-use Rattle.cdi_presence.specs.Missing.{Takes, IsServed, GivesServed}
+use Rattle.cdi_presence.specs.Missing.{HasMethod, IsServed, GivesServed}
 use Rattle.cdi_presence.proofs.Safe.{Safe, bind}
 use Rattle.cdi_presence.proofs.Maps.{all_at, all_weaker, all_last}
-use Rattle.cdi_presence.proofs.Whole.{IsServedOwner, IsWhole, Stands, HeldBy, AllHeld, IsBorrowed, AllBorrowed, Good, Keeps, After, Leaves, after_self, after_trans, leaves_trans, leaves_after, settles_but_then}
+use Rattle.cdi_presence.proofs.Whole.{IsWhole, Stands, HeldBy, AllHeld, IsBorrowed, AllBorrowed, Good, Keeps, After, Leaves, after_self, after_trans, leaves_trans, leaves_after, settles_but_then}
 use Rattle.cdi_presence.proofs.Changes.{IsLeaving, IsFree, NoneHeld, HasTop, TopEmpty, Begins, gone_settles, made_shared, made_borrowed, goes, removed, assigned}
 use Rattle.cdi_presence.proofs.Terms.{IsKnown, Lives, IsThere, IsReady, Serves, Invokes, IsAnswered, Told, Runs, Pre, Post, serves_then, thrown_text, CanHave, Gives}
 
@@ -300,7 +300,7 @@ module _ (classes : List ℕ) (tables : Tables) (legal : Legal) (serves : GivesS
   same_count m count e = grind (arith, Rattle.std.proofs.lemmas.Bool.Decides.nat_tests)
 
   -- a call of a method from outside
-  pub invoke_safe : (n bean : ℕ) (name : Name) (args : List Value) (plan : Bean) (w : World) → Good tables w → Lives w.instances n bean → bean_of tables bean ≡ Some plan → Takes plan.methods name (length args)
+  pub invoke_safe : (n bean : ℕ) (name : Name) (args : List Value) (plan : Bean) (w : World) → Good tables w → Lives w.instances n bean → bean_of tables bean ≡ Some plan → HasMethod plan.methods name (length args)
       → Goes (invoke_method n name args) w (λ c u. After tables w u)
   invoke_safe n bean name args plan w g lives known takes =
       method_safe n bean name plan takes.method _ w _ lives known takes.has (
@@ -342,7 +342,7 @@ module _ (classes : List ℕ) (tables : Tables) (legal : Legal) (serves : GivesS
       let x = has_at lives.instance.fields field (same ∙ served) in
       found (instance_at w r.instance) lives.instance _ w _ lives.there (found (at lives.instance.fields field) x.0 _ w _ x.1 (assigned tables w r.instance field v g, tt))
 
-  own_safe : (r : Running) (name : Name) (args : List Value) (w : World) → Good tables w → (h : Runs tables w.instances r) → Takes h.0.plan.methods name (length args)
+  own_safe : (r : Running) (name : Name) (args : List Value) (w : World) → Good tables w → (h : Runs tables w.instances r) → HasMethod h.0.plan.methods name (length args)
       → Goes (carry_out r (acts.Own name args)) w (λ c u. After tables w u × Told tables c)
   own_safe r name args w g h takes =
       let s = h.0 in

@@ -21,7 +21,7 @@ use Rattle.cdi_machine.specs.World.{World}
 use Rattle.cdi_beans.specs.declared.bean.Bean.{Bean}
 use Rattle.cdi_beans.specs.declared.tables.Tables.{Tables}
 use Rattle.cdi_beans.specs.Beans.{bean_of, first_fields}
-use Rattle.cdi_presence.specs.Left.{HasIt}
+use Rattle.cdi_presence.specs.Left.{IsHeld}
 use Rattle.cdi_presence.proofs.Maps.{all_weaker}
 
 -- an instance belongs to the application context, or to who borrowed it
@@ -77,7 +77,7 @@ IsAmong n (ns ∷ more) = IsIn n ns ⊎ IsAmong n more
 
 -- it stands where its owner says
 abbrev pub IsPlaced : Option Active → List (List ℕ) → ℕ → Component → Owner → Type 0
-IsPlaced a temporaries n component (owners.Context Application) = HasIt a component n
+IsPlaced a temporaries n component (owners.Context Application) = IsHeld a component n
 IsPlaced a temporaries n component (owners.Context (Request name)) = ⊥
 IsPlaced a temporaries n component (owners.Context (Session name)) = ⊥
 IsPlaced a temporaries n component (owners.Instance m) = ⊥
@@ -140,7 +140,7 @@ all_borrowed_then {before} {after} temporaries k h =
     all_weaker (AllByRecursion (IsBorrowed before)) (AllByRecursion (IsBorrowed after)) temporaries
     (λ ns. all_weaker (IsBorrowed before) (IsBorrowed after) ns (λ n q. (q.0, stands_then k q.1))) h
 
-pub placed_map : (a b : Option Active) (ts us : List (List ℕ)) (n : ℕ) (component : Component) (owner : Owner) → (HasIt a component n → HasIt b component n) → (IsAmong n ts → IsAmong n us) → IsPlaced a ts n component owner → IsPlaced b us n component owner
+pub placed_map : (a b : Option Active) (ts us : List (List ℕ)) (n : ℕ) (component : Component) (owner : Owner) → (IsHeld a component n → IsHeld b component n) → (IsAmong n ts → IsAmong n us) → IsPlaced a ts n component owner → IsPlaced b us n component owner
 placed_map a b ts us n component (owners.Context Application) f g q = f q
 placed_map a b ts us n component (owners.Context (Request name)) f g q = q
 placed_map a b ts us n component (owners.Context (Session name)) f g q = q

@@ -17,13 +17,15 @@ legal_of entries =
     }
 
 -- the bodies of the deployment give only acts that are served
-abbrev pub AcceptedServes : {X : Type 0} {F : X → Type 0} {g : _} → Deployment → List (Entry X F g) → Type 0
+abbrev pub AcceptedServes : {X : Type 0} {F : X → Type 0} {g : _}
+    → Deployment → List (Entry X F g) → Type 0
 AcceptedServes deployment entries =
     (tables : Tables) → tables.beans ≡ beans_of deployment.classes entries
     → GivesServed tables (legal_of entries)
 
 -- in a container of the deployment with these bodies no command misses anything
-abbrev pub NoneMissed : {X : Type 0} {F : X → Type 0} {g : _} → Deployment → List (Entry X F g) → Type 0 → Type 0
+abbrev pub NoneMissed : {X : Type 0} {F : X → Type 0} {g : _}
+    → Deployment → List (Entry X F g) → Type 0 → Type 0
 NoneMissed deployment entries Starved =
     (tables : Tables) → tables.beans ≡ beans_of deployment.classes entries
     → MissesNone tables (legal_of entries) Starved

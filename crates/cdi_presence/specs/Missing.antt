@@ -21,9 +21,8 @@ use Rattle.cdi_beans.specs.Beans.{bean_of, find_method, first_fields, resolve}
 use Rattle.cdi_beans.specs.Served.{machine_tables}
 
 -- no point of the run is one at which something is missing
-abbrev pub NothingMissing : {tables : machine.Tables} {legal : Legal} {Starved : Type 0} {p : Prog Given}
-    {w v : World} {o : Outcome}
-    → Runs tables legal Starved p w o v → Type 0
+abbrev pub NothingMissing : {tables : machine.Tables} {legal : Legal} {Starved : Type 0}
+    {p : Prog Given} {w v : World} {o : Outcome} → Runs tables legal Starved p w o v → Type 0
 NothingMissing (Runs.misses r) = ⊥
 NothingMissing Runs.returns = Unit {0}
 NothingMissing Runs.throws = Unit {0}
@@ -41,7 +40,7 @@ NothingMissing (Runs.starves s) = Unit {0}
 -- ---- acts
 
 -- a method of this name, which takes so many values
-pub record Takes (methods : List Method) (name count : ℕ) : Type 0 where
+pub record HasMethod (methods : List Method) (name count : ℕ) : Type 0 where
   pub method : Method
   pub has : find_method methods name ≡ Some method
   pub takes : method.count ≡ count
@@ -53,7 +52,7 @@ HasText tables x = (text : List ℕ) × (slice_get tables.names x ≡ Some text)
 -- value, or throws what has a text or what its last act was answered with.
 abbrev pub IsServed : Tables → Bean → View → Act → Type 0
 IsServed tables bean view (acts.Set field v) = has (first_fields bean.fields) field ≡ true
-IsServed tables bean view (acts.Own method args) = Takes bean.methods method (length args)
+IsServed tables bean view (acts.Own method args) = HasMethod bean.methods method (length args)
 IsServed tables bean view (acts.Give v) = Unit {0}
 IsServed tables bean view (acts.Throw x) =
     HasText tables x ⊎ (is_thrown x (last_answer view) ≡ true)
@@ -80,7 +79,7 @@ abbrev pub IsAdmitted : Tables → Command → Type 0
 IsAdmitted tables Command.Boot = Unit {0}
 IsAdmitted tables (Command.Call None asked method args) =
     (bean : ℕ) (b : Bean) → resolve tables asked.type ≡ One bean → bean_of tables bean ≡ Some b
-    → Takes b.methods method (length args)
+    → HasMethod b.methods method (length args)
 IsAdmitted tables (Command.Read None asked) =
     (bean : ℕ) (b : Bean) → resolve tables asked.type ≡ One bean → bean_of tables bean ≡ Some b → ⊥
 IsAdmitted tables Command.Live = Unit {0}
@@ -88,17 +87,25 @@ IsAdmitted tables Command.Shutdown = Unit {0}
 IsAdmitted tables _ = ⊥
 
 -- the states that commands lead to, refused ones included
-pub data Reached (tables : machine.Tables) (legal : Legal) : State → Type 0 where
-  begins : (ticks depth : ℕ) → Reached tables legal (before_commands ticks depth)
-  goes_on : {s t : State} {c : Command} {r : Reply} → Reached tables legal s
+pub data IsReachable (tables : machine.Tables) (legal : Legal) : State → Type 0 where
+  begins : (ticks depth : ℕ) → IsReachable tables legal (before_commands ticks depth)
+  goes_on : {s t : State} {c : Command} {r : Reply} → IsReachable tables legal s
       → (refusal tables s c ≡ None → IsServedCommand c)
       → Answers tables legal s c r t
-      → Reached tables legal t
+      → IsReachable tables legal t
+
+-- in each of these a command that isn't refused asks for what there is
+abbrev pub AsksWhatIsThere : Tables → Legal → Type 0
+AsksWhatIsThere tables legal =
+    (classes : List ℕ) → GivesServed tables legal → (s : State)
+    → IsReachable (machine_tables classes tables) legal s
+    → (c : Command) → refusal (machine_tables classes tables) s c ≡ None → IsServedCommand c
+    → IsAdmitted tables c
 
 -- in no state that commands lead to does a command miss anything, whichever the classes of the deployment are
 abbrev pub MissesNone : Tables → Legal → Type 0 → Type 0
 MissesNone tables legal Starved =
-    (classes : List ℕ) (s : State) → Reached (machine_tables classes tables) legal s
+    (classes : List ℕ) (s : State) → IsReachable (machine_tables classes tables) legal s
     → (c : Command) → refusal (machine_tables classes tables) s c ≡ None → IsServedCommand c
     → (o : Outcome) (v : World)
     → (r : Runs (machine_tables classes tables) legal Starved (task c) (at_begin s.world) o v)

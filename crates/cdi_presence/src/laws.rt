@@ -4,7 +4,7 @@ ghost use Rattle.cdi_bodies.specs.Table.{entries_of};
 ghost use Rattle.cdi_beans.specs.Check.{problems_of};
 ghost use Rattle.cdi_presence.specs.Accepted.{AcceptedServes, NoneMissed};
 ghost use Rattle.cdi_presence.specs.Left.{LeavesTidy};
-ghost use Rattle.cdi_presence.specs.Missing.{MissesNothing};
+ghost use Rattle.cdi_presence.specs.Missing.{AsksWhatIsThere, MissesNothing};
 
 use cdi_beans::tables::Tables;
 use cdi_bodies::Bodies;
@@ -18,6 +18,15 @@ use cdi_machine::Driver;
 pub fn law_nothing_missing<D: Driver>(tables: &Tables, driver: &D)
     ensures with_memory { MissesNothing tables.now (D.legal driver.now) ⊥ }
     ensures short_of_memory { MissesNothing tables.now (D.legal driver.now) (Unit {0}) }
+{
+    let _tables = tables;
+    let _driver = driver;
+}
+
+/// A command that isn't refused asks for what there is: the bean to which its type resolves has the method, with as many
+/// values, and a product is read only of no bean. A command in a request is always refused, since none is open.
+pub fn law_asks_what_is_there<D: Driver>(tables: &Tables, driver: &D)
+    ensures { AsksWhatIsThere tables.now (D.legal driver.now) }
 {
     let _tables = tables;
     let _driver = driver;
