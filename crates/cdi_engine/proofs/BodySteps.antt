@@ -1,44 +1,34 @@
 -- The steps of bodies are those of the machine.
-use Rattle.std.proofs.Common.{ℕ, ◌≡◌, ◌<◌, ◌≤◌, ◌∷◌, [], List, length, refl, sym, ◌∙◌, ap, arith, Option, Some, None, Bool, true, false}
+use Rattle.std.proofs.Common.{ℕ, ◌≡◌, ◌∷◌, [], List, length, refl, sym, ◌∙◌, ap, Option, Some, None, Bool, true, false}
 use Rattle.std.proofs.Math.Path.{fun_ext}
-use Rattle.std.specs.Prelude.{suc, ◌^◌, nat_eq, nat_lt, slice_get, option_map, option_and_then, is_some}
+use Rattle.std.specs.Prelude.{nat_eq, nat_lt, option_and_then, is_some}
 use Rattle.cdi_base.specs.declared.value.Value.{Value}
 use Rattle.cdi_base.specs.declared.value.Value.TheVariants as values
 use Rattle.cdi_base.specs.declared.act.Act.{Act}
 use Rattle.cdi_base.specs.declared.act.Act.TheVariants as acts
 use Rattle.cdi_base.specs.declared.act.Answer.{Answer}
 use Rattle.cdi_base.specs.declared.act.Answer.TheVariants as answers
-use Rattle.cdi_base.specs.declared.entry.Entry.{Entry}
 use Rattle.cdi_base.specs.declared.entry.Entry.TheVariants as entries
 use Rattle.cdi_base.specs.declared.reply.Cause.TheVariants as causes
-use Rattle.cdi_base.specs.declared.place.Place.TheVariants as places
-use Rattle.cdi_base.specs.declared.place.InterceptorMethod.{InterceptorMethod}
-use Rattle.cdi_base.specs.declared.place.InterceptorMethod.TheVariants as roles
 use Rattle.cdi_base.specs.declared.built_in.BuiltIn.TheVariants as built_in
 use Rattle.cdi_base.specs.BuiltIn.{number_of}
 use Rattle.cdi_base.specs.Maps.{at}
 use Rattle.cdi_base.specs.Fields.{has}
 use Rattle.cdi_store.specs.declared.instance.Component.{Component}
 use Rattle.cdi_store.specs.declared.instance.Component.TheVariants as components
-use Rattle.cdi_store.specs.declared.instance.Context.TheVariants.{Application}
 use Rattle.cdi_store.specs.declared.instance.Instance.{Instance}
-use Rattle.cdi_store.specs.declared.instance.Owner.{Owner}
-use Rattle.cdi_store.specs.declared.instance.Owner.TheVariants as owners
-use Rattle.cdi_store.specs.declared.instance.Phase.TheVariants as phases
-use Rattle.cdi_beans.specs.declared.bean.Bean.{Bean as CodeBean}
 use Rattle.cdi_beans.specs.declared.bean.Method.{Method as CodeMethod}
-use Rattle.cdi_beans.specs.Served.{machine_bean, machine_method, machine_resolution, machine_scope}
-use Rattle.cdi_machine.specs.Words.{Name, Fields, Asked}
-use Rattle.cdi_machine.specs.Tables.{Tables, Code, Bean, Method, Kind, Resolution, One, Nothing, Many, Observer}
-use Rattle.cdi_machine.specs.World.{World, Change, Invocation, after_change, instance_at}
+use Rattle.cdi_beans.specs.Served.{machine_method}
+use Rattle.cdi_machine.specs.Words.{Name, Fields}
+use Rattle.cdi_machine.specs.Tables.{Tables, Bean, Method, Kind}
+use Rattle.cdi_machine.specs.World.{World, Change, after_change, instance_at}
 use Rattle.cdi_machine.specs.Programs as machine
 use Rattle.cdi_machine.specs.Programs.{Given, Number, Completion, Gave, Threw, Prog, ret, throw, see, nested, tick, change, choose, act, handle, finally, quietly, do_nothing, tell_missing, require_present, require, require_one, expect, complete, call, finish, note, alter, each, raise, require_number, give_number, next_number, require_depth, go_deeper, top, instance, bean_at, resolve, attempt, ◌>>=◌, ◌>>◌}
 use Rattle.cdi_engine.specs.Setting.{Setting, GivesTo}
-use Rattle.cdi_store.specs.Owned.{dependents_in}
-use Rattle.cdi_engine.specs.Asked.{of_type, method_in, method_at, method_of_component, method_of_instance, has_field_in, number_left, top_of, latest_in}
-use Rattle.cdi_engine.specs.Words.{given_of, completion_of, running_of, class_of, qualifiers_of, task_of}
-use Rattle.cdi_engine.specs.Points.{over, rest, waits, node, first, around, fields_of, make_instance, settle, start_body, stop_body, go_on_with, told, reach_end, let_go, free_dependents, end_clean_up, clean_up_quietly, end_instance, free_picked, use_for, use_lent, exit_with, give_back_with, return_with, start_container, deliver, bring_down, close_application, finish_application, empty_application}
-use Rattle.cdi_engine.specs.Leads.{settled, walked, Comes, Leads, Settles}
+use Rattle.cdi_engine.specs.Asked.{method_in, method_of_component, method_of_instance, has_field_in}
+use Rattle.cdi_engine.specs.Words.{given_of, completion_of, running_of}
+use Rattle.cdi_engine.specs.Points.{start_body, stop_body, go_on_with, told}
+use Rattle.cdi_engine.specs.Leads.{settled, Comes, Leads, Settles}
 use Rattle.cdi_engine.specs.declared.task.Call.TheVariants as calls
 use Rattle.cdi_engine.specs.declared.task.Completion.{Completion as CodeCompletion}
 use Rattle.cdi_engine.specs.declared.task.Completion.TheVariants as completions
@@ -46,15 +36,13 @@ use Rattle.cdi_engine.specs.declared.task.Given.{Given as CodeGiven}
 use Rattle.cdi_engine.specs.declared.task.Given.TheVariants as givens
 use Rattle.cdi_engine.specs.declared.task.Outcome.TheVariants as outcomes
 use Rattle.cdi_engine.specs.declared.task.Running.{Running}
-use Rattle.cdi_engine.specs.declared.task.Task.{Task}
 use Rattle.cdi_engine.specs.declared.task.Task.TheVariants as tasks
 use Rattle.cdi_engine.specs.declared.task.Frame.TheVariants as frames
 use Rattle.cdi_engine.specs.declared.task.Next.{Next}
 use Rattle.cdi_engine.specs.declared.task.Next.TheVariants as nexts
-use Rattle.cdi_bodies.specs.declared.view.View.{View}
 use Rattle.cdi_machine.specs.Bodies as bodies
 use Rattle.cdi_machine.specs.Bodies.{run_body, carry_on, carry_out, perform, answer_of, with_answer, after_act, body_at_start}
-use Rattle.cdi_engine.proofs.InvocationSteps.{with_method, method_settled}
+use Rattle.cdi_engine.proofs.InvocationSteps.{with_method}
 
 -- a field is there just if the fields have it
 at_field : (fields : Fields) (name : Name) → has fields name ≡ true → (v : Value) × (at fields name ≡ Some v)

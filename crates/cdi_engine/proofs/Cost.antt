@@ -1,8 +1,7 @@
 -- Every run ends.
-use Rattle.std.proofs.Common.{ℕ, ◌≡◌, ◌+◌, ◌-◌, ◌*◌, ◌^◌, ◌<◌, ◌≤◌, ◌++◌, List, [], ◌∷◌, ◌⊎◌, inl, inr, length, length-append, refl, ◌∙◌, sym, ap, arith}
+use Rattle.std.proofs.Common.{ℕ, ◌≡◌, ◌<◌, ◌≤◌, ◌++◌, inl, inr, length, length-append, refl, ap, arith}
 use Rattle.cdi_base.specs.declared.entry.Entry.{Entry}
 use Rattle.cdi_base.specs.declared.entry.Entry.TheVariants as entries
-use Rattle.cdi_base.specs.declared.built_in.BuiltIn.TheVariants as built_in
 use Rattle.cdi_machine.specs.Tables.{Tables}
 use Rattle.cdi_machine.specs.World.{World, with_entry}
 use Rattle.cdi_machine.specs.Programs as machine
@@ -17,11 +16,10 @@ use Rattle.cdi_store.specs.declared.instance.Instance.{Instance}
 use Rattle.std.specs.Prelude.{Option, Some, None}
 use Rattle.cdi_engine.specs.Words.{outcome_of, task_of}
 use Rattle.cdi_engine.specs.Points.{first}
-use Rattle.cdi_engine.specs.Falls.{rank, call_rank, frame_rank, thrown_rank, back_rank, entries_left, cost, SameTrace, IsDestroy, FallsBack, Falls}
+use Rattle.cdi_engine.specs.Falls.{rank, call_rank, back_rank, entries_left, cost, SameTrace, Falls}
 use Rattle.cdi_engine.specs.declared.task.Call.{Call}
 use Rattle.cdi_engine.specs.declared.task.Call.TheVariants as calls
 use Rattle.cdi_engine.specs.declared.task.Completion.TheVariants as completions
-use Rattle.cdi_engine.specs.declared.task.Given.{Given}
 use Rattle.cdi_engine.specs.declared.task.Outcome.{Outcome}
 use Rattle.cdi_engine.specs.declared.task.Outcome.TheVariants as outcomes
 use Rattle.cdi_engine.specs.declared.task.Task.{Task}

@@ -1,6 +1,5 @@
 -- A step and the runs after it are a run.
-use Rattle.std.proofs.Common.{ℕ, zero, suc, ◌≡◌, ◌<◌, ◌≤◌, length, refl, sym, ◌∙◌, ap, subst, arith, true≢false}
-use Rattle.std.proofs.Math.Path.{fun_ext}
+use Rattle.std.proofs.Common.{ℕ, zero, suc, ◌≡◌, ◌<◌, ◌≤◌, length, refl, sym, ◌∙◌, subst, true≢false}
 use Rattle.std.specs.Prelude.{Ok, Err, IsErr, IfOk}
 use Rattle.std.specs.Prelude.{Result as Either}
 use Rattle.cdi_base.specs.declared.entry.Entry.{Entry}
@@ -14,7 +13,7 @@ use Rattle.cdi_machine.specs.Runs as runs
 use Rattle.cdi_machine.specs.Runs.{Legal, Runs, rest_after}
 use Rattle.cdi_machine.specs.Laws.{IsWithin}
 use Rattle.cdi_engine.specs.Setting.{Setting, Narrows}
-use Rattle.cdi_engine.specs.Words.{outcome_of, completion_of, task_of}
+use Rattle.cdi_engine.specs.Words.{outcome_of, task_of}
 use Rattle.cdi_engine.specs.Points.{over, around, node, first, rest, waits, after}
 use Rattle.cdi_engine.specs.Leads.{settled, walked, Comes, Leads, Ran}
 use Rattle.cdi_engine.specs.declared.task.Call.{Call}

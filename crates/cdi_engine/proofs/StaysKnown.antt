@@ -1,5 +1,4 @@
 -- What a point rests on stays so.
-use Rattle.std.proofs.Common.{ℕ, ◌≡◌}
 use Rattle.cdi_base.specs.declared.entry.Entry.{Entry}
 use Rattle.cdi_machine.specs.World.{World, with_entry}
 use Rattle.cdi_engine.specs.Setting.{Setting, Narrows}

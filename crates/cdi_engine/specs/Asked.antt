@@ -1,6 +1,5 @@
 -- What is asked of the tables and of the world, as the definition has it.
 use Rattle.std.specs.Prelude.{ℕ, ◌^◌, ◌<◌, List, [], ◌∷◌, length, Bool, true, false, Option, Some, None, nat_lt, option_map, option_and_then}
-use Rattle.cdi_base.specs.declared.place.Place.TheVariants as places
 use Rattle.cdi_base.specs.declared.scope.Scope.{Scope}
 use Rattle.cdi_base.specs.Fields.{has}
 use Rattle.cdi_base.specs.Maps.{at}
@@ -10,10 +9,10 @@ use Rattle.cdi_store.specs.declared.instance.Instance.{Instance}
 use Rattle.cdi_store.specs.Owned.{dependents_in}
 use Rattle.cdi_contexts.specs.declared.context.Held.{Held}
 use Rattle.cdi_contexts.specs.declared.context.Status.{Status}
-use Rattle.cdi_contexts.specs.Contexts.{context_of, active_context, entry_in}
+use Rattle.cdi_contexts.specs.Contexts.{active_context, entry_in}
 use Rattle.cdi_machine.specs.Words.{Name, Asked}
 use Rattle.cdi_machine.specs.Tables.{Tables, Bean, Method, Kind}
-use Rattle.cdi_machine.specs.World.{World, instance_at}
+use Rattle.cdi_machine.specs.World.{World}
 use Rattle.cdi_machine.specs.Destruction.{latest}
 
 -- ---- the deployment

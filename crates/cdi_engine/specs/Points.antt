@@ -1,8 +1,7 @@
 -- What is left to do at each point of the code.
-use Rattle.std.specs.Prelude.{ℕ, zero, suc, ◌≡◌, ◌<◌, List, [], ◌∷◌, length, Option, Some, None}
+use Rattle.std.specs.Prelude.{ℕ, List, [], Option, Some, None}
 use Rattle.cdi_base.specs.declared.value.Value.{Value}
 use Rattle.cdi_base.specs.declared.value.Value.TheVariants as values
-use Rattle.cdi_base.specs.declared.act.Act.{Act}
 use Rattle.cdi_base.specs.declared.act.Answer.{Answer}
 use Rattle.cdi_base.specs.declared.act.Answer.TheVariants as answers
 use Rattle.cdi_base.specs.declared.entry.Entry.TheVariants as entries
@@ -15,7 +14,7 @@ use Rattle.cdi_store.specs.declared.instance.Owner.{Owner}
 use Rattle.cdi_store.specs.declared.instance.Owner.TheVariants as owners
 use Rattle.cdi_machine.specs.Words.{Name, Fields, Asked}
 use Rattle.cdi_machine.specs.Tables.{Tables, Bean}
-use Rattle.cdi_machine.specs.World.{World, Change, after_change}
+use Rattle.cdi_machine.specs.World.{Change}
 use Rattle.cdi_machine.specs.Programs as machine
 use Rattle.cdi_machine.specs.Programs.{Given, Number, Prog, ret, throw, cut, miss, see, change, tick, mark, act, choose, nested, handle, finally, quietly, do_nothing, tell_missing, complete, call, finish, note, alter, each, require_number, resolve, groups_of, ◌>>=◌, ◌>>◌}
 use Rattle.cdi_machine.specs.Machine as definition

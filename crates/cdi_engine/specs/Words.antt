@@ -1,5 +1,5 @@
 -- The words of the code as those of the definition.
-use Rattle.std.specs.Prelude.{ℕ, List, [], ◌∷◌, Bool, true, false, Option, None}
+use Rattle.std.specs.Prelude.{List, [], ◌∷◌, false, None}
 use Rattle.cdi_base.specs.declared.value.Value.TheVariants as values
 use Rattle.cdi_base.specs.declared.uses.Use.{Use}
 use Rattle.cdi_base.specs.declared.built_in.BuiltIn.TheVariants as built_in

@@ -1,9 +1,8 @@
 -- What is true of what a container works with stays so, and what follows of it.
-use Rattle.std.proofs.Common.{ℕ, zero, suc, ◌≡◌, [], ◌∷◌, List, Option, Some, None, Bool, true, false, cond, nat_eq, subst, refl, ap, sym, ◌∙◌}
+use Rattle.std.proofs.Common.{ℕ, zero, suc, ◌≡◌, [], ◌∷◌, List, Option, Some, None, Bool, true, false, cond, nat_eq, subst, refl, sym}
 use Rattle.std.specs.Prelude.{slice_get, option_map, option_and_then}
 use Rattle.cdi_base.specs.declared.act.Act.{Act}
 use Rattle.cdi_base.specs.declared.act.Act.TheVariants as acts
-use Rattle.cdi_base.specs.Maps.{at}
 use Rattle.cdi_bodies.specs.declared.view.View.{View}
 use Rattle.cdi_beans.specs.declared.bean.Bean.{Bean}
 use Rattle.cdi_beans.specs.declared.bean.Method.{Method}

@@ -1,5 +1,5 @@
-use Rattle.std.proofs.Common.{rules, arith, ◌≡◌, ◌<◌, ◌≤◌, length}
-use Rattle.cdi_engine.proofs.Sound.{narrows_trans, kept_start, kept_goes, kept_writes, kept_needs, kept_part, kept_ends, kept_full, kept_starved, kept_starved_before, kept_starved_call, kept_starved_part, ran_err}
+use Rattle.std.proofs.Common.{rules, arith, ◌<◌, length}
+use Rattle.cdi_engine.proofs.Sound.{narrows_trans, kept_goes, kept_writes, kept_needs, kept_part, kept_ends, kept_full, kept_starved, kept_starved_before, kept_starved_call, kept_starved_part, ran_err}
 use Rattle.cdi_engine.proofs.StaysKnown.{known_written}
 use Rattle.cdi_engine.proofs.Cost.{goes_falls, entry_falls, back_falls, around_falls}
 use Rattle.cdi_engine.proofs.run.+run_task.Goals as goal

@@ -1,4 +1,3 @@
-use Rattle.std.proofs.Common.{rules, arith, refl, sym, ap, ◌≡◌, ◌∙◌}
 use Rattle.cdi_engine.proofs.DestructionSteps.{released_leads, picked_leads}
 use Rattle.cdi_engine.proofs.CommandSteps.{returning_leads, starting_leads, closing_leads, missing_leads, over_leads}
 use Rattle.cdi_engine.proofs.BodySteps.{answered_leads}

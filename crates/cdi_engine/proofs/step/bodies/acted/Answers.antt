@@ -1,4 +1,3 @@
-use Rattle.std.proofs.Common.{rules, arith, refl, sym, ap, ◌≡◌, ◌∙◌}
 use Rattle.cdi_engine.proofs.BodySteps.{give_leads, throw_leads}
 use Rattle.cdi_engine.proofs.step.bodies.acted.Goals as goal
 

@@ -1,4 +1,4 @@
-use Rattle.std.proofs.Common.{rules, arith, refl, sym, ap, ◌≡◌, ◌∙◌}
+use Rattle.std.proofs.Common.{rules}
 use Rattle.cdi_engine.proofs.BodySteps.{acts_missing}
 use Rattle.cdi_engine.proofs.step.bodies.acts.Goals as goal
 

@@ -1,4 +1,4 @@
-use Rattle.std.proofs.Common.{rules, arith, refl, sym, ap, ◌≡◌, ◌∙◌}
+use Rattle.std.proofs.Common.{rules}
 use Rattle.cdi_engine.proofs.BodySteps.{body_too_deep, body_missing, body_there}
 use Rattle.cdi_engine.proofs.step.bodies.body.Goals as goal
 

@@ -1,4 +1,4 @@
-use Rattle.std.proofs.Common.{rules, arith, refl, sym, ap, ◌≡◌, ◌∙◌}
+use Rattle.std.proofs.Common.{rules, refl}
 use Rattle.cdi_engine.proofs.BodySteps.{own_missing, own_miscounted, own_first}
 use Rattle.cdi_engine.proofs.Sound.{map_ok}
 use Rattle.cdi_engine.proofs.step.bodies.call_own.Goals as goal

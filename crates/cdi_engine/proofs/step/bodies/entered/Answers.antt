@@ -1,4 +1,3 @@
-use Rattle.std.proofs.Common.{rules, arith, refl, sym, ap, ◌≡◌, ◌∙◌}
 use Rattle.cdi_engine.proofs.BodySteps.{entered_leads}
 use Rattle.cdi_engine.proofs.step.bodies.entered.Goals as goal
 

@@ -1,4 +1,3 @@
-use Rattle.std.proofs.Common.{rules, arith, refl, sym, ap, ◌≡◌, ◌∙◌}
 use Rattle.cdi_engine.proofs.BodySteps.{set_missing, set_leads}
 use Rattle.cdi_engine.proofs.Sound.{map_ok}
 use Rattle.cdi_engine.proofs.step.bodies.set_field.Goals as goal

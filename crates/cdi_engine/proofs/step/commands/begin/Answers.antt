@@ -1,4 +1,3 @@
-use Rattle.std.proofs.Common.{rules, arith, refl, sym, ap, ◌≡◌, ◌∙◌}
 use Rattle.cdi_engine.proofs.step.commands.begin.Goals as goal
 
 pub returns-in-Call-clause-leads : goal.returns-in-Call-clause-leads

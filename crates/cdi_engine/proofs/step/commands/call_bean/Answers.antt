@@ -1,4 +1,3 @@
-use Rattle.std.proofs.Common.{rules, arith, refl, sym, ap, ◌≡◌, ◌∙◌}
 use Rattle.cdi_engine.proofs.CommandSteps.{call_leads}
 use Rattle.cdi_engine.proofs.step.commands.call_bean.Goals as goal
 

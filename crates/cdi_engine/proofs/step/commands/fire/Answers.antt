@@ -1,4 +1,3 @@
-use Rattle.std.proofs.Common.{rules, arith, refl, sym, ap, ◌≡◌, ◌∙◌}
 use Rattle.cdi_engine.proofs.CommandSteps.{fire_leads}
 use Rattle.cdi_engine.proofs.step.commands.fire.Goals as goal
 

@@ -1,4 +1,3 @@
-use Rattle.std.proofs.Common.{rules, arith, refl, sym, ap, ◌≡◌, ◌∙◌}
 use Rattle.cdi_engine.proofs.CommandSteps.{fired_leads}
 use Rattle.cdi_engine.proofs.step.commands.fired.Goals as goal
 

@@ -1,4 +1,3 @@
-use Rattle.std.proofs.Common.{rules, arith, refl, sym, ap, ◌≡◌, ◌∙◌}
 use Rattle.cdi_engine.proofs.CreationSteps.{create_missing_leads, create_last_leads, create_first_leads}
 use Rattle.cdi_engine.proofs.step.creation.create.Goals as goal
 

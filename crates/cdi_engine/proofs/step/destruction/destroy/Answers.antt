@@ -1,4 +1,4 @@
-use Rattle.std.proofs.Common.{rules, arith, refl, sym, ap, ◌≡◌, ◌∙◌}
+use Rattle.std.proofs.Common.{refl}
 use Rattle.cdi_engine.proofs.DestructionSteps.{destroy_missing, destroy_first}
 use Rattle.cdi_engine.proofs.step.destruction.destroy.Goals as goal
 

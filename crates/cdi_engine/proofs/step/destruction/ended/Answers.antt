@@ -1,4 +1,3 @@
-use Rattle.std.proofs.Common.{rules, arith, refl, sym, ap, ◌≡◌, ◌∙◌}
 use Rattle.cdi_engine.proofs.DestructionSteps.{ended_leads}
 use Rattle.cdi_engine.proofs.step.destruction.ended.Goals as goal
 

@@ -1,4 +1,3 @@
-use Rattle.std.proofs.Common.{rules, arith, refl, sym, ap, ◌≡◌, ◌∙◌}
 use Rattle.cdi_engine.proofs.DestructionSteps.{release_one}
 use Rattle.cdi_engine.proofs.step.destruction.free_last.Goals as goal
 

@@ -1,4 +1,4 @@
-use Rattle.std.proofs.Common.{rules, arith, refl, sym, ap, ◌≡◌, ◌∙◌}
+use Rattle.std.proofs.Common.{rules}
 use Rattle.cdi_engine.proofs.DestructionSteps.{leaving_interceptor, leaving_missing, leaving_known}
 use Rattle.cdi_engine.proofs.step.destruction.leaving.Goals as goal
 

@@ -1,4 +1,4 @@
-use Rattle.std.proofs.Common.{rules, arith, refl, sym, ap, ◌≡◌, ◌∙◌}
+use Rattle.std.proofs.Common.{rules}
 use Rattle.cdi_engine.proofs.DestructionSteps.{release_missing, release_none}
 use Rattle.cdi_engine.proofs.step.destruction.release.Goals as goal
 

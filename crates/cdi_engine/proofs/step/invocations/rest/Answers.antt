@@ -1,4 +1,4 @@
-use Rattle.std.proofs.Common.{rules, arith, refl, sym, ap, ◌≡◌, ◌∙◌}
+use Rattle.std.proofs.Common.{refl, sym}
 use Rattle.cdi_engine.proofs.InvocationSteps.{rest_first}
 use Rattle.cdi_base.proofs.Clones.{same_items}
 use Rattle.cdi_engine.proofs.step.invocations.rest.Goals as goal

@@ -1,4 +1,3 @@
-use Rattle.std.proofs.Common.{rules, arith, refl, sym, ap, ◌≡◌, ◌∙◌}
 use Rattle.cdi_engine.proofs.ObtainingSteps.{lent_gone, lent_leads}
 use Rattle.cdi_engine.proofs.Sound.{map_ok}
 use Rattle.cdi_engine.proofs.step.obtaining.lent.Goals as goal

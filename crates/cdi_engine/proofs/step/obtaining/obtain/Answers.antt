@@ -1,4 +1,3 @@
-use Rattle.std.proofs.Common.{rules, arith, refl, sym, ap, ◌≡◌, ◌∙◌}
 use Rattle.cdi_engine.proofs.ObtainingSteps.{obtain_absent, obtain_inactive, obtain_is, obtain_making, obtain_open, obtain_ending}
 use Rattle.cdi_engine.proofs.step.obtaining.obtain.Goals as goal
 

@@ -1,4 +1,3 @@
-use Rattle.std.proofs.Common.{rules, arith, refl, sym, ap, ◌≡◌, ◌∙◌}
 use Rattle.cdi_engine.proofs.ObtainingSteps.{using_nothing, using_many, using_missing, using_shared, using_dependent}
 use Rattle.cdi_engine.proofs.step.obtaining.using.Goals as goal
 
