@@ -37,7 +37,13 @@ pub trait Driver {
     ghost legal: { Self → Legal };
 
     /// The next act of a body, in its written form.
-    fn act(&mut self, body: BodyId, entries: u64, fields: &Fields, view: &View) -> Result<Act, Failure>
+    fn act(
+        &mut self,
+        body: BodyId,
+        entries: u64,
+        fields: &Fields,
+        view: &View,
+    ) -> Result<Act, Failure>
         requires { knows self.old body }
         ensures legal { IfOk result (λ act.
             (legal self.old).gives body entries fields.now view.now act) }
