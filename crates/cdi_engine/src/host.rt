@@ -57,7 +57,8 @@ pub trait Host {
 
     // ---- the driver
 
-    /// The next act of a running body, whose instance lives.
+    /// The next act of a running body, whose instance lives. An error comes from the driver; the world is the same
+    /// then.
     fn act(&mut self, running: &Running) -> Result<Act, Failure>
         requires known { (setting self.old).knows running.now.body }
         requires lives { IsSome (instance_at (world self.old) running.now.instance) }
@@ -66,7 +67,7 @@ pub trait Host {
         ensures world { world self.new ≡ world self.old }
         ensures narrows { Narrows (setting self.old) (setting self.new) };
 
-    /// One of two or more candidates.
+    /// One of two or more candidates. An error comes from the driver; the world is the same then.
     fn pick(&mut self, count: u32) -> Result<u32, Failure>
         requires { 1 < count }
         ensures below { IfOk result (λ choice. choice < count) }
@@ -93,7 +94,7 @@ pub trait Host {
     fn instance(&self, number: u32) -> Option<&Instance>
         ensures { instance_at (world self.now) number ≡ option_map (λ o. o.now) result };
 
-    /// An instance has fewer dependents than there are numbers.
+    /// An instance has at most 4,294,967,295 dependents.
     fn law_few(&self, number: u32)
         ensures { length (dependents_in (instance_at (world self.now) number)) < 2 ^ 32 };
 
@@ -125,13 +126,14 @@ pub trait Host {
 
     // ---- the world, changed
 
-    /// Writes an entry.
+    /// Writes an entry. Memory can be wanting; on an error nothing changes.
     fn write(&mut self, entry: Entry) -> Result<(), AllocError>
         ensures ok { OnOk result (world self.new ≡ with_entry entry (world self.old)) }
         ensures err { OnErr result (world self.new ≡ world self.old) }
         ensures narrows { Narrows (setting self.old) (setting self.new) };
 
-    /// An instance gets the next number.
+    /// An instance gets the next number, of which one has to be left. Memory can be wanting; on an error nothing
+    /// changes.
     fn make(&mut self, component: Component, owner: Owner, fields: Fields) -> Result<(), AllocError>
         requires { (world self.old).next < 2 ^ 32 }
         ensures ok { OnOk result (world self.new
@@ -139,7 +141,8 @@ pub trait Host {
         ensures err { OnErr result (world self.new ≡ world self.old) }
         ensures narrows { Narrows (setting self.old) (setting self.new) };
 
-    /// The instance is ready: its context, its owner or the temporaries have it.
+    /// The instance is ready: its context, its owner or the temporaries have it. Memory can be wanting; on an error
+    /// nothing changes.
     fn settle(&mut self, number: u32) -> Result<(), AllocError>
         ensures ok { OnOk result (world self.new
             ≡ after_change (Settle number) (world self.old)) }
@@ -176,7 +179,7 @@ pub trait Host {
         ensures world { world self.new ≡ after_change (Stand no_environment) (world self.old) }
         ensures narrows { Narrows (setting self.old) (setting self.new) };
 
-    /// An invocation begins.
+    /// An invocation begins. Memory can be wanting; on an error nothing changes.
     fn enter(&mut self, invocation: Invocation) -> Result<(), AllocError>
         requires { knows_member (setting self.old) invocation }
         ensures ok { OnOk result (world self.new
@@ -194,7 +197,7 @@ pub trait Host {
         ensures world { world self.new ≡ after_change Exit (world self.old) }
         ensures narrows { Narrows (setting self.old) (setting self.new) };
 
-    /// A body starts on an instance.
+    /// A body starts on an instance. Memory can be wanting; on an error nothing changes.
     fn start(&mut self, number: u32) -> Result<(), AllocError>
         ensures ok { OnOk result (world self.new
             ≡ after_change (Start number) (world self.old)) }
@@ -206,7 +209,7 @@ pub trait Host {
         ensures world { world self.new ≡ after_change Stop (world self.old) }
         ensures narrows { Narrows (setting self.old) (setting self.new) };
 
-    /// From here on, what is borrowed is temporary.
+    /// From here on, what is borrowed is temporary. Memory can be wanting; on an error nothing changes.
     fn borrow(&mut self) -> Result<(), AllocError>
         ensures ok { OnOk result (world self.new
             ≡ after_change Borrow (world self.old)) }

@@ -1,4 +1,4 @@
-//! The engine: it carries out what a command has done, as the machine of `cdi_machine` has it.
+//! The engine: it carries out what a command asks for, as the machine of `cdi_machine` has it.
 #![tactic(auto)]
 
 mod events;

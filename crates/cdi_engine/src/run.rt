@@ -44,7 +44,7 @@ fn run_task<H: Host>(host: &mut H, task: Task) -> Result<Outcome, Failure>
     }
 }
 
-/// Carries out what a command has done. The world is then that of a run of the machine, in which the bodies give and
+/// Carries out what a command asks for. The world is then that of a run of the machine, in which the bodies give and
 /// the chooser picks what was legal. If memory ran out, or the driver had nothing to give, what was written is what
 /// such a run writes first.
 pub fn run<H: Host>(host: &mut H, job: Job) -> Result<Outcome, Failure>

@@ -65,7 +65,7 @@ pub enum Call {
     Clear,
 }
 
-/// What a command that isn't refused has done.
+/// What a command that isn't refused asks for.
 #[derive(Drop)]
 pub enum Job {
     /// The application begins.
@@ -101,7 +101,7 @@ pub enum ContainerEvent {
 pub enum Task {
     /// A call begins.
     Start(Call),
-    /// What a command has done begins.
+    /// What a command asks for begins.
     Begin(Job),
     /// The entry of a new instance is written.
     Made {

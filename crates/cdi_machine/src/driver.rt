@@ -7,7 +7,7 @@ use cdi_base::{Act, Fields};
 use cdi_bodies::{BodyId, View};
 use std::alloc::AllocError;
 
-/// Why a driver gives nothing. The command ends there; only want of memory has a rule of the definition yet.
+/// Why a driver gives nothing. The command ends there, either way by the definition's rule for want of memory.
 #[derive(Clone, Copy, Debug, PartialEq, Eq)]
 pub enum Failure {
     /// No memory was left.

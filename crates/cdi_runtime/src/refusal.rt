@@ -53,7 +53,7 @@ impl<D: Driver> Runtime<D> {
         }
     }
 
-    /// Why what a command has done is refused, if it is: the first refusal that holds, in the order of [`Refusal`]. A
+    /// Why what a command asks for is refused, if it is: the first refusal that holds, in the order of [`Refusal`]. A
     /// container that has halted or is down refuses all.
     pub fn refusal(&self, halted: bool, job: &Job) -> Option<Refusal>
         ensures { result ≡ machine.refusal (machine_tables self.now.classes self.now.tables)

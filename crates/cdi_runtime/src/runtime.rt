@@ -17,7 +17,8 @@ use cdi_world::{Invocation, World};
 use std::alloc::{AllocError, Global};
 use std::marker::Model;
 
-/// The tables of an accepted deployment, what drives its bodies and picks, and the world of its container.
+/// The tables of a deployment whose bodies give only acts that are served, what drives the bodies and picks, and the
+/// world of the container.
 #[derive(Drop)]
 pub struct Runtime<D: Driver> {
     alloc: Global,

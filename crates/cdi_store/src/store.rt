@@ -275,7 +275,8 @@ impl Store {
     }
 
     /// Gives a live instance another owner: it leaves the dependents of the old one and becomes the last dependent of
-    /// the new one, in one step. On an error nothing changes.
+    /// the new one, in one step; under the owner that it has it becomes the last dependent. `Stale` if either key isn't
+    /// that of a live instance; else memory can be wanting. On an error nothing changes.
     pub fn adopt(&mut self, owner: Key, key: Key) -> Result<(), ChangeError>
         ensures stale { (result ≡ Err ChangeError.Stale)
             ↔ ((is_live self.old owner && is_live self.old key) ≡ false) }
@@ -318,7 +319,7 @@ impl Store {
         let _next = self.next;
     }
 
-    /// An instance has fewer dependents than there are numbers. A call does nothing: its contract is the law.
+    /// An instance has at most 4,294,967,295 dependents. A call does nothing: its contract is the law.
     pub fn law_few(&self, number: u32)
         ensures { length (dependents_in (at self.now.instances number)) < 2 ^ 32 }
     {

@@ -97,8 +97,7 @@ impl World {
         instance_in(&self.store, number)
     }
 
-    /// An instance has fewer dependents than there are numbers. A call does nothing: its contract is
-    /// the law.
+    /// An instance has at most 4,294,967,295 dependents. A call does nothing: its contract is the law.
     pub fn law_few(&self, number: u32)
         ensures { length (dependents_in (instance_at self.now number)) < 2 ^ 32 }
     {

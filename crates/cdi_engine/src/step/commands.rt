@@ -12,7 +12,8 @@ use crate::task::{Call, Completion, ContainerEvent, Frame, Job, Next, Outcome, T
 use cdi_base::{Name, Seq, Value};
 use std::alloc::AllocError;
 
-/// Begins what a command has done.
+/// Begins what a command asks for: for the boot, the event of the application's begin (Jakarta CDI 4.0, *Context
+/// management for built-in scopes*).
 #[tactic(auto, using(crate::proofs::CommandSteps::leads))]
 pub(super) fn begin<H: Host>(host: &mut H, job: Job) -> Result<Next, AllocError>
     ensures leads { IfOk result (λ next. Leads (H.setting host.old) (Task.Begin job)
@@ -63,7 +64,7 @@ fn call_bean<H: Host>(
     Ok(Next::Within(part, Frame::Using))
 }
 
-/// Destroys what was borrowed.
+/// Destroys what was borrowed (Jakarta CDI 4.0, *Destruction of objects with scope @Dependent*).
 pub(super) fn returning(completion: Completion) -> Next
     ensures { result ≡ Next.Needs Call.Dismiss (Frame.Returning completion) }
 {
@@ -85,7 +86,7 @@ pub(super) fn returned<H: Host>(host: &mut H, completion: Completion) -> Next
 
 // ---- events
 
-/// Fires an event of the container itself.
+/// Fires an event of the container itself (Jakarta CDI 4.0, *Firing events*).
 #[tactic(auto, using(crate::proofs::CommandSteps::leads))]
 pub(super) fn fire<H: Host>(host: &H, event: ContainerEvent) -> Result<Next, AllocError>
     ensures leads { IfOk result (λ next. Leads (H.setting host.now) (Task.Start (Call.Fire event))
@@ -113,7 +114,7 @@ pub(super) fn fired<H: Host>(host: &H, event: ContainerEvent) -> Next
 
 // ---- shutdown
 
-/// Begins the end of the container.
+/// Begins the end of the container (Jakarta CDI 4.0, *Shutdown event*).
 #[tactic(auto, using(crate::proofs::CommandSteps::leads))]
 fn shut_down<H: Host>(host: &mut H) -> Next
     ensures leads { Leads (H.setting host.old) (Task.Begin Job.Shutdown)
@@ -127,7 +128,7 @@ fn shut_down<H: Host>(host: &mut H) -> Next
     Next::Needs(Call::Fire(ContainerEvent::Shutdown), Frame::Closing)
 }
 
-/// Ends the application context.
+/// Ends the application context (Jakarta CDI 4.0, *Context management for built-in scopes*).
 #[tactic(auto, using(crate::proofs::CommandSteps::leads))]
 pub(super) fn finishing<H: Host>(host: &mut H) -> Next
     ensures leads { Leads (H.setting host.old) Task.Finishing

@@ -74,7 +74,7 @@ pub(super) fn made<H: Host>(
     Ok(Next::Writes(Entry::Ready { number }, Task::Readied { number }))
 }
 
-/// Completes the instance.
+/// Completes the instance (Jakarta CDI 4.0, *Lifecycle of managed beans*).
 #[tactic(auto, using(crate::proofs::CreationSteps::leads))]
 pub(super) fn readied<H: Host>(host: &mut H, number: u32) -> Result<Next, AllocError>
     ensures leads { IfOk result (λ next. Leads (H.setting host.old) (Task.Readied number)

@@ -51,7 +51,7 @@ fn ready_instance<H: Host>(host: &H, number: u32) -> Option<&Instance>
     }
 }
 
-/// Takes the instance from what has it.
+/// Takes the instance from what has it (Jakarta CDI 4.0, *Lifecycle of managed beans*).
 #[tactic(auto, using(crate::proofs::DestructionSteps::leads))]
 pub(super) fn ended<H: Host>(host: &mut H, number: u32, component: Component, value: Value) -> Next
     ensures leads { Leads (H.setting host.old) (Task.Ended number component value)
@@ -243,7 +243,8 @@ pub(super) fn dismiss<H: Host>(host: &H) -> Next
     }
 }
 
-/// Destroys the last instance of the application context.
+/// Destroys the last instance of the application context (Jakarta CDI 4.0, *Context management for built-in
+/// scopes*).
 #[tactic(auto, using(crate::proofs::DestructionSteps::leads))]
 pub(super) fn clear<H: Host>(host: &H) -> Next
     ensures leads { Leads (H.setting host.now) (Task.Start Call.Clear)

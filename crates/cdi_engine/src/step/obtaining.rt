@@ -47,7 +47,8 @@ pub(super) fn obtain<H: Host>(host: &H, bean: u32) -> Next
     }
 }
 
-/// Uses the bean with a type for a command: a contextual instance, or one that lasts as long as the command.
+/// Uses the bean to which a type resolves (Jakarta CDI 4.0, *Typesafe resolution*) for a command: its contextual
+/// instance, or one that lasts as long as the command.
 #[tactic(auto, using(crate::proofs::ObtainingSteps::leads))]
 pub(super) fn using<H: Host>(host: &H, bean_type: Name, method: Name, args: Seq<Value>) -> Next
     ensures leads { Leads (H.setting host.now) (Task.Using bean_type method args)

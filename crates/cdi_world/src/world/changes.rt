@@ -26,7 +26,8 @@ impl World {
         self.set_ready(number)
     }
 
-    /// The creation of the instance has failed: it is gone, and its context has it no longer.
+    /// The creation of the instance has failed: it is gone, and its context has it no longer. A number
+    /// that no live instance has changes nothing.
     pub fn discard(&mut self, number: u32)
         ensures { self.new ≡ after_change (Discard number) self.old }
     {
@@ -39,7 +40,9 @@ impl World {
         }
     }
 
-    /// The destruction of the instance begins: it leaves its context, its owner or the temporaries.
+    /// The destruction of the instance begins: it leaves its context, its owner or the temporaries
+    /// (Jakarta CDI 4.0, *Lifecycle of managed beans*). A number that no live instance has changes
+    /// nothing.
     pub fn leave(&mut self, number: u32)
         ensures { self.new ≡ after_change (Leave number) self.old }
     {
@@ -50,14 +53,15 @@ impl World {
         self.set_leaving(number);
     }
 
-    /// The instance is gone.
+    /// The instance is gone. A number that no live instance has changes nothing.
     pub fn remove(&mut self, number: u32)
         ensures { self.new ≡ after_change (Remove number) self.old }
     {
         free_in(&mut self.store, number);
     }
 
-    /// Gives a field of the instance another value. A field that isn't there changes nothing.
+    /// Gives a field of the instance another value. A field that isn't there changes nothing, nor does
+    /// a number that no live instance has.
     pub fn assign(&mut self, number: u32, field: Name, value: Value)
         ensures { self.new ≡ after_change (Assign number field value) self.old }
     {
@@ -72,7 +76,7 @@ impl World {
         self.contexts.end();
     }
 
-    /// The application is gone.
+    /// The application is gone (Jakarta CDI 4.0, *Context management for built-in scopes*).
     pub fn close_application(&mut self)
         ensures { self.new ≡ after_change (Close Application) self.old }
     {

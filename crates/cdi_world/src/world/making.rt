@@ -15,8 +15,9 @@ use cdi_store::{Component, Owner};
 use std::alloc::AllocError;
 
 impl World {
-    /// A new instance gets the next number, and its context has it as one that is being made. On an
-    /// error nothing changes.
+    /// A new instance gets the next number, of which one has to be left; if a context owns it, that has
+    /// it as one that is being made (Jakarta CDI 4.0, *Lifecycle of managed beans*). Memory can be
+    /// wanting; on an error nothing changes.
     pub fn make(
         &mut self,
         component: Component,
