@@ -22,6 +22,7 @@ import shutil
 import subprocess
 import sys
 import tempfile
+import typing
 from concurrent.futures import ThreadPoolExecutor
 
 sys.dont_write_bytecode = True
@@ -116,51 +117,95 @@ def changed_since(commit, crates):
 # ---- together
 
 
-def functions(text):
-    """Returns the first and last line of each function, with its attributes and comments, in rt fmt's layout."""
-    lines, found = text.split("\n"), []
+class Place(typing.NamedTuple):
+    """What an edit turns: a function's text, or a line outside of all functions, which has no name."""
+
+    path: str
+    first: int
+    last: int
+    name: str = ""
+    # the type of the impl that the function stands in, with its trait
+    of_type: str = ""
+    of_trait: str = ""
+    cycle: str = ""
+    # the body's first line: those above say what others can cite
+    body: int = 0
+
+
+HEAD = r"( *)(?:pub(?:\([^)]*\))? )?(?:const |unsafe )*fn (\w+)"
+
+
+def functions(text, path):
+    """Returns the functions of a file in rt fmt's layout, each from its attributes and comments to its end."""
+    lines, found, of_type, of_trait = text.split("\n"), [], "", ""
     for at, line in enumerate(lines):
-        head = re.match(r"( *)(?:pub(?:\([^)]*\))? )?(?:const |unsafe )*fn (\w+)", line)
-        if head:
-            top = at
-            while top and re.match(r" *(#\[|///)", lines[top - 1]):
-                top -= 1
-            end = next((i for i in range(at, len(lines)) if lines[i] == head[1] + "}" or i == at and line.endswith("}")), at)
-            found.append((top + 1, end + 1, head[2]))
+        head, block = re.match(HEAD, line), re.match(r"(?:unsafe )?impl\b(?:<.*?>)? (?:([\w:]+)(?:<.*>)? for )?(\w+)", line)
+        if re.match(r"(?!where)\w", line):
+            of_trait, of_type = ((block[1] or "").split("::")[-1], block[2]) if block else ("", "")
+        if not head:
+            continue
+        top = at
+        while top and re.match(r" *(#\[|///)", lines[top - 1]):
+            top -= 1
+        end = next((i for i in range(at, len(lines)) if lines[i] == head[1] + "}" or i == at and line.endswith("}")), at)
+        body = next((i for i in range(at, end) if re.match(rf"{head[1]}(\{{|\S.*\{{)$", lines[i])), at)
+        cycle = re.search(r"#\[cycle\((\w+)\)\]", "\n".join(lines[top:at]))
+        found.append(Place(path, top + 1, end + 1, head[2], of_type, of_trait, cycle[1] if cycle else "", body + 1))
     return found
 
 
 def places(crate, edit):
-    """Returns what the edit turns, as file, first line, last line and function."""
-    path, found = "", set()
+    """Returns what the edit turns, and whether that is the inside of bodies alone."""
+    path, old, found, is_inside = "", "", set(), True
     for line in read(edit).split("\n"):
         path = line[len("file: ") :].strip() if line.startswith("file: ") else path
-        if line.startswith("old: "):
+        old = line[len("old: ") :] if line.startswith("old: ") else old
+        if line.startswith("new:"):
             text = read(f"{crate.folder}/{path}")
-            at = text[: max(text.find(line[len("old: ") :]), 0)].count("\n") + 1
-            around = [it for it in functions(text) if it[0] <= at <= it[1]]
-            found.add((path, *(around[-1] if around else (at, at, ""))))
-    return found
+            at = text[: max(text.find(old), 0)].count("\n") + 1
+            around = [it for it in functions(text, path) if it.first <= at <= it.last]
+            place = around[-1] if around else Place(path, at, at)
+            found.add(place)
+            # (the line that begins a body may end with more, but begins as it did)
+            is_inside = is_inside and bool(around) and (at > place.body or at == place.body and line[len("new: ") :].startswith(old))
+    return found, is_inside
+
+
+def proof_folder(place):
+    """Returns the pattern of a function's folder below proofs/. A method's goes by its type, which may stand in another file."""
+    name = rf"(\+?{place.name}|\+{place.cycle})/" if place.cycle else rf"\+?{place.name}/"
+    if place.of_type:
+        block = rf"{place.of_type}\w*{place.of_trait}\w*" if place.of_trait else place.of_type
+        return rf"proofs/([\w+]+/)*{block}(\+[\w+]+)?/{name}"
+    module = re.sub(r"(^|/)(lib|main|mod)$", "", place.path[len("src/") : -len(".rt")])
+    return rf"proofs/{module}{'/' if module else ''}{name}"
 
 
 def complains(line, place):
     """Returns whether the line is a complaint at the function: at its own text, or in a file of its proof that does not only name what is gone."""
     at = re.match(r"(?:note: )?(?:\./)?(\S+?):(\d+):\d+: (.*)", line)
-    path, first, last, name = place
-    if not at or not name:
+    if not at or not place.name:
         return False
-    if at[1] == path:
-        return first <= int(at[2]) <= last and ("it is not proved" in at[3] or "error" in at[3])
-    own = rf"proofs/{re.sub(r'(^|/)(lib|main|mod)$', '', path[len('src/') : -len('.rt')])}/?([\w+]+/)*\+?{name}/"
+    if at[1] == place.path:
+        return place.first <= int(at[2]) <= place.last and bool(re.search("it is not proved|found no proof|error", at[3]))
     is_gone = re.search(r"has no field|is not in scope|has no `|was not admitted", at[3])
-    return bool(re.match(own, at[1])) and "error" in at[3] and not is_gone
+    return bool(re.match(proof_folder(place), at[1])) and "error" in at[3] and not is_gone
+
+
+def told_by(lines, turned):
+    """Returns the edits that the lines of a check tell refused: a complaint stands at a function that this edit turns and none of the others."""
+    told = set()
+    for line in lines:
+        at = [edit for edit, its_places in turned.items() if any(complains(line, it) for it in its_places)]
+        told |= {*at} if len(at) == 1 else set()
+    return told
 
 
 def apart(crate, edits):
     """Returns those of the edits that turn functions of their own, and the others."""
     group, others, turned = [], [], set()
     for edit in edits:
-        at = places(crate, edit)
+        at, _ = places(crate, edit)
         (others if turned & at else group).append(edit)
         turned |= at
     return group, others
@@ -188,7 +233,8 @@ def in_one(crate, edits, kept):
     lines = ran.stdout.rstrip("\n").split("\n")
     if ran.returncode != 1 or not lines[-1].startswith("logic=not-proved") or any(rt.unread(it, texts) for it in lines):
         return None
-    return [edit for edit in edits if any(complains(line, place) for line in lines for place in places(crate, edit))]
+    told = told_by(lines, {edit: places(crate, edit)[0] for edit in edits})
+    return [edit for edit in edits if edit in told]
 
 
 def in_groups(crate, edits, kept):
@@ -229,7 +275,8 @@ def by_law(crate, edit, kept):
 def try_crate(crate):
     """Tries all edits of a crate, those alone that no check of many refuses. Returns how many were refused, how many not, and what to print."""
     edits = all_edits(crate)
-    good = [it for it in edits if not rt.read_edit(it, crate.folder)[1] and not law_of(it)]
+    # (others' functions may be complained of where an edit turns what they can cite, so it shares no check)
+    good = [it for it in edits if not rt.read_edit(it, crate.folder)[1] and not law_of(it) and places(crate, it)[1]]
     # (without an edit nothing may be complained of; what is built already was proved)
     if crate.build_rlib(ONE, anew=False):
         return 0, len(edits), [f"planted: {crate.name} is not proved"]
