@@ -3,13 +3,15 @@
 
   planted/planted.py fast                      each edit, here and in must-fail/, still applies: a second, no proof
   planted/planted.py together NAME.. | --since COMMIT | --all
-                                               all edits, here and in must-fail/, many in one check: each in a function of
-                                               its own, and refused if a complaint stands at that function
+                                               all edits, here and in must-fail/, many in one check: each in the body of a
+                                               function of its own, and refused if a complaint stands at that function
   planted/planted.py run NAME.. | --since COMMIT | --all
                                                the edits of bodies here one after the other, by rt must-fail in a copy of the
                                                repository
 
-An edit of a definition has a line 'only: LAW'. together tries it by a check of that function alone, which has to fail.
+An edit of a definition has a line 'only: LAW'. together tries it by a check of that function alone, which has to fail. So it
+does with an edit of what other functions cite (a constant, a type, a signature, a clause) that names a function so. Such an edit
+shares no check, since it may be the cause of what is complained of at functions that others turn.
 
 together takes --jobs N in front of the names, and then tries so many crates at a time. Both take what `rt all check` kept in
 out/. The last line is 'N refused, M failed'; the status is 0 if M is 0.
@@ -67,7 +69,7 @@ def all_edits(crate):
 
 
 def law_of(edit):
-    """Returns the law that an edit of a definition names, or nothing."""
+    """Returns the law, or other function, that an edit names to be tried by, or nothing."""
     found = re.search(r"^only: (\S+)$", read(edit), re.M)
     return found[1] if found else ""
 
@@ -223,12 +225,20 @@ def with_edits(crate, edits):
     return texts
 
 
+def link(old, new):
+    """Has new be the file old, or a copy of it: the prover never writes into a file that it kept, but puts another in its place."""
+    try:
+        os.link(old, new)
+    except OSError:
+        shutil.copy2(old, new)
+
+
 def in_one(crate, edits, kept):
     """Returns those of the edits that one check with all of them refuses, each at a function of its own; None if the check says nothing."""
     texts = with_edits(crate, edits)
     # (what a check with edits keeps would take the place of what the crate's own check kept)
     with tempfile.TemporaryDirectory(prefix="planted-once-") as once:
-        shutil.copytree(kept, once, dirs_exist_ok=True)
+        shutil.copytree(kept, once, dirs_exist_ok=True, copy_function=link)
         ran = rt.checked(crate, texts, ONE, once)
     lines = ran.stdout.rstrip("\n").split("\n")
     if ran.returncode != 1 or not lines[-1].startswith("logic=not-proved") or any(rt.unread(it, texts) for it in lines):
@@ -267,7 +277,8 @@ def by_law(crate, edit, kept):
     if bad:
         return False, f"{label}: BAD EDIT: the prover cannot read it: {bad[:200]}"
     told = next((it for it in lines if re.match(r"(\./)?proofs/\S+: error: |note: src/.*it is not proved", it)), "")
-    if ran.returncode == 1 and told and lines[-1].startswith("only=1 proved=0"):
+    is_open = any(it.startswith((f"fn {law_of(edit)}: not proved", f"fn {law_of(edit)}: no proof")) for it in lines)
+    if ran.returncode == 1 and told and is_open and lines[-1].startswith("only="):
         return True, f"{label}: refused by {law_of(edit)}: {told[:160]}"
     return False, f"{label}: NOT REFUSED by {law_of(edit)}: {lines[-1][:160]}"
 

@@ -1,12 +1,15 @@
 #!/usr/bin/env python3
 """Tests planted.py on a small repository of one crate: an edit that is refused, one that is proved, one that doesn't compile and
-one that no longer applies. Run it as planted/test_planted.py; it takes about two minutes."""
+one that no longer applies; and what it reads in a check's lines. Run it as planted/test_planted.py; it takes about two minutes."""
+import importlib.util
 import os
 import shutil
 import subprocess
+import sys
 import tempfile
 import unittest
 
+sys.dont_write_bytecode = True
 HERE = os.path.dirname(os.path.realpath(__file__))
 CODE = """//! Two numbers.
 #![tactic(auto)]
@@ -47,7 +50,54 @@ pub fn law_two()
 """
 THREE = "file: specs/Two.antt\nold: two = 2\nnew: two = 3\n"
 SUM = "file: specs/Two.antt\nold: two = 2\nnew: two = 1 + 1\n"
+CONSTANT = """
+const NOTHING: u8 = 0;
+
+/// Zero again.
+pub fn nothing() -> u8
+    ensures { result ≡ 0 }
+{
+    NOTHING
+}
+"""
+SOMETHING = "file: src/lib.rt\nold: const NOTHING: u8 = 0;\nnew: const NOTHING: u8 = 1;\n"
+ALSO_NOTHING = "file: src/lib.rt\nold:     NOTHING\nnew:     if NOTHING < 1 { NOTHING } else { 0 }\n"
+TYPES = """impl Table {
+    /// Puts it.
+    pub fn put(&mut self, value: u8) -> bool
+        ensures { result ≡ true }
+    {
+        true
+    }
+}
+
+impl From<Failed> for Error {
+    fn from(_failed: Failed) -> Error {
+        Error::Memory
+    }
+}
+
+#[cycle(parity)]
+fn even(n: u8) -> bool
+    ensures { result ≡ spec.even n }
+{
+    n == 0 || odd(n - 1)
+}
+
+#[cycle(parity)]
+fn odd(n: u8) -> bool
+    ensures { result ≡ spec.odd n }
+{
+    n > 0 && even(n - 1)
+}
+"""
 GONE = "file: src/lib.rt\nold: if a <= b { b } else { a }\nnew: a\n"
+
+
+def the_script():
+    made = importlib.util.module_from_spec(importlib.util.spec_from_file_location("planted", f"{HERE}/planted.py"))
+    made.__spec__.loader.exec_module(made)
+    return made
 
 
 class Planted(unittest.TestCase):
@@ -146,6 +196,21 @@ class Planted(unittest.TestCase):
         self.assertEqual((status, last), (1, "2 refused, 1 failed"))
         self.assertIn("small/sum.edit: NOT REFUSED by small::law_two", said)
 
+    def test_an_edit_of_a_constant_shares_no_check(self):
+        self.write("crates/small/src/lib.rt", CODE + CONSTANT)
+        self.edit("something", SOMETHING)
+        self.edit("also_nothing", ALSO_NOTHING)
+        self.edit("smaller", SMALLER)
+        status, last, said = self.tried("together", "small")
+        self.assertEqual((status, last), (1, "2 refused, 1 failed"))
+        self.assertIn("small/something.edit: refused", said)
+        self.assertIn("small/also_nothing.edit: NOT REFUSED", said)
+        os.remove(f"{self.top}/planted/small/also_nothing.edit")
+        self.edit("something", "only: small::nothing\n" + SOMETHING)
+        status, last, said = self.tried("together", "small")
+        self.assertEqual((status, last), (0, "2 refused, 0 failed"))
+        self.assertIn("small/something.edit: refused by small::nothing", said)
+
     def test_what_changed(self):
         subprocess.run(["git", "-C", self.top, "-c", "user.name=t", "-c", "user.email=t@t", "commit", "-qm", "a"], check=True)
         self.assertEqual(self.tried("together", "--since", "HEAD")[:2], (0, "0 refused, 0 failed"))
@@ -155,6 +220,46 @@ class Planted(unittest.TestCase):
     def test_wrong_words(self):
         for words in ((), ("faster",), ("together", "large"), ("fast", "small")):
             self.assertEqual(self.tried(*words)[0], 1)
+
+
+class Complaints(unittest.TestCase):
+    """Which function a line of a check complains of; no prover is asked."""
+
+    def setUp(self):
+        self.planted = the_script()
+        self.put, self.convert, self.even, self.odd = self.planted.functions(TYPES, "src/table/putting.rt")
+
+    def complains(self, where, place, what="error: `returns`: it does not follow"):
+        return self.planted.complains(f"{where}: {what}", place)
+
+    def test_where_bodies_begin(self):
+        lines = TYPES.split("\n")
+        self.assertEqual(lines[self.put.body - 1], "    {")
+        self.assertEqual(lines[self.convert.body - 1], "    fn from(_failed: Failed) -> Error {")
+        self.assertEqual(lines[self.odd.first - 1], "#[cycle(parity)]")
+
+    def test_a_methods_proof_stands_with_its_type(self):
+        self.assertTrue(self.complains("./proofs/table/Table/put/Answers.antt:7:5", self.put))
+        self.assertTrue(self.complains("proofs/table/Table+bool/put/Answers.antt:7:5", self.put))
+        self.assertTrue(self.complains("./proofs/errors/ErrorFromFailed/from/Answers.antt:7:5", self.convert))
+        for other in ("table/Other/put", "table/Table/put_all", "table/putting/put", "errors/Error/from", "table/TableFrom/put"):
+            self.assertFalse(self.complains(f"./proofs/{other}/Answers.antt:7:5", self.put), other)
+
+    def test_what_is_no_complaint(self):
+        own = "./proofs/table/Table/put/Answers.antt:7:5"
+        self.assertFalse(self.complains(own, self.put, "error: `returns`: record `At` has no field `x`"))
+        self.assertFalse(self.complains(own, self.put, "note: the two sides may be different"))
+        self.assertFalse(self.complains("note: src/table/putting.rt:3:5", self.put, "advice"))
+        self.assertTrue(self.complains("note: src/table/putting.rt:3:5", self.put, "it is not proved that it holds (`returns`)"))
+        self.assertTrue(self.complains("note: src/table/putting.rt:3:5", self.put, "`search` found no proof (`invariant_of-result`)"))
+        self.assertFalse(self.complains("note: src/table/putting.rt:99:5", self.put, "it is not proved that it holds"))
+
+    def test_what_two_edits_can_have_caused_tells_of_none(self):
+        lines = ["./proofs/table/putting/+parity/Answers.antt:7:5: error: `even-returns`: it does not follow"]
+        self.assertEqual(self.planted.told_by(lines, {"a": {self.even}, "b": {self.put}}), {"a"})
+        self.assertEqual(self.planted.told_by(lines, {"a": {self.even}, "b": {self.odd}}), set())
+        lines.append("note: src/table/putting.rt:26:5: it is not proved that it holds (`returns`)")
+        self.assertEqual(self.planted.told_by(lines, {"a": {self.even}, "b": {self.odd}}), {"b"})
 
 
 if __name__ == "__main__":
