@@ -10,7 +10,7 @@ use Rattle.cdi_machine.specs.Tables.{Tables}
 use Rattle.cdi_machine.specs.World.{World, Change, after_change, with_entry, instance_at, for_instance, with_making, with_owned, without_owned, without_making}
 use Rattle.cdi_machine.specs.Programs.{Given, Prog, candidates}
 use Rattle.cdi_machine.specs.Runs.{Legal, Outcome, Runs, rest_after}
-use Rattle.cdi_machine.specs.Laws.{SameEnd, OneRun, IsOne, OneSchedule, Widens, Goes, Grows}
+use Rattle.cdi_machine.specs.Laws.{SameEnd, OneRun, IsOne, OneSchedule, IsWithin, Widens, Goes, Grows}
 
 -- ---- a change writes nothing
 
@@ -197,17 +197,21 @@ module _ (tables : Tables) (legal : Legal) where
   one_schedule i p w v v' o o' r r' = one i r r'
 
 module _ (tables : Tables) (small large : Legal) where
+  pub wider : {Starved : Type 0} → IsWithin small large → (p : Prog Given) (w v : World) (o : Outcome)
+      → Runs tables small Starved p w o v → Runs tables large Starved p w o v
+  wider i p w v o Runs.returns = Runs.returns
+  wider i p w v o Runs.throws = Runs.throws
+  wider i p w v o Runs.cuts = Runs.cuts
+  wider i p w v o (Runs.misses r) = Runs.misses (wider i _ _ v o r)
+  wider i p w v o (Runs.sees r) = Runs.sees (wider i _ _ v o r)
+  wider i p w v o (Runs.changes r) = Runs.changes (wider i _ _ v o r)
+  wider i p w v o (Runs.writes h r) = Runs.writes h (wider i _ _ v o r)
+  wider i p w v o (Runs.is_full h) = Runs.is_full h
+  wider i p w v o (Runs.marks r) = Runs.marks (wider i _ _ v o r)
+  wider i p w v o (Runs.does {b = b} {fields = fields} {view = view} a h r) = Runs.does a (i.act b (length w.trace) fields view a h) (wider i _ _ v o r)
+  wider i p w v o (Runs.picks {n = n} x l c r) = Runs.picks x l (i.pick (candidates n) (length w.trace) x c) (wider i _ _ v o r)
+  wider i p w v o (Runs.calls {u = u} {o1 = o1} r1 r) = Runs.calls (wider i _ _ u o1 r1) (wider i _ _ v o r)
+  wider i p w v o (Runs.starves s) = Runs.starves s
+
   pub widens : Widens tables small large
-  widens i p w v o Runs.returns = Runs.returns
-  widens i p w v o Runs.throws = Runs.throws
-  widens i p w v o Runs.cuts = Runs.cuts
-  widens i p w v o (Runs.misses r) = Runs.misses (widens i _ _ v o r)
-  widens i p w v o (Runs.sees r) = Runs.sees (widens i _ _ v o r)
-  widens i p w v o (Runs.changes r) = Runs.changes (widens i _ _ v o r)
-  widens i p w v o (Runs.writes h r) = Runs.writes h (widens i _ _ v o r)
-  widens i p w v o (Runs.is_full h) = Runs.is_full h
-  widens i p w v o (Runs.marks r) = Runs.marks (widens i _ _ v o r)
-  widens i p w v o (Runs.does {b = b} {fields = fields} {view = view} a h r) = Runs.does a (i.act b (length w.trace) fields view a h) (widens i _ _ v o r)
-  widens i p w v o (Runs.picks {n = n} x l c r) = Runs.picks x l (i.pick (candidates n) (length w.trace) x c) (widens i _ _ v o r)
-  widens i p w v o (Runs.calls {u = u} {o1 = o1} r1 r) = Runs.calls (widens i _ _ u o1 r1) (widens i _ _ v o r)
-  widens i p w v o (Runs.starves s) = absurd s
+  widens = wider

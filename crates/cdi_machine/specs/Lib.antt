@@ -11,6 +11,7 @@ pub mod Events
 pub mod Commands
 pub mod Machine
 pub mod Runs
+pub mod Registered
 pub mod Container
 pub mod Evaluator
 pub mod Scripts

@@ -1,10 +1,12 @@
 //! What drives the machine from outside: bodies give acts, and a chooser picks among candidates.
-ghost use Rattle.std.specs.Prelude.{◌≡◌, ◌<◌, ℕ, IfOk};
+ghost use Rattle.std.specs.Prelude.{◌≡◌, ◌<◌, ℕ, length, IfOk};
+ghost use Rattle.cdi_bodies.specs.Table.{entries_of};
 ghost use Rattle.cdi_machine.specs.Laws.{IsWithin};
+ghost use Rattle.cdi_machine.specs.Registered.{legal_of};
 ghost use Rattle.cdi_machine.specs.declared.driver.Failure.TheVariants.{Memory};
 
 use cdi_base::{Act, Fields};
-use cdi_bodies::{BodyId, View};
+use cdi_bodies::{Bodies, BodyId, View};
 use std::alloc::AllocError;
 
 /// Why a driver gives nothing. The command ends there, either way by the definition's rule for want of memory.
@@ -57,4 +59,25 @@ pub trait Driver {
         ensures legal { IfOk result (λ choice. (legal self.old).picks count entries choice) }
         ensures stays { IsWithin (legal self.new) (legal self.old) }
         ensures still_known { (other : ℕ) → knows self.old other → knows self.new other };
+}
+
+/// The registered bodies. Of several candidates the first is picked.
+impl Driver for Bodies {
+    ghost knows = { λ bodies body. body < length (entries_of bodies) };
+
+    ghost legal = { λ bodies. legal_of (entries_of bodies) };
+
+    fn act(
+        &mut self,
+        body: BodyId,
+        _entries: u64,
+        fields: &Fields,
+        view: &View,
+    ) -> Result<Act, Failure> {
+        Ok(self.next(body, fields, view)?)
+    }
+
+    fn pick(&mut self, _count: u32, _entries: u64) -> Result<u32, Failure> {
+        Ok(0)
+    }
 }

@@ -17,11 +17,12 @@ use Rattle.cdi_machine.specs.World.{World, at_begin, before_boot}
 use Rattle.cdi_machine.specs.Commands.{Command, task}
 use Rattle.cdi_contexts.specs.Refusals.{first_that_holds}
 use Rattle.cdi_machine.specs.Container.{State, refusal, Answers, is_cut, refused_by_contexts, refused_by_tables}
+use Rattle.cdi_machine.specs.Registered.{legal_of}
 use Rattle.cdi_machine.specs.Runs.{Legal, Outcome, Ends, Cut, Runs}
 use Rattle.cdi_beans.specs.declared.tables.Tables.{Tables}
 use Rattle.cdi_beans.specs.Served.{machine_tables}
 use Rattle.cdi_presence.specs.Missing.{NothingMissing, GivesServed, IsServedCommand, IsReachable, AsksWhatIsThere, MissesNothing}
-use Rattle.cdi_presence.specs.Accepted.{legal_of, AcceptedServes, NoneMissed}
+use Rattle.cdi_presence.specs.Accepted.{AcceptedServes, NoneMissed}
 use Rattle.cdi_presence.specs.Left.{IsHeld, IsTidy, LeavesTidy}
 use Rattle.cdi_presence.proofs.Safe.{UnlessCut, misses_none}
 use Rattle.cdi_presence.proofs.Whole.{Good, IsAmong, IsPlaced, WasSo, Leaves}

@@ -1,20 +1,11 @@
 -- What the bodies of an accepted deployment give.
 use Rattle.std.specs.Prelude.{◌≡◌, List}
 use Rattle.cdi_bodies.specs.declared.entry.Entry.{Entry}
-use Rattle.cdi_bodies.specs.Gives.{gives}
 use Rattle.cdi_deploy.specs.declared.deployment.Deployment.{Deployment}
-use Rattle.cdi_machine.specs.Runs.{Legal}
+use Rattle.cdi_machine.specs.Registered.{legal_of}
 use Rattle.cdi_beans.specs.declared.tables.Tables.{Tables}
 use Rattle.cdi_beans.specs.Build.{beans_of}
 use Rattle.cdi_presence.specs.Missing.{GivesServed, MissesNone}
-
--- any act that the registered bodies may give; of several candidates the first is picked
-abbrev pub legal_of : {X : Type 0} {F : X → Type 0} {g : _} → List (Entry X F g) → Legal
-legal_of entries =
-    record {
-      gives = λ body count fields view act. gives entries body fields view act;
-      picks = λ candidates count choice. choice ≡ 0;
-    }
 
 -- the bodies of the deployment give only acts that are served
 abbrev pub AcceptedServes : {X : Type 0} {F : X → Type 0} {g : _}
