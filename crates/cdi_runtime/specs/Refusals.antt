@@ -10,6 +10,7 @@ use Rattle.cdi_beans.specs.declared.tables.Tables.{Tables}
 use Rattle.cdi_beans.specs.Beans.{method_of, resolve}
 use Rattle.cdi_beans.specs.Served.{is_type, machine_method}
 use Rattle.cdi_machine.specs.Tables.{Method}
+use Rattle.cdi_machine.specs.Commands.{Command}
 use Rattle.cdi_machine.specs.Container.{no_method, wrong_count}
 
 -- a call of a method with so many values
@@ -25,3 +26,8 @@ bean_refusal t _ name count = None
 abbrev pub call_refusal : List ℕ → Tables → ℕ → ℕ → ℕ → Option Refusal
 call_refusal classes t type name count =
     if is_type classes type then bean_refusal t (resolve t type) name count else Some refusals.UnknownName
+
+-- the command, where a call is made in a request or in none
+abbrev pub in_request : Option (List ℕ) → Command → Command
+in_request request (Command.Call _ asked method args) = Command.Call request asked method args
+in_request request c = c

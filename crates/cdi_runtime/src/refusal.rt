@@ -4,10 +4,10 @@ ghost use Rattle.cdi_contexts.specs.Refusals.{first_that_holds};
 ghost use Rattle.cdi_machine.specs.Container as machine;
 ghost use Rattle.cdi_beans.specs.Served.{is_type, machine_bean, machine_method, machine_tables};
 ghost use Rattle.cdi_engine.specs.Words.{command_of};
-ghost use Rattle.cdi_runtime.specs.Refusals.{call_refusal, method_refusal};
+ghost use Rattle.cdi_runtime.specs.Refusals.{call_refusal, in_request, method_refusal};
 
 use crate::runtime::Runtime;
-use cdi_base::{BuiltIn, Name, Refusal};
+use cdi_base::{BuiltIn, Name, Refusal, Text};
 use cdi_beans::bean::{Code, Method, Resolution};
 use cdi_engine::Job;
 use cdi_machine::Driver;
@@ -54,10 +54,13 @@ impl<D: Driver> Runtime<D> {
     }
 
     /// Why what a command asks for is refused, if it is: the first refusal that holds, in the order of [`Refusal`]. A
-    /// container that has halted or is down refuses all.
-    pub fn refusal(&self, halted: bool, job: &Job) -> Option<Refusal>
-        ensures { result ≡ machine.refusal (machine_tables self.now.classes self.now.tables)
-            (record { world = self.now.world; halted = halted }) (command_of job.now) }
+    /// container that has halted or is down refuses all, and no request is ever open.
+    pub fn refusal(&self, halted: bool, request: Option<&Text>, job: &Job) -> Option<Refusal>
+        ensures refusal { result ≡ machine.refusal (machine_tables self.now.classes self.now.tables)
+            (record { world = self.now.world; halted = halted })
+            (in_request (option_map (λ r. r.now) request) (command_of job.now)) }
+        ensures alone { result ≡ None
+            → in_request (option_map (λ r. r.now) request) (command_of job.now) ≡ command_of job.now }
     {
         if halted {
             return Some(Refusal::Halted);
@@ -71,7 +74,13 @@ impl<D: Driver> Runtime<D> {
                 bean_type,
                 method,
                 args,
-            } => self.refuses_call(*bean_type, *method, args.len()),
+            } => {
+                self.world().law_alone();
+                if request.is_some() {
+                    return Some(Refusal::NoRequest);
+                }
+                self.refuses_call(*bean_type, *method, args.len())
+            }
         }
     }
 }

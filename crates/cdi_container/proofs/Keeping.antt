@@ -1,0 +1,19 @@
+-- The names of tables are told by what the machine asks of them.
+use Rattle.std.proofs.Common.{ℕ, zero, suc, ◌≡◌, List, [], ◌∷◌, Option, Some, None, refl, sym, ap, ap₂}
+use Rattle.std.specs.Prelude.{slice_get}
+use Rattle.cdi_machine.specs.Tables as machine
+use Rattle.cdi_beans.specs.declared.tables.Tables.{Tables}
+use Rattle.cdi_beans.specs.Served.{machine_tables}
+
+-- lists with the same items at the same places are the same
+same_items : {A : Type 0} (xs ys : List A) → ((i : ℕ) → slice_get xs i ≡ slice_get ys i) → xs ≡ ys
+same_items [] [] f = refl
+same_items [] (y ∷ ys) f = let e : ◌≡◌ {A = Option _} None (Some y) = f zero in absurd (cc)
+same_items (x ∷ xs) [] f = let e : ◌≡◌ {A = Option _} (Some x) None = f zero in absurd (cc)
+same_items (x ∷ xs) (y ∷ ys) f =
+    let e : ◌≡◌ {A = Option _} (Some x) (Some y) = f zero in
+    let head : x ≡ y = cc in
+    ap₂ (λ z zs. z ∷ zs) head (same_items xs ys (λ i. f (suc i)))
+
+pub same_names : (classes others : List ℕ) (t u : Tables) → machine_tables others u ≡ machine_tables classes t → u.names ≡ t.names
+same_names classes others t u e = same_items u.names t.names (λ i. ap (λ (x : machine.Tables). x.text i) e)

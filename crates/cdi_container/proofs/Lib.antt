@@ -1,0 +1,4 @@
+pub mod Keeping
+pub mod Replying
+pub mod Missing
+pub mod History

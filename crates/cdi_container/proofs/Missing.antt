@@ -1,0 +1,125 @@
+-- The states of a container that works are those that commands lead the machine to, but for their traces.
+use Rattle.std.proofs.Common.{ℕ, ◌≡◌, ◌∙◌, List, [], ◌∷◌, ◌++◌, Option, Some, None, Bool, true, false, IsTrue, refl, sym, ap, ap₂, subst}
+use Rattle.std.specs.Prelude.{is_some}
+use Rattle.cdi_base.specs.declared.command.Command.{Command}
+use Rattle.cdi_base.specs.declared.command.Command.TheVariants as commands
+use Rattle.cdi_base.specs.declared.reply.Cause.{Cause}
+use Rattle.cdi_base.specs.declared.reply.Refusal.{Refusal}
+use Rattle.cdi_base.specs.declared.reply.Refusal.TheVariants as refusals
+use Rattle.cdi_base.specs.declared.reply.Reply.{Reply}
+use Rattle.cdi_bodies.specs.declared.entry.Entry.{Entry}
+use Rattle.cdi_deploy.specs.declared.deployment.Deployment.{Deployment}
+use Rattle.cdi_contexts.specs.Refusals.{first_that_holds}
+use Rattle.cdi_text.specs.Command.{is_served}
+use Rattle.cdi_machine.specs.Tables as machine
+use Rattle.cdi_machine.specs.World.{World, at_begin, before_boot}
+use Rattle.cdi_machine.specs.Commands as wanted
+use Rattle.cdi_machine.specs.Commands.{task}
+use Rattle.cdi_machine.specs.Container.{State as Machine, refusal, refused_by_contexts, refused_by_tables, is_cut, state_after}
+use Rattle.cdi_machine.specs.Container as container
+use Rattle.cdi_machine.specs.Runs.{Legal, Outcome, Ends, Cut, Runs}
+use Rattle.cdi_machine.specs.Registered.{legal_of}
+use Rattle.cdi_beans.specs.declared.tables.Tables.{Tables}
+use Rattle.cdi_beans.specs.Served.{machine_tables}
+use Rattle.cdi_presence.specs.Missing as presence
+use Rattle.cdi_presence.specs.Missing.{NothingMissing, IsServedCommand, IsReachable}
+use Rattle.cdi_presence.specs.Accepted as whole
+use Rattle.cdi_container.specs.declared.accept.Accepted.{Accepted}
+use Rattle.cdi_container.specs.Accepted.{IsAccepted}
+use Rattle.cdi_container.specs.Commands.{machine_command}
+use Rattle.cdi_container.specs.States.{State, Answers, CarriesOut, machine_state, before_start, cause_of}
+use Rattle.cdi_container.specs.Missing.{Works, MissesNone, NoneMissed}
+
+served : (names : List (List ℕ)) (command : Command) → IsTrue (is_served command) → IsServedCommand (machine_command names command)
+served names (commands.Begin request session) q = absurd (cc)
+served names (commands.Call request type qualifiers method args) q = tt
+served names (commands.Read request type qualifiers) q = tt
+served names (commands.Fire request class qualifiers v) q = tt
+served names (commands.End request) q = tt
+served names (commands.Invalidate session) q = tt
+served names commands.Live q = tt
+served names commands.Shutdown q = tt
+
+-- ---- what has halted refuses all
+
+refused_if : (halted : Bool) (rs : List (Bool × Refusal)) → first_that_holds ((halted, refusals.Halted) ∷ rs) ≡ None → halted ≡ false
+refused_if true rs h = absurd (cc)
+refused_if false rs h = refl
+
+none_if : (halted : Option Cause) → is_some halted ≡ false → halted ≡ None
+none_if None h = refl
+none_if (Some cause) h = absurd (cc)
+
+pub works_on : (tables : machine.Tables) (s : State) (c : wanted.Command) → refusal tables (machine_state s) c ≡ None → s.halted ≡ None
+works_on tables s c e =
+    none_if s.halted (refused_if (is_some s.halted) ((s.world.down, refusals.Down) ∷ refused_by_contexts s.world.contexts c ++ refused_by_tables tables c) e)
+
+-- ---- the machine's states
+
+whole_outcome : (o : Outcome) → cause_of o ≡ None → is_cut o ≡ false
+whole_outcome (Ends c) e = refl
+whole_outcome (Cut cause) e = absurd (cc)
+
+module _ (names : List (List ℕ)) (tables : machine.Tables) (legal : Legal) where
+  -- a state of the machine with the same world but for its trace
+  record ReachedAs (s : State) : Type 0 where
+    between : Machine
+    reached : IsReachable tables legal between
+    alike : at_begin s.world ≡ at_begin between.world
+    working : between.halted ≡ false
+
+  -- what is refused is told by the world at the begin
+  refused_alike : (s : State) (m : Machine) (c : wanted.Command) → s.halted ≡ None → at_begin s.world ≡ at_begin m.world → m.halted ≡ false
+      → refusal tables (machine_state s) c ≡ refusal tables m c
+  refused_alike s m c none alike working =
+      ap₂ (λ (h : Bool) (w : World). refusal tables (record { world = w; halted = h }) c) (ap is_some none ∙ sym working) alike
+
+  carried : (s t : State) (c : wanted.Command) (o : Outcome) (m : Machine) → IsReachable tables legal m → (refusal tables m c ≡ None → IsServedCommand c)
+      → at_begin s.world ≡ at_begin m.world → refusal tables m c ≡ None
+      → CarriesOut tables legal (Unit {0}) (task c) (at_begin s.world) o t.world → cause_of o ≡ None → ReachedAs t
+  carried s t c o m before q alike e (CarriesOut.ends r) whole =
+      let run = subst (λ w. Runs tables legal ⊥ (task c) w o t.world) alike r in
+      record {
+        between = state_after o t.world;
+        reached = IsReachable.goes_on before q (container.Answers.carries_out e run);
+        alike = refl;
+        working = whole_outcome o whole;
+      }
+  carried s t c o m before q alike e (CarriesOut.starves starved r) whole = absurd (cc)
+
+  reached_as : (t : State) → Works names tables legal t → t.halted ≡ None → ReachedAs t
+  reached_as t (Works.starts ticks depth reply (Answers.refuses r e is stays)) none = absurd (cc)
+  reached_as t (Works.starts ticks depth reply (Answers.carries_out o e c halts is)) none =
+      carried (before_start ticks depth) t wanted.Command.Boot o (machine_state (before_start ticks depth)) (IsReachable.begins ticks depth) (λ x. tt) refl e c (sym halts ∙ none)
+  reached_as t (Works.answers {s = s} command reply works q (Answers.refuses r e is stays)) none =
+      let from = reached_as s works (sym (ap (λ (x : State). x.halted) stays) ∙ none) in
+      record {
+        between = from.between;
+        reached = from.reached;
+        alike = ap (λ (x : State). at_begin x.world) stays ∙ from.alike;
+        working = from.working;
+      }
+  reached_as t (Works.answers {s = s} command reply works q (Answers.carries_out o e c halts is)) none =
+      let wanted = machine_command names command in
+      let on = works_on tables s wanted e in
+      let from = reached_as s works on in
+      carried s t wanted o from.between from.reached (λ x. served names command q) from.alike
+      (sym (refused_alike s from.between wanted on from.alike from.working) ∙ e) c (sym halts ∙ none)
+  reached_as t (Works.refuses_line {s = s} works) none =
+      let from = reached_as s works none in
+      record { between = from.between; reached = from.reached; alike = from.alike; working = from.working }
+
+module _ (classes : List ℕ) (tables : Tables) (legal : Legal) (Starved : Type 0) (none : presence.MissesNone tables legal Starved) where
+  pub misses_none : (names : List (List ℕ)) → MissesNone names (machine_tables classes tables) legal Starved
+  misses_none names s works command q e o v =
+      let c = machine_command names command in
+      let on = works_on (machine_tables classes tables) s c e in
+      let from = reached_as names (machine_tables classes tables) legal s works on in
+      let admitted = sym (refused_alike names (machine_tables classes tables) legal s from.between c on from.alike from.working) ∙ e in
+      subst (λ w. (r : Runs (machine_tables classes tables) legal Starved (task c) w o v) → NothingMissing r) (sym from.alike)
+      (none classes from.between from.reached c admitted (served names command q) o v)
+
+pub none_missed : {X : Type 0} {F : X → Type 0} {g : _} (deployment : Deployment) (entries : List (Entry X F g)) (Starved : Type 0)
+    → whole.NoneMissed deployment entries Starved → NoneMissed deployment entries Starved
+none_missed deployment entries Starved none accepted is =
+    misses_none accepted.classes accepted.tables (legal_of entries) Starved (none accepted.tables is.beans) deployment.names

@@ -1,0 +1,8 @@
+pub mod Accepted
+pub mod States
+pub mod Commands
+pub mod Standing
+pub mod Sessions
+pub mod Replies
+pub mod History
+pub mod Missing

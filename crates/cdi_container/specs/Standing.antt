@@ -1,0 +1,50 @@
+-- A container, as contracts see it.
+use Rattle.std.specs.Prelude.{ℕ, ◌≡◌, List, Option}
+use Rattle.cdi_base.specs.declared.reply.Cause.{Cause}
+use Rattle.cdi_base.specs.declared.reply.Reply.{Reply}
+use Rattle.cdi_machine.specs.Tables as machine
+use Rattle.cdi_machine.specs.Runs.{Legal}
+use Rattle.cdi_machine.specs.Laws.{IsWithin}
+use Rattle.cdi_beans.specs.Served.{machine_tables}
+use Rattle.cdi_runtime.specs.Standing.{Standing as Working}
+use Rattle.cdi_container.specs.declared.accept.Accepted.{Accepted}
+use Rattle.cdi_container.specs.States.{State, Boots}
+
+pub record Standing (Driving : Type 0) : Type 0 where
+  pub runtime : Working Driving
+  -- why it takes no further command, if it doesn't
+  pub halted : Option Cause
+  -- what its start was answered
+  pub booted : Reply
+
+module _ {Driving : Type 0} where
+  abbrev pub tables_in : Working Driving → machine.Tables
+  tables_in r = machine_tables r.classes r.tables
+
+  abbrev pub tables_of : Standing Driving → machine.Tables
+  tables_of c = tables_in c.runtime
+
+  abbrev pub names_of : Standing Driving → List (List ℕ)
+  names_of c = c.runtime.tables.names
+
+  abbrev pub state_of : Standing Driving → State
+  state_of c = record { world = c.runtime.world; halted = c.halted }
+
+-- The names and the tables stay, and nothing becomes legal.
+pub record KeepsParts {Driving : Type 0} (before after : Legal) (r s : Working Driving) : Type 0 where
+  pub names : s.tables.names ≡ r.tables.names
+  pub tables : tables_in s ≡ tables_in r
+  pub legal : IsWithin after before
+
+-- So for a container, which still greets by the reply to its start.
+pub record SameParts {Driving : Type 0} (before after : Legal) (c d : Standing Driving) : Type 0 where
+  pub parts : KeepsParts before after c.runtime d.runtime
+  pub booted : d.booted ≡ c.booted
+
+-- a container of this deployment, whose start has been carried out
+pub record IsStarted {Driving : Type 0} (before after : Legal) (accepted : Accepted) (ticks depth : ℕ)
+    (c : Standing Driving) : Type 0 where
+  pub names : names_of c ≡ accepted.tables.names
+  pub tables : tables_of c ≡ machine_tables accepted.classes accepted.tables
+  pub legal : IsWithin after before
+  pub boots : Boots (tables_of c) before (Unit {0}) ticks depth c.booted (state_of c)

@@ -1,0 +1,61 @@
+-- What a container is between two commands, and what a command does to it.
+use Rattle.std.specs.Prelude.{ℕ, ◌≡◌, Option, Some, None, is_some}
+use Rattle.cdi_base.specs.declared.reply.Cause.{Cause}
+use Rattle.cdi_base.specs.declared.reply.Cause.TheVariants as causes
+use Rattle.cdi_base.specs.declared.reply.Refusal.{Refusal}
+use Rattle.cdi_base.specs.declared.reply.Reply.{Reply}
+use Rattle.cdi_base.specs.declared.reply.Reply.TheVariants as replies
+use Rattle.cdi_machine.specs.Tables.{Tables}
+use Rattle.cdi_machine.specs.World.{World, at_begin, before_boot}
+use Rattle.cdi_machine.specs.Programs.{Given, Prog}
+use Rattle.cdi_machine.specs.Commands.{Command, task}
+use Rattle.cdi_machine.specs.Container as machine
+use Rattle.cdi_machine.specs.Container.{refusal, reply_to}
+use Rattle.cdi_machine.specs.Runs.{Legal, Outcome, Ends, Cut, Runs}
+
+-- the machine's world, and why the container has halted if it has
+pub record State : Type 0 where
+  pub world : World
+  pub halted : Option Cause
+
+-- the machine's state, which doesn't tell why
+abbrev pub machine_state : State → machine.State
+machine_state s = record { world = s.world; halted = is_some s.halted }
+
+abbrev pub before_start : ℕ → ℕ → State
+before_start ticks depth = record { world = before_boot ticks depth; halted = None }
+
+-- all is as it was, but for the trace and the environment of the command before
+abbrev pub after_refusal : State → State
+after_refusal s = record s { world = at_begin s.world }
+
+-- a cut halts the container
+abbrev pub cause_of : Outcome → Option Cause
+cause_of (Cut cause) = Some cause
+cause_of (Ends c) = None
+
+-- A program is carried out. If memory runs out in it, the entries so far are those of a run on its way, and it is cut.
+pub data CarriesOut (tables : Tables) (legal : Legal) (Starved : Type 0) (p : Prog Given) (w : World)
+    : Outcome → World → Type 0 where
+  ends : {o : Outcome} {v : World} → Runs tables legal ⊥ p w o v
+      → CarriesOut tables legal Starved p w o v
+  starves : {v : World} → Starved → Runs tables legal (Unit {0}) p w (Cut causes.Memory) v
+      → CarriesOut tables legal Starved p w (Cut causes.Memory) v
+
+-- A command is refused, or it is carried out with an empty trace at first, and a cut halts the container.
+pub data Answers (tables : Tables) (legal : Legal) (Starved : Type 0) (s : State) (c : Command)
+    (reply : Reply) (t : State) : Type 0 where
+  refuses : (r : Refusal) → refusal tables (machine_state s) c ≡ Some r
+      → reply ≡ replies.Refused r
+      → t ≡ after_refusal s
+      → Answers tables legal Starved s c reply t
+  carries_out : (o : Outcome) → refusal tables (machine_state s) c ≡ None
+      → CarriesOut tables legal Starved (task c) (at_begin s.world) o t.world
+      → t.halted ≡ cause_of o
+      → reply ≡ reply_to c o t.world
+      → Answers tables legal Starved s c reply t
+
+-- the start, its reply and what the container is then
+abbrev pub Boots : Tables → Legal → Type 0 → ℕ → ℕ → Reply → State → Type 0
+Boots tables legal Starved ticks depth reply t =
+    Answers tables legal Starved (before_start ticks depth) Command.Boot reply t

@@ -1,0 +1,176 @@
+//! The container: it carries out commands, one after the other.
+ghost use Rattle.std.specs.Prelude.{◌≡◌, None, IsTrue, option_map};
+ghost use Rattle.cdi_beans.specs.Beans.{KnowsEach};
+ghost use Rattle.cdi_beans.specs.Served.{machine_tables};
+ghost use Rattle.cdi_machine.specs.Commands.{task};
+ghost use Rattle.cdi_machine.specs.Container.{refusal as machine_refusal};
+ghost use Rattle.cdi_machine.specs.World.{at_begin};
+ghost use Rattle.cdi_presence.specs.Missing.{GivesServed};
+ghost use Rattle.cdi_engine.specs.Words.{command_of, outcome_of};
+ghost use Rattle.cdi_runtime.specs.Refusals.{in_request};
+ghost use Rattle.cdi_text.specs.Command.{is_served};
+ghost use Rattle.cdi_container.specs.Standing as spec;
+ghost use Rattle.cdi_container.specs.States.{Answers, CarriesOut, after_refusal, machine_state};
+ghost use Rattle.cdi_base.specs.declared.reply.Reply.TheVariants.{Refused};
+
+use crate::accept::Accepted;
+use crate::reply::{cause, has_value, reply_of};
+use cdi_base::{Cause, Command, Limits, Names, Refusal, Reply, Text};
+use cdi_engine::run::run;
+use cdi_engine::{Job, Outcome};
+use cdi_machine::Driver;
+use cdi_runtime::Runtime;
+use std::alloc::Global;
+use std::marker::Model;
+
+/// A container: a deployment with what drives its bodies, and what the commands so far have left.
+#[derive(Drop)]
+pub struct Container<D: Driver> {
+    runtime: Runtime<D>,
+    /// Why it takes no further command, if it doesn't.
+    halted: Option<Cause>,
+    /// What its start was answered.
+    booted: Reply,
+}
+
+impl<D: Driver> Model for Container<D> {
+    ghost use Rattle.cdi_container.specs.Standing.{Standing};
+
+    ghost Value = { Standing D };
+
+    ghost view = { λ c. record { runtime = c.runtime; halted = c.halted; booted = c.booted } };
+}
+
+/// Carries a job out, with a trace of its own. It is cut if memory runs out, or if the driver has nothing to give.
+fn carry_out<D: Driver>(runtime: &mut Runtime<D>, job: Job) -> Outcome
+    ensures carries { CarriesOut (spec.tables_in runtime.old) (D.legal runtime.old.driver) (Unit {0})
+        (task (command_of job)) (at_begin runtime.old.world) (outcome_of result) runtime.new.world }
+    ensures keeps { spec.KeepsParts
+        (D.legal runtime.old.driver) (D.legal runtime.new.driver) runtime.old runtime.new }
+{
+    runtime.begin();
+    match run(runtime, job) {
+        Ok(outcome) => outcome,
+        Err(_) => Outcome::Cut(Cause::Memory),
+    }
+}
+
+impl<D: Driver> Container<D> {
+    ghost use Rattle.cdi_container.specs.Commands.{machine_command};
+
+    /// Starts a container (Jakarta CDI 4.0, *Container lifecycle events*). A start that is cut gives a container that has
+    /// halted. The driver has to have a body for each method of the deployment, and these have to give only acts that are
+    /// served, as the bodies that a deployment was accepted with do.
+    pub fn start(alloc: Global, accepted: Accepted, driver: D, limits: Limits) -> Container<D>
+        requires knows { KnowsEach (D.knows driver) accepted.tables.beans }
+        requires serves { GivesServed accepted.tables (D.legal driver) }
+        ensures { spec.IsStarted (D.legal driver) (D.legal result.runtime.driver)
+            accepted limits.ticks limits.depth result }
+    {
+        let Accepted { tables, classes } = accepted;
+        let mut runtime = Runtime::new(alloc, tables, classes, driver, limits);
+        let outcome = carry_out(&mut runtime, Job::Boot);
+        Container {
+            runtime,
+            halted: cause(&outcome),
+            booted: reply_of(false, outcome),
+        }
+    }
+
+    /// The names of the deployment.
+    pub fn names(&self) -> &Names
+        ensures { result.now ≡ spec.names_of self.now }
+    {
+        &self.runtime.tables().names
+    }
+
+    /// What the start was answered.
+    pub fn boot_reply(&self) -> &Reply
+        ensures { result.now ≡ self.now.booted }
+    {
+        &self.booted
+    }
+
+    /// Why the container takes no further command, if a cut has halted it.
+    pub fn halted(&self) -> Option<Cause>
+        ensures { result ≡ self.now.halted }
+    {
+        self.halted
+    }
+
+    /// Refuses a command: all stays as it was, but for the trace, which is empty.
+    pub(crate) fn refuse(&mut self, refusal: Refusal) -> Reply
+        ensures reply { result ≡ Refused refusal }
+        ensures state { spec.state_of self.new ≡ after_refusal (spec.state_of self.old) }
+        ensures same { spec.SameParts
+            (D.legal self.old.runtime.driver) (D.legal self.new.runtime.driver) self.old self.new }
+    {
+        self.runtime.begin();
+        Reply::Refused(refusal)
+    }
+
+    /// Carries a job out that isn't refused, and answers it.
+    fn perform(&mut self, job: Job) -> Reply
+        requires { machine_refusal (spec.tables_of self.old) (machine_state (spec.state_of self.old))
+            (command_of job) ≡ None }
+        ensures answers { Answers (spec.tables_of self.old) (D.legal self.old.runtime.driver) (Unit {0})
+            (spec.state_of self.old) (command_of job) result (spec.state_of self.new) }
+        ensures same { spec.SameParts
+            (D.legal self.old.runtime.driver) (D.legal self.new.runtime.driver) self.old self.new }
+    {
+        let valued = has_value(&job);
+        let outcome = carry_out(&mut self.runtime, job);
+        self.halted = cause(&outcome);
+        reply_of(valued, outcome)
+    }
+
+    /// Carries a job out in a request, or in none, or refuses it.
+    fn ask(&mut self, request: Option<&Text>, job: Job) -> Reply
+        ensures answers { Answers (spec.tables_of self.old) (D.legal self.old.runtime.driver) (Unit {0})
+            (spec.state_of self.old) (in_request (option_map (λ r. r.now) request) (command_of job))
+            result (spec.state_of self.new) }
+        ensures same { spec.SameParts
+            (D.legal self.old.runtime.driver) (D.legal self.new.runtime.driver) self.old self.new }
+    {
+        match self.runtime.refusal(self.halted.is_some(), request, &job) {
+            Some(refusal) => self.refuse(refusal),
+            None => self.perform(job),
+        }
+    }
+
+    /// Carries a command out, or refuses it: the first refusal that holds, in the order of [`Refusal`]. A refused
+    /// command leaves all as it was, but for the trace, which is empty. A command that is cut, for want of memory
+    /// too, is answered as halted with the cause, and every later one is refused. The command has to be one that is
+    /// served, as what [`read_command`](cdi_text::read_command) gives is.
+    pub fn command(&mut self, command: Command) -> Reply
+        requires { IsTrue (is_served command) }
+        ensures answers { Answers (spec.tables_of self.old) (D.legal self.old.runtime.driver) (Unit {0})
+            (spec.state_of self.old) (machine_command (spec.names_of self.old) command)
+            result (spec.state_of self.new) }
+        ensures same { spec.SameParts
+            (D.legal self.old.runtime.driver) (D.legal self.new.runtime.driver) self.old self.new }
+    {
+        match command {
+            Command::Call {
+                request,
+                bean_type,
+                method,
+                args,
+                ..
+            } => {
+                let bean_type = self.names().name_for(bean_type.as_str());
+                let method = self.names().name_for(method.as_str());
+                self.ask(
+                    request.as_ref(),
+                    Job::Call {
+                        bean_type,
+                        method,
+                        args,
+                    },
+                )
+            }
+            Command::Shutdown => self.ask(None, Job::Shutdown),
+            _ => unreachable!(),
+        }
+    }
+}

@@ -1,0 +1,49 @@
+//! The reply to what was carried out.
+ghost use Rattle.std.specs.Prelude.{◌≡◌};
+ghost use Rattle.cdi_container.specs.Replies as spec;
+ghost use Rattle.cdi_container.specs.States.{cause_of};
+ghost use Rattle.cdi_engine.specs.Words.{outcome_of};
+
+use cdi_base::{Cause, Reply};
+use cdi_engine::{Completion, Given, Job, Outcome};
+
+/// Whether a job is answered by its value.
+pub(crate) fn has_value(job: &Job) -> bool
+    ensures { result ≡ spec.has_value job.now }
+{
+    matches!(job, Job::Call { .. })
+}
+
+/// Why a container has halted whose last job ended so, if it has.
+pub(crate) fn cause(outcome: &Outcome) -> Option<Cause>
+    ensures { result ≡ cause_of (outcome_of outcome.now) }
+{
+    match outcome {
+        Outcome::Cut(cause) => Some(*cause),
+        Outcome::Ends(_) => None,
+    }
+}
+
+fn given_reply(valued: bool, given: Given) -> Reply
+    ensures { result ≡ spec.given_reply valued given }
+{
+    match given {
+        Given::Result(value) => if valued {
+            Reply::Value(value)
+        } else {
+            Reply::Done
+        },
+        _ => Reply::Done,
+    }
+}
+
+/// The reply to a job that ended so.
+pub(crate) fn reply_of(valued: bool, outcome: Outcome) -> Reply
+    ensures { result ≡ spec.reply_of valued outcome }
+{
+    match outcome {
+        Outcome::Ends(Completion::Gave(given)) => given_reply(valued, given),
+        Outcome::Ends(Completion::Threw(exception)) => Reply::Threw(exception),
+        Outcome::Cut(cause) => Reply::Halted(cause),
+    }
+}
