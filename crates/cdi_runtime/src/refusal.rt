@@ -58,9 +58,9 @@ impl<D: Driver> Runtime<D> {
     pub fn refusal(&self, halted: bool, request: Option<&Text>, job: &Job) -> Option<Refusal>
         ensures refusal { result ≡ machine.refusal (machine_tables self.now.classes self.now.tables)
             (record { world = self.now.world; halted = halted })
-            (in_request (option_map (λ r. r.now) request) (command_of job.now)) }
+            (in_request (option_map (λ r. r.now) request.entry) (command_of job.now)) }
         ensures alone { result ≡ None
-            → in_request (option_map (λ r. r.now) request) (command_of job.now) ≡ command_of job.now }
+            → in_request (option_map (λ r. r.now) request.entry) (command_of job.now) ≡ command_of job.now }
     {
         if halted {
             return Some(Refusal::Halted);
