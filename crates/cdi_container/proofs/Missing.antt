@@ -24,7 +24,7 @@ use Rattle.cdi_beans.specs.Served.{machine_tables}
 use Rattle.cdi_presence.specs.Missing as presence
 use Rattle.cdi_presence.specs.Missing.{NothingMissing, IsServedCommand, IsReachable}
 use Rattle.cdi_presence.specs.Accepted as whole
-use Rattle.cdi_container.specs.declared.accept.Accepted.{Accepted}
+use Rattle.cdi_container.specs.declared.acceptance.Accepted.{Accepted}
 use Rattle.cdi_container.specs.Accepted.{IsAccepted}
 use Rattle.cdi_container.specs.Commands.{machine_command}
 use Rattle.cdi_container.specs.States.{State, Answers, CarriesOut, machine_state, before_start, cause_of}

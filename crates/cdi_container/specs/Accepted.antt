@@ -7,9 +7,9 @@ use Rattle.cdi_beans.specs.Beans.{KnowsEach}
 use Rattle.cdi_beans.specs.Build.{beans_of}
 use Rattle.cdi_beans.specs.Check.{problems_of}
 use Rattle.cdi_presence.specs.Missing.{GivesServed}
-use Rattle.cdi_container.specs.declared.accept.Accepted.{Accepted}
-use Rattle.cdi_container.specs.declared.accept.Unaccepted.{Unaccepted}
-use Rattle.cdi_container.specs.declared.accept.Unaccepted.TheVariants as errors
+use Rattle.cdi_container.specs.declared.acceptance.Accepted.{Accepted}
+use Rattle.cdi_container.specs.declared.acceptance.Unaccepted.{Unaccepted}
+use Rattle.cdi_container.specs.declared.acceptance.Unaccepted.TheVariants as errors
 
 -- the deployment has no problem with these bodies, and this is what a container needs of it
 pub record IsAccepted {X : Type 0} {F : X → Type 0} {g : _}

@@ -13,7 +13,7 @@ use Rattle.cdi_machine.specs.Runs.{Legal, Outcome, Runs}
 use Rattle.cdi_machine.specs.Registered.{legal_of}
 use Rattle.cdi_beans.specs.Served.{machine_tables}
 use Rattle.cdi_presence.specs.Missing.{NothingMissing}
-use Rattle.cdi_container.specs.declared.accept.Accepted.{Accepted}
+use Rattle.cdi_container.specs.declared.acceptance.Accepted.{Accepted}
 use Rattle.cdi_container.specs.Accepted.{IsAccepted}
 use Rattle.cdi_container.specs.Commands.{machine_command}
 use Rattle.cdi_container.specs.States.{State, Answers, Boots, machine_state, after_refusal}

@@ -4,6 +4,7 @@ use Rattle.cdi_base.specs.declared.reply.Reply.{Reply}
 use Rattle.cdi_base.specs.declared.reply.Reply.TheVariants as replies
 use Rattle.cdi_engine.specs.declared.task.Given.{Given}
 use Rattle.cdi_engine.specs.declared.task.Given.TheVariants as givens
+use Rattle.cdi_engine.specs.declared.task.Completion.{Completion}
 use Rattle.cdi_engine.specs.declared.task.Completion.TheVariants as completions
 use Rattle.cdi_engine.specs.declared.task.Outcome.{Outcome}
 use Rattle.cdi_engine.specs.declared.task.Outcome.TheVariants as outcomes
@@ -19,7 +20,10 @@ abbrev pub given_reply : Bool → Given → Reply
 given_reply true (givens.Result v) = replies.Value v
 given_reply _ _ = replies.Done
 
+abbrev pub completion_reply : Bool → Completion → Reply
+completion_reply valued (completions.Gave g) = given_reply valued g
+completion_reply valued (completions.Threw x) = replies.Threw x
+
 abbrev pub reply_of : Bool → Outcome → Reply
-reply_of valued (outcomes.Ends (completions.Gave g)) = given_reply valued g
-reply_of valued (outcomes.Ends (completions.Threw x)) = replies.Threw x
+reply_of valued (outcomes.Ends c) = completion_reply valued c
 reply_of valued (outcomes.Cut cause) = replies.Halted cause

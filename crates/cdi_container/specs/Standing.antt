@@ -7,7 +7,7 @@ use Rattle.cdi_machine.specs.Runs.{Legal}
 use Rattle.cdi_machine.specs.Laws.{IsWithin}
 use Rattle.cdi_beans.specs.Served.{machine_tables}
 use Rattle.cdi_runtime.specs.Standing.{Standing as Working}
-use Rattle.cdi_container.specs.declared.accept.Accepted.{Accepted}
+use Rattle.cdi_container.specs.declared.acceptance.Accepted.{Accepted}
 use Rattle.cdi_container.specs.States.{State, Boots}
 
 pub record Standing (Driving : Type 0) : Type 0 where
@@ -47,4 +47,5 @@ pub record IsStarted {Driving : Type 0} (before after : Legal) (accepted : Accep
   pub names : names_of c ≡ accepted.tables.names
   pub tables : tables_of c ≡ machine_tables accepted.classes accepted.tables
   pub legal : IsWithin after before
-  pub boots : Boots (tables_of c) before (Unit {0}) ticks depth c.booted (state_of c)
+  pub boots : Boots (machine_tables accepted.classes accepted.tables) before (Unit {0}) ticks depth
+      c.booted (state_of c)

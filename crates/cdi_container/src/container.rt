@@ -13,7 +13,7 @@ ghost use Rattle.cdi_container.specs.Standing as spec;
 ghost use Rattle.cdi_container.specs.States.{Answers, CarriesOut, after_refusal, machine_state};
 ghost use Rattle.cdi_base.specs.declared.reply.Reply.TheVariants.{Refused};
 
-use crate::accept::Accepted;
+use crate::acceptance::Accepted;
 use crate::reply::{cause, has_value, reply_of};
 use cdi_base::{Cause, Command, Limits, Names, Refusal, Reply, Text};
 use cdi_engine::run::run;
@@ -127,7 +127,7 @@ impl<D: Driver> Container<D> {
     /// Carries a job out in a request, or in none, or refuses it.
     fn ask(&mut self, request: Option<&Text>, job: Job) -> Reply
         ensures answers { Answers (spec.tables_of self.old) (D.legal self.old.runtime.driver) (Unit {0})
-            (spec.state_of self.old) (in_request (option_map (λ r. r.now) request) (command_of job))
+            (spec.state_of self.old) (in_request (option_map (λ r. r.now) request.entry) (command_of job))
             result (spec.state_of self.new) }
         ensures same { spec.SameParts
             (D.legal self.old.runtime.driver) (D.legal self.new.runtime.driver) self.old self.new }

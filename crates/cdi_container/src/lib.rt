@@ -1,12 +1,12 @@
 //! A container: a deployment that is accepted is started, and then commands are answered, or the lines of an input.
 #![tactic(auto)]
 
-mod accept;
+mod acceptance;
 mod container;
 pub mod laws;
 mod reply;
 mod session;
 
-pub use accept::{Accepted, Unaccepted, accept};
+pub use acceptance::{Accepted, Unaccepted, accept};
 pub use container::Container;
 pub use session::serve;

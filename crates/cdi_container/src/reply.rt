@@ -37,13 +37,21 @@ fn given_reply(valued: bool, given: Given) -> Reply
     }
 }
 
+fn completion_reply(valued: bool, completion: Completion) -> Reply
+    ensures { result ≡ spec.completion_reply valued completion }
+{
+    match completion {
+        Completion::Gave(given) => given_reply(valued, given),
+        Completion::Threw(exception) => Reply::Threw(exception),
+    }
+}
+
 /// The reply to a job that ended so.
 pub(crate) fn reply_of(valued: bool, outcome: Outcome) -> Reply
     ensures { result ≡ spec.reply_of valued outcome }
 {
     match outcome {
-        Outcome::Ends(Completion::Gave(given)) => given_reply(valued, given),
-        Outcome::Ends(Completion::Threw(exception)) => Reply::Threw(exception),
+        Outcome::Ends(completion) => completion_reply(valued, completion),
         Outcome::Cut(cause) => Reply::Halted(cause),
     }
 }

@@ -2,7 +2,7 @@
 ghost use Rattle.std.specs.Prelude.{◌≡◌, [], map, IfOk, IfErr};
 ghost use Rattle.cdi_bodies.specs.Table.{entries_of};
 ghost use Rattle.cdi_container.specs.Accepted.{IsAccepted, IsUnaccepted};
-ghost use Rattle.cdi_container.specs.declared.accept.Unaccepted.TheVariants.{Memory};
+ghost use Rattle.cdi_container.specs.declared.acceptance.Unaccepted.TheVariants.{Memory};
 
 use cdi_base::{Name, Names, Seq};
 use cdi_beans::build::build;
