@@ -1,5 +1,5 @@
 -- The names of tables are told by what the machine asks of them.
-use Rattle.std.proofs.Common.{ℕ, zero, suc, ◌≡◌, List, [], ◌∷◌, Option, Some, None, refl, sym, ap, ap₂}
+use Rattle.std.proofs.Common.{ℕ, zero, suc, ◌≡◌, List, [], ◌∷◌, Option, Some, None, refl, ap, ap₂}
 use Rattle.std.specs.Prelude.{slice_get}
 use Rattle.cdi_machine.specs.Tables as machine
 use Rattle.cdi_beans.specs.declared.tables.Tables.{Tables}

@@ -1,18 +1,17 @@
 -- The states of a container that works are those that commands lead the machine to, but for their traces.
-use Rattle.std.proofs.Common.{ℕ, ◌≡◌, ◌∙◌, List, [], ◌∷◌, ◌++◌, Option, Some, None, Bool, true, false, IsTrue, refl, sym, ap, ap₂, subst}
+use Rattle.std.proofs.Common.{ℕ, ◌≡◌, ◌∙◌, List, ◌∷◌, ◌++◌, Option, Some, None, Bool, true, false, IsTrue, refl, sym, ap, ap₂, subst}
 use Rattle.std.specs.Prelude.{is_some}
 use Rattle.cdi_base.specs.declared.command.Command.{Command}
 use Rattle.cdi_base.specs.declared.command.Command.TheVariants as commands
 use Rattle.cdi_base.specs.declared.reply.Cause.{Cause}
 use Rattle.cdi_base.specs.declared.reply.Refusal.{Refusal}
 use Rattle.cdi_base.specs.declared.reply.Refusal.TheVariants as refusals
-use Rattle.cdi_base.specs.declared.reply.Reply.{Reply}
 use Rattle.cdi_bodies.specs.declared.entry.Entry.{Entry}
 use Rattle.cdi_deploy.specs.declared.deployment.Deployment.{Deployment}
 use Rattle.cdi_contexts.specs.Refusals.{first_that_holds}
 use Rattle.cdi_text.specs.Command.{is_served}
 use Rattle.cdi_machine.specs.Tables as machine
-use Rattle.cdi_machine.specs.World.{World, at_begin, before_boot}
+use Rattle.cdi_machine.specs.World.{World, at_begin}
 use Rattle.cdi_machine.specs.Commands as wanted
 use Rattle.cdi_machine.specs.Commands.{task}
 use Rattle.cdi_machine.specs.Container.{State as Machine, refusal, refused_by_contexts, refused_by_tables, is_cut, state_after}
@@ -24,8 +23,6 @@ use Rattle.cdi_beans.specs.Served.{machine_tables}
 use Rattle.cdi_presence.specs.Missing as presence
 use Rattle.cdi_presence.specs.Missing.{NothingMissing, IsServedCommand, IsReachable}
 use Rattle.cdi_presence.specs.Accepted as whole
-use Rattle.cdi_container.specs.declared.acceptance.Accepted.{Accepted}
-use Rattle.cdi_container.specs.Accepted.{IsAccepted}
 use Rattle.cdi_container.specs.Commands.{machine_command}
 use Rattle.cdi_container.specs.States.{State, Answers, CarriesOut, machine_state, before_start, cause_of}
 use Rattle.cdi_container.specs.Missing.{Works, MissesNone, NoneMissed}

@@ -1,0 +1,19 @@
+use Rattle.std.proofs.Common.{◌≡◌, ◌∙◌, sym, subst, option_map, Some}
+use Rattle.cdi_machine.specs.Container.{refusal}
+use Rattle.cdi_engine.specs.Words.{command_of}
+use Rattle.cdi_runtime.specs.Refusals.{in_request}
+use Rattle.cdi_container.specs.Standing.{tables_of, state_of}
+use Rattle.cdi_container.specs.States.{machine_state}
+use Rattle.cdi_container.specs.States.Answers.{refuses}
+use Rattle.cdi_container.proofs.container.Container.ask.Goals as goal
+
+pub returns-in-Some-clause-answers : goal.returns-in-Some-clause-answers
+returns-in-Some-clause-answers g c =
+    let command = in_request (option_map (λ r. r.now) c.args.request) (command_of c.args.job) in
+    let refused = (rw c.is_some.ensures at (sym c.refusal.ensures.refusal)) ∙ c.in-Some.is in
+    refuses c.in-Some.refusal
+    (subst (λ s. refusal (tables_of s) (machine_state (state_of s)) command ≡ Some c.in-Some.refusal) c.self.view_is refused)
+    c.refuse.ensures.reply c.refuse.ensures.state
+
+pub returns-in-None-clause-answers : goal.returns-in-None-clause-answers
+returns-in-None-clause-answers g c = rw (c.refusal.ensures.alone c.in-None.is) c.perform.ensures.answers
