@@ -1,5 +1,5 @@
 -- A deployment that is accepted is started and served, and another is refused: so it plays.
-use Rattle.std.proofs.Common.{ℕ, ◌≡◌, ◌∙◌, List, map, subst, Option, refl}
+use Rattle.std.proofs.Common.{ℕ, ◌≡◌, ◌∙◌, List, map, subst, refl}
 use Rattle.std.specs.Prelude.{Result}
 use Rattle.cdi_bodies.specs.declared.entry.Entry.{Entry}
 use Rattle.cdi_deploy.specs.declared.deployment.Deployment.{Deployment}
