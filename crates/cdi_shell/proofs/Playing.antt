@@ -75,7 +75,7 @@ module _ {Driving : Type 0} (legal : Driving → Legal) (first : Legal) (accepte
         started = state_of c;
         ended = state_of d;
         result = result;
-        boots = subst (λ (ts : Tables). Boots ts first (Unit {0}) ticks depth c.booted (state_of c)) b.tables b.boots;
+        boots = b.boots;
         served = subst (λ (ns : List (List ℕ)). Served 16777216 (AnswersLine names tables first (Unit {0})) (reply_line ns c.booted) (state_of c) (state_of d)
             streams.unread streams.unread_after streams.held streams.held_after result) b.names lines;
         is_ending = is;

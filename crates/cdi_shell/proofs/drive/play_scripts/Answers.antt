@@ -50,8 +50,8 @@ unreachable-requires-in-Err-Full g c =
     let few : length (entries_of c.loop-named.bodies) < 4096 = omega (arith, inv.3, ap (λ (t : List NamedScript). length t) c.in-Some.ensures.steps.0, same_length (entries_of c.loop-named.bodies) inv.0 inv.1) in
     not_full _ _ (c.in-Err-Full.ensures.full.0 (search rules)) few
 
-pub returns-in-Ok-clause-plays : goal.returns-in-Ok-clause-plays
-returns-in-Ok-clause-plays g c =
+pub returns-in-Ok-accept-clause-plays : goal.returns-in-Ok-accept-clause-plays
+returns-in-Ok-accept-clause-plays g c =
     let inv = c.loop-named.invariant in
     let entries = entries_of c.loop-named.bodies in
     let scripts = c.args.prepared.scripts.items in
@@ -59,7 +59,7 @@ returns-in-Ok-clause-plays g c =
     let streams : Streams = record { unread = g.R.Source.unread c.args.input.now; unread_after = g.R.Source.unread c.live.new.input; held = g.W.Sink.written c.args.output.now; held_after = g.W.Sink.written c.live.new.output } in
     scripts_play c.args.limits.depth c.args.limits.ticks c.args.prepared.deployment entries (registered scripts) streams c.live.result
     (holds_all entries inv.0 c.loop-named.named-iterator.rest.items scripts inv.1 inv.2 all)
-    (plays c.args.prepared.deployment entries c.args.limits.depth c.args.limits.ticks streams c.live.result c.in-Ok.accepted c.in-Ok.ensures.ok c.live.ensures.lives)
+    (plays c.args.prepared.deployment entries c.args.limits.depth c.args.limits.ticks streams c.live.result c.in-Ok-accept.accepted c.in-Ok-accept.ensures.ok c.live.ensures.lives)
 
 pub returns-in-Err-clause-plays : goal.returns-in-Err-clause-plays
 returns-in-Err-clause-plays g c =
