@@ -1,6 +1,7 @@
 -- A deployment that is accepted is started and served, and another is refused: so it plays.
-use Rattle.std.proofs.Common.{ℕ, ◌≡◌, ◌∙◌, List, map, subst, refl}
-use Rattle.std.specs.Prelude.{Result}
+use Rattle.std.proofs.Common.{ℕ, ◌≡◌, ◌∙◌, List, map, ap, subst, refl, Option, Some, None}
+use Rattle.std.specs.Prelude.{Result, Ok, Err}
+use Rattle.cdi_base.specs.declared.reply.Cause.{Cause}
 use Rattle.cdi_bodies.specs.declared.entry.Entry.{Entry}
 use Rattle.cdi_deploy.specs.declared.deployment.Deployment.{Deployment}
 use Rattle.cdi_beans.specs.declared.bean.Bean.{Bean}
@@ -18,12 +19,12 @@ use Rattle.cdi_container.specs.declared.acceptance.Unaccepted.TheVariants as err
 use Rattle.cdi_container.specs.Accepted.{IsAccepted, IsUnaccepted}
 use Rattle.cdi_container.specs.Sessions.{AnswersLine, AnswersSo, Served, ServedBy}
 use Rattle.cdi_container.specs.Standing.{Standing, IsStarted, names_of, tables_of, state_of}
-use Rattle.cdi_container.specs.States.{State, Boots}
+use Rattle.cdi_container.specs.States.{State}
 use Rattle.cdi_lines.specs.declared.fault.ServeFault.{ServeFault}
 use Rattle.cdi_text.specs.ReplyText.{reply_line}
 use Rattle.cdi_shell.specs.declared.ending.Ending.{Ending}
 use Rattle.cdi_shell.specs.Drive.{Streams, Lives, Plays, RefusesOr, RefusesUnaccepted, Refuses}
-use Rattle.cdi_shell.specs.Endings.{after_serving}
+use Rattle.cdi_shell.specs.Endings.{after_serving, outcome_of}
 use Rattle.cdi_shell.specs.RefusalText.{problem_lines}
 use Rattle.cdi_shell.proofs.Attended.{attended}
 use Rattle.cdi_shell.proofs.Wider.{within_both, line_more}
@@ -56,17 +57,26 @@ module _ {Driving : Type 0} (legal : Driving → Legal) (first : Legal) (names :
       let there = subst (λ (ts : Tables). AnswersLine names ts before (Unit {0}) (state_of s) line text (state_of t)) k.is_tables named in
       line_more names tables before first k.within (state_of s) line text (state_of t) there
 
+-- the fault that a run ended with is that of serving
+outcome_after : (r : Result (Unit {0}) ServeFault) (halted : Option Cause) → outcome_of (after_serving r halted) ≡ r
+outcome_after (Ok tt) None = refl
+outcome_after (Ok tt) (Some cause) = refl
+outcome_after (Err fault) halted = refl
+
+pub outcome_is : (ending : Ending) (r : Result (Unit {0}) ServeFault) (halted : Option Cause) → ending ≡ after_serving r halted → outcome_of ending ≡ r
+outcome_is ending r halted is = ap outcome_of is ∙ outcome_after r halted
+
 module _ {Driving : Type 0} (legal : Driving → Legal) (first : Legal) (accepted : Accepted) (depth ticks : ℕ) (c d : Standing Driving) (streams : Streams) where
-  pub lives : (result : Result (Unit {0}) ServeFault) (ending : Ending) → IsStarted first (legal c.runtime.driver) accepted ticks depth c
+  pub lives : (result : Result (Unit {0}) ServeFault) (halted : Option Cause) (ending : Ending) → IsStarted first (legal c.runtime.driver) accepted ticks depth c
       → ServedBy 16777216 legal c d streams.unread streams.unread_after streams.held streams.held_after result
-      → ending ≡ after_serving result d.halted
+      → halted ≡ d.halted → ending ≡ after_serving result halted
       → Lives depth ticks accepted.tables.names accepted.tables.beans accepted.classes first streams ending
-  lives result ending b s is =
+  lives result halted ending b s told is =
       let names = accepted.tables.names in
       let tables = machine_tables accepted.classes accepted.tables in
       let kept : Keeps legal first names tables c = record { is_names = b.names; is_tables = b.tables; within = b.legal } in
       let lines = attended (So legal first names tables) (Line legal first names tables) state_of (Keeps legal first names tables) (keeps legal first names tables) (maps legal first names tables)
-          16777216 (reply_line (names_of c) c.booted) c d streams.unread streams.unread_after streams.held streams.held_after kept result s in
+      16777216 (reply_line (names_of c) c.booted) c d streams.unread streams.unread_after streams.held streams.held_after kept result s in
       record {
         tables = accepted.tables;
         is_names = refl;
@@ -78,7 +88,7 @@ module _ {Driving : Type 0} (legal : Driving → Legal) (first : Legal) (accepte
         boots = b.boots;
         served = subst (λ (ns : List (List ℕ)). Served 16777216 (AnswersLine names tables first (Unit {0})) (reply_line ns c.booted) (state_of c) (state_of d)
             streams.unread streams.unread_after streams.held streams.held_after result) b.names lines;
-        is_ending = is;
+        is_ending = is ∙ ap (after_serving result) told;
       }
 
 module _ {X : Type 0} {F : X → Type 0} {g : _} (deployment : Deployment) (entries : List (Entry X F g)) (depth ticks : ℕ) (streams : Streams) (ending : Ending) where

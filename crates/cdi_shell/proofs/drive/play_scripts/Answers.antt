@@ -9,7 +9,7 @@ use Rattle.cdi_script.proofs.Within.{lies}
 use Rattle.cdi_shell.specs.declared.scripts.NamedScript.{NamedScript}
 use Rattle.cdi_shell.specs.Drive.{Streams, place_under}
 use Rattle.cdi_shell.specs.Scripts.{added, registered}
-use Rattle.cdi_shell.proofs.Holding.{Holds, holds_add, same_length, same_place, add_known, add_new, holds_all, not_full}
+use Rattle.cdi_shell.proofs.Holding.{holds_add, same_length, same_place, add_known, add_new, holds_all, not_full}
 use Rattle.cdi_shell.proofs.Playing.{plays, refused}
 use Rattle.cdi_shell.proofs.Scripted.{scripts_play}
 use Rattle.cdi_shell.proofs.drive.play_scripts.OwnLists.{own-1, at-1-1}
