@@ -31,7 +31,7 @@ fn bean_class(alloc: Global, name: Name) -> Class {
 }
 
 /// A deployment of so many beans.
-fn beans(alloc: Global, count: u32) -> Result<Deployment, Fail> {
+pub(crate) fn beans(alloc: Global, count: u32) -> Result<Deployment, Fail> {
     let mut names = Names::with_built_in(alloc)?;
     let mut classes = Seq::empty(alloc);
     for number in 0..count {
