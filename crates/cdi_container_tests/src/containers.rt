@@ -65,7 +65,26 @@ const WELL: Life = Life {
 /// A line, and the reply to it.
 type Row = (&'static str, Replied);
 
-/// Starts a container, and checks its replies, and why it has halted in the end.
+/// Checks what a container was answered at its start, its replies, and why it has halted in the end.
+fn check_replies<D: Driver>(
+    rt: &impl Abort,
+    alloc: Global,
+    container: &mut Container<D>,
+    life: Life,
+    rows: &[Row],
+) -> Result<(), Fail> {
+    expect_same(rt, &plain_reply(container.boot_reply()), &life.booted);
+    let object = Some(BuiltIn::Object.name());
+    expect_same(rt, &container.names().find("Object"), &object);
+    for &(line, wanted) in rows {
+        let reply = reply_to(alloc, container, line)?;
+        expect_same_at(rt, &line, &reply, &wanted);
+    }
+    expect_same(rt, &container.halted(), &life.halted);
+    Ok(())
+}
+
+/// Starts a container, and checks its life.
 fn check_life<D: Driver + Drop>(
     rt: &impl Abort,
     alloc: Global,
@@ -79,18 +98,7 @@ fn check_life<D: Driver + Drop>(
 {
     let limits = Limits::new(life.depth, life.ticks).expect(rt, "limits in range");
     let mut container = Container::start(alloc, accepted, driver, limits);
-    expect_same(rt, &plain_reply(container.boot_reply()), &life.booted);
-    expect_same(
-        rt,
-        &container.names().find("Object"),
-        &Some(BuiltIn::Object.name()),
-    );
-    for &(line, wanted) in rows {
-        let reply = reply_to(alloc, &mut container, line)?;
-        expect_same_at(rt, &line, &reply, &wanted);
-    }
-    expect_same(rt, &container.halted(), &life.halted);
-    Ok(())
+    check_replies(rt, alloc, &mut container, life, rows)
 }
 
 /// Checks the container of a deployment whose bodies count once.
@@ -165,50 +173,48 @@ fn refuses_in_order(rt: HostRuntime) -> Result<(), Fail> {
     check(&rt, rt.alloc(), TWO, WELL, &rows)
 }
 
-/// A boot gives 2 entries, a first call 5.
+/// A container that halts for want of entries.
+fn short_of_entries(ticks: u32, booted: Replied) -> Life {
+    Life {
+        depth: 32,
+        ticks,
+        booted,
+        halted: Some(Cause::Ticks),
+    }
+}
+
+/// A boot gives 2 entries.
+#[test]
+fn halts_at_its_start(rt: HostRuntime) -> Result<(), Fail> {
+    let rows = [(UP, HALTED), (IN_REQUEST, HALTED), (SHUTDOWN, HALTED)];
+    let life = short_of_entries(1, Replied::Halted(Cause::Ticks));
+    check(&rt, rt.alloc(), SHARED, life, &rows)
+}
+
+/// A first call gives 5 entries.
 #[test]
 fn halts_once_its_entries_are_spent(rt: HostRuntime) -> Result<(), Fail> {
-    let cut = Replied::Halted(Cause::Ticks);
-    let all_refused = [(UP, HALTED), (IN_REQUEST, HALTED), (SHUTDOWN, HALTED)];
-    let cut_then = [(UP, cut), (UP, HALTED), (SHUTDOWN, HALTED)];
-    let well = [
+    let rows = [
+        (UP, Replied::Halted(Cause::Ticks)),
+        (UP, HALTED),
+        (SHUTDOWN, HALTED),
+    ];
+    for ticks in [2, 4] {
+        let life = short_of_entries(ticks, Replied::Done);
+        check(&rt, rt.alloc(), SHARED, life, &rows)?;
+    }
+    Ok(())
+}
+
+#[test]
+fn spends_its_last_entry(rt: HostRuntime) -> Result<(), Fail> {
+    let rows = [
         (UP, Replied::Gave(1)),
         (UP, Replied::Gave(2)),
         (SHUTDOWN, Replied::Done),
     ];
-    let halted = Some(Cause::Ticks);
-    let lives = [
-        (
-            Life {
-                ticks: 1,
-                booted: cut,
-                halted,
-                ..WELL
-            },
-            all_refused,
-        ),
-        (
-            Life {
-                ticks: 2,
-                halted,
-                ..WELL
-            },
-            cut_then,
-        ),
-        (
-            Life {
-                ticks: 4,
-                halted,
-                ..WELL
-            },
-            cut_then,
-        ),
-        (Life { ticks: 5, ..WELL }, well),
-    ];
-    for (life, rows) in lives {
-        check(&rt, rt.alloc(), SHARED, life, &rows)?;
-    }
-    Ok(())
+    let life = Life { ticks: 5, ..WELL };
+    check(&rt, rt.alloc(), SHARED, life, &rows)
 }
 
 /// A body on the second level is one too many where there is one level.
@@ -252,7 +258,35 @@ fn many_classes(alloc: Global, count: u32) -> Result<String, AllocError> {
     format!(in alloc; r#"{{"classes":[{classes}]}}"#)
 }
 
-/// Checks calls of all of so many beans, each of which counts on from its own number.
+/// Checks a call of the bean with a number, which counts on from it.
+fn check_numbered<D: Driver>(
+    rt: &impl Abort,
+    alloc: Global,
+    container: &mut Container<D>,
+    number: u32,
+) -> Result<(), Fail> {
+    let line = format!(in alloc; r#"["call",null,"K{number}",[],"up",[0]]"#)?;
+    let reply = reply_to(alloc, container, line.as_str())?;
+    let wanted = Replied::Gave(i64::from(number).saturating_add(1));
+    expect_same_at(rt, &number, &reply, &wanted);
+    Ok(())
+}
+
+/// Checks calls of all of so many beans, and then a shutdown.
+fn check_numbers<D: Driver>(
+    rt: &impl Abort,
+    alloc: Global,
+    container: &mut Container<D>,
+    count: u32,
+) -> Result<(), Fail> {
+    for number in 0..count {
+        check_numbered(rt, alloc, container, number)?;
+    }
+    expect_same(rt, &reply_to(alloc, container, SHUTDOWN)?, &Replied::Done);
+    Ok(())
+}
+
+/// Starts a container of so many beans, and checks calls of all of them.
 fn check_all<D: Driver + Drop>(
     rt: &impl Abort,
     alloc: Global,
@@ -264,18 +298,7 @@ fn check_all<D: Driver + Drop>(
     requires serves { GivesServed accepted.tables (D.legal driver) }
 {
     let mut container = Container::start(alloc, accepted, driver, Limits::default());
-    for number in 0..count {
-        let line = format!(in alloc; r#"["call",null,"K{number}",[],"up",[0]]"#)?;
-        let reply = reply_to(alloc, &mut container, line.as_str())?;
-        let wanted = Replied::Gave(i64::from(number).saturating_add(1));
-        expect_same_at(rt, &number, &reply, &wanted);
-    }
-    expect_same(
-        rt,
-        &reply_to(alloc, &mut container, SHUTDOWN)?,
-        &Replied::Done,
-    );
-    Ok(())
+    check_numbers(rt, alloc, &mut container, count)
 }
 
 #[test]

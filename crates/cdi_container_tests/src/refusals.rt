@@ -58,6 +58,23 @@ fn refusal_in<D: Driver>(
     Ok(runtime.refusal(halted, request, &job))
 }
 
+/// Carries a job out, and then checks why each is refused.
+fn check_behind<D: Driver>(
+    rt: &impl Abort,
+    alloc: Global,
+    runtime: &mut Runtime<D>,
+    first: Asks,
+    rows: &[Row],
+) -> Result<(), Fail> {
+    let job = job_of(alloc, &runtime.tables().names, first)?;
+    carry_out(runtime, job)?;
+    for row in rows {
+        let refusal = refusal_in(alloc, runtime, row)?;
+        expect_same_at(rt, &row.2, &refusal, &row.3);
+    }
+    Ok(())
+}
+
 /// Checks why each is refused, before anything was done or after a shutdown.
 fn check_each<D: Driver + Drop>(
     rt: &impl Abort,
@@ -72,13 +89,7 @@ fn check_each<D: Driver + Drop>(
 {
     let Accepted { tables, classes } = accepted;
     let mut runtime = Runtime::new(alloc, tables, classes, driver, Limits::default());
-    let job = job_of(alloc, &runtime.tables().names, first)?;
-    carry_out(&mut runtime, job)?;
-    for row in rows {
-        let refusal = refusal_in(alloc, &runtime, row)?;
-        expect_same_at(rt, &row.2, &refusal, &row.3);
-    }
-    Ok(())
+    check_behind(rt, alloc, &mut runtime, first, rows)
 }
 
 /// Checks why each is refused behind a job.

@@ -44,6 +44,21 @@ fn check_behind<D: Driver>(
 }
 
 /// Carries jobs out one after the other, and checks each.
+fn check_rows<D: Driver>(
+    rt: &impl Abort,
+    alloc: Global,
+    runtime: &mut Runtime<D>,
+    rows: &[Row],
+) -> Result<(), Fail> {
+    for row in rows {
+        let job = job_of(alloc, &runtime.tables().names, row.0)?;
+        let end = carry_out(runtime, job)?;
+        check_behind(rt, alloc, runtime, row, end)?;
+    }
+    Ok(())
+}
+
+/// Checks jobs from before the boot on.
 fn check_jobs<D: Driver + Drop>(
     rt: &impl Abort,
     alloc: Global,
@@ -56,12 +71,7 @@ fn check_jobs<D: Driver + Drop>(
 {
     let Accepted { tables, classes } = accepted;
     let mut runtime = Runtime::new(alloc, tables, classes, driver, Limits::default());
-    for row in rows {
-        let job = job_of(alloc, &runtime.tables().names, row.0)?;
-        let end = carry_out(&mut runtime, job)?;
-        check_behind(rt, alloc, &runtime, row, end)?;
-    }
-    Ok(())
+    check_rows(rt, alloc, &mut runtime, rows)
 }
 
 /// Checks the jobs of a deployment whose bodies count once.
@@ -194,7 +204,38 @@ struct Behind {
     next: Option<u32>,
 }
 
-/// Makes a call so many times, under default limits, and tells what stands behind the last.
+/// Makes a call so many times, and tells how the last ended.
+fn call_again<D: Driver>(
+    alloc: Global,
+    runtime: &mut Runtime<D>,
+    asks: Asks,
+    times: u32,
+) -> Result<End, Fail> {
+    let mut end = End::Other;
+    for _ in 0..times {
+        let job = job_of(alloc, &runtime.tables().names, asks)?;
+        end = carry_out(runtime, job)?;
+    }
+    Ok(end)
+}
+
+/// Makes a call so many times, and tells what stands behind the last.
+fn behind_calls<D: Driver>(
+    alloc: Global,
+    runtime: &mut Runtime<D>,
+    asks: Asks,
+    times: u32,
+) -> Result<Behind, Fail> {
+    let end = call_again(alloc, runtime, asks, times)?;
+    Ok(Behind {
+        end,
+        entries: runtime.world().entries(),
+        live: live_in(alloc, runtime)?,
+        next: runtime.world().next_number(),
+    })
+}
+
+/// The same under default limits, in a world in which nothing was done before.
 fn call_often<D: Driver + Drop>(
     alloc: Global,
     accepted: Accepted,
@@ -207,17 +248,7 @@ fn call_often<D: Driver + Drop>(
 {
     let Accepted { tables, classes } = accepted;
     let mut runtime = Runtime::new(alloc, tables, classes, driver, Limits::default());
-    let mut end = End::Other;
-    for _ in 0..times {
-        let job = job_of(alloc, &runtime.tables().names, asks)?;
-        end = carry_out(&mut runtime, job)?;
-    }
-    Ok(Behind {
-        end,
-        entries: runtime.world().entries(),
-        live: live_in(alloc, &runtime)?,
-        next: runtime.world().next_number(),
-    })
+    behind_calls(alloc, &mut runtime, asks, times)
 }
 
 /// Checks what stands behind a call that was made so many times, of a deployment whose bodies count once.

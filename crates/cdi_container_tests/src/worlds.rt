@@ -215,15 +215,26 @@ fn check_seen(
     Ok(())
 }
 
-/// Makes changes, one after the other, of a world whose commands may have two entries.
+/// Makes changes, one after the other, and checks what is seen after each.
+fn check_each(
+    rt: &impl Abort,
+    alloc: Global,
+    world: &mut World,
+    view: View,
+    rows: &[Row],
+) -> Result<(), AllocError> {
+    for &(change, wanted) in rows {
+        make_change(alloc, world, change)?;
+        check_seen(rt, alloc, world, view, wanted)?;
+    }
+    Ok(())
+}
+
+/// The same of a world whose commands may have two entries.
 fn check_changes(rt: &impl Abort, alloc: Global, view: View, rows: &[Row]) -> Result<(), Fail> {
     let limits = Limits::new(32, 2).expect(rt, "limits in range");
     let mut world = World::new(alloc, limits);
-    for &(change, wanted) in rows {
-        make_change(alloc, &mut world, change)?;
-        check_seen(rt, alloc, &world, view, wanted)?;
-    }
-    Ok(())
+    Ok(check_each(rt, alloc, &mut world, view, rows)?)
 }
 
 #[test]
@@ -548,16 +559,20 @@ fn check_held(
     Ok(())
 }
 
+/// Makes instances that are shared, and lets them go.
+fn check_shared(rt: &impl Abort, alloc: Global, world: &mut World) -> Result<(), AllocError> {
+    let all = [Some(Held::Is(4)), Some(Held::Is(1_000))];
+    make_many(alloc, world, 1_000, Owned::Application)?;
+    check_held(rt, alloc, world, 1_000, all, Some(1_000))?;
+    check_numbers(rt, alloc, world)?;
+    check_leaving(rt, world, 1_000);
+    check_held(rt, alloc, world, 0, [None, None], None)
+}
+
 #[test]
 fn holds_many_that_are_shared(rt: HostRuntime) -> Result<(), Fail> {
-    let all = [Some(Held::Is(4)), Some(Held::Is(1_000))];
     let mut world = World::new(rt.alloc(), Limits::default());
-    make_many(rt.alloc(), &mut world, 1_000, Owned::Application)?;
-    check_held(&rt, rt.alloc(), &world, 1_000, all, Some(1_000))?;
-    check_numbers(&rt, rt.alloc(), &world)?;
-    check_leaving(&rt, &mut world, 1_000);
-    check_held(&rt, rt.alloc(), &world, 0, [None, None], None)?;
-    Ok(())
+    Ok(check_shared(&rt, rt.alloc(), &mut world)?)
 }
 
 /// Makes a change a thousand times, and checks what is seen then.
@@ -572,8 +587,8 @@ fn check_many(
     check_seen(rt, alloc, world, View::Running, wanted)
 }
 
-#[test]
-fn keeps_many_under_way(rt: HostRuntime) -> Result<(), Fail> {
+/// Makes many temporaries, and many of each change.
+fn check_under_way(rt: &impl Abort, alloc: Global, world: &mut World) -> Result<(), AllocError> {
     const ROWS: &[Row] = &[
         (Change::Enter(7), "Some((7, false)) 0 None 0 true"),
         (Change::Exit, "None 0 None 0 true"),
@@ -585,12 +600,17 @@ fn keeps_many_under_way(rt: HostRuntime) -> Result<(), Fail> {
         (Change::GiveBack, "None 0 None 0 true"),
         (Change::Write, "None 0 None 1000 true"),
     ];
-    let mut world = World::new(rt.alloc(), Limits::default());
-    make_many(rt.alloc(), &mut world, 1_000, Owned::Borrower)?;
+    make_many(alloc, world, 1_000, Owned::Borrower)?;
     for &(change, wanted) in ROWS {
-        check_many(&rt, rt.alloc(), &mut world, change, wanted)?;
+        check_many(rt, alloc, world, change, wanted)?;
     }
     Ok(())
+}
+
+#[test]
+fn keeps_many_under_way(rt: HostRuntime) -> Result<(), Fail> {
+    let mut world = World::new(rt.alloc(), Limits::default());
+    Ok(check_under_way(&rt, rt.alloc(), &mut world)?)
 }
 
 /// Makes many dependents of the first instance.
