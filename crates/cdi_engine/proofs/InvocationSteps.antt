@@ -24,9 +24,7 @@ use Rattle.cdi_engine.specs.Words.{running_of}
 use Rattle.cdi_engine.specs.Points.{reach_end, end_with}
 use Rattle.cdi_engine.specs.Leads.{next_stop, Comes, MovesTo, Settles}
 use Rattle.cdi_engine.specs.declared.task.Call.TheVariants as calls
-use Rattle.cdi_engine.specs.declared.task.Completion.{Completion as CodeCompletion}
 use Rattle.cdi_engine.specs.declared.task.Completion.TheVariants as completions
-use Rattle.cdi_engine.specs.declared.task.Given.{Given as CodeGiven}
 use Rattle.cdi_engine.specs.declared.task.Given.TheVariants as givens
 use Rattle.cdi_engine.specs.declared.task.Outcome.TheVariants as outcomes
 use Rattle.cdi_engine.specs.declared.task.Running.{Running}

@@ -45,10 +45,17 @@ fn write<H: Host>(host: &mut H, entry: Entry, next: Task) -> Result<Option<Task>
     ensures narrows { Narrows (H.setting host.old) (H.setting host.new) }
 {
     if !host.has_room() {
+        drop(entry);
+        drop(next);
         return Ok(None);
     }
-    host.write(entry)?;
-    Ok(Some(next))
+    match host.write(entry) {
+        Ok(()) => Ok(Some(next)),
+        Err(error) => {
+            drop(next);
+            Err(error)
+        }
+    }
 }
 
 /// Carries out what a command asks for. The world is then that of a run of the machine, in which the bodies give and

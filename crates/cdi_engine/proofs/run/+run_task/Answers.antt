@@ -1,4 +1,4 @@
-use Rattle.std.proofs.Common.{rules, arith, ◌<◌, length}
+use Rattle.std.proofs.Common.{rules, arith}
 use Rattle.cdi_engine.proofs.Sound.{narrows_trans, kept_goes, kept_writes, kept_needs, kept_ends, kept_full, kept_starved, kept_starved_before, kept_starved_within, ran_err}
 use Rattle.cdi_engine.proofs.StaysKnown.{known_written}
 use Rattle.cdi_engine.proofs.Cost.{goes_falls, entry_falls, back_falls}

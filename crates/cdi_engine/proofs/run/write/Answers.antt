@@ -5,6 +5,6 @@ pub returns-then-not-has_room-clause-ok : goal.returns-then-not-has_room-clause-
 returns-then-not-has_room-clause-ok g c =
     record { full = search rules; world = refl }
 
-pub returns-clause-ok : goal.returns-clause-ok
-returns-clause-ok g c =
-    record { room = search rules; next = refl; world = c.in_ok-write.ensures.ok }
+pub returns-in-Ok-clause-ok : goal.returns-in-Ok-clause-ok
+returns-in-Ok-clause-ok g c =
+    record { room = search rules; next = refl; world = c.in-Ok.ensures.ok }
