@@ -1,7 +1,7 @@
 //! The steps of creating an instance.
 ghost use Rattle.std.specs.Prelude.{◌≡◌, ◌<◌, ◌^◌, IfOk, OnErr};
 ghost use Rattle.cdi_engine.specs.Setting.{Narrows};
-ghost use Rattle.cdi_engine.specs.Leads.{Leads};
+ghost use Rattle.cdi_engine.specs.Leads.{MovesTo};
 ghost use Rattle.cdi_engine.specs.Points.{fields_of};
 ghost use Rattle.cdi_engine.specs.Falls.{Falls};
 ghost use Rattle.cdi_engine.specs.Known.{KnownNext};
@@ -16,7 +16,7 @@ use std::alloc::AllocError;
 /// Gives a new instance its number (Jakarta CDI 4.0, *Lifecycle of managed beans*).
 #[tactic(auto, using(crate::proofs::CreationSteps::leads))]
 pub(super) fn create<H: Host>(host: &H, bean: u32, owner: Owner) -> Next
-    ensures leads { Leads (H.setting host.now) (Task.Start (Call.Create bean owner))
+    ensures leads { MovesTo (H.setting host.now) (Task.Start (Call.Create bean owner))
         (H.world host.now) result (H.world host.now) }
     ensures falls { Falls (Task.Start (Call.Create bean owner))
         (H.world host.now) result (H.world host.now) }
@@ -61,7 +61,7 @@ pub(super) fn made<H: Host>(
     owner: Owner,
 ) -> Result<Next, AllocError>
     requires { (H.world host.old).next < 2 ^ 32 }
-    ensures leads { IfOk result (λ next. Leads (H.setting host.old) (Task.Made number bean owner)
+    ensures leads { IfOk result (λ next. MovesTo (H.setting host.old) (Task.Made number bean owner)
         (H.world host.old) next (H.world host.new)) }
     ensures falls { IfOk result (λ next. Falls (Task.Made number bean owner)
         (H.world host.old) next (H.world host.new)) }
@@ -77,7 +77,7 @@ pub(super) fn made<H: Host>(
 /// Completes the instance (Jakarta CDI 4.0, *Lifecycle of managed beans*).
 #[tactic(auto, using(crate::proofs::CreationSteps::leads))]
 pub(super) fn readied<H: Host>(host: &mut H, number: u32) -> Result<Next, AllocError>
-    ensures leads { IfOk result (λ next. Leads (H.setting host.old) (Task.Readied number)
+    ensures leads { IfOk result (λ next. MovesTo (H.setting host.old) (Task.Readied number)
         (H.world host.old) next (H.world host.new)) }
     ensures falls { IfOk result (λ next. Falls (Task.Readied number)
         (H.world host.old) next (H.world host.new)) }

@@ -1,7 +1,8 @@
 use Rattle.cdi_engine.proofs.DestructionSteps.{released_leads, picked_leads}
-use Rattle.cdi_engine.proofs.CommandSteps.{returning_leads, starting_leads, closing_leads, missing_leads, over_leads}
+use Rattle.cdi_engine.proofs.CommandSteps.{returning_leads, starting_leads, closing_leads, missing_leads, ending_leads, over_leads}
 use Rattle.cdi_engine.proofs.BodySteps.{answered_leads}
 use Rattle.cdi_engine.proofs.ObtainingSteps.{invoking_leads}
+use Rattle.cdi_engine.proofs.Cost.{ending_falls}
 use Rattle.cdi_engine.proofs.step.step.Goals as goal
 
 pub returns-in-Released-clause-leads : goal.returns-in-Released-clause-leads
@@ -14,7 +15,7 @@ returns-in-Picked-clause-leads g c =
 
 pub returns-in-Returning-clause-leads : goal.returns-in-Returning-clause-leads
 returns-in-Returning-clause-leads g c =
-    rw (c.in-Returning.is, c.returning.ensures) (returning_leads (g.H.Host.setting c.args.host.now) c.in-Returning.completion (g.H.Host.world c.args.host.now))
+    rw c.in-Returning.is (returning_leads (g.H.Host.setting c.args.host.now) c.in-Returning.completion (g.H.Host.world c.args.host.now))
 
 pub returns-in-Starting-clause-leads : goal.returns-in-Starting-clause-leads
 returns-in-Starting-clause-leads g c =
@@ -39,3 +40,11 @@ returns-in_ok-answer-in-Answered-clause-leads g c =
 pub returns-in_ok-invoke-in-Invoking-clause-leads : goal.returns-in_ok-invoke-in-Invoking-clause-leads
 returns-in_ok-invoke-in-Invoking-clause-leads g c =
     rw c.in-Invoking.is (invoking_leads (g.H.Host.setting c.args.host.now) c.in-Invoking.number c.in-Invoking.method c.in-Invoking.args c.in_ok-invoke-in-Invoking.field-0 (g.H.Host.world c.args.host.now) (g.H.Host.world c.invoke.new.host) c.in_ok-invoke-in-Invoking.ensures.leads)
+
+pub returns-in-Ending-clause-leads : goal.returns-in-Ending-clause-leads
+returns-in-Ending-clause-leads g c =
+    rw (c.in-Ending.is, c.alter.ensures.world) (ending_leads (g.H.Host.setting c.args.host.now) c.in-Ending.change c.in-Ending.completion (g.H.Host.world c.args.host.now))
+
+pub returns-in-Ending-clause-falls : goal.returns-in-Ending-clause-falls
+returns-in-Ending-clause-falls g c =
+    rw c.alter.ensures.world (ending_falls c.in-Ending.change c.in-Ending.completion (g.H.Host.world c.args.host.now))
