@@ -27,8 +27,8 @@ use Rattle.cdi_machine.specs.Programs.{Given, Number, Completion, Gave, Threw, P
 use Rattle.cdi_engine.specs.Setting.{Setting, GivesTo}
 use Rattle.cdi_engine.specs.Asked.{method_in, method_of_component, method_of_instance, has_field_in}
 use Rattle.cdi_engine.specs.Words.{given_of, completion_of, running_of}
-use Rattle.cdi_engine.specs.Points.{start_body, stop_body, go_on_with, told}
-use Rattle.cdi_engine.specs.Leads.{settled, Comes, Leads, Settles}
+use Rattle.cdi_engine.specs.Points.{start_body, end_with, go_on_with, told}
+use Rattle.cdi_engine.specs.Leads.{next_stop, Comes, MovesTo, Settles}
 use Rattle.cdi_engine.specs.declared.task.Call.TheVariants as calls
 use Rattle.cdi_engine.specs.declared.task.Completion.{Completion as CodeCompletion}
 use Rattle.cdi_engine.specs.declared.task.Completion.TheVariants as completions
@@ -75,45 +75,40 @@ module _ (s : Setting) where
     start_body r
 
   pub body_too_deep : (r : Running) (w : World) → nat_lt (length w.bodies) w.depth ≡ false
-      → Leads s (tasks.Start (calls.Body r)) w (nexts.Finished (outcomes.Cut causes.Depth)) w
-  body_too_deep r w h = Comes.same (ap (λ x. settled t (require_depth x >>= λ _. instance r.instance >>= λ _. note (entries.Run r.instance r.place) >>= λ _. start_body (running_of r)) w) h)
+      → MovesTo s (tasks.Start (calls.Body r)) w (nexts.Finished (outcomes.Cut causes.Depth)) w
+  body_too_deep r w h = Comes.same (ap (λ x. next_stop t (require_depth x >>= λ _. instance r.instance >>= λ _. note (entries.Run r.instance r.place) >>= λ _. start_body (running_of r)) w) h)
 
   body_in : (r : Running) {o : Option Instance} (w : World) → nat_lt (length w.bodies) w.depth ≡ true → instance_at w r.instance ≡ o
-      → settled t (run_body (running_of r)) w ≡ settled t (started (running_of r) true o) w
+      → next_stop t (run_body (running_of r)) w ≡ next_stop t (started (running_of r) true o) w
   body_in r w h e =
-      ap (λ x. settled t (require_depth x >>= λ _. instance r.instance >>= λ _. note (entries.Run r.instance r.place) >>= λ _. start_body (running_of r)) w) h
-      ∙ ap (λ o. settled t (started (running_of r) true o) w) e
+      ap (λ x. next_stop t (require_depth x >>= λ _. instance r.instance >>= λ _. note (entries.Run r.instance r.place) >>= λ _. start_body (running_of r)) w) h
+      ∙ ap (λ o. next_stop t (started (running_of r) true o) w) e
 
   pub body_missing : (r : Running) (w : World) → nat_lt (length w.bodies) w.depth ≡ true → instance_at w r.instance ≡ None
-      → Leads s (tasks.Start (calls.Body r)) w (nexts.Finished (outcomes.Ends (completions.Threw (number_of built_in.IllegalStateException)))) w
+      → MovesTo s (tasks.Start (calls.Body r)) w (nexts.Finished (outcomes.Ends (completions.Threw (number_of built_in.IllegalStateException)))) w
   body_missing r w h e = Comes.same (body_in r w h e)
 
   pub body_first : (r : Running) {o : Instance} (w : World) → nat_lt (length w.bodies) w.depth ≡ true → instance_at w r.instance ≡ Some o
-      → Leads s (tasks.Start (calls.Body r)) w (nexts.Writes (entries.Run r.instance r.place) (tasks.Entered r)) w
+      → MovesTo s (tasks.Start (calls.Body r)) w (nexts.Writes (entries.Run r.instance r.place) (tasks.Entered r)) w
   body_first r w h e = Comes.same (body_in r w h e)
 
   pub body_there : (r : Running) (w : World) → nat_lt (length w.bodies) w.depth ≡ true → is_some (instance_at w r.instance) ≡ true
-      → Leads s (tasks.Start (calls.Body r)) w (nexts.Writes (entries.Run r.instance r.place) (tasks.Entered r)) w
+      → MovesTo s (tasks.Start (calls.Body r)) w (nexts.Writes (entries.Run r.instance r.place) (tasks.Entered r)) w
   body_there r w h e = by (instance_at w r.instance) refl e
     where
       by : (x : Option Instance) → instance_at w r.instance ≡ x → is_some x ≡ true
-          → Leads s (tasks.Start (calls.Body r)) w (nexts.Writes (entries.Run r.instance r.place) (tasks.Entered r)) w
+          → MovesTo s (tasks.Start (calls.Body r)) w (nexts.Writes (entries.Run r.instance r.place) (tasks.Entered r)) w
       by None q z = absurd (cc)
       by (Some o) q z = body_first r w h q
 
   stops : (c : Completion Given)
-      → handle (complete c) (λ g. alter Change.Stop >> ret g) (λ x. alter Change.Stop >> throw x) ≡ stop_body c
+      → handle (complete c) (λ g. alter Change.Stop >> ret g) (λ x. alter Change.Stop >> throw x) ≡ end_with Change.Stop c
   stops (Gave g) = refl
   stops (Threw x) = refl
 
   pub entered_leads : (r : Running) (w : World)
-      → Leads s (tasks.Entered r) w (nexts.Needs (calls.Acts r) frames.Stopping) (after_change (Change.Start r.instance) w)
+      → MovesTo s (tasks.Entered r) w (nexts.Needs (tasks.Start (calls.Acts r)) frames.Stopping) (after_change (Change.Start r.instance) w)
   entered_leads r w = Comes.same (ap (λ k. (nested (machine.Acts (running_of r)) k, after_change (Change.Start r.instance) w)) (fun_ext stops))
-
-  pub stopped_leads : (c : CodeCompletion) (w : World)
-      → Leads s (tasks.Stopped c) w (nexts.Finished (outcomes.Ends c)) (after_change Change.Stop w)
-  stopped_leads (completions.Gave g) w = Comes.same refl
-  stopped_leads (completions.Threw x) w = Comes.same refl
 
   -- ---- acts
 
@@ -121,21 +116,21 @@ module _ (s : Setting) where
   acting r o = require_present o >>= λ o. machine.act r.body o.fields r.view ret >>= perform r
 
   pub acts_missing : (r : Running) (w : World) → instance_at w r.instance ≡ None
-      → Leads s (tasks.Start (calls.Acts r)) w (nexts.Finished (outcomes.Ends (completions.Threw (number_of built_in.IllegalStateException)))) w
-  acts_missing r w e = Comes.same (ap (λ o. settled t (acting (running_of r) o) w) e)
+      → MovesTo s (tasks.Start (calls.Acts r)) w (nexts.Finished (outcomes.Ends (completions.Threw (number_of built_in.IllegalStateException)))) w
+  acts_missing r w e = Comes.same (ap (λ o. next_stop t (acting (running_of r) o) w) e)
 
   pub acts_first : (r : Running) (a copy : Act) (w : World) → GivesTo s w r a → copy ≡ a
-      → Leads s (tasks.Start (calls.Acts r)) w (nexts.Writes (entries.Did copy) (tasks.Acted r a)) w
+      → MovesTo s (tasks.Start (calls.Acts r)) w (nexts.Writes (entries.Did copy) (tasks.Acted r a)) w
   acts_first r a copy w g c =
-      let here : settled t (carry_on (running_of r)) w ≡ (machine.act r.body g.instance.fields r.view (perform (running_of r)), w) = ap (λ o. settled t (acting (running_of r) o) w) g.lives in
+      let here : next_stop t (carry_on (running_of r)) w ≡ (machine.act r.body g.instance.fields r.view (perform (running_of r)), w) = ap (λ o. next_stop t (acting (running_of r) o) w) g.lives in
       Comes.does {a = a} here g.gives (ap (λ x. tick (entries.Did x) (perform (running_of r) a)) c)
 
   pub give_leads : (r : Running) (v : Value) (w : World)
-      → Leads s (tasks.Acted r (acts.Give v)) w (nexts.Finished (outcomes.Ends (completions.Gave (givens.Result v)))) w
+      → MovesTo s (tasks.Acted r (acts.Give v)) w (nexts.Finished (outcomes.Ends (completions.Gave (givens.Result v)))) w
   give_leads r v w = Comes.same refl
 
   pub throw_leads : (r : Running) (x : Name) (w : World)
-      → Leads s (tasks.Acted r (acts.Throw x)) w (nexts.Finished (outcomes.Ends (completions.Threw x))) w
+      → MovesTo s (tasks.Acted r (acts.Throw x)) w (nexts.Finished (outcomes.Ends (completions.Threw x))) w
   throw_leads r x w = Comes.same refl
 
   -- ---- answers
@@ -151,17 +146,17 @@ module _ (s : Setting) where
       → running_of q ≡ with_answer (running_of r) (answers.Threw x text) → t.text x ≡ Some text
       → Settles s (go_on_with (running_of r) (machine.Threw x)) w (nexts.Goes (tasks.Start (calls.Acts q))) w
   answer_threw r q x text w e h =
-      ap (λ z. settled t ((require_present z >>= λ text. ret (answers.Threw x text)) >>= λ a. call (machine.Acts (with_answer (running_of r) a))) w) h
+      ap (λ z. next_stop t ((require_present z >>= λ text. ret (answers.Threw x text)) >>= λ a. call (machine.Acts (with_answer (running_of r) a))) w) h
       ∙ ap (λ z. (nested (machine.Acts z) complete, w)) (sym e)
 
   pub answer_missing : (r : Running) (x : Name) (w : World) → t.text x ≡ None
       → Settles s (go_on_with (running_of r) (machine.Threw x)) w (nexts.Finished (outcomes.Ends (completions.Threw (number_of built_in.IllegalStateException)))) w
   answer_missing r x w h =
-      ap (λ z. settled t ((require_present z >>= λ text. ret (answers.Threw x text)) >>= λ a. call (machine.Acts (with_answer (running_of r) a))) w) h
+      ap (λ z. next_stop t ((require_present z >>= λ text. ret (answers.Threw x text)) >>= λ a. call (machine.Acts (with_answer (running_of r) a))) w) h
 
   pub answered_leads : (r : Running) (c : CodeCompletion) (next : Next) (w v : World)
       → Settles s (go_on_with (running_of r) (completion_of c)) w next v
-      → Leads s (tasks.Answered r c) w next v
+      → MovesTo s (tasks.Answered r c) w next v
   answered_leads r c next w v e = Comes.same e
 
   -- ---- a field is set
@@ -179,30 +174,30 @@ module _ (s : Setting) where
   pub set_missing : (r : Running) (field : Name) (v : Value) (next : Next) (w u : World)
       → has_field_in (instance_at w r.instance) field ≡ false
       → Settles s (go_on_with (running_of r) (machine.Threw (number_of built_in.IllegalStateException))) w next u
-      → Leads s (tasks.Acted r (acts.Set field v)) w next u
+      → MovesTo s (tasks.Acted r (acts.Set field v)) w next u
   set_missing r field v next w u h e = Comes.same (by (instance_at w r.instance) refl h ∙ e)
     where
       by : (x : Option Instance) → instance_at w r.instance ≡ x → has_field_in x field ≡ false
-          → settled t (perform (running_of r) (acts.Set field v)) w
-          ≡ settled t (go_on_with (running_of r) (machine.Threw (number_of built_in.IllegalStateException))) w
-      by None q z = ap (λ x. settled t (instance_set (running_of r) field v x) w) q
+          → next_stop t (perform (running_of r) (acts.Set field v)) w
+          ≡ next_stop t (go_on_with (running_of r) (machine.Threw (number_of built_in.IllegalStateException))) w
+      by None q z = ap (λ x. next_stop t (instance_set (running_of r) field v x) w) q
       by (Some o) q z =
-          ap (λ x. settled t (instance_set (running_of r) field v x) w) q
-          ∙ ap (λ x. settled t (field_set (running_of r) field v x) w) (no_field o.fields field z)
+          ap (λ x. next_stop t (instance_set (running_of r) field v x) w) q
+          ∙ ap (λ x. next_stop t (field_set (running_of r) field v x) w) (no_field o.fields field z)
 
   pub set_leads : (r q : Running) (field : Name) (v : Value) (w : World)
       → has_field_in (instance_at w r.instance) field ≡ true
       → running_of q ≡ with_answer (running_of r) (answers.Done values.Null)
-      → Leads s (tasks.Acted r (acts.Set field v)) w (nexts.Goes (tasks.Start (calls.Acts q))) (after_change (Change.Assign r.instance field v) w)
+      → MovesTo s (tasks.Acted r (acts.Set field v)) w (nexts.Goes (tasks.Start (calls.Acts q))) (after_change (Change.Assign r.instance field v) w)
   set_leads r q field v w h e = Comes.same (by (instance_at w r.instance) refl h ∙ ap (λ z. (nested (machine.Acts z) complete, after_change (Change.Assign r.instance field v) w)) (sym e))
     where
       by : (x : Option Instance) → instance_at w r.instance ≡ x → has_field_in x field ≡ true
-          → settled t (perform (running_of r) (acts.Set field v)) w
+          → next_stop t (perform (running_of r) (acts.Set field v)) w
           ≡ (call (machine.Acts (with_answer (running_of r) (answers.Done values.Null))), after_change (Change.Assign r.instance field v) w)
       by None q z = absurd (cc)
       by (Some o) q z =
-          ap (λ x. settled t (instance_set (running_of r) field v x) w) q
-          ∙ ap (λ x. settled t (field_set (running_of r) field v x) w) (at_field o.fields field z).1
+          ap (λ x. next_stop t (instance_set (running_of r) field v x) w) q
+          ∙ ap (λ x. next_stop t (field_set (running_of r) field v x) w) (at_field o.fields field z).1
 
   -- ---- a method of its own is called
 
@@ -230,57 +225,57 @@ module _ (s : Setting) where
   -- the look-up of a method in front of what goes on also after a miss
   module _ (r : machine.Running) (name : Name) (args : List Value) where
     by_kind : (x : Kind) (w : World)
-        → settled t (attempt (bodies.method_in x name >>= own r args) >>= λ c. go_on_with r c) w
-        ≡ settled t (own_then r args (method_in x name)) w
+        → next_stop t (attempt (bodies.method_in x name >>= own r args) >>= λ c. go_on_with r c) w
+        ≡ next_stop t (own_then r args (method_in x name)) w
     by_kind (Kind.Class c) w = refl
     by_kind (Kind.Producer p) w = refl
 
     by_bean : (x : Option Bean) (w : World)
-        → settled t (attempt ((require_present x >>= λ bean. bodies.method_in bean.kind name) >>= own r args) >>= λ c. go_on_with r c) w
-        ≡ settled t (own_then r args (option_and_then (λ (bean : Bean). method_in bean.kind name) x)) w
+        → next_stop t (attempt ((require_present x >>= λ bean. bodies.method_in bean.kind name) >>= own r args) >>= λ c. go_on_with r c) w
+        ≡ next_stop t (own_then r args (option_and_then (λ (bean : Bean). method_in bean.kind name) x)) w
     by_bean None w = refl
     by_bean (Some bean) w = by_kind bean.kind w
 
     by_component : (x : Component) (w : World)
-        → settled t (attempt ((bodies.bean_of x >>= λ bean. bodies.method_in bean.kind name) >>= own r args) >>= λ c. go_on_with r c) w
-        ≡ settled t (own_then r args (method_of_component t x name)) w
+        → next_stop t (attempt ((bodies.bean_of x >>= λ bean. bodies.method_in bean.kind name) >>= own r args) >>= λ c. go_on_with r c) w
+        ≡ next_stop t (own_then r args (method_of_component t x name)) w
     by_component (components.Bean b) w = by_bean (t.bean b) w
     by_component (components.Interceptor i) w = refl
 
     by_instance : (x : Option Instance) (w : World)
-        → settled t (attempt ((require_present x >>= λ o. bodies.bean_of o.component >>= λ bean. bodies.method_in bean.kind name) >>= own r args) >>= λ c. go_on_with r c) w
-        ≡ settled t (own_then r args (method_of_instance t x name)) w
+        → next_stop t (attempt ((require_present x >>= λ o. bodies.bean_of o.component >>= λ bean. bodies.method_in bean.kind name) >>= own r args) >>= λ c. go_on_with r c) w
+        ≡ next_stop t (own_then r args (method_of_instance t x name)) w
     by_instance None w = refl
     by_instance (Some o) w = by_component o.component w
 
     own_settled : {x : Option Method} (w : World) → method_of_instance t (instance_at w r.instance) name ≡ x
-        → settled t (perform r (acts.Own name args)) w ≡ settled t (own_then r args x) w
-    own_settled w e = by_instance (instance_at w r.instance) w ∙ ap (λ x. settled t (own_then r args x) w) e
+        → next_stop t (perform r (acts.Own name args)) w ≡ next_stop t (own_then r args x) w
+    own_settled w e = by_instance (instance_at w r.instance) w ∙ ap (λ x. next_stop t (own_then r args x) w) e
 
   pub own_missing : (r : Running) (name : Name) (args : List Value) (next : Next) (w u : World)
       → method_of_instance t (instance_at w r.instance) name ≡ None
       → Settles s (go_on_with (running_of r) (machine.Threw (number_of built_in.IllegalStateException))) w next u
-      → Leads s (tasks.Acted r (acts.Own name args)) w next u
+      → MovesTo s (tasks.Acted r (acts.Own name args)) w next u
   own_missing r name args next w u e h = Comes.same (own_settled (running_of r) name args w e ∙ h)
 
   pub own_miscounted : (r : Running) (name : Name) (args : List Value) (m : CodeMethod) (next : Next) (w u : World)
       → method_of_instance t (instance_at w r.instance) name ≡ Some (machine_method m)
       → nat_eq (length args) m.count ≡ false
       → Settles s (go_on_with (running_of r) (machine.Threw (number_of built_in.IllegalStateException))) w next u
-      → Leads s (tasks.Acted r (acts.Own name args)) w next u
+      → MovesTo s (tasks.Acted r (acts.Own name args)) w next u
   own_miscounted r name args m next w u e q h =
       Comes.same (own_settled (running_of r) name args w e
-      ∙ ap (λ x. settled t (own_counted (running_of r) args (machine_method m) x) w) q ∙ h)
+      ∙ ap (λ x. next_stop t (own_counted (running_of r) args (machine_method m) x) w) q ∙ h)
 
   pub own_first : (r q : Running) (name : Name) (args : List Value) (m : CodeMethod) (w : World)
       → method_of_instance t (instance_at w r.instance) name ≡ Some (machine_method m)
       → nat_eq (length args) m.count ≡ true
       → running_of q ≡ body_at_start r.instance m.place m.body args [] []
-      → Leads s (tasks.Acted r (acts.Own name args)) w (nexts.Needs (calls.Body q) (frames.Answering r)) w
+      → MovesTo s (tasks.Acted r (acts.Own name args)) w (nexts.Needs (tasks.Start (calls.Body q)) (frames.Answering r)) w
   own_first r q name args m w e h b =
       Comes.same (own_settled (running_of r) name args w e
-      ∙ ap (λ x. settled t (own_counted (running_of r) args (machine_method m) x) w) h
+      ∙ ap (λ x. next_stop t (own_counted (running_of r) args (machine_method m) x) w) h
       ∙ ap (λ z. (nested (machine.Body z) (answering (running_of r)), w)) (sym b)
       ∙ ap (λ k. (nested (machine.Body (running_of q)) k, w)) (fun_ext (answers_with (running_of r))))
 
-pub ruleset leads = (body_too_deep, body_missing, body_first, entered_leads, stopped_leads, acts_missing, acts_first, give_leads, throw_leads, answer_gave, answer_threw, answer_missing, answered_leads, set_missing, set_leads, own_missing, own_miscounted, own_first)
+pub ruleset leads = (body_too_deep, body_missing, body_first, entered_leads, acts_missing, acts_first, give_leads, throw_leads, answer_gave, answer_threw, answer_missing, answered_leads, set_missing, set_leads, own_missing, own_miscounted, own_first)

@@ -14,9 +14,9 @@ use Rattle.cdi_machine.specs.World.{World, Change, after_change}
 use Rattle.cdi_machine.specs.Programs as machine
 use Rattle.cdi_machine.specs.Programs.{Given, Number, Completion, Gave, Threw, Prog, ret, throw, see, nested, tick, change, choose, act, handle, finally, quietly, do_nothing, tell_missing, require_present, require, require_one, expect, complete, call, finish, note, alter, each, raise, require_number, give_number, next_number, require_depth, go_deeper, top, instance, bean_at, resolve, attempt, ◌>>=◌, ◌>>◌}
 use Rattle.cdi_engine.specs.Setting.{Setting}
-use Rattle.cdi_engine.specs.Words.{class_of, qualifiers_of, task_of}
+use Rattle.cdi_engine.specs.Words.{class_of, qualifiers_of, change_of, task_of}
 use Rattle.cdi_engine.specs.Points.{start_container, bring_down, close_application, finish_context}
-use Rattle.cdi_engine.specs.Leads.{settled, Comes, Leads}
+use Rattle.cdi_engine.specs.Leads.{next_stop, Comes, MovesTo}
 use Rattle.cdi_engine.specs.declared.task.Call.TheVariants as calls
 use Rattle.cdi_engine.specs.declared.task.Completion.{Completion as CodeCompletion}
 use Rattle.cdi_engine.specs.declared.task.Completion.TheVariants as completions
@@ -24,6 +24,7 @@ use Rattle.cdi_engine.specs.declared.task.Given.TheVariants as givens
 use Rattle.cdi_engine.specs.declared.task.Outcome.{Outcome}
 use Rattle.cdi_engine.specs.declared.task.Outcome.TheVariants as outcomes
 use Rattle.cdi_engine.specs.declared.task.Task.TheVariants as tasks
+use Rattle.cdi_engine.specs.declared.task.LastChange.{LastChange}
 use Rattle.cdi_engine.specs.declared.task.Frame.TheVariants as frames
 use Rattle.cdi_engine.specs.declared.task.Next.TheVariants as nexts
 use Rattle.cdi_base.specs.declared.uses.Use.{Use}
@@ -53,39 +54,34 @@ module _ (s : Setting) where
   -- ---- events
 
   pub fire_leads : (e : ContainerEvent) (w : World)
-      → Leads s (tasks.Start (calls.Fire e)) w (nexts.Writes (entries.Event (class_of e) (qualifiers_of e)) (tasks.Fired e)) w
+      → MovesTo s (tasks.Start (calls.Fire e)) w (nexts.Writes (entries.Event (class_of e) (qualifiers_of e)) (tasks.Fired e)) w
   fire_leads e w = Comes.same refl
 
   pub fired_leads : (e : ContainerEvent) (w : World) → ((class : ℕ) (uses : List Use) → t.observers class uses ≡ [])
-      → Leads s (tasks.Fired e) w (nexts.Finished (outcomes.Ends (completions.Gave (givens.Result values.Null)))) w
+      → MovesTo s (tasks.Fired e) w (nexts.Finished (outcomes.Ends (completions.Gave (givens.Result values.Null)))) w
   fired_leads e w h =
-      Comes.same (ap (λ gs. settled t (each gs (λ group. call (machine.Notify group values.Null)) >>= λ _. finish) w) (h (class_of e) (qualifiers_of e)))
+      Comes.same (ap (λ gs. next_stop t (each gs (λ group. call (machine.Notify group values.Null)) >>= λ _. finish) w) (h (class_of e) (qualifiers_of e)))
 
   -- ---- boot
 
   pub boot_leads : (w : World)
-      → Leads s (tasks.Begin jobs.Boot) w (nexts.Needs (calls.Fire events.Initialized) frames.Initializing) w
+      → MovesTo s (tasks.Begin jobs.Boot) w (nexts.Needs (tasks.Start (calls.Fire events.Initialized)) frames.Initializing) w
   boot_leads w = Comes.same (ap (λ k. (nested (task_of (calls.Fire events.Initialized)) k, w)) (fun_ext (after_event start_container)))
 
   pub starting_leads : (w : World)
-      → Leads s tasks.Starting w (nexts.Needs (calls.Fire events.Startup) frames.Starting) w
+      → MovesTo s tasks.Starting w (nexts.Needs (tasks.Start (calls.Fire events.Startup)) frames.Starting) w
   starting_leads w = Comes.same (ap (λ k. (nested (task_of (calls.Fire events.Startup)) k, w)) (fun_ext (after_event finish)))
 
   -- ---- a call
 
   pub call_leads : (type method : Name) (args : List Value) (w : World)
-      → Leads s (tasks.Begin (jobs.Call type method args)) w (nexts.Within (tasks.Using type method args) frames.Using)
+      → MovesTo s (tasks.Begin (jobs.Call type method args)) w (nexts.Needs (tasks.Using type method args) frames.Using)
       (after_change (Change.Stand no_environment) (after_change Change.Borrow w))
   call_leads type method args w = Comes.within 3 refl
 
   pub returning_leads : (c : CodeCompletion) (w : World)
-      → Leads s (tasks.Returning c) w (nexts.Needs calls.Dismiss (frames.Returning c)) w
+      → MovesTo s (tasks.Returning c) w (nexts.Needs (tasks.Start calls.Dismiss) (frames.Returning c)) w
   returning_leads c w = Comes.same refl
-
-  pub returned_leads : (c : CodeCompletion) (w : World)
-      → Leads s (tasks.Returned c) w (nexts.Finished (outcomes.Ends c)) (after_change Change.Return w)
-  returned_leads (completions.Gave g) w = Comes.same refl
-  returned_leads (completions.Threw x) w = Comes.same refl
 
   -- ---- shutdown
 
@@ -104,38 +100,39 @@ module _ (s : Setting) where
     after_sessions sessions
 
   pub shut_down_leads : (w : World) → w.contexts.requests ≡ [] → w.contexts.sessions ≡ []
-      → Leads s (tasks.Begin jobs.Shutdown) w (nexts.Needs (calls.Fire events.Shutdown) frames.Closing) (after_change (Change.Stand no_environment) w)
+      → MovesTo s (tasks.Begin jobs.Shutdown) w (nexts.Needs (tasks.Start (calls.Fire events.Shutdown)) frames.Closing) (after_change (Change.Stand no_environment) w)
   shut_down_leads w r z =
       Comes.same
-      (ap (λ rs. settled t (after_requests (map (λ (r : OpenRequest). r.name) rs)) w) r
-      ∙ ap (λ ss. settled t (after_sessions (map (λ (s : OpenSession). s.name) ss)) w) z
+      (ap (λ rs. next_stop t (after_requests (map (λ (r : OpenRequest). r.name) rs)) w) r
+      ∙ ap (λ ss. next_stop t (after_sessions (map (λ (s : OpenSession). s.name) ss)) w) z
       ∙ ap (λ k. (nested (task_of (calls.Fire events.Shutdown)) k, after_change (Change.Stand no_environment) w)) (fun_ext (after_event close_application)))
 
   pub closing_leads : (w : World)
-      → Leads s tasks.Closing w (nexts.Needs (calls.Fire events.BeforeDestroyed) frames.Finishing) w
+      → MovesTo s tasks.Closing w (nexts.Needs (tasks.Start (calls.Fire events.BeforeDestroyed)) frames.Finishing) w
   closing_leads w = Comes.same (ap (λ k. (nested (task_of (calls.Fire events.BeforeDestroyed)) k, w)) (fun_ext (after_event_within (finish_context Application))))
 
   pub finishing_leads : (w : World)
-      → Leads s tasks.Finishing w (nexts.Needs calls.Clear frames.Emptying) (after_change (Change.Finish Application) w)
+      → MovesTo s tasks.Finishing w (nexts.Needs (tasks.Start calls.Clear) frames.Emptying) (after_change (Change.Finish Application) w)
   finishing_leads w = Comes.same refl
 
   pub emptied_leads : (w : World)
-      → Leads s tasks.Emptied w (nexts.Needs (calls.Fire events.Destroyed) frames.GoingDown) (after_change (Change.Close Application) w)
+      → MovesTo s tasks.Emptied w (nexts.Needs (tasks.Start (calls.Fire events.Destroyed)) frames.GoingDown) (after_change (Change.Close Application) w)
   emptied_leads w = Comes.same (ap (λ k. (nested (task_of (calls.Fire events.Destroyed)) k, after_change (Change.Close Application) w)) (fun_ext (after_event_within finish)))
-
-  pub going_down_leads : (w : World)
-      → Leads s tasks.GoingDown w (nexts.Finished (outcomes.Ends (completions.Gave (givens.Result values.Null)))) (after_change Change.Down w)
-  going_down_leads w = Comes.same refl
 
   -- ---- ends
 
   pub missing_leads : (w : World)
-      → Leads s tasks.Missing w (nexts.Finished (outcomes.Ends (completions.Threw (number_of built_in.IllegalStateException)))) w
+      → MovesTo s tasks.Missing w (nexts.Finished (outcomes.Ends (completions.Threw (number_of built_in.IllegalStateException)))) w
   missing_leads w = Comes.same refl
 
-  pub over_leads : (o : Outcome) (w : World) → Leads s (tasks.Over o) w (nexts.Finished o) w
+  pub ending_leads : (x : LastChange) (c : CodeCompletion) (w : World)
+      → MovesTo s (tasks.Ending x c) w (nexts.Finished (outcomes.Ends c)) (after_change (change_of x) w)
+  ending_leads x (completions.Gave g) w = Comes.same refl
+  ending_leads x (completions.Threw e) w = Comes.same refl
+
+  pub over_leads : (o : Outcome) (w : World) → MovesTo s (tasks.Over o) w (nexts.Finished o) w
   over_leads (outcomes.Ends (completions.Gave g)) w = Comes.same refl
   over_leads (outcomes.Ends (completions.Threw x)) w = Comes.same refl
   over_leads (outcomes.Cut cause) w = Comes.same refl
 
-pub ruleset leads = (fire_leads, fired_leads, boot_leads, starting_leads, call_leads, returning_leads, returned_leads, shut_down_leads, closing_leads, finishing_leads, emptied_leads, going_down_leads)
+pub ruleset leads = (fire_leads, fired_leads, boot_leads, starting_leads, call_leads, returning_leads, shut_down_leads, closing_leads, finishing_leads, emptied_leads)

@@ -18,7 +18,7 @@ use Rattle.cdi_machine.specs.Programs.{Given, Number, Completion, Gave, Threw, P
 use Rattle.cdi_engine.specs.Setting.{Setting}
 use Rattle.cdi_engine.specs.Asked.{number_left}
 use Rattle.cdi_engine.specs.Points.{fields_of, make_instance}
-use Rattle.cdi_engine.specs.Leads.{settled, Comes, Leads}
+use Rattle.cdi_engine.specs.Leads.{next_stop, Comes, MovesTo}
 use Rattle.cdi_engine.specs.declared.task.Call.TheVariants as calls
 use Rattle.cdi_engine.specs.declared.task.Completion.TheVariants as completions
 use Rattle.cdi_engine.specs.declared.task.Given.TheVariants as givens
@@ -42,18 +42,18 @@ numbered b owner bean x m =
 
 module _ (t : Tables) where
   pub create_missing : (b : ℕ) (owner : Owner) (w : World) → t.bean b ≡ None
-      → settled t (create b owner) w ≡ (raise built_in.IllegalStateException, w)
-  create_missing b owner w e = ap (λ x. settled t (create_with b owner x) w) e
+      → next_stop t (create b owner) w ≡ (raise built_in.IllegalStateException, w)
+  create_missing b owner w e = ap (λ x. next_stop t (create_with b owner x) w) e
 
   create_at : (b : ℕ) (owner : Owner) {a : Bean} (x : Bool) (w : World) → t.bean b ≡ Some a
       → nat_lt w.next (2 ^ 32) ≡ x
-      → settled t (create b owner) w ≡ settled t (numbered b owner a x w.next) w
+      → next_stop t (create b owner) w ≡ next_stop t (numbered b owner a x w.next) w
   create_at b owner {a = a} x w e h =
-      ap (λ y. settled t (create_with b owner y) w) e ∙ ap (λ y. settled t (numbered b owner a y w.next) w) h
+      ap (λ y. next_stop t (create_with b owner y) w) e ∙ ap (λ y. next_stop t (numbered b owner a y w.next) w) h
 
   pub create_last : (b : ℕ) (owner : Owner) (p : CodeBean) (w : World)
       → t.bean b ≡ Some (machine_bean p) → number_left w ≡ None
-      → settled t (create b owner) w ≡ (machine.cut causes.Numbers, w)
+      → next_stop t (create b owner) w ≡ (machine.cut causes.Numbers, w)
   create_last b owner p w e q =
       let h : nat_lt w.next (2 ^ 32) ≡ false = flag (nat_lt w.next (2 ^ 32)) q in
       create_at b owner false w e h
@@ -64,12 +64,12 @@ module _ (t : Tables) where
 
   pub create_first : (b : ℕ) (owner : Owner) (p : CodeBean) (n : ℕ) (w : World)
       → t.bean b ≡ Some (machine_bean p) → number_left w ≡ Some n
-      → settled t (create b owner) w ≡ (tick (entries.New n (places.Class p.class)) (make_instance t n b owner), w)
+      → next_stop t (create b owner) w ≡ (tick (entries.New n (places.Class p.class)) (make_instance t n b owner), w)
   create_first b owner p n w e q = by_flag (nat_lt w.next (2 ^ 32)) refl q
     where
       by_flag : (x : Bool) → nat_lt w.next (2 ^ 32) ≡ x
           → elim x as (λ _. Option ℕ) [ true ↦ Some w.next | false ↦ None ] ≡ Some n
-          → settled t (create b owner) w ≡ (tick (entries.New n (places.Class p.class)) (make_instance t n b owner), w)
+          → next_stop t (create b owner) w ≡ (tick (entries.New n (places.Class p.class)) (make_instance t n b owner), w)
       by_flag true h z =
           let m : w.next ≡ n = cc in
           create_at b owner true w e h
@@ -79,25 +79,25 @@ module _ (t : Tables) where
 
 module _ (s : Setting) where
   pub create_missing_leads : (b : ℕ) (owner : Owner) (w : World) → s.tables.bean b ≡ None
-      → Leads s (tasks.Start (calls.Create b owner)) w (nexts.Finished (outcomes.Ends (completions.Threw (number_of built_in.IllegalStateException)))) w
+      → MovesTo s (tasks.Start (calls.Create b owner)) w (nexts.Finished (outcomes.Ends (completions.Threw (number_of built_in.IllegalStateException)))) w
   create_missing_leads b owner w e = Comes.same (create_missing s.tables b owner w e)
 
   pub create_last_leads : (b : ℕ) (owner : Owner) (p : CodeBean) (w : World)
       → s.tables.bean b ≡ Some (machine_bean p) → number_left w ≡ None
-      → Leads s (tasks.Start (calls.Create b owner)) w (nexts.Finished (outcomes.Cut causes.Numbers)) w
+      → MovesTo s (tasks.Start (calls.Create b owner)) w (nexts.Finished (outcomes.Cut causes.Numbers)) w
   create_last_leads b owner p w e q = Comes.same (create_last s.tables b owner p w e q)
 
   pub create_first_leads : (b : ℕ) (owner : Owner) (p : CodeBean) (n : ℕ) (w : World)
       → s.tables.bean b ≡ Some (machine_bean p) → number_left w ≡ Some n
-      → Leads s (tasks.Start (calls.Create b owner)) w (nexts.Writes (entries.New n (places.Class p.class)) (tasks.Made n b owner)) w
+      → MovesTo s (tasks.Start (calls.Create b owner)) w (nexts.Writes (entries.New n (places.Class p.class)) (tasks.Made n b owner)) w
   create_first_leads b owner p n w e q = Comes.same (create_first s.tables b owner p n w e q)
 
   pub made_leads : (n b : ℕ) (owner : Owner) (w : World) (fields : Fields) → fields ≡ fields_of (s.tables.bean b)
-      → Leads s (tasks.Made n b owner) w (nexts.Writes (entries.Ready n) (tasks.Readied n)) (after_change (Change.Make (components.Bean b) owner fields) w)
+      → MovesTo s (tasks.Made n b owner) w (nexts.Writes (entries.Ready n) (tasks.Readied n)) (after_change (Change.Make (components.Bean b) owner fields) w)
   made_leads n b owner w fields e = rw e (Comes.same refl)
 
   pub readied_leads : (n : ℕ) (w : World)
-      → Leads s (tasks.Readied n) w (nexts.Finished (outcomes.Ends (completions.Gave (givens.Number n)))) (after_change (Change.Settle n) w)
+      → MovesTo s (tasks.Readied n) w (nexts.Finished (outcomes.Ends (completions.Gave (givens.Number n)))) (after_change (Change.Settle n) w)
   readied_leads n w = Comes.same refl
 
 pub ruleset leads = (create_missing_leads, create_last_leads, create_first_leads, made_leads, readied_leads)

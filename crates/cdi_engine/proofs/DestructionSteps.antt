@@ -22,12 +22,13 @@ use Rattle.cdi_engine.specs.Setting.{Setting}
 use Rattle.cdi_store.specs.Owned.{dependents_in}
 use Rattle.cdi_engine.specs.Asked.{top_of, latest_in}
 use Rattle.cdi_engine.specs.Points.{node, free_dependents, end_clean_up}
-use Rattle.cdi_engine.specs.Leads.{settled, Comes, Leads}
+use Rattle.cdi_engine.specs.Leads.{next_stop, Comes, MovesTo}
 use Rattle.cdi_engine.specs.declared.task.Call.TheVariants as calls
 use Rattle.cdi_engine.specs.declared.task.Completion.TheVariants as completions
 use Rattle.cdi_engine.specs.declared.task.Given.TheVariants as givens
 use Rattle.cdi_engine.specs.declared.task.Outcome.TheVariants as outcomes
 use Rattle.cdi_engine.specs.declared.task.Task.TheVariants as tasks
+use Rattle.cdi_engine.specs.declared.task.LastChange.TheVariants as last
 use Rattle.cdi_engine.specs.declared.task.Frame.TheVariants as frames
 use Rattle.cdi_engine.specs.declared.task.Next.{Next}
 use Rattle.cdi_engine.specs.declared.task.Next.TheVariants as nexts
@@ -43,31 +44,31 @@ module _ (s : Setting) where
   destroy_one n x = require_present (only_ready x) >>= destroy_ready n
 
   pub destroy_missing : (n : ℕ) (w : World) → only_ready (instance_at w n) ≡ None
-      → Leads s (tasks.Start (calls.Destroy n)) w (nexts.Finished (outcomes.Ends (completions.Threw (number_of built_in.IllegalStateException)))) w
-  destroy_missing n w e = Comes.same (ap (λ x. settled t (require_present x >>= destroy_ready n) w) e)
+      → MovesTo s (tasks.Start (calls.Destroy n)) w (nexts.Finished (outcomes.Ends (completions.Threw (number_of built_in.IllegalStateException)))) w
+  destroy_missing n w e = Comes.same (ap (λ x. next_stop t (require_present x >>= destroy_ready n) w) e)
 
   pub destroy_first : (n : ℕ) {o : Instance} (v : Value) (component : Component) (w : World) → only_ready (instance_at w n) ≡ Some o
       → v ≡ o.value → component ≡ o.component
-      → Leads s (tasks.Start (calls.Destroy n)) w (nexts.Writes (entries.End n) (tasks.Ended n component v)) w
+      → MovesTo s (tasks.Start (calls.Destroy n)) w (nexts.Writes (entries.End n) (tasks.Ended n component v)) w
   destroy_first n {o = o} v component w ready q c =
-      rw (q, c) (Comes.same (ap (λ x. settled t (require_present x >>= destroy_ready n) w) ready))
+      rw (q, c) (Comes.same (ap (λ x. next_stop t (require_present x >>= destroy_ready n) w) ready))
 
   pub ended_leads : (n : ℕ) (v : Value) (component : Component) (w : World)
-      → Leads s (tasks.Ended n component v) w (nexts.Goes (tasks.Leaving n component v)) (after_change (Change.Leave n) w)
+      → MovesTo s (tasks.Ended n component v) w (nexts.Goes (tasks.Leaving n component v)) (after_change (Change.Leave n) w)
   ended_leads n v component w = Comes.within 2 refl
 
   -- ---- callbacks
 
   pub leaving_interceptor : (n i : ℕ) (v : Value) (w : World)
-      → Leads s (tasks.Leaving n (components.Interceptor i) v) w (nexts.Needs (calls.Release n) (frames.Releasing n)) w
+      → MovesTo s (tasks.Leaving n (components.Interceptor i) v) w (nexts.Needs (tasks.Start (calls.Release n)) (frames.Releasing n)) w
   leaving_interceptor n i v w = Comes.same refl
 
   abbrev leaving_bean : ℕ → Value → Option Bean → Prog Given
   leaving_bean n v x = quietly (require_present x >>= λ bean. clean_up_bean n v bean.kind) >> free_dependents n
 
   pub leaving_missing : (n b : ℕ) (v : Value) (w : World) → t.bean b ≡ None
-      → Leads s (tasks.Leaving n (components.Bean b) v) w (nexts.Needs (calls.Release n) (frames.Releasing n)) w
-  leaving_missing n b v w e = Comes.same (ap (λ x. settled t (leaving_bean n v x) w) e)
+      → MovesTo s (tasks.Leaving n (components.Bean b) v) w (nexts.Needs (tasks.Start (calls.Release n)) (frames.Releasing n)) w
+  leaving_missing n b v w e = Comes.same (ap (λ x. next_stop t (leaving_bean n v x) w) e)
 
   abbrev pub before_destroy : ℕ → Invocation
   before_destroy n = invocation_at_start n roles.PreDestroy [] []
@@ -78,32 +79,28 @@ module _ (s : Setting) where
   cleaned n (Threw x) = refl
 
   pub leaving_first : (n b : ℕ) (v : Value) (p : CodeBean) (w : World) → t.bean b ≡ Some (machine_bean p)
-      → Leads s (tasks.Leaving n (components.Bean b) v) w (nexts.Needs calls.Rest (frames.CleaningUp n)) (after_change (Change.Enter (before_destroy n)) w)
+      → MovesTo s (tasks.Leaving n (components.Bean b) v) w (nexts.Needs (tasks.Start calls.Rest) (frames.CleaningUp n)) (after_change (Change.Enter (before_destroy n)) w)
   leaving_first n b v p w e =
       Comes.same
-      (ap (λ x. settled t (leaving_bean n v x) w) e
+      (ap (λ x. next_stop t (leaving_bean n v x) w) e
       ∙ ap (λ k. (nested (machine.Rest []) k, after_change (Change.Enter (before_destroy n)) w)) (fun_ext (cleaned n)))
 
   pub leaving_known : (n b : ℕ) (v : Value) (w : World) {Code : Type 0} (f : Code → CodeBean) (x : Option Code)
       → t.bean b ≡ option_map (λ p. machine_bean (f p)) x → is_some x ≡ true → {i : Invocation} → i ≡ before_destroy n
-      → Leads s (tasks.Leaving n (components.Bean b) v) w (nexts.Needs calls.Rest (frames.CleaningUp n)) (after_change (Change.Enter i) w)
+      → MovesTo s (tasks.Leaving n (components.Bean b) v) w (nexts.Needs (tasks.Start calls.Rest) (frames.CleaningUp n)) (after_change (Change.Enter i) w)
   leaving_known n b v w f None e h q = absurd (cc)
   leaving_known n b v w f (Some p) e h q = rw q (leaving_first n b v (f p) w e)
 
   pub cleaned_up_leads : (n : ℕ) (w : World)
-      → Leads s (tasks.CleanedUp n) w (nexts.Needs (calls.Release n) (frames.Releasing n)) (after_change Change.Exit w)
+      → MovesTo s (tasks.CleanedUp n) w (nexts.Needs (tasks.Start (calls.Release n)) (frames.Releasing n)) (after_change Change.Exit w)
   cleaned_up_leads n w = Comes.same refl
 
   pub released_leads : (n : ℕ) (w : World)
-      → Leads s (tasks.Released n) w (nexts.Writes (entries.Gone n) (tasks.Removed n)) w
+      → MovesTo s (tasks.Released n) w (nexts.Writes (entries.Gone n) (tasks.Ending (last.Remove n) (completions.Gave (givens.Result values.Null)))) w
   released_leads n w = Comes.same refl
 
-  pub removed_leads : (n : ℕ) (w : World)
-      → Leads s (tasks.Removed n) w (nexts.Finished (outcomes.Ends (completions.Gave (givens.Result values.Null)))) (after_change (Change.Remove n) w)
-  removed_leads n w = Comes.same refl
-
   pub picked_leads : (n dependent : ℕ) (w : World)
-      → Leads s (tasks.Picked n dependent) w (nexts.Needs (calls.Destroy dependent) (frames.Freeing n)) w
+      → MovesTo s (tasks.Picked n dependent) w (nexts.Needs (tasks.Start (calls.Destroy dependent)) (frames.Freeing n)) w
   picked_leads n dependent w = Comes.same refl
 
   -- ---- dependents
@@ -115,31 +112,31 @@ module _ (s : Setting) where
   some_dependents x = option_map (λ (o : Instance). o.dependents) x
 
   release_at : (n : ℕ) {ns : List ℕ} (w : World) → some_dependents (instance_at w n) ≡ Some ns
-      → settled t (release n) w ≡ settled t (release_from n ns) w
+      → next_stop t (release n) w ≡ next_stop t (release_from n ns) w
   release_at n {ns} w e = by (instance_at w n) e
     where
-      by : (x : Option Instance) → some_dependents x ≡ Some ns → settled t (releasing n x) w ≡ settled t (release_from n ns) w
+      by : (x : Option Instance) → some_dependents x ≡ Some ns → next_stop t (releasing n x) w ≡ next_stop t (release_from n ns) w
       by None q = absurd (cc)
-      by (Some o) q = let d : o.dependents ≡ ns = cc in ap (λ x. settled t (release_from n x) w) d
+      by (Some o) q = let d : o.dependents ≡ ns = cc in ap (λ x. next_stop t (release_from n x) w) d
 
-  by_none : (n : ℕ) (x : Option Instance) (w : World) → is_some x ≡ false → settled t (releasing n x) w ≡ (raise built_in.IllegalStateException, w)
+  by_none : (n : ℕ) (x : Option Instance) (w : World) → is_some x ≡ false → next_stop t (releasing n x) w ≡ (raise built_in.IllegalStateException, w)
   by_none n None w q = refl
   by_none n (Some o) w q = absurd (cc)
 
   pub release_missing : (n : ℕ) (w : World) → is_some (instance_at w n) ≡ false
-      → Leads s (tasks.Start (calls.Release n)) w (nexts.Finished (outcomes.Ends (completions.Threw (number_of built_in.IllegalStateException)))) w
+      → MovesTo s (tasks.Start (calls.Release n)) w (nexts.Finished (outcomes.Ends (completions.Threw (number_of built_in.IllegalStateException)))) w
   release_missing n w e = Comes.same (by_none n (instance_at w n) w e)
 
   by_there : (x : Option Instance) → is_some x ≡ true → some_dependents x ≡ Some (dependents_in x)
   by_there None h = absurd (cc)
   by_there (Some o) h = refl
 
-  release_from_none : (n : ℕ) (ns : List ℕ) (w : World) → length ns ≡ 0 → settled t (release_from n ns) w ≡ (finish, w)
+  release_from_none : (n : ℕ) (ns : List ℕ) (w : World) → length ns ≡ 0 → next_stop t (release_from n ns) w ≡ (finish, w)
   release_from_none n [] w h = refl
   release_from_none n (x ∷ ns) w h = absurd (omega arith)
 
   pub release_none : (n : ℕ) (w : World) → is_some (instance_at w n) ≡ true → length (dependents_in (instance_at w n)) ≡ 0
-      → Leads s (tasks.Start (calls.Release n)) w (nexts.Finished (outcomes.Ends (completions.Gave (givens.Result values.Null)))) w
+      → MovesTo s (tasks.Start (calls.Release n)) w (nexts.Finished (outcomes.Ends (completions.Gave (givens.Result values.Null)))) w
   release_none n w e h = Comes.same (release_at n w (by_there (instance_at w n) e) ∙ release_from_none n (dependents_in (instance_at w n)) w h)
 
   by_dependents : (x : Option Instance) → 0 < length (dependents_in x) → some_dependents x ≡ Some (dependents_in x)
@@ -147,13 +144,13 @@ module _ (s : Setting) where
   by_dependents (Some o) h = refl
 
   release_from_one : (n m : ℕ) (ns : List ℕ) (w : World) → length ns ≡ 1 → slice_get ns 0 ≡ Some m
-      → settled t (release_from n ns) w ≡ (node t (nexts.Needs (calls.Destroy m) (frames.Freeing n)), w)
+      → next_stop t (release_from n ns) w ≡ (node t (nexts.Needs (tasks.Start (calls.Destroy m)) (frames.Freeing n)), w)
   release_from_one n m [] w h g = absurd (omega arith)
-  release_from_one n m (x ∷ []) w h g = let q : x ≡ m = cc in ap (λ y. (node t (nexts.Needs (calls.Destroy y) (frames.Freeing n)), w)) q
+  release_from_one n m (x ∷ []) w h g = let q : x ≡ m = cc in ap (λ y. (node t (nexts.Needs (tasks.Start (calls.Destroy y)) (frames.Freeing n)), w)) q
   release_from_one n m (x ∷ y ∷ ns) w h g = absurd (omega arith)
 
   pub release_one : (n m : ℕ) (w : World) → length (dependents_in (instance_at w n)) ≡ 1 → slice_get (dependents_in (instance_at w n)) 0 ≡ Some m
-      → Leads s (tasks.Start (calls.Release n)) w (nexts.Needs (calls.Destroy m) (frames.Freeing n)) w
+      → MovesTo s (tasks.Start (calls.Release n)) w (nexts.Needs (tasks.Start (calls.Destroy m)) (frames.Freeing n)) w
   release_one n m w h g =
       Comes.same (release_at n w (by_dependents (instance_at w n) (omega arith)) ∙ release_from_one n m (dependents_in (instance_at w n)) w h g)
 
@@ -164,12 +161,12 @@ module _ (s : Setting) where
   none_beyond (x ∷ ns) (suc i) e h = none_beyond ns i e (omega arith)
 
   pub release_never : (n i : ℕ) (next : Next) (w v : World) → i < length (dependents_in (instance_at w n)) → slice_get (dependents_in (instance_at w n)) i ≡ None
-      → Leads s (tasks.Start (calls.Release n)) w next v
+      → MovesTo s (tasks.Start (calls.Release n)) w next v
   release_never n i next w v h e = absurd (none_beyond (dependents_in (instance_at w n)) i e h)
 
   pick_from : (n m i : ℕ) (ns : List ℕ) (w : World) → some_dependents (instance_at w n) ≡ Some ns → 1 < length ns
       → i < length ns → s.legal.picks (length ns) (length w.trace) i → slice_get ns i ≡ Some m
-      → Leads s (tasks.Start (calls.Release n)) w (nexts.Writes (entries.Pick (length ns) i) (tasks.Picked n m)) w
+      → MovesTo s (tasks.Start (calls.Release n)) w (nexts.Writes (entries.Pick (length ns) i) (tasks.Picked n m)) w
   pick_from n m i [] w e many l h g = absurd (omega arith)
   pick_from n m i (x ∷ []) w e many l h g = absurd (omega arith)
   pick_from n m i (x ∷ y ∷ ns) w e many l h g =
@@ -179,7 +176,7 @@ module _ (s : Setting) where
   pub release_many : (n m i count : ℕ) (w : World) → 1 < length (dependents_in (instance_at w n))
       → count ≡ length (dependents_in (instance_at w n)) → i < count → s.legal.picks count (length w.trace) i
       → slice_get (dependents_in (instance_at w n)) i ≡ Some m
-      → Leads s (tasks.Start (calls.Release n)) w (nexts.Writes (entries.Pick count i) (tasks.Picked n m)) w
+      → MovesTo s (tasks.Start (calls.Release n)) w (nexts.Writes (entries.Pick count i) (tasks.Picked n m)) w
   release_many n m i count w many c l h g =
       let ns = dependents_in (instance_at w n) in
       rw c (pick_from n m i ns w (by_dependents (instance_at w n) (omega arith)) many (rw c at l) (rw c at h) g)
@@ -190,31 +187,31 @@ module _ (s : Setting) where
   dismissing None = tell_missing
   dismissing (Some x) = dismiss_latest x
 
-  dismiss_settled : {x : Option (Option ℕ)} (w : World) → latest_in w ≡ x → settled t dismiss w ≡ settled t (dismissing x) w
-  dismiss_settled w e = by w.temporaries ∙ ap (λ x. settled t (dismissing x) w) e
+  dismiss_settled : {x : Option (Option ℕ)} (w : World) → latest_in w ≡ x → next_stop t dismiss w ≡ next_stop t (dismissing x) w
+  dismiss_settled w e = by w.temporaries ∙ ap (λ x. next_stop t (dismissing x) w) e
     where
-      by : (ns : List (List ℕ)) → settled t (top ns >>= λ temporaries. dismiss_latest (latest temporaries)) w ≡ settled t (dismissing (option_map latest (top_of ns))) w
+      by : (ns : List (List ℕ)) → next_stop t (top ns >>= λ temporaries. dismiss_latest (latest temporaries)) w ≡ next_stop t (dismissing (option_map latest (top_of ns))) w
       by [] = refl
       by (n ∷ ns) = refl
 
   pub dismiss_missing : (w : World) → latest_in w ≡ None
-      → Leads s (tasks.Start calls.Dismiss) w (nexts.Finished (outcomes.Ends (completions.Threw (number_of built_in.IllegalStateException)))) w
+      → MovesTo s (tasks.Start calls.Dismiss) w (nexts.Finished (outcomes.Ends (completions.Threw (number_of built_in.IllegalStateException)))) w
   dismiss_missing w e = Comes.same (dismiss_settled w e)
 
   pub dismiss_none : (w : World) → latest_in w ≡ Some None
-      → Leads s (tasks.Start calls.Dismiss) w (nexts.Finished (outcomes.Ends (completions.Gave (givens.Result values.Null)))) w
+      → MovesTo s (tasks.Start calls.Dismiss) w (nexts.Finished (outcomes.Ends (completions.Gave (givens.Result values.Null)))) w
   dismiss_none w e = Comes.same (dismiss_settled w e)
 
   pub dismiss_first : (n : ℕ) (w : World) → latest_in w ≡ Some (Some n)
-      → Leads s (tasks.Start calls.Dismiss) w (nexts.Needs (calls.Destroy n) frames.Dismissing) w
+      → MovesTo s (tasks.Start calls.Dismiss) w (nexts.Needs (tasks.Start (calls.Destroy n)) frames.Dismissing) w
   dismiss_first n w e = Comes.same (dismiss_settled w e)
 
   pub clear_none : (w : World) → greatest_in (context_at w.contexts Application) ≡ None
-      → Leads s (tasks.Start calls.Clear) w (nexts.Finished (outcomes.Ends (completions.Gave (givens.Result values.Null)))) w
-  clear_none w e = Comes.same (ap (λ x. settled t (clear_from Application x) w) e)
+      → MovesTo s (tasks.Start calls.Clear) w (nexts.Finished (outcomes.Ends (completions.Gave (givens.Result values.Null)))) w
+  clear_none w e = Comes.same (ap (λ x. next_stop t (clear_from Application x) w) e)
 
   pub clear_first : (n : ℕ) (w : World) → greatest_in (context_at w.contexts Application) ≡ Some n
-      → Leads s (tasks.Start calls.Clear) w (nexts.Needs (calls.Destroy n) frames.Clearing) w
-  clear_first n w e = Comes.same (ap (λ x. settled t (clear_from Application x) w) e)
+      → MovesTo s (tasks.Start calls.Clear) w (nexts.Needs (tasks.Start (calls.Destroy n)) frames.Clearing) w
+  clear_first n w e = Comes.same (ap (λ x. next_stop t (clear_from Application x) w) e)
 
-pub ruleset leads = (destroy_missing, destroy_first, ended_leads, leaving_interceptor, leaving_missing, leaving_first, cleaned_up_leads, released_leads, removed_leads, picked_leads, release_missing, release_none, release_one, release_many, release_never, dismiss_missing, dismiss_none, dismiss_first, clear_none, clear_first)
+pub ruleset leads = (destroy_missing, destroy_first, ended_leads, leaving_interceptor, leaving_missing, leaving_first, cleaned_up_leads, released_leads, picked_leads, release_missing, release_none, release_one, release_many, release_never, dismiss_missing, dismiss_none, dismiss_first, clear_none, clear_first)

@@ -21,12 +21,10 @@ use Rattle.cdi_machine.specs.Programs.{Given, Number, Completion, Gave, Threw, P
 use Rattle.cdi_engine.specs.Setting.{Setting}
 use Rattle.cdi_engine.specs.Asked.{method_in, method_of_component, method_of_instance, top_of}
 use Rattle.cdi_engine.specs.Words.{running_of}
-use Rattle.cdi_engine.specs.Points.{reach_end, exit_with}
-use Rattle.cdi_engine.specs.Leads.{settled, Comes, Leads, Settles}
+use Rattle.cdi_engine.specs.Points.{reach_end, end_with}
+use Rattle.cdi_engine.specs.Leads.{next_stop, Comes, MovesTo, Settles}
 use Rattle.cdi_engine.specs.declared.task.Call.TheVariants as calls
-use Rattle.cdi_engine.specs.declared.task.Completion.{Completion as CodeCompletion}
 use Rattle.cdi_engine.specs.declared.task.Completion.TheVariants as completions
-use Rattle.cdi_engine.specs.declared.task.Given.{Given as CodeGiven}
 use Rattle.cdi_engine.specs.declared.task.Given.TheVariants as givens
 use Rattle.cdi_engine.specs.declared.task.Outcome.TheVariants as outcomes
 use Rattle.cdi_engine.specs.declared.task.Running.{Running}
@@ -44,31 +42,31 @@ with_method x k = require_present x >>= k
 
 module _ (t : Tables) (name : Name) (k : Method → Prog Given) where
   by_kind : (x : Kind) (w : World)
-      → settled t (bodies.method_in x name >>= k) w ≡ settled t (with_method (method_in x name) k) w
+      → next_stop t (bodies.method_in x name >>= k) w ≡ next_stop t (with_method (method_in x name) k) w
   by_kind (Kind.Class c) w = refl
   by_kind (Kind.Producer p) w = refl
 
   by_bean : (x : Option Bean) (w : World)
-      → settled t ((require_present x >>= λ bean. bodies.method_in bean.kind name) >>= k) w
-      ≡ settled t (with_method (option_and_then (λ (bean : Bean). method_in bean.kind name) x) k) w
+      → next_stop t ((require_present x >>= λ bean. bodies.method_in bean.kind name) >>= k) w
+      ≡ next_stop t (with_method (option_and_then (λ (bean : Bean). method_in bean.kind name) x) k) w
   by_bean None w = refl
   by_bean (Some bean) w = by_kind bean.kind w
 
   by_component : (x : Component) (w : World)
-      → settled t ((bean_of x >>= λ bean. bodies.method_in bean.kind name) >>= k) w
-      ≡ settled t (with_method (method_of_component t x name) k) w
+      → next_stop t ((bean_of x >>= λ bean. bodies.method_in bean.kind name) >>= k) w
+      ≡ next_stop t (with_method (method_of_component t x name) k) w
   by_component (components.Bean b) w = by_bean (t.bean b) w
   by_component (components.Interceptor i) w = refl
 
   by_instance : (x : Option Instance) (w : World)
-      → settled t ((require_present x >>= λ o. bean_of o.component >>= λ bean. bodies.method_in bean.kind name) >>= k) w
-      ≡ settled t (with_method (method_of_instance t x name) k) w
+      → next_stop t ((require_present x >>= λ o. bean_of o.component >>= λ bean. bodies.method_in bean.kind name) >>= k) w
+      ≡ next_stop t (with_method (method_of_instance t x name) k) w
   by_instance None w = refl
   by_instance (Some o) w = by_component o.component w
 
   pub method_settled : (n : ℕ) {x : Option Method} (w : World) → method_of_instance t (instance_at w n) name ≡ x
-      → settled t (method_of n name >>= k) w ≡ settled t (with_method x k) w
-  method_settled n w e = by_instance (instance_at w n) w ∙ ap (λ x. settled t (with_method x k) w) e
+      → next_stop t (method_of n name >>= k) w ≡ next_stop t (with_method x k) w
+  method_settled n w e = by_instance (instance_at w n) w ∙ ap (λ x. next_stop t (with_method x k) w) e
 
 -- ---- invoking
 
@@ -86,7 +84,7 @@ abbrev pub invocation_of : ℕ → List Value → CodeMethod → Invocation
 invocation_of n args m = invocation_at_start n roles.AroundInvoke ((machine_method m).code ∷ []) args
 
 exits : (c : Completion Given)
-    → handle (complete c) (λ g. alter Change.Exit >> ret g) (λ x. alter Change.Exit >> throw x) ≡ exit_with c
+    → handle (complete c) (λ g. alter Change.Exit >> ret g) (λ x. alter Change.Exit >> throw x) ≡ end_with Change.Exit c
 exits (Gave g) = refl
 exits (Threw x) = refl
 
@@ -102,25 +100,16 @@ module _ (s : Setting) where
       → Settles s (invoke_method n name args) w (nexts.Finished (outcomes.Ends (completions.Threw (number_of built_in.IllegalStateException)))) w
   invoke_miscounted n name args m w e h =
       method_settled s.tables name (invoking n args) n w e
-      ∙ ap (λ x. settled s.tables (counted n args (machine_method m) x) w) h
+      ∙ ap (λ x. next_stop s.tables (counted n args (machine_method m) x) w) h
 
   pub invoke_first : (n : ℕ) (name : Name) (args : List Value) (m : CodeMethod) (w : World)
       → method_of_instance s.tables (instance_at w n) name ≡ Some (machine_method m)
       → nat_eq (length args) m.count ≡ true
-      → Settles s (invoke_method n name args) w (nexts.Needs calls.Rest frames.Exiting) (after_change (Change.Enter (invocation_of n args m)) w)
+      → Settles s (invoke_method n name args) w (nexts.Needs (tasks.Start calls.Rest) frames.Exiting) (after_change (Change.Enter (invocation_of n args m)) w)
   invoke_first n name args m w e h =
       method_settled s.tables name (invoking n args) n w e
-      ∙ ap (λ x. settled s.tables (counted n args (machine_method m) x) w) h
+      ∙ ap (λ x. next_stop s.tables (counted n args (machine_method m) x) w) h
       ∙ ap (λ k. (nested (machine.Rest []) k, after_change (Change.Enter (invocation_of n args m)) w)) (fun_ext exits)
-
-  pub exiting_leads : (c : CodeCompletion) (w : World)
-      → Leads s (tasks.Exiting c) w (nexts.Finished (outcomes.Ends c)) (after_change Change.Exit w)
-  exiting_leads (completions.Gave g) w = Comes.same refl
-  exiting_leads (completions.Threw x) w = Comes.same refl
-
-  pub reached_leads : (g : CodeGiven) (w : World)
-      → Leads s (tasks.Reached g) w (nexts.Finished (outcomes.Ends (completions.Gave g))) (after_change Change.Reach w)
-  reached_leads g w = Comes.same refl
 
   -- ---- the end of a chain
 
@@ -129,25 +118,25 @@ module _ (s : Setting) where
   with_invocation (Some v) = each v.members (λ m. call (machine.Body (body_at_start v.target m.place m.body v.parameters v.references []))) >>= λ g. reach_end (given_by v.role g)
 
   by_top : (vs : List Invocation) (w : World)
-      → settled s.tables (top vs >>= λ v. each v.members (λ m. call (machine.Body (body_at_start v.target m.place m.body v.parameters v.references []))) >>= λ g. alter Change.Reach >> ret (given_by v.role g)) w
-      ≡ settled s.tables (with_invocation (top_of vs)) w
+      → next_stop s.tables (top vs >>= λ v. each v.members (λ m. call (machine.Body (body_at_start v.target m.place m.body v.parameters v.references []))) >>= λ g. alter Change.Reach >> ret (given_by v.role g)) w
+      ≡ next_stop s.tables (with_invocation (top_of vs)) w
   by_top [] w = refl
   by_top (v ∷ vs) w = refl
 
   rest_settled : {x : Option Invocation} (w : World) → top_of w.invocations ≡ x
-      → settled s.tables (run_rest []) w ≡ settled s.tables (with_invocation x) w
-  rest_settled w e = by_top w.invocations w ∙ ap (λ x. settled s.tables (with_invocation x) w) e
+      → next_stop s.tables (run_rest []) w ≡ next_stop s.tables (with_invocation x) w
+  rest_settled w e = by_top w.invocations w ∙ ap (λ x. next_stop s.tables (with_invocation x) w) e
 
   pub rest_missing : (w : World) → top_of w.invocations ≡ None
-      → Leads s (tasks.Start calls.Rest) w (nexts.Finished (outcomes.Ends (completions.Threw (number_of built_in.IllegalStateException)))) w
+      → MovesTo s (tasks.Start calls.Rest) w (nexts.Finished (outcomes.Ends (completions.Threw (number_of built_in.IllegalStateException)))) w
   rest_missing w e = Comes.same (rest_settled w e)
 
   pub rest_empty : (v : Invocation) (w : World) → top_of w.invocations ≡ Some v → v.members ≡ []
-      → Leads s (tasks.Start calls.Rest) w (nexts.Finished (outcomes.Ends (completions.Gave (givens.Result values.Null)))) (after_change Change.Reach w)
+      → MovesTo s (tasks.Start calls.Rest) w (nexts.Finished (outcomes.Ends (completions.Gave (givens.Result values.Null)))) (after_change Change.Reach w)
   rest_empty v w e h =
       Comes.same
       (rest_settled w e
-      ∙ ap (λ ms. settled s.tables (each ms (λ m. call (machine.Body (body_at_start v.target m.place m.body v.parameters v.references []))) >>= λ g. reach_end (given_by v.role g)) w) h
+      ∙ ap (λ ms. next_stop s.tables (each ms (λ m. call (machine.Body (body_at_start v.target m.place m.body v.parameters v.references []))) >>= λ g. reach_end (given_by v.role g)) w) h
       ∙ by_role v.role)
     where
       by_role : (r : InterceptorMethod) → ◌≡◌ {A = Prog Given × World} (ret (given_by r (machine.Result values.Null)), after_change Change.Reach w) (ret (machine.Result values.Null), after_change Change.Reach w)
@@ -159,12 +148,12 @@ module _ (s : Setting) where
   pub rest_first : (v : Invocation) (m : Code) (r : Running) (role : InterceptorMethod) (w : World)
       → top_of w.invocations ≡ Some v → v.members ≡ m ∷ [] → role ≡ v.role
       → running_of r ≡ body_at_start v.target m.place m.body v.parameters v.references []
-      → Leads s (tasks.Start calls.Rest) w (nexts.Needs (calls.Body r) (frames.AtEnd role)) w
+      → MovesTo s (tasks.Start calls.Rest) w (nexts.Needs (tasks.Start (calls.Body r)) (frames.AtEnd role)) w
   rest_first v m r role w e h q b =
       Comes.same
       (rest_settled w e
-      ∙ ap (λ ms. settled s.tables (each ms (λ m. call (machine.Body (body_at_start v.target m.place m.body v.parameters v.references []))) >>= λ g. reach_end (given_by v.role g)) w) h
+      ∙ ap (λ ms. next_stop s.tables (each ms (λ m. call (machine.Body (body_at_start v.target m.place m.body v.parameters v.references []))) >>= λ g. reach_end (given_by v.role g)) w) h
       ∙ ap (λ x. (nested (machine.Body x) (λ c. complete c >>= λ g. reach_end (given_by v.role g)), w)) (sym b)
       ∙ ap (λ x. (nested (machine.Body (running_of r)) (λ c. complete c >>= λ g. reach_end (given_by x g)), w)) (sym q))
 
-pub ruleset leads = (invoke_none, invoke_miscounted, invoke_first, exiting_leads, reached_leads, rest_missing, rest_empty, rest_first)
+pub ruleset leads = (invoke_none, invoke_miscounted, invoke_first, rest_missing, rest_empty, rest_first)

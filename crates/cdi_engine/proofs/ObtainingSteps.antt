@@ -17,7 +17,7 @@ use Rattle.cdi_machine.specs.Programs.{Given, Number, Completion, Gave, Threw, P
 use Rattle.cdi_engine.specs.Setting.{Setting}
 use Rattle.cdi_engine.specs.Asked.{of_type}
 use Rattle.cdi_engine.specs.Points.{node, use_for}
-use Rattle.cdi_engine.specs.Leads.{settled, Comes, Leads, Settles}
+use Rattle.cdi_engine.specs.Leads.{next_stop, Comes, MovesTo, Settles}
 use Rattle.cdi_engine.specs.declared.task.Call.TheVariants as calls
 use Rattle.cdi_engine.specs.declared.task.Completion.TheVariants as completions
 use Rattle.cdi_engine.specs.declared.task.Given.TheVariants as givens
@@ -61,33 +61,33 @@ active_application x = option_map (λ a. record { context = Application; has = a
 
 module _ (t : Tables) where
   obtain_at : (b : ℕ) {x : Option Bean} (w : World) → t.bean b ≡ x
-      → settled t (obtain b) w ≡ settled t (with_bean b x) w
-  obtain_at b w e = ap (λ x. settled t (with_bean b x) w) e
+      → next_stop t (obtain b) w ≡ next_stop t (with_bean b x) w
+  obtain_at b w e = ap (λ x. next_stop t (with_bean b x) w) e
 
   pub obtain_missing : (b : ℕ) (w : World) → t.bean b ≡ None
-      → settled t (obtain b) w ≡ (raise built_in.IllegalStateException, w)
+      → next_stop t (obtain b) w ≡ (raise built_in.IllegalStateException, w)
   obtain_missing b w e = obtain_at b w e
 
   by_status : (b : ℕ) (x : Status) (w : World)
-      → settled t (elim x [ Open ↦ call (machine.Create b (owners.Context Application)) | Ending ↦ raise built_in.ContextNotActiveException ]) w
+      → next_stop t (elim x [ Open ↦ call (machine.Create b (owners.Context Application)) | Ending ↦ raise built_in.ContextNotActiveException ]) w
       ≡ (obtained b (Some x) None, w)
   by_status b Open w = refl
   by_status b Ending w = refl
 
   find_held : (b : ℕ) (a : Active) (h : Option Held) (w : World)
-      → settled t (find_or_create b (record { context = Application; has = a }) h) w ≡ (obtained b (Some a.status) h, w)
+      → next_stop t (find_or_create b (record { context = Application; has = a }) h) w ≡ (obtained b (Some a.status) h, w)
   find_held b a (Some (Is n)) w = refl
   find_held b a (Some Making) w = refl
   find_held b a None w = by_status b a.status w
 
   find_active : (b : ℕ) (x : Option Active) (w : World)
-      → settled t (with_context b (active_application x)) w
+      → next_stop t (with_context b (active_application x)) w
       ≡ (obtained b (option_map (λ a. a.status) x) (entry_in x b), w)
   find_active b None w = refl
   find_active b (Some a) w = find_held b a (at a.holds b) w
 
   obtain_by : (b : ℕ) (scope : DeclaredScope) (w : World)
-      → settled t (context (machine_scope scope) >>= λ c. find_or_create b c (at c.has.holds b)) w
+      → next_stop t (context (machine_scope scope) >>= λ c. find_or_create b c (at c.has.holds b)) w
       ≡ (obtained b (status_in w (machine_scope scope)) (held_in w (machine_scope scope) b), w)
   obtain_by b declared_scopes.ApplicationScoped w = find_active b w.contexts.application w
   obtain_by b declared_scopes.Dependent w = refl
@@ -96,7 +96,7 @@ module _ (t : Tables) where
       → t.bean b ≡ Some (machine_bean p)
       → status_in w (machine_bean p).scope ≡ status
       → held_in w (machine_bean p).scope b ≡ held
-      → settled t (obtain b) w ≡ (obtained b status held, w)
+      → next_stop t (obtain b) w ≡ (obtained b status held, w)
   obtain_settled b p {status = status} w e s h = obtain_at b w e ∙ obtain_by b p.scope w ∙ ap (λ x. (obtained b x (held_in w (machine_bean p).scope b), w)) s ∙ ap (λ x. (obtained b status x, w)) h
 
 -- ---- using a bean for a command
@@ -123,54 +123,54 @@ module _ (s : Setting) where
 
   using_one : (type method : Name) (args : List Value) (b : ℕ) {x : Option Bean} (w : World)
       → ts.resolve (of_type type) ≡ One b → ts.bean b ≡ x
-      → settled ts (use_for (of_type type) method args) w ≡ settled ts (referred b x method args) w
+      → next_stop ts (use_for (of_type type) method args) w ≡ next_stop ts (referred b x method args) w
   using_one type method args b w e h =
-      ap (λ x. settled ts (resolved x method args) w) e ∙ ap (λ x. settled ts (referred b x method args) w) h
+      ap (λ x. next_stop ts (resolved x method args) w) e ∙ ap (λ x. next_stop ts (referred b x method args) w) h
 
   pub using_nothing : (type method : Name) (args : List Value) (w : World)
       → ts.resolve (of_type type) ≡ machine_resolution resolutions.Nothing
-      → Leads s (tasks.Using type method args) w (nexts.Finished (outcomes.Ends (completions.Threw (number_of built_in.UnsatisfiedResolutionException)))) w
-  using_nothing type method args w e = Comes.same (ap (λ x. settled ts (resolved x method args) w) e)
+      → MovesTo s (tasks.Using type method args) w (nexts.Finished (outcomes.Ends (completions.Threw (number_of built_in.UnsatisfiedResolutionException)))) w
+  using_nothing type method args w e = Comes.same (ap (λ x. next_stop ts (resolved x method args) w) e)
 
   pub using_many : (type method : Name) (args : List Value) (w : World)
       → ts.resolve (of_type type) ≡ machine_resolution resolutions.Many
-      → Leads s (tasks.Using type method args) w (nexts.Finished (outcomes.Ends (completions.Threw (number_of built_in.AmbiguousResolutionException)))) w
-  using_many type method args w e = Comes.same (ap (λ x. settled ts (resolved x method args) w) e)
+      → MovesTo s (tasks.Using type method args) w (nexts.Finished (outcomes.Ends (completions.Threw (number_of built_in.AmbiguousResolutionException)))) w
+  using_many type method args w e = Comes.same (ap (λ x. next_stop ts (resolved x method args) w) e)
 
   pub using_missing : (type method : Name) (args : List Value) (b : ℕ) (w : World)
       → ts.resolve (of_type type) ≡ machine_resolution (resolutions.One b) → ts.bean b ≡ None
-      → Leads s (tasks.Using type method args) w (nexts.Finished (outcomes.Ends (completions.Threw (number_of built_in.IllegalStateException)))) w
+      → MovesTo s (tasks.Using type method args) w (nexts.Finished (outcomes.Ends (completions.Threw (number_of built_in.IllegalStateException)))) w
   using_missing type method args b w e h = Comes.same (using_one type method args b w e h)
 
   pub using_shared : (type method : Name) (args : List Value) (b : ℕ) (p : CodeBean) (w : World)
       → ts.resolve (of_type type) ≡ machine_resolution (resolutions.One b) → ts.bean b ≡ Some (machine_bean p)
       → p.scope ≡ declared_scopes.ApplicationScoped
-      → Leads s (tasks.Using type method args) w (nexts.Needs (calls.Obtain b) (frames.Reaching method args)) w
+      → MovesTo s (tasks.Using type method args) w (nexts.Needs (tasks.Start (calls.Obtain b)) (frames.Reaching method args)) w
   using_shared type method args b p w e h q =
       Comes.same (using_one type method args b w e h ∙ by p.scope q)
     where
       by : (x : DeclaredScope) → x ≡ declared_scopes.ApplicationScoped
-          → settled ts ((elim (is_normal (machine_scope x)) [
+          → next_stop ts ((elim (is_normal (machine_scope x)) [
             | true ↦ ret (Proxy b)
             | false ↦ call (machine.Create b owners.Borrower) >>= λ made. ret (direct_reference made)
           ]) >>= λ r. reach_instance r >>= λ n. invoke_method n method args) w
-          ≡ (node ts (nexts.Needs (calls.Obtain b) (frames.Reaching method args)), w)
+          ≡ (node ts (nexts.Needs (tasks.Start (calls.Obtain b)) (frames.Reaching method args)), w)
       by declared_scopes.ApplicationScoped z = refl
       by declared_scopes.Dependent z = absurd (cc)
 
   pub using_dependent : (type method : Name) (args : List Value) (b : ℕ) (p : CodeBean) (w : World)
       → ts.resolve (of_type type) ≡ machine_resolution (resolutions.One b) → ts.bean b ≡ Some (machine_bean p)
       → p.scope ≡ declared_scopes.Dependent
-      → Leads s (tasks.Using type method args) w (nexts.Needs (calls.Create b owners.Borrower) (frames.Borrowing method args)) w
+      → MovesTo s (tasks.Using type method args) w (nexts.Needs (tasks.Start (calls.Create b owners.Borrower)) (frames.Borrowing method args)) w
   using_dependent type method args b p w e h q =
       Comes.same (using_one type method args b w e h ∙ by p.scope q)
     where
       by : (x : DeclaredScope) → x ≡ declared_scopes.Dependent
-          → settled ts ((elim (is_normal (machine_scope x)) [
+          → next_stop ts ((elim (is_normal (machine_scope x)) [
             | true ↦ ret (Proxy b)
             | false ↦ call (machine.Create b owners.Borrower) >>= λ made. ret (direct_reference made)
           ]) >>= λ r. reach_instance r >>= λ n. invoke_method n method args) w
-          ≡ (node ts (nexts.Needs (calls.Create b owners.Borrower) (frames.Borrowing method args)), w)
+          ≡ (node ts (nexts.Needs (tasks.Start (calls.Create b owners.Borrower)) (frames.Borrowing method args)), w)
       by declared_scopes.ApplicationScoped z = absurd (cc)
       by declared_scopes.Dependent z = refl
 
@@ -180,49 +180,49 @@ module _ (s : Setting) where
   staying x n method args = (require x built_in.IllegalStateException >> ret n) >>= λ m. invoke_method m method args
 
   pub lent_gone : (n : ℕ) (method : Name) (args : List Value) (w : World) → stays (instance_at w n) ≡ false
-      → Leads s (tasks.Lent n method args) w (nexts.Finished (outcomes.Ends (completions.Threw (number_of built_in.IllegalStateException)))) w
-  lent_gone n method args w e = Comes.same (ap (λ x. settled ts (staying x n method args) w) e)
+      → MovesTo s (tasks.Lent n method args) w (nexts.Finished (outcomes.Ends (completions.Threw (number_of built_in.IllegalStateException)))) w
+  lent_gone n method args w e = Comes.same (ap (λ x. next_stop ts (staying x n method args) w) e)
 
   pub lent_leads : (n : ℕ) (method : Name) (args : List Value) (next : Next) (w u : World) → stays (instance_at w n) ≡ true
       → Settles s (invoke_method n method args) w next u
-      → Leads s (tasks.Lent n method args) w next u
-  lent_leads n method args next w u e h = Comes.same (ap (λ x. settled ts (staying x n method args) w) e ∙ h)
+      → MovesTo s (tasks.Lent n method args) w next u
+  lent_leads n method args next w u e h = Comes.same (ap (λ x. next_stop ts (staying x n method args) w) e ∙ h)
 
   pub invoking_leads : (n : ℕ) (method : Name) (args : List Value) (next : Next) (w u : World)
       → Settles s (invoke_method n method args) w next u
-      → Leads s (tasks.Invoking n method args) w next u
+      → MovesTo s (tasks.Invoking n method args) w next u
   invoking_leads n method args next w u h = Comes.same h
 
 -- ---- the same for steps
 
 module _ (s : Setting) where
   pub obtain_absent : (b : ℕ) (w : World) → s.tables.bean b ≡ None
-      → Leads s (tasks.Start (calls.Obtain b)) w (nexts.Finished (outcomes.Ends (completions.Threw (number_of built_in.IllegalStateException)))) w
+      → MovesTo s (tasks.Start (calls.Obtain b)) w (nexts.Finished (outcomes.Ends (completions.Threw (number_of built_in.IllegalStateException)))) w
   obtain_absent b w e = Comes.same (obtain_missing s.tables b w e)
 
   pub obtain_inactive : (b : ℕ) (p : CodeBean) (w : World) → s.tables.bean b ≡ Some (machine_bean p)
       → status_in w (machine_bean p).scope ≡ None
-      → Leads s (tasks.Start (calls.Obtain b)) w (nexts.Finished (outcomes.Ends (completions.Threw (number_of built_in.ContextNotActiveException)))) w
+      → MovesTo s (tasks.Start (calls.Obtain b)) w (nexts.Finished (outcomes.Ends (completions.Threw (number_of built_in.ContextNotActiveException)))) w
   obtain_inactive b p w e a = Comes.same (obtain_settled s.tables b p w e a refl)
 
   pub obtain_is : (b n : ℕ) (p : CodeBean) {status : Status} (w : World) → s.tables.bean b ≡ Some (machine_bean p)
       → status_in w (machine_bean p).scope ≡ Some status → held_in w (machine_bean p).scope b ≡ Some (Is n)
-      → Leads s (tasks.Start (calls.Obtain b)) w (nexts.Finished (outcomes.Ends (completions.Gave (givens.Number n)))) w
+      → MovesTo s (tasks.Start (calls.Obtain b)) w (nexts.Finished (outcomes.Ends (completions.Gave (givens.Number n)))) w
   obtain_is b n p w e a h = Comes.same (obtain_settled s.tables b p w e a h)
 
   pub obtain_making : (b : ℕ) (p : CodeBean) {status : Status} (w : World) → s.tables.bean b ≡ Some (machine_bean p)
       → status_in w (machine_bean p).scope ≡ Some status → held_in w (machine_bean p).scope b ≡ Some Making
-      → Leads s (tasks.Start (calls.Obtain b)) w (nexts.Finished (outcomes.Ends (completions.Threw (number_of built_in.CreationException)))) w
+      → MovesTo s (tasks.Start (calls.Obtain b)) w (nexts.Finished (outcomes.Ends (completions.Threw (number_of built_in.CreationException)))) w
   obtain_making b p w e a h = Comes.same (obtain_settled s.tables b p w e a h)
 
   pub obtain_open : (b : ℕ) (p : CodeBean) (w : World) → s.tables.bean b ≡ Some (machine_bean p)
       → status_in w (machine_bean p).scope ≡ Some Open → held_in w (machine_bean p).scope b ≡ None
-      → Leads s (tasks.Start (calls.Obtain b)) w (nexts.Goes (tasks.Start (calls.Create b (owners.Context Application)))) w
+      → MovesTo s (tasks.Start (calls.Obtain b)) w (nexts.Goes (tasks.Start (calls.Create b (owners.Context Application)))) w
   obtain_open b p w e a h = Comes.same (obtain_settled s.tables b p w e a h)
 
   pub obtain_ending : (b : ℕ) (p : CodeBean) (w : World) → s.tables.bean b ≡ Some (machine_bean p)
       → status_in w (machine_bean p).scope ≡ Some Ending → held_in w (machine_bean p).scope b ≡ None
-      → Leads s (tasks.Start (calls.Obtain b)) w (nexts.Finished (outcomes.Ends (completions.Threw (number_of built_in.ContextNotActiveException)))) w
+      → MovesTo s (tasks.Start (calls.Obtain b)) w (nexts.Finished (outcomes.Ends (completions.Threw (number_of built_in.ContextNotActiveException)))) w
   obtain_ending b p w e a h = Comes.same (obtain_settled s.tables b p w e a h)
 
 pub ruleset leads = (obtain_absent, obtain_inactive, obtain_is, obtain_making, obtain_open, obtain_ending, using_nothing, using_many, using_missing, using_shared, using_dependent, lent_gone, lent_leads, invoking_leads)

@@ -15,7 +15,7 @@ use Rattle.cdi_machine.specs.Laws.{IsWithin}
 use Rattle.cdi_engine.specs.Setting.{Setting, Narrows}
 use Rattle.cdi_engine.specs.Words.{outcome_of, task_of}
 use Rattle.cdi_engine.specs.Points.{over, around, node, first, rest, waits, after}
-use Rattle.cdi_engine.specs.Leads.{settled, walked, Comes, Leads, Ran}
+use Rattle.cdi_engine.specs.Leads.{next_stop, after_steps, Comes, MovesTo, Ran}
 use Rattle.cdi_engine.specs.declared.task.Call.{Call}
 use Rattle.cdi_engine.specs.declared.task.Completion.TheVariants as completions
 use Rattle.cdi_engine.specs.declared.task.Outcome.{Outcome}
@@ -30,38 +30,38 @@ module _ (tables : Tables) (legal : Legal) (Starved : Type 0) where
   abbrev R : Prog Given → World → runs.Outcome → World → Type 0
   R p w o v = Runs tables legal Starved p w o v
 
-  from_settled : (p : Prog Given) {w v : World} {o : runs.Outcome} → R (settled tables p w).0 (settled tables p w).1 o v → R p w o v
-  from_settled (miss p) r = Runs.misses (from_settled p r)
-  from_settled (see k) {w = w} r = Runs.sees (from_settled (k tables w) r)
-  from_settled (change g p) r = Runs.changes (from_settled p r)
-  from_settled (mark n p) r = Runs.marks (from_settled p r)
-  from_settled (ret g) r = r
-  from_settled (throw x) r = r
-  from_settled (cut c) r = r
-  from_settled (tick e p) r = r
-  from_settled (act b fields view k) r = r
-  from_settled (choose n k) r = r
-  from_settled (nested c k) r = r
+  from_next_stop : (p : Prog Given) {w v : World} {o : runs.Outcome} → R (next_stop tables p w).0 (next_stop tables p w).1 o v → R p w o v
+  from_next_stop (miss p) r = Runs.misses (from_next_stop p r)
+  from_next_stop (see k) {w = w} r = Runs.sees (from_next_stop (k tables w) r)
+  from_next_stop (change g p) r = Runs.changes (from_next_stop p r)
+  from_next_stop (mark n p) r = Runs.marks (from_next_stop p r)
+  from_next_stop (ret g) r = r
+  from_next_stop (throw x) r = r
+  from_next_stop (cut c) r = r
+  from_next_stop (tick e p) r = r
+  from_next_stop (act b fields view k) r = r
+  from_next_stop (choose n k) r = r
+  from_next_stop (nested c k) r = r
 
-  from_walked : (n : ℕ) (p : Prog Given) {w v : World} {o : runs.Outcome} → R (walked n tables p w).0 (walked n tables p w).1 o v → R p w o v
-  from_walked zero p r = r
-  from_walked (suc n) (miss p) r = Runs.misses (from_walked n p r)
-  from_walked (suc n) (see k) {w = w} r = Runs.sees (from_walked n (k tables w) r)
-  from_walked (suc n) (change g p) r = Runs.changes (from_walked n p r)
-  from_walked (suc n) (mark m p) r = Runs.marks (from_walked n p r)
-  from_walked (suc n) (ret g) r = r
-  from_walked (suc n) (throw x) r = r
-  from_walked (suc n) (cut c) r = r
-  from_walked (suc n) (tick e p) r = r
-  from_walked (suc n) (act b fields view k) r = r
-  from_walked (suc n) (choose m k) r = r
-  from_walked (suc n) (nested c k) r = r
+  from_after_steps : (n : ℕ) (p : Prog Given) {w v : World} {o : runs.Outcome} → R (after_steps n tables p w).0 (after_steps n tables p w).1 o v → R p w o v
+  from_after_steps zero p r = r
+  from_after_steps (suc n) (miss p) r = Runs.misses (from_after_steps n p r)
+  from_after_steps (suc n) (see k) {w = w} r = Runs.sees (from_after_steps n (k tables w) r)
+  from_after_steps (suc n) (change g p) r = Runs.changes (from_after_steps n p r)
+  from_after_steps (suc n) (mark m p) r = Runs.marks (from_after_steps n p r)
+  from_after_steps (suc n) (ret g) r = r
+  from_after_steps (suc n) (throw x) r = r
+  from_after_steps (suc n) (cut c) r = r
+  from_after_steps (suc n) (tick e p) r = r
+  from_after_steps (suc n) (act b fields view k) r = r
+  from_after_steps (suc n) (choose m k) r = r
+  from_after_steps (suc n) (nested c k) r = r
 
   from_comes : {p q : Prog Given} {w u v : World} {o : runs.Outcome} → Comes tables legal p w q u → R q u o v → R p w o v
-  from_comes {p = p} {v = v} {o = o} (Comes.same e) r = from_settled p (subst (λ s. R s.0 s.1 o v) (sym e) r)
-  from_comes {p = p} {v = v} {o = o} (Comes.within n e) r = from_walked n p (subst (λ s. R s.0 s.1 o v) (sym e) r)
-  from_comes {p = p} {u = u} {v = v} {o = o} (Comes.does {a = a} e l s) r = from_settled p (subst (λ s. R s.0 s.1 o v) (sym e) (Runs.does a l (subst (λ q. R q u o v) s r)))
-  from_comes {p = p} {u = u} {v = v} {o = o} (Comes.picks {i = i} e l h s) r = from_settled p (subst (λ s. R s.0 s.1 o v) (sym e) (Runs.picks i l h (subst (λ q. R q u o v) s r)))
+  from_comes {p = p} {v = v} {o = o} (Comes.same e) r = from_next_stop p (subst (λ s. R s.0 s.1 o v) (sym e) r)
+  from_comes {p = p} {v = v} {o = o} (Comes.within n e) r = from_after_steps n p (subst (λ s. R s.0 s.1 o v) (sym e) r)
+  from_comes {p = p} {u = u} {v = v} {o = o} (Comes.does {a = a} e l s) r = from_next_stop p (subst (λ s. R s.0 s.1 o v) (sym e) (Runs.does a l (subst (λ q. R q u o v) s r)))
+  from_comes {p = p} {u = u} {v = v} {o = o} (Comes.picks {i = i} e l h s) r = from_next_stop p (subst (λ s. R s.0 s.1 o v) (sym e) (Runs.picks i l h (subst (λ q. R q u o v) s r)))
 
   full_in : {e : Entry} {p : Prog Given} {w v : World} {o : runs.Outcome} → w.ticks ≤ length w.trace → R (cut causes.Ticks) w o v → R (tick e p) w o v
   full_in h Runs.cuts = Runs.is_full h
@@ -87,6 +87,11 @@ module _ (tables : Tables) (legal : Legal) (Starved : Type 0) where
   around_runs k (Runs.calls {o1 = runs.Ends c} a b) r = Runs.calls a (around_runs k b r)
   around_runs k (Runs.calls {o1 = runs.Cut c} a b) r = Runs.calls a (around_runs k b r)
   around_runs k (Runs.starves s) r = starved_in s r
+
+  -- what a step needs, and then what waits for it
+  needed_runs : (d : Task) (k : Frame) {w u v : World} {o1 o : runs.Outcome} → R (first tables d) w o1 u → R (rest_after o1 (waits k)) u o v → R (node tables (nexts.Needs d k)) w o v
+  needed_runs (tasks.Start c) k a b = Runs.calls a b
+  needed_runs _ k a b = around_runs (waits k) a b
 
   over_runs : (o : Outcome) {w : World} → R (over o) w (outcome_of o) w
   over_runs (outcomes.Ends (completions.Gave g)) = Runs.returns
@@ -124,13 +129,9 @@ module _ (tables : Tables) (legal : Legal) (Starved : Type 0) where
       → Continues p w (first tables t1) (with_entry e v)
   writes t t1 e u v c s h = λ o x r. moves t (nexts.Writes e t1) u v c s o x (Runs.writes h (rest_runs t1 r))
 
-  pub needs : {p : Prog Given} {w : World} (t t1 : Task) (d : Call) (k : Frame) (o1 : Outcome) (u v x : World) → Continues p w (first tables t) u → Comes_to t u (nexts.Needs d k) v → R (machine (task_of d)) v (outcome_of o1) x → rest tables t1 ≡ after k o1
+  pub needs : {p : Prog Given} {w : World} (t t1 d : Task) (k : Frame) (o1 : Outcome) (u v x : World) → Continues p w (first tables t) u → Comes_to t u (nexts.Needs d k) v → R (first tables d) v (outcome_of o1) x → rest tables t1 ≡ after k o1
       → Continues p w (first tables t1) x
-  needs t t1 d k o1 u v x c s a e = λ o y r. moves t (nexts.Needs d k) u v c s o y (Runs.calls a (after_rest k o1 (subst (λ p. R p x o y) e (rest_runs t1 r))))
-
-  pub part : {p : Prog Given} {w : World} (t t1 d : Task) (k : Frame) (o1 : Outcome) (u v x : World) → Continues p w (first tables t) u → Comes_to t u (nexts.Within d k) v → R (first tables d) v (outcome_of o1) x → rest tables t1 ≡ after k o1
-      → Continues p w (first tables t1) x
-  part t t1 d k o1 u v x c s a e = λ o y r. moves t (nexts.Within d k) u v c s o y (around_runs (waits k) (rest_runs d a) (after_rest k o1 (subst (λ p. R p x o y) e (rest_runs t1 r))))
+  needs t t1 d k o1 u v x c s a e = λ o y r. moves t (nexts.Needs d k) u v c s o y (needed_runs d k a (after_rest k o1 (subst (λ p. R p x o y) e (rest_runs t1 r))))
 
   pub ends : {p : Prog Given} {w : World} (t : Task) (o1 : Outcome) (u v : World) → Continues p w (first tables t) u → Comes_to t u (nexts.Finished o1) v → R p w (outcome_of o1) v
   ends t o1 u v c s = moves t (nexts.Finished o1) u v c s _ v (over_runs o1)
@@ -138,18 +139,15 @@ module _ (tables : Tables) (legal : Legal) (Starved : Type 0) where
   pub full : {p : Prog Given} {w : World} (t t1 : Task) (e : Entry) (u v : World) → Continues p w (first tables t) u → Comes_to t u (nexts.Writes e t1) v → v.ticks ≤ length v.trace → R p w (runs.Cut causes.Ticks) v
   full t t1 e u v c s h = moves t (nexts.Writes e t1) u v c s _ v (Runs.is_full h)
 
-  -- where memory runs out: before a step, before an entry, in a call, in a part
+  -- where memory runs out: before a step, before an entry, in what a step needs
   pub starved_here : {p : Prog Given} {w : World} (t : Task) (u v : World) → Starved → Continues p w (first tables t) u → v ≡ u → R p w (runs.Cut causes.Memory) v
   starved_here {p = p} {w = w} t u v s c e = subst (λ x. R p w (runs.Cut causes.Memory) x) (sym e) (c _ u (Runs.starves s))
 
   pub starved_before : {p : Prog Given} {w : World} (t t1 : Task) (e : Entry) (u v : World) → Starved → Continues p w (first tables t) u → Comes_to t u (nexts.Writes e t1) v → R p w (runs.Cut causes.Memory) v
   starved_before t t1 e u v s c l = moves t (nexts.Writes e t1) u v c l _ v (Runs.starves s)
 
-  pub starved_call : {p : Prog Given} {w : World} (t : Task) (d : Call) (k : Frame) (u v x : World) → Continues p w (first tables t) u → Comes_to t u (nexts.Needs d k) v → R (machine (task_of d)) v (runs.Cut causes.Memory) x → R p w (runs.Cut causes.Memory) x
-  starved_call t d k u v x c s a = moves t (nexts.Needs d k) u v c s _ x (Runs.calls a Runs.cuts)
-
-  pub starved_part : {p : Prog Given} {w : World} (t d : Task) (k : Frame) (u v x : World) → Continues p w (first tables t) u → Comes_to t u (nexts.Within d k) v → R (first tables d) v (runs.Cut causes.Memory) x → R p w (runs.Cut causes.Memory) x
-  starved_part t d k u v x c s a = moves t (nexts.Within d k) u v c s _ x (around_runs (waits k) (rest_runs d a) Runs.cuts)
+  pub starved_within : {p : Prog Given} {w : World} (t d : Task) (k : Frame) (u v x : World) → Continues p w (first tables t) u → Comes_to t u (nexts.Needs d k) v → R (first tables d) v (runs.Cut causes.Memory) x → R p w (runs.Cut causes.Memory) x
+  starved_within t d k u v x c s a = moves t (nexts.Needs d k) u v c s _ x (needed_runs d k a Runs.cuts)
 
 -- a run stays one if more is legal, and if memory may run out
 module _ {tables : Tables} {small large : Legal} {Starved Other : Type 0} (i : IsWithin small large) (f : Starved → Other) where
@@ -195,7 +193,7 @@ pub narrows_same : {r s t : Setting} → Narrows r s → t ≡ s → Narrows r t
 narrows_same {r = r} n e = subst (λ x. Narrows r x) (sym e) n
 
 module _ {r s : Setting} (n : Narrows r s) where
-  leads_before : (t : Task) (x : Next) (w v : World) → Leads s t w x v → Comes r.tables r.legal (first r.tables t) w (node r.tables x) v
+  leads_before : (t : Task) (x : Next) (w v : World) → MovesTo s t w x v → Comes r.tables r.legal (first r.tables t) w (node r.tables x) v
   leads_before t x w v l =
       wider_comes n.legal (subst (λ y. Comes y s.legal (first y t) w (node y x) v) n.tables l)
 
@@ -213,59 +211,44 @@ pub kept_start : (r : Setting) (p : Prog Given) (w : World) → Kept r p w p w
 kept_start r p w = record { whole = λ o v x. x; short = λ o v x. x }
 
 module _ {r s : Setting} (n : Narrows r s) {p : Prog Given} {w : World} where
-  pub kept_goes : (t t1 : Task) (u v : World) → Kept r p w (first r.tables t) u → Leads s t u (nexts.Goes t1) v → Kept r p w (first r.tables t1) v
+  pub kept_goes : (t t1 : Task) (u v : World) → Kept r p w (first r.tables t) u → MovesTo s t u (nexts.Goes t1) v → Kept r p w (first r.tables t1) v
   kept_goes t t1 u v k l =
       let m = leads_before n t (nexts.Goes t1) u v l in
       record { whole = goes r.tables r.legal ⊥ t t1 u v k.whole m; short = goes r.tables r.legal (Unit {0}) t t1 u v k.short m }
 
-  pub kept_writes : (t t1 : Task) (e : Entry) (u v : World) → Kept r p w (first r.tables t) u → Leads s t u (nexts.Writes e t1) v → length v.trace < v.ticks → Kept r p w (first r.tables t1) (with_entry e v)
+  pub kept_writes : (t t1 : Task) (e : Entry) (u v : World) → Kept r p w (first r.tables t) u → MovesTo s t u (nexts.Writes e t1) v → length v.trace < v.ticks → Kept r p w (first r.tables t1) (with_entry e v)
   kept_writes t t1 e u v k l h =
       let m = leads_before n t (nexts.Writes e t1) u v l in
       record { whole = writes r.tables r.legal ⊥ t t1 e u v k.whole m h; short = writes r.tables r.legal (Unit {0}) t t1 e u v k.short m h }
 
-  pub kept_ends : (t : Task) (o1 : Outcome) (u v : World) → Kept r p w (first r.tables t) u → Leads s t u (nexts.Finished o1) v → Runs r.tables r.legal ⊥ p w (outcome_of o1) v
+  pub kept_ends : (t : Task) (o1 : Outcome) (u v : World) → Kept r p w (first r.tables t) u → MovesTo s t u (nexts.Finished o1) v → Runs r.tables r.legal ⊥ p w (outcome_of o1) v
   kept_ends t o1 u v k l = ends r.tables r.legal ⊥ t o1 u v k.whole (leads_before n t (nexts.Finished o1) u v l)
 
-  pub kept_full : (t t1 : Task) (e : Entry) (u v : World) → Kept r p w (first r.tables t) u → Leads s t u (nexts.Writes e t1) v → v.ticks ≤ length v.trace → Runs r.tables r.legal ⊥ p w (runs.Cut causes.Ticks) v
+  pub kept_full : (t t1 : Task) (e : Entry) (u v : World) → Kept r p w (first r.tables t) u → MovesTo s t u (nexts.Writes e t1) v → v.ticks ≤ length v.trace → Runs r.tables r.legal ⊥ p w (runs.Cut causes.Ticks) v
   kept_full t t1 e u v k l h = full r.tables r.legal ⊥ t t1 e u v k.whole (leads_before n t (nexts.Writes e t1) u v l) h
 
   pub kept_starved : (t : Task) (u v : World) → Kept r p w (first r.tables t) u → v ≡ u → Runs r.tables r.legal (Unit {0}) p w (runs.Cut causes.Memory) v
   kept_starved t u v k e = starved_here r.tables r.legal (Unit {0}) t u v tt k.short e
 
-  pub kept_starved_before : (t t1 : Task) (e : Entry) (u v : World) → Kept r p w (first r.tables t) u → Leads s t u (nexts.Writes e t1) v → Runs r.tables r.legal (Unit {0}) p w (runs.Cut causes.Memory) v
+  pub kept_starved_before : (t t1 : Task) (e : Entry) (u v : World) → Kept r p w (first r.tables t) u → MovesTo s t u (nexts.Writes e t1) v → Runs r.tables r.legal (Unit {0}) p w (runs.Cut causes.Memory) v
   kept_starved_before t t1 e u v k l = starved_before r.tables r.legal (Unit {0}) t t1 e u v tt k.short (leads_before n t (nexts.Writes e t1) u v l)
 
--- the call and the part ran in the setting after the step
+-- what the step needed ran in the setting after it
 module _ {r s z : Setting} (n : Narrows r s) (m : Narrows r z) {p : Prog Given} {w : World} where
-  pub kept_needs : (t t1 : Task) (d : Call) (k : Frame) (o1 : Outcome) (u v x : World) → Kept r p w (first r.tables t) u → Leads s t u (nexts.Needs d k) v → Runs z.tables z.legal ⊥ (machine (task_of d)) v (outcome_of o1) x → ((y : Tables) → rest y t1 ≡ after k o1)
+  pub kept_needs : (t t1 d : Task) (k : Frame) (o1 : Outcome) (u v x : World) → Kept r p w (first r.tables t) u → MovesTo s t u (nexts.Needs d k) v → Runs z.tables z.legal ⊥ (first z.tables d) v (outcome_of o1) x → ((y : Tables) → rest y t1 ≡ after k o1)
       → Kept r p w (first r.tables t1) x
   kept_needs t t1 d k o1 u v x c l a e =
       let y = leads_before n t (nexts.Needs d k) u v l in
-      let b : Runs r.tables r.legal ⊥ (machine (task_of d)) v (outcome_of o1) x = runs_before m (λ _. machine (task_of d)) (λ q. q) a in
-      let b1 : Runs r.tables r.legal (Unit {0}) (machine (task_of d)) v (outcome_of o1) x = runs_before m (λ _. machine (task_of d)) (λ q. tt) a in
+      let b : Runs r.tables r.legal ⊥ (first r.tables d) v (outcome_of o1) x = runs_before m (λ ts. first ts d) (λ q. q) a in
+      let b1 : Runs r.tables r.legal (Unit {0}) (first r.tables d) v (outcome_of o1) x = runs_before m (λ ts. first ts d) (λ q. tt) a in
       record {
         whole = needs r.tables r.legal ⊥ t t1 d k o1 u v x c.whole y b (e r.tables);
         short = needs r.tables r.legal (Unit {0}) t t1 d k o1 u v x c.short y b1 (e r.tables);
       }
 
-  pub kept_part : (t t1 d : Task) (k : Frame) (o1 : Outcome) (u v x : World) → Kept r p w (first r.tables t) u → Leads s t u (nexts.Within d k) v → Runs z.tables z.legal ⊥ (first z.tables d) v (outcome_of o1) x → ((y : Tables) → rest y t1 ≡ after k o1)
-      → Kept r p w (first r.tables t1) x
-  kept_part t t1 d k o1 u v x c l a e =
-      let y = leads_before n t (nexts.Within d k) u v l in
-      let b : Runs r.tables r.legal ⊥ (first r.tables d) v (outcome_of o1) x = runs_before m (λ ts. first ts d) (λ q. q) a in
-      let b1 : Runs r.tables r.legal (Unit {0}) (first r.tables d) v (outcome_of o1) x = runs_before m (λ ts. first ts d) (λ q. tt) a in
-      record {
-        whole = part r.tables r.legal ⊥ t t1 d k o1 u v x c.whole y b (e r.tables);
-        short = part r.tables r.legal (Unit {0}) t t1 d k o1 u v x c.short y b1 (e r.tables);
-      }
-
-  pub kept_starved_call : (t : Task) (d : Call) (k : Frame) (u v x : World) → Kept r p w (first r.tables t) u → Leads s t u (nexts.Needs d k) v → Runs z.tables z.legal (Unit {0}) (machine (task_of d)) v (runs.Cut causes.Memory) x → Runs r.tables r.legal (Unit {0}) p w (runs.Cut causes.Memory) x
-  kept_starved_call t d k u v x c l a =
-      starved_call r.tables r.legal (Unit {0}) t d k u v x c.short (leads_before n t (nexts.Needs d k) u v l) (runs_before m (λ _. machine (task_of d)) (λ q. q) a)
-
-  pub kept_starved_part : (t d : Task) (k : Frame) (u v x : World) → Kept r p w (first r.tables t) u → Leads s t u (nexts.Within d k) v → Runs z.tables z.legal (Unit {0}) (first z.tables d) v (runs.Cut causes.Memory) x → Runs r.tables r.legal (Unit {0}) p w (runs.Cut causes.Memory) x
-  kept_starved_part t d k u v x c l a =
-      starved_part r.tables r.legal (Unit {0}) t d k u v x c.short (leads_before n t (nexts.Within d k) u v l) (runs_before m (λ ts. first ts d) (λ q. q) a)
+  pub kept_starved_within : (t d : Task) (k : Frame) (u v x : World) → Kept r p w (first r.tables t) u → MovesTo s t u (nexts.Needs d k) v → Runs z.tables z.legal (Unit {0}) (first z.tables d) v (runs.Cut causes.Memory) x → Runs r.tables r.legal (Unit {0}) p w (runs.Cut causes.Memory) x
+  kept_starved_within t d k u v x c l a =
+      starved_within r.tables r.legal (Unit {0}) t d k u v x c.short (leads_before n t (nexts.Needs d k) u v l) (runs_before m (λ ts. first ts d) (λ q. q) a)
 
 -- a run that failed was on its way
 pub ran_err : (r : Setting) {p : Prog Given} {w : World} (v : World) (x : Either Outcome Failure) → IsErr x → Runs r.tables r.legal (Unit {0}) p w (runs.Cut causes.Memory) v → Ran r p w x v

@@ -31,29 +31,24 @@ rank (tasks.Begin job) = 5
 rank (tasks.Made n b owner) = 0
 rank (tasks.Readied n) = 0
 rank (tasks.Entered r) = 2
-rank (tasks.Stopped c) = 0
 rank (tasks.Acted r a) = 3
 rank (tasks.Answered r c) = 2
-rank (tasks.Reached g) = 0
 rank (tasks.Ended n component v) = 5
 rank (tasks.Leaving n component v) = 4
 rank (tasks.CleanedUp n) = 3
 rank (tasks.Released n) = 0
-rank (tasks.Removed n) = 0
 rank (tasks.Picked n dependent) = 2
 rank (tasks.Using type method args) = 4
 rank (tasks.Lent n method args) = 3
 rank (tasks.Invoking n method args) = 3
-rank (tasks.Exiting c) = 0
 rank (tasks.Returning c) = 3
-rank (tasks.Returned c) = 0
 rank tasks.Starting = 2
 rank tasks.Closing = 4
 rank (tasks.Fired event) = 0
 rank tasks.Finishing = 3
 rank tasks.Emptied = 2
-rank tasks.GoingDown = 0
 rank tasks.Missing = 0
+rank (tasks.Ending x c) = 0
 rank (tasks.Over o) = 0
 
 -- the rank of what comes after the frame's call, if that gave something
@@ -101,17 +96,16 @@ pub record SameTrace (w v : World) : Type 0 where
   pub ticks : v.ticks ≡ w.ticks
 
 -- a destruction: if it gives anything, it has written an entry
-abbrev pub IsDestroy : Call → Type 0
-IsDestroy c = (n : ℕ) × (c ≡ calls.Destroy n)
+abbrev pub IsDestroy : Task → Type 0
+IsDestroy p = (n : ℕ) × (p ≡ tasks.Start (calls.Destroy n))
 
 -- a throw ends what waits, and otherwise an entry was written or the rank falls
-pub record FallsBack (t : Task) (c : Call) (k : Frame) : Type 0 where
-  pub gave : IsDestroy c ⊎ (frame_rank k < rank t)
+pub record FallsBack (t p : Task) (k : Frame) : Type 0 where
+  pub gave : IsDestroy p ⊎ (frame_rank k < rank t)
   pub threw : thrown_rank k < rank t
 
 abbrev pub Falls : Task → World → Next → World → Type 0
 Falls t w (nexts.Finished o) v = SameTrace w v
 Falls t w (nexts.Goes p) v = SameTrace w v × (rank p < rank t)
-Falls t w (nexts.Needs c k) v = SameTrace w v × (call_rank c < rank t) × FallsBack t c k
-Falls t w (nexts.Within p k) v = SameTrace w v × (rank p < rank t) × (frame_rank k < rank t) × (thrown_rank k < rank t)
+Falls t w (nexts.Needs p k) v = SameTrace w v × (rank p < rank t) × FallsBack t p k
 Falls t w (nexts.Writes e p) v = SameTrace w v

@@ -31,6 +31,5 @@ KnownFrame s _ = Unit {0}
 abbrev pub KnownNext : Setting → World → Next → Type 0
 KnownNext s w (nexts.Finished o) = Unit {0}
 KnownNext s w (nexts.Goes p) = Known s w p
-KnownNext s w (nexts.Needs c k) = KnownCall s c × KnownFrame s k
-KnownNext s w (nexts.Within p k) = Known s w p × KnownFrame s k
+KnownNext s w (nexts.Needs p k) = Known s w p × KnownFrame s k
 KnownNext s w (nexts.Writes e p) = Known s w p

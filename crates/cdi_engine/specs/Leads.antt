@@ -1,14 +1,15 @@
 -- When a point may do something first.
-use Rattle.std.specs.Prelude.{ℕ, zero, suc, ◌≡◌, ◌<◌, length, Ok, Err}
+use Rattle.std.specs.Prelude.{ℕ, zero, suc, ◌≡◌, ◌<◌, ◌≤◌, length, Option, Some, None, Ok, Err}
 use Rattle.std.specs.Prelude.{Result as Either}
 use Rattle.cdi_base.specs.declared.act.Act.{Act}
+use Rattle.cdi_base.specs.declared.entry.Entry.{Entry}
 use Rattle.cdi_base.specs.declared.entry.Entry.TheVariants as entries
 use Rattle.cdi_base.specs.declared.reply.Cause.TheVariants as causes
 use Rattle.cdi_bodies.specs.declared.view.View.{View}
 use Rattle.cdi_machine.specs.declared.driver.Failure.{Failure}
 use Rattle.cdi_machine.specs.Words.{Fields}
 use Rattle.cdi_machine.specs.Tables.{Tables}
-use Rattle.cdi_machine.specs.World.{World, after_change}
+use Rattle.cdi_machine.specs.World.{World, after_change, with_entry}
 use Rattle.cdi_machine.specs.Programs.{Given, Prog, ret, throw, cut, miss, see, change, tick, mark, act, choose, nested, candidates}
 use Rattle.cdi_machine.specs.Runs as runs
 use Rattle.cdi_machine.specs.Runs.{Legal, Runs}
@@ -20,52 +21,66 @@ use Rattle.cdi_engine.specs.declared.task.Task.{Task}
 use Rattle.cdi_engine.specs.declared.task.Next.{Next}
 
 -- a program and the world up to its next entry, act, pick, call or end
-abbrev pub settled : Tables → Prog Given → World → Prog Given × World
-settled t (miss p) w = settled t p w
-settled t (see k) w = settled t (k t w) w
-settled t (change g p) w = settled t p (after_change g w)
-settled t (mark m p) w = settled t p w
-settled t (ret g) w = (ret g, w)
-settled t (throw x) w = (throw x, w)
-settled t (cut cause) w = (cut cause, w)
-settled t (tick e p) w = (tick e p, w)
-settled t (act b fields view k) w = (act b fields view k, w)
-settled t (choose n k) w = (choose n k, w)
-settled t (nested c k) w = (nested c k, w)
+abbrev pub next_stop : Tables → Prog Given → World → Prog Given × World
+next_stop t (miss p) w = next_stop t p w
+next_stop t (see k) w = next_stop t (k t w) w
+next_stop t (change g p) w = next_stop t p (after_change g w)
+next_stop t (mark m p) w = next_stop t p w
+next_stop t (ret g) w = (ret g, w)
+next_stop t (throw x) w = (throw x, w)
+next_stop t (cut cause) w = (cut cause, w)
+next_stop t (tick e p) w = (tick e p, w)
+next_stop t (act b fields view k) w = (act b fields view k, w)
+next_stop t (choose n k) w = (choose n k, w)
+next_stop t (nested c k) w = (nested c k, w)
 
 -- a program and the world so many silent steps later
-abbrev pub walked : ℕ → Tables → Prog Given → World → Prog Given × World
-walked zero t p w = (p, w)
-walked (suc n) t (miss p) w = walked n t p w
-walked (suc n) t (see k) w = walked n t (k t w) w
-walked (suc n) t (change g p) w = walked n t p (after_change g w)
-walked (suc n) t (mark m p) w = walked n t p w
-walked (suc n) t p w = (p, w)
+abbrev pub after_steps : ℕ → Tables → Prog Given → World → Prog Given × World
+after_steps zero t p w = (p, w)
+after_steps (suc n) t (miss p) w = after_steps n t p w
+after_steps (suc n) t (see k) w = after_steps n t (k t w) w
+after_steps (suc n) t (change g p) w = after_steps n t p (after_change g w)
+after_steps (suc n) t (mark m p) w = after_steps n t p w
+after_steps (suc n) t p w = (p, w)
 
 -- the one goes on as the other
 pub data Comes (t : Tables) (legal : Legal) : Prog Given → World → Prog Given → World → Type 0 where
-  same : {p q : Prog Given} {w v : World} → settled t p w ≡ (q, v) → Comes t legal p w q v
-  within : {p q : Prog Given} {w v : World} (n : ℕ) → walked n t p w ≡ (q, v)
+  same : {p q : Prog Given} {w v : World} → next_stop t p w ≡ (q, v) → Comes t legal p w q v
+  within : {p q : Prog Given} {w v : World} (n : ℕ) → after_steps n t p w ≡ (q, v)
       → Comes t legal p w q v
   does : {p q : Prog Given} {w v : World} {b : ℕ} {fields : Fields} {view : View}
-      {k : Act → Prog Given} {a : Act} → settled t p w ≡ (act b fields view k, v)
+      {k : Act → Prog Given} {a : Act} → next_stop t p w ≡ (act b fields view k, v)
       → legal.gives b (length v.trace) fields view a
       → q ≡ tick (entries.Did a) (k a)
       → Comes t legal p w q v
   picks : {p q : Prog Given} {w v : World} {n i : ℕ} {k : ℕ → Prog Given}
-      → settled t p w ≡ (choose n k, v)
+      → next_stop t p w ≡ (choose n k, v)
       → i < candidates n
       → legal.picks (candidates n) (length v.trace) i
       → q ≡ tick (entries.Pick (candidates n) i) (k i)
       → Comes t legal p w q v
 
 -- the point may do this first, from the one world to the other: what is left after it is what it comes to
-abbrev pub Leads : Setting → Task → World → Next → World → Type 0
-Leads s p w next v = Comes s.tables s.legal (first s.tables p) w (node s.tables next) v
+abbrev pub MovesTo : Setting → Task → World → Next → World → Type 0
+MovesTo s p w next v = Comes s.tables s.legal (first s.tables p) w (node s.tables next) v
 
 -- the program settles as what is done next, from the one world to the other
 abbrev pub Settles : Setting → Prog Given → World → Next → World → Type 0
-Settles s p w next v = settled s.tables p w ≡ (node s.tables next, v)
+Settles s p w next v = next_stop s.tables p w ≡ (node s.tables next, v)
+
+-- what comes of an entry in front of a point: it is written and the point is next, or the budget is spent
+pub record Written (e : Entry) (t : Task) (w : World) (p : Task) (v : World) : Type 0 where
+  pub room : length w.trace < w.ticks
+  pub next : p ≡ t
+  pub world : v ≡ with_entry e w
+
+pub record Spent (w v : World) : Type 0 where
+  pub full : w.ticks ≤ length w.trace
+  pub world : v ≡ w
+
+abbrev pub Noted : Entry → Task → World → Option Task → World → Type 0
+Noted e t w (Some p) v = Written e t w p v
+Noted e t w None v = Spent w v
 
 -- a run of the program came to this; one that failed was on its way
 abbrev pub Ran : Setting → Prog Given → World → Either Outcome Failure → World → Type 0

@@ -26,7 +26,7 @@ use Rattle.cdi_machine.specs.Events.{fire_context_event, fire_container_event}
 use Rattle.cdi_machine.specs.Commands.{task, close}
 use Rattle.cdi_engine.specs.Asked.{of_type}
 use Rattle.cdi_engine.specs.declared.task.ContainerEvent.{ContainerEvent}
-use Rattle.cdi_engine.specs.Words.{class_of, qualifiers_of, given_of, completion_of, running_of, task_of, command_of}
+use Rattle.cdi_engine.specs.Words.{class_of, qualifiers_of, change_of, completion_of, running_of, task_of, command_of}
 use Rattle.cdi_engine.specs.declared.task.Given.{Given as CodeGiven}
 use Rattle.cdi_engine.specs.declared.task.Given.TheVariants as givens
 use Rattle.cdi_engine.specs.declared.task.Outcome.{Outcome}
@@ -68,9 +68,10 @@ start_body r = do
   alter (Change.Start r.instance)
   finally (call (machine.Acts r)) (alter Change.Stop)
 
-abbrev pub stop_body : machine.Completion Given → Prog Given
-stop_body c = do
-  alter Change.Stop
+-- the last change of a task, and its end
+abbrev pub end_with : Change → machine.Completion Given → Prog Given
+end_with x c = do
+  alter x
   complete c
 
 abbrev pub go_on_with : machine.Running → machine.Completion Given → Prog Given
@@ -110,11 +111,6 @@ end_instance n v component = do
   mark n do_nothing
   clean_up_quietly n v component
 
-abbrev pub remove_instance : ℕ → Prog Given
-remove_instance n = do
-  alter (Change.Remove n)
-  finish
-
 abbrev pub free_picked : ℕ → ℕ → Prog Given
 free_picked n dependent = do
   call (machine.Destroy dependent)
@@ -132,19 +128,9 @@ use_lent n method args = do
   m ← require_living n
   invoke_method m method args
 
-abbrev pub exit_with : machine.Completion Given → Prog Given
-exit_with c = do
-  alter Change.Exit
-  complete c
-
 abbrev pub give_back_with : machine.Completion Given → Prog Given
 give_back_with c = do
   give_back
-  complete c
-
-abbrev pub return_with : machine.Completion Given → Prog Given
-return_with c = do
-  alter Change.Return
   complete c
 
 abbrev pub start_container : Prog Given
@@ -193,35 +179,30 @@ rest t (tasks.Begin job) = task (command_of job)
 rest t (tasks.Made n b owner) = make_instance t n b owner
 rest t (tasks.Readied n) = settle n
 rest t (tasks.Entered r) = start_body (running_of r)
-rest t (tasks.Stopped c) = stop_body (completion_of c)
 rest t (tasks.Acted r a) = perform (running_of r) a
 rest t (tasks.Answered r c) = go_on_with (running_of r) (completion_of c)
-rest t (tasks.Reached g) = reach_end (given_of g)
 rest t (tasks.Ended n component v) = end_instance n v component
 rest t (tasks.Leaving n component v) = clean_up_quietly n v component
 rest t (tasks.CleanedUp n) = end_clean_up n
 rest t (tasks.Released n) = let_go n
-rest t (tasks.Removed n) = remove_instance n
 rest t (tasks.Picked n dependent) = free_picked n dependent
 rest t (tasks.Using type method args) = use_for (of_type type) method args
 rest t (tasks.Lent n method args) = use_lent n method args
 rest t (tasks.Invoking n method args) = invoke_method n method args
-rest t (tasks.Exiting c) = exit_with (completion_of c)
 rest t (tasks.Returning c) = give_back_with (completion_of c)
-rest t (tasks.Returned c) = return_with (completion_of c)
 rest t tasks.Starting = start_container
 rest t tasks.Closing = close_application
 rest t (tasks.Fired event) = deliver event
 rest t tasks.Finishing = finish_application
 rest t tasks.Emptied = empty_application
-rest t tasks.GoingDown = bring_down
 rest t tasks.Missing = tell_missing
+rest t (tasks.Ending x c) = end_with (change_of x) (completion_of c)
 rest t (tasks.Over o) = over o
 
 -- what a frame does once the call or the part has ended
 abbrev pub waits : Frame → machine.Completion Given → Prog Given
 waits (frames.AtEnd role) c = complete c >>= λ g. reach_end (given_by role g)
-waits frames.Stopping c = stop_body c
+waits frames.Stopping c = end_with Change.Stop c
 waits (frames.Answering r) c = go_on_with (running_of r) c
 waits (frames.CleaningUp n) c = end_clean_up n
 waits (frames.Releasing n) c = complete c >> let_go n
@@ -233,7 +214,7 @@ waits (frames.Reaching method args) c =
 waits (frames.Borrowing method args) c =
     (complete c >>= λ made. ret (direct_reference made))
     >>= λ r. reach_instance r >>= λ n. invoke_method n method args
-waits frames.Exiting c = exit_with c
+waits frames.Exiting c = end_with Change.Exit c
 waits frames.Using c = give_back_with c
 waits (frames.Returning told) c = finally (complete c) (alter Change.Return) >> complete (completion_of told)
 waits frames.Initializing c = start_container
@@ -243,15 +224,15 @@ waits frames.Finishing c = finish_application
 waits frames.Emptying c = (complete c >> close_context Application) >> bring_down
 waits frames.GoingDown c = bring_down
 
--- a program, and then what waits for it
+-- a part, and then what waits for it
 abbrev pub around : Prog Given → (machine.Completion Given → Prog Given) → Prog Given
 around p k = handle p (λ g. k (machine.Gave g)) (λ x. k (machine.Threw x))
 
 abbrev pub node : Tables → Next → Prog Given
 node t (nexts.Finished o) = over o
 node t (nexts.Goes p) = rest t p
-node t (nexts.Needs c k) = nested (task_of c) (waits k)
-node t (nexts.Within p k) = around (rest t p) (waits k)
+node t (nexts.Needs (tasks.Start c) k) = nested (task_of c) (waits k)
+node t (nexts.Needs p k) = around (rest t p) (waits k)
 node t (nexts.Writes e p) = tick e (rest t p)
 
 -- the code's first steps of a call are those of what it does

@@ -8,6 +8,7 @@ use Rattle.cdi_store.specs.declared.instance.Context.TheVariants.{Application}
 use Rattle.cdi_machine.specs.Words.{Name}
 use Rattle.cdi_machine.specs.Programs as machine
 use Rattle.cdi_machine.specs.Runs as runs
+use Rattle.cdi_machine.specs.World.{Change}
 use Rattle.cdi_machine.specs.Events.{qualifier}
 use Rattle.cdi_machine.specs.Commands.{Command}
 use Rattle.cdi_engine.specs.Asked.{of_type}
@@ -22,6 +23,8 @@ use Rattle.cdi_engine.specs.declared.task.Call.{Call}
 use Rattle.cdi_engine.specs.declared.task.Call.TheVariants as calls
 use Rattle.cdi_engine.specs.declared.task.ContainerEvent.{ContainerEvent}
 use Rattle.cdi_engine.specs.declared.task.ContainerEvent.TheVariants as events
+use Rattle.cdi_engine.specs.declared.task.LastChange.{LastChange}
+use Rattle.cdi_engine.specs.declared.task.LastChange.TheVariants as last
 use Rattle.cdi_engine.specs.declared.task.Job.{Job}
 use Rattle.cdi_engine.specs.declared.task.Job.TheVariants as jobs
 
@@ -63,6 +66,15 @@ qualifiers_of events.Initialized = qualifier built_in.Initialized Application �
 qualifiers_of events.BeforeDestroyed = qualifier built_in.BeforeDestroyed Application ∷ []
 qualifiers_of events.Destroyed = qualifier built_in.Destroyed Application ∷ []
 qualifiers_of _ = []
+
+-- the changes with which tasks end
+abbrev pub change_of : LastChange → Change
+change_of last.Stop = Change.Stop
+change_of last.Exit = Change.Exit
+change_of last.Return = Change.Return
+change_of last.Reach = Change.Reach
+change_of (last.Remove n) = Change.Remove n
+change_of last.Down = Change.Down
 
 abbrev pub task_of : Call → machine.Task
 task_of (calls.Obtain b) = machine.Obtain b

@@ -10,9 +10,10 @@ use crate::task::ContainerEvent;
 use cdi_base::{BuiltIn, Entry, MemberValue, Seq, Text, Use, Value};
 use std::alloc::{AllocError, Global};
 
-/// The qualifiers of an event of the application context: one, which names the scope.
-fn of_application(alloc: Global, what: BuiltIn) -> Result<Seq<Use>, AllocError>
-    ensures { IfOk result (λ uses. uses ≡ qualifier_use what Application ∷ []) }
+/// The entry of an event of the application context: its one qualifier names the scope.
+fn of_application(alloc: Global, what: BuiltIn) -> Result<Entry, AllocError>
+    ensures { IfOk result (λ entry. entry
+        ≡ Event (number_of BuiltIn.Object) (qualifier_use what Application ∷ [])) }
 {
     let mut members = Seq::empty(alloc);
     members.push(MemberValue {
@@ -24,36 +25,27 @@ fn of_application(alloc: Global, what: BuiltIn) -> Result<Seq<Use>, AllocError>
         name: what.name(),
         members,
     })?;
-    Ok(qualifiers)
-}
-
-fn qualifiers(alloc: Global, event: ContainerEvent) -> Result<Seq<Use>, AllocError>
-    ensures { IfOk result (λ uses. uses ≡ qualifiers_of event) }
-{
-    match event {
-        ContainerEvent::Initialized => of_application(alloc, BuiltIn::Initialized),
-        ContainerEvent::BeforeDestroyed => of_application(alloc, BuiltIn::BeforeDestroyed),
-        ContainerEvent::Destroyed => of_application(alloc, BuiltIn::Destroyed),
-        ContainerEvent::Startup | ContainerEvent::Shutdown => Ok(Seq::empty(alloc)),
-    }
-}
-
-fn class(event: ContainerEvent) -> BuiltIn
-    ensures { number_of result ≡ class_of event }
-{
-    match event {
-        ContainerEvent::Startup => BuiltIn::Startup,
-        ContainerEvent::Shutdown => BuiltIn::Shutdown,
-        _ => BuiltIn::Object,
-    }
+    Ok(Entry::Event {
+        class: BuiltIn::Object.name(),
+        qualifiers,
+    })
 }
 
 /// The entry of an event.
 pub(crate) fn entry_of(alloc: Global, event: ContainerEvent) -> Result<Entry, AllocError>
     ensures { IfOk result (λ entry. entry ≡ Event (class_of event) (qualifiers_of event)) }
 {
-    Ok(Entry::Event {
-        class: class(event).name(),
-        qualifiers: qualifiers(alloc, event)?,
-    })
+    match event {
+        ContainerEvent::Initialized => of_application(alloc, BuiltIn::Initialized),
+        ContainerEvent::BeforeDestroyed => of_application(alloc, BuiltIn::BeforeDestroyed),
+        ContainerEvent::Destroyed => of_application(alloc, BuiltIn::Destroyed),
+        ContainerEvent::Startup => Ok(Entry::Event {
+            class: BuiltIn::Startup.name(),
+            qualifiers: Seq::empty(alloc),
+        }),
+        ContainerEvent::Shutdown => Ok(Entry::Event {
+            class: BuiltIn::Shutdown.name(),
+            qualifiers: Seq::empty(alloc),
+        }),
+    }
 }

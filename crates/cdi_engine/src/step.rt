@@ -3,10 +3,11 @@ ghost use Rattle.std.specs.Prelude.{◌≡◌, ◌≤◌, IfOk, OnErr};
 ghost use Rattle.cdi_base.specs.BuiltIn.{number_of};
 ghost use Rattle.cdi_beans.specs.Served.{machine_scope};
 ghost use Rattle.cdi_machine.specs.Tables.{Tables};
+ghost use Rattle.cdi_machine.specs.World.{after_change};
 ghost use Rattle.cdi_engine.specs.Setting.{Narrows};
-ghost use Rattle.cdi_engine.specs.Words.{completion_of};
+ghost use Rattle.cdi_engine.specs.Words.{completion_of, change_of};
 ghost use Rattle.cdi_engine.specs.Points.{rest, waits, after};
-ghost use Rattle.cdi_engine.specs.Leads.{Leads};
+ghost use Rattle.cdi_engine.specs.Leads.{MovesTo};
 ghost use Rattle.cdi_engine.specs.Falls.{Falls, rank, back_rank, frame_rank, thrown_rank};
 ghost use Rattle.cdi_engine.specs.Known.{Known, KnownCall, KnownNext, KnownFrame};
 
@@ -18,7 +19,9 @@ mod invocations;
 mod obtaining;
 
 use crate::host::Host;
-use crate::task::{Call, Completion, ContainerEvent, Frame, Given, Job, Next, Outcome, Task};
+use crate::task::{
+    Call, Completion, ContainerEvent, Frame, Given, Job, LastChange, Next, Outcome, Task,
+};
 use cdi_base::{BuiltIn, Entry, InterceptorMethod, Name, Scope, Value};
 use cdi_deploy::deployment;
 use cdi_machine::Failure;
@@ -87,11 +90,14 @@ fn go_on<H: Host>(host: &H, frame: Frame, given: Given) -> Task
     ensures known { Known (H.setting host.now) (H.world host.now) result }
 {
     match frame {
-        Frame::AtEnd { role } => Task::Reached(match role {
-            InterceptorMethod::AroundInvoke => given,
-            _ => Given::Result(Value::Null),
-        }),
-        Frame::Stopping => Task::Stopped(Completion::Gave(given)),
+        Frame::AtEnd { role } => {
+            let given = match role {
+                InterceptorMethod::AroundInvoke => given,
+                _ => Given::Result(Value::Null),
+            };
+            Task::Ending(LastChange::Reach, Completion::Gave(given))
+        }
+        Frame::Stopping => Task::Ending(LastChange::Stop, Completion::Gave(given)),
         Frame::Answering(running) => Task::Answered(running, Completion::Gave(given)),
         Frame::CleaningUp { number } => Task::CleanedUp { number },
         Frame::Releasing { number } => Task::Released { number },
@@ -114,15 +120,20 @@ fn go_on<H: Host>(host: &H, frame: Frame, given: Given) -> Task
             },
             _ => Task::Over(Outcome::Ends(Completion::Threw(BuiltIn::NullPointerException.name()))),
         },
-        Frame::Exiting => Task::Exiting(Completion::Gave(given)),
+        Frame::Exiting => Task::Ending(LastChange::Exit, Completion::Gave(given)),
         Frame::Using => Task::Returning(Completion::Gave(given)),
-        Frame::Returning(completion) => Task::Returned(completion),
+        Frame::Returning(completion) => Task::Ending(LastChange::Return, completion),
         Frame::Initializing => Task::Starting,
         Frame::Starting => Task::Over(Outcome::Ends(Completion::Gave(Given::Result(Value::Null)))),
         Frame::Closing => Task::Closing,
         Frame::Finishing => Task::Finishing,
         Frame::Emptying => Task::Emptied,
-        Frame::GoingDown => Task::GoingDown,
+        Frame::GoingDown => {
+            Task::Ending(
+                LastChange::Down,
+                Completion::Gave(Given::Result(Value::Null)),
+            )
+        }
     }
 }
 
@@ -136,17 +147,22 @@ fn go_on_after<H: Host>(host: &H, frame: Frame, exception: Name) -> Task
 {
     let threw = Completion::Threw(exception);
     match frame {
-        Frame::Stopping => Task::Stopped(threw),
+        Frame::Stopping => Task::Ending(LastChange::Stop, threw),
         Frame::Answering(running) => Task::Answered(running, threw),
         Frame::CleaningUp { number } => Task::CleanedUp { number },
-        Frame::Exiting => Task::Exiting(threw),
+        Frame::Exiting => Task::Ending(LastChange::Exit, threw),
         Frame::Using => Task::Returning(threw),
-        Frame::Returning(_completion) => Task::Returned(threw),
+        Frame::Returning(_completion) => Task::Ending(LastChange::Return, threw),
         Frame::Initializing => Task::Starting,
         Frame::Starting => Task::Over(Outcome::Ends(Completion::Gave(Given::Result(Value::Null)))),
         Frame::Closing => Task::Closing,
         Frame::Finishing => Task::Finishing,
-        Frame::GoingDown => Task::GoingDown,
+        Frame::GoingDown => {
+            Task::Ending(
+                LastChange::Down,
+                Completion::Gave(Given::Result(Value::Null)),
+            )
+        }
         _ => Task::Over(Outcome::Ends(threw)),
     }
 }
@@ -154,7 +170,7 @@ fn go_on_after<H: Host>(host: &H, frame: Frame, exception: Name) -> Task
 /// What a point does first. An entry is only named here.
 pub(crate) fn step<H: Host>(host: &mut H, task: Task) -> Result<Next, Failure>
     requires { Known (H.setting host.old) (H.world host.old) task }
-    ensures leads { IfOk result (λ next. Leads (H.setting host.old) task
+    ensures leads { IfOk result (λ next. MovesTo (H.setting host.old) task
         (H.world host.old) next (H.world host.new)) }
     ensures falls { IfOk result (λ next. Falls task (H.world host.old) next (H.world host.new)) }
     ensures known { IfOk result (KnownNext (H.setting host.new) (H.world host.new)) }
@@ -163,18 +179,16 @@ pub(crate) fn step<H: Host>(host: &mut H, task: Task) -> Result<Next, Failure>
 {
     match task {
         Task::Start(call) => start(host, call),
-        Task::Begin(job) => Ok(commands::begin(host, job)?),
+        Task::Begin(job) => commands::begin(host, job),
         Task::Made {
             number,
             bean,
             owner,
-        } => Ok(creation::made(host, number, bean, owner)?),
-        Task::Readied { number } => Ok(creation::readied(host, number)?),
-        Task::Entered(running) => Ok(bodies::entered(host, running)?),
-        Task::Stopped(completion) => Ok(bodies::stopped(host, completion)),
-        Task::Acted(running, act) => Ok(bodies::acted(host, running, act)?),
-        Task::Answered(running, completion) => Ok(bodies::answer(host, running, completion)?),
-        Task::Reached(given) => Ok(invocations::reached(host, given)),
+        } => creation::made(host, number, bean, owner),
+        Task::Readied { number } => creation::readied(host, number),
+        Task::Entered(running) => bodies::entered(host, running),
+        Task::Acted(running, act) => bodies::acted(host, running, act),
+        Task::Answered(running, completion) => bodies::answer(host, running, completion),
         Task::Ended {
             number,
             component,
@@ -184,13 +198,15 @@ pub(crate) fn step<H: Host>(host: &mut H, task: Task) -> Result<Next, Failure>
             number,
             component,
             value,
-        } => { Ok(destruction::leaving(host, number, component, value)?) }
+        } => destruction::leaving(host, number, component, value),
         Task::CleanedUp { number } => Ok(destruction::cleaned_up(host, number)),
         Task::Released { number } => Ok(Next::Writes(
             Entry::Gone { number },
-            Task::Removed { number },
+            Task::Ending(
+                LastChange::Remove(number),
+                Completion::Gave(Given::Result(Value::Null)),
+            ),
         )),
-        Task::Removed { number } => Ok(destruction::removed(host, number)),
         Task::Picked { number, dependent } => Ok(destruction::free_one(number, dependent)),
         Task::Using {
             bean_type,
@@ -201,36 +217,55 @@ pub(crate) fn step<H: Host>(host: &mut H, task: Task) -> Result<Next, Failure>
             number,
             method,
             args,
-        } => Ok(obtaining::lent(host, number, method, args)?),
+        } => obtaining::lent(host, number, method, args),
         Task::Invoking {
             number,
             method,
             args,
-        } => { Ok(invocations::invoke(host, number, method, args)?) }
-        Task::Exiting(completion) => Ok(invocations::exiting(host, completion)),
-        Task::Returning(completion) => Ok(commands::returning(completion)),
-        Task::Returned(completion) => Ok(commands::returned(host, completion)),
+        } => invocations::invoke(host, number, method, args),
+        Task::Returning(completion) => {
+            let call = Task::Start(Call::Dismiss);
+            Ok(Next::Needs(call, Frame::Returning(completion)))
+        }
         Task::Fired(event) => Ok(commands::fired(host, event)),
         Task::Starting => {
-            let call = Call::Fire(ContainerEvent::Startup);
+            let call = Task::Start(Call::Fire(ContainerEvent::Startup));
             Ok(Next::Needs(call, Frame::Starting))
         }
         Task::Closing => {
-            let call = Call::Fire(ContainerEvent::BeforeDestroyed);
+            let call = Task::Start(Call::Fire(ContainerEvent::BeforeDestroyed));
             Ok(Next::Needs(call, Frame::Finishing))
         }
         Task::Finishing => Ok(commands::finishing(host)),
         Task::Emptied => Ok(commands::emptied(host)),
-        Task::GoingDown => Ok(commands::going_down(host)),
         Task::Missing => Ok(missing()),
+        Task::Ending(change, completion) => {
+            alter(host, change);
+            Ok(Next::Finished(Outcome::Ends(completion)))
+        }
         Task::Over(outcome) => Ok(Next::Finished(outcome)),
+    }
+}
+
+/// Makes the last change of something that ends.
+fn alter<H: Host>(host: &mut H, change: LastChange)
+    ensures world { H.world host.new ≡ after_change (change_of change) (H.world host.old) }
+    ensures narrows { Narrows (H.setting host.old) (H.setting host.new) }
+{
+    match change {
+        LastChange::Stop => host.stop(),
+        LastChange::Exit => host.exit(),
+        LastChange::Return => host.give_back(),
+        LastChange::Reach => host.reach(),
+        LastChange::Remove(number) => host.remove(number),
+        LastChange::Down => host.bring_down(),
     }
 }
 
 /// What a call does first.
 fn start<H: Host>(host: &mut H, call: Call) -> Result<Next, Failure>
     requires { KnownCall (H.setting host.old) call }
-    ensures leads { IfOk result (λ next. Leads (H.setting host.old) (Task.Start call)
+    ensures leads { IfOk result (λ next. MovesTo (H.setting host.old) (Task.Start call)
         (H.world host.old) next (H.world host.new)) }
     ensures falls { IfOk result (λ next. Falls (Task.Start call)
         (H.world host.old) next (H.world host.new)) }
@@ -241,12 +276,12 @@ fn start<H: Host>(host: &mut H, call: Call) -> Result<Next, Failure>
     match call {
         Call::Obtain { bean } => Ok(obtaining::obtain(host, bean)),
         Call::Create { bean, owner } => Ok(creation::create(host, bean, owner)),
-        Call::Rest => Ok(invocations::rest(host)?),
+        Call::Rest => invocations::rest(host),
         Call::Body(running) => Ok(bodies::body(host, running)),
         Call::Acts(running) => bodies::acts(host, running),
-        Call::Destroy { number } => Ok(destruction::destroy(host, number)?),
+        Call::Destroy { number } => destruction::destroy(host, number),
         Call::Release { number } => destruction::release(host, number),
-        Call::Fire(event) => Ok(commands::fire(host, event)?),
+        Call::Fire(event) => commands::fire(host, event),
         Call::Dismiss => Ok(destruction::dismiss(host)),
         Call::Clear => Ok(destruction::clear(host)),
     }

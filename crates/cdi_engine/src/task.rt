@@ -115,14 +115,10 @@ pub enum Task {
     },
     /// The entry of a body is written.
     Entered(Running),
-    /// The acts of a body have ended.
-    Stopped(Completion),
     /// A body gave an act.
     Acted(Running, Act),
     /// What a body asked for has ended.
     Answered(Running, Completion),
-    /// The body at the end of a chain has ended.
-    Reached(Given),
     /// The end of an instance of this component, with this value, is written.
     Ended {
         number: u32,
@@ -141,10 +137,6 @@ pub enum Task {
     },
     /// The dependents are gone.
     Released {
-        number: u32,
-    },
-    /// The entry of the gone instance is written.
-    Removed {
         number: u32,
     },
     /// A dependent of the instance is picked.
@@ -170,12 +162,8 @@ pub enum Task {
         method: Name,
         args: Seq<Value>,
     },
-    /// The invocation has ended.
-    Exiting(Completion),
     /// What the command did with the bean has ended.
     Returning(Completion),
-    /// The temporaries of the command are gone.
-    Returned(Completion),
     /// The application has been initialized.
     Starting,
     /// The shutdown event has been delivered.
@@ -186,12 +174,29 @@ pub enum Task {
     Finishing,
     /// The application context is empty.
     Emptied,
-    /// It has been told that the application has ended.
-    GoingDown,
     /// Something isn't there.
     Missing,
+    /// One change is left, and the end.
+    Ending(LastChange, Completion),
     /// It is over.
     Over(Outcome),
+}
+
+/// The change of the world with which something ends.
+#[derive(Clone, Copy, Debug, PartialEq, Eq)]
+pub enum LastChange {
+    /// A body ends.
+    Stop,
+    /// An invocation ends.
+    Exit,
+    /// The temporaries of a command are over.
+    Return,
+    /// The end of a chain has been reached.
+    Reach,
+    /// The instance with this number is gone.
+    Remove(u32),
+    /// The container is down.
+    Down,
 }
 
 /// What waits for the outcome of a call, or of a part.
@@ -244,10 +249,8 @@ pub enum Next {
     Finished(Outcome),
     /// It goes on as another point.
     Goes(Task),
-    /// It makes a call, for whose outcome the frame waits.
-    Needs(Call, Frame),
-    /// It does a part of its own, for whose outcome the frame waits.
-    Within(Task, Frame),
+    /// It makes a call or does a part of its own, for whose outcome the frame waits.
+    Needs(Task, Frame),
     /// It writes an entry, if the budget allows for one, and goes on.
     Writes(Entry, Task),
 }

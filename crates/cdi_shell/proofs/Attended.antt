@@ -3,7 +3,7 @@ use Rattle.std.proofs.Common.{ℕ, List, ap, Option}
 use Rattle.std.specs.Prelude.{Result}
 use Rattle.cdi_lines.specs.declared.fault.ServeFault.{ServeFault}
 use Rattle.cdi_lines.proofs.Mapped.{serves}
-use Rattle.cdi_shell.specs.Sessions.{Served}
+use Rattle.cdi_container.specs.Sessions.{Served}
 
 module _ {S T : Type 0} (A : S → List ℕ → List ℕ → S → Type 0) (B : T → List ℕ → List ℕ → T → Type 0) (f : S → T) (Keeps : S → Type 0)
     (keeps : (s : S) (line text : List ℕ) (t : S) → Keeps s → A s line text t → Keeps t)

@@ -1,6 +1,6 @@
 -- A table of bodies that holds these scripts, and what is the same with it as with them.
 use Rattle.std.proofs.Common.{ℕ, zero, suc, ◌≡◌, ◌+◌, ◌≤◌, ◌∙◌, ◌==◌, ◌<◌, ◌&&◌, nat_lt, nat_le, IsTrue, Bool, true, false, cond, not, ◌||◌, List, [], ◌∷◌, ◌++◌, length, refl, sym, ap, subst, Option, Some, None, Ok, is_some, arith}
-use Rattle.std.specs.Prelude.{option_and_then}
+use Rattle.std.specs.Prelude.{option_and_then, fold}
 use Rattle.std.specs.List.{list_any, position_or_len}
 use Rattle.std.specs.Borrow.{Bor}
 use Rattle.std.specs.declared.alloc.Global.{Global}
@@ -12,8 +12,8 @@ use Rattle.cdi_bodies.specs.declared.shape.Shape.{Shape}
 use Rattle.cdi_bodies.specs.declared.view.View.{View}
 use Rattle.cdi_bodies.specs.Adding.{Adds}
 use Rattle.cdi_bodies.specs.Gives.{gives, place_of, shape_at as entry_shape}
-use Rattle.cdi_plain.specs.Laws.{IsWithin}
-use Rattle.cdi_plain.specs.Registered.{legal_of}
+use Rattle.cdi_machine.specs.Laws.{IsWithin}
+use Rattle.cdi_machine.specs.Registered.{legal_of}
 use Rattle.cdi_beans.specs.WrongBodies.{shape_of as shape_named}
 use Rattle.cdi_script.specs.Follows.{Runs}
 use Rattle.cdi_script.specs.Listed.{shape_of}
@@ -21,7 +21,7 @@ use Rattle.cdi_script.specs.Next.{next_of}
 use Rattle.cdi_script.proofs.Following.{runs_by}
 use Rattle.cdi_shell.specs.declared.scripts.NamedScript.{NamedScript}
 use Rattle.cdi_shell.specs.Drive.{place_under, shape_at, shape_under, legal_by}
-use Rattle.cdi_shell.specs.Scripts.{is_named, added}
+use Rattle.cdi_shell.specs.Scripts.{is_named, added, registered}
 
 module _ {X : Type 0} {F : X → Type 0} {g : _} where
   pub record Is (e : Entry X F g) (s : NamedScript) : Type 0 where
@@ -80,15 +80,19 @@ module _ {X : Type 0} {F : X → Type 0} {g : _} where
       by (Some id) = same_shape_at es ss id h
 
   -- what a body gives is what its script does next
-  pub holds_gives : (es : List (Entry X F g)) (ss : List NamedScript) (id : ℕ) (fields : Fields) (view : View) (act : Act) → Holds es ss → gives es id fields view act → (legal_by ss).gives id fields view act
-  holds_gives [] [] id fields view act h p = absurd p
-  holds_gives [] (s ∷ ss) id fields view act h p = absurd h
-  holds_gives (e ∷ es) [] id fields view act h p = absurd h
-  holds_gives (e ∷ es) (s ∷ ss) zero fields view act h p = h.0.runs fields view act p
-  holds_gives (e ∷ es) (s ∷ ss) (suc id) fields view act h p = holds_gives es ss id fields view act h.1 p
+  pub holds_gives : (es : List (Entry X F g)) (ss : List NamedScript) (id count : ℕ) (fields : Fields) (view : View) (act : Act) → Holds es ss → gives es id fields view act → (legal_by ss).gives id count fields view act
+  holds_gives [] [] id count fields view act h p = absurd p
+  holds_gives [] (s ∷ ss) id count fields view act h p = absurd h
+  holds_gives (e ∷ es) [] id count fields view act h p = absurd h
+  holds_gives (e ∷ es) (s ∷ ss) zero count fields view act h p = h.0.runs fields view act p
+  holds_gives (e ∷ es) (s ∷ ss) (suc id) count fields view act h p = holds_gives es ss id count fields view act h.1 p
 
   pub within : (es : List (Entry X F g)) (ss : List NamedScript) → Holds es ss → IsWithin (legal_of es) (legal_by ss)
-  within es ss h = record { act = λ id fields view a p. holds_gives es ss id fields view a h p; pick = λ count entries i p. p }
+  within es ss h = record { act = λ id count fields view a p. holds_gives es ss id count fields view a h p; pick = λ candidates count i p. p }
+
+  -- if none is left, all scripts are registered
+  pub holds_all : (es : List (Entry X F g)) (found rest scripts : List NamedScript) → Holds es found → fold added found rest ≡ registered scripts → rest ≡ [] → Holds es (registered scripts)
+  holds_all es found rest scripts h is none = subst (λ (ss : List NamedScript). Holds es ss) (sym (ap (λ (t : List NamedScript). fold added found t) none) ∙ is) h
 
 zero_below : (n : ℕ) → nat_lt 0 (suc n) ≡ true
 zero_below n = grind arith

@@ -11,16 +11,19 @@ use Rattle.cdi_bodies.specs.declared.view.View.{View}
 use Rattle.cdi_beans.specs.declared.bean.Bean.{Bean}
 use Rattle.cdi_beans.specs.declared.problem.Problem.{Problem}
 use Rattle.cdi_beans.specs.declared.tables.Tables.{Tables}
-use Rattle.cdi_plain.specs.declared.task.Call.TheVariants as calls
-use Rattle.cdi_plain.specs.Laws.{IsOne}
-use Rattle.cdi_plain.specs.Runs.{Legal}
+use Rattle.cdi_beans.specs.Served.{machine_tables}
+use Rattle.cdi_machine.specs.Tables as machine
+use Rattle.cdi_machine.specs.Commands.{Command}
+use Rattle.cdi_machine.specs.Laws.{IsOne}
+use Rattle.cdi_machine.specs.Runs.{Legal}
+use Rattle.cdi_container.specs.Sessions.{AnswersLine, Served}
+use Rattle.cdi_container.specs.States.{State, Boots, before_start}
 use Rattle.cdi_script.specs.Next.{next_of}
 use Rattle.cdi_shell.specs.declared.ending.Ending.{Ending}
 use Rattle.cdi_shell.specs.declared.ending.Ending.TheVariants as endings
 use Rattle.cdi_lines.specs.declared.fault.ServeFault.{ServeFault}
 use Rattle.cdi_lines.specs.declared.fault.ServeFault.TheVariants as faults
 use Rattle.cdi_lines.specs.declared.sink.WriteFailed.{WriteFailed}
-use Rattle.cdi_shell.specs.declared.request.Request.TheVariants as requests
 use Rattle.cdi_shell.specs.declared.scripts.NamedScript.{NamedScript}
 use Rattle.cdi_shell.specs.Drive.{Readied, Streams, Writes, Refuses, Lives, Plays, DrivesReadied, Drives, legal_by, readied}
 use Rattle.cdi_lines.specs.Ends.{WritesAll}
@@ -30,15 +33,13 @@ use Rattle.cdi_lines.specs.Lines.{complete_lines, all_lines}
 use Rattle.cdi_text.specs.ReplyText.{reply_line}
 use Rattle.cdi_shell.specs.Scripts.{registered}
 use Rattle.cdi_lines.specs.Served.{Replies, Serves}
-use Rattle.cdi_shell.specs.Sessions.{AnswersLine, Served}
-use Rattle.cdi_shell.specs.States.{State, Boots, unstarted}
-use Rattle.cdi_shell.proofs.Determined.{IsFed, responds_one, replies_one, replies_halted}
+use Rattle.cdi_shell.proofs.Determined.{IsFed, answers_one, replies_one, replies_halted}
 
 -- scripts leave open neither an act nor a pick
 pub one_by : (scripts : List NamedScript) → IsOne (legal_by scripts)
 one_by scripts = record {
-  act = λ id fields view a b p q. at (slice_get scripts id) fields view a b p q;
-  pick = λ count entries i j p q. p ∙ sym q;
+  act = λ id count fields view a b p q. at (slice_get scripts id) fields view a b p q;
+  pick = λ candidates count i j p q. p ∙ sym q;
 }
   where
     at : (o : Option NamedScript) (fields : List (ℕ × _)) (view : View) (a b : Act) → MatchOption o ⊥ (λ s. a ≡ next_of s.script fields view) → MatchOption o ⊥ (λ s. b ≡ next_of s.script fields view) → a ≡ b
@@ -117,7 +118,7 @@ reach_one input _ _ _ _ (Reaches.too_long read rest byte is long) (Reaches.too_l
     record { result = refl; lines_are = ap complete_lines (sym (front_of input read rest byte is long) ∙ front_of input read' rest' byte' is' long') }
 
 -- what a container that lived as long as its input let it did
-record Whole (depth ticks : ℕ) (tables : Tables) (classes : List ℕ) (legal : Legal) (input : List ℕ) (streams : Streams) (ending : Ending) : Type 0 where
+record Whole (depth ticks : ℕ) (names : List (List ℕ)) (tables : machine.Tables) (legal : Legal) (input : List ℕ) (streams : Streams) (ending : Ending) : Type 0 where
   pub reply : Reply
   pub started : State
   pub ended : State
@@ -125,17 +126,17 @@ record Whole (depth ticks : ℕ) (tables : Tables) (classes : List ℕ) (legal :
   pub lines : List (List ℕ)
   pub out : List ℕ
   pub reaches : Reaches input result lines
-  pub boots : Boots tables legal (Unit {0}) depth ticks reply started
-  pub replies : Replies (AnswersLine tables classes legal (Unit {0})) lines started out ended
-  pub written : Appends streams.held streams.held_after (reply_line tables.names reply ++ out)
+  pub boots : Boots tables legal (Unit {0}) ticks depth reply started
+  pub replies : Replies (AnswersLine names tables legal (Unit {0})) lines started out ended
+  pub written : Appends streams.held streams.held_after (reply_line names reply ++ out)
   pub is_ending : ending ≡ after_serving result ended.halted
   pub fed : IsFed ended
 
 whole_of : (depth ticks : ℕ) (names : List (List ℕ)) (beans : List Bean) (classes : List ℕ) (legal : Legal) (input : List ℕ) (streams : Streams) (e : Ending) → IsSettled e → streams.unread ≡ Some input
-    → (l : Lives depth ticks names beans classes legal streams e) → Whole depth ticks l.tables classes legal input streams e
+    → (l : Lives depth ticks names beans classes legal streams e) → Whole depth ticks l.tables.names (machine_tables classes l.tables) legal input streams e
 whole_of depth ticks names beans classes legal input streams e settled u l = by l.result l.served l.is_ending
   where
-    to_end : (h : Serves 16777216 (AnswersLine l.tables classes legal (Unit {0})) (reply_line l.tables.names l.reply) l.started l.ended (Ok tt) streams.unread streams.unread_after streams.held streams.held_after) → e ≡ after_serving {T = Unit {0}} (Ok tt) l.ended.halted → Whole depth ticks l.tables classes legal input streams e
+    to_end : (h : Serves 16777216 (AnswersLine l.tables.names (machine_tables classes l.tables) legal (Unit {0})) (reply_line l.tables.names l.reply) l.started l.ended (Ok tt) streams.unread streams.unread_after streams.held streams.held_after) → e ≡ after_serving {T = Unit {0}} (Ok tt) l.ended.halted → Whole depth ticks l.tables.names (machine_tables classes l.tables) legal input streams e
     to_end h is =
         let (rest, split, none) = consumed_of input streams.unread streams.unread_after h.read u h.consumed.0 in
         let all : input ≡ h.read = split ∙ ap (λ (x : List ℕ). h.read ++ x) (none h.consumed.1) ∙ append-nil h.read in
@@ -149,13 +150,13 @@ whole_of depth ticks names beans classes legal input streams e settled u l = by 
           out = h.stands.0;
           reaches = Reaches.to_end (subst (λ (b : List ℕ). length b ≤ 16777216) (sym all) few);
           boots = l.boots;
-          replies = subst (λ (b : List ℕ). Replies (AnswersLine l.tables classes legal (Unit {0})) (all_lines b) l.started h.stands.0 l.ended) (sym all) h.stands.1;
+          replies = subst (λ (b : List ℕ). Replies (AnswersLine l.tables.names (machine_tables classes l.tables) legal (Unit {0})) (all_lines b) l.started h.stands.0 l.ended) (sym all) h.stands.1;
           written = subst (λ (b : List ℕ). Appends streams.held streams.held_after b) h.stands.2 h.written;
           is_ending = is;
           fed = λ q. subst IsSettled (is ∙ ap (λ (o : Option Cause). after_serving {T = Unit {0}} (Ok tt) o) q) settled;
         }
 
-    too_long : (h : Serves 16777216 (AnswersLine l.tables classes legal (Unit {0})) (reply_line l.tables.names l.reply) l.started l.ended (Err faults.TooLong) streams.unread streams.unread_after streams.held streams.held_after) → e ≡ after_serving {T = Unit {0}} (Err faults.TooLong) l.ended.halted → Whole depth ticks l.tables classes legal input streams e
+    too_long : (h : Serves 16777216 (AnswersLine l.tables.names (machine_tables classes l.tables) legal (Unit {0})) (reply_line l.tables.names l.reply) l.started l.ended (Err faults.TooLong) streams.unread streams.unread_after streams.held streams.held_after) → e ≡ after_serving {T = Unit {0}} (Err faults.TooLong) l.ended.halted → Whole depth ticks l.tables.names (machine_tables classes l.tables) legal input streams e
     too_long h is =
         let (byte, consumed) = h.consumed in
         let (rest, split, none) = consumed_of input streams.unread streams.unread_after (h.read ++ byte ∷ []) u consumed in
@@ -174,29 +175,29 @@ whole_of depth ticks names beans classes legal input streams e settled u l = by 
           fed = λ q. subst IsSettled (is ∙ ap (λ (o : Option Cause). after_serving {T = Unit {0}} (Err faults.TooLong) o) q) settled;
         }
 
-    served : (r : Result (Unit {0}) ServeFault) → Serves 16777216 (AnswersLine l.tables classes legal (Unit {0})) (reply_line l.tables.names l.reply) l.started l.ended r streams.unread streams.unread_after streams.held streams.held_after → e ≡ after_serving r l.ended.halted → Whole depth ticks l.tables classes legal input streams e
+    served : (r : Result (Unit {0}) ServeFault) → Serves 16777216 (AnswersLine l.tables.names (machine_tables classes l.tables) legal (Unit {0})) (reply_line l.tables.names l.reply) l.started l.ended r streams.unread streams.unread_after streams.held streams.held_after → e ≡ after_serving r l.ended.halted → Whole depth ticks l.tables.names (machine_tables classes l.tables) legal input streams e
     served (Ok tt) h is = to_end h is
     served (Err faults.TooLong) h is = too_long h is
     served (Err faults.Read) h is = absurd (subst IsSettled is settled)
     served (Err faults.Write) h is = absurd (subst IsSettled is settled)
     served (Err faults.Memory) h is = absurd (subst IsSettled is settled)
 
-    by : (r : Result (Unit {0}) ServeFault) → Served 16777216 (AnswersLine l.tables classes legal (Unit {0})) (reply_line l.tables.names l.reply) l.started l.ended streams.unread streams.unread_after streams.held streams.held_after r → e ≡ after_serving r l.ended.halted → Whole depth ticks l.tables classes legal input streams e
+    by : (r : Result (Unit {0}) ServeFault) → Served 16777216 (AnswersLine l.tables.names (machine_tables classes l.tables) legal (Unit {0})) (reply_line l.tables.names l.reply) l.started l.ended streams.unread streams.unread_after streams.held streams.held_after r → e ≡ after_serving r l.ended.halted → Whole depth ticks l.tables.names (machine_tables classes l.tables) legal input streams e
     by _ (Served.silent same unread held) is = absurd (subst IsSettled is settled)
     by r (Served.serves h) is = served r h is
 
-whole_one : (depth ticks : ℕ) (tables : Tables) (classes : List ℕ) (legal : Legal) → IsOne legal → (input held : List ℕ) (s s' : Streams) (e e' : Ending) → s.held ≡ Some held → s'.held ≡ Some held
-    → Whole depth ticks tables classes legal input s e → Whole depth ticks tables classes legal input s' e' → SameOutput s s' e e'
-whole_one depth ticks tables classes legal one input held s s' e e' h h' w w' =
+whole_one : (depth ticks : ℕ) (names : List (List ℕ)) (tables : machine.Tables) (legal : Legal) → IsOne legal → (input held : List ℕ) (s s' : Streams) (e e' : Ending) → s.held ≡ Some held → s'.held ≡ Some held
+    → Whole depth ticks names tables legal input s e → Whole depth ticks names tables legal input s' e' → SameOutput s s' e e'
+whole_one depth ticks names tables legal one input held s s' e e' h h' w w' =
     let reach = reach_one input w.result w'.result w.lines w'.lines w.reaches w'.reaches in
-    let boot = responds_one tables classes legal one (requests.Runs calls.Boot) (unstarted tables depth ticks) w.reply w'.reply w.started w'.started w.boots w'.boots
-    (λ q. w.fed (replies_halted tables classes legal one w.lines w.started w.out w.ended w.replies q)) (λ q. w'.fed (replies_halted tables classes legal one w'.lines w'.started w'.out w'.ended w'.replies q)) in
-    let there = subst (λ (m : State). Replies (AnswersLine tables classes legal (Unit {0})) w.lines m w'.out w'.ended) (sym boot.state)
-    (subst (λ (ls : List (List ℕ)). Replies (AnswersLine tables classes legal (Unit {0})) ls w'.started w'.out w'.ended) (sym reach.lines_are) w'.replies) in
-    let same = replies_one tables classes legal one w.lines w.started w.out w'.out w.ended w'.ended w.replies there w.fed w'.fed in
-    let bytes : reply_line tables.names w.reply ++ w.out ≡ reply_line tables.names w'.reply ++ w'.out = ap (λ (r : Reply). reply_line tables.names r ++ w.out) boot.reply ∙ ap (λ (x : List ℕ). reply_line tables.names w'.reply ++ x) same.text in
+    let boot = answers_one names tables legal one Command.Boot (before_start ticks depth) w.reply w'.reply w.started w'.started w.boots w'.boots
+    (λ q. w.fed (replies_halted names tables legal one w.lines w.started w.out w.ended w.replies q)) (λ q. w'.fed (replies_halted names tables legal one w'.lines w'.started w'.out w'.ended w'.replies q)) in
+    let there = subst (λ (m : State). Replies (AnswersLine names tables legal (Unit {0})) w.lines m w'.out w'.ended) (sym boot.state)
+    (subst (λ (ls : List (List ℕ)). Replies (AnswersLine names tables legal (Unit {0})) ls w'.started w'.out w'.ended) (sym reach.lines_are) w'.replies) in
+    let same = replies_one names tables legal one w.lines w.started w.out w'.out w.ended w'.ended w.replies there w.fed w'.fed in
+    let bytes : reply_line names w.reply ++ w.out ≡ reply_line names w'.reply ++ w'.out = ap (λ (r : Reply). reply_line names r ++ w.out) boot.reply ∙ ap (λ (x : List ℕ). reply_line names w'.reply ++ x) same.text in
     record {
-      held_after = appended_one held s.held s.held_after s'.held_after _ _ h bytes w.written (subst (λ (x : Option (List ℕ)). Appends x s'.held_after (reply_line tables.names w'.reply ++ w'.out)) (h' ∙ sym h) w'.written);
+      held_after = appended_one held s.held s.held_after s'.held_after _ _ h bytes w.written (subst (λ (x : Option (List ℕ)). Appends x s'.held_after (reply_line names w'.reply ++ w'.out)) (h' ∙ sym h) w'.written);
       ending = w.is_ending ∙ ap (λ (r : Result (Unit {0}) ServeFault). after_serving r w.ended.halted) reach.result ∙ ap (λ (t : State). after_serving w'.result t.halted) same.state ∙ sym w'.is_ending;
     }
 
@@ -206,8 +207,8 @@ module _ (depth ticks : ℕ) (input held : List ℕ) (s s' : Streams) (e e' : En
   lives_one names beans classes legal one l l' =
       let here : l'.tables ≡ l.tables = tables_are l'.tables l.tables (l'.is_names ∙ sym l.is_names) (l'.is_beans ∙ sym l.is_beans) in
       let w = whole_of depth ticks names beans classes legal input s e settled u l in
-      let w' = subst (λ (t : Tables). Whole depth ticks t classes legal input s' e') here (whole_of depth ticks names beans classes legal input s' e' settled' u' l') in
-      whole_one depth ticks l.tables classes legal one input held s s' e e' h h' w w'
+      let w' = subst (λ (t : Tables). Whole depth ticks t.names (machine_tables classes t) legal input s' e') here (whole_of depth ticks names beans classes legal input s' e' settled' u' l') in
+      whole_one depth ticks l.tables.names (machine_tables classes l.tables) legal one input held s s' e e' h h' w w'
 
   plays_one : (names : List (List ℕ)) (problems : List Problem) (beans : List Bean) (classes : List ℕ) (legal : Legal) → IsOne legal
       → Plays depth ticks names problems beans classes legal s e → Plays depth ticks names problems beans classes legal s' e' → SameOutput s s' e e'

@@ -1,52 +1,111 @@
--- A container that is served plays its deployment.
-use Rattle.std.proofs.Common.{ℕ, ◌∙◌, List, refl, Option, map}
-use Rattle.std.specs.Prelude.{Result}
+-- A deployment that is accepted is started and served, and another is refused: so it plays.
+use Rattle.std.proofs.Common.{ℕ, ◌≡◌, ◌∙◌, List, map, ap, subst, refl, Option, Some, None}
+use Rattle.std.specs.Prelude.{Result, Ok, Err}
+use Rattle.cdi_base.specs.declared.reply.Cause.{Cause}
 use Rattle.cdi_bodies.specs.declared.entry.Entry.{Entry}
 use Rattle.cdi_deploy.specs.declared.deployment.Deployment.{Deployment}
+use Rattle.cdi_beans.specs.declared.bean.Bean.{Bean}
+use Rattle.cdi_beans.specs.declared.problem.Problem.{Problem}
 use Rattle.cdi_beans.specs.Build.{beans_of}
 use Rattle.cdi_beans.specs.Check.{problems_of}
-use Rattle.cdi_plain.specs.Registered.{legal_of}
-use Rattle.cdi_shell.specs.declared.container.Container.{Container}
-use Rattle.cdi_shell.specs.declared.ending.Ending.{Ending}
+use Rattle.cdi_beans.specs.Served.{machine_tables}
+use Rattle.cdi_machine.specs.Tables.{Tables}
+use Rattle.cdi_machine.specs.Runs.{Legal}
+use Rattle.cdi_machine.specs.Laws.{IsWithin}
+use Rattle.cdi_machine.specs.Registered.{legal_of}
+use Rattle.cdi_container.specs.declared.acceptance.Accepted.{Accepted}
+use Rattle.cdi_container.specs.declared.acceptance.Unaccepted.{Unaccepted}
+use Rattle.cdi_container.specs.declared.acceptance.Unaccepted.TheVariants as errors
+use Rattle.cdi_container.specs.Accepted.{IsAccepted, IsUnaccepted}
+use Rattle.cdi_container.specs.Sessions.{AnswersLine, AnswersSo, Served, ServedBy}
+use Rattle.cdi_container.specs.Standing.{Standing, IsStarted, names_of, tables_of, state_of}
+use Rattle.cdi_container.specs.States.{State}
 use Rattle.cdi_lines.specs.declared.fault.ServeFault.{ServeFault}
-use Rattle.cdi_shell.specs.Containers.{state_of, legal_in, SameParts, IsBooted}
-use Rattle.cdi_shell.specs.Drive.{Streams, Plays, IsServed}
 use Rattle.cdi_text.specs.ReplyText.{reply_line}
-use Rattle.cdi_shell.specs.Sessions.{AnswersLine, Answers, Served, ServedBy}
-use Rattle.cdi_shell.specs.States.{State}
+use Rattle.cdi_shell.specs.declared.ending.Ending.{Ending}
+use Rattle.cdi_shell.specs.Drive.{Streams, Lives, Plays, RefusesOr, RefusesUnaccepted, Refuses}
+use Rattle.cdi_shell.specs.Endings.{after_serving, outcome_of}
+use Rattle.cdi_shell.specs.RefusalText.{problem_lines}
 use Rattle.cdi_shell.proofs.Attended.{attended}
+use Rattle.cdi_shell.proofs.Wider.{within_both, line_more}
 
-module _ {X : Type 0} {F : X → Type 0} {g : _} where
-  same_parts : (a b c : Container X F g) → SameParts a b → SameParts b c → SameParts a c
-  same_parts a b c p q = record { tables = q.tables ∙ p.tables; classes = q.classes ∙ p.classes; bodies = q.bodies ∙ p.bodies; booted = q.booted ∙ p.booted }
+module _ {Driving : Type 0} (legal : Driving → Legal) (first : Legal) (names : List (List ℕ)) (tables : Tables) where
+  abbrev So : Standing Driving → List ℕ → List ℕ → Standing Driving → Type 0
+  So c line text d = AnswersSo (legal c.runtime.driver) (legal d.runtime.driver) c line text d
 
-  module _ (c : Container X F g) where
-    -- what the container answers at the start, in the words of the machine alone
-    abbrev Line : State → List ℕ → List ℕ → State → Type 0
-    Line = AnswersLine c.tables c.classes (legal_in c) (Unit {0})
+  -- the names and the tables are those of the start, and nothing has become legal since
+  record Keeps (c : Standing Driving) : Type 0 where
+    is_names : names_of c ≡ names
+    is_tables : tables_of c ≡ tables
+    within : IsWithin (legal c.runtime.driver) first
 
-    keeps : (s : Container X F g) (line text : List ℕ) (t : Container X F g) → SameParts c s → Answers s line text t → SameParts c t
-    keeps s line text t k a = same_parts c s t k a.same
+  -- what the container answers, under what was legal at the start
+  abbrev Line : State → List ℕ → List ℕ → State → Type 0
+  Line = AnswersLine names tables first (Unit {0})
 
-    maps : (s : Container X F g) (line text : List ℕ) (t : Container X F g) → SameParts c s → Answers s line text t → Line (state_of s) line text (state_of t)
-    maps s line text t k a = rw (k.tables, k.classes, k.bodies) at a.answers
+  keeps : (s : Standing Driving) (line text : List ℕ) (t : Standing Driving) → Keeps s → So s line text t → Keeps t
+  keeps s line text t k a = record {
+    is_names = a.same.parts.names ∙ k.is_names;
+    is_tables = a.same.parts.tables ∙ k.is_tables;
+    within = within_both (legal t.runtime.driver) (legal s.runtime.driver) first a.same.parts.legal k.within;
+  }
 
-    line_served : (d : Container X F g) (result : Result (Unit {0}) ServeFault) (u v h k : Option (List ℕ)) → ServedBy 16777216 c d u v h k result → Served 16777216 Line (reply_line c.tables.names c.booted) (state_of c) (state_of d) u v h k result
-    line_served d result u v h k s = attended Answers Line state_of (SameParts c) keeps maps 16777216 (reply_line c.tables.names c.booted) c d u v h k (record { tables = refl; classes = refl; bodies = refl; booted = refl }) result s
+  maps : (s : Standing Driving) (line text : List ℕ) (t : Standing Driving) → Keeps s → So s line text t → Line (state_of s) line text (state_of t)
+  maps s line text t k a =
+      let before = legal s.runtime.driver in
+      let named = subst (λ (ns : List (List ℕ)). AnswersLine ns (tables_of s) before (Unit {0}) (state_of s) line text (state_of t)) k.is_names a.answers in
+      let there = subst (λ (ts : Tables). AnswersLine names ts before (Unit {0}) (state_of s) line text (state_of t)) k.is_tables named in
+      line_more names tables before first k.within (state_of s) line text (state_of t) there
 
-  pub plays : (deployment : Deployment) (entries : List (Entry X F g)) (depth ticks : ℕ) (c : Container X F g) (streams : Streams) (ending : Ending) → IsBooted deployment entries depth ticks c → IsServed c streams ending
-      → Plays depth ticks deployment.names (problems_of deployment entries) (beans_of deployment.classes entries) (map (λ class. class.name) deployment.classes) (legal_of entries) streams ending
-  plays deployment entries depth ticks c streams ending b s =
-      let line = line_served c s.after s.result streams.unread streams.unread_after streams.held streams.held_after s.served in
-      Plays.runs b.accepted (record {
-        tables = c.tables;
-        is_names = b.names;
-        is_beans = b.beans;
+-- the fault that a run ended with is that of serving
+outcome_after : (r : Result (Unit {0}) ServeFault) (halted : Option Cause) → outcome_of (after_serving r halted) ≡ r
+outcome_after (Ok tt) None = refl
+outcome_after (Ok tt) (Some cause) = refl
+outcome_after (Err fault) halted = refl
+
+pub outcome_is : (ending : Ending) (r : Result (Unit {0}) ServeFault) (halted : Option Cause) → ending ≡ after_serving r halted → outcome_of ending ≡ r
+outcome_is ending r halted is = ap outcome_of is ∙ outcome_after r halted
+
+module _ {Driving : Type 0} (legal : Driving → Legal) (first : Legal) (accepted : Accepted) (depth ticks : ℕ) (c d : Standing Driving) (streams : Streams) where
+  pub lives : (result : Result (Unit {0}) ServeFault) (halted : Option Cause) (ending : Ending) → IsStarted first (legal c.runtime.driver) accepted ticks depth c
+      → ServedBy 16777216 legal c d streams.unread streams.unread_after streams.held streams.held_after result
+      → halted ≡ d.halted → ending ≡ after_serving result halted
+      → Lives depth ticks accepted.tables.names accepted.tables.beans accepted.classes first streams ending
+  lives result halted ending b s told is =
+      let names = accepted.tables.names in
+      let tables = machine_tables accepted.classes accepted.tables in
+      let kept : Keeps legal first names tables c = record { is_names = b.names; is_tables = b.tables; within = b.legal } in
+      let lines = attended (So legal first names tables) (Line legal first names tables) state_of (Keeps legal first names tables) (keeps legal first names tables) (maps legal first names tables)
+      16777216 (reply_line (names_of c) c.booted) c d streams.unread streams.unread_after streams.held streams.held_after kept result s in
+      record {
+        tables = accepted.tables;
+        is_names = refl;
+        is_beans = refl;
         reply = c.booted;
         started = state_of c;
-        ended = state_of s.after;
-        result = s.result;
-        boots = rw b.bodies at b.starts;
-        served = rw (b.bodies, b.classes) at line;
-        is_ending = s.is_ending;
-      })
+        ended = state_of d;
+        result = result;
+        boots = b.boots;
+        served = subst (λ (ns : List (List ℕ)). Served 16777216 (AnswersLine names tables first (Unit {0})) (reply_line ns c.booted) (state_of c) (state_of d)
+            streams.unread streams.unread_after streams.held streams.held_after result) b.names lines;
+        is_ending = is ∙ ap (after_serving result) told;
+      }
+
+module _ {X : Type 0} {F : X → Type 0} {g : _} (deployment : Deployment) (entries : List (Entry X F g)) (depth ticks : ℕ) (streams : Streams) (ending : Ending) where
+  abbrev PlaysSo : Type 0
+  PlaysSo =
+      Plays depth ticks deployment.names (problems_of deployment entries) (beans_of deployment.classes entries) (map (λ class. class.name) deployment.classes) (legal_of entries) streams ending
+
+  pub plays : (accepted : Accepted) → IsAccepted deployment entries accepted
+      → Lives depth ticks accepted.tables.names accepted.tables.beans accepted.classes (legal_of entries) streams ending → PlaysSo
+  plays accepted a l =
+      let named = subst (λ (ns : List (List ℕ)). Lives depth ticks ns accepted.tables.beans accepted.classes (legal_of entries) streams ending) a.names l in
+      let built = subst (λ (bs : List Bean). Lives depth ticks deployment.names bs accepted.classes (legal_of entries) streams ending) a.beans named in
+      Plays.runs a.faultless (subst (λ (cs : List ℕ). Lives depth ticks deployment.names (beans_of deployment.classes entries) cs (legal_of entries) streams ending) a.classes built)
+
+  pub refused : (u : Unaccepted) → IsUnaccepted deployment entries u → streams.unread_after ≡ streams.unread → RefusesUnaccepted u streams.held streams.held_after ending → PlaysSo
+  refused (errors.Problems names problems) (named, are, some) unread (RefusesOr.starves held is) = Plays.starves (record { unread = unread; held = held; is_ending = is })
+  refused (errors.Problems names problems) (named, are, some) unread (RefusesOr.refuses w) =
+      let told = subst (λ (ns : List (List ℕ)). Refuses (problem_lines ns problems) streams.held streams.held_after ending) named w in
+      Plays.refuses (λ none. some (are ∙ none)) (record { unread = unread; refuses = subst (λ (ps : List Problem). Refuses (problem_lines deployment.names ps) streams.held streams.held_after ending) are told })
+  refused errors.Memory told unread (held, is) = Plays.starves (record { unread = unread; held = held; is_ending = is })

@@ -1,7 +1,6 @@
 -- Bodies that are scripts play what the scripts do.
 use Rattle.std.proofs.Common.{ℕ, ◌≡◌, ◌∙◌, ◌++◌, ◌∷◌, [], List, Bool, cond, refl, ap, subst, Option, Some, None, map, is_some}
 use Rattle.std.specs.Prelude.{filter}
-use Rattle.cdi_base.specs.declared.reply.Reply.{Reply}
 use Rattle.cdi_bodies.specs.declared.entry.Entry.{Entry}
 use Rattle.cdi_bodies.specs.declared.shape.Shape.{Shape}
 use Rattle.cdi_bodies.specs.Gives.{place_of}
@@ -15,33 +14,24 @@ use Rattle.cdi_beans.specs.declared.bean.Method.{Method}
 use Rattle.cdi_beans.specs.declared.problem.Problem.{Problem}
 use Rattle.cdi_beans.specs.declared.problem.ProblemKind.{ProblemKind}
 use Rattle.cdi_beans.specs.declared.problem.ProblemKind.TheVariants as kinds
-use Rattle.cdi_beans.specs.declared.tables.Tables.{Tables}
-use Rattle.cdi_plain.specs.declared.task.Call.{Call}
-use Rattle.cdi_plain.specs.declared.task.Call.TheVariants as calls
-use Rattle.cdi_plain.specs.declared.task.Outcome.{Outcome}
 use Rattle.cdi_beans.specs.Build.{method_before, methods_of, bean_before, beans_in, beans_of}
 use Rattle.cdi_beans.specs.Check.{problems_at, too_many, or_else, problems_with, problems_of}
 use Rattle.cdi_beans.specs.Duplicates.{duplicates}
-use Rattle.cdi_plain.specs.Laws.{IsWithin}
-use Rattle.cdi_plain.specs.Registered.{legal_of}
-use Rattle.cdi_plain.specs.Runs.{Legal}
-use Rattle.cdi_plain.specs.World.{World}
+use Rattle.cdi_beans.specs.Served.{machine_tables}
+use Rattle.cdi_machine.specs.Commands.{Command}
+use Rattle.cdi_machine.specs.Laws.{IsWithin}
+use Rattle.cdi_machine.specs.Registered.{legal_of}
+use Rattle.cdi_machine.specs.Runs.{Legal}
+use Rattle.cdi_container.specs.Sessions.{AnswersLine}
+use Rattle.cdi_container.specs.States.{before_start}
 use Rattle.cdi_beans.specs.WrongBodies.{shape_of, is_wrong, problem_at, has_wrong_body, wrong_in, wrong_of_kind, wrong_with}
-use Rattle.cdi_plain.proofs.Wider.{wider}
-use Rattle.cdi_text.specs.declared.command.BadLine.{BadLine}
-use Rattle.cdi_base.specs.declared.command.Command.{Command}
-use Rattle.std.specs.Prelude.{Result, Ok, Err}
 use Rattle.cdi_shell.specs.declared.ending.Ending.{Ending}
-use Rattle.cdi_shell.specs.declared.request.Request.{Request}
-use Rattle.cdi_shell.specs.declared.request.Request.TheVariants as requests
 use Rattle.cdi_shell.specs.declared.scripts.NamedScript.{NamedScript}
-use Rattle.cdi_text.specs.Command.{command_in}
 use Rattle.cdi_shell.specs.Drive.{Streams, Lives, Plays, PlaysScripts, place_under, shape_under, legal_by}
 use Rattle.cdi_text.specs.ReplyText.{reply_line}
-use Rattle.cdi_shell.specs.Sessions.{AnswersRead, AnswersLine}
-use Rattle.cdi_shell.specs.States.{State, asked, Ends, Responds, unstarted}
 use Rattle.cdi_shell.proofs.Holding.{Holds, same_place, same_shape, within}
 use Rattle.cdi_shell.proofs.Attended.{attended}
+use Rattle.cdi_shell.proofs.Wider.{answers_more, line_more}
 
 -- ---- tables and problems by what is registered under each name
 
@@ -83,24 +73,10 @@ module _ (f h : ℕ → Option Shape) (same : (name : ℕ) → f name ≡ h name
 
 -- ---- what is legal for the bodies is legal for their scripts
 
-module _ (tables : Tables) (classes : List ℕ) (small large : Legal) (more : IsWithin small large) where
-  ended : (call : Call) (w : World) (o : Outcome) (v : World) → Ends tables small (Unit {0}) call w o v → Ends tables large (Unit {0}) call w o v
-  ended call w o v (Ends.ends r) = Ends.ends (wider tables small large more ⊥ ⊥ (λ x. x) r)
-  ended call w o v (Ends.starves s r) = Ends.starves s (wider tables small large more (Unit {0}) (Unit {0}) (λ x. x) r)
-
-  responds : (request : Request) (s : State) (reply : Reply) (t : State) → Responds tables small (Unit {0}) request s reply t → Responds tables large (Unit {0}) request s reply t
-  responds (requests.Refused refusal) s reply t h = h
-  responds (requests.Runs call) s reply t (o, e, stays, is) = (o, ended call _ o t.world e, stays, is)
-
-  read : (c : Result Command BadLine) (s : State) (reply : Reply) (t : State) → AnswersRead tables classes small (Unit {0}) c s reply t → AnswersRead tables classes large (Unit {0}) c s reply t
-  read (Ok command) s reply t h = responds (asked tables classes s command) s reply t h
-  read (Err bad) s reply t h = h
-
-  lines : (s : State) (line text : List ℕ) (t : State) → Unit {0} → AnswersLine tables classes small (Unit {0}) s line text t → AnswersLine tables classes large (Unit {0}) s line text t
-  lines s line text t u (reply, h, is) = (reply, read (command_in line) s reply t h, is)
-
 lives : (depth ticks : ℕ) (names : List (List ℕ)) (beans : List Bean) (classes : List ℕ) (small large : Legal) (streams : Streams) (e : Ending) → IsWithin small large → Lives depth ticks names beans classes small streams e → Lives depth ticks names beans classes large streams e
 lives depth ticks names beans classes small large streams e more l =
+    let names = l.tables.names in
+    let tables = machine_tables classes l.tables in
     record {
       tables = l.tables;
       is_names = l.is_names;
@@ -109,9 +85,9 @@ lives depth ticks names beans classes small large streams e more l =
       started = l.started;
       ended = l.ended;
       result = l.result;
-      boots = responds l.tables classes small large more (requests.Runs calls.Boot) (unstarted l.tables depth ticks) l.reply l.started l.boots;
-      served = attended (AnswersLine l.tables classes small (Unit {0})) (AnswersLine l.tables classes large (Unit {0})) (λ s. s) (λ s. Unit {0}) (λ s line text t k h. tt) (lines l.tables classes small large more)
-          16777216 (reply_line l.tables.names l.reply) l.started l.ended streams.unread streams.unread_after streams.held streams.held_after tt l.result l.served;
+      boots = answers_more names tables small large more (before_start ticks depth) Command.Boot l.reply l.started l.boots;
+      served = attended (AnswersLine names tables small (Unit {0})) (AnswersLine names tables large (Unit {0})) (λ s. s) (λ s. Unit {0}) (λ s line text t k h. tt) (λ s line text t k h. line_more names tables small large more s line text t h)
+          16777216 (reply_line names l.reply) l.started l.ended streams.unread streams.unread_after streams.held streams.held_after tt l.result l.served;
       is_ending = l.is_ending;
     }
 

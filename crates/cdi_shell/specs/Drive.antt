@@ -10,10 +10,14 @@ use Rattle.cdi_beans.specs.declared.problem.Problem.{Problem}
 use Rattle.cdi_beans.specs.declared.tables.Tables.{Tables}
 use Rattle.cdi_beans.specs.Build.{beans_in}
 use Rattle.cdi_beans.specs.Check.{problems_with}
-use Rattle.cdi_plain.specs.Runs.{Legal}
+use Rattle.cdi_beans.specs.Served.{machine_tables}
+use Rattle.cdi_machine.specs.Runs.{Legal}
 use Rattle.cdi_script.specs.Listed.{shape_of}
 use Rattle.cdi_script.specs.Next.{next_of}
-use Rattle.cdi_shell.specs.declared.container.Container.{Container}
+use Rattle.cdi_container.specs.declared.acceptance.Unaccepted.{Unaccepted}
+use Rattle.cdi_container.specs.declared.acceptance.Unaccepted.TheVariants as errors
+use Rattle.cdi_container.specs.Sessions.{AnswersLine, Served}
+use Rattle.cdi_container.specs.States.{State, Boots}
 use Rattle.cdi_shell.specs.declared.ending.Ending.{Ending}
 use Rattle.cdi_lines.specs.declared.fault.ServeFault.{ServeFault}
 use Rattle.cdi_lines.specs.declared.sink.WriteFailed.{WriteFailed}
@@ -24,8 +28,6 @@ use Rattle.cdi_lines.specs.Ends.{WritesAll}
 use Rattle.cdi_shell.specs.RefusalText.{fault_line, script_line, problem_lines}
 use Rattle.cdi_text.specs.ReplyText.{reply_line}
 use Rattle.cdi_shell.specs.Scripts.{is_named, registered, scripts_in}
-use Rattle.cdi_shell.specs.Sessions.{AnswersLine, Served, ServedBy}
-use Rattle.cdi_shell.specs.States.{State, Boots}
 
 -- a fault, as the line that tells it
 abbrev pub or_line : {X F : Type 0} → (F → List ℕ) → Result X F → Result X (List ℕ)
@@ -63,8 +65,8 @@ shape_under scripts name = option_and_then (shape_at scripts) (place_under scrip
 abbrev pub legal_by : List NamedScript → Legal
 legal_by scripts =
     record {
-      gives = λ id fields view act. MatchOption (slice_get scripts id) ⊥ (λ s. act ≡ next_of s.script fields view);
-      picks = λ count entries choice. choice ≡ 0;
+      gives = λ id count fields view act. MatchOption (slice_get scripts id) ⊥ (λ s. act ≡ next_of s.script fields view);
+      picks = λ candidates count choice. choice ≡ 0;
     }
 
 -- ---- the run
@@ -103,8 +105,10 @@ pub record Lives (depth ticks : ℕ) (names : List (List ℕ)) (beans : List Bea
   pub started : State
   pub ended : State
   pub result : Result (Unit {0}) ServeFault
-  pub boots : Boots tables legal (Unit {0}) depth ticks reply started
-  pub served : Served 16777216 (AnswersLine tables classes legal (Unit {0})) (reply_line tables.names reply) started ended streams.unread streams.unread_after streams.held streams.held_after result
+  pub boots : Boots (machine_tables classes tables) legal (Unit {0}) ticks depth reply started
+  pub served : Served 16777216 (AnswersLine tables.names (machine_tables classes tables) legal (Unit {0}))
+      (reply_line tables.names reply) started ended
+      streams.unread streams.unread_after streams.held streams.held_after result
   pub is_ending : ending ≡ after_serving result ended.halted
 
 -- a deployment is run: its problems are written, or, if it has none, its container lives
@@ -135,9 +139,8 @@ pub data RefusesOr (lines : List ℕ) (held held_after : Option (List ℕ)) (end
   starves : held_after ≡ held → ending ≡ starved → RefusesOr lines held held_after ending
   refuses : Refuses lines held held_after ending → RefusesOr lines held held_after ending
 
--- a container is served to an end
-pub record IsServed {X : Type 0} {F : X → Type 0} {g : _} (c : Container X F g) (streams : Streams) (ending : Ending) : Type 0 where
-  pub after : Container X F g
-  pub result : Result (Unit {0}) ServeFault
-  pub served : ServedBy 16777216 c after streams.unread streams.unread_after streams.held streams.held_after result
-  pub is_ending : ending ≡ after_serving result after.halted
+-- the problems of a deployment that isn't accepted are written, or memory ran out
+abbrev pub RefusesUnaccepted : Unaccepted → Option (List ℕ) → Option (List ℕ) → Ending → Type 0
+RefusesUnaccepted (errors.Problems names problems) held held_after ending =
+    RefusesOr (problem_lines names problems) held held_after ending
+RefusesUnaccepted errors.Memory held held_after ending = (held_after ≡ held) × (ending ≡ starved)

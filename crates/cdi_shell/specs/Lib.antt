@@ -1,13 +1,7 @@
-pub mod Containers
 pub mod Drive
 pub mod Endings
-pub mod Known
 pub mod Laws
-pub mod Missing
 pub mod Prepared
 pub mod RefusalText
-pub mod Requests
 pub mod Scripts
-pub mod Sessions
-pub mod States
 pub mod WorkedLines

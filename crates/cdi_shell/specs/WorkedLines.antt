@@ -1,21 +1,26 @@
 -- Worked lines: what is read and written for the counter.
-use Rattle.std.specs.Prelude.{ℕ, pos, ◌≡◌, List, [], ◌∷◌, codes, Some, None}
+use Rattle.std.specs.Prelude.{ℕ, pos, ◌≡◌, List, [], ◌∷◌, codes, Option, Some, None}
+use Rattle.std.proofs.Common.{lit≤}
 use Rattle.cdi_base.specs.declared.place.Place.TheVariants as places
 use Rattle.cdi_base.specs.declared.reply.Cause.TheVariants as causes
+use Rattle.cdi_base.specs.declared.reply.Refusal.{Refusal}
 use Rattle.cdi_base.specs.declared.reply.Refusal.TheVariants as refusals
 use Rattle.cdi_base.specs.declared.reply.Reply.TheVariants as replies
+use Rattle.cdi_base.specs.declared.value.Value.{Value}
 use Rattle.cdi_base.specs.declared.value.Value.TheVariants as values
 use Rattle.cdi_deploy.specs.declared.fault.ReadFault.TheVariants as faults
 use Rattle.cdi_beans.specs.declared.problem.ProblemKind.TheVariants as kinds
-use Rattle.cdi_plain.specs.declared.task.Call.TheVariants as calls
+use Rattle.cdi_beans.specs.declared.bean.Bean.{Bean}
+use Rattle.cdi_beans.specs.declared.tables.Tables.{Tables}
+use Rattle.cdi_beans.specs.Served.{machine_tables}
 use Rattle.cdi_deploy.specs.declared.deployment.Scope.TheVariants as scopes
-use Rattle.cdi_plain.specs.Worked.{K, n, up, tables_of}
+use Rattle.cdi_machine.specs.Commands.{Command}
+use Rattle.cdi_machine.specs.Container.{before_commands, refusal}
+use Rattle.cdi_engine.specs.Asked.{of_type}
 use Rattle.cdi_script.specs.declared.fault.ScriptFault.TheVariants as script_faults
-use Rattle.cdi_shell.specs.declared.request.Request.TheVariants as requests
 use Rattle.cdi_lines.specs.Lines.{complete_lines, all_lines}
 use Rattle.cdi_shell.specs.RefusalText.{fault_line, script_line, problem_line}
 use Rattle.cdi_text.specs.ReplyText.{reply_line}
-use Rattle.cdi_shell.specs.Requests.{called}
 
 -- the names of the counter at 0, 1 and 2
 abbrev pub names : List (List ℕ)
@@ -49,14 +54,43 @@ pub record Split : Type 0 where
   pub complete : complete_lines (codes "a\nb") ≡ codes "a" ∷ []
   pub empty : all_lines (codes "\n\n") ≡ [] ∷ [] ∷ []
 
--- what a call of the counter asks, and why it is refused: an unknown name before an unknown method, and that before a wrong count
+-- ---- a counter, whose class, field and method have these numbers
+
+abbrev pub K : ℕ
+K = 19
+
+abbrev pub n : ℕ
+n = 20
+
+abbrev pub up : ℕ
+up = 21
+
+abbrev pub counter : Bean
+counter =
+    record {
+      class = K;
+      scope = scopes.ApplicationScoped;
+      fields = record { name = n; value = values.Int (pos 0) } ∷ [];
+      methods = record { name = up; place = places.Member K up; count = 0; body = 0 } ∷ [];
+    }
+
+abbrev pub tables : Tables
+tables = record { names = []; beans = counter ∷ []; few = lit≤ tt }
+
+-- why a container of the counter, with these classes, refuses a call, if it does
+abbrev pub refusal_of_call : List ℕ → ℕ → ℕ → List Value → Option Refusal
+refusal_of_call classes type method args =
+    refusal (machine_tables classes tables) (before_commands 100 32)
+    (Command.Call None (of_type type) method args)
+
+-- why it is refused: an unknown name before an unknown method, and that before a wrong count
 pub record Asked : Type 0 where
-  pub served : called (tables_of scopes.ApplicationScoped) (K ∷ []) K up [] ≡ requests.Runs (calls.CallBean K up [])
-  pub type : called (tables_of scopes.ApplicationScoped) (K ∷ []) 30 up (values.Null ∷ []) ≡ requests.Refused refusals.UnknownName
-  pub method : called (tables_of scopes.ApplicationScoped) (K ∷ []) K n (values.Null ∷ []) ≡ requests.Refused refusals.NoMethod
-  pub count : called (tables_of scopes.ApplicationScoped) (K ∷ []) K up (values.Null ∷ []) ≡ requests.Refused refusals.WrongCount
+  pub served : refusal_of_call (K ∷ []) K up [] ≡ None
+  pub type : refusal_of_call (K ∷ []) 30 up (values.Null ∷ []) ≡ Some refusals.UnknownName
+  pub method : refusal_of_call (K ∷ []) K n (values.Null ∷ []) ≡ Some refusals.NoMethod
+  pub count : refusal_of_call (K ∷ []) K up (values.Null ∷ []) ≡ Some refusals.WrongCount
   -- a class that is no bean resolves to nothing, which the call itself tells
-  pub no_bean : called (tables_of scopes.ApplicationScoped) (K ∷ 30 ∷ []) 30 up [] ≡ requests.Runs (calls.CallBean 30 up [])
+  pub no_bean : refusal_of_call (K ∷ 30 ∷ []) 30 up [] ≡ None
 
 pub record WorkedLines : Type 0 where
   pub replied : Replied

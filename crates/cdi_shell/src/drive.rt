@@ -1,9 +1,7 @@
 //! A run of the program, from the bytes of a deployment and of its input to the bytes of its output.
-ghost use Rattle.std.specs.Prelude.{◌≡◌, ◌≤◌, length, map, Bool, Ok, IfOk, IfErr, OnOk, OnErr, IsTrue};
-ghost use Rattle.cdi_bodies.specs.Table.{entries_of};
-ghost use Rattle.cdi_beans.specs.Build.{beans_of};
-ghost use Rattle.cdi_beans.specs.Check.{problems_of};
-ghost use Rattle.cdi_plain.specs.Registered.{legal_of};
+ghost use Rattle.std.specs.Prelude.{◌≡◌, ◌≤◌, length, Bool, Ok, IfOk, IfErr, OnOk, OnErr, IsTrue};
+ghost use Rattle.cdi_beans.specs.Beans.{KnowsEach};
+ghost use Rattle.cdi_presence.specs.Missing.{GivesServed};
 ghost use Rattle.cdi_script.specs.Next.{next_of};
 ghost use Rattle.cdi_shell.specs.declared.drive.PrepareError.TheVariants as prepare_errors;
 ghost use Rattle.cdi_shell.specs.Drive as spec;
@@ -14,16 +12,16 @@ ghost use Rattle.cdi_shell.specs.Prepared.{IsRefusal};
 ghost use Rattle.cdi_shell.specs.RefusalText.{problem_lines};
 ghost use Rattle.cdi_shell.specs.Scripts.{registered};
 
-use crate::container::{BootError, Container};
 use crate::ending::{Ending, after_serving};
 use crate::refusal_text::{write_fault, write_problems, write_script_fault};
 use crate::scripts::{NamedScript, read_scripts};
-use crate::session::serve;
 use cdi_base::{Act, Fields, Limits, Names, ReadError};
 use cdi_beans::problem::Problem;
 use cdi_bodies::{AddError, Bodies, Body, MAX_BODIES, View};
+use cdi_container::{Accepted, Container, Unaccepted, accept, serve};
 use cdi_deploy::{Deployment, read};
 use cdi_lines::{ServeFault, Sink, Source};
+use cdi_machine::Driver;
 use std::alloc::{AllocError, Global};
 
 /// A deployment with its scripts.
@@ -137,41 +135,35 @@ fn refuse_problems<W: Sink>(
     }
 }
 
-/// Serves a container up to the end of the input.
-fn live<R: Source, W: Sink>(
-    alloc: Global,
-    container: Container,
-    input: &mut R,
-    output: &mut W,
-) -> Ending
-    ensures served { spec.IsServed container
-        (record {
-          unread = R.unread input.old;
-          unread_after = R.unread input.new;
-          held = W.written output.old;
-          held_after = W.written output.new;
-        }) result }
+/// Tells why a deployment isn't accepted: its problems, if memory didn't run out.
+fn refuse_unaccepted<W: Sink>(alloc: Global, unaccepted: Unaccepted, output: &mut W) -> Ending
+    ensures refuses { spec.RefusesUnaccepted
+        unaccepted (W.written output.old) (W.written output.new) result }
     ensures passed_on { OnOk (outcome_of result) (IsTrue (W.is_passed_on output.new)) }
-    ensures blames { Blames (outcome_of result)
-        (R.has_failed input.old) (R.has_failed input.new)
-        (W.has_failed output.old) (W.has_failed output.new) }
+    ensures blames { (source : Bool)
+        → Blames (outcome_of result) source source (W.has_failed output.old) (W.has_failed output.new) }
 {
-    let mut container = container;
-    let served = serve(alloc, input, output, &mut container);
-    after_serving(served, container.halted())
+    match unaccepted {
+        Unaccepted::Problems { names, problems } => {
+            refuse_problems(alloc, &names, problems.as_slice(), output)
+        }
+        Unaccepted::Memory => STARVED,
+    }
 }
 
-/// Runs a deployment with its bodies.
-fn play<R: Source, W: Sink>(
+/// Starts a container and serves it up to the end of the input.
+fn live<R: Source, W: Sink, D: Driver + Drop>(
     alloc: Global,
-    deployment: Deployment,
-    bodies: Bodies,
+    accepted: Accepted,
+    driver: D,
     limits: Limits,
     input: &mut R,
     output: &mut W,
 ) -> Ending
-    ensures plays { spec.Plays limits.depth limits.ticks deployment.names (problems_of deployment (entries_of bodies))
-        (beans_of deployment.classes (entries_of bodies)) (map (λ class. class.name) deployment.classes) (legal_of (entries_of bodies))
+    requires knows { KnowsEach (D.knows driver) accepted.tables.beans }
+    requires serves { GivesServed accepted.tables (D.legal driver) }
+    ensures lives { spec.Lives limits.depth limits.ticks
+        accepted.tables.names accepted.tables.beans accepted.classes (D.legal driver)
         (record {
           unread = R.unread input.old;
           unread_after = R.unread input.new;
@@ -183,16 +175,9 @@ fn play<R: Source, W: Sink>(
         (R.has_failed input.old) (R.has_failed input.new)
         (W.has_failed output.old) (W.has_failed output.new) }
 {
-    match Container::boot(alloc, deployment, bodies, limits) {
-        Ok(container) => live(alloc, container, input, output),
-        Err(BootError::Problems { names, problems }) => refuse_problems(
-            alloc,
-            &names,
-            problems.as_slice(),
-            output,
-        ),
-        Err(BootError::Memory) => STARVED,
-    }
+    let mut container = Container::start(alloc, accepted, driver, limits);
+    let served = serve(alloc, input, output, &mut container);
+    after_serving(served, container.halted())
 }
 
 /// Registers the scripts of a deployment as bodies, each under its name unless that is taken, and runs it.
@@ -241,7 +226,10 @@ fn play_scripts<R: Source, W: Sink>(
             Err(AddError::Full(_)) => unreachable!(),
         }
     }
-    Ok(play(alloc, deployment, bodies, limits, input, output))
+    match accept(alloc, deployment, &bodies) {
+        Ok(accepted) => Ok(live(alloc, accepted, bodies, limits, input, output)),
+        Err(unaccepted) => Ok(refuse_unaccepted(alloc, unaccepted, output)),
+    }
 }
 
 /// Runs the program on a deployment: gives how it ended.

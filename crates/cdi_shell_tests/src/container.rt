@@ -1,10 +1,10 @@
-//! A container that isn't started.
+//! A deployment that isn't accepted.
 use crate::checks::expect_same;
-use cdi_base::{Limits, Names, ReadError};
+use cdi_base::{Names, ReadError};
 use cdi_beans::problem::{Problem, ProblemKind};
 use cdi_bodies::Bodies;
+use cdi_container::{Unaccepted, accept};
 use cdi_deploy::{Deployment, read};
-use cdi_shell::{BootError, Container};
 use std::alloc::{AllocError, Global};
 use std::process::Abort;
 use std::test::Fail;
@@ -31,13 +31,12 @@ fn tells_its_problems(rt: HostRuntime) -> Result<(), Fail> {
     let text =
         r#"{"classes": [{"name": "K", "bean": {}, "members": [{"kind": "method", "name": "up", "body": "up"}]}]}"#;
     let deployment = deployed(&rt, alloc, text)?;
-    match Container::boot(alloc, deployment, Bodies::new(alloc), Limits::default()) {
-        Err(BootError::Problems { names, problems }) => check_problems(
-            &rt,
-            &names,
-            problems.as_slice(),
-        ),
-        Err(BootError::Memory) => return Err(AllocError)?,
+    let bodies = Bodies::new(alloc);
+    match accept(alloc, deployment, &bodies) {
+        Err(Unaccepted::Problems { names, problems }) => {
+            check_problems(&rt, &names, problems.as_slice())
+        }
+        Err(Unaccepted::Memory) => return Err(AllocError)?,
         Ok(_) => panic!(rt; "a method has no body"),
     }
     Ok(())

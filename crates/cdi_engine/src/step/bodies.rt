@@ -9,7 +9,7 @@ ghost use Rattle.cdi_engine.specs.Setting.{Narrows, is_served};
 ghost use Rattle.cdi_engine.specs.Asked.{method_of_instance, has_field_in};
 ghost use Rattle.cdi_engine.specs.Words.{running_of, completion_of};
 ghost use Rattle.cdi_engine.specs.Points.{go_on_with, told};
-ghost use Rattle.cdi_engine.specs.Leads.{Leads, Settles};
+ghost use Rattle.cdi_engine.specs.Leads.{MovesTo, Settles};
 ghost use Rattle.cdi_engine.specs.Falls.{Falls};
 ghost use Rattle.cdi_engine.specs.Known.{KnownNext};
 
@@ -28,7 +28,7 @@ use std::alloc::AllocError;
 #[tactic(auto, using(crate::proofs::BodySteps::leads))]
 pub(super) fn body<H: Host>(host: &H, running: Running) -> Next
     requires { (H.setting host.now).knows running.body }
-    ensures leads { Leads (H.setting host.now) (Task.Start (Call.Body running))
+    ensures leads { MovesTo (H.setting host.now) (Task.Start (Call.Body running))
         (H.world host.now) result (H.world host.now) }
     ensures falls { Falls (Task.Start (Call.Body running))
         (H.world host.now) result (H.world host.now) }
@@ -49,9 +49,9 @@ pub(super) fn body<H: Host>(host: &H, running: Running) -> Next
 
 /// Runs the acts of a body.
 #[tactic(auto, using(crate::proofs::BodySteps::leads))]
-pub(super) fn entered<H: Host>(host: &mut H, running: Running) -> Result<Next, AllocError>
+pub(super) fn entered<H: Host>(host: &mut H, running: Running) -> Result<Next, Failure>
     requires { (H.setting host.old).knows running.body }
-    ensures leads { IfOk result (λ next. Leads (H.setting host.old) (Task.Entered running)
+    ensures leads { IfOk result (λ next. MovesTo (H.setting host.old) (Task.Entered running)
         (H.world host.old) next (H.world host.new)) }
     ensures falls { IfOk result (λ next. Falls (Task.Entered running)
         (H.world host.old) next (H.world host.new)) }
@@ -60,20 +60,7 @@ pub(super) fn entered<H: Host>(host: &mut H, running: Running) -> Result<Next, A
     ensures kept { OnErr result (H.world host.new ≡ H.world host.old) }
 {
     host.start(running.instance)?;
-    Ok(Next::Needs(Call::Acts(running), Frame::Stopping))
-}
-
-/// Ends a body.
-#[tactic(auto, using(crate::proofs::BodySteps::leads))]
-pub(super) fn stopped<H: Host>(host: &mut H, completion: Completion) -> Next
-    ensures leads { Leads (H.setting host.old) (Task.Stopped completion)
-        (H.world host.old) result (H.world host.new) }
-    ensures falls { Falls (Task.Stopped completion) (H.world host.old) result (H.world host.new) }
-    ensures known { KnownNext (H.setting host.new) (H.world host.new) result }
-    ensures narrows { Narrows (H.setting host.old) (H.setting host.new) }
-{
-    host.stop();
-    Next::Finished(Outcome::Ends(completion))
+    Ok(Next::Needs(Task::Start(Call::Acts(running)), Frame::Stopping))
 }
 
 // ---- acts
@@ -82,7 +69,7 @@ pub(super) fn stopped<H: Host>(host: &mut H, completion: Completion) -> Next
 #[tactic(auto, using(crate::proofs::BodySteps::leads))]
 pub(super) fn acts<H: Host>(host: &mut H, running: Running) -> Result<Next, Failure>
     requires { (H.setting host.old).knows running.body }
-    ensures leads { IfOk result (λ next. Leads (H.setting host.old) (Task.Start (Call.Acts running))
+    ensures leads { IfOk result (λ next. MovesTo (H.setting host.old) (Task.Start (Call.Acts running))
         (H.world host.old) next (H.world host.new)) }
     ensures falls { IfOk result (λ next. Falls (Task.Start (Call.Acts running))
         (H.world host.old) next (H.world host.new)) }
@@ -100,10 +87,10 @@ pub(super) fn acts<H: Host>(host: &mut H, running: Running) -> Result<Next, Fail
 
 /// Does what a body gave.
 #[tactic(auto, using(crate::proofs::BodySteps::leads))]
-pub(super) fn acted<H: Host>(host: &mut H, running: Running, act: Act) -> Result<Next, AllocError>
+pub(super) fn acted<H: Host>(host: &mut H, running: Running, act: Act) -> Result<Next, Failure>
     requires known { (H.setting host.old).knows running.body }
     requires served { IsTrue (is_served act) }
-    ensures leads { IfOk result (λ next. Leads (H.setting host.old) (Task.Acted running act)
+    ensures leads { IfOk result (λ next. MovesTo (H.setting host.old) (Task.Acted running act)
         (H.world host.old) next (H.world host.new)) }
     ensures falls { IfOk result (λ next. Falls (Task.Acted running act)
         (H.world host.old) next (H.world host.new)) }
@@ -129,9 +116,9 @@ fn set_field<H: Host>(
     running: Running,
     field: Name,
     value: Value,
-) -> Result<Next, AllocError>
+) -> Result<Next, Failure>
     requires { (H.setting host.old).knows running.body }
-    ensures leads { IfOk result (λ next. Leads (H.setting host.old)
+    ensures leads { IfOk result (λ next. MovesTo (H.setting host.old)
         (Task.Acted running (Set field value)) (H.world host.old) next (H.world host.new)) }
     ensures falls { IfOk result (λ next. Falls (Task.Acted running (Set field value))
         (H.world host.old) next (H.world host.new)) }
@@ -173,9 +160,9 @@ fn call_own<H: Host>(
     running: Running,
     method: Name,
     args: Seq<Value>,
-) -> Result<Next, AllocError>
+) -> Result<Next, Failure>
     requires { (H.setting host.now).knows running.body }
-    ensures leads { IfOk result (λ next. Leads (H.setting host.now)
+    ensures leads { IfOk result (λ next. MovesTo (H.setting host.now)
         (Task.Acted running (Own method args)) (H.world host.now) next (H.world host.now)) }
     ensures falls { IfOk result (λ next. Falls (Task.Acted running (Own method args))
         (H.world host.now) next (H.world host.now)) }
@@ -187,7 +174,7 @@ fn call_own<H: Host>(
     if args.len() != method.count as usize {
         return answer(host, running, missed());
     }
-    let call = Call::Body(Running {
+    let body = Task::Start(Call::Body(Running {
         instance: running.instance,
         place: method.place,
         body: method.body,
@@ -195,8 +182,8 @@ fn call_own<H: Host>(
             args,
             answers: Seq::empty(host.alloc()),
         },
-    });
-    Ok(Next::Needs(call, Frame::Answering(running)))
+    }));
+    Ok(Next::Needs(body, Frame::Answering(running)))
 }
 
 /// The running body with one answer more.
@@ -236,7 +223,7 @@ pub(super) fn answer<H: Host>(
     host: &H,
     running: Running,
     completion: Completion,
-) -> Result<Next, AllocError>
+) -> Result<Next, Failure>
     requires { (H.setting host.now).knows running.body }
     ensures leads { IfOk result (λ next. Settles (H.setting host.now)
         (go_on_with (running_of running) (completion_of completion))

@@ -1,7 +1,7 @@
 //! The steps of commands, and of the container's own events.
 ghost use Rattle.std.specs.Prelude.{◌≡◌, IfOk, OnErr};
 ghost use Rattle.cdi_engine.specs.Setting.{Narrows};
-ghost use Rattle.cdi_engine.specs.Leads.{Leads};
+ghost use Rattle.cdi_engine.specs.Leads.{MovesTo};
 ghost use Rattle.cdi_engine.specs.Falls.{Falls};
 ghost use Rattle.cdi_engine.specs.Known.{KnownNext};
 
@@ -10,13 +10,13 @@ use crate::host::Host;
 use crate::step::null;
 use crate::task::{Call, Completion, ContainerEvent, Frame, Job, Next, Outcome, Task};
 use cdi_base::{Name, Seq, Value};
-use std::alloc::AllocError;
+use cdi_machine::Failure;
 
 /// Begins what a command asks for: for the boot, the event of the application's begin (Jakarta CDI 4.0, *Context
-/// management for built-in scopes*).
+/// management for built-in scopes*), for the shutdown that of the container's end (*Shutdown event*).
 #[tactic(auto, using(crate::proofs::CommandSteps::leads))]
-pub(super) fn begin<H: Host>(host: &mut H, job: Job) -> Result<Next, AllocError>
-    ensures leads { IfOk result (λ next. Leads (H.setting host.old) (Task.Begin job)
+pub(super) fn begin<H: Host>(host: &mut H, job: Job) -> Result<Next, Failure>
+    ensures leads { IfOk result (λ next. MovesTo (H.setting host.old) (Task.Begin job)
         (H.world host.old) next (H.world host.new)) }
     ensures falls { IfOk result (λ next. Falls (Task.Begin job)
         (H.world host.old) next (H.world host.new)) }
@@ -26,7 +26,7 @@ pub(super) fn begin<H: Host>(host: &mut H, job: Job) -> Result<Next, AllocError>
 {
     match job {
         Job::Boot => {
-            let call = Call::Fire(ContainerEvent::Initialized);
+            let call = Task::Start(Call::Fire(ContainerEvent::Initialized));
             Ok(Next::Needs(call, Frame::Initializing))
         }
         Job::Call {
@@ -34,7 +34,12 @@ pub(super) fn begin<H: Host>(host: &mut H, job: Job) -> Result<Next, AllocError>
             method,
             args,
         } => call_bean(host, bean_type, method, args),
-        Job::Shutdown => Ok(shut_down(host)),
+        Job::Shutdown => {
+            host.law_alone();
+            host.stand_alone();
+            let call = Task::Start(Call::Fire(ContainerEvent::Shutdown));
+            Ok(Next::Needs(call, Frame::Closing))
+        }
     }
 }
 
@@ -45,8 +50,8 @@ fn call_bean<H: Host>(
     bean_type: Name,
     method: Name,
     args: Seq<Value>,
-) -> Result<Next, AllocError>
-    ensures leads { IfOk result (λ next. Leads (H.setting host.old)
+) -> Result<Next, Failure>
+    ensures leads { IfOk result (λ next. MovesTo (H.setting host.old)
         (Task.Begin (Job.Call bean_type method args)) (H.world host.old) next (H.world host.new)) }
     ensures falls { IfOk result (λ next. Falls (Task.Begin (Job.Call bean_type method args))
         (H.world host.old) next (H.world host.new)) }
@@ -61,35 +66,15 @@ fn call_bean<H: Host>(
         method,
         args,
     };
-    Ok(Next::Within(part, Frame::Using))
-}
-
-/// Destroys what was borrowed (Jakarta CDI 4.0, *Destruction of objects with scope @Dependent*).
-pub(super) fn returning(completion: Completion) -> Next
-    ensures { result ≡ Next.Needs Call.Dismiss (Frame.Returning completion) }
-{
-    Next::Needs(Call::Dismiss, Frame::Returning(completion))
-}
-
-/// Ends the command.
-#[tactic(auto, using(crate::proofs::CommandSteps::leads))]
-pub(super) fn returned<H: Host>(host: &mut H, completion: Completion) -> Next
-    ensures leads { Leads (H.setting host.old) (Task.Returned completion)
-        (H.world host.old) result (H.world host.new) }
-    ensures falls { Falls (Task.Returned completion) (H.world host.old) result (H.world host.new) }
-    ensures known { KnownNext (H.setting host.new) (H.world host.new) result }
-    ensures narrows { Narrows (H.setting host.old) (H.setting host.new) }
-{
-    host.give_back();
-    Next::Finished(Outcome::Ends(completion))
+    Ok(Next::Needs(part, Frame::Using))
 }
 
 // ---- events
 
 /// Fires an event of the container itself (Jakarta CDI 4.0, *Firing events*).
 #[tactic(auto, using(crate::proofs::CommandSteps::leads))]
-pub(super) fn fire<H: Host>(host: &H, event: ContainerEvent) -> Result<Next, AllocError>
-    ensures leads { IfOk result (λ next. Leads (H.setting host.now) (Task.Start (Call.Fire event))
+pub(super) fn fire<H: Host>(host: &H, event: ContainerEvent) -> Result<Next, Failure>
+    ensures leads { IfOk result (λ next. MovesTo (H.setting host.now) (Task.Start (Call.Fire event))
         (H.world host.now) next (H.world host.now)) }
     ensures falls { IfOk result (λ next. Falls (Task.Start (Call.Fire event))
         (H.world host.now) next (H.world host.now)) }
@@ -102,7 +87,7 @@ pub(super) fn fire<H: Host>(host: &H, event: ContainerEvent) -> Result<Next, All
 /// Delivers an event, which nothing observes.
 #[tactic(auto, using(crate::proofs::CommandSteps::leads))]
 pub(super) fn fired<H: Host>(host: &H, event: ContainerEvent) -> Next
-    ensures leads { Leads (H.setting host.now) (Task.Fired event)
+    ensures leads { MovesTo (H.setting host.now) (Task.Fired event)
         (H.world host.now) result (H.world host.now) }
     ensures falls { Falls (Task.Fired event) (H.world host.now) result (H.world host.now) }
     ensures known { KnownNext (H.setting host.now) (H.world host.now) result }
@@ -114,55 +99,31 @@ pub(super) fn fired<H: Host>(host: &H, event: ContainerEvent) -> Next
 
 // ---- shutdown
 
-/// Begins the end of the container (Jakarta CDI 4.0, *Shutdown event*).
-#[tactic(auto, using(crate::proofs::CommandSteps::leads))]
-fn shut_down<H: Host>(host: &mut H) -> Next
-    ensures leads { Leads (H.setting host.old) (Task.Begin Job.Shutdown)
-        (H.world host.old) result (H.world host.new) }
-    ensures falls { Falls (Task.Begin Job.Shutdown) (H.world host.old) result (H.world host.new) }
-    ensures known { KnownNext (H.setting host.new) (H.world host.new) result }
-    ensures narrows { Narrows (H.setting host.old) (H.setting host.new) }
-{
-    host.law_alone();
-    host.stand_alone();
-    Next::Needs(Call::Fire(ContainerEvent::Shutdown), Frame::Closing)
-}
-
 /// Ends the application context (Jakarta CDI 4.0, *Context management for built-in scopes*).
 #[tactic(auto, using(crate::proofs::CommandSteps::leads))]
 pub(super) fn finishing<H: Host>(host: &mut H) -> Next
-    ensures leads { Leads (H.setting host.old) Task.Finishing
+    ensures leads { MovesTo (H.setting host.old) Task.Finishing
         (H.world host.old) result (H.world host.new) }
     ensures falls { Falls Task.Finishing (H.world host.old) result (H.world host.new) }
     ensures known { KnownNext (H.setting host.new) (H.world host.new) result }
     ensures narrows { Narrows (H.setting host.old) (H.setting host.new) }
 {
     host.finish_application();
-    Next::Needs(Call::Clear, Frame::Emptying)
+    Next::Needs(Task::Start(Call::Clear), Frame::Emptying)
 }
 
 /// The application context is gone.
 #[tactic(auto, using(crate::proofs::CommandSteps::leads))]
 pub(super) fn emptied<H: Host>(host: &mut H) -> Next
-    ensures leads { Leads (H.setting host.old) Task.Emptied
+    ensures leads { MovesTo (H.setting host.old) Task.Emptied
         (H.world host.old) result (H.world host.new) }
     ensures falls { Falls Task.Emptied (H.world host.old) result (H.world host.new) }
     ensures known { KnownNext (H.setting host.new) (H.world host.new) result }
     ensures narrows { Narrows (H.setting host.old) (H.setting host.new) }
 {
     host.close_application();
-    Next::Needs(Call::Fire(ContainerEvent::Destroyed), Frame::GoingDown)
-}
-
-/// The container is down.
-#[tactic(auto, using(crate::proofs::CommandSteps::leads))]
-pub(super) fn going_down<H: Host>(host: &mut H) -> Next
-    ensures leads { Leads (H.setting host.old) Task.GoingDown
-        (H.world host.old) result (H.world host.new) }
-    ensures falls { Falls Task.GoingDown (H.world host.old) result (H.world host.new) }
-    ensures known { KnownNext (H.setting host.new) (H.world host.new) result }
-    ensures narrows { Narrows (H.setting host.old) (H.setting host.new) }
-{
-    host.bring_down();
-    null()
+    Next::Needs(
+        Task::Start(Call::Fire(ContainerEvent::Destroyed)),
+        Frame::GoingDown,
+    )
 }

@@ -1,7 +1,7 @@
 //! The steps of creating an instance.
 ghost use Rattle.std.specs.Prelude.{◌≡◌, ◌<◌, ◌^◌, IfOk, OnErr};
 ghost use Rattle.cdi_engine.specs.Setting.{Narrows};
-ghost use Rattle.cdi_engine.specs.Leads.{Leads};
+ghost use Rattle.cdi_engine.specs.Leads.{MovesTo};
 ghost use Rattle.cdi_engine.specs.Points.{fields_of};
 ghost use Rattle.cdi_engine.specs.Falls.{Falls};
 ghost use Rattle.cdi_engine.specs.Known.{KnownNext};
@@ -10,13 +10,14 @@ use crate::host::Host;
 use crate::step::{given, missing};
 use crate::task::{Call, Given, Next, Outcome, Task};
 use cdi_base::{Cause, Entry, Fields, Place};
+use cdi_machine::Failure;
 use cdi_store::{Component, Owner};
 use std::alloc::AllocError;
 
 /// Gives a new instance its number (Jakarta CDI 4.0, *Lifecycle of managed beans*).
 #[tactic(auto, using(crate::proofs::CreationSteps::leads))]
 pub(super) fn create<H: Host>(host: &H, bean: u32, owner: Owner) -> Next
-    ensures leads { Leads (H.setting host.now) (Task.Start (Call.Create bean owner))
+    ensures leads { MovesTo (H.setting host.now) (Task.Start (Call.Create bean owner))
         (H.world host.now) result (H.world host.now) }
     ensures falls { Falls (Task.Start (Call.Create bean owner))
         (H.world host.now) result (H.world host.now) }
@@ -59,9 +60,9 @@ pub(super) fn made<H: Host>(
     number: u32,
     bean: u32,
     owner: Owner,
-) -> Result<Next, AllocError>
+) -> Result<Next, Failure>
     requires { (H.world host.old).next < 2 ^ 32 }
-    ensures leads { IfOk result (λ next. Leads (H.setting host.old) (Task.Made number bean owner)
+    ensures leads { IfOk result (λ next. MovesTo (H.setting host.old) (Task.Made number bean owner)
         (H.world host.old) next (H.world host.new)) }
     ensures falls { IfOk result (λ next. Falls (Task.Made number bean owner)
         (H.world host.old) next (H.world host.new)) }
@@ -76,8 +77,8 @@ pub(super) fn made<H: Host>(
 
 /// Completes the instance (Jakarta CDI 4.0, *Lifecycle of managed beans*).
 #[tactic(auto, using(crate::proofs::CreationSteps::leads))]
-pub(super) fn readied<H: Host>(host: &mut H, number: u32) -> Result<Next, AllocError>
-    ensures leads { IfOk result (λ next. Leads (H.setting host.old) (Task.Readied number)
+pub(super) fn readied<H: Host>(host: &mut H, number: u32) -> Result<Next, Failure>
+    ensures leads { IfOk result (λ next. MovesTo (H.setting host.old) (Task.Readied number)
         (H.world host.old) next (H.world host.new)) }
     ensures falls { IfOk result (λ next. Falls (Task.Readied number)
         (H.world host.old) next (H.world host.new)) }

@@ -5,7 +5,7 @@ ghost use Rattle.cdi_machine.specs.Destruction.{only_ready};
 ghost use Rattle.cdi_engine.specs.Setting.{Narrows};
 ghost use Rattle.cdi_store.specs.Owned.{dependents_in};
 ghost use Rattle.cdi_engine.specs.Asked.{HasSeveral};
-ghost use Rattle.cdi_engine.specs.Leads.{Leads};
+ghost use Rattle.cdi_engine.specs.Leads.{MovesTo};
 ghost use Rattle.cdi_engine.specs.Falls.{Falls};
 ghost use Rattle.cdi_engine.specs.Known.{KnownNext};
 
@@ -16,12 +16,11 @@ use cdi_base::{Entry, InterceptorMethod, Seq, Value};
 use cdi_machine::Failure;
 use cdi_store::{Component, Instance, Phase};
 use cdi_world::Invocation;
-use std::alloc::AllocError;
 
 /// Begins the destruction of an instance (Jakarta CDI 4.0, *Lifecycle of managed beans*).
 #[tactic(auto, using(crate::proofs::DestructionSteps::leads))]
-pub(super) fn destroy<H: Host>(host: &H, number: u32) -> Result<Next, AllocError>
-    ensures leads { IfOk result (λ next. Leads (H.setting host.now) (Task.Start (Call.Destroy number))
+pub(super) fn destroy<H: Host>(host: &H, number: u32) -> Result<Next, Failure>
+    ensures leads { IfOk result (λ next. MovesTo (H.setting host.now) (Task.Start (Call.Destroy number))
         (H.world host.now) next (H.world host.now)) }
     ensures falls { IfOk result (λ next. Falls (Task.Start (Call.Destroy number))
         (H.world host.now) next (H.world host.now)) }
@@ -54,7 +53,7 @@ fn ready_instance<H: Host>(host: &H, number: u32) -> Option<&Instance>
 /// Takes the instance from what has it (Jakarta CDI 4.0, *Lifecycle of managed beans*).
 #[tactic(auto, using(crate::proofs::DestructionSteps::leads))]
 pub(super) fn ended<H: Host>(host: &mut H, number: u32, component: Component, value: Value) -> Next
-    ensures leads { Leads (H.setting host.old) (Task.Ended number component value)
+    ensures leads { MovesTo (H.setting host.old) (Task.Ended number component value)
         (H.world host.old) result (H.world host.new) }
     ensures falls { Falls (Task.Ended number component value)
         (H.world host.old) result (H.world host.new) }
@@ -76,8 +75,8 @@ pub(super) fn leaving<H: Host>(
     number: u32,
     component: Component,
     value: Value,
-) -> Result<Next, AllocError>
-    ensures leads { IfOk result (λ next. Leads (H.setting host.old)
+) -> Result<Next, Failure>
+    ensures leads { IfOk result (λ next. MovesTo (H.setting host.old)
         (Task.Leaving number component value) (H.world host.old) next (H.world host.new)) }
     ensures falls { IfOk result (λ next. Falls (Task.Leaving number component value)
         (H.world host.old) next (H.world host.new)) }
@@ -94,20 +93,23 @@ pub(super) fn leaving<H: Host>(
     }
     let parameters = Seq::empty(host.alloc());
     host.enter(Invocation::new(number, InterceptorMethod::PreDestroy, None, parameters))?;
-    Ok(Next::Needs(Call::Rest, Frame::CleaningUp { number }))
+    Ok(Next::Needs(Task::Start(Call::Rest), Frame::CleaningUp { number }))
 }
 
 /// Destroys the dependents, before the instance is gone.
 fn free(number: u32) -> Next
-    ensures { result ≡ Next.Needs (Call.Release number) (Frame.Releasing number) }
+    ensures { result ≡ Next.Needs (Task.Start (Call.Release number)) (Frame.Releasing number) }
 {
-    Next::Needs(Call::Release { number }, Frame::Releasing { number })
+    Next::Needs(
+        Task::Start(Call::Release { number }),
+        Frame::Releasing { number },
+    )
 }
 
 /// Ends the invocation of the callbacks.
 #[tactic(auto, using(crate::proofs::DestructionSteps::leads))]
 pub(super) fn cleaned_up<H: Host>(host: &mut H, number: u32) -> Next
-    ensures leads { Leads (H.setting host.old) (Task.CleanedUp number)
+    ensures leads { MovesTo (H.setting host.old) (Task.CleanedUp number)
         (H.world host.old) result (H.world host.new) }
     ensures falls { Falls (Task.CleanedUp number) (H.world host.old) result (H.world host.new) }
     ensures known { KnownNext (H.setting host.new) (H.world host.new) result }
@@ -115,19 +117,6 @@ pub(super) fn cleaned_up<H: Host>(host: &mut H, number: u32) -> Next
 {
     host.exit();
     free(number)
-}
-
-/// Lets an instance go.
-#[tactic(auto, using(crate::proofs::DestructionSteps::leads))]
-pub(super) fn removed<H: Host>(host: &mut H, number: u32) -> Next
-    ensures leads { Leads (H.setting host.old) (Task.Removed number)
-        (H.world host.old) result (H.world host.new) }
-    ensures falls { Falls (Task.Removed number) (H.world host.old) result (H.world host.new) }
-    ensures known { KnownNext (H.setting host.new) (H.world host.new) result }
-    ensures narrows { Narrows (H.setting host.old) (H.setting host.new) }
-{
-    host.remove(number);
-    null()
 }
 
 // ---- dependents
@@ -143,7 +132,7 @@ fn dependents_of<H: Host>(host: &H, number: u32) -> Option<&[u32]>
 /// Chooses the dependent that is destroyed next (Jakarta CDI 4.0, *Destruction of objects with scope @Dependent*).
 #[tactic(auto, using(crate::proofs::DestructionSteps::leads))]
 pub(super) fn release<H: Host>(host: &mut H, number: u32) -> Result<Next, Failure>
-    ensures leads { IfOk result (λ next. Leads (H.setting host.old)
+    ensures leads { IfOk result (λ next. MovesTo (H.setting host.old)
         (Task.Start (Call.Release number)) (H.world host.old) next (H.world host.new)) }
     ensures falls { IfOk result (λ next. Falls (Task.Start (Call.Release number))
         (H.world host.old) next (H.world host.new)) }
@@ -156,32 +145,19 @@ pub(super) fn release<H: Host>(host: &mut H, number: u32) -> Result<Next, Failur
     }
     match count_of_dependents(host, number) {
         0 => Ok(null()),
-        1 => Ok(free_last(host, number)),
+        1 => match dependent_at(host, number, 0) {
+            Some(dependent) => Ok(free_one(number, dependent)),
+            None => Ok(missing()),
+        },
         _ => pick(host, number),
-    }
-}
-
-/// Destroys the only dependent.
-#[tactic(auto, using(crate::proofs::DestructionSteps::leads))]
-fn free_last<H: Host>(host: &H, number: u32) -> Next
-    requires { length (dependents_in (instance_at (H.world host.now) number)) ≡ 1 }
-    ensures leads { Leads (H.setting host.now) (Task.Start (Call.Release number))
-        (H.world host.now) result (H.world host.now) }
-    ensures falls { Falls (Task.Start (Call.Release number))
-        (H.world host.now) result (H.world host.now) }
-    ensures known { KnownNext (H.setting host.now) (H.world host.now) result }
-{
-    match dependent_at(host, number, 0) {
-        Some(dependent) => free_one(number, dependent),
-        None => missing(),
     }
 }
 
 /// Destroys one dependent, and goes on with the others.
 pub(super) fn free_one(number: u32, dependent: u32) -> Next
-    ensures { result ≡ Next.Needs (Call.Destroy dependent) (Frame.Freeing number) }
+    ensures { result ≡ Next.Needs (Task.Start (Call.Destroy dependent)) (Frame.Freeing number) }
 {
-    let call = Call::Destroy { number: dependent };
+    let call = Task::Start(Call::Destroy { number: dependent });
     Next::Needs(call, Frame::Freeing { number })
 }
 
@@ -189,7 +165,7 @@ pub(super) fn free_one(number: u32, dependent: u32) -> Next
 #[tactic(auto, using(crate::proofs::DestructionSteps::leads))]
 fn pick<H: Host>(host: &mut H, number: u32) -> Result<Next, Failure>
     requires { HasSeveral (instance_at (H.world host.old) number) }
-    ensures leads { IfOk result (λ next. Leads (H.setting host.old)
+    ensures leads { IfOk result (λ next. MovesTo (H.setting host.old)
         (Task.Start (Call.Release number)) (H.world host.old) next (H.world host.new)) }
     ensures falls { IfOk result (λ next. Falls (Task.Start (Call.Release number))
         (H.world host.old) next (H.world host.new)) }
@@ -231,7 +207,7 @@ fn dependent_at<H: Host>(host: &H, number: u32, index: u32) -> Option<u32>
 /// Destroys the latest of the innermost temporaries (Jakarta CDI 4.0, *Destruction of objects with scope @Dependent*).
 #[tactic(auto, using(crate::proofs::DestructionSteps::leads))]
 pub(super) fn dismiss<H: Host>(host: &H) -> Next
-    ensures leads { Leads (H.setting host.now) (Task.Start Call.Dismiss)
+    ensures leads { MovesTo (H.setting host.now) (Task.Start Call.Dismiss)
         (H.world host.now) result (H.world host.now) }
     ensures falls { Falls (Task.Start Call.Dismiss) (H.world host.now) result (H.world host.now) }
     ensures known { KnownNext (H.setting host.now) (H.world host.now) result }
@@ -239,7 +215,7 @@ pub(super) fn dismiss<H: Host>(host: &H) -> Next
     match host.latest_temporary() {
         None => missing(),
         Some(None) => null(),
-        Some(Some(number)) => Next::Needs(Call::Destroy { number }, Frame::Dismissing),
+        Some(Some(number)) => Next::Needs(Task::Start(Call::Destroy { number }), Frame::Dismissing),
     }
 }
 
@@ -247,13 +223,13 @@ pub(super) fn dismiss<H: Host>(host: &H) -> Next
 /// scopes*).
 #[tactic(auto, using(crate::proofs::DestructionSteps::leads))]
 pub(super) fn clear<H: Host>(host: &H) -> Next
-    ensures leads { Leads (H.setting host.now) (Task.Start Call.Clear)
+    ensures leads { MovesTo (H.setting host.now) (Task.Start Call.Clear)
         (H.world host.now) result (H.world host.now) }
     ensures falls { Falls (Task.Start Call.Clear) (H.world host.now) result (H.world host.now) }
     ensures known { KnownNext (H.setting host.now) (H.world host.now) result }
 {
     match host.last_in_application() {
         None => null(),
-        Some(number) => Next::Needs(Call::Destroy { number }, Frame::Clearing),
+        Some(number) => Next::Needs(Task::Start(Call::Destroy { number }), Frame::Clearing),
     }
 }

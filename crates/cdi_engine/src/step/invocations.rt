@@ -5,7 +5,7 @@ ghost use Rattle.cdi_machine.specs.World.{instance_at};
 ghost use Rattle.cdi_machine.specs.Bodies.{invoke_method};
 ghost use Rattle.cdi_engine.specs.Asked.{method_of_instance};
 ghost use Rattle.cdi_engine.specs.Setting.{Narrows};
-ghost use Rattle.cdi_engine.specs.Leads.{Leads, Settles};
+ghost use Rattle.cdi_engine.specs.Leads.{MovesTo, Settles};
 ghost use Rattle.cdi_engine.specs.Falls.{Falls};
 ghost use Rattle.cdi_engine.specs.Known.{KnownNext};
 
@@ -15,9 +15,9 @@ use crate::task::{Call, Completion, Frame, Given, Next, Outcome, Running, Task};
 use cdi_base::{InterceptorMethod, Name, Seq, Value};
 use cdi_beans::bean::Method;
 use cdi_bodies::View;
+use cdi_machine::Failure;
 use cdi_store::Component;
 use cdi_world::{Code, Invocation};
-use std::alloc::AllocError;
 
 /// A business method of an instance.
 pub(super) fn method_of<H: Host>(host: &H, number: u32, name: Name) -> Option<&Method>
@@ -38,7 +38,7 @@ pub(super) fn invoke<H: Host>(
     number: u32,
     name: Name,
     args: Seq<Value>,
-) -> Result<Next, AllocError>
+) -> Result<Next, Failure>
     ensures leads { IfOk result (λ next. Settles (H.setting host.old)
         (invoke_method number name args) (H.world host.old) next (H.world host.new)) }
     ensures falls { IfOk result (λ next. Falls (Task.Invoking number name args)
@@ -55,28 +55,15 @@ pub(super) fn invoke<H: Host>(
     }
     let code = Code::new(method.place, method.body);
     host.enter(Invocation::new(number, InterceptorMethod::AroundInvoke, Some(code), args))?;
-    Ok(Next::Needs(Call::Rest, Frame::Exiting))
-}
-
-/// Ends an invocation.
-#[tactic(auto, using(crate::proofs::InvocationSteps::leads))]
-pub(super) fn exiting<H: Host>(host: &mut H, completion: Completion) -> Next
-    ensures leads { Leads (H.setting host.old) (Task.Exiting completion)
-        (H.world host.old) result (H.world host.new) }
-    ensures falls { Falls (Task.Exiting completion) (H.world host.old) result (H.world host.new) }
-    ensures known { KnownNext (H.setting host.new) (H.world host.new) result }
-    ensures narrows { Narrows (H.setting host.old) (H.setting host.new) }
-{
-    host.exit();
-    Next::Finished(Outcome::Ends(completion))
+    Ok(Next::Needs(Task::Start(Call::Rest), Frame::Exiting))
 }
 
 // ---- the end of a chain
 
 /// Runs the body at the end of the innermost invocation's chain (Jakarta Interceptors 2.1, *InvocationContext*).
 #[tactic(auto, using(crate::proofs::InvocationSteps::leads))]
-pub(super) fn rest<H: Host>(host: &mut H) -> Result<Next, AllocError>
-    ensures leads { IfOk result (λ next. Leads (H.setting host.old) (Task.Start Call.Rest)
+pub(super) fn rest<H: Host>(host: &mut H) -> Result<Next, Failure>
+    ensures leads { IfOk result (λ next. MovesTo (H.setting host.old) (Task.Start Call.Rest)
         (H.world host.old) next (H.world host.new)) }
     ensures falls { IfOk result (λ next. Falls (Task.Start Call.Rest)
         (H.world host.old) next (H.world host.new)) }
@@ -102,18 +89,5 @@ pub(super) fn rest<H: Host>(host: &mut H) -> Result<Next, AllocError>
             answers: Seq::empty(host.alloc()),
         },
     };
-    Ok(Next::Needs(Call::Body(running), Frame::AtEnd { role }))
-}
-
-/// The end of the chain was reached.
-#[tactic(auto, using(crate::proofs::InvocationSteps::leads))]
-pub(super) fn reached<H: Host>(host: &mut H, given: Given) -> Next
-    ensures leads { Leads (H.setting host.old) (Task.Reached given)
-        (H.world host.old) result (H.world host.new) }
-    ensures falls { Falls (Task.Reached given) (H.world host.old) result (H.world host.new) }
-    ensures known { KnownNext (H.setting host.new) (H.world host.new) result }
-    ensures narrows { Narrows (H.setting host.old) (H.setting host.new) }
-{
-    host.reach();
-    Next::Finished(Outcome::Ends(Completion::Gave(given)))
+    Ok(Next::Needs(Task::Start(Call::Body(running)), Frame::AtEnd { role }))
 }

@@ -3,7 +3,7 @@ ghost use Rattle.std.specs.Prelude.{◌≡◌, IfOk, OnErr};
 ghost use Rattle.cdi_machine.specs.World.{instance_at};
 ghost use Rattle.cdi_machine.specs.Contexts.{stays};
 ghost use Rattle.cdi_engine.specs.Setting.{Narrows};
-ghost use Rattle.cdi_engine.specs.Leads.{Leads};
+ghost use Rattle.cdi_engine.specs.Leads.{MovesTo};
 ghost use Rattle.cdi_engine.specs.Falls.{Falls};
 ghost use Rattle.cdi_engine.specs.Known.{KnownNext};
 
@@ -15,13 +15,13 @@ use cdi_base::{BuiltIn, Name, Seq, Value};
 use cdi_beans::bean::Resolution;
 use cdi_contexts::{Held, Status};
 use cdi_deploy::deployment::Scope;
+use cdi_machine::Failure;
 use cdi_store::{Context, Owner, Phase};
-use std::alloc::AllocError;
 
 /// Obtains the contextual instance of a bean (Jakarta CDI 4.0, *Contextual instance of a bean*).
 #[tactic(auto, using(crate::proofs::ObtainingSteps::leads))]
 pub(super) fn obtain<H: Host>(host: &H, bean: u32) -> Next
-    ensures leads { Leads (H.setting host.now) (Task.Start (Call.Obtain bean))
+    ensures leads { MovesTo (H.setting host.now) (Task.Start (Call.Obtain bean))
         (H.world host.now) result (H.world host.now) }
     ensures falls { Falls (Task.Start (Call.Obtain bean))
         (H.world host.now) result (H.world host.now) }
@@ -51,7 +51,7 @@ pub(super) fn obtain<H: Host>(host: &H, bean: u32) -> Next
 /// instance, or one that lasts as long as the command.
 #[tactic(auto, using(crate::proofs::ObtainingSteps::leads))]
 pub(super) fn using<H: Host>(host: &H, bean_type: Name, method: Name, args: Seq<Value>) -> Next
-    ensures leads { Leads (H.setting host.now) (Task.Using bean_type method args)
+    ensures leads { MovesTo (H.setting host.now) (Task.Using bean_type method args)
         (H.world host.now) result (H.world host.now) }
     ensures falls { Falls (Task.Using bean_type method args)
         (H.world host.now) result (H.world host.now) }
@@ -67,12 +67,15 @@ pub(super) fn using<H: Host>(host: &H, bean_type: Name, method: Name, args: Seq<
     };
     match plan.scope {
         Scope::ApplicationScoped => {
-            Next::Needs(Call::Obtain { bean }, Frame::Reaching { method, args })
+            Next::Needs(
+                Task::Start(Call::Obtain { bean }),
+                Frame::Reaching { method, args },
+            )
         }
         Scope::Dependent => {
             let owner = Owner::Borrower;
             Next::Needs(
-                Call::Create { bean, owner },
+                Task::Start(Call::Create { bean, owner }),
                 Frame::Borrowing { method, args },
             )
         }
@@ -86,8 +89,8 @@ pub(super) fn lent<H: Host>(
     number: u32,
     method: Name,
     args: Seq<Value>,
-) -> Result<Next, AllocError>
-    ensures leads { IfOk result (λ next. Leads (H.setting host.old)
+) -> Result<Next, Failure>
+    ensures leads { IfOk result (λ next. MovesTo (H.setting host.old)
         (Task.Lent number method args) (H.world host.old) next (H.world host.new)) }
     ensures falls { IfOk result (λ next. Falls (Task.Lent number method args)
         (H.world host.old) next (H.world host.new)) }

@@ -1,12 +1,23 @@
-use Rattle.std.proofs.Common.{◌∙◌, ap}
-use Rattle.cdi_shell.specs.Endings.{after_serving}
+use Rattle.std.proofs.Common.{sym, subst, Result, OnOk, IsTrue}
+use Rattle.cdi_lines.specs.declared.fault.ServeFault.{ServeFault}
+use Rattle.cdi_lines.specs.Served.{Blames}
+use Rattle.cdi_shell.specs.Drive.{Streams}
+use Rattle.cdi_shell.proofs.Playing.{outcome_is, lives}
 use Rattle.cdi_shell.proofs.drive.live.Goals as goal
 
-pub returns-clause-served : goal.returns-clause-served
-returns-clause-served g c =
-    record {
-      after = c.serve-served.new.container;
-      result = c.serve-served.result;
-      served = c.serve-served.ensures.served;
-      is_ending = c.after_serving.ensures ∙ ap (after_serving c.serve-served.result) c.halted.ensures;
-    }
+pub returns-clause-lives : goal.returns-clause-lives
+returns-clause-lives g c =
+    let streams : Streams = record { unread = g.R.Source.unread c.args.input.now; unread_after = g.R.Source.unread c.serve-served.new.input; held = g.W.Sink.written c.args.output.now; held_after = g.W.Sink.written c.serve-served.new.output } in
+    lives (λ driver. g.D.Driver.legal driver) (g.D.Driver.legal c.args.driver) c.args.accepted c.args.limits.depth c.args.limits.ticks c.start-container.result c.serve-served.new.container streams
+    c.serve-served.result c.halted.result c.after_serving.result c.start-container.ensures c.serve-served.ensures.served
+    c.halted.ensures c.after_serving.ensures
+
+pub returns-clause-passed_on : goal.returns-clause-passed_on
+returns-clause-passed_on g c =
+    subst (λ (r : Result (Unit {0}) ServeFault). OnOk r (IsTrue (g.W.Sink.is_passed_on c.serve-served.new.output))) (sym (outcome_is c.after_serving.result c.serve-served.result _ c.after_serving.ensures))
+    c.serve-served.ensures.passed_on
+
+pub returns-clause-blames : goal.returns-clause-blames
+returns-clause-blames g c =
+    subst (λ (r : Result (Unit {0}) ServeFault). Blames r (g.R.Source.has_failed c.args.input.now) (g.R.Source.has_failed c.serve-served.new.input) (g.W.Sink.has_failed c.args.output.now) (g.W.Sink.has_failed c.serve-served.new.output))
+    (sym (outcome_is c.after_serving.result c.serve-served.result _ c.after_serving.ensures)) c.serve-served.ensures.blames

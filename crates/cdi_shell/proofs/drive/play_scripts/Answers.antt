@@ -1,4 +1,4 @@
-use Rattle.std.proofs.Common.{rules, ◌≡◌, ◌<◌, ◌∙◌, ◌++◌, ◌∷◌, [], List, Ok, true, false, sym, ap, subst, length, length-append, is_some, arith}
+use Rattle.std.proofs.Common.{rules, ◌≡◌, ◌<◌, ◌∙◌, ◌++◌, ◌∷◌, [], List, Ok, true, false, refl, sym, ap, length, length-append, is_some, arith}
 use Rattle.std.specs.Prelude.{fold}
 use Rattle.cdi_bodies.specs.Table.{entries_of}
 use Rattle.cdi_bodies.specs.Gives.{place_of}
@@ -7,9 +7,10 @@ use Rattle.cdi_script.proofs.Boxed.{made_post}
 use Rattle.cdi_script.proofs.Following.{nil_of}
 use Rattle.cdi_script.proofs.Within.{lies}
 use Rattle.cdi_shell.specs.declared.scripts.NamedScript.{NamedScript}
-use Rattle.cdi_shell.specs.Drive.{place_under}
+use Rattle.cdi_shell.specs.Drive.{Streams, place_under}
 use Rattle.cdi_shell.specs.Scripts.{added, registered}
-use Rattle.cdi_shell.proofs.Holding.{Holds, holds_add, same_length, same_place, add_known, add_new, not_full}
+use Rattle.cdi_shell.proofs.Holding.{holds_add, same_length, same_place, add_known, add_new, holds_all, not_full}
+use Rattle.cdi_shell.proofs.Playing.{plays, refused}
 use Rattle.cdi_shell.proofs.Scripted.{scripts_play}
 use Rattle.cdi_shell.proofs.drive.play_scripts.OwnLists.{own-1, at-1-1}
 use Rattle.cdi_shell.proofs.drive.play_scripts.Goals as goal
@@ -49,12 +50,24 @@ unreachable-requires-in-Err-Full g c =
     let few : length (entries_of c.loop-named.bodies) < 4096 = omega (arith, inv.3, ap (λ (t : List NamedScript). length t) c.in-Some.ensures.steps.0, same_length (entries_of c.loop-named.bodies) inv.0 inv.1) in
     not_full _ _ (c.in-Err-Full.ensures.full.0 (search rules)) few
 
-pub returns-clause-plays : goal.returns-clause-plays
-returns-clause-plays g c =
+pub returns-in-Ok-accept-clause-plays : goal.returns-in-Ok-accept-clause-plays
+returns-in-Ok-accept-clause-plays g c =
     let inv = c.loop-named.invariant in
+    let entries = entries_of c.loop-named.bodies in
+    let scripts = c.args.prepared.scripts.items in
     let all : c.loop-named.named-iterator.rest.items ≡ [] = nil_of c.loop-named.named-iterator.rest.items (let z : c.loop-named.named-iterator.rest.len ≡ 0 = c.in-None.ensures.steps.0 in omega arith) in
-    let found : inv.0 ≡ registered c.args.prepared.scripts.items = sym (ap (λ (t : List NamedScript). fold added inv.0 t) all) ∙ inv.2 in
-    let holds = subst (λ (ss : List NamedScript). Holds (entries_of c.loop-named.bodies) ss) found inv.1 in
-    scripts_play c.args.limits.depth c.args.limits.ticks c.args.prepared.deployment (entries_of c.loop-named.bodies) (registered c.args.prepared.scripts.items)
-    (record { unread = g.R.Source.unread c.args.input.now; unread_after = g.R.Source.unread c.play.new.input; held = g.W.Sink.written c.args.output.now; held_after = g.W.Sink.written c.play.new.output })
-    c.play.result holds c.play.ensures.plays
+    let streams : Streams = record { unread = g.R.Source.unread c.args.input.now; unread_after = g.R.Source.unread c.live.new.input; held = g.W.Sink.written c.args.output.now; held_after = g.W.Sink.written c.live.new.output } in
+    scripts_play c.args.limits.depth c.args.limits.ticks c.args.prepared.deployment entries (registered scripts) streams c.live.result
+    (holds_all entries inv.0 c.loop-named.named-iterator.rest.items scripts inv.1 inv.2 all)
+    (plays c.args.prepared.deployment entries c.args.limits.depth c.args.limits.ticks streams c.live.result c.in-Ok-accept.accepted c.in-Ok-accept.ensures.ok c.live.ensures.lives)
+
+pub returns-in-Err-clause-plays : goal.returns-in-Err-clause-plays
+returns-in-Err-clause-plays g c =
+    let inv = c.loop-named.invariant in
+    let entries = entries_of c.loop-named.bodies in
+    let scripts = c.args.prepared.scripts.items in
+    let all : c.loop-named.named-iterator.rest.items ≡ [] = nil_of c.loop-named.named-iterator.rest.items (let z : c.loop-named.named-iterator.rest.len ≡ 0 = c.in-None.ensures.steps.0 in omega arith) in
+    let streams : Streams = record { unread = g.R.Source.unread c.args.input.now; unread_after = g.R.Source.unread c.args.input.now; held = g.W.Sink.written c.args.output.now; held_after = g.W.Sink.written c.refuse_unaccepted.new.output } in
+    scripts_play c.args.limits.depth c.args.limits.ticks c.args.prepared.deployment entries (registered scripts) streams c.refuse_unaccepted.result
+    (holds_all entries inv.0 c.loop-named.named-iterator.rest.items scripts inv.1 inv.2 all)
+    (refused c.args.prepared.deployment entries c.args.limits.depth c.args.limits.ticks streams c.refuse_unaccepted.result c.in-Err.unaccepted c.in-Err.ensures.err refl c.refuse_unaccepted.ensures.refuses)

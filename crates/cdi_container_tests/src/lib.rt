@@ -1,0 +1,27 @@
+//! Tests of the bean list, the world, the engine and the container.
+#![tactic(auto)]
+
+#[cfg(test)]
+mod acceptance;
+#[cfg(test)]
+mod beans;
+#[cfg(test)]
+mod bodies;
+#[cfg(test)]
+mod budgets;
+#[cfg(test)]
+mod checks;
+#[cfg(test)]
+mod containers;
+#[cfg(test)]
+mod deployed;
+#[cfg(test)]
+mod many_beans;
+#[cfg(test)]
+mod refusals;
+#[cfg(test)]
+mod runs;
+#[cfg(test)]
+mod traces;
+#[cfg(test)]
+mod worlds;

@@ -1,0 +1,76 @@
+//! As many beans as there may be, and one more.
+use crate::checks::expect_same;
+use cdi_base::{Name, Names, Seq, is_name};
+use cdi_beans::check::problems;
+use cdi_beans::problem::ProblemKind;
+use cdi_bodies::Bodies;
+use cdi_deploy::{Bean, Class, Deployment, Scope};
+use std::alloc::Global;
+use std::process::Abort;
+use std::test::Fail;
+
+/// The name of the class with this number.
+fn class_name(alloc: Global, names: &mut Names, number: u32) -> Result<Name, Fail> {
+    let text = format!(in alloc; "K{number}")?;
+    if !is_name(text.as_str()) {
+        return Err("K and a number are a name")?;
+    }
+    Ok(names.intern(text.as_str())?)
+}
+
+/// A class that is a bean and has nothing else.
+fn bean_class(alloc: Global, name: Name) -> Class {
+    Class {
+        name,
+        bean: Some(Bean {
+            scope: Scope::Dependent,
+        }),
+        fields: Seq::empty(alloc),
+        members: Seq::empty(alloc),
+    }
+}
+
+/// A deployment of so many beans.
+pub(crate) fn beans(alloc: Global, count: u32) -> Result<Deployment, Fail> {
+    let mut names = Names::with_built_in(alloc)?;
+    let mut classes = Seq::empty(alloc);
+    for number in 0..count {
+        let name = class_name(alloc, &mut names, number)?;
+        classes.push(bean_class(alloc, name))?;
+    }
+    Ok(Deployment {
+        names,
+        classes,
+        scripts: Seq::empty(alloc),
+    })
+}
+
+/// The kinds of the first two problems of so many beans.
+fn first_problems(
+    alloc: Global,
+    count: u32,
+) -> Result<(Option<ProblemKind>, Option<ProblemKind>), Fail> {
+    let deployment = beans(alloc, count)?;
+    let found = problems(alloc, &deployment, &Bodies::new(alloc))?;
+    let first = found.get(0).map(|problem| problem.kind);
+    let second = found.get(1).map(|problem| problem.kind);
+    Ok((first, second))
+}
+
+/// Checks the kind of the only problem of so many beans, or that there is none.
+fn check_beans(
+    rt: &impl Abort,
+    alloc: Global,
+    count: u32,
+    wanted: Option<ProblemKind>,
+) -> Result<(), Fail> {
+    let found = first_problems(alloc, count)?;
+    expect_same(rt, &found, &(wanted, None));
+    Ok(())
+}
+
+#[test]
+fn counts_many_beans(rt: HostRuntime) -> Result<(), Fail> {
+    check_beans(&rt, rt.alloc(), 4_096, None)?;
+    check_beans(&rt, rt.alloc(), 4_097, Some(ProblemKind::TooMany))
+}

@@ -1,0 +1,178 @@
+//! Why what is asked for is refused: each refusal, with those behind it in the order holding too.
+ghost use Rattle.cdi_beans.specs.Beans.{KnowsEach};
+ghost use Rattle.cdi_presence.specs.Missing.{GivesServed};
+
+use crate::checks::expect_same_at;
+use crate::deployed::{Asks, TWO, accept_well, carry_out, deploy, job_of};
+use cdi_base::{Limits, Names, Refusal, Seq, Text, Value};
+use cdi_bodies::Bodies;
+use cdi_container::Accepted;
+use cdi_engine::Job;
+use cdi_machine::Driver;
+use cdi_runtime::Runtime;
+use std::alloc::{AllocError, Global};
+use std::process::Abort;
+use std::test::Fail;
+
+/// What is asked for: a type, a method and how many values, or a job without these.
+#[derive(Clone, Copy, Debug)]
+enum Wanted {
+    Boot,
+    Call(&'static str, &'static str, u32),
+    Shutdown,
+}
+
+fn args_of(alloc: Global, count: u32) -> Result<Seq<Value>, AllocError> {
+    let mut args = Seq::empty(alloc);
+    for _ in 0..count {
+        args.push(Value::Null)?;
+    }
+    Ok(args)
+}
+
+fn job_for(alloc: Global, names: &Names, wanted: Wanted) -> Result<Job, AllocError> {
+    Ok(match wanted {
+        Wanted::Boot => Job::Boot,
+        Wanted::Call(bean_type, method, count) => Job::Call {
+            bean_type: names.name_for(bean_type),
+            method: names.name_for(method),
+            args: args_of(alloc, count)?,
+        },
+        Wanted::Shutdown => Job::Shutdown,
+    })
+}
+
+/// Whether the container has halted, whether a request is named, what is asked for, and why it is refused.
+type Row = (bool, bool, Wanted, Option<Refusal>);
+
+/// Why it is refused.
+fn refusal_in<D: Driver>(
+    alloc: Global,
+    runtime: &Runtime<D>,
+    row: &Row,
+) -> Result<Option<Refusal>, AllocError> {
+    let &(halted, in_request, wanted, _) = row;
+    let request = Text::from_str(alloc, "R")?;
+    let request = if in_request { Some(&request) } else { None };
+    let job = job_for(alloc, &runtime.tables().names, wanted)?;
+    Ok(runtime.refusal(halted, request, &job))
+}
+
+/// Carries a job out, and then checks why each is refused.
+fn check_behind<D: Driver>(
+    rt: &impl Abort,
+    alloc: Global,
+    runtime: &mut Runtime<D>,
+    first: Asks,
+    rows: &[Row],
+) -> Result<(), Fail> {
+    let job = job_of(alloc, &runtime.tables().names, first)?;
+    carry_out(runtime, job)?;
+    for row in rows {
+        let refusal = refusal_in(alloc, runtime, row)?;
+        expect_same_at(rt, &row.2, &refusal, &row.3);
+    }
+    Ok(())
+}
+
+/// Checks why each is refused, before anything was done or after a shutdown.
+fn check_each<D: Driver + Drop>(
+    rt: &impl Abort,
+    alloc: Global,
+    accepted: Accepted,
+    driver: D,
+    first: Asks,
+    rows: &[Row],
+) -> Result<(), Fail>
+    requires knows { KnowsEach (D.knows driver) accepted.tables.beans }
+    requires serves { GivesServed accepted.tables (D.legal driver) }
+{
+    let Accepted { tables, classes } = accepted;
+    let mut runtime = Runtime::new(alloc, tables, classes, driver, Limits::default());
+    check_behind(rt, alloc, &mut runtime, first, rows)
+}
+
+/// Checks why each is refused behind a job.
+fn check_refusals(rt: &impl Abort, alloc: Global, first: Asks, rows: &[Row]) -> Result<(), Fail> {
+    let mut bodies = Bodies::new(alloc);
+    let deployment = deploy(alloc, TWO, 1, &mut bodies)?;
+    let accepted = accept_well(alloc, deployment, &bodies)?;
+    check_each(rt, alloc, accepted, bodies, first, rows)
+}
+
+#[test]
+fn refuses_in_order(rt: HostRuntime) -> Result<(), Fail> {
+    let rows = [
+        (true, true, Wanted::Call("X", "x", 0), Some(Refusal::Halted)),
+        (true, false, Wanted::Shutdown, Some(Refusal::Halted)),
+        (true, false, Wanted::Boot, Some(Refusal::Halted)),
+        (
+            false,
+            true,
+            Wanted::Call("X", "x", 0),
+            Some(Refusal::NoRequest),
+        ),
+        (
+            false,
+            false,
+            Wanted::Call("X", "x", 0),
+            Some(Refusal::UnknownName),
+        ),
+        (
+            false,
+            false,
+            Wanted::Call("up", "up", 1),
+            Some(Refusal::UnknownName),
+        ),
+        (
+            false,
+            false,
+            Wanted::Call("A", "x", 0),
+            Some(Refusal::NoMethod),
+        ),
+        (
+            false,
+            false,
+            Wanted::Call("A", "up", 0),
+            Some(Refusal::WrongCount),
+        ),
+        (
+            false,
+            false,
+            Wanted::Call("A", "up", 2),
+            Some(Refusal::WrongCount),
+        ),
+        (false, false, Wanted::Call("A", "up", 1), None),
+    ];
+    check_refusals(&rt, rt.alloc(), Asks::Boot, &rows)
+}
+
+/// A call of a type that resolves to no bean, or to several, isn't refused: it throws.
+#[test]
+fn refuses_no_call_that_throws(rt: HostRuntime) -> Result<(), Fail> {
+    let rows = [
+        (false, false, Wanted::Call("P", "x", 0), None),
+        (false, false, Wanted::Call("Startup", "x", 0), None),
+        (false, false, Wanted::Call("Shutdown", "x", 0), None),
+        (false, false, Wanted::Call("Object", "x", 0), None),
+        (false, false, Wanted::Boot, None),
+        (false, true, Wanted::Shutdown, None),
+    ];
+    check_refusals(&rt, rt.alloc(), Asks::Call("A", 0), &rows)
+}
+
+#[test]
+fn refuses_all_once_it_is_down(rt: HostRuntime) -> Result<(), Fail> {
+    let rows = [
+        (true, false, Wanted::Shutdown, Some(Refusal::Halted)),
+        (false, true, Wanted::Call("X", "x", 0), Some(Refusal::Down)),
+        (
+            false,
+            false,
+            Wanted::Call("A", "up", 1),
+            Some(Refusal::Down),
+        ),
+        (false, false, Wanted::Shutdown, Some(Refusal::Down)),
+    ];
+    check_refusals(&rt, rt.alloc(), Asks::Shutdown, &rows)
+}

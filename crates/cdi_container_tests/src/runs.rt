@@ -1,0 +1,309 @@
+//! Runs of the engine: which entries each job gives, how it ends, and how many instances live then.
+ghost use Rattle.cdi_beans.specs.Beans.{KnowsEach};
+ghost use Rattle.cdi_presence.specs.Missing.{GivesServed};
+
+use crate::checks::{expect_same, expect_same_at};
+use crate::deployed::{Asks, DEPENDENT, End, SHARED, TWO, accept_well, carry_out, deploy, job_of};
+use crate::traces::trace_text;
+use cdi_base::{BuiltIn, Cause, Limits};
+use cdi_bodies::Bodies;
+use cdi_container::Accepted;
+use cdi_machine::Driver;
+use cdi_runtime::Runtime;
+use std::alloc::{AllocError, Global};
+use std::process::Abort;
+use std::test::Fail;
+
+/// A job, how it ends, its entries, and how many instances live then.
+type Row = (Asks, End, &'static str, usize);
+
+/// The entries of the job before.
+fn text_of<D: Driver>(alloc: Global, runtime: &Runtime<D>) -> Result<String, AllocError> {
+    trace_text(alloc, &runtime.tables().names, runtime.world().trace())
+}
+
+/// How many instances live.
+fn live_in<D: Driver>(alloc: Global, runtime: &Runtime<D>) -> Result<usize, AllocError> {
+    Ok(runtime.world().numbers(alloc)?.len())
+}
+
+/// Checks what stands behind a job.
+fn check_behind<D: Driver>(
+    rt: &impl Abort,
+    alloc: Global,
+    runtime: &Runtime<D>,
+    row: &Row,
+    end: End,
+) -> Result<(), AllocError> {
+    let &(asks, wanted, trace, live) = row;
+    expect_same_at(rt, &asks, &end, &wanted);
+    let text = text_of(alloc, runtime)?;
+    expect_same_at(rt, &asks, &text.as_str(), &trace);
+    expect_same_at(rt, &asks, &live_in(alloc, runtime)?, &live);
+    Ok(())
+}
+
+/// Carries jobs out one after the other, and checks each.
+fn check_rows<D: Driver>(
+    rt: &impl Abort,
+    alloc: Global,
+    runtime: &mut Runtime<D>,
+    rows: &[Row],
+) -> Result<(), Fail> {
+    for row in rows {
+        let job = job_of(alloc, &runtime.tables().names, row.0)?;
+        let end = carry_out(runtime, job)?;
+        check_behind(rt, alloc, runtime, row, end)?;
+    }
+    Ok(())
+}
+
+/// Checks jobs from before the boot on.
+fn check_jobs<D: Driver + Drop>(
+    rt: &impl Abort,
+    alloc: Global,
+    accepted: Accepted,
+    driver: D,
+    rows: &[Row],
+) -> Result<(), Fail>
+    requires knows { KnowsEach (D.knows driver) accepted.tables.beans }
+    requires serves { GivesServed accepted.tables (D.legal driver) }
+{
+    let Accepted { tables, classes } = accepted;
+    let mut runtime = Runtime::new(alloc, tables, classes, driver, Limits::default());
+    check_rows(rt, alloc, &mut runtime, rows)
+}
+
+/// Checks the jobs of a deployment whose bodies count once.
+fn check_runs(rt: &impl Abort, alloc: Global, text: &str, rows: &[Row]) -> Result<(), Fail> {
+    let mut bodies = Bodies::new(alloc);
+    let deployment = deploy(alloc, text, 1, &mut bodies)?;
+    let accepted = accept_well(alloc, deployment, &bodies)?;
+    check_jobs(rt, alloc, accepted, bodies, rows)
+}
+
+/// The entries of a boot.
+const BOOTED: &str = "event Object Initialized ApplicationScoped;event Startup;";
+
+#[test]
+fn counts(rt: HostRuntime) -> Result<(), Fail> {
+    let rows = [
+        (Asks::Boot, End::GaveNull, BOOTED, 0),
+        (
+            Asks::Call("K", 0),
+            End::Gave(1),
+            "new 1 K;ready 1;run 1 K#up;set n 1;give 1;",
+            1,
+        ),
+        (
+            Asks::Call("K", 0),
+            End::Gave(2),
+            "run 1 K#up;set n 2;give 2;",
+            1,
+        ),
+        (
+            Asks::Call("Object", 1),
+            End::Gave(4),
+            "run 1 K#up;set n 3;own up 0;run 1 K#up;set n 4;give 4;give 4;",
+            1,
+        ),
+        (
+            Asks::Shutdown,
+            End::GaveNull,
+            "event Shutdown;event Object BeforeDestroyed ApplicationScoped;end 1;gone 1;event Object Destroyed ApplicationScoped;",
+            0,
+        ),
+    ];
+    check_runs(&rt, rt.alloc(), SHARED, &rows)
+}
+
+#[test]
+fn shuts_down_what_is_empty(rt: HostRuntime) -> Result<(), Fail> {
+    let rows = [
+        (Asks::Boot, End::GaveNull, BOOTED, 0),
+        (
+            Asks::Shutdown,
+            End::GaveNull,
+            "event Shutdown;event Object BeforeDestroyed ApplicationScoped;event Object Destroyed ApplicationScoped;",
+            0,
+        ),
+        (
+            Asks::Call("K", 0),
+            End::Threw(BuiltIn::ContextNotActiveException.name()),
+            "",
+            0,
+        ),
+    ];
+    check_runs(&rt, rt.alloc(), SHARED, &rows)
+}
+
+#[test]
+fn destroys_what_a_call_borrowed(rt: HostRuntime) -> Result<(), Fail> {
+    let rows = [
+        (
+            Asks::Call("K", 0),
+            End::Gave(1),
+            "new 1 K;ready 1;run 1 K#up;set n 1;give 1;end 1;gone 1;",
+            0,
+        ),
+        (
+            Asks::Call("K", 1),
+            End::Gave(2),
+            "new 2 K;ready 2;run 2 K#up;set n 1;own up 0;run 2 K#up;set n 2;give 2;give 2;end 2;gone 2;",
+            0,
+        ),
+    ];
+    check_runs(&rt, rt.alloc(), DEPENDENT, &rows)
+}
+
+#[test]
+fn ends_the_latest_first(rt: HostRuntime) -> Result<(), Fail> {
+    let rows = [
+        (
+            Asks::Call("B", 0),
+            End::Gave(11),
+            "new 1 B;ready 1;run 1 B#up;set n 11;give 11;",
+            1,
+        ),
+        (
+            Asks::Call("A", 0),
+            End::Gave(1),
+            "new 2 A;ready 2;run 2 A#up;set n 1;give 1;",
+            2,
+        ),
+        (
+            Asks::Call("Object", 0),
+            End::Threw(BuiltIn::AmbiguousResolutionException.name()),
+            "",
+            2,
+        ),
+        (
+            Asks::Call("P", 0),
+            End::Threw(BuiltIn::UnsatisfiedResolutionException.name()),
+            "",
+            2,
+        ),
+        (
+            Asks::Shutdown,
+            End::GaveNull,
+            "event Shutdown;event Object BeforeDestroyed ApplicationScoped;end 2;gone 2;end 1;gone 1;event Object Destroyed ApplicationScoped;",
+            0,
+        ),
+    ];
+    check_runs(&rt, rt.alloc(), TWO, &rows)
+}
+
+// ---- many
+
+/// How a call ended, how many entries it gave, how many instances live, and the next number.
+#[derive(Clone, Copy, Debug, PartialEq, Eq)]
+struct Behind {
+    end: End,
+    entries: u64,
+    live: usize,
+    next: Option<u32>,
+}
+
+/// Makes a call so many times, and tells how the last ended.
+fn call_again<D: Driver>(
+    alloc: Global,
+    runtime: &mut Runtime<D>,
+    asks: Asks,
+    times: u32,
+) -> Result<End, Fail> {
+    let mut end = End::Other;
+    for _ in 0..times {
+        let job = job_of(alloc, &runtime.tables().names, asks)?;
+        end = carry_out(runtime, job)?;
+    }
+    Ok(end)
+}
+
+/// Makes a call so many times, and tells what stands behind the last.
+fn behind_calls<D: Driver>(
+    alloc: Global,
+    runtime: &mut Runtime<D>,
+    asks: Asks,
+    times: u32,
+) -> Result<Behind, Fail> {
+    let end = call_again(alloc, runtime, asks, times)?;
+    Ok(Behind {
+        end,
+        entries: runtime.world().entries(),
+        live: live_in(alloc, runtime)?,
+        next: runtime.world().next_number(),
+    })
+}
+
+/// The same under default limits, in a world in which nothing was done before.
+fn call_often<D: Driver + Drop>(
+    alloc: Global,
+    accepted: Accepted,
+    driver: D,
+    asks: Asks,
+    times: u32,
+) -> Result<Behind, Fail>
+    requires knows { KnowsEach (D.knows driver) accepted.tables.beans }
+    requires serves { GivesServed accepted.tables (D.legal driver) }
+{
+    let Accepted { tables, classes } = accepted;
+    let mut runtime = Runtime::new(alloc, tables, classes, driver, Limits::default());
+    behind_calls(alloc, &mut runtime, asks, times)
+}
+
+/// Checks what stands behind a call that was made so many times, of a deployment whose bodies count once.
+fn check_often(
+    rt: &impl Abort,
+    alloc: Global,
+    text: &str,
+    asks: Asks,
+    times: u32,
+    wanted: Behind,
+) -> Result<(), Fail> {
+    let mut bodies = Bodies::new(alloc);
+    let deployment = deploy(alloc, text, 1, &mut bodies)?;
+    let accepted = accept_well(alloc, deployment, &bodies)?;
+    let behind = call_often(alloc, accepted, bodies, asks, times)?;
+    expect_same(rt, &behind, &wanted);
+    Ok(())
+}
+
+fn left_behind(end: End, entries: u64, live: usize, next: u32) -> Behind {
+    Behind {
+        end,
+        entries,
+        live,
+        next: Some(next),
+    }
+}
+
+/// No instance of a dependent bean is left by a thousand calls, and of a shared one there is one.
+#[test]
+fn leaves_nothing_behind(rt: HostRuntime) -> Result<(), Fail> {
+    let rows = [
+        (DEPENDENT, left_behind(End::Gave(1), 7, 0, 1_001)),
+        (SHARED, left_behind(End::Gave(1_000), 3, 1, 2)),
+    ];
+    for (text, wanted) in rows {
+        check_often(&rt, rt.alloc(), text, Asks::Call("K", 0), 1_000, wanted)?;
+    }
+    Ok(())
+}
+
+/// A bean that calls itself for ever is cut below the 32nd level: 2 entries for the instance, and 3 for each level. One that
+/// does so 31 times comes to its end: 2 entries for the instance, 4 for each level but the last, 3 for that, and 2 for the
+/// end. What was made for a call that was cut stays.
+#[test]
+fn goes_down_to_the_last_level(rt: HostRuntime) -> Result<(), Fail> {
+    let rows = [
+        (
+            Asks::Call("Object", i64::MAX),
+            left_behind(End::Cut(Cause::Depth), 98, 1, 2),
+        ),
+        (Asks::Call("K", 31), left_behind(End::Gave(32), 131, 0, 2)),
+    ];
+    for (asks, wanted) in rows {
+        check_often(&rt, rt.alloc(), DEPENDENT, asks, 1, wanted)?;
+    }
+    Ok(())
+}
