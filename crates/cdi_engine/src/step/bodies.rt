@@ -1,12 +1,11 @@
 //! The steps of bodies.
-ghost use Rattle.std.specs.Prelude.{◌≡◌, IfOk, OnErr, IfSome, IsTrue, option_map};
+ghost use Rattle.std.specs.Prelude.{◌≡◌, IfOk, OnErr, IsTrue};
 ghost use Rattle.cdi_base.specs.BuiltIn.{number_of};
 ghost use Rattle.cdi_base.specs.declared.act.Act.TheVariants.{Set, Own};
-ghost use Rattle.cdi_beans.specs.Served.{machine_method};
 ghost use Rattle.cdi_machine.specs.World.{instance_at};
-ghost use Rattle.cdi_machine.specs.Bodies.{with_answer, invoke_method};
+ghost use Rattle.cdi_machine.specs.Bodies.{with_answer};
 ghost use Rattle.cdi_engine.specs.Setting.{Narrows, is_served};
-ghost use Rattle.cdi_engine.specs.Asked.{method_of_instance, has_field_in};
+ghost use Rattle.cdi_engine.specs.Asked.{has_field_in};
 ghost use Rattle.cdi_engine.specs.Words.{running_of, completion_of};
 ghost use Rattle.cdi_engine.specs.Points.{go_on_with, told};
 ghost use Rattle.cdi_engine.specs.Leads.{MovesTo, Settles};
@@ -69,8 +68,8 @@ pub(super) fn entered<H: Host>(host: &mut H, running: Running) -> Result<Next, F
 #[tactic(auto, using(crate::proofs::BodySteps::leads))]
 pub(super) fn acts<H: Host>(host: &mut H, running: Running) -> Result<Next, Failure>
     requires { (H.setting host.old).knows running.body }
-    ensures leads { IfOk result (λ next. MovesTo (H.setting host.old) (Task.Start (Call.Acts running))
-        (H.world host.old) next (H.world host.new)) }
+    ensures leads { IfOk result (λ next. MovesTo (H.setting host.old)
+        (Task.Start (Call.Acts running)) (H.world host.old) next (H.world host.new)) }
     ensures falls { IfOk result (λ next. Falls (Task.Start (Call.Acts running))
         (H.world host.old) next (H.world host.new)) }
     ensures known { IfOk result (KnownNext (H.setting host.new) (H.world host.new)) }

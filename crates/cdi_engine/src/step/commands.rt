@@ -8,7 +8,7 @@ ghost use Rattle.cdi_engine.specs.Known.{KnownNext};
 use crate::events::entry_of;
 use crate::host::Host;
 use crate::step::null;
-use crate::task::{Call, Completion, ContainerEvent, Frame, Job, Next, Outcome, Task};
+use crate::task::{Call, ContainerEvent, Frame, Job, Next, Task};
 use cdi_base::{Name, Seq, Value};
 use cdi_machine::Failure;
 

@@ -20,8 +20,8 @@ use cdi_world::Invocation;
 /// Begins the destruction of an instance (Jakarta CDI 4.0, *Lifecycle of managed beans*).
 #[tactic(auto, using(crate::proofs::DestructionSteps::leads))]
 pub(super) fn destroy<H: Host>(host: &H, number: u32) -> Result<Next, Failure>
-    ensures leads { IfOk result (λ next. MovesTo (H.setting host.now) (Task.Start (Call.Destroy number))
-        (H.world host.now) next (H.world host.now)) }
+    ensures leads { IfOk result (λ next. MovesTo (H.setting host.now)
+        (Task.Start (Call.Destroy number)) (H.world host.now) next (H.world host.now)) }
     ensures falls { IfOk result (λ next. Falls (Task.Start (Call.Destroy number))
         (H.world host.now) next (H.world host.now)) }
     ensures known { IfOk result (KnownNext (H.setting host.now) (H.world host.now)) }

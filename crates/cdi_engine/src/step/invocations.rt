@@ -11,7 +11,7 @@ ghost use Rattle.cdi_engine.specs.Known.{KnownNext};
 
 use crate::host::Host;
 use crate::step::{missing, null};
-use crate::task::{Call, Completion, Frame, Given, Next, Outcome, Running, Task};
+use crate::task::{Call, Frame, Next, Running, Task};
 use cdi_base::{InterceptorMethod, Name, Seq, Value};
 use cdi_beans::bean::Method;
 use cdi_bodies::View;
