@@ -48,7 +48,7 @@ pub(super) fn body<H: Host>(host: &H, running: Running) -> Next
 
 /// Runs the acts of a body.
 #[tactic(auto, using(crate::proofs::BodySteps::leads))]
-pub(super) fn entered<H: Host>(host: &mut H, running: Running) -> Result<Next, Failure>
+pub(super) fn entered<H: Host>(host: &mut H, running: Running) -> Result<Next, AllocError>
     requires { (H.setting host.old).knows running.body }
     ensures leads { IfOk result (λ next. MovesTo (H.setting host.old) (Task.Entered running)
         (H.world host.old) next (H.world host.new)) }
@@ -86,7 +86,7 @@ pub(super) fn acts<H: Host>(host: &mut H, running: Running) -> Result<Next, Fail
 
 /// Does what a body gave.
 #[tactic(auto, using(crate::proofs::BodySteps::leads))]
-pub(super) fn acted<H: Host>(host: &mut H, running: Running, act: Act) -> Result<Next, Failure>
+pub(super) fn acted<H: Host>(host: &mut H, running: Running, act: Act) -> Result<Next, AllocError>
     requires known { (H.setting host.old).knows running.body }
     requires served { IsTrue (is_served act) }
     ensures leads { IfOk result (λ next. MovesTo (H.setting host.old) (Task.Acted running act)
@@ -115,7 +115,7 @@ fn set_field<H: Host>(
     running: Running,
     field: Name,
     value: Value,
-) -> Result<Next, Failure>
+) -> Result<Next, AllocError>
     requires { (H.setting host.old).knows running.body }
     ensures leads { IfOk result (λ next. MovesTo (H.setting host.old)
         (Task.Acted running (Set field value)) (H.world host.old) next (H.world host.new)) }
@@ -159,7 +159,7 @@ fn call_own<H: Host>(
     running: Running,
     method: Name,
     args: Seq<Value>,
-) -> Result<Next, Failure>
+) -> Result<Next, AllocError>
     requires { (H.setting host.now).knows running.body }
     ensures leads { IfOk result (λ next. MovesTo (H.setting host.now)
         (Task.Acted running (Own method args)) (H.world host.now) next (H.world host.now)) }
@@ -222,7 +222,7 @@ pub(super) fn answer<H: Host>(
     host: &H,
     running: Running,
     completion: Completion,
-) -> Result<Next, Failure>
+) -> Result<Next, AllocError>
     requires { (H.setting host.now).knows running.body }
     ensures leads { IfOk result (λ next. Settles (H.setting host.now)
         (go_on_with (running_of running) (completion_of completion))
