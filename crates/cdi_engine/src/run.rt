@@ -40,7 +40,8 @@ fn run_task<H: Host>(host: &mut H, task: Task) -> Result<Outcome, Failure>
 
 /// Writes an entry and goes on, if the budget allows for one more. Memory can be wanting; on an error nothing changes.
 fn write<H: Host>(host: &mut H, entry: Entry, next: Task) -> Result<Option<Task>, AllocError>
-    ensures ok { IfOk result (λ point. Noted entry next (H.world host.old) point (H.world host.new)) }
+    ensures ok { IfOk result (λ point. Noted entry next
+        (H.world host.old) point (H.world host.new)) }
     ensures err { OnErr result (H.world host.new ≡ H.world host.old) }
     ensures narrows { Narrows (H.setting host.old) (H.setting host.new) }
 {

@@ -179,16 +179,16 @@ pub(crate) fn step<H: Host>(host: &mut H, task: Task) -> Result<Next, Failure>
 {
     match task {
         Task::Start(call) => start(host, call),
-        Task::Begin(job) => commands::begin(host, job),
+        Task::Begin(job) => Ok(commands::begin(host, job)?),
         Task::Made {
             number,
             bean,
             owner,
-        } => creation::made(host, number, bean, owner),
-        Task::Readied { number } => creation::readied(host, number),
-        Task::Entered(running) => bodies::entered(host, running),
-        Task::Acted(running, act) => bodies::acted(host, running, act),
-        Task::Answered(running, completion) => bodies::answer(host, running, completion),
+        } => Ok(creation::made(host, number, bean, owner)?),
+        Task::Readied { number } => Ok(creation::readied(host, number)?),
+        Task::Entered(running) => Ok(bodies::entered(host, running)?),
+        Task::Acted(running, act) => Ok(bodies::acted(host, running, act)?),
+        Task::Answered(running, completion) => Ok(bodies::answer(host, running, completion)?),
         Task::Ended {
             number,
             component,
@@ -198,7 +198,7 @@ pub(crate) fn step<H: Host>(host: &mut H, task: Task) -> Result<Next, Failure>
             number,
             component,
             value,
-        } => destruction::leaving(host, number, component, value),
+        } => { Ok(destruction::leaving(host, number, component, value)?) }
         Task::CleanedUp { number } => Ok(destruction::cleaned_up(host, number)),
         Task::Released { number } => Ok(Next::Writes(
             Entry::Gone { number },
@@ -217,12 +217,12 @@ pub(crate) fn step<H: Host>(host: &mut H, task: Task) -> Result<Next, Failure>
             number,
             method,
             args,
-        } => obtaining::lent(host, number, method, args),
+        } => Ok(obtaining::lent(host, number, method, args)?),
         Task::Invoking {
             number,
             method,
             args,
-        } => invocations::invoke(host, number, method, args),
+        } => { Ok(invocations::invoke(host, number, method, args)?) }
         Task::Returning(completion) => {
             let call = Task::Start(Call::Dismiss);
             Ok(Next::Needs(call, Frame::Returning(completion)))
@@ -276,12 +276,12 @@ fn start<H: Host>(host: &mut H, call: Call) -> Result<Next, Failure>
     match call {
         Call::Obtain { bean } => Ok(obtaining::obtain(host, bean)),
         Call::Create { bean, owner } => Ok(creation::create(host, bean, owner)),
-        Call::Rest => invocations::rest(host),
+        Call::Rest => Ok(invocations::rest(host)?),
         Call::Body(running) => Ok(bodies::body(host, running)),
         Call::Acts(running) => bodies::acts(host, running),
-        Call::Destroy { number } => destruction::destroy(host, number),
+        Call::Destroy { number } => Ok(destruction::destroy(host, number)?),
         Call::Release { number } => destruction::release(host, number),
-        Call::Fire(event) => commands::fire(host, event),
+        Call::Fire(event) => Ok(commands::fire(host, event)?),
         Call::Dismiss => Ok(destruction::dismiss(host)),
         Call::Clear => Ok(destruction::clear(host)),
     }

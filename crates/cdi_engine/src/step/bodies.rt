@@ -1,12 +1,11 @@
 //! The steps of bodies.
-ghost use Rattle.std.specs.Prelude.{◌≡◌, IfOk, OnErr, IfSome, IsTrue, option_map};
+ghost use Rattle.std.specs.Prelude.{◌≡◌, IfOk, OnErr, IsTrue};
 ghost use Rattle.cdi_base.specs.BuiltIn.{number_of};
 ghost use Rattle.cdi_base.specs.declared.act.Act.TheVariants.{Set, Own};
-ghost use Rattle.cdi_beans.specs.Served.{machine_method};
 ghost use Rattle.cdi_machine.specs.World.{instance_at};
-ghost use Rattle.cdi_machine.specs.Bodies.{with_answer, invoke_method};
+ghost use Rattle.cdi_machine.specs.Bodies.{with_answer};
 ghost use Rattle.cdi_engine.specs.Setting.{Narrows, is_served};
-ghost use Rattle.cdi_engine.specs.Asked.{method_of_instance, has_field_in};
+ghost use Rattle.cdi_engine.specs.Asked.{has_field_in};
 ghost use Rattle.cdi_engine.specs.Words.{running_of, completion_of};
 ghost use Rattle.cdi_engine.specs.Points.{go_on_with, told};
 ghost use Rattle.cdi_engine.specs.Leads.{MovesTo, Settles};
@@ -49,7 +48,7 @@ pub(super) fn body<H: Host>(host: &H, running: Running) -> Next
 
 /// Runs the acts of a body.
 #[tactic(auto, using(crate::proofs::BodySteps::leads))]
-pub(super) fn entered<H: Host>(host: &mut H, running: Running) -> Result<Next, Failure>
+pub(super) fn entered<H: Host>(host: &mut H, running: Running) -> Result<Next, AllocError>
     requires { (H.setting host.old).knows running.body }
     ensures leads { IfOk result (λ next. MovesTo (H.setting host.old) (Task.Entered running)
         (H.world host.old) next (H.world host.new)) }
@@ -69,8 +68,8 @@ pub(super) fn entered<H: Host>(host: &mut H, running: Running) -> Result<Next, F
 #[tactic(auto, using(crate::proofs::BodySteps::leads))]
 pub(super) fn acts<H: Host>(host: &mut H, running: Running) -> Result<Next, Failure>
     requires { (H.setting host.old).knows running.body }
-    ensures leads { IfOk result (λ next. MovesTo (H.setting host.old) (Task.Start (Call.Acts running))
-        (H.world host.old) next (H.world host.new)) }
+    ensures leads { IfOk result (λ next. MovesTo (H.setting host.old)
+        (Task.Start (Call.Acts running)) (H.world host.old) next (H.world host.new)) }
     ensures falls { IfOk result (λ next. Falls (Task.Start (Call.Acts running))
         (H.world host.old) next (H.world host.new)) }
     ensures known { IfOk result (KnownNext (H.setting host.new) (H.world host.new)) }
@@ -87,7 +86,7 @@ pub(super) fn acts<H: Host>(host: &mut H, running: Running) -> Result<Next, Fail
 
 /// Does what a body gave.
 #[tactic(auto, using(crate::proofs::BodySteps::leads))]
-pub(super) fn acted<H: Host>(host: &mut H, running: Running, act: Act) -> Result<Next, Failure>
+pub(super) fn acted<H: Host>(host: &mut H, running: Running, act: Act) -> Result<Next, AllocError>
     requires known { (H.setting host.old).knows running.body }
     requires served { IsTrue (is_served act) }
     ensures leads { IfOk result (λ next. MovesTo (H.setting host.old) (Task.Acted running act)
@@ -116,7 +115,7 @@ fn set_field<H: Host>(
     running: Running,
     field: Name,
     value: Value,
-) -> Result<Next, Failure>
+) -> Result<Next, AllocError>
     requires { (H.setting host.old).knows running.body }
     ensures leads { IfOk result (λ next. MovesTo (H.setting host.old)
         (Task.Acted running (Set field value)) (H.world host.old) next (H.world host.new)) }
@@ -160,7 +159,7 @@ fn call_own<H: Host>(
     running: Running,
     method: Name,
     args: Seq<Value>,
-) -> Result<Next, Failure>
+) -> Result<Next, AllocError>
     requires { (H.setting host.now).knows running.body }
     ensures leads { IfOk result (λ next. MovesTo (H.setting host.now)
         (Task.Acted running (Own method args)) (H.world host.now) next (H.world host.now)) }
@@ -223,7 +222,7 @@ pub(super) fn answer<H: Host>(
     host: &H,
     running: Running,
     completion: Completion,
-) -> Result<Next, Failure>
+) -> Result<Next, AllocError>
     requires { (H.setting host.now).knows running.body }
     ensures leads { IfOk result (λ next. Settles (H.setting host.now)
         (go_on_with (running_of running) (completion_of completion))

@@ -8,14 +8,14 @@ ghost use Rattle.cdi_engine.specs.Known.{KnownNext};
 use crate::events::entry_of;
 use crate::host::Host;
 use crate::step::null;
-use crate::task::{Call, Completion, ContainerEvent, Frame, Job, Next, Outcome, Task};
+use crate::task::{Call, ContainerEvent, Frame, Job, Next, Task};
 use cdi_base::{Name, Seq, Value};
-use cdi_machine::Failure;
+use std::alloc::AllocError;
 
 /// Begins what a command asks for: for the boot, the event of the application's begin (Jakarta CDI 4.0, *Context
 /// management for built-in scopes*), for the shutdown that of the container's end (*Shutdown event*).
 #[tactic(auto, using(crate::proofs::CommandSteps::leads))]
-pub(super) fn begin<H: Host>(host: &mut H, job: Job) -> Result<Next, Failure>
+pub(super) fn begin<H: Host>(host: &mut H, job: Job) -> Result<Next, AllocError>
     ensures leads { IfOk result (λ next. MovesTo (H.setting host.old) (Task.Begin job)
         (H.world host.old) next (H.world host.new)) }
     ensures falls { IfOk result (λ next. Falls (Task.Begin job)
@@ -50,7 +50,7 @@ fn call_bean<H: Host>(
     bean_type: Name,
     method: Name,
     args: Seq<Value>,
-) -> Result<Next, Failure>
+) -> Result<Next, AllocError>
     ensures leads { IfOk result (λ next. MovesTo (H.setting host.old)
         (Task.Begin (Job.Call bean_type method args)) (H.world host.old) next (H.world host.new)) }
     ensures falls { IfOk result (λ next. Falls (Task.Begin (Job.Call bean_type method args))
@@ -73,7 +73,7 @@ fn call_bean<H: Host>(
 
 /// Fires an event of the container itself (Jakarta CDI 4.0, *Firing events*).
 #[tactic(auto, using(crate::proofs::CommandSteps::leads))]
-pub(super) fn fire<H: Host>(host: &H, event: ContainerEvent) -> Result<Next, Failure>
+pub(super) fn fire<H: Host>(host: &H, event: ContainerEvent) -> Result<Next, AllocError>
     ensures leads { IfOk result (λ next. MovesTo (H.setting host.now) (Task.Start (Call.Fire event))
         (H.world host.now) next (H.world host.now)) }
     ensures falls { IfOk result (λ next. Falls (Task.Start (Call.Fire event))

@@ -10,7 +10,6 @@ use crate::host::Host;
 use crate::step::{given, missing};
 use crate::task::{Call, Given, Next, Outcome, Task};
 use cdi_base::{Cause, Entry, Fields, Place};
-use cdi_machine::Failure;
 use cdi_store::{Component, Owner};
 use std::alloc::AllocError;
 
@@ -60,7 +59,7 @@ pub(super) fn made<H: Host>(
     number: u32,
     bean: u32,
     owner: Owner,
-) -> Result<Next, Failure>
+) -> Result<Next, AllocError>
     requires { (H.world host.old).next < 2 ^ 32 }
     ensures leads { IfOk result (λ next. MovesTo (H.setting host.old) (Task.Made number bean owner)
         (H.world host.old) next (H.world host.new)) }
@@ -77,7 +76,7 @@ pub(super) fn made<H: Host>(
 
 /// Completes the instance (Jakarta CDI 4.0, *Lifecycle of managed beans*).
 #[tactic(auto, using(crate::proofs::CreationSteps::leads))]
-pub(super) fn readied<H: Host>(host: &mut H, number: u32) -> Result<Next, Failure>
+pub(super) fn readied<H: Host>(host: &mut H, number: u32) -> Result<Next, AllocError>
     ensures leads { IfOk result (λ next. MovesTo (H.setting host.old) (Task.Readied number)
         (H.world host.old) next (H.world host.new)) }
     ensures falls { IfOk result (λ next. Falls (Task.Readied number)

@@ -16,12 +16,13 @@ use cdi_base::{Entry, InterceptorMethod, Seq, Value};
 use cdi_machine::Failure;
 use cdi_store::{Component, Instance, Phase};
 use cdi_world::Invocation;
+use std::alloc::AllocError;
 
 /// Begins the destruction of an instance (Jakarta CDI 4.0, *Lifecycle of managed beans*).
 #[tactic(auto, using(crate::proofs::DestructionSteps::leads))]
-pub(super) fn destroy<H: Host>(host: &H, number: u32) -> Result<Next, Failure>
-    ensures leads { IfOk result (λ next. MovesTo (H.setting host.now) (Task.Start (Call.Destroy number))
-        (H.world host.now) next (H.world host.now)) }
+pub(super) fn destroy<H: Host>(host: &H, number: u32) -> Result<Next, AllocError>
+    ensures leads { IfOk result (λ next. MovesTo (H.setting host.now)
+        (Task.Start (Call.Destroy number)) (H.world host.now) next (H.world host.now)) }
     ensures falls { IfOk result (λ next. Falls (Task.Start (Call.Destroy number))
         (H.world host.now) next (H.world host.now)) }
     ensures known { IfOk result (KnownNext (H.setting host.now) (H.world host.now)) }
@@ -75,7 +76,7 @@ pub(super) fn leaving<H: Host>(
     number: u32,
     component: Component,
     value: Value,
-) -> Result<Next, Failure>
+) -> Result<Next, AllocError>
     ensures leads { IfOk result (λ next. MovesTo (H.setting host.old)
         (Task.Leaving number component value) (H.world host.old) next (H.world host.new)) }
     ensures falls { IfOk result (λ next. Falls (Task.Leaving number component value)

@@ -11,13 +11,13 @@ ghost use Rattle.cdi_engine.specs.Known.{KnownNext};
 
 use crate::host::Host;
 use crate::step::{missing, null};
-use crate::task::{Call, Completion, Frame, Given, Next, Outcome, Running, Task};
+use crate::task::{Call, Frame, Next, Running, Task};
 use cdi_base::{InterceptorMethod, Name, Seq, Value};
 use cdi_beans::bean::Method;
 use cdi_bodies::View;
-use cdi_machine::Failure;
 use cdi_store::Component;
 use cdi_world::{Code, Invocation};
+use std::alloc::AllocError;
 
 /// A business method of an instance.
 pub(super) fn method_of<H: Host>(host: &H, number: u32, name: Name) -> Option<&Method>
@@ -38,7 +38,7 @@ pub(super) fn invoke<H: Host>(
     number: u32,
     name: Name,
     args: Seq<Value>,
-) -> Result<Next, Failure>
+) -> Result<Next, AllocError>
     ensures leads { IfOk result (λ next. Settles (H.setting host.old)
         (invoke_method number name args) (H.world host.old) next (H.world host.new)) }
     ensures falls { IfOk result (λ next. Falls (Task.Invoking number name args)
@@ -62,7 +62,7 @@ pub(super) fn invoke<H: Host>(
 
 /// Runs the body at the end of the innermost invocation's chain (Jakarta Interceptors 2.1, *InvocationContext*).
 #[tactic(auto, using(crate::proofs::InvocationSteps::leads))]
-pub(super) fn rest<H: Host>(host: &mut H) -> Result<Next, Failure>
+pub(super) fn rest<H: Host>(host: &mut H) -> Result<Next, AllocError>
     ensures leads { IfOk result (λ next. MovesTo (H.setting host.old) (Task.Start Call.Rest)
         (H.world host.old) next (H.world host.new)) }
     ensures falls { IfOk result (λ next. Falls (Task.Start Call.Rest)

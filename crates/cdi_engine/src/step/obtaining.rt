@@ -15,8 +15,8 @@ use cdi_base::{BuiltIn, Name, Seq, Value};
 use cdi_beans::bean::Resolution;
 use cdi_contexts::{Held, Status};
 use cdi_deploy::deployment::Scope;
-use cdi_machine::Failure;
 use cdi_store::{Context, Owner, Phase};
+use std::alloc::AllocError;
 
 /// Obtains the contextual instance of a bean (Jakarta CDI 4.0, *Contextual instance of a bean*).
 #[tactic(auto, using(crate::proofs::ObtainingSteps::leads))]
@@ -89,7 +89,7 @@ pub(super) fn lent<H: Host>(
     number: u32,
     method: Name,
     args: Seq<Value>,
-) -> Result<Next, Failure>
+) -> Result<Next, AllocError>
     ensures leads { IfOk result (λ next. MovesTo (H.setting host.old)
         (Task.Lent number method args) (H.world host.old) next (H.world host.new)) }
     ensures falls { IfOk result (λ next. Falls (Task.Lent number method args)

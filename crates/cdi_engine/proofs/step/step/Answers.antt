@@ -2,7 +2,6 @@ use Rattle.cdi_engine.proofs.DestructionSteps.{released_leads, picked_leads}
 use Rattle.cdi_engine.proofs.CommandSteps.{returning_leads, starting_leads, closing_leads, missing_leads, ending_leads, over_leads}
 use Rattle.cdi_engine.proofs.BodySteps.{answered_leads}
 use Rattle.cdi_engine.proofs.ObtainingSteps.{invoking_leads}
-use Rattle.cdi_engine.proofs.Sound.{map_ok}
 use Rattle.cdi_engine.proofs.Cost.{ending_falls}
 use Rattle.cdi_engine.proofs.step.step.Goals as goal
 
@@ -34,41 +33,13 @@ pub returns-in-Over-clause-leads : goal.returns-in-Over-clause-leads
 returns-in-Over-clause-leads g c =
     rw c.in-Over.is (over_leads (g.H.Host.setting c.args.host.now) c.in-Over.outcome (g.H.Host.world c.args.host.now))
 
-pub returns-in-Begin-clause-leads : goal.returns-in-Begin-clause-leads
-returns-in-Begin-clause-leads g c =
-    rw c.in-Begin.is c.begin.ensures.leads
+pub returns-in_ok-answer-in-Answered-clause-leads : goal.returns-in_ok-answer-in-Answered-clause-leads
+returns-in_ok-answer-in-Answered-clause-leads g c =
+    rw c.in-Answered.is (answered_leads (g.H.Host.setting c.args.host.now) c.in-Answered.running c.in-Answered.completion c.in_ok-answer-in-Answered.field-0 (g.H.Host.world c.args.host.now) (g.H.Host.world c.args.host.now) c.in_ok-answer-in-Answered.ensures.leads)
 
-pub returns-in-Made-clause-leads : goal.returns-in-Made-clause-leads
-returns-in-Made-clause-leads g c =
-    rw c.in-Made.is c.made.ensures.leads
-
-pub returns-in-Readied-clause-leads : goal.returns-in-Readied-clause-leads
-returns-in-Readied-clause-leads g c =
-    rw c.in-Readied.is c.readied.ensures.leads
-
-pub returns-in-Entered-clause-leads : goal.returns-in-Entered-clause-leads
-returns-in-Entered-clause-leads g c =
-    rw c.in-Entered.is c.entered.ensures.leads
-
-pub returns-in-Acted-clause-leads : goal.returns-in-Acted-clause-leads
-returns-in-Acted-clause-leads g c =
-    rw c.in-Acted.is c.acted.ensures.leads
-
-pub returns-in-Leaving-clause-leads : goal.returns-in-Leaving-clause-leads
-returns-in-Leaving-clause-leads g c =
-    rw c.in-Leaving.is c.leaving.ensures.leads
-
-pub returns-in-Lent-clause-leads : goal.returns-in-Lent-clause-leads
-returns-in-Lent-clause-leads g c =
-    rw c.in-Lent.is c.lent.ensures.leads
-
-pub returns-in-Answered-clause-leads : goal.returns-in-Answered-clause-leads
-returns-in-Answered-clause-leads g c =
-    rw c.in-Answered.is (map_ok c.answer.result (λ next h. answered_leads (g.H.Host.setting c.args.host.now) c.in-Answered.running c.in-Answered.completion next (g.H.Host.world c.args.host.now) (g.H.Host.world c.args.host.now) h) c.answer.ensures.leads)
-
-pub returns-in-Invoking-clause-leads : goal.returns-in-Invoking-clause-leads
-returns-in-Invoking-clause-leads g c =
-    rw c.in-Invoking.is (map_ok c.invoke.result (λ next h. invoking_leads (g.H.Host.setting c.args.host.now) c.in-Invoking.number c.in-Invoking.method c.in-Invoking.args next (g.H.Host.world c.args.host.now) (g.H.Host.world c.invoke.new.host) h) c.invoke.ensures.leads)
+pub returns-in_ok-invoke-in-Invoking-clause-leads : goal.returns-in_ok-invoke-in-Invoking-clause-leads
+returns-in_ok-invoke-in-Invoking-clause-leads g c =
+    rw c.in-Invoking.is (invoking_leads (g.H.Host.setting c.args.host.now) c.in-Invoking.number c.in-Invoking.method c.in-Invoking.args c.in_ok-invoke-in-Invoking.field-0 (g.H.Host.world c.args.host.now) (g.H.Host.world c.invoke.new.host) c.in_ok-invoke-in-Invoking.ensures.leads)
 
 pub returns-in-Ending-clause-leads : goal.returns-in-Ending-clause-leads
 returns-in-Ending-clause-leads g c =
