@@ -2,6 +2,7 @@
 use Rattle.std.proofs.Common.{ℕ, ◌≡◌, ◌∷◌, [], List, length, refl, sym, ◌∙◌, ap, Option, Some, None, Bool, true, false}
 use Rattle.std.proofs.Math.Path.{fun_ext}
 use Rattle.std.specs.Prelude.{nat_eq, nat_lt, option_and_then, is_some}
+use Rattle.std.specs.Global.{Box}
 use Rattle.cdi_base.specs.declared.value.Value.{Value}
 use Rattle.cdi_base.specs.declared.value.Value.TheVariants as values
 use Rattle.cdi_base.specs.declared.act.Act.{Act}
@@ -24,11 +25,13 @@ use Rattle.cdi_machine.specs.Tables.{Tables, Bean, Method, Kind}
 use Rattle.cdi_machine.specs.World.{World, Change, after_change, instance_at}
 use Rattle.cdi_machine.specs.Programs as machine
 use Rattle.cdi_machine.specs.Programs.{Given, Number, Completion, Gave, Threw, Prog, ret, throw, see, nested, tick, change, choose, act, handle, finally, quietly, do_nothing, tell_missing, require_present, require, require_one, expect, complete, call, finish, note, alter, each, raise, require_number, give_number, next_number, require_depth, go_deeper, top, instance, bean_at, resolve, attempt, ◌>>=◌, ◌>>◌}
-use Rattle.cdi_engine.specs.Setting.{Setting, GivesTo}
+use Rattle.cdi_engine.specs.Setting.{Setting, Narrows, GivesTo}
+use Rattle.cdi_engine.proofs.Sound.{comes_before}
 use Rattle.cdi_engine.specs.Asked.{method_in, method_of_component, method_of_instance, has_field_in}
 use Rattle.cdi_engine.specs.Words.{given_of, completion_of, running_of}
-use Rattle.cdi_engine.specs.Points.{start_body, end_with, go_on_with, told}
-use Rattle.cdi_engine.specs.Leads.{next_stop, Comes, MovesTo, Settles}
+use Rattle.cdi_engine.specs.Meanings.{start_body, end_with, go_on_with, told}
+use Rattle.cdi_engine.specs.Leads.{next_stop, Comes, ComesTo, MovesTo, Settles, IsOnWay, Written, Spent}
+use Rattle.cdi_engine.proofs.Entries.{cut_before, comes_after, on_way_after, on_way_at_start, stays_falls, lowers_falls}
 use Rattle.cdi_engine.specs.declared.task.Call.TheVariants as calls
 use Rattle.cdi_engine.specs.declared.task.Completion.{Completion as CodeCompletion}
 use Rattle.cdi_engine.specs.declared.task.Completion.TheVariants as completions
@@ -74,9 +77,9 @@ module _ (s : Setting) where
     note (entries.Run r.instance r.place)
     start_body r
 
-  pub body_too_deep : (r : Running) (w : World) → nat_lt (length w.bodies) w.depth ≡ false
-      → MovesTo s (tasks.Start (calls.Body r)) w (nexts.Finished (outcomes.Cut causes.Depth)) w
-  body_too_deep r w h = Comes.same (ap (λ x. next_stop t (require_depth x >>= λ _. instance r.instance >>= λ _. note (entries.Run r.instance r.place) >>= λ _. start_body (running_of r)) w) h)
+  pub body_too_deep : (b : Box Running) (w : World) → nat_lt (length w.bodies) w.depth ≡ false
+      → MovesTo s (tasks.Start (calls.Body b)) w (nexts.Finished (outcomes.Cut causes.Depth)) w
+  body_too_deep b w h = Comes.same (ap (λ x. next_stop t (require_depth x >>= λ _. instance b.value.instance >>= λ _. note (entries.Run b.value.instance b.value.place) >>= λ _. start_body (running_of b.value)) w) h)
 
   body_in : (r : Running) {o : Option Instance} (w : World) → nat_lt (length w.bodies) w.depth ≡ true → instance_at w r.instance ≡ o
       → next_stop t (run_body (running_of r)) w ≡ next_stop t (started (running_of r) true o) w
@@ -84,66 +87,95 @@ module _ (s : Setting) where
       ap (λ x. next_stop t (require_depth x >>= λ _. instance r.instance >>= λ _. note (entries.Run r.instance r.place) >>= λ _. start_body (running_of r)) w) h
       ∙ ap (λ o. next_stop t (started (running_of r) true o) w) e
 
-  pub body_missing : (r : Running) (w : World) → nat_lt (length w.bodies) w.depth ≡ true → instance_at w r.instance ≡ None
-      → MovesTo s (tasks.Start (calls.Body r)) w (nexts.Finished (outcomes.Ends (completions.Threw (number_of built_in.IllegalStateException)))) w
-  body_missing r w h e = Comes.same (body_in r w h e)
+  pub body_missing : (b : Box Running) (w : World) → nat_lt (length w.bodies) w.depth ≡ true → is_some (instance_at w b.value.instance) ≡ false
+      → MovesTo s (tasks.Start (calls.Body b)) w (nexts.Finished (outcomes.Ends (completions.Threw (number_of built_in.IllegalStateException)))) w
+  body_missing b w h e = by (instance_at w b.value.instance) refl e
+    where
+      by : (x : Option Instance) → instance_at w b.value.instance ≡ x → is_some x ≡ false
+          → MovesTo s (tasks.Start (calls.Body b)) w (nexts.Finished (outcomes.Ends (completions.Threw (number_of built_in.IllegalStateException)))) w
+      by None q z = Comes.same (body_in b.value w h q)
+      by (Some o) q z = absurd (cc)
 
-  pub body_first : (r : Running) {o : Instance} (w : World) → nat_lt (length w.bodies) w.depth ≡ true → instance_at w r.instance ≡ Some o
-      → MovesTo s (tasks.Start (calls.Body r)) w (nexts.Writes (entries.Run r.instance r.place) (tasks.Entered r)) w
-  body_first r w h e = Comes.same (body_in r w h e)
-
-  pub body_there : (r : Running) (w : World) → nat_lt (length w.bodies) w.depth ≡ true → is_some (instance_at w r.instance) ≡ true
-      → MovesTo s (tasks.Start (calls.Body r)) w (nexts.Writes (entries.Run r.instance r.place) (tasks.Entered r)) w
-  body_there r w h e = by (instance_at w r.instance) refl e
+  body_entry : (r : Running) (w : World) → nat_lt (length w.bodies) w.depth ≡ true → is_some (instance_at w r.instance) ≡ true
+      → next_stop t (run_body (running_of r)) w ≡ (tick (entries.Run r.instance r.place) (start_body (running_of r)), w)
+  body_entry r w h e = by (instance_at w r.instance) refl e
     where
       by : (x : Option Instance) → instance_at w r.instance ≡ x → is_some x ≡ true
-          → MovesTo s (tasks.Start (calls.Body r)) w (nexts.Writes (entries.Run r.instance r.place) (tasks.Entered r)) w
+          → next_stop t (run_body (running_of r)) w ≡ (tick (entries.Run r.instance r.place) (start_body (running_of r)), w)
       by None q z = absurd (cc)
-      by (Some o) q z = body_first r w h q
+      by (Some o) q z = body_in r w h q
 
   stops : (c : Completion Given)
       → handle (complete c) (λ g. alter Change.Stop >> ret g) (λ x. alter Change.Stop >> throw x) ≡ end_with Change.Stop c
   stops (Gave g) = refl
   stops (Threw x) = refl
 
-  pub entered_leads : (r : Running) (w : World)
-      → MovesTo s (tasks.Entered r) w (nexts.Needs (tasks.Start (calls.Acts r)) frames.Stopping) (after_change (Change.Start r.instance) w)
-  entered_leads r w = Comes.same (ap (λ k. (nested (machine.Acts (running_of r)) k, after_change (Change.Start r.instance) w)) (fun_ext stops))
+  module _ (b : Box Running) (w v : World) (h : nat_lt (length w.bodies) w.depth ≡ true) (e : is_some (instance_at w b.value.instance) ≡ true) where
+    pub body_cut : Spent w v → MovesTo s (tasks.Start (calls.Body b)) w (nexts.Finished (outcomes.Cut causes.Ticks)) v
+    body_cut f = cut_before s (body_entry b.value w h e) f
+
+    pub body_leads : Written (entries.Run b.value.instance b.value.place) w v
+        → MovesTo s (tasks.Start (calls.Body b)) w (nexts.Needs (tasks.Start (calls.Acts b)) frames.Stopping) (after_change (Change.Start b.value.instance) v)
+    body_leads k =
+        comes_after s (body_entry b.value w h e) k
+        (Comes.same (ap (λ k. (nested (machine.Acts (running_of b.value)) k, after_change (Change.Start b.value.instance) v)) (fun_ext stops)))
+
+    pub body_on_way : (x : World) → Written (entries.Run b.value.instance b.value.place) w v → x ≡ v
+        → IsOnWay s (run_body (running_of b.value)) w x
+    body_on_way x k q = on_way_after s (body_entry b.value w h e) k (on_way_at_start q)
 
   -- ---- acts
 
   abbrev acting : machine.Running → Option Instance → Prog Given
   acting r o = require_present o >>= λ o. machine.act r.body o.fields r.view ret >>= perform r
 
-  pub acts_missing : (r : Running) (w : World) → instance_at w r.instance ≡ None
-      → MovesTo s (tasks.Start (calls.Acts r)) w (nexts.Finished (outcomes.Ends (completions.Threw (number_of built_in.IllegalStateException)))) w
-  acts_missing r w e = Comes.same (ap (λ o. next_stop t (acting (running_of r) o) w) e)
+  pub acts_missing : (b : Box Running) (w : World) → is_some (instance_at w b.value.instance) ≡ false
+      → MovesTo s (tasks.Start (calls.Acts b)) w (nexts.Finished (outcomes.Ends (completions.Threw (number_of built_in.IllegalStateException)))) w
+  acts_missing b w e = by (instance_at w b.value.instance) refl e
+    where
+      by : (x : Option Instance) → instance_at w b.value.instance ≡ x → is_some x ≡ false
+          → MovesTo s (tasks.Start (calls.Acts b)) w (nexts.Finished (outcomes.Ends (completions.Threw (number_of built_in.IllegalStateException)))) w
+      by None q z = Comes.same (ap (λ o. next_stop t (acting (running_of b.value) o) w) q)
+      by (Some o) q z = absurd (cc)
 
-  pub acts_first : (r : Running) (a copy : Act) (w : World) → GivesTo s w r a → copy ≡ a
-      → MovesTo s (tasks.Start (calls.Acts r)) w (nexts.Writes (entries.Did copy) (tasks.Acted r a)) w
-  acts_first r a copy w g c =
-      let here : next_stop t (carry_on (running_of r)) w ≡ (machine.act r.body g.instance.fields r.view (perform (running_of r)), w) = ap (λ o. next_stop t (acting (running_of r) o) w) g.lives in
-      Comes.does {a = a} here g.gives (ap (λ x. tick (entries.Did x) (perform (running_of r) a)) c)
+  module _ (r : Running) (a : Act) (w : World) (g : GivesTo s w r a) where
+    asked : next_stop t (carry_on (running_of r)) w ≡ (machine.act r.body g.instance.fields r.view (perform (running_of r)), w)
+    asked = ap (λ o. next_stop t (acting (running_of r) o) w) g.lives
+
+    pub acts_cut : (v : World) → Spent w v → Comes s.tables s.legal (carry_on (running_of r)) w (machine.cut causes.Ticks) v
+    acts_cut v f = Comes.does a asked g.gives (cut_before s refl f)
+
+    pub acts_leads : {z : Setting} (copy : Act) (next : Next) (v x : World) → copy ≡ a → Narrows s z → Written (entries.Did copy) w v
+        → Settles z (perform (running_of r) a) v next x
+        → ComesTo s (carry_on (running_of r)) w next x
+    acts_leads copy next v x c n k e =
+        Comes.does a asked g.gives (comes_after s refl (rw c at k) (comes_before n (Comes.same e)))
+
+    pub acts_on_way : (copy : Act) (v x : World) → copy ≡ a → Written (entries.Did copy) w v → x ≡ v
+        → IsOnWay s (carry_on (running_of r)) w x
+    acts_on_way copy v x c k q =
+        let y = on_way_after s refl (rw c at k) (on_way_at_start {s = s} {p = perform (running_of r) a} q) in
+        record { left = y.left; comes = Comes.does a asked g.gives y.comes }
 
   pub give_leads : (r : Running) (v : Value) (w : World)
-      → MovesTo s (tasks.Acted r (acts.Give v)) w (nexts.Finished (outcomes.Ends (completions.Gave (givens.Result v)))) w
-  give_leads r v w = Comes.same refl
+      → Settles s (perform (running_of r) (acts.Give v)) w (nexts.Finished (outcomes.Ends (completions.Gave (givens.Result v)))) w
+  give_leads r v w = refl
 
   pub throw_leads : (r : Running) (x : Name) (w : World)
-      → MovesTo s (tasks.Acted r (acts.Throw x)) w (nexts.Finished (outcomes.Ends (completions.Threw x))) w
-  throw_leads r x w = Comes.same refl
+      → Settles s (perform (running_of r) (acts.Throw x)) w (nexts.Finished (outcomes.Ends (completions.Threw x))) w
+  throw_leads r x w = refl
 
   -- ---- answers
 
-  pub answer_gave : (r q : Running) (g : CodeGiven) (answer : Answer) (w : World)
-      → running_of q ≡ with_answer (running_of r) answer → answer ≡ told g
+  pub answer_gave : (r : Running) (q : Box Running) (g : CodeGiven) (answer : Answer) (w : World)
+      → running_of q.value ≡ with_answer (running_of r) answer → answer ≡ told g
       → Settles s (go_on_with (running_of r) (machine.Gave (given_of g))) w (nexts.Goes (tasks.Start (calls.Acts q))) w
   answer_gave r q (givens.Result v) answer w e h = rw (e, h) refl
   answer_gave r q (givens.Number n) answer w e h = rw (e, h) refl
   answer_gave r q givens.Empty answer w e h = rw (e, h) refl
 
-  pub answer_threw : (r q : Running) (x : Name) (text : List ℕ) (w : World)
-      → running_of q ≡ with_answer (running_of r) (answers.Threw x text) → t.text x ≡ Some text
+  pub answer_threw : (r : Running) (q : Box Running) (x : Name) (text : List ℕ) (w : World)
+      → running_of q.value ≡ with_answer (running_of r) (answers.Threw x text) → t.text x ≡ Some text
       → Settles s (go_on_with (running_of r) (machine.Threw x)) w (nexts.Goes (tasks.Start (calls.Acts q))) w
   answer_threw r q x text w e h =
       ap (λ z. next_stop t ((require_present z >>= λ text. ret (answers.Threw x text)) >>= λ a. call (machine.Acts (with_answer (running_of r) a))) w) h
@@ -153,11 +185,6 @@ module _ (s : Setting) where
       → Settles s (go_on_with (running_of r) (machine.Threw x)) w (nexts.Finished (outcomes.Ends (completions.Threw (number_of built_in.IllegalStateException)))) w
   answer_missing r x w h =
       ap (λ z. next_stop t ((require_present z >>= λ text. ret (answers.Threw x text)) >>= λ a. call (machine.Acts (with_answer (running_of r) a))) w) h
-
-  pub answered_leads : (r : Running) (c : CodeCompletion) (next : Next) (w v : World)
-      → Settles s (go_on_with (running_of r) (completion_of c)) w next v
-      → MovesTo s (tasks.Answered r c) w next v
-  answered_leads r c next w v e = Comes.same e
 
   -- ---- a field is set
 
@@ -174,8 +201,8 @@ module _ (s : Setting) where
   pub set_missing : (r : Running) (field : Name) (v : Value) (next : Next) (w u : World)
       → has_field_in (instance_at w r.instance) field ≡ false
       → Settles s (go_on_with (running_of r) (machine.Threw (number_of built_in.IllegalStateException))) w next u
-      → MovesTo s (tasks.Acted r (acts.Set field v)) w next u
-  set_missing r field v next w u h e = Comes.same (by (instance_at w r.instance) refl h ∙ e)
+      → Settles s (perform (running_of r) (acts.Set field v)) w next u
+  set_missing r field v next w u h e = by (instance_at w r.instance) refl h ∙ e
     where
       by : (x : Option Instance) → instance_at w r.instance ≡ x → has_field_in x field ≡ false
           → next_stop t (perform (running_of r) (acts.Set field v)) w
@@ -185,11 +212,11 @@ module _ (s : Setting) where
           ap (λ x. next_stop t (instance_set (running_of r) field v x) w) q
           ∙ ap (λ x. next_stop t (field_set (running_of r) field v x) w) (no_field o.fields field z)
 
-  pub set_leads : (r q : Running) (field : Name) (v : Value) (w : World)
+  pub set_leads : (r : Running) (q : Box Running) (field : Name) (v : Value) (w : World)
       → has_field_in (instance_at w r.instance) field ≡ true
-      → running_of q ≡ with_answer (running_of r) (answers.Done values.Null)
-      → MovesTo s (tasks.Acted r (acts.Set field v)) w (nexts.Goes (tasks.Start (calls.Acts q))) (after_change (Change.Assign r.instance field v) w)
-  set_leads r q field v w h e = Comes.same (by (instance_at w r.instance) refl h ∙ ap (λ z. (nested (machine.Acts z) complete, after_change (Change.Assign r.instance field v) w)) (sym e))
+      → running_of q.value ≡ with_answer (running_of r) (answers.Done values.Null)
+      → Settles s (perform (running_of r) (acts.Set field v)) w (nexts.Goes (tasks.Start (calls.Acts q))) (after_change (Change.Assign r.instance field v) w)
+  set_leads r q field v w h e = by (instance_at w r.instance) refl h ∙ ap (λ z. (nested (machine.Acts z) complete, after_change (Change.Assign r.instance field v) w)) (sym e)
     where
       by : (x : Option Instance) → instance_at w r.instance ≡ x → has_field_in x field ≡ true
           → next_stop t (perform (running_of r) (acts.Set field v)) w
@@ -255,27 +282,27 @@ module _ (s : Setting) where
   pub own_missing : (r : Running) (name : Name) (args : List Value) (next : Next) (w u : World)
       → method_of_instance t (instance_at w r.instance) name ≡ None
       → Settles s (go_on_with (running_of r) (machine.Threw (number_of built_in.IllegalStateException))) w next u
-      → MovesTo s (tasks.Acted r (acts.Own name args)) w next u
-  own_missing r name args next w u e h = Comes.same (own_settled (running_of r) name args w e ∙ h)
+      → Settles s (perform (running_of r) (acts.Own name args)) w next u
+  own_missing r name args next w u e h = own_settled (running_of r) name args w e ∙ h
 
   pub own_miscounted : (r : Running) (name : Name) (args : List Value) (m : CodeMethod) (next : Next) (w u : World)
       → method_of_instance t (instance_at w r.instance) name ≡ Some (machine_method m)
       → nat_eq (length args) m.count ≡ false
       → Settles s (go_on_with (running_of r) (machine.Threw (number_of built_in.IllegalStateException))) w next u
-      → MovesTo s (tasks.Acted r (acts.Own name args)) w next u
+      → Settles s (perform (running_of r) (acts.Own name args)) w next u
   own_miscounted r name args m next w u e q h =
-      Comes.same (own_settled (running_of r) name args w e
-      ∙ ap (λ x. next_stop t (own_counted (running_of r) args (machine_method m) x) w) q ∙ h)
+      own_settled (running_of r) name args w e
+      ∙ ap (λ x. next_stop t (own_counted (running_of r) args (machine_method m) x) w) q ∙ h
 
-  pub own_first : (r q : Running) (name : Name) (args : List Value) (m : CodeMethod) (w : World)
-      → method_of_instance t (instance_at w r.instance) name ≡ Some (machine_method m)
+  pub own_first : (b q : Box Running) (name : Name) (args : List Value) (m : CodeMethod) (w : World)
+      → method_of_instance t (instance_at w b.value.instance) name ≡ Some (machine_method m)
       → nat_eq (length args) m.count ≡ true
-      → running_of q ≡ body_at_start r.instance m.place m.body args [] []
-      → MovesTo s (tasks.Acted r (acts.Own name args)) w (nexts.Needs (tasks.Start (calls.Body q)) (frames.Answering r)) w
-  own_first r q name args m w e h b =
-      Comes.same (own_settled (running_of r) name args w e
-      ∙ ap (λ x. next_stop t (own_counted (running_of r) args (machine_method m) x) w) h
-      ∙ ap (λ z. (nested (machine.Body z) (answering (running_of r)), w)) (sym b)
-      ∙ ap (λ k. (nested (machine.Body (running_of q)) k, w)) (fun_ext (answers_with (running_of r))))
+      → running_of q.value ≡ body_at_start b.value.instance m.place m.body args [] []
+      → Settles s (perform (running_of b.value) (acts.Own name args)) w (nexts.Needs (tasks.Start (calls.Body q)) (frames.Answering b)) w
+  own_first b q name args m w e h z =
+      own_settled (running_of b.value) name args w e
+      ∙ ap (λ x. next_stop t (own_counted (running_of b.value) args (machine_method m) x) w) h
+      ∙ ap (λ y. (nested (machine.Body y) (answering (running_of b.value)), w)) (sym z)
+      ∙ ap (λ k. (nested (machine.Body (running_of q.value)) k, w)) (fun_ext (answers_with (running_of b.value)))
 
-pub ruleset leads = (body_too_deep, body_missing, body_first, entered_leads, acts_missing, acts_first, give_leads, throw_leads, answer_gave, answer_threw, answer_missing, answered_leads, set_missing, set_leads, own_missing, own_miscounted, own_first)
+pub ruleset leads = (body_too_deep, give_leads, throw_leads, answer_gave, answer_threw, answer_missing, set_missing, set_leads, own_missing, own_miscounted, own_first, on_way_at_start, stays_falls, lowers_falls)

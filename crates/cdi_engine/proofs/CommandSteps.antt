@@ -5,6 +5,7 @@ use Rattle.std.specs.Prelude.{map}
 use Rattle.cdi_base.specs.declared.value.Value.{Value}
 use Rattle.cdi_base.specs.declared.value.Value.TheVariants as values
 use Rattle.cdi_base.specs.declared.entry.Entry.TheVariants as entries
+use Rattle.cdi_base.specs.declared.reply.Cause.TheVariants as causes
 use Rattle.cdi_base.specs.declared.built_in.BuiltIn.TheVariants as built_in
 use Rattle.cdi_base.specs.BuiltIn.{number_of}
 use Rattle.cdi_store.specs.declared.instance.Context.TheVariants.{Application}
@@ -14,17 +15,18 @@ use Rattle.cdi_machine.specs.World.{World, Change, after_change}
 use Rattle.cdi_machine.specs.Programs as machine
 use Rattle.cdi_machine.specs.Programs.{Given, Number, Completion, Gave, Threw, Prog, ret, throw, see, nested, tick, change, choose, act, handle, finally, quietly, do_nothing, tell_missing, require_present, require, require_one, expect, complete, call, finish, note, alter, each, raise, require_number, give_number, next_number, require_depth, go_deeper, top, instance, bean_at, resolve, attempt, ◌>>=◌, ◌>>◌}
 use Rattle.cdi_engine.specs.Setting.{Setting}
-use Rattle.cdi_engine.specs.Words.{class_of, qualifiers_of, change_of, task_of}
-use Rattle.cdi_engine.specs.Points.{start_container, bring_down, close_application, finish_context}
-use Rattle.cdi_engine.specs.Leads.{next_stop, Comes, MovesTo}
+use Rattle.cdi_engine.specs.Words.{class_of, qualifiers_of, task_of}
+use Rattle.cdi_engine.specs.Meanings.{start_container, bring_down, close_application, finish_context}
+use Rattle.cdi_engine.specs.Leads.{next_stop, Comes, MovesTo, GoesOn, Written, Spent}
+use Rattle.cdi_engine.proofs.Entries.{cut_before, comes_after, on_way_at_start, stays_falls, lowers_falls}
 use Rattle.cdi_engine.specs.declared.task.Call.TheVariants as calls
 use Rattle.cdi_engine.specs.declared.task.Completion.{Completion as CodeCompletion}
 use Rattle.cdi_engine.specs.declared.task.Completion.TheVariants as completions
+use Rattle.cdi_engine.specs.declared.task.Given.{Given as CodeGiven}
 use Rattle.cdi_engine.specs.declared.task.Given.TheVariants as givens
 use Rattle.cdi_engine.specs.declared.task.Outcome.{Outcome}
 use Rattle.cdi_engine.specs.declared.task.Outcome.TheVariants as outcomes
 use Rattle.cdi_engine.specs.declared.task.Task.TheVariants as tasks
-use Rattle.cdi_engine.specs.declared.task.LastChange.{LastChange}
 use Rattle.cdi_engine.specs.declared.task.Frame.TheVariants as frames
 use Rattle.cdi_engine.specs.declared.task.Next.TheVariants as nexts
 use Rattle.cdi_base.specs.declared.uses.Use.{Use}
@@ -53,14 +55,16 @@ module _ (s : Setting) where
 
   -- ---- events
 
-  pub fire_leads : (e : ContainerEvent) (w : World)
-      → MovesTo s (tasks.Start (calls.Fire e)) w (nexts.Writes (entries.Event (class_of e) (qualifiers_of e)) (tasks.Fired e)) w
-  fire_leads e w = Comes.same refl
+  pub fire_cut : (e : ContainerEvent) (w v : World) → Spent w v
+      → MovesTo s (tasks.Start (calls.Fire e)) w (nexts.Finished (outcomes.Cut causes.Ticks)) v
+  fire_cut e w v f = cut_before s refl f
 
-  pub fired_leads : (e : ContainerEvent) (w : World) → ((class : ℕ) (uses : List Use) → t.observers class uses ≡ [])
-      → MovesTo s (tasks.Fired e) w (nexts.Finished (outcomes.Ends (completions.Gave (givens.Result values.Null)))) w
-  fired_leads e w h =
-      Comes.same (ap (λ gs. next_stop t (each gs (λ group. call (machine.Notify group values.Null)) >>= λ _. finish) w) (h (class_of e) (qualifiers_of e)))
+  pub fire_leads : (e : ContainerEvent) (w v : World) → ((class : ℕ) (uses : List Use) → t.observers class uses ≡ [])
+      → Written (entries.Event (class_of e) (qualifiers_of e)) w v
+      → MovesTo s (tasks.Start (calls.Fire e)) w (nexts.Finished (outcomes.Ends (completions.Gave (givens.Result values.Null)))) v
+  fire_leads e w v h k =
+      comes_after s refl k
+      (Comes.same (ap (λ gs. next_stop t (each gs (λ group. call (machine.Notify group values.Null)) >>= λ _. finish) v) (h (class_of e) (qualifiers_of e))))
 
   -- ---- boot
 
@@ -68,9 +72,9 @@ module _ (s : Setting) where
       → MovesTo s (tasks.Begin jobs.Boot) w (nexts.Needs (tasks.Start (calls.Fire events.Initialized)) frames.Initializing) w
   boot_leads w = Comes.same (ap (λ k. (nested (task_of (calls.Fire events.Initialized)) k, w)) (fun_ext (after_event start_container)))
 
-  pub starting_leads : (w : World)
-      → MovesTo s tasks.Starting w (nexts.Needs (tasks.Start (calls.Fire events.Startup)) frames.Starting) w
-  starting_leads w = Comes.same (ap (λ k. (nested (task_of (calls.Fire events.Startup)) k, w)) (fun_ext (after_event finish)))
+  pub starting_leads : (c : CodeCompletion) (w : World)
+      → GoesOn s frames.Initializing c w (nexts.Needs (tasks.Start (calls.Fire events.Startup)) frames.Starting) w
+  starting_leads c w = Comes.same (ap (λ k. (nested (task_of (calls.Fire events.Startup)) k, w)) (fun_ext (after_event finish)))
 
   -- ---- a call
 
@@ -80,7 +84,7 @@ module _ (s : Setting) where
   call_leads type method args w = Comes.within 3 refl
 
   pub returning_leads : (c : CodeCompletion) (w : World)
-      → MovesTo s (tasks.Returning c) w (nexts.Needs (tasks.Start calls.Dismiss) (frames.Returning c)) w
+      → GoesOn s frames.Using c w (nexts.Needs (tasks.Start calls.Dismiss) (frames.Returning c)) w
   returning_leads c w = Comes.same refl
 
   -- ---- shutdown
@@ -107,32 +111,16 @@ module _ (s : Setting) where
       ∙ ap (λ ss. next_stop t (after_sessions (map (λ (s : OpenSession). s.name) ss)) w) z
       ∙ ap (λ k. (nested (task_of (calls.Fire events.Shutdown)) k, after_change (Change.Stand no_environment) w)) (fun_ext (after_event close_application)))
 
-  pub closing_leads : (w : World)
-      → MovesTo s tasks.Closing w (nexts.Needs (tasks.Start (calls.Fire events.BeforeDestroyed)) frames.Finishing) w
-  closing_leads w = Comes.same (ap (λ k. (nested (task_of (calls.Fire events.BeforeDestroyed)) k, w)) (fun_ext (after_event_within (finish_context Application))))
+  pub closing_leads : (c : CodeCompletion) (w : World)
+      → GoesOn s frames.Closing c w (nexts.Needs (tasks.Start (calls.Fire events.BeforeDestroyed)) frames.Finishing) w
+  closing_leads c w = Comes.same (ap (λ k. (nested (task_of (calls.Fire events.BeforeDestroyed)) k, w)) (fun_ext (after_event_within (finish_context Application))))
 
-  pub finishing_leads : (w : World)
-      → MovesTo s tasks.Finishing w (nexts.Needs (tasks.Start calls.Clear) frames.Emptying) (after_change (Change.Finish Application) w)
-  finishing_leads w = Comes.same refl
+  pub finishing_leads : (c : CodeCompletion) (w : World)
+      → GoesOn s frames.Finishing c w (nexts.Needs (tasks.Start calls.Clear) frames.Emptying) (after_change (Change.Finish Application) w)
+  finishing_leads c w = Comes.same refl
 
-  pub emptied_leads : (w : World)
-      → MovesTo s tasks.Emptied w (nexts.Needs (tasks.Start (calls.Fire events.Destroyed)) frames.GoingDown) (after_change (Change.Close Application) w)
-  emptied_leads w = Comes.same (ap (λ k. (nested (task_of (calls.Fire events.Destroyed)) k, after_change (Change.Close Application) w)) (fun_ext (after_event_within finish)))
+  pub emptied_leads : (g : CodeGiven) (w : World)
+      → GoesOn s frames.Emptying (completions.Gave g) w (nexts.Needs (tasks.Start (calls.Fire events.Destroyed)) frames.GoingDown) (after_change (Change.Close Application) w)
+  emptied_leads g w = Comes.same (ap (λ k. (nested (task_of (calls.Fire events.Destroyed)) k, after_change (Change.Close Application) w)) (fun_ext (after_event_within finish)))
 
-  -- ---- ends
-
-  pub missing_leads : (w : World)
-      → MovesTo s tasks.Missing w (nexts.Finished (outcomes.Ends (completions.Threw (number_of built_in.IllegalStateException)))) w
-  missing_leads w = Comes.same refl
-
-  pub ending_leads : (x : LastChange) (c : CodeCompletion) (w : World)
-      → MovesTo s (tasks.Ending x c) w (nexts.Finished (outcomes.Ends c)) (after_change (change_of x) w)
-  ending_leads x (completions.Gave g) w = Comes.same refl
-  ending_leads x (completions.Threw e) w = Comes.same refl
-
-  pub over_leads : (o : Outcome) (w : World) → MovesTo s (tasks.Over o) w (nexts.Finished o) w
-  over_leads (outcomes.Ends (completions.Gave g)) w = Comes.same refl
-  over_leads (outcomes.Ends (completions.Threw x)) w = Comes.same refl
-  over_leads (outcomes.Cut cause) w = Comes.same refl
-
-pub ruleset leads = (fire_leads, fired_leads, boot_leads, starting_leads, call_leads, returning_leads, shut_down_leads, closing_leads, finishing_leads, emptied_leads)
+pub ruleset leads = (boot_leads, starting_leads, call_leads, returning_leads, shut_down_leads, closing_leads, finishing_leads, emptied_leads, on_way_at_start, stays_falls, lowers_falls)

@@ -1,6 +1,6 @@
 -- The steps of creation are those of the machine.
-use Rattle.std.proofs.Common.{ℕ, ◌≡◌, refl, sym, ◌∙◌, ap, Option, Some, None, Bool, true, false}
-use Rattle.std.specs.Prelude.{◌^◌, nat_lt}
+use Rattle.std.proofs.Common.{ℕ, ◌≡◌, arith, refl, sym, ◌∙◌, ap, Option, Some, None, Bool, true, false}
+use Rattle.std.specs.Prelude.{◌^◌, ◌<◌, nat_lt}
 use Rattle.cdi_base.specs.declared.entry.Entry.TheVariants as entries
 use Rattle.cdi_base.specs.declared.reply.Cause.TheVariants as causes
 use Rattle.cdi_base.specs.declared.place.Place.TheVariants as places
@@ -15,10 +15,13 @@ use Rattle.cdi_machine.specs.Tables.{Tables, Bean}
 use Rattle.cdi_machine.specs.World.{World, Change, after_change}
 use Rattle.cdi_machine.specs.Programs as machine
 use Rattle.cdi_machine.specs.Programs.{Given, Number, Completion, Gave, Threw, Prog, ret, throw, see, nested, tick, change, choose, act, handle, finally, quietly, do_nothing, tell_missing, require_present, require, require_one, expect, complete, call, finish, note, alter, each, raise, require_number, give_number, next_number, require_depth, go_deeper, top, instance, bean_at, resolve, attempt, ◌>>=◌, ◌>>◌}
-use Rattle.cdi_engine.specs.Setting.{Setting}
+use Rattle.cdi_engine.specs.Setting.{Setting, Narrows}
 use Rattle.cdi_engine.specs.Asked.{number_left}
-use Rattle.cdi_engine.specs.Points.{fields_of, make_instance}
-use Rattle.cdi_engine.specs.Leads.{next_stop, Comes, MovesTo}
+use Rattle.cdi_engine.specs.Meanings.{make_instance}
+use Rattle.cdi_engine.specs.Leads.{next_stop, Comes, ComesTo, MovesTo, IsOnWay, Written, Spent}
+use Rattle.cdi_engine.proofs.Sound.{comes_before}
+use Rattle.cdi_engine.proofs.Entries.{cut_before, comes_after, on_way_after, on_way_at_start, stays_falls, lowers_falls}
+use Rattle.cdi_engine.specs.declared.task.Next.{Next}
 use Rattle.cdi_engine.specs.declared.task.Call.TheVariants as calls
 use Rattle.cdi_engine.specs.declared.task.Completion.TheVariants as completions
 use Rattle.cdi_engine.specs.declared.task.Given.TheVariants as givens
@@ -64,18 +67,26 @@ module _ (t : Tables) where
 
   pub create_first : (b : ℕ) (owner : Owner) (p : CodeBean) (n : ℕ) (w : World)
       → t.bean b ≡ Some (machine_bean p) → number_left w ≡ Some n
-      → next_stop t (create b owner) w ≡ (tick (entries.New n (places.Class p.class)) (make_instance t n b owner), w)
+      → next_stop t (create b owner) w ≡ (tick (entries.New n (places.Class p.class)) (make_instance n b owner (first_fields (machine_bean p).kind)), w)
   create_first b owner p n w e q = by_flag (nat_lt w.next (2 ^ 32)) refl q
     where
       by_flag : (x : Bool) → nat_lt w.next (2 ^ 32) ≡ x
           → elim x as (λ _. Option ℕ) [ true ↦ Some w.next | false ↦ None ] ≡ Some n
-          → next_stop t (create b owner) w ≡ (tick (entries.New n (places.Class p.class)) (make_instance t n b owner), w)
+          → next_stop t (create b owner) w ≡ (tick (entries.New n (places.Class p.class)) (make_instance n b owner (first_fields (machine_bean p).kind)), w)
       by_flag true h z =
           let m : w.next ≡ n = cc in
           create_at b owner true w e h
           ∙ ap (λ k. (tick (entries.New k (places.Class p.class)) (change (Change.Make (components.Bean b) owner (first_fields (machine_bean p).kind)) (make_ready k)), w)) m
-          ∙ ap (λ x. (tick (entries.New n (places.Class p.class)) (change (Change.Make (components.Bean b) owner (fields_of x)) (make_ready n)), w)) (sym e)
       by_flag false h z = absurd (cc)
+
+-- a number that is left is below the limit
+pub number_below : (n : ℕ) (w : World) → number_left w ≡ Some n → w.next < 2 ^ 32
+number_below n w q = by (nat_lt w.next (2 ^ 32)) refl q
+  where
+    by : (x : Bool) → nat_lt w.next (2 ^ 32) ≡ x
+        → elim x as (λ _. Option ℕ) [ true ↦ Some w.next | false ↦ None ] ≡ Some n → w.next < 2 ^ 32
+    by true h z = search arith
+    by false h z = absurd (cc)
 
 module _ (s : Setting) where
   pub create_missing_leads : (b : ℕ) (owner : Owner) (w : World) → s.tables.bean b ≡ None
@@ -87,17 +98,41 @@ module _ (s : Setting) where
       → MovesTo s (tasks.Start (calls.Create b owner)) w (nexts.Finished (outcomes.Cut causes.Numbers)) w
   create_last_leads b owner p w e q = Comes.same (create_last s.tables b owner p w e q)
 
-  pub create_first_leads : (b : ℕ) (owner : Owner) (p : CodeBean) (n : ℕ) (w : World)
-      → s.tables.bean b ≡ Some (machine_bean p) → number_left w ≡ Some n
-      → MovesTo s (tasks.Start (calls.Create b owner)) w (nexts.Writes (entries.New n (places.Class p.class)) (tasks.Made n b owner)) w
-  create_first_leads b owner p n w e q = Comes.same (create_first s.tables b owner p n w e q)
+  module _ (b : ℕ) (owner : Owner) (p : CodeBean) (n : ℕ) (w v : World) (e : s.tables.bean b ≡ Some (machine_bean p)) (q : number_left w ≡ Some n) where
+    pub create_cut : Spent w v → MovesTo s (tasks.Start (calls.Create b owner)) w (nexts.Finished (outcomes.Cut causes.Ticks)) v
+    create_cut f = cut_before s (create_first s.tables b owner p n w e q) f
 
-  pub made_leads : (n b : ℕ) (owner : Owner) (w : World) (fields : Fields) → fields ≡ fields_of (s.tables.bean b)
-      → MovesTo s (tasks.Made n b owner) w (nexts.Writes (entries.Ready n) (tasks.Readied n)) (after_change (Change.Make (components.Bean b) owner fields) w)
-  made_leads n b owner w fields e = rw e (Comes.same refl)
+    pub create_leads : {z : Setting} (fields : Fields) (next : Next) (x : World) → fields ≡ first_fields (machine_bean p).kind → Narrows s z
+        → Written (entries.New n (places.Class p.class)) w v
+        → ComesTo z (make_instance n b owner fields) v next x
+        → MovesTo s (tasks.Start (calls.Create b owner)) w next x
+    create_leads fields next x h m k c = comes_after s (create_first s.tables b owner p n w e q) k (comes_before m (rw h at c))
 
-  pub readied_leads : (n : ℕ) (w : World)
-      → MovesTo s (tasks.Readied n) w (nexts.Finished (outcomes.Ends (completions.Gave (givens.Number n)))) (after_change (Change.Settle n) w)
-  readied_leads n w = Comes.same refl
+    pub create_on_way : {z : Setting} (fields : Fields) (x : World) → fields ≡ first_fields (machine_bean p).kind → Narrows s z
+        → Written (entries.New n (places.Class p.class)) w v
+        → IsOnWay z (make_instance n b owner fields) v x
+        → IsOnWay s (create b owner) w x
+    create_on_way fields x h m k c =
+        let y = rw h at c in
+        on_way_after s (create_first s.tables b owner p n w e q) k (record { left = y.left; comes = comes_before m y.comes })
 
-pub ruleset leads = (create_missing_leads, create_last_leads, create_first_leads, made_leads, readied_leads)
+  module _ (n b : ℕ) (owner : Owner) (fields : Fields) (w v : World) where
+    abbrev made : World
+    made = after_change (Change.Make (components.Bean b) owner fields) w
+
+    pub make_cut : Spent made v → ComesTo s (make_instance n b owner fields) w (nexts.Finished (outcomes.Cut causes.Ticks)) v
+    make_cut f = cut_before s refl f
+
+    pub make_leads : Written (entries.Ready n) made v
+        → ComesTo s (make_instance n b owner fields) w (nexts.Finished (outcomes.Ends (completions.Gave (givens.Number n)))) (after_change (Change.Settle n) v)
+    make_leads k = comes_after s refl k (Comes.same refl)
+
+    -- the instance is made, and its entry isn't written
+    pub make_on_way : v ≡ made → IsOnWay s (make_instance n b owner fields) w v
+    make_on_way q = rw q (record { left = make_ready n; comes = Comes.within 1 refl })
+
+    -- and it is
+    pub ready_on_way : (x : World) → Written (entries.Ready n) made v → x ≡ v → IsOnWay s (make_instance n b owner fields) w x
+    ready_on_way x k q = on_way_after s refl k (on_way_at_start q)
+
+pub ruleset leads = (create_missing_leads, create_last_leads, on_way_at_start, stays_falls, lowers_falls)

@@ -21,7 +21,9 @@ use Rattle.cdi_machine.specs.Programs.{Given, Number, Completion, Gave, Threw, P
 use Rattle.cdi_engine.specs.Setting.{Setting}
 use Rattle.cdi_engine.specs.Asked.{method_in, method_of_component, method_of_instance, top_of}
 use Rattle.cdi_engine.specs.Words.{running_of}
-use Rattle.cdi_engine.specs.Points.{reach_end, end_with}
+use Rattle.cdi_engine.specs.Meanings.{reach_end, end_with}
+use Rattle.std.specs.Global.{Box}
+use Rattle.cdi_engine.proofs.Entries.{on_way_at_start, stays_falls, lowers_falls}
 use Rattle.cdi_engine.specs.Leads.{next_stop, Comes, MovesTo, Settles}
 use Rattle.cdi_engine.specs.declared.task.Call.TheVariants as calls
 use Rattle.cdi_engine.specs.declared.task.Completion.TheVariants as completions
@@ -145,15 +147,15 @@ module _ (s : Setting) where
       by_role roles.PostConstruct = refl
       by_role roles.PreDestroy = refl
 
-  pub rest_first : (v : Invocation) (m : Code) (r : Running) (role : InterceptorMethod) (w : World)
+  pub rest_first : (v : Invocation) (m : Code) (b : Box Running) (role : InterceptorMethod) (w : World)
       → top_of w.invocations ≡ Some v → v.members ≡ m ∷ [] → role ≡ v.role
-      → running_of r ≡ body_at_start v.target m.place m.body v.parameters v.references []
-      → MovesTo s (tasks.Start calls.Rest) w (nexts.Needs (tasks.Start (calls.Body r)) (frames.AtEnd role)) w
-  rest_first v m r role w e h q b =
+      → running_of b.value ≡ body_at_start v.target m.place m.body v.parameters v.references []
+      → MovesTo s (tasks.Start calls.Rest) w (nexts.Needs (tasks.Start (calls.Body b)) (frames.AtEnd role)) w
+  rest_first v m b role w e h q z =
       Comes.same
       (rest_settled w e
       ∙ ap (λ ms. next_stop s.tables (each ms (λ m. call (machine.Body (body_at_start v.target m.place m.body v.parameters v.references []))) >>= λ g. reach_end (given_by v.role g)) w) h
-      ∙ ap (λ x. (nested (machine.Body x) (λ c. complete c >>= λ g. reach_end (given_by v.role g)), w)) (sym b)
-      ∙ ap (λ x. (nested (machine.Body (running_of r)) (λ c. complete c >>= λ g. reach_end (given_by x g)), w)) (sym q))
+      ∙ ap (λ x. (nested (machine.Body x) (λ c. complete c >>= λ g. reach_end (given_by v.role g)), w)) (sym z)
+      ∙ ap (λ x. (nested (machine.Body (running_of b.value)) (λ c. complete c >>= λ g. reach_end (given_by x g)), w)) (sym q))
 
-pub ruleset leads = (invoke_none, invoke_miscounted, invoke_first, rest_missing, rest_empty, rest_first)
+pub ruleset leads = (invoke_none, invoke_miscounted, invoke_first, rest_missing, rest_empty, rest_first, on_way_at_start, stays_falls, lowers_falls)

@@ -1,5 +1,6 @@
 pub mod Sound
 pub mod Cost
+pub mod Entries
 pub mod StaysKnown
 pub mod CreationSteps
 pub mod InvocationSteps
@@ -7,3 +8,4 @@ pub mod BodySteps
 pub mod ObtainingSteps
 pub mod DestructionSteps
 pub mod CommandSteps
+pub mod ResumeSteps

@@ -16,8 +16,9 @@ use Rattle.cdi_machine.specs.Programs as machine
 use Rattle.cdi_machine.specs.Programs.{Given, Number, Completion, Gave, Threw, Prog, ret, throw, see, nested, tick, change, choose, act, handle, finally, quietly, do_nothing, tell_missing, require_present, require, require_one, expect, complete, call, finish, note, alter, each, raise, require_number, give_number, next_number, require_depth, go_deeper, top, instance, bean_at, resolve, attempt, ◌>>=◌, ◌>>◌}
 use Rattle.cdi_engine.specs.Setting.{Setting}
 use Rattle.cdi_engine.specs.Asked.{of_type}
-use Rattle.cdi_engine.specs.Points.{node, use_for}
-use Rattle.cdi_engine.specs.Leads.{next_stop, Comes, MovesTo, Settles}
+use Rattle.cdi_engine.specs.Meanings.{node, use_for, use_lent}
+use Rattle.cdi_engine.specs.Leads.{next_stop, Comes, MovesTo, GoesOn, Settles}
+use Rattle.cdi_engine.proofs.Entries.{on_way_at_start, stays_falls, lowers_falls}
 use Rattle.cdi_engine.specs.declared.task.Call.TheVariants as calls
 use Rattle.cdi_engine.specs.declared.task.Completion.TheVariants as completions
 use Rattle.cdi_engine.specs.declared.task.Given.TheVariants as givens
@@ -154,7 +155,7 @@ module _ (s : Setting) where
             | true ↦ ret (Proxy b)
             | false ↦ call (machine.Create b owners.Borrower) >>= λ made. ret (direct_reference made)
           ]) >>= λ r. reach_instance r >>= λ n. invoke_method n method args) w
-          ≡ (node ts (nexts.Needs (tasks.Start (calls.Obtain b)) (frames.Reaching method args)), w)
+          ≡ (node (nexts.Needs (tasks.Start (calls.Obtain b)) (frames.Reaching method args)), w)
       by declared_scopes.ApplicationScoped z = refl
       by declared_scopes.Dependent z = absurd (cc)
 
@@ -170,7 +171,7 @@ module _ (s : Setting) where
             | true ↦ ret (Proxy b)
             | false ↦ call (machine.Create b owners.Borrower) >>= λ made. ret (direct_reference made)
           ]) >>= λ r. reach_instance r >>= λ n. invoke_method n method args) w
-          ≡ (node ts (nexts.Needs (tasks.Start (calls.Create b owners.Borrower)) (frames.Borrowing method args)), w)
+          ≡ (node (nexts.Needs (tasks.Start (calls.Create b owners.Borrower)) (frames.Borrowing method args)), w)
       by declared_scopes.ApplicationScoped z = absurd (cc)
       by declared_scopes.Dependent z = refl
 
@@ -180,18 +181,41 @@ module _ (s : Setting) where
   staying x n method args = (require x built_in.IllegalStateException >> ret n) >>= λ m. invoke_method m method args
 
   pub lent_gone : (n : ℕ) (method : Name) (args : List Value) (w : World) → stays (instance_at w n) ≡ false
-      → MovesTo s (tasks.Lent n method args) w (nexts.Finished (outcomes.Ends (completions.Threw (number_of built_in.IllegalStateException)))) w
-  lent_gone n method args w e = Comes.same (ap (λ x. next_stop ts (staying x n method args) w) e)
+      → Settles s (use_lent n method args) w (nexts.Finished (outcomes.Ends (completions.Threw (number_of built_in.IllegalStateException)))) w
+  lent_gone n method args w e = ap (λ x. next_stop ts (staying x n method args) w) e
 
   pub lent_leads : (n : ℕ) (method : Name) (args : List Value) (next : Next) (w u : World) → stays (instance_at w n) ≡ true
       → Settles s (invoke_method n method args) w next u
-      → MovesTo s (tasks.Lent n method args) w next u
-  lent_leads n method args next w u e h = Comes.same (ap (λ x. next_stop ts (staying x n method args) w) e ∙ h)
+      → Settles s (use_lent n method args) w next u
+  lent_leads n method args next w u e h = ap (λ x. next_stop ts (staying x n method args) w) e ∙ h
 
-  pub invoking_leads : (n : ℕ) (method : Name) (args : List Value) (next : Next) (w u : World)
+  -- ---- with what the call gave
+
+  pub reach_leads : (n : ℕ) (method : Name) (args : List Value) (next : Next) (w u : World)
       → Settles s (invoke_method n method args) w next u
-      → MovesTo s (tasks.Invoking n method args) w next u
-  invoking_leads n method args next w u h = Comes.same h
+      → GoesOn s (frames.Reaching method args) (completions.Gave (givens.Number n)) w next u
+  reach_leads n method args next w u h = Comes.same h
+
+  pub reach_value : (v : Value) (method : Name) (args : List Value) (w : World)
+      → GoesOn s (frames.Reaching method args) (completions.Gave (givens.Result v)) w (nexts.Finished (outcomes.Ends (completions.Threw (number_of built_in.IllegalStateException)))) w
+  reach_value v method args w = Comes.same refl
+
+  pub reach_empty : (method : Name) (args : List Value) (w : World)
+      → GoesOn s (frames.Reaching method args) (completions.Gave givens.Empty) w (nexts.Finished (outcomes.Ends (completions.Threw (number_of built_in.IllegalStateException)))) w
+  reach_empty method args w = Comes.same refl
+
+  pub borrow_leads : (n : ℕ) (method : Name) (args : List Value) (next : Next) (w u : World)
+      → Settles s (use_lent n method args) w next u
+      → GoesOn s (frames.Borrowing method args) (completions.Gave (givens.Number n)) w next u
+  borrow_leads n method args next w u h = Comes.same h
+
+  pub borrow_value : (v : Value) (method : Name) (args : List Value) (w : World)
+      → GoesOn s (frames.Borrowing method args) (completions.Gave (givens.Result v)) w (nexts.Finished (outcomes.Ends (completions.Threw (number_of built_in.NullPointerException)))) w
+  borrow_value v method args w = Comes.same refl
+
+  pub borrow_empty : (method : Name) (args : List Value) (w : World)
+      → GoesOn s (frames.Borrowing method args) (completions.Gave givens.Empty) w (nexts.Finished (outcomes.Ends (completions.Threw (number_of built_in.NullPointerException)))) w
+  borrow_empty method args w = Comes.same refl
 
 -- ---- the same for steps
 
@@ -225,4 +249,4 @@ module _ (s : Setting) where
       → MovesTo s (tasks.Start (calls.Obtain b)) w (nexts.Finished (outcomes.Ends (completions.Threw (number_of built_in.ContextNotActiveException)))) w
   obtain_ending b p w e a h = Comes.same (obtain_settled s.tables b p w e a h)
 
-pub ruleset leads = (obtain_absent, obtain_inactive, obtain_is, obtain_making, obtain_open, obtain_ending, using_nothing, using_many, using_missing, using_shared, using_dependent, lent_gone, lent_leads, invoking_leads)
+pub ruleset leads = (obtain_absent, obtain_inactive, obtain_is, obtain_making, obtain_open, obtain_ending, using_nothing, using_many, using_missing, using_shared, using_dependent, lent_gone, lent_leads, reach_leads, reach_value, reach_empty, borrow_leads, borrow_value, borrow_empty, on_way_at_start, stays_falls, lowers_falls)

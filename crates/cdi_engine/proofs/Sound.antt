@@ -1,6 +1,6 @@
 -- A step and the runs after it are a run.
 use Rattle.std.proofs.Common.{ℕ, zero, suc, ◌≡◌, ◌<◌, ◌≤◌, length, refl, sym, ◌∙◌, subst, true≢false}
-use Rattle.std.specs.Prelude.{Ok, Err, IsErr, IfOk}
+use Rattle.std.specs.Prelude.{Ok, Err, IsErr, IfOk, OnErr}
 use Rattle.std.specs.Prelude.{Result as Either}
 use Rattle.cdi_base.specs.declared.entry.Entry.{Entry}
 use Rattle.cdi_base.specs.declared.reply.Cause.TheVariants as causes
@@ -14,8 +14,8 @@ use Rattle.cdi_machine.specs.Runs.{Legal, Runs, rest_after}
 use Rattle.cdi_machine.specs.Laws.{IsWithin}
 use Rattle.cdi_engine.specs.Setting.{Setting, Narrows}
 use Rattle.cdi_engine.specs.Words.{outcome_of, task_of}
-use Rattle.cdi_engine.specs.Points.{over, around, node, first, rest, waits, after}
-use Rattle.cdi_engine.specs.Leads.{next_stop, after_steps, Comes, MovesTo, Ran}
+use Rattle.cdi_engine.specs.Meanings.{over, around, node, first, rest, waits, after}
+use Rattle.cdi_engine.specs.Leads.{next_stop, after_steps, Comes, ComesTo, IsOnWay, Ran}
 use Rattle.cdi_engine.specs.declared.task.Call.{Call}
 use Rattle.cdi_engine.specs.declared.task.Completion.TheVariants as completions
 use Rattle.cdi_engine.specs.declared.task.Outcome.{Outcome}
@@ -57,15 +57,17 @@ module _ (tables : Tables) (legal : Legal) (Starved : Type 0) where
   from_after_steps (suc n) (choose m k) r = r
   from_after_steps (suc n) (nested c k) r = r
 
-  from_comes : {p q : Prog Given} {w u v : World} {o : runs.Outcome} → Comes tables legal p w q u → R q u o v → R p w o v
-  from_comes {p = p} {v = v} {o = o} (Comes.same e) r = from_next_stop p (subst (λ s. R s.0 s.1 o v) (sym e) r)
-  from_comes {p = p} {v = v} {o = o} (Comes.within n e) r = from_after_steps n p (subst (λ s. R s.0 s.1 o v) (sym e) r)
-  from_comes {p = p} {u = u} {v = v} {o = o} (Comes.does {a = a} e l s) r = from_next_stop p (subst (λ s. R s.0 s.1 o v) (sym e) (Runs.does a l (subst (λ q. R q u o v) s r)))
-  from_comes {p = p} {u = u} {v = v} {o = o} (Comes.picks {i = i} e l h s) r = from_next_stop p (subst (λ s. R s.0 s.1 o v) (sym e) (Runs.picks i l h (subst (λ q. R q u o v) s r)))
-
   full_in : {e : Entry} {p : Prog Given} {w v : World} {o : runs.Outcome} → w.ticks ≤ length w.trace → R (cut causes.Ticks) w o v → R (tick e p) w o v
   full_in h Runs.cuts = Runs.is_full h
   full_in h (Runs.starves s) = Runs.starves s
+
+  from_comes : {p q : Prog Given} {w u v : World} {o : runs.Outcome} → Comes tables legal p w q u → R q u o v → R p w o v
+  from_comes {p = p} {v = v} {o = o} (Comes.same e) r = from_next_stop p (subst (λ s. R s.0 s.1 o v) (sym e) r)
+  from_comes {p = p} {v = v} {o = o} (Comes.within n e) r = from_after_steps n p (subst (λ s. R s.0 s.1 o v) (sym e) r)
+  from_comes {p = p} {v = v} {o = o} (Comes.writes e h c) r = from_next_stop p (subst (λ s. R s.0 s.1 o v) (sym e) (Runs.writes h (from_comes c r)))
+  from_comes {p = p} {v = v} {o = o} (Comes.fills e h) r = from_next_stop p (subst (λ s. R s.0 s.1 o v) (sym e) (full_in h r))
+  from_comes {p = p} {v = v} {o = o} (Comes.does a e l c) r = from_next_stop p (subst (λ s. R s.0 s.1 o v) (sym e) (Runs.does a l (from_comes c r)))
+  from_comes {p = p} {v = v} {o = o} (Comes.picks i e l h c) r = from_next_stop p (subst (λ s. R s.0 s.1 o v) (sym e) (Runs.picks i l h (from_comes c r)))
 
   starved_in : {p : Prog Given} {w v : World} {o : runs.Outcome} → Starved → R (cut causes.Memory) w o v → R p w o v
   starved_in s Runs.cuts = Runs.starves s
@@ -89,11 +91,11 @@ module _ (tables : Tables) (legal : Legal) (Starved : Type 0) where
   around_runs k (Runs.starves s) r = starved_in s r
 
   -- what a step needs, and then what waits for it
-  needed_runs : (d : Task) (k : Frame) {w u v : World} {o1 o : runs.Outcome} → R (first tables d) w o1 u → R (rest_after o1 (waits k)) u o v → R (node tables (nexts.Needs d k)) w o v
+  pub needed_runs : (d : Task) (k : Frame) {w u v : World} {o1 o : runs.Outcome} → R (first d) w o1 u → R (rest_after o1 (waits k)) u o v → R (node (nexts.Needs d k)) w o v
   needed_runs (tasks.Start c) k a b = Runs.calls a b
   needed_runs _ k a b = around_runs (waits k) a b
 
-  over_runs : (o : Outcome) {w : World} → R (over o) w (outcome_of o) w
+  pub over_runs : (o : Outcome) {w : World} → R (over o) w (outcome_of o) w
   over_runs (outcomes.Ends (completions.Gave g)) = Runs.returns
   over_runs (outcomes.Ends (completions.Threw x)) = Runs.throws
   over_runs (outcomes.Cut cause) = Runs.cuts
@@ -103,51 +105,17 @@ module _ (tables : Tables) (legal : Legal) (Starved : Type 0) where
   call_runs c {o = runs.Ends (Threw x)} r = Runs.calls r Runs.throws
   call_runs c {o = runs.Cut cause} r = Runs.calls r Runs.cuts
 
-  pub rest_runs : (t : Task) {w v : World} {o : runs.Outcome} → R (first tables t) w o v → R (rest tables t) w o v
+  pub rest_runs : (t : Task) {w v : World} {o : runs.Outcome} → R (first t) w o v → R (rest t) w o v
   rest_runs (tasks.Start c) r = call_runs c r
   rest_runs _ r = r
 
-  after_rest : (k : Frame) (o1 : Outcome) {w v : World} {o : runs.Outcome} → R (after k o1) w o v → R (rest_after (outcome_of o1) (waits k)) w o v
+  pub after_rest : (k : Frame) (o1 : Outcome) {w v : World} {o : runs.Outcome} → R (after k o1) w o v → R (rest_after (outcome_of o1) (waits k)) w o v
   after_rest k (outcomes.Ends c) r = r
   after_rest k (outcomes.Cut cause) r = r
 
   -- what is left of a loop: each run of it is one of the whole
   abbrev pub Continues : Prog Given → World → Prog Given → World → Type 0
   Continues p w q u = (o : runs.Outcome) (v : World) → R q u o v → R p w o v
-
-  abbrev pub Comes_to : Task → World → Next → World → Type 0
-  Comes_to t u n v = Comes tables legal (first tables t) u (node tables n) v
-
-  -- the moves of the loop
-  pub moves : {p : Prog Given} {w : World} (t : Task) (n : Next) (u v : World) → Continues p w (first tables t) u → Comes_to t u n v → Continues p w (node tables n) v
-  moves t n u v c s = λ o x r. c o x (from_comes s r)
-
-  pub goes : {p : Prog Given} {w : World} (t t1 : Task) (u v : World) → Continues p w (first tables t) u → Comes_to t u (nexts.Goes t1) v → Continues p w (first tables t1) v
-  goes t t1 u v c s = λ o x r. moves t (nexts.Goes t1) u v c s o x (rest_runs t1 r)
-
-  pub writes : {p : Prog Given} {w : World} (t t1 : Task) (e : Entry) (u v : World) → Continues p w (first tables t) u → Comes_to t u (nexts.Writes e t1) v → length v.trace < v.ticks
-      → Continues p w (first tables t1) (with_entry e v)
-  writes t t1 e u v c s h = λ o x r. moves t (nexts.Writes e t1) u v c s o x (Runs.writes h (rest_runs t1 r))
-
-  pub needs : {p : Prog Given} {w : World} (t t1 d : Task) (k : Frame) (o1 : Outcome) (u v x : World) → Continues p w (first tables t) u → Comes_to t u (nexts.Needs d k) v → R (first tables d) v (outcome_of o1) x → rest tables t1 ≡ after k o1
-      → Continues p w (first tables t1) x
-  needs t t1 d k o1 u v x c s a e = λ o y r. moves t (nexts.Needs d k) u v c s o y (needed_runs d k a (after_rest k o1 (subst (λ p. R p x o y) e (rest_runs t1 r))))
-
-  pub ends : {p : Prog Given} {w : World} (t : Task) (o1 : Outcome) (u v : World) → Continues p w (first tables t) u → Comes_to t u (nexts.Finished o1) v → R p w (outcome_of o1) v
-  ends t o1 u v c s = moves t (nexts.Finished o1) u v c s _ v (over_runs o1)
-
-  pub full : {p : Prog Given} {w : World} (t t1 : Task) (e : Entry) (u v : World) → Continues p w (first tables t) u → Comes_to t u (nexts.Writes e t1) v → v.ticks ≤ length v.trace → R p w (runs.Cut causes.Ticks) v
-  full t t1 e u v c s h = moves t (nexts.Writes e t1) u v c s _ v (Runs.is_full h)
-
-  -- where memory runs out: before a step, before an entry, in what a step needs
-  pub starved_here : {p : Prog Given} {w : World} (t : Task) (u v : World) → Starved → Continues p w (first tables t) u → v ≡ u → R p w (runs.Cut causes.Memory) v
-  starved_here {p = p} {w = w} t u v s c e = subst (λ x. R p w (runs.Cut causes.Memory) x) (sym e) (c _ u (Runs.starves s))
-
-  pub starved_before : {p : Prog Given} {w : World} (t t1 : Task) (e : Entry) (u v : World) → Starved → Continues p w (first tables t) u → Comes_to t u (nexts.Writes e t1) v → R p w (runs.Cut causes.Memory) v
-  starved_before t t1 e u v s c l = moves t (nexts.Writes e t1) u v c l _ v (Runs.starves s)
-
-  pub starved_within : {p : Prog Given} {w : World} (t d : Task) (k : Frame) (u v x : World) → Continues p w (first tables t) u → Comes_to t u (nexts.Needs d k) v → R (first tables d) v (runs.Cut causes.Memory) x → R p w (runs.Cut causes.Memory) x
-  starved_within t d k u v x c s a = moves t (nexts.Needs d k) u v c s _ x (needed_runs d k a Runs.cuts)
 
 -- a run stays one if more is legal, and if memory may run out
 module _ {tables : Tables} {small large : Legal} {Starved Other : Type 0} (i : IsWithin small large) (f : Starved → Other) where
@@ -169,8 +137,10 @@ module _ {tables : Tables} {small large : Legal} {Starved Other : Type 0} (i : I
 wider_comes : {tables : Tables} {small large : Legal} {p q : Prog Given} {w v : World} → IsWithin small large → Comes tables small p w q v → Comes tables large p w q v
 wider_comes i (Comes.same e) = Comes.same e
 wider_comes i (Comes.within n e) = Comes.within n e
-wider_comes {v = v} i (Comes.does {b = b} {fields = fields} {view = view} {a = a} e l s) = Comes.does e (i.act b (length v.trace) fields view a l) s
-wider_comes {v = v} i (Comes.picks {n = n} {i = x} e l h s) = Comes.picks e l (i.pick (candidates n) (length v.trace) x h) s
+wider_comes i (Comes.writes e h c) = Comes.writes e h (wider_comes i c)
+wider_comes i (Comes.fills e h) = Comes.fills e h
+wider_comes i (Comes.does {u = u} {b = b} {fields = fields} {view = view} a e l c) = Comes.does a e (i.act b (length u.trace) fields view a l) (wider_comes i c)
+wider_comes i (Comes.picks {u = u} {n = n} x e l h c) = Comes.picks x e l (i.pick (candidates n) (length u.trace) x h) (wider_comes i c)
 
 -- ---- from one asking of the driver to the next
 
@@ -193,13 +163,12 @@ pub narrows_same : {r s t : Setting} → Narrows r s → t ≡ s → Narrows r t
 narrows_same {r = r} n e = subst (λ x. Narrows r x) (sym e) n
 
 module _ {r s : Setting} (n : Narrows r s) where
-  leads_before : (t : Task) (x : Next) (w v : World) → MovesTo s t w x v → Comes r.tables r.legal (first r.tables t) w (node r.tables x) v
-  leads_before t x w v l =
-      wider_comes n.legal (subst (λ y. Comes y s.legal (first y t) w (node y x) v) n.tables l)
+  pub comes_before : {p q : Prog Given} {w v : World} → Comes s.tables s.legal p w q v → Comes r.tables r.legal p w q v
+  comes_before {p = p} {q = q} {w = w} {v = v} c = wider_comes n.legal (subst (λ y. Comes y s.legal p w q v) n.tables c)
 
-  runs_before : {Starved Other : Type 0} (p : Tables → Prog Given) {w v : World} {o : runs.Outcome} → (Starved → Other) → Runs s.tables s.legal Starved (p s.tables) w o v → Runs r.tables r.legal Other (p r.tables) w o v
+  runs_before : {Starved Other : Type 0} (p : Prog Given) {w v : World} {o : runs.Outcome} → (Starved → Other) → Runs s.tables s.legal Starved p w o v → Runs r.tables r.legal Other p w o v
   runs_before {Starved = Starved} p {w} {v} {o} f a =
-      wider n.legal f (subst (λ y. Runs y s.legal Starved (p y) w o v) n.tables a)
+      wider n.legal f (subst (λ y. Runs y s.legal Starved p w o v) n.tables a)
 
 -- ---- what is left of a loop that began so, with memory and short of it
 
@@ -210,45 +179,46 @@ pub record Kept (r : Setting) (p : Prog Given) (w : World) (q : Prog Given) (u :
 pub kept_start : (r : Setting) (p : Prog Given) (w : World) → Kept r p w p w
 kept_start r p w = record { whole = λ o v x. x; short = λ o v x. x }
 
+-- from a task to what it does first
+pub kept_point : (r : Setting) {p : Prog Given} {w : World} (t : Task) (u : World) → Kept r p w (node (nexts.Goes t)) u → Kept r p w (first t) u
+kept_point r t u k =
+    record {
+      whole = λ o v x. k.whole o v (rest_runs r.tables r.legal ⊥ t x);
+      short = λ o v x. k.short o v (rest_runs r.tables r.legal (Unit {0}) t x);
+    }
+
+pub kept_ends : (r : Setting) {p : Prog Given} {w : World} (o : Outcome) (u : World) → Kept r p w (node (nexts.Finished o)) u → Runs r.tables r.legal ⊥ p w (outcome_of o) u
+kept_ends r o u k = k.whole (outcome_of o) u (over_runs r.tables r.legal ⊥ o)
+
 module _ {r s : Setting} (n : Narrows r s) {p : Prog Given} {w : World} where
-  pub kept_goes : (t t1 : Task) (u v : World) → Kept r p w (first r.tables t) u → MovesTo s t u (nexts.Goes t1) v → Kept r p w (first r.tables t1) v
-  kept_goes t t1 u v k l =
-      let m = leads_before n t (nexts.Goes t1) u v l in
-      record { whole = goes r.tables r.legal ⊥ t t1 u v k.whole m; short = goes r.tables r.legal (Unit {0}) t t1 u v k.short m }
-
-  pub kept_writes : (t t1 : Task) (e : Entry) (u v : World) → Kept r p w (first r.tables t) u → MovesTo s t u (nexts.Writes e t1) v → length v.trace < v.ticks → Kept r p w (first r.tables t1) (with_entry e v)
-  kept_writes t t1 e u v k l h =
-      let m = leads_before n t (nexts.Writes e t1) u v l in
-      record { whole = writes r.tables r.legal ⊥ t t1 e u v k.whole m h; short = writes r.tables r.legal (Unit {0}) t t1 e u v k.short m h }
-
-  pub kept_ends : (t : Task) (o1 : Outcome) (u v : World) → Kept r p w (first r.tables t) u → MovesTo s t u (nexts.Finished o1) v → Runs r.tables r.legal ⊥ p w (outcome_of o1) v
-  kept_ends t o1 u v k l = ends r.tables r.legal ⊥ t o1 u v k.whole (leads_before n t (nexts.Finished o1) u v l)
-
-  pub kept_full : (t t1 : Task) (e : Entry) (u v : World) → Kept r p w (first r.tables t) u → MovesTo s t u (nexts.Writes e t1) v → v.ticks ≤ length v.trace → Runs r.tables r.legal ⊥ p w (runs.Cut causes.Ticks) v
-  kept_full t t1 e u v k l h = full r.tables r.legal ⊥ t t1 e u v k.whole (leads_before n t (nexts.Writes e t1) u v l) h
-
-  pub kept_starved : (t : Task) (u v : World) → Kept r p w (first r.tables t) u → v ≡ u → Runs r.tables r.legal (Unit {0}) p w (runs.Cut causes.Memory) v
-  kept_starved t u v k e = starved_here r.tables r.legal (Unit {0}) t u v tt k.short e
-
-  pub kept_starved_before : (t t1 : Task) (e : Entry) (u v : World) → Kept r p w (first r.tables t) u → MovesTo s t u (nexts.Writes e t1) v → Runs r.tables r.legal (Unit {0}) p w (runs.Cut causes.Memory) v
-  kept_starved_before t t1 e u v k l = starved_before r.tables r.legal (Unit {0}) t t1 e u v tt k.short (leads_before n t (nexts.Writes e t1) u v l)
-
--- what the step needed ran in the setting after it
-module _ {r s z : Setting} (n : Narrows r s) (m : Narrows r z) {p : Prog Given} {w : World} where
-  pub kept_needs : (t t1 d : Task) (k : Frame) (o1 : Outcome) (u v x : World) → Kept r p w (first r.tables t) u → MovesTo s t u (nexts.Needs d k) v → Runs z.tables z.legal ⊥ (first z.tables d) v (outcome_of o1) x → ((y : Tables) → rest y t1 ≡ after k o1)
-      → Kept r p w (first r.tables t1) x
-  kept_needs t t1 d k o1 u v x c l a e =
-      let y = leads_before n t (nexts.Needs d k) u v l in
-      let b : Runs r.tables r.legal ⊥ (first r.tables d) v (outcome_of o1) x = runs_before m (λ ts. first ts d) (λ q. q) a in
-      let b1 : Runs r.tables r.legal (Unit {0}) (first r.tables d) v (outcome_of o1) x = runs_before m (λ ts. first ts d) (λ q. tt) a in
+  pub kept_comes : (q : Prog Given) (next : Next) (u v : World) → Kept r p w q u → ComesTo s q u next v → Kept r p w (node next) v
+  kept_comes q next u v k c =
+      let m = comes_before n c in
       record {
-        whole = needs r.tables r.legal ⊥ t t1 d k o1 u v x c.whole y b (e r.tables);
-        short = needs r.tables r.legal (Unit {0}) t t1 d k o1 u v x c.short y b1 (e r.tables);
+        whole = λ o x y. k.whole o x (from_comes r.tables r.legal ⊥ m y);
+        short = λ o x y. k.short o x (from_comes r.tables r.legal (Unit {0}) m y);
       }
 
-  pub kept_starved_within : (t d : Task) (k : Frame) (u v x : World) → Kept r p w (first r.tables t) u → MovesTo s t u (nexts.Needs d k) v → Runs z.tables z.legal (Unit {0}) (first z.tables d) v (runs.Cut causes.Memory) x → Runs r.tables r.legal (Unit {0}) p w (runs.Cut causes.Memory) x
-  kept_starved_within t d k u v x c l a =
-      starved_within r.tables r.legal (Unit {0}) t d k u v x c.short (leads_before n t (nexts.Needs d k) u v l) (runs_before m (λ ts. first ts d) (λ q. q) a)
+  pub kept_on_way : (q : Prog Given) (u v : World) → Kept r p w q u → IsOnWay s q u v → Runs r.tables r.legal (Unit {0}) p w (runs.Cut causes.Memory) v
+  kept_on_way q u v k c = k.short _ v (from_comes r.tables r.legal (Unit {0}) (comes_before n c.comes) (Runs.starves tt))
+
+  pub kept_starved : (q : Prog Given) (u v : World) → Kept r p w q u → v ≡ u → Runs r.tables r.legal (Unit {0}) p w (runs.Cut causes.Memory) v
+  kept_starved q u v k e = subst (λ x. Runs r.tables r.legal (Unit {0}) p w (runs.Cut causes.Memory) x) (sym e) (k.short _ u (Runs.starves tt))
+
+  -- what was needed has run
+  pub kept_back : (d : Task) (k : Frame) (o1 : Outcome) (u v : World) → Kept r p w (node (nexts.Needs d k)) u → Runs s.tables s.legal ⊥ (first d) u (outcome_of o1) v → Kept r p w (after k o1) v
+  kept_back d k o1 u v c a =
+      let b : Runs r.tables r.legal ⊥ (first d) u (outcome_of o1) v = runs_before n (first d) (λ q. q) a in
+      let b1 : Runs r.tables r.legal (Unit {0}) (first d) u (outcome_of o1) v = runs_before n (first d) (λ q. tt) a in
+      record {
+        whole = λ o x y. c.whole o x (needed_runs r.tables r.legal ⊥ d k b (after_rest r.tables r.legal ⊥ k o1 y));
+        short = λ o x y. c.short o x (needed_runs r.tables r.legal (Unit {0}) d k b1 (after_rest r.tables r.legal (Unit {0}) k o1 y));
+      }
+
+  pub kept_starved_within : (d : Task) (k : Frame) (u v : World) → Kept r p w (node (nexts.Needs d k)) u → Runs s.tables s.legal (Unit {0}) (first d) u (runs.Cut causes.Memory) v → Runs r.tables r.legal (Unit {0}) p w (runs.Cut causes.Memory) v
+  kept_starved_within d k u v c a = c.short _ v (needed_runs r.tables r.legal (Unit {0}) d k (runs_before n (first d) (λ q. q) a) Runs.cuts)
+
+-- ---- results
 
 -- a run that failed was on its way
 pub ran_err : (r : Setting) {p : Prog Given} {w : World} (v : World) (x : Either Outcome Failure) → IsErr x → Runs r.tables r.legal (Unit {0}) p w (runs.Cut causes.Memory) v → Ran r p w x v
@@ -259,3 +229,12 @@ ran_err r v (Err e) h s = s
 pub map_ok : {A E : Type 0} (r : Either A E) {P Q : A → Type 0} → ((a : A) → P a → Q a) → IfOk r P → IfOk r Q
 map_ok (Ok a) f h = f a h
 map_ok (Err e) f h = h
+
+-- what follows if it is none
+pub map_err : {A E : Type 0} (r : Either A E) {P Q : Type 0} → (P → Q) → OnErr r P → OnErr r Q
+map_err (Ok a) f h = h
+map_err (Err e) f h = f h
+
+pub as_err : {A E : Type 0} (r : Either A E) {P : Type 0} → P → OnErr r P
+as_err (Ok a) h = tt
+as_err (Err e) h = h

@@ -1,5 +1,5 @@
--- When a point may do something first.
-use Rattle.std.specs.Prelude.{ℕ, zero, suc, ◌≡◌, ◌<◌, ◌≤◌, length, Option, Some, None, Ok, Err}
+-- When a step may be this: what comes of a program, and of the engine's words.
+use Rattle.std.specs.Prelude.{ℕ, zero, suc, ◌≡◌, ◌<◌, ◌≤◌, length, Bool, true, false, Ok, Err}
 use Rattle.std.specs.Prelude.{Result as Either}
 use Rattle.cdi_base.specs.declared.act.Act.{Act}
 use Rattle.cdi_base.specs.declared.entry.Entry.{Entry}
@@ -14,8 +14,10 @@ use Rattle.cdi_machine.specs.Programs.{Given, Prog, ret, throw, cut, miss, see, 
 use Rattle.cdi_machine.specs.Runs as runs
 use Rattle.cdi_machine.specs.Runs.{Legal, Runs}
 use Rattle.cdi_engine.specs.Setting.{Setting}
-use Rattle.cdi_engine.specs.Words.{outcome_of}
-use Rattle.cdi_engine.specs.Points.{first, node}
+use Rattle.cdi_engine.specs.Words.{completion_of, outcome_of}
+use Rattle.cdi_engine.specs.Meanings.{first, node, waits}
+use Rattle.cdi_engine.specs.declared.task.Completion.{Completion}
+use Rattle.cdi_engine.specs.declared.task.Frame.{Frame}
 use Rattle.cdi_engine.specs.declared.task.Outcome.{Outcome}
 use Rattle.cdi_engine.specs.declared.task.Task.{Task}
 use Rattle.cdi_engine.specs.declared.task.Next.{Next}
@@ -43,44 +45,63 @@ after_steps (suc n) t (change g p) w = after_steps n t p (after_change g w)
 after_steps (suc n) t (mark m p) w = after_steps n t p w
 after_steps (suc n) t p w = (p, w)
 
--- the one goes on as the other
+-- The one goes on as the other: by silent steps, and by entries that are written or for which the budget has no room.
 pub data Comes (t : Tables) (legal : Legal) : Prog Given → World → Prog Given → World → Type 0 where
   same : {p q : Prog Given} {w v : World} → next_stop t p w ≡ (q, v) → Comes t legal p w q v
   within : {p q : Prog Given} {w v : World} (n : ℕ) → after_steps n t p w ≡ (q, v)
       → Comes t legal p w q v
-  does : {p q : Prog Given} {w v : World} {b : ℕ} {fields : Fields} {view : View}
-      {k : Act → Prog Given} {a : Act} → next_stop t p w ≡ (act b fields view k, v)
-      → legal.gives b (length v.trace) fields view a
-      → q ≡ tick (entries.Did a) (k a)
+  writes : {p p1 q : Prog Given} {w u v : World} {e : Entry} → next_stop t p w ≡ (tick e p1, u)
+      → length u.trace < u.ticks
+      → Comes t legal p1 (with_entry e u) q v
       → Comes t legal p w q v
-  picks : {p q : Prog Given} {w v : World} {n i : ℕ} {k : ℕ → Prog Given}
-      → next_stop t p w ≡ (choose n k, v)
+  fills : {p p1 : Prog Given} {w v : World} {e : Entry} → next_stop t p w ≡ (tick e p1, v)
+      → v.ticks ≤ length v.trace
+      → Comes t legal p w (cut causes.Ticks) v
+  does : {p q : Prog Given} {w u v : World} {b : ℕ} {fields : Fields} {view : View}
+      {k : Act → Prog Given} (a : Act) → next_stop t p w ≡ (act b fields view k, u)
+      → legal.gives b (length u.trace) fields view a
+      → Comes t legal (tick (entries.Did a) (k a)) u q v
+      → Comes t legal p w q v
+  picks : {p q : Prog Given} {w u v : World} {n : ℕ} {k : ℕ → Prog Given} (i : ℕ)
+      → next_stop t p w ≡ (choose n k, u)
       → i < candidates n
-      → legal.picks (candidates n) (length v.trace) i
-      → q ≡ tick (entries.Pick (candidates n) i) (k i)
+      → legal.picks (candidates n) (length u.trace) i
+      → Comes t legal (tick (entries.Pick (candidates n) i) (k i)) u q v
       → Comes t legal p w q v
 
--- the point may do this first, from the one world to the other: what is left after it is what it comes to
+-- the program may come to what is next, from the one world to the other
+abbrev pub ComesTo : Setting → Prog Given → World → Next → World → Type 0
+ComesTo s p w next v = Comes s.tables s.legal p w (node next) v
+
+-- what the task does first may be this
 abbrev pub MovesTo : Setting → Task → World → Next → World → Type 0
-MovesTo s p w next v = Comes s.tables s.legal (first s.tables p) w (node s.tables next) v
+MovesTo s p w next v = ComesTo s (first p) w next v
 
--- the program settles as what is done next, from the one world to the other
+-- what the frame does once the call has ended may be this
+abbrev pub GoesOn : Setting → Frame → Completion → World → Next → World → Type 0
+GoesOn s k c w next v = ComesTo s (waits k (completion_of c)) w next v
+
+-- the program settles as what is next, from the one world to the other
 abbrev pub Settles : Setting → Prog Given → World → Next → World → Type 0
-Settles s p w next v = next_stop s.tables p w ≡ (node s.tables next, v)
+Settles s p w next v = next_stop s.tables p w ≡ (node next, v)
 
--- what comes of an entry in front of a point: it is written and the point is next, or the budget is spent
-pub record Written (e : Entry) (t : Task) (w : World) (p : Task) (v : World) : Type 0 where
+-- the program may have come so far
+pub record IsOnWay (s : Setting) (p : Prog Given) (w v : World) : Type 0 where
+  pub left : Prog Given
+  pub comes : Comes s.tables s.legal p w left v
+
+-- an entry was written, or the budget is spent
+pub record Written (e : Entry) (w v : World) : Type 0 where
   pub room : length w.trace < w.ticks
-  pub next : p ≡ t
   pub world : v ≡ with_entry e w
 
 pub record Spent (w v : World) : Type 0 where
   pub full : w.ticks ≤ length w.trace
   pub world : v ≡ w
 
-abbrev pub Noted : Entry → Task → World → Option Task → World → Type 0
-Noted e t w (Some p) v = Written e t w p v
-Noted e t w None v = Spent w v
+abbrev pub Noted : Entry → World → Bool → World → Type 0
+Noted e w true v = Written e w v
+Noted e w false v = Spent w v
 
 -- a run of the program came to this; one that failed was on its way
 abbrev pub Ran : Setting → Prog Given → World → Either Outcome Failure → World → Type 0

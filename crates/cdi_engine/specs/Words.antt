@@ -1,6 +1,8 @@
 -- The words of the code as those of the definition.
 use Rattle.std.specs.Prelude.{List, [], ◌∷◌, false, None}
 use Rattle.cdi_base.specs.declared.value.Value.TheVariants as values
+use Rattle.cdi_base.specs.declared.place.InterceptorMethod.{InterceptorMethod}
+use Rattle.cdi_base.specs.declared.place.InterceptorMethod.TheVariants as roles
 use Rattle.cdi_base.specs.declared.uses.Use.{Use}
 use Rattle.cdi_base.specs.declared.built_in.BuiltIn.TheVariants as built_in
 use Rattle.cdi_base.specs.BuiltIn.{number_of}
@@ -8,7 +10,6 @@ use Rattle.cdi_store.specs.declared.instance.Context.TheVariants.{Application}
 use Rattle.cdi_machine.specs.Words.{Name}
 use Rattle.cdi_machine.specs.Programs as machine
 use Rattle.cdi_machine.specs.Runs as runs
-use Rattle.cdi_machine.specs.World.{Change}
 use Rattle.cdi_machine.specs.Events.{qualifier}
 use Rattle.cdi_machine.specs.Commands.{Command}
 use Rattle.cdi_engine.specs.Asked.{of_type}
@@ -23,8 +24,6 @@ use Rattle.cdi_engine.specs.declared.task.Call.{Call}
 use Rattle.cdi_engine.specs.declared.task.Call.TheVariants as calls
 use Rattle.cdi_engine.specs.declared.task.ContainerEvent.{ContainerEvent}
 use Rattle.cdi_engine.specs.declared.task.ContainerEvent.TheVariants as events
-use Rattle.cdi_engine.specs.declared.task.LastChange.{LastChange}
-use Rattle.cdi_engine.specs.declared.task.LastChange.TheVariants as last
 use Rattle.cdi_engine.specs.declared.task.Job.{Job}
 use Rattle.cdi_engine.specs.declared.task.Job.TheVariants as jobs
 
@@ -40,6 +39,11 @@ completion_of (completions.Threw x) = machine.Threw x
 abbrev pub outcome_of : Outcome → runs.Outcome
 outcome_of (outcomes.Ends c) = runs.Ends (completion_of c)
 outcome_of (outcomes.Cut cause) = runs.Cut cause
+
+-- what a chain gives: a lifecycle callback's gives null
+abbrev pub given_at_end : InterceptorMethod → Given → Given
+given_at_end roles.AroundInvoke g = g
+given_at_end _ g = givens.Result values.Null
 
 -- the body of a method: it has neither injected parameters nor a chain behind it, and nothing that it looked up
 abbrev pub running_of : Running → machine.Running
@@ -67,21 +71,12 @@ qualifiers_of events.BeforeDestroyed = qualifier built_in.BeforeDestroyed Applic
 qualifiers_of events.Destroyed = qualifier built_in.Destroyed Application ∷ []
 qualifiers_of _ = []
 
--- the changes with which tasks end
-abbrev pub change_of : LastChange → Change
-change_of last.Stop = Change.Stop
-change_of last.Exit = Change.Exit
-change_of last.Return = Change.Return
-change_of last.Reach = Change.Reach
-change_of (last.Remove n) = Change.Remove n
-change_of last.Down = Change.Down
-
 abbrev pub task_of : Call → machine.Task
 task_of (calls.Obtain b) = machine.Obtain b
 task_of (calls.Create b owner) = machine.Create b owner
 task_of calls.Rest = machine.Rest []
-task_of (calls.Body r) = machine.Body (running_of r)
-task_of (calls.Acts r) = machine.Acts (running_of r)
+task_of (calls.Body r) = machine.Body (running_of r.value)
+task_of (calls.Acts r) = machine.Acts (running_of r.value)
 task_of (calls.Destroy n) = machine.Destroy n
 task_of (calls.Release n) = machine.Release n
 task_of (calls.Fire event) = machine.Fire (class_of event) (qualifiers_of event) values.Null

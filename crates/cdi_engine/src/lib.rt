@@ -3,6 +3,7 @@
 
 mod events;
 pub mod host;
+mod resume;
 pub mod run;
 mod step;
 pub mod task;

@@ -1,7 +1,7 @@
-//! What the engine does: calls, the points at which it may stand, and what waits for a call.
-use cdi_base::{Act, Cause, Entry, InterceptorMethod, Name, Place, Seq, Value};
+//! What the engine carries out, and what waits for the outcome.
+use cdi_base::{Cause, InterceptorMethod, Name, Place, Seq, Value};
 use cdi_bodies::{BodyId, View};
-use cdi_store::{Component, Owner};
+use cdi_store::Owner;
 
 /// What a call gives.
 #[derive(Debug, PartialEq, Eq, Drop)]
@@ -50,9 +50,9 @@ pub enum Call {
     /// Runs what stands at the end of the innermost invocation's chain.
     Rest,
     /// Runs a body from its first act to its last.
-    Body(Running),
+    Body(Box<Running>),
     /// Runs a body from its next act on.
-    Acts(Running),
+    Acts(Box<Running>),
     /// Destroys an instance.
     Destroy { number: u32 },
     /// Destroys the dependents of an instance.
@@ -96,107 +96,19 @@ pub enum ContainerEvent {
     Destroyed,
 }
 
-/// The points at which the engine may stand.
+/// What the engine carries out: a call, or a part of a command.
 #[derive(Drop)]
 pub enum Task {
-    /// A call begins.
+    /// A call.
     Start(Call),
-    /// What a command asks for begins.
+    /// What a command asks for.
     Begin(Job),
-    /// The entry of a new instance is written.
-    Made {
-        number: u32,
-        bean: u32,
-        owner: Owner,
-    },
-    /// The entry of an instance that is ready is written.
-    Readied {
-        number: u32,
-    },
-    /// The entry of a body is written.
-    Entered(Running),
-    /// A body gave an act.
-    Acted(Running, Act),
-    /// What a body asked for has ended.
-    Answered(Running, Completion),
-    /// The end of an instance of this component, with this value, is written.
-    Ended {
-        number: u32,
-        component: Component,
-        value: Value,
-    },
-    /// The instance is taken from what had it.
-    Leaving {
-        number: u32,
-        component: Component,
-        value: Value,
-    },
-    /// The callbacks before a destruction have ended.
-    CleanedUp {
-        number: u32,
-    },
-    /// The dependents are gone.
-    Released {
-        number: u32,
-    },
-    /// A dependent of the instance is picked.
-    Picked {
-        number: u32,
-        dependent: u32,
-    },
-    /// A command uses the bean with this type.
+    /// The use of the bean with this type by a command.
     Using {
         bean_type: Name,
         method: Name,
         args: Seq<Value>,
     },
-    /// An instance is there for the time of the command.
-    Lent {
-        number: u32,
-        method: Name,
-        args: Seq<Value>,
-    },
-    /// The contextual instance is obtained.
-    Invoking {
-        number: u32,
-        method: Name,
-        args: Seq<Value>,
-    },
-    /// What the command did with the bean has ended.
-    Returning(Completion),
-    /// The application has been initialized.
-    Starting,
-    /// The shutdown event has been delivered.
-    Closing,
-    /// The entry of an event is written.
-    Fired(ContainerEvent),
-    /// It has been told that the application is about to end.
-    Finishing,
-    /// The application context is empty.
-    Emptied,
-    /// Something isn't there.
-    Missing,
-    /// One change is left, and the end.
-    Ending(LastChange, Completion),
-    /// It is over.
-    Over(Outcome),
-}
-
-/// The change of the world with which something ends.
-#[derive(Clone, Copy, Debug, PartialEq, Eq)]
-pub enum LastChange {
-    /// A body ends.
-    Stop,
-    /// An invocation ends.
-    Exit,
-    /// The temporaries of a command are over.
-    Return,
-    /// The end of a chain has been reached.
-    Reach,
-    /// The instance with this number is gone.
-    Remove(u32),
-    /// The container is down.
-    Down,
 }
 
 /// What waits for the outcome of a call, or of a part.
@@ -207,7 +119,7 @@ pub enum Frame {
     /// A body waits for the end of its acts.
     Stopping,
     /// A body waits for what it asked for.
-    Answering(Running),
+    Answering(Box<Running>),
     /// A destruction waits for its callbacks, whatever they throw.
     CleaningUp { number: u32 },
     /// A destruction waits for the dependents.
@@ -242,15 +154,13 @@ pub enum Frame {
     GoingDown,
 }
 
-/// What a point does first.
+/// What comes after a step.
 #[derive(Drop)]
 pub enum Next {
     /// It is over.
     Finished(Outcome),
-    /// It goes on as another point.
+    /// It goes on as a task.
     Goes(Task),
-    /// It makes a call or does a part of its own, for whose outcome the frame waits.
+    /// It needs a task, for whose outcome the frame waits.
     Needs(Task, Frame),
-    /// It writes an entry, if the budget allows for one, and goes on.
-    Writes(Entry, Task),
 }

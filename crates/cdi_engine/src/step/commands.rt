@@ -1,15 +1,20 @@
 //! The steps of commands, and of the container's own events.
 ghost use Rattle.std.specs.Prelude.{◌≡◌, IfOk, OnErr};
+ghost use Rattle.cdi_store.specs.declared.instance.Context.TheVariants.{Application};
+ghost use Rattle.cdi_machine.specs.World.{after_change};
+ghost use Rattle.cdi_machine.specs.World.Change.{Return, Finish, Close, Down};
 ghost use Rattle.cdi_engine.specs.Setting.{Narrows};
 ghost use Rattle.cdi_engine.specs.Leads.{MovesTo};
-ghost use Rattle.cdi_engine.specs.Falls.{Falls};
+ghost use Rattle.cdi_engine.specs.Falls.{Falls, rank, call_rank};
+ghost use Rattle.cdi_engine.specs.declared.task.Outcome.{Outcome};
+ghost use Rattle.cdi_engine.specs.declared.task.Given.{Given};
 ghost use Rattle.cdi_engine.specs.Known.{KnownNext};
 
 use crate::events::entry_of;
 use crate::host::Host;
-use crate::step::null;
-use crate::task::{Call, ContainerEvent, Frame, Job, Next, Task};
-use cdi_base::{Name, Seq, Value};
+use crate::step::{cut, ended, null, write};
+use crate::task::{Call, Completion, ContainerEvent, Frame, Job, Next, Task};
+use cdi_base::{Cause, Name, Seq, Value};
 use std::alloc::AllocError;
 
 /// Begins what a command asks for: for the boot, the event of the application's begin (Jakarta CDI 4.0, *Context
@@ -18,9 +23,9 @@ use std::alloc::AllocError;
 pub(super) fn begin<H: Host>(host: &mut H, job: Job) -> Result<Next, AllocError>
     ensures leads { IfOk result (λ next. MovesTo (H.setting host.old) (Task.Begin job)
         (H.world host.old) next (H.world host.new)) }
-    ensures falls { IfOk result (λ next. Falls (Task.Begin job)
+    ensures falls { IfOk result (λ next. Falls (rank (Task.Begin job))
         (H.world host.old) next (H.world host.new)) }
-    ensures known { IfOk result (KnownNext (H.setting host.new) (H.world host.new)) }
+    ensures known { IfOk result (KnownNext (H.setting host.new)) }
     ensures narrows { Narrows (H.setting host.old) (H.setting host.new) }
     ensures kept { OnErr result (H.world host.new ≡ H.world host.old) }
 {
@@ -43,6 +48,18 @@ pub(super) fn begin<H: Host>(host: &mut H, job: Job) -> Result<Next, AllocError>
     }
 }
 
+// ---- boot
+
+/// The application has been initialized: the container has started.
+pub(crate) fn starting() -> Next
+    ensures { result ≡ Next.Needs (Task.Start (Call.Fire ContainerEvent.Startup)) Frame.Starting }
+{
+    let call = Task::Start(Call::Fire(ContainerEvent::Startup));
+    Next::Needs(call, Frame::Starting)
+}
+
+// ---- a call
+
 /// Calls a method of the bean with a type, with what is borrowed for the time of the command.
 #[tactic(auto, using(crate::proofs::CommandSteps::leads))]
 fn call_bean<H: Host>(
@@ -53,9 +70,9 @@ fn call_bean<H: Host>(
 ) -> Result<Next, AllocError>
     ensures leads { IfOk result (λ next. MovesTo (H.setting host.old)
         (Task.Begin (Job.Call bean_type method args)) (H.world host.old) next (H.world host.new)) }
-    ensures falls { IfOk result (λ next. Falls (Task.Begin (Job.Call bean_type method args))
+    ensures falls { IfOk result (λ next. Falls (rank (Task.Begin (Job.Call bean_type method args)))
         (H.world host.old) next (H.world host.new)) }
-    ensures known { IfOk result (KnownNext (H.setting host.new) (H.world host.new)) }
+    ensures known { IfOk result (KnownNext (H.setting host.new)) }
     ensures narrows { Narrows (H.setting host.old) (H.setting host.new) }
     ensures kept { OnErr result (H.world host.new ≡ H.world host.old) }
 {
@@ -69,43 +86,59 @@ fn call_bean<H: Host>(
     Ok(Next::Needs(part, Frame::Using))
 }
 
-// ---- events
-
-/// Fires an event of the container itself (Jakarta CDI 4.0, *Firing events*).
-#[tactic(auto, using(crate::proofs::CommandSteps::leads))]
-pub(super) fn fire<H: Host>(host: &H, event: ContainerEvent) -> Result<Next, AllocError>
-    ensures leads { IfOk result (λ next. MovesTo (H.setting host.now) (Task.Start (Call.Fire event))
-        (H.world host.now) next (H.world host.now)) }
-    ensures falls { IfOk result (λ next. Falls (Task.Start (Call.Fire event))
-        (H.world host.now) next (H.world host.now)) }
-    ensures known { IfOk result (KnownNext (H.setting host.now) (H.world host.now)) }
+/// The use of the bean has ended: what was borrowed is given back.
+pub(crate) fn returning(completion: Completion) -> Next
+    ensures { result ≡ Next.Needs (Task.Start Call.Dismiss) (Frame.Returning completion) }
 {
-    let entry = entry_of(host.alloc(), event)?;
-    Ok(Next::Writes(entry, Task::Fired(event)))
+    Next::Needs(Task::Start(Call::Dismiss), Frame::Returning(completion))
 }
 
-/// Delivers an event, which nothing observes.
-#[tactic(auto, using(crate::proofs::CommandSteps::leads))]
-pub(super) fn fired<H: Host>(host: &H, event: ContainerEvent) -> Next
-    ensures leads { MovesTo (H.setting host.now) (Task.Fired event)
-        (H.world host.now) result (H.world host.now) }
-    ensures falls { Falls (Task.Fired event) (H.world host.now) result (H.world host.now) }
-    ensures known { KnownNext (H.setting host.now) (H.world host.now) result }
+/// What was borrowed is given back.
+pub(crate) fn returned<H: Host>(host: &mut H, completion: Completion) -> Next
+    ensures next { result ≡ Next.Finished (Outcome.Ends completion) }
+    ensures world { H.world host.new ≡ after_change Return (H.world host.old) }
+    ensures narrows { Narrows (H.setting host.old) (H.setting host.new) }
 {
-    let _event = event;
+    host.give_back();
+    ended(completion)
+}
+
+// ---- events
+
+/// Fires an event of the container itself, which nothing observes (Jakarta CDI 4.0, *Firing events*).
+#[tactic(auto, using(crate::proofs::CommandSteps::leads))]
+pub(super) fn fire<H: Host>(host: &mut H, event: ContainerEvent) -> Result<Next, AllocError>
+    ensures leads { IfOk result (λ next. MovesTo (H.setting host.old) (Task.Start (Call.Fire event))
+        (H.world host.old) next (H.world host.new)) }
+    ensures falls { IfOk result (λ next. Falls (call_rank (Call.Fire event))
+        (H.world host.old) next (H.world host.new)) }
+    ensures known { IfOk result (KnownNext (H.setting host.new)) }
+    ensures narrows { Narrows (H.setting host.old) (H.setting host.new) }
+    ensures kept { OnErr result (H.world host.new ≡ H.world host.old) }
+{
     host.law_unobserved();
-    null()
+    let entry = entry_of(host.alloc(), event)?;
+    if !write(host, entry)? {
+        return Ok(cut(Cause::Ticks));
+    }
+    Ok(null())
 }
 
 // ---- shutdown
 
+/// The shutdown event has been delivered: it is told that the application is about to end.
+pub(crate) fn closing() -> Next
+    ensures { result
+        ≡ Next.Needs (Task.Start (Call.Fire ContainerEvent.BeforeDestroyed)) Frame.Finishing }
+{
+    let call = Task::Start(Call::Fire(ContainerEvent::BeforeDestroyed));
+    Next::Needs(call, Frame::Finishing)
+}
+
 /// Ends the application context (Jakarta CDI 4.0, *Context management for built-in scopes*).
-#[tactic(auto, using(crate::proofs::CommandSteps::leads))]
-pub(super) fn finishing<H: Host>(host: &mut H) -> Next
-    ensures leads { MovesTo (H.setting host.old) Task.Finishing
-        (H.world host.old) result (H.world host.new) }
-    ensures falls { Falls Task.Finishing (H.world host.old) result (H.world host.new) }
-    ensures known { KnownNext (H.setting host.new) (H.world host.new) result }
+pub(crate) fn finishing<H: Host>(host: &mut H) -> Next
+    ensures next { result ≡ Next.Needs (Task.Start Call.Clear) Frame.Emptying }
+    ensures world { H.world host.new ≡ after_change (Finish Application) (H.world host.old) }
     ensures narrows { Narrows (H.setting host.old) (H.setting host.new) }
 {
     host.finish_application();
@@ -113,17 +146,23 @@ pub(super) fn finishing<H: Host>(host: &mut H) -> Next
 }
 
 /// The application context is gone.
-#[tactic(auto, using(crate::proofs::CommandSteps::leads))]
-pub(super) fn emptied<H: Host>(host: &mut H) -> Next
-    ensures leads { MovesTo (H.setting host.old) Task.Emptied
-        (H.world host.old) result (H.world host.new) }
-    ensures falls { Falls Task.Emptied (H.world host.old) result (H.world host.new) }
-    ensures known { KnownNext (H.setting host.new) (H.world host.new) result }
+pub(crate) fn emptied<H: Host>(host: &mut H) -> Next
+    ensures next { result ≡ Next.Needs (Task.Start (Call.Fire ContainerEvent.Destroyed))
+        Frame.GoingDown }
+    ensures world { H.world host.new ≡ after_change (Close Application) (H.world host.old) }
     ensures narrows { Narrows (H.setting host.old) (H.setting host.new) }
 {
     host.close_application();
-    Next::Needs(
-        Task::Start(Call::Fire(ContainerEvent::Destroyed)),
-        Frame::GoingDown,
-    )
+    let call = Task::Start(Call::Fire(ContainerEvent::Destroyed));
+    Next::Needs(call, Frame::GoingDown)
+}
+
+/// The container is down.
+pub(crate) fn gone_down<H: Host>(host: &mut H) -> Next
+    ensures next { result ≡ Next.Finished (Outcome.Ends (Completion.Gave (Given.Result Value.Null))) }
+    ensures world { H.world host.new ≡ after_change Down (H.world host.old) }
+    ensures narrows { Narrows (H.setting host.old) (H.setting host.new) }
+{
+    host.bring_down();
+    null()
 }

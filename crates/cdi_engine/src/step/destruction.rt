@@ -1,43 +1,47 @@
 //! The steps of destruction.
 ghost use Rattle.std.specs.Prelude.{◌≡◌, length, slice_get, option_map, IfOk, OnErr};
-ghost use Rattle.cdi_machine.specs.World.{instance_at};
+ghost use Rattle.cdi_base.specs.declared.value.Value.{Value};
+ghost use Rattle.cdi_machine.specs.World.{after_change, instance_at};
+ghost use Rattle.cdi_machine.specs.World.Change.{Exit};
 ghost use Rattle.cdi_machine.specs.Destruction.{only_ready};
 ghost use Rattle.cdi_engine.specs.Setting.{Narrows};
 ghost use Rattle.cdi_store.specs.Owned.{dependents_in};
 ghost use Rattle.cdi_engine.specs.Asked.{HasSeveral};
-ghost use Rattle.cdi_engine.specs.Leads.{MovesTo};
-ghost use Rattle.cdi_engine.specs.Falls.{Falls};
+ghost use Rattle.cdi_engine.specs.Meanings.{first, clean_up_quietly, let_go};
+ghost use Rattle.cdi_engine.specs.Leads.{MovesTo, ComesTo, Settles, IsOnWay};
+ghost use Rattle.cdi_engine.specs.Falls.{Falls, SameTrace, call_rank, frame_rank};
 ghost use Rattle.cdi_engine.specs.Known.{KnownNext};
 
 use crate::host::Host;
-use crate::step::{missing, null};
+use crate::step::{cut, missing, null, write};
 use crate::task::{Call, Frame, Next, Task};
-use cdi_base::{Entry, InterceptorMethod, Seq, Value};
+use cdi_base::{Cause, Entry, InterceptorMethod, Seq};
 use cdi_machine::Failure;
 use cdi_store::{Component, Instance, Phase};
 use cdi_world::Invocation;
 use std::alloc::AllocError;
 
-/// Begins the destruction of an instance (Jakarta CDI 4.0, *Lifecycle of managed beans*).
+/// Begins the destruction of an instance: nothing has it any more (Jakarta CDI 4.0, *Lifecycle of managed beans*).
 #[tactic(auto, using(crate::proofs::DestructionSteps::leads))]
-pub(super) fn destroy<H: Host>(host: &H, number: u32) -> Result<Next, AllocError>
-    ensures leads { IfOk result (λ next. MovesTo (H.setting host.now)
-        (Task.Start (Call.Destroy number)) (H.world host.now) next (H.world host.now)) }
-    ensures falls { IfOk result (λ next. Falls (Task.Start (Call.Destroy number))
-        (H.world host.now) next (H.world host.now)) }
-    ensures known { IfOk result (KnownNext (H.setting host.now) (H.world host.now)) }
+pub(super) fn destroy<H: Host>(host: &mut H, number: u32) -> Result<Next, AllocError>
+    ensures leads { IfOk result (λ next. MovesTo (H.setting host.old)
+        (Task.Start (Call.Destroy number)) (H.world host.old) next (H.world host.new)) }
+    ensures falls { IfOk result (λ next. Falls (call_rank (Call.Destroy number))
+        (H.world host.old) next (H.world host.new)) }
+    ensures known { IfOk result (KnownNext (H.setting host.new)) }
+    ensures narrows { Narrows (H.setting host.old) (H.setting host.new) }
+    ensures on_way { OnErr result (IsOnWay (H.setting host.old)
+        (first (Task.Start (Call.Destroy number))) (H.world host.old) (H.world host.new)) }
 {
     let Some(instance) = ready_instance(host, number) else {
         return Ok(missing());
     };
     let component = instance.component;
-    let value = instance.value.clone()?;
-    let next = Task::Ended {
-        number,
-        component,
-        value,
-    };
-    Ok(Next::Writes(Entry::End { number }, next))
+    if !write(host, Entry::End { number })? {
+        return Ok(cut(Cause::Ticks));
+    }
+    host.leave(number);
+    clean_up(host, number, component)
 }
 
 /// The instance, if it is neither being made nor being destroyed.
@@ -51,41 +55,16 @@ fn ready_instance<H: Host>(host: &H, number: u32) -> Option<&Instance>
     }
 }
 
-/// Takes the instance from what has it (Jakarta CDI 4.0, *Lifecycle of managed beans*).
+/// Calls what is to be called before the dependents are destroyed. What the instance is worth only a disposer asks for.
 #[tactic(auto, using(crate::proofs::DestructionSteps::leads))]
-pub(super) fn ended<H: Host>(host: &mut H, number: u32, component: Component, value: Value) -> Next
-    ensures leads { MovesTo (H.setting host.old) (Task.Ended number component value)
-        (H.world host.old) result (H.world host.new) }
-    ensures falls { Falls (Task.Ended number component value)
-        (H.world host.old) result (H.world host.new) }
-    ensures known { KnownNext (H.setting host.new) (H.world host.new) result }
-    ensures narrows { Narrows (H.setting host.old) (H.setting host.new) }
-{
-    host.leave(number);
-    Next::Goes(Task::Leaving {
-        number,
-        component,
-        value,
-    })
-}
-
-/// Calls what is to be called before the dependents are destroyed.
-#[tactic(auto, using(crate::proofs::DestructionSteps::leads))]
-pub(super) fn leaving<H: Host>(
-    host: &mut H,
-    number: u32,
-    component: Component,
-    value: Value,
-) -> Result<Next, AllocError>
-    ensures leads { IfOk result (λ next. MovesTo (H.setting host.old)
-        (Task.Leaving number component value) (H.world host.old) next (H.world host.new)) }
-    ensures falls { IfOk result (λ next. Falls (Task.Leaving number component value)
-        (H.world host.old) next (H.world host.new)) }
-    ensures known { IfOk result (KnownNext (H.setting host.new) (H.world host.new)) }
+fn clean_up<H: Host>(host: &mut H, number: u32, component: Component) -> Result<Next, AllocError>
+    ensures leads { IfOk result (λ next. (value : Value) → Settles (H.setting host.old)
+        (clean_up_quietly number value component) (H.world host.old) next (H.world host.new)) }
+    ensures same { IfOk result (λ next. SameTrace (H.world host.old) (H.world host.new)) }
+    ensures known { IfOk result (KnownNext (H.setting host.new)) }
     ensures narrows { Narrows (H.setting host.old) (H.setting host.new) }
     ensures kept { OnErr result (H.world host.new ≡ H.world host.old) }
 {
-    let _value = value;
     let Component::Bean(bean) = component else {
         return Ok(free(number));
     };
@@ -101,23 +80,36 @@ pub(super) fn leaving<H: Host>(
 fn free(number: u32) -> Next
     ensures { result ≡ Next.Needs (Task.Start (Call.Release number)) (Frame.Releasing number) }
 {
-    Next::Needs(
-        Task::Start(Call::Release { number }),
-        Frame::Releasing { number },
-    )
+    let call = Task::Start(Call::Release { number });
+    Next::Needs(call, Frame::Releasing { number })
 }
 
-/// Ends the invocation of the callbacks.
-#[tactic(auto, using(crate::proofs::DestructionSteps::leads))]
-pub(super) fn cleaned_up<H: Host>(host: &mut H, number: u32) -> Next
-    ensures leads { MovesTo (H.setting host.old) (Task.CleanedUp number)
-        (H.world host.old) result (H.world host.new) }
-    ensures falls { Falls (Task.CleanedUp number) (H.world host.old) result (H.world host.new) }
-    ensures known { KnownNext (H.setting host.new) (H.world host.new) result }
+/// The callbacks have ended: the dependents are destroyed.
+pub(crate) fn cleaned_up<H: Host>(host: &mut H, number: u32) -> Next
+    ensures next { result ≡ Next.Needs (Task.Start (Call.Release number)) (Frame.Releasing number) }
+    ensures world { H.world host.new ≡ after_change Exit (H.world host.old) }
     ensures narrows { Narrows (H.setting host.old) (H.setting host.new) }
 {
     host.exit();
     free(number)
+}
+
+/// The dependents are gone, and then the instance.
+#[tactic(auto, using(crate::proofs::DestructionSteps::leads))]
+pub(crate) fn released<H: Host>(host: &mut H, number: u32) -> Result<Next, AllocError>
+    ensures leads { IfOk result (λ next. ComesTo (H.setting host.old) (let_go number)
+        (H.world host.old) next (H.world host.new)) }
+    ensures falls { IfOk result (λ next. Falls (frame_rank (Frame.Releasing number))
+        (H.world host.old) next (H.world host.new)) }
+    ensures known { IfOk result (KnownNext (H.setting host.new)) }
+    ensures narrows { Narrows (H.setting host.old) (H.setting host.new) }
+    ensures kept { OnErr result (H.world host.new ≡ H.world host.old) }
+{
+    if !write(host, Entry::Gone { number })? {
+        return Ok(cut(Cause::Ticks));
+    }
+    host.remove(number);
+    Ok(null())
 }
 
 // ---- dependents
@@ -135,27 +127,24 @@ fn dependents_of<H: Host>(host: &H, number: u32) -> Option<&[u32]>
 pub(super) fn release<H: Host>(host: &mut H, number: u32) -> Result<Next, Failure>
     ensures leads { IfOk result (λ next. MovesTo (H.setting host.old)
         (Task.Start (Call.Release number)) (H.world host.old) next (H.world host.new)) }
-    ensures falls { IfOk result (λ next. Falls (Task.Start (Call.Release number))
+    ensures falls { IfOk result (λ next. Falls (call_rank (Call.Release number))
         (H.world host.old) next (H.world host.new)) }
-    ensures known { IfOk result (KnownNext (H.setting host.new) (H.world host.new)) }
+    ensures known { IfOk result (KnownNext (H.setting host.new)) }
     ensures narrows { Narrows (H.setting host.old) (H.setting host.new) }
     ensures kept { OnErr result (H.world host.new ≡ H.world host.old) }
 {
-    if host.instance(number).is_none() {
+    let Some(dependents) = dependents_of(host, number) else {
         return Ok(missing());
-    }
-    match count_of_dependents(host, number) {
+    };
+    match dependents.len() {
         0 => Ok(null()),
-        1 => match dependent_at(host, number, 0) {
-            Some(dependent) => Ok(free_one(number, dependent)),
-            None => Ok(missing()),
-        },
+        1 => Ok(free_one(number, dependents[0])),
         _ => pick(host, number),
     }
 }
 
 /// Destroys one dependent, and goes on with the others.
-pub(super) fn free_one(number: u32, dependent: u32) -> Next
+fn free_one(number: u32, dependent: u32) -> Next
     ensures { result ≡ Next.Needs (Task.Start (Call.Destroy dependent)) (Frame.Freeing number) }
 {
     let call = Task::Start(Call::Destroy { number: dependent });
@@ -168,9 +157,9 @@ fn pick<H: Host>(host: &mut H, number: u32) -> Result<Next, Failure>
     requires { HasSeveral (instance_at (H.world host.old) number) }
     ensures leads { IfOk result (λ next. MovesTo (H.setting host.old)
         (Task.Start (Call.Release number)) (H.world host.old) next (H.world host.new)) }
-    ensures falls { IfOk result (λ next. Falls (Task.Start (Call.Release number))
+    ensures falls { IfOk result (λ next. Falls (call_rank (Call.Release number))
         (H.world host.old) next (H.world host.new)) }
-    ensures known { IfOk result (KnownNext (H.setting host.new) (H.world host.new)) }
+    ensures known { IfOk result (KnownNext (H.setting host.new)) }
     ensures narrows { Narrows (H.setting host.old) (H.setting host.new) }
     ensures kept { OnErr result (H.world host.new ≡ H.world host.old) }
 {
@@ -179,10 +168,10 @@ fn pick<H: Host>(host: &mut H, number: u32) -> Result<Next, Failure>
     let Some(dependent) = dependent_at(host, number, choice) else {
         return Ok(missing());
     };
-    Ok(Next::Writes(
-        Entry::Pick { count, choice },
-        Task::Picked { number, dependent },
-    ))
+    if !write(host, Entry::Pick { count, choice })? {
+        return Ok(cut(Cause::Ticks));
+    }
+    Ok(free_one(number, dependent))
 }
 
 /// How many dependents a live instance has, none if it isn't there.
@@ -210,8 +199,8 @@ fn dependent_at<H: Host>(host: &H, number: u32, index: u32) -> Option<u32>
 pub(super) fn dismiss<H: Host>(host: &H) -> Next
     ensures leads { MovesTo (H.setting host.now) (Task.Start Call.Dismiss)
         (H.world host.now) result (H.world host.now) }
-    ensures falls { Falls (Task.Start Call.Dismiss) (H.world host.now) result (H.world host.now) }
-    ensures known { KnownNext (H.setting host.now) (H.world host.now) result }
+    ensures falls { Falls (call_rank Call.Dismiss) (H.world host.now) result (H.world host.now) }
+    ensures known { KnownNext (H.setting host.now) result }
 {
     match host.latest_temporary() {
         None => missing(),
@@ -226,8 +215,8 @@ pub(super) fn dismiss<H: Host>(host: &H) -> Next
 pub(super) fn clear<H: Host>(host: &H) -> Next
     ensures leads { MovesTo (H.setting host.now) (Task.Start Call.Clear)
         (H.world host.now) result (H.world host.now) }
-    ensures falls { Falls (Task.Start Call.Clear) (H.world host.now) result (H.world host.now) }
-    ensures known { KnownNext (H.setting host.now) (H.world host.now) result }
+    ensures falls { Falls (call_rank Call.Clear) (H.world host.now) result (H.world host.now) }
+    ensures known { KnownNext (H.setting host.now) result }
 {
     match host.last_in_application() {
         None => null(),

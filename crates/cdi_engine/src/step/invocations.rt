@@ -1,17 +1,20 @@
 //! The steps of invocations.
 ghost use Rattle.std.specs.Prelude.{◌≡◌, IfOk, OnErr, IfSome, option_map};
 ghost use Rattle.cdi_beans.specs.Served.{machine_method};
-ghost use Rattle.cdi_machine.specs.World.{instance_at};
+ghost use Rattle.cdi_machine.specs.World.{after_change, instance_at};
+ghost use Rattle.cdi_machine.specs.World.Change.{Reach, Exit};
 ghost use Rattle.cdi_machine.specs.Bodies.{invoke_method};
 ghost use Rattle.cdi_engine.specs.Asked.{method_of_instance};
 ghost use Rattle.cdi_engine.specs.Setting.{Narrows};
+ghost use Rattle.cdi_engine.specs.Words.{given_at_end};
 ghost use Rattle.cdi_engine.specs.Leads.{MovesTo, Settles};
-ghost use Rattle.cdi_engine.specs.Falls.{Falls};
+ghost use Rattle.cdi_engine.specs.Falls.{Falls, call_rank, frame_rank};
 ghost use Rattle.cdi_engine.specs.Known.{KnownNext};
+ghost use Rattle.cdi_engine.specs.declared.task.Outcome.{Outcome};
 
 use crate::host::Host;
-use crate::step::{missing, null};
-use crate::task::{Call, Frame, Next, Running, Task};
+use crate::step::{ended, missing, null};
+use crate::task::{Call, Completion, Frame, Given, Next, Running, Task};
 use cdi_base::{InterceptorMethod, Name, Seq, Value};
 use cdi_beans::bean::Method;
 use cdi_bodies::View;
@@ -41,9 +44,9 @@ pub(super) fn invoke<H: Host>(
 ) -> Result<Next, AllocError>
     ensures leads { IfOk result (λ next. Settles (H.setting host.old)
         (invoke_method number name args) (H.world host.old) next (H.world host.new)) }
-    ensures falls { IfOk result (λ next. Falls (Task.Invoking number name args)
+    ensures falls { IfOk result (λ next. Falls (frame_rank (Frame.Reaching name args))
         (H.world host.old) next (H.world host.new)) }
-    ensures known { IfOk result (KnownNext (H.setting host.new) (H.world host.new)) }
+    ensures known { IfOk result (KnownNext (H.setting host.new)) }
     ensures narrows { Narrows (H.setting host.old) (H.setting host.new) }
     ensures kept { OnErr result (H.world host.new ≡ H.world host.old) }
 {
@@ -65,9 +68,9 @@ pub(super) fn invoke<H: Host>(
 pub(super) fn rest<H: Host>(host: &mut H) -> Result<Next, AllocError>
     ensures leads { IfOk result (λ next. MovesTo (H.setting host.old) (Task.Start Call.Rest)
         (H.world host.old) next (H.world host.new)) }
-    ensures falls { IfOk result (λ next. Falls (Task.Start Call.Rest)
+    ensures falls { IfOk result (λ next. Falls (call_rank Call.Rest)
         (H.world host.old) next (H.world host.new)) }
-    ensures known { IfOk result (KnownNext (H.setting host.new) (H.world host.new)) }
+    ensures known { IfOk result (KnownNext (H.setting host.new)) }
     ensures narrows { Narrows (H.setting host.old) (H.setting host.new) }
     ensures kept { OnErr result (H.world host.new ≡ H.world host.old) }
 {
@@ -80,7 +83,7 @@ pub(super) fn rest<H: Host>(host: &mut H) -> Result<Next, AllocError>
         return Ok(null());
     };
     let role = invocation.role();
-    let running = Running {
+    let body = Running {
         instance: invocation.target(),
         place: code.place(),
         body: code.body(),
@@ -89,5 +92,30 @@ pub(super) fn rest<H: Host>(host: &mut H) -> Result<Next, AllocError>
             answers: Seq::empty(host.alloc()),
         },
     };
+    let running = Box::new(host.alloc(), body)?;
     Ok(Next::Needs(Task::Start(Call::Body(running)), Frame::AtEnd { role }))
+}
+
+/// The end of a chain has been run. A lifecycle callback gives null (Jakarta Interceptors 2.1, *Interceptor Methods for
+/// Lifecycle Event Callbacks*).
+pub(crate) fn reached<H: Host>(host: &mut H, role: InterceptorMethod, given: Given) -> Next
+    ensures next { result ≡ Next.Finished (Outcome.Ends (Completion.Gave (given_at_end role given))) }
+    ensures world { H.world host.new ≡ after_change Reach (H.world host.old) }
+    ensures narrows { Narrows (H.setting host.old) (H.setting host.new) }
+{
+    host.reach();
+    match role {
+        InterceptorMethod::AroundInvoke => ended(Completion::Gave(given)),
+        _ => null(),
+    }
+}
+
+/// An invocation has ended.
+pub(crate) fn exited<H: Host>(host: &mut H, completion: Completion) -> Next
+    ensures next { result ≡ Next.Finished (Outcome.Ends completion) }
+    ensures world { H.world host.new ≡ after_change Exit (H.world host.old) }
+    ensures narrows { Narrows (H.setting host.old) (H.setting host.new) }
+{
+    host.exit();
+    ended(completion)
 }

@@ -3,8 +3,10 @@ ghost use Rattle.std.specs.Prelude.{◌≡◌, IfOk, OnErr};
 ghost use Rattle.cdi_machine.specs.World.{instance_at};
 ghost use Rattle.cdi_machine.specs.Contexts.{stays};
 ghost use Rattle.cdi_engine.specs.Setting.{Narrows};
-ghost use Rattle.cdi_engine.specs.Leads.{MovesTo};
-ghost use Rattle.cdi_engine.specs.Falls.{Falls};
+ghost use Rattle.cdi_engine.specs.Meanings.{use_lent};
+ghost use Rattle.cdi_engine.specs.Leads.{MovesTo, Settles, GoesOn};
+ghost use Rattle.cdi_engine.specs.Falls.{Falls, rank, call_rank, frame_rank};
+ghost use Rattle.cdi_engine.specs.declared.task.Completion.{Completion};
 ghost use Rattle.cdi_engine.specs.Known.{KnownNext};
 
 use crate::host::Host;
@@ -23,9 +25,9 @@ use std::alloc::AllocError;
 pub(super) fn obtain<H: Host>(host: &H, bean: u32) -> Next
     ensures leads { MovesTo (H.setting host.now) (Task.Start (Call.Obtain bean))
         (H.world host.now) result (H.world host.now) }
-    ensures falls { Falls (Task.Start (Call.Obtain bean))
+    ensures falls { Falls (call_rank (Call.Obtain bean))
         (H.world host.now) result (H.world host.now) }
-    ensures known { KnownNext (H.setting host.now) (H.world host.now) result }
+    ensures known { KnownNext (H.setting host.now) result }
 {
     let Some(plan) = host.bean(bean) else {
         return missing();
@@ -53,9 +55,9 @@ pub(super) fn obtain<H: Host>(host: &H, bean: u32) -> Next
 pub(super) fn using<H: Host>(host: &H, bean_type: Name, method: Name, args: Seq<Value>) -> Next
     ensures leads { MovesTo (H.setting host.now) (Task.Using bean_type method args)
         (H.world host.now) result (H.world host.now) }
-    ensures falls { Falls (Task.Using bean_type method args)
+    ensures falls { Falls (rank (Task.Using bean_type method args))
         (H.world host.now) result (H.world host.now) }
-    ensures known { KnownNext (H.setting host.now) (H.world host.now) result }
+    ensures known { KnownNext (H.setting host.now) result }
 {
     let bean = match host.resolve(bean_type) {
         Resolution::One(bean) => bean,
@@ -82,19 +84,65 @@ pub(super) fn using<H: Host>(host: &H, bean_type: Name, method: Name, args: Seq<
     }
 }
 
+/// Invokes a method of the contextual instance that was obtained.
+#[tactic(auto, using(crate::proofs::ObtainingSteps::leads))]
+pub(crate) fn reach<H: Host>(
+    host: &mut H,
+    given: Given,
+    method: Name,
+    args: Seq<Value>,
+) -> Result<Next, AllocError>
+    ensures leads { IfOk result (λ next. GoesOn (H.setting host.old) (Frame.Reaching method args)
+        (Completion.Gave given) (H.world host.old) next (H.world host.new)) }
+    ensures falls { IfOk result (λ next. Falls (frame_rank (Frame.Reaching method args))
+        (H.world host.old) next (H.world host.new)) }
+    ensures known { IfOk result (KnownNext (H.setting host.new)) }
+    ensures narrows { Narrows (H.setting host.old) (H.setting host.new) }
+    ensures kept { OnErr result (H.world host.new ≡ H.world host.old) }
+{
+    match given {
+        Given::Number(number) => invoke(host, number, method, args),
+        Given::Result(_value) => Ok(missing()),
+        Given::Empty => Ok(missing()),
+    }
+}
+
+/// Invokes a method of an instance that was made for the command, if it is there.
+#[tactic(auto, using(crate::proofs::ObtainingSteps::leads))]
+pub(crate) fn borrow<H: Host>(
+    host: &mut H,
+    given: Given,
+    method: Name,
+    args: Seq<Value>,
+) -> Result<Next, AllocError>
+    ensures leads { IfOk result (λ next. GoesOn (H.setting host.old) (Frame.Borrowing method args)
+        (Completion.Gave given) (H.world host.old) next (H.world host.new)) }
+    ensures falls { IfOk result (λ next. Falls (frame_rank (Frame.Borrowing method args))
+        (H.world host.old) next (H.world host.new)) }
+    ensures known { IfOk result (KnownNext (H.setting host.new)) }
+    ensures narrows { Narrows (H.setting host.old) (H.setting host.new) }
+    ensures kept { OnErr result (H.world host.new ≡ H.world host.old) }
+{
+    match given {
+        Given::Number(number) => lent(host, number, method, args),
+        Given::Result(_value) => Ok(raised(BuiltIn::NullPointerException)),
+        Given::Empty => Ok(raised(BuiltIn::NullPointerException)),
+    }
+}
+
 /// Invokes a method of an instance that was made for the command.
 #[tactic(auto, using(crate::proofs::ObtainingSteps::leads))]
-pub(super) fn lent<H: Host>(
+fn lent<H: Host>(
     host: &mut H,
     number: u32,
     method: Name,
     args: Seq<Value>,
 ) -> Result<Next, AllocError>
-    ensures leads { IfOk result (λ next. MovesTo (H.setting host.old)
-        (Task.Lent number method args) (H.world host.old) next (H.world host.new)) }
-    ensures falls { IfOk result (λ next. Falls (Task.Lent number method args)
+    ensures leads { IfOk result (λ next. Settles (H.setting host.old) (use_lent number method args)
         (H.world host.old) next (H.world host.new)) }
-    ensures known { IfOk result (KnownNext (H.setting host.new) (H.world host.new)) }
+    ensures falls { IfOk result (λ next. Falls (frame_rank (Frame.Borrowing method args))
+        (H.world host.old) next (H.world host.new)) }
+    ensures known { IfOk result (KnownNext (H.setting host.new)) }
     ensures narrows { Narrows (H.setting host.old) (H.setting host.new) }
     ensures kept { OnErr result (H.world host.new ≡ H.world host.old) }
 {

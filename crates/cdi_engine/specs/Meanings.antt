@@ -1,4 +1,4 @@
--- What is left to do at each point of the code.
+-- What tasks, frames and outcomes mean: the programs that are left to run.
 use Rattle.std.specs.Prelude.{ℕ, List, [], Option, Some, None}
 use Rattle.cdi_base.specs.declared.value.Value.{Value}
 use Rattle.cdi_base.specs.declared.value.Value.TheVariants as values
@@ -26,7 +26,7 @@ use Rattle.cdi_machine.specs.Events.{fire_context_event, fire_container_event}
 use Rattle.cdi_machine.specs.Commands.{task, close}
 use Rattle.cdi_engine.specs.Asked.{of_type}
 use Rattle.cdi_engine.specs.declared.task.ContainerEvent.{ContainerEvent}
-use Rattle.cdi_engine.specs.Words.{class_of, qualifiers_of, change_of, completion_of, running_of, task_of, command_of}
+use Rattle.cdi_engine.specs.Words.{class_of, qualifiers_of, completion_of, running_of, task_of, command_of}
 use Rattle.cdi_engine.specs.declared.task.Given.{Given as CodeGiven}
 use Rattle.cdi_engine.specs.declared.task.Given.TheVariants as givens
 use Rattle.cdi_engine.specs.declared.task.Outcome.{Outcome}
@@ -49,19 +49,10 @@ told _ = answers.Done values.Null
 
 -- ---- ends of the definition's programs
 
-abbrev pub fields_of : Option Bean → Fields
-fields_of None = []
-fields_of (Some bean) = first_fields bean.kind
-
-abbrev pub make_instance : Tables → ℕ → ℕ → Owner → Prog Given
-make_instance t n b owner = do
-  alter (Change.Make (components.Bean b) owner (fields_of (t.bean b)))
+abbrev pub make_instance : ℕ → ℕ → Owner → Fields → Prog Given
+make_instance n b owner fields = do
+  alter (Change.Make (components.Bean b) owner fields)
   make_ready n
-
-abbrev pub settle : ℕ → Prog Given
-settle n = do
-  alter (Change.Settle n)
-  ret (Number n)
 
 abbrev pub start_body : machine.Running → Prog Given
 start_body r = do
@@ -111,11 +102,6 @@ end_instance n v component = do
   mark n do_nothing
   clean_up_quietly n v component
 
-abbrev pub free_picked : ℕ → ℕ → Prog Given
-free_picked n dependent = do
-  call (machine.Destroy dependent)
-  call (machine.Release n)
-
 abbrev pub use_for : Asked → Name → List Value → Prog Given
 use_for asked method args = do
   b ← resolve asked
@@ -136,12 +122,6 @@ give_back_with c = do
 abbrev pub start_container : Prog Given
 start_container = do
   fire_container_event built_in.Startup
-  finish
-
-abbrev pub deliver : ContainerEvent → Prog Given
-deliver event = do
-  groups ← groups_of (class_of event) (qualifiers_of event)
-  each groups λ group. call (machine.Notify group values.Null)
   finish
 
 abbrev pub bring_down : Prog Given
@@ -171,39 +151,18 @@ finish_application = finish_context Application >> bring_down
 abbrev pub empty_application : Prog Given
 empty_application = close_context Application >> bring_down
 
--- ---- the points
+-- ---- tasks and frames
 
-abbrev pub rest : Tables → Task → Prog Given
-rest t (tasks.Start c) = call (task_of c)
-rest t (tasks.Begin job) = task (command_of job)
-rest t (tasks.Made n b owner) = make_instance t n b owner
-rest t (tasks.Readied n) = settle n
-rest t (tasks.Entered r) = start_body (running_of r)
-rest t (tasks.Acted r a) = perform (running_of r) a
-rest t (tasks.Answered r c) = go_on_with (running_of r) (completion_of c)
-rest t (tasks.Ended n component v) = end_instance n v component
-rest t (tasks.Leaving n component v) = clean_up_quietly n v component
-rest t (tasks.CleanedUp n) = end_clean_up n
-rest t (tasks.Released n) = let_go n
-rest t (tasks.Picked n dependent) = free_picked n dependent
-rest t (tasks.Using type method args) = use_for (of_type type) method args
-rest t (tasks.Lent n method args) = use_lent n method args
-rest t (tasks.Invoking n method args) = invoke_method n method args
-rest t (tasks.Returning c) = give_back_with (completion_of c)
-rest t tasks.Starting = start_container
-rest t tasks.Closing = close_application
-rest t (tasks.Fired event) = deliver event
-rest t tasks.Finishing = finish_application
-rest t tasks.Emptied = empty_application
-rest t tasks.Missing = tell_missing
-rest t (tasks.Ending x c) = end_with (change_of x) (completion_of c)
-rest t (tasks.Over o) = over o
+abbrev pub rest : Task → Prog Given
+rest (tasks.Start c) = call (task_of c)
+rest (tasks.Begin job) = task (command_of job)
+rest (tasks.Using type method args) = use_for (of_type type) method args
 
 -- what a frame does once the call or the part has ended
 abbrev pub waits : Frame → machine.Completion Given → Prog Given
 waits (frames.AtEnd role) c = complete c >>= λ g. reach_end (given_by role g)
 waits frames.Stopping c = end_with Change.Stop c
-waits (frames.Answering r) c = go_on_with (running_of r) c
+waits (frames.Answering r) c = go_on_with (running_of r.value) c
 waits (frames.CleaningUp n) c = end_clean_up n
 waits (frames.Releasing n) c = complete c >> let_go n
 waits (frames.Freeing n) c = complete c >> call (machine.Release n)
@@ -228,17 +187,16 @@ waits frames.GoingDown c = bring_down
 abbrev pub around : Prog Given → (machine.Completion Given → Prog Given) → Prog Given
 around p k = handle p (λ g. k (machine.Gave g)) (λ x. k (machine.Threw x))
 
-abbrev pub node : Tables → Next → Prog Given
-node t (nexts.Finished o) = over o
-node t (nexts.Goes p) = rest t p
-node t (nexts.Needs (tasks.Start c) k) = nested (task_of c) (waits k)
-node t (nexts.Needs p k) = around (rest t p) (waits k)
-node t (nexts.Writes e p) = tick e (rest t p)
+abbrev pub node : Next → Prog Given
+node (nexts.Finished o) = over o
+node (nexts.Goes p) = rest p
+node (nexts.Needs (tasks.Start c) k) = nested (task_of c) (waits k)
+node (nexts.Needs p k) = around (rest p) (waits k)
 
--- the code's first steps of a call are those of what it does
-abbrev pub first : Tables → Task → Prog Given
-first t (tasks.Start c) = definition.machine (task_of c)
-first t p = rest t p
+-- the first steps of a call are those of what it does
+abbrev pub first : Task → Prog Given
+first (tasks.Start c) = definition.machine (task_of c)
+first p = rest p
 
 -- after a call that ended
 abbrev pub after : Frame → Outcome → Prog Given
