@@ -1,5 +1,5 @@
 -- What comes of a step with an entry, or without one.
-use Rattle.std.proofs.Common.{ℕ, ◌≡◌, ◌<◌, inl, inr, refl, sym, ap, subst}
+use Rattle.std.proofs.Common.{ℕ, ◌≡◌, ◌<◌, inl, inr, arith, refl, sym, ap, subst}
 use Rattle.cdi_base.specs.declared.entry.Entry.{Entry}
 use Rattle.cdi_base.specs.declared.reply.Cause.TheVariants as causes
 use Rattle.cdi_machine.specs.World.{World, with_entry}
@@ -47,15 +47,15 @@ cut_falls f h = inr (record { same = record { trace = ap (λ x. x.trace) f.world
 
 -- an entry is written, and no other one
 pub entry_falls : {n : ℕ} {e : Entry} {next : Next} {w u v : World} → Written e w u → SameTrace u v → Falls n w next v
-entry_falls k t = let a = written_left k in let b = same_left t in inl (omega (a, b))
+entry_falls k t = let a = written_left k in let b = same_left t in inl (omega (arith, a, b))
 
 -- an entry is written, and then there may be others
 pub entry_falls_on : {n m : ℕ} {e : Entry} {next : Next} {w u v : World} → Written e w u → Falls m u next v → Falls n w next v
 entry_falls_on k f =
     let a = written_left k in
     inl (elim f [
-      | inl l ↦ omega (a, l)
-      | inr r ↦ let b = same_left r.same in omega (a, b)
+      | inl l ↦ omega (arith, a, l)
+      | inr r ↦ let b = same_left r.same in omega (arith, a, b)
     ])
 
 pub ruleset starts = (on_way_at_start)
