@@ -1,7 +1,7 @@
 -- The steps of destruction are those of the machine.
 use Rattle.std.proofs.Common.{ℕ, ◌≡◌, ◌<◌, ◌∷◌, [], List, length, refl, sym, ◌∙◌, ap, subst, arith, Option, Some, None, true, false}
 use Rattle.std.proofs.Math.Path.{fun_ext}
-use Rattle.std.specs.Prelude.{zero, suc, slice_get, option_map, is_some}
+use Rattle.std.specs.Prelude.{zero, suc, get_or, slice_get, option_map, is_some}
 use Rattle.cdi_base.specs.declared.value.Value.{Value}
 use Rattle.cdi_base.specs.declared.value.Value.TheVariants as values
 use Rattle.cdi_base.specs.declared.entry.Entry.TheVariants as entries
@@ -148,15 +148,15 @@ module _ (s : Setting) where
   by_dependents None h = absurd (omega arith)
   by_dependents (Some o) h = refl
 
-  release_from_one : (n m : ℕ) (ns : List ℕ) (w : World) → length ns ≡ 1 → slice_get ns 0 ≡ Some m
-      → next_stop t (release_from n ns) w ≡ (node (nexts.Needs (tasks.Start (calls.Destroy m)) (frames.Freeing n)), w)
-  release_from_one n m [] w h g = absurd (omega arith)
-  release_from_one n m (x ∷ []) w h g = let q : x ≡ m = cc in ap (λ y. (node (nexts.Needs (tasks.Start (calls.Destroy y)) (frames.Freeing n)), w)) q
-  release_from_one n m (x ∷ y ∷ ns) w h g = absurd (omega arith)
+  release_from_one : (n : ℕ) (ns : List ℕ) (w : World) → length ns ≡ 1
+      → next_stop t (release_from n ns) w ≡ (node (nexts.Needs (tasks.Start (calls.Destroy (get_or ns 0 0))) (frames.Freeing n)), w)
+  release_from_one n [] w h = absurd (omega arith)
+  release_from_one n (x ∷ []) w h = refl
+  release_from_one n (x ∷ y ∷ ns) w h = absurd (omega arith)
 
-  pub release_one : (n m : ℕ) (ns : List ℕ) (w : World) → some_dependents (instance_at w n) ≡ Some ns → length ns ≡ 1 → slice_get ns 0 ≡ Some m
-      → MovesTo s (tasks.Start (calls.Release n)) w (nexts.Needs (tasks.Start (calls.Destroy m)) (frames.Freeing n)) w
-  release_one n m ns w e h g = Comes.same (release_at n w e ∙ release_from_one n m ns w h g)
+  pub release_one : (n : ℕ) (ns : List ℕ) (w : World) → some_dependents (instance_at w n) ≡ Some ns → length ns ≡ 1
+      → MovesTo s (tasks.Start (calls.Release n)) w (nexts.Needs (tasks.Start (calls.Destroy (get_or ns 0 0))) (frames.Freeing n)) w
+  release_one n ns w e h = Comes.same (release_at n w e ∙ release_from_one n ns w h)
 
   pub several : (n : ℕ) (ns : List ℕ) (w : World) → some_dependents (instance_at w n) ≡ Some ns → 1 < length ns → HasSeveral (instance_at w n)
   several n ns w e h = by (instance_at w n) e

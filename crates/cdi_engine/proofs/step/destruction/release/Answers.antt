@@ -1,5 +1,4 @@
-use Rattle.std.proofs.Common.{rules}
-use Rattle.cdi_engine.proofs.DestructionSteps.{release_missing, release_none, release_one, several}
+use Rattle.cdi_engine.proofs.DestructionSteps.{release_missing, release_none, release_one}
 use Rattle.cdi_engine.proofs.step.destruction.release.Goals as goal
 
 pub returns-in_default-clause-leads : goal.returns-in_default-clause-leads
@@ -12,4 +11,4 @@ returns-in-0-clause-leads g c =
 
 pub returns-in-1-clause-leads : goal.returns-in-1-clause-leads
 returns-in-1-clause-leads g c =
-    rw c.free_one.ensures (release_one (g.H.Host.setting c.args.host.now) c.args.number _ c.in-Some.dependents.now (g.H.Host.world c.args.host.now) c.in-Some.ensures c.in-1.is ?)
+    rw c.free_one.ensures (release_one (g.H.Host.setting c.args.host.now) c.args.number c.in-Some.dependents.now (g.H.Host.world c.args.host.now) c.in-Some.ensures c.in-1.is)
