@@ -28,12 +28,11 @@ use Rattle.cdi_machine.specs.Programs.{Given, Number, Completion, Gave, Threw, P
 use Rattle.cdi_engine.specs.Setting.{Setting, Narrows, GivesTo}
 use Rattle.cdi_engine.proofs.Sound.{comes_before}
 use Rattle.cdi_engine.specs.Asked.{method_in, method_of_component, method_of_instance, has_field_in}
-use Rattle.cdi_engine.specs.Words.{given_of, completion_of, running_of}
+use Rattle.cdi_engine.specs.Words.{given_of, running_of}
 use Rattle.cdi_engine.specs.Meanings.{start_body, end_with, go_on_with, told}
 use Rattle.cdi_engine.specs.Leads.{next_stop, Comes, ComesTo, MovesTo, Settles, IsOnWay, Written, Spent}
 use Rattle.cdi_engine.proofs.Entries.{cut_before, comes_after, on_way_after, on_way_at_start, stays_falls, lowers_falls}
 use Rattle.cdi_engine.specs.declared.task.Call.TheVariants as calls
-use Rattle.cdi_engine.specs.declared.task.Completion.{Completion as CodeCompletion}
 use Rattle.cdi_engine.specs.declared.task.Completion.TheVariants as completions
 use Rattle.cdi_engine.specs.declared.task.Given.{Given as CodeGiven}
 use Rattle.cdi_engine.specs.declared.task.Given.TheVariants as givens

@@ -7,7 +7,6 @@ use Rattle.cdi_base.specs.declared.value.Value.TheVariants as values
 use Rattle.cdi_base.specs.declared.entry.Entry.TheVariants as entries
 use Rattle.cdi_base.specs.declared.reply.Cause.TheVariants as causes
 use Rattle.cdi_base.specs.declared.built_in.BuiltIn.TheVariants as built_in
-use Rattle.cdi_base.specs.BuiltIn.{number_of}
 use Rattle.cdi_store.specs.declared.instance.Context.TheVariants.{Application}
 use Rattle.cdi_machine.specs.Words.{Name}
 use Rattle.cdi_machine.specs.Tables.{Tables}
@@ -24,7 +23,6 @@ use Rattle.cdi_engine.specs.declared.task.Completion.{Completion as CodeCompleti
 use Rattle.cdi_engine.specs.declared.task.Completion.TheVariants as completions
 use Rattle.cdi_engine.specs.declared.task.Given.{Given as CodeGiven}
 use Rattle.cdi_engine.specs.declared.task.Given.TheVariants as givens
-use Rattle.cdi_engine.specs.declared.task.Outcome.{Outcome}
 use Rattle.cdi_engine.specs.declared.task.Outcome.TheVariants as outcomes
 use Rattle.cdi_engine.specs.declared.task.Task.TheVariants as tasks
 use Rattle.cdi_engine.specs.declared.task.Frame.TheVariants as frames

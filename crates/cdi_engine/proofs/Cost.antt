@@ -1,9 +1,9 @@
 -- Every run ends.
-use Rattle.std.proofs.Common.{ℕ, ◌≡◌, ◌<◌, ◌≤◌, ◌++◌, inl, inr, max, length, length-append, refl, ap, arith}
+use Rattle.std.proofs.Common.{ℕ, ◌≡◌, ◌<◌, ◌≤◌, ◌++◌, inl, inr, length, length-append, refl, ap, arith}
 use Rattle.cdi_base.specs.declared.entry.Entry.{Entry}
 use Rattle.cdi_base.specs.declared.entry.Entry.TheVariants as entries
 use Rattle.cdi_machine.specs.Tables.{Tables}
-use Rattle.cdi_machine.specs.World.{World, with_entry, after_change}
+use Rattle.cdi_machine.specs.World.{World, with_entry}
 use Rattle.cdi_machine.specs.Programs as machine
 use Rattle.cdi_machine.specs.Programs.{handle}
 use Rattle.cdi_machine.specs.Destruction.{destroy_ready}
@@ -17,7 +17,7 @@ use Rattle.std.specs.Prelude.{Option, Some, None}
 use Rattle.cdi_engine.specs.Words.{outcome_of}
 use Rattle.cdi_engine.specs.Meanings.{first}
 use Rattle.cdi_engine.specs.Leads.{Written}
-use Rattle.cdi_engine.specs.Falls.{rank, call_rank, frame_rank, thrown_rank, gave_rank, back_rank, weight, entries_left, cost, SameTrace, Lowers, Falls}
+use Rattle.cdi_engine.specs.Falls.{rank, call_rank, frame_rank, thrown_rank, gave_rank, back_rank, weight, entries_left, cost, SameTrace, Falls}
 use Rattle.cdi_engine.specs.declared.task.Call.{Call}
 use Rattle.cdi_engine.specs.declared.task.Call.TheVariants as calls
 use Rattle.cdi_engine.specs.declared.task.Completion.TheVariants as completions

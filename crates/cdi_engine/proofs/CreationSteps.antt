@@ -1,5 +1,5 @@
 -- The steps of creation are those of the machine.
-use Rattle.std.proofs.Common.{ℕ, ◌≡◌, arith, refl, sym, ◌∙◌, ap, Option, Some, None, Bool, true, false}
+use Rattle.std.proofs.Common.{ℕ, ◌≡◌, arith, refl, ◌∙◌, ap, Option, Some, None, Bool, true, false}
 use Rattle.std.specs.Prelude.{◌^◌, ◌<◌, nat_lt}
 use Rattle.cdi_base.specs.declared.entry.Entry.TheVariants as entries
 use Rattle.cdi_base.specs.declared.reply.Cause.TheVariants as causes

@@ -1,5 +1,5 @@
 -- The steps of destruction are those of the machine.
-use Rattle.std.proofs.Common.{ℕ, ◌≡◌, ◌<◌, ◌∷◌, [], List, length, refl, sym, ◌∙◌, ap, subst, arith, Option, Some, None, true, false}
+use Rattle.std.proofs.Common.{ℕ, ◌≡◌, ◌<◌, ◌∷◌, [], List, length, refl, sym, ◌∙◌, ap, subst, arith, Option, Some, None, true}
 use Rattle.std.proofs.Math.Path.{fun_ext}
 use Rattle.std.specs.Prelude.{zero, suc, get_or, slice_get, option_map, is_some}
 use Rattle.cdi_base.specs.declared.value.Value.{Value}

@@ -2,10 +2,9 @@
 use Rattle.std.proofs.Common.{ℕ, ◌≡◌, ◌<◌, inl, inr, arith, refl, sym, ap, subst}
 use Rattle.cdi_base.specs.declared.entry.Entry.{Entry}
 use Rattle.cdi_base.specs.declared.reply.Cause.TheVariants as causes
-use Rattle.cdi_machine.specs.World.{World, with_entry}
+use Rattle.cdi_machine.specs.World.{World}
 use Rattle.cdi_machine.specs.Programs.{Given, Prog, cut, tick}
 use Rattle.cdi_engine.specs.Setting.{Setting}
-use Rattle.cdi_engine.specs.Meanings.{node}
 use Rattle.cdi_engine.specs.Leads.{next_stop, Comes, ComesTo, Settles, IsOnWay, Written, Spent}
 use Rattle.cdi_engine.specs.Falls.{weight, SameTrace, Falls}
 use Rattle.cdi_engine.specs.declared.task.Outcome.TheVariants as outcomes

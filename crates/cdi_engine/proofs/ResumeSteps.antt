@@ -1,13 +1,11 @@
 -- What frames do once what they wait for has ended is what the machine does.
-use Rattle.std.proofs.Common.{ℕ, ◌≡◌, List, refl}
+use Rattle.std.proofs.Common.{ℕ, ◌≡◌, refl}
 use Rattle.std.specs.Global.{Box}
 use Rattle.cdi_engine.specs.declared.task.Running.{Running}
-use Rattle.cdi_base.specs.declared.value.Value.{Value}
 use Rattle.cdi_base.specs.declared.value.Value.TheVariants as values
 use Rattle.cdi_base.specs.declared.place.InterceptorMethod.{InterceptorMethod}
 use Rattle.cdi_base.specs.declared.place.InterceptorMethod.TheVariants as roles
 use Rattle.cdi_base.specs.declared.reply.Cause.{Cause}
-use Rattle.cdi_store.specs.declared.instance.Context.TheVariants.{Application}
 use Rattle.cdi_machine.specs.Words.{Name}
 use Rattle.cdi_machine.specs.World.{World, Change, after_change}
 use Rattle.cdi_engine.specs.Setting.{Setting}

@@ -1,12 +1,12 @@
 -- A step and the runs after it are a run.
-use Rattle.std.proofs.Common.{ℕ, zero, suc, ◌≡◌, ◌<◌, ◌≤◌, length, refl, sym, ◌∙◌, subst, true≢false}
+use Rattle.std.proofs.Common.{ℕ, zero, suc, ◌≡◌, ◌≤◌, length, refl, sym, ◌∙◌, subst, true≢false}
 use Rattle.std.specs.Prelude.{Ok, Err, IsErr, IfOk, OnErr}
 use Rattle.std.specs.Prelude.{Result as Either}
 use Rattle.cdi_base.specs.declared.entry.Entry.{Entry}
 use Rattle.cdi_base.specs.declared.reply.Cause.TheVariants as causes
 use Rattle.cdi_machine.specs.declared.driver.Failure.{Failure}
 use Rattle.cdi_machine.specs.Tables.{Tables}
-use Rattle.cdi_machine.specs.World.{World, with_entry}
+use Rattle.cdi_machine.specs.World.{World}
 use Rattle.cdi_machine.specs.Programs.{Given, Completion, Gave, Threw, Prog, ret, throw, cut, miss, see, change, tick, mark, act, choose, nested, complete, candidates}
 use Rattle.cdi_machine.specs.Machine.{machine}
 use Rattle.cdi_machine.specs.Runs as runs

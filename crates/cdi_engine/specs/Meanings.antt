@@ -1,5 +1,5 @@
 -- What tasks, frames and outcomes mean: the programs that are left to run.
-use Rattle.std.specs.Prelude.{ℕ, List, [], Option, Some, None}
+use Rattle.std.specs.Prelude.{ℕ, List}
 use Rattle.cdi_base.specs.declared.value.Value.{Value}
 use Rattle.cdi_base.specs.declared.value.Value.TheVariants as values
 use Rattle.cdi_base.specs.declared.act.Answer.{Answer}
@@ -13,20 +13,18 @@ use Rattle.cdi_store.specs.declared.instance.Context.TheVariants.{Application}
 use Rattle.cdi_store.specs.declared.instance.Owner.{Owner}
 use Rattle.cdi_store.specs.declared.instance.Owner.TheVariants as owners
 use Rattle.cdi_machine.specs.Words.{Name, Fields, Asked}
-use Rattle.cdi_machine.specs.Tables.{Tables, Bean}
 use Rattle.cdi_machine.specs.World.{Change}
 use Rattle.cdi_machine.specs.Programs as machine
 use Rattle.cdi_machine.specs.Programs.{Given, Number, Prog, ret, throw, cut, miss, see, change, tick, mark, act, choose, nested, handle, finally, quietly, do_nothing, tell_missing, complete, call, finish, note, alter, each, require_number, resolve, groups_of, ◌>>=◌, ◌>>◌}
 use Rattle.cdi_machine.specs.Machine as definition
 use Rattle.cdi_machine.specs.Contexts.{direct_reference, refer_to, reach_instance, require_living}
-use Rattle.cdi_machine.specs.Creation.{first_fields, make_ready}
-use Rattle.cdi_machine.specs.Bodies.{given_by, invoke_method, perform, answer_of, with_answer}
+use Rattle.cdi_machine.specs.Creation.{make_ready}
+use Rattle.cdi_machine.specs.Bodies.{given_by, invoke_method, answer_of, with_answer}
 use Rattle.cdi_machine.specs.Destruction.{give_back, clean_up}
 use Rattle.cdi_machine.specs.Events.{fire_context_event, fire_container_event}
 use Rattle.cdi_machine.specs.Commands.{task, close}
 use Rattle.cdi_engine.specs.Asked.{of_type}
-use Rattle.cdi_engine.specs.declared.task.ContainerEvent.{ContainerEvent}
-use Rattle.cdi_engine.specs.Words.{class_of, qualifiers_of, completion_of, running_of, task_of, command_of}
+use Rattle.cdi_engine.specs.Words.{completion_of, running_of, task_of, command_of}
 use Rattle.cdi_engine.specs.declared.task.Given.{Given as CodeGiven}
 use Rattle.cdi_engine.specs.declared.task.Given.TheVariants as givens
 use Rattle.cdi_engine.specs.declared.task.Outcome.{Outcome}

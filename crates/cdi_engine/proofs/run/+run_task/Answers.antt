@@ -2,8 +2,7 @@ use Rattle.std.proofs.Common.{rules, arith}
 use Rattle.cdi_engine.specs.Meanings.{first, after}
 use Rattle.cdi_engine.specs.Falls.{rank}
 use Rattle.cdi_engine.proofs.Sound.{narrows_self, narrows_trans, kept_start, kept_point, kept_comes, kept_on_way, kept_ends, kept_starved, kept_back, kept_starved_within, ran_err}
-use Rattle.cdi_engine.proofs.StaysKnown.{known_frame}
-use Rattle.cdi_engine.proofs.Cost.{falls_cost, part_cost, back_falls}
+use Rattle.cdi_engine.proofs.Cost.{falls_cost, back_falls}
 use Rattle.cdi_engine.proofs.run.+run_task.Goals as goal
 
 pub returns-in_err-next-clause-ran : goal.returns-in_err-next-clause-ran

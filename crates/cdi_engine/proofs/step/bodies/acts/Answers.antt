@@ -1,6 +1,6 @@
 use Rattle.std.proofs.Common.{rules}
 use Rattle.cdi_engine.proofs.BodySteps.{acts_missing, acts_cut, acts_leads, acts_on_way}
-use Rattle.cdi_engine.proofs.Sound.{as_err, map_ok, narrows_trans}
+use Rattle.cdi_engine.proofs.Sound.{as_err, narrows_trans}
 use Rattle.cdi_engine.proofs.step.bodies.acts.Goals as goal
 
 pub returns-then-is_none-clause-leads : goal.returns-then-is_none-clause-leads
