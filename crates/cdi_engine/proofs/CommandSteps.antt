@@ -1,5 +1,5 @@
 -- The steps of commands, and of the container's own events, are those of the machine.
-use Rattle.std.proofs.Common.{ℕ, ◌≡◌, [], List, refl, ◌∙◌, ap, None}
+use Rattle.std.proofs.Common.{ℕ, ◌≡◌, [], List, refl, ◌∙◌, ap, Some, None}
 use Rattle.std.proofs.Math.Path.{fun_ext}
 use Rattle.std.specs.Prelude.{map}
 use Rattle.cdi_base.specs.declared.value.Value.{Value}
@@ -14,9 +14,11 @@ use Rattle.cdi_machine.specs.World.{World, Change, after_change}
 use Rattle.cdi_machine.specs.Programs as machine
 use Rattle.cdi_machine.specs.Programs.{Given, Number, Completion, Gave, Threw, Prog, ret, throw, see, nested, tick, change, choose, act, handle, finally, quietly, do_nothing, tell_missing, require_present, require, require_one, expect, complete, call, finish, note, alter, each, raise, require_number, give_number, next_number, require_depth, go_deeper, top, instance, bean_at, resolve, attempt, ◌>>=◌, ◌>>◌}
 use Rattle.cdi_engine.specs.Setting.{Setting}
-use Rattle.cdi_engine.specs.Words.{class_of, qualifiers_of, task_of}
+use Rattle.cdi_engine.specs.Words.{class_of, qualifiers_of, completion_of, task_of}
+use Rattle.cdi_engine.specs.Asked.{latest_in}
+use Rattle.cdi_engine.proofs.DestructionSteps.{dismiss_settled}
 use Rattle.cdi_engine.specs.Meanings.{start_container, bring_down, close_application, finish_context}
-use Rattle.cdi_engine.specs.Leads.{next_stop, Comes, MovesTo, GoesOn, Written, Spent}
+use Rattle.cdi_engine.specs.Leads.{next_stop, Comes, ComesTo, MovesTo, GoesOn, Written, Spent}
 use Rattle.cdi_engine.proofs.Entries.{cut_before, comes_after, on_way_at_start, stays_falls, lowers_falls}
 use Rattle.cdi_engine.specs.declared.task.Call.TheVariants as calls
 use Rattle.cdi_engine.specs.declared.task.Completion.{Completion as CodeCompletion}
@@ -85,6 +87,15 @@ module _ (s : Setting) where
       → GoesOn s frames.Using c w (nexts.Needs (tasks.Start calls.Dismiss) (frames.Returning c)) w
   returning_leads c w = Comes.same refl
 
+  -- nothing was borrowed
+  pub returning_empty : (c : CodeCompletion) (w : World) → latest_in w ≡ Some None
+      → GoesOn s frames.Using c w (nexts.Finished (outcomes.Ends c)) (after_change Change.Return w)
+  returning_empty c w e = Comes.calls (Gave (machine.Result values.Null)) refl (dismiss_settled s w e) (by c)
+    where
+      by : (c : CodeCompletion) → ComesTo s (alter Change.Return >> complete (completion_of c)) w (nexts.Finished (outcomes.Ends c)) (after_change Change.Return w)
+      by (completions.Gave g) = Comes.same refl
+      by (completions.Threw x) = Comes.same refl
+
   -- ---- shutdown
 
   -- what is left if no request, and no session, is there
@@ -121,4 +132,4 @@ module _ (s : Setting) where
       → GoesOn s frames.Emptying (completions.Gave g) w (nexts.Needs (tasks.Start (calls.Fire events.Destroyed)) frames.GoingDown) (after_change (Change.Close Application) w)
   emptied_leads g w = Comes.same (ap (λ k. (nested (task_of (calls.Fire events.Destroyed)) k, after_change (Change.Close Application) w)) (fun_ext (after_event_within finish)))
 
-pub ruleset leads = (boot_leads, starting_leads, call_leads, returning_leads, shut_down_leads, closing_leads, finishing_leads, emptied_leads, on_way_at_start, stays_falls, lowers_falls)
+pub ruleset leads = (returning_empty, boot_leads, starting_leads, call_leads, returning_leads, shut_down_leads, closing_leads, finishing_leads, emptied_leads, on_way_at_start, stays_falls, lowers_falls)

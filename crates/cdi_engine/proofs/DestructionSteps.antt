@@ -210,7 +210,7 @@ module _ (s : Setting) where
   dismissing None = tell_missing
   dismissing (Some x) = dismiss_latest x
 
-  dismiss_settled : {x : Option (Option ℕ)} (w : World) → latest_in w ≡ x → next_stop t dismiss w ≡ next_stop t (dismissing x) w
+  pub dismiss_settled : {x : Option (Option ℕ)} (w : World) → latest_in w ≡ x → next_stop t dismiss w ≡ next_stop t (dismissing x) w
   dismiss_settled w e = by w.temporaries ∙ ap (λ x. next_stop t (dismissing x) w) e
     where
       by : (ns : List (List ℕ)) → next_stop t (top ns >>= λ temporaries. dismiss_latest (latest temporaries)) w ≡ next_stop t (dismissing (option_map latest (top_of ns))) w

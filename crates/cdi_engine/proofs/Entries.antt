@@ -1,5 +1,5 @@
 -- What comes of a step with an entry, or without one.
-use Rattle.std.proofs.Common.{ℕ, ◌≡◌, ◌<◌, inl, inr, arith, refl, sym, ap, subst}
+use Rattle.std.proofs.Common.{ℕ, ◌≡◌, ◌<◌, ◌≤◌, inl, inr, arith, refl, sym, ap, subst}
 use Rattle.cdi_base.specs.declared.entry.Entry.{Entry}
 use Rattle.cdi_base.specs.declared.reply.Cause.TheVariants as causes
 use Rattle.cdi_machine.specs.World.{World}
@@ -43,6 +43,14 @@ lowers_falls t h = inr (record { same = t; rank = h })
 
 pub cut_falls : {n : ℕ} {w v : World} → Spent w v → 0 < n → Falls n w (nexts.Finished (outcomes.Cut causes.Ticks)) v
 cut_falls f h = inr (record { same = record { trace = ap (λ x. x.trace) f.world; ticks = ap (λ x. x.ticks) f.world }; rank = h })
+
+-- the rank may be greater
+pub more_falls : {n m : ℕ} {next : Next} {w v : World} → n ≤ m → Falls n w next v → Falls m w next v
+more_falls {n} {m} {next} h f =
+    elim f [
+      | inl l ↦ inl l
+      | inr r ↦ let a = r.rank in inr (record { same = r.same; rank = omega (arith, a, h) })
+    ]
 
 -- an entry is written, and no other one
 pub entry_falls : {n : ℕ} {e : Entry} {next : Next} {w u v : World} → Written e w u → SameTrace u v → Falls n w next v

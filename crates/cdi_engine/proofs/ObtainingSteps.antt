@@ -143,12 +143,11 @@ module _ (s : Setting) where
       → MovesTo s (tasks.Using type method args) w (nexts.Finished (outcomes.Ends (completions.Threw (number_of built_in.IllegalStateException)))) w
   using_missing type method args b w e h = Comes.same (using_one type method args b w e h)
 
-  pub using_shared : (type method : Name) (args : List Value) (b : ℕ) (p : CodeBean) (w : World)
+  shared_settled : (type method : Name) (args : List Value) (b : ℕ) (p : CodeBean) (w : World)
       → ts.resolve (of_type type) ≡ machine_resolution (resolutions.One b) → ts.bean b ≡ Some (machine_bean p)
       → p.scope ≡ declared_scopes.ApplicationScoped
-      → MovesTo s (tasks.Using type method args) w (nexts.Needs (tasks.Start (calls.Obtain b)) (frames.Reaching method args)) w
-  using_shared type method args b p w e h q =
-      Comes.same (using_one type method args b w e h ∙ by p.scope q)
+      → next_stop ts (use_for (of_type type) method args) w ≡ (node (nexts.Needs (tasks.Start (calls.Obtain b)) (frames.Reaching method args)), w)
+  shared_settled type method args b p w e h q = using_one type method args b w e h ∙ by p.scope q
     where
       by : (x : DeclaredScope) → x ≡ declared_scopes.ApplicationScoped
           → next_stop ts ((elim (is_normal (machine_scope x)) [
@@ -158,6 +157,30 @@ module _ (s : Setting) where
           ≡ (node (nexts.Needs (tasks.Start (calls.Obtain b)) (frames.Reaching method args)), w)
       by declared_scopes.ApplicationScoped z = refl
       by declared_scopes.Dependent z = absurd (cc)
+
+  pub using_shared : (type method : Name) (args : List Value) (b : ℕ) (p : CodeBean) (w : World)
+      → ts.resolve (of_type type) ≡ machine_resolution (resolutions.One b) → ts.bean b ≡ Some (machine_bean p)
+      → p.scope ≡ declared_scopes.ApplicationScoped
+      → MovesTo s (tasks.Using type method args) w (nexts.Needs (tasks.Start (calls.Obtain b)) (frames.Reaching method args)) w
+  using_shared type method args b p w e h q = Comes.same (shared_settled type method args b p w e h q)
+
+  -- what a context has for a bean is in an active context
+  active_of : (b : ℕ) (x : Option Active) (h : Held) → entry_in x b ≡ Some h → (status : Status) × (option_map (λ a. a.status) x ≡ Some status)
+  active_of b None h e = absurd (cc)
+  active_of b (Some a) h e = (a.status, refl)
+
+  -- the contextual instance is there
+  pub using_held : (type method : Name) (args : List Value) (b n : ℕ) (p : CodeBean) (next : Next) (w u : World)
+      → ts.resolve (of_type type) ≡ machine_resolution (resolutions.One b) → ts.bean b ≡ Some (machine_bean p)
+      → p.scope ≡ declared_scopes.ApplicationScoped
+      → held_in w (machine_scope declared_scopes.ApplicationScoped) b ≡ Some (Is n)
+      → Settles s (invoke_method n method args) w next u
+      → MovesTo s (tasks.Using type method args) w next u
+  using_held type method args b n p next w u e h q i k =
+      let active = active_of b w.contexts.application (Is n) i in
+      let there : next_stop ts (obtain b) w ≡ (ret (Number n), w) =
+      obtain_settled ts b p {status = Some active.0} {held = Some (Is n)} w h (rw q active.1) (rw q i) in
+      Comes.calls (machine.Gave (Number n)) (shared_settled type method args b p w e h q) there (Comes.same k)
 
   pub using_dependent : (type method : Name) (args : List Value) (b : ℕ) (p : CodeBean) (w : World)
       → ts.resolve (of_type type) ≡ machine_resolution (resolutions.One b) → ts.bean b ≡ Some (machine_bean p)
@@ -249,4 +272,4 @@ module _ (s : Setting) where
       → MovesTo s (tasks.Start (calls.Obtain b)) w (nexts.Finished (outcomes.Ends (completions.Threw (number_of built_in.ContextNotActiveException)))) w
   obtain_ending b p w e a h = Comes.same (obtain_settled s.tables b p w e a h)
 
-pub ruleset leads = (obtain_absent, obtain_inactive, obtain_is, obtain_making, obtain_open, obtain_ending, using_nothing, using_many, using_missing, using_shared, using_dependent, lent_gone, lent_leads, reach_leads, reach_value, reach_empty, borrow_leads, borrow_value, borrow_empty, on_way_at_start, stays_falls, lowers_falls)
+pub ruleset leads = (obtain_absent, obtain_inactive, obtain_is, obtain_making, obtain_open, obtain_ending, using_nothing, using_many, using_missing, using_shared, using_held, using_dependent, lent_gone, lent_leads, reach_leads, reach_value, reach_empty, borrow_leads, borrow_value, borrow_empty, on_way_at_start, stays_falls, lowers_falls)

@@ -22,7 +22,7 @@ use Rattle.cdi_engine.specs.declared.task.Task.TheVariants as tasks
 use Rattle.cdi_engine.specs.declared.task.Frame.{Frame}
 use Rattle.cdi_engine.specs.declared.task.Frame.TheVariants as frames
 use Rattle.cdi_engine.specs.declared.task.Next.TheVariants as nexts
-use Rattle.cdi_engine.proofs.CommandSteps.{starting_leads, returning_leads, closing_leads, finishing_leads, emptied_leads}
+use Rattle.cdi_engine.proofs.CommandSteps.{starting_leads, closing_leads, finishing_leads, emptied_leads}
 use Rattle.cdi_engine.proofs.Entries.{stays_falls, lowers_falls}
 
 module _ (s : Setting) where
@@ -119,4 +119,4 @@ module _ (s : Setting) where
   threw_leads x frames.Finishing w h1 h2 h3 h4 h5 h6 h7 h8 h9 h10 h11 = absurd (h10 refl)
   threw_leads x frames.GoingDown w h1 h2 h3 h4 h5 h6 h7 h8 h9 h10 h11 = absurd (h11 refl)
 
-pub ruleset leads = (cut_leads, reached_leads, stopped_leads, exited_leads, cleaned_up_leads, freeing_leads, dismissing_leads, clearing_leads, returned_leads, threw_at_return, started_leads, gone_down_leads, starting_leads, returning_leads, closing_leads, finishing_leads, emptied_leads, stays_falls, lowers_falls)
+pub ruleset leads = (cut_leads, reached_leads, stopped_leads, exited_leads, cleaned_up_leads, freeing_leads, dismissing_leads, clearing_leads, returned_leads, threw_at_return, started_leads, gone_down_leads, starting_leads, closing_leads, finishing_leads, emptied_leads, stays_falls, lowers_falls)

@@ -61,12 +61,19 @@ module _ (tables : Tables) (legal : Legal) (Starved : Type 0) where
   full_in h Runs.cuts = Runs.is_full h
   full_in h (Runs.starves s) = Runs.starves s
 
+  complete_runs : (r : Completion Given) {w : World} → R (complete r) w (runs.Ends r) w
+  complete_runs (Gave g) = Runs.returns
+  complete_runs (Threw x) = Runs.throws
+
   from_comes : {p q : Prog Given} {w u v : World} {o : runs.Outcome} → Comes tables legal p w q u → R q u o v → R p w o v
   from_comes {p = p} {v = v} {o = o} (Comes.same e) r = from_next_stop p (subst (λ s. R s.0 s.1 o v) (sym e) r)
   from_comes {p = p} {v = v} {o = o} (Comes.within n e) r = from_after_steps n p (subst (λ s. R s.0 s.1 o v) (sym e) r)
   from_comes {p = p} {v = v} {o = o} (Comes.writes e h c) r = from_next_stop p (subst (λ s. R s.0 s.1 o v) (sym e) (Runs.writes h (from_comes c r)))
   from_comes {p = p} {v = v} {o = o} (Comes.fills e h) r = from_next_stop p (subst (λ s. R s.0 s.1 o v) (sym e) (full_in h r))
   from_comes {p = p} {v = v} {o = o} (Comes.does a e l c) r = from_next_stop p (subst (λ s. R s.0 s.1 o v) (sym e) (Runs.does a l (from_comes c r)))
+  from_comes {p = p} {v = v} {o = o} (Comes.calls {x = y} {c = c} n e d k) r =
+      let ended : R (machine c) _ (runs.Ends n) y = from_next_stop (machine c) (subst (λ s. R s.0 s.1 (runs.Ends n) y) (sym d) (complete_runs n)) in
+      from_next_stop p (subst (λ s. R s.0 s.1 o v) (sym e) (Runs.calls ended (from_comes k r)))
   from_comes {p = p} {v = v} {o = o} (Comes.picks i e l h c) r = from_next_stop p (subst (λ s. R s.0 s.1 o v) (sym e) (Runs.picks i l h (from_comes c r)))
 
   starved_in : {p : Prog Given} {w v : World} {o : runs.Outcome} → Starved → R (cut causes.Memory) w o v → R p w o v
@@ -140,6 +147,7 @@ wider_comes i (Comes.within n e) = Comes.within n e
 wider_comes i (Comes.writes e h c) = Comes.writes e h (wider_comes i c)
 wider_comes i (Comes.fills e h) = Comes.fills e h
 wider_comes i (Comes.does {u = u} {b = b} {fields = fields} {view = view} a e l c) = Comes.does a e (i.act b (length u.trace) fields view a l) (wider_comes i c)
+wider_comes i (Comes.calls r e d c) = Comes.calls r e d (wider_comes i c)
 wider_comes i (Comes.picks {u = u} {n = n} x e l h c) = Comes.picks x e l (i.pick (candidates n) (length u.trace) x h) (wider_comes i c)
 
 -- ---- from one asking of the driver to the next

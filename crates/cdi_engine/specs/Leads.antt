@@ -10,7 +10,9 @@ use Rattle.cdi_machine.specs.declared.driver.Failure.{Failure}
 use Rattle.cdi_machine.specs.Words.{Fields}
 use Rattle.cdi_machine.specs.Tables.{Tables}
 use Rattle.cdi_machine.specs.World.{World, after_change, with_entry}
-use Rattle.cdi_machine.specs.Programs.{Given, Prog, ret, throw, cut, miss, see, change, tick, mark, act, choose, nested, candidates}
+use Rattle.cdi_machine.specs.Programs as machine
+use Rattle.cdi_machine.specs.Programs.{Given, Prog, ret, throw, cut, miss, see, change, tick, mark, act, choose, nested, complete, candidates}
+use Rattle.cdi_machine.specs.Machine as definition
 use Rattle.cdi_machine.specs.Runs as runs
 use Rattle.cdi_machine.specs.Runs.{Legal, Runs}
 use Rattle.cdi_engine.specs.Setting.{Setting}
@@ -45,7 +47,8 @@ after_steps (suc n) t (change g p) w = after_steps n t p (after_change g w)
 after_steps (suc n) t (mark m p) w = after_steps n t p w
 after_steps (suc n) t p w = (p, w)
 
--- The one goes on as the other: by silent steps, and by entries that are written or for which the budget has no room.
+-- The one goes on as the other: by silent steps, by calls that end at once, and by entries that are written or for which
+-- the budget has no room.
 pub data Comes (t : Tables) (legal : Legal) : Prog Given → World → Prog Given → World → Type 0 where
   same : {p q : Prog Given} {w v : World} → next_stop t p w ≡ (q, v) → Comes t legal p w q v
   within : {p q : Prog Given} {w v : World} (n : ℕ) → after_steps n t p w ≡ (q, v)
@@ -61,6 +64,12 @@ pub data Comes (t : Tables) (legal : Legal) : Prog Given → World → Prog Give
       {k : Act → Prog Given} (a : Act) → next_stop t p w ≡ (act b fields view k, u)
       → legal.gives b (length u.trace) fields view a
       → Comes t legal (tick (entries.Did a) (k a)) u q v
+      → Comes t legal p w q v
+  calls : {p q : Prog Given} {w u x v : World} {c : machine.Task}
+      {k : machine.Completion Given → Prog Given} (r : machine.Completion Given)
+      → next_stop t p w ≡ (nested c k, u)
+      → next_stop t (definition.machine c) u ≡ (complete r, x)
+      → Comes t legal (k r) x q v
       → Comes t legal p w q v
   picks : {p q : Prog Given} {w u v : World} {n : ℕ} {k : ℕ → Prog Given} (i : ℕ)
       → next_stop t p w ≡ (choose n k, u)

@@ -116,7 +116,7 @@ pub(crate) fn step<H: Host>(host: &mut H, task: Task) -> Result<Next, Failure>
             bean_type,
             method,
             args,
-        } => { Ok(obtaining::using(host, bean_type, method, args)) }
+        } => Ok(obtaining::using(host, bean_type, method, args)?),
     }
 }
 

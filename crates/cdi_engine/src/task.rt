@@ -4,7 +4,7 @@ use cdi_bodies::{BodyId, View};
 use cdi_store::Owner;
 
 /// What a call gives.
-#[derive(Debug, PartialEq, Eq, Drop)]
+#[derive(Drop)]
 pub enum Given {
     /// A value, or null if it has none.
     Result(Value),
@@ -15,7 +15,7 @@ pub enum Given {
 }
 
 /// How a call ended that wasn't cut, as whoever waits for it sees it.
-#[derive(Debug, PartialEq, Eq, Drop)]
+#[derive(Drop)]
 pub enum Completion {
     Gave(Given),
     /// It threw an exception.
@@ -23,7 +23,7 @@ pub enum Completion {
 }
 
 /// How a call ended.
-#[derive(Debug, PartialEq, Eq, Drop)]
+#[derive(Drop)]
 pub enum Outcome {
     Ends(Completion),
     /// It was cut, and with it everything around it.
@@ -82,7 +82,7 @@ pub enum Job {
 
 /// The events of the container itself (Jakarta CDI 4.0, *Context management for built-in scopes*, *Startup event* and
 /// *Shutdown event*).
-#[derive(Clone, Copy, Debug, PartialEq, Eq)]
+#[derive(Clone, Copy)]
 pub enum ContainerEvent {
     /// The application context has been initialized.
     Initialized,

@@ -4,8 +4,8 @@ ghost use Rattle.cdi_store.specs.declared.instance.Context.TheVariants.{Applicat
 ghost use Rattle.cdi_machine.specs.World.{after_change};
 ghost use Rattle.cdi_machine.specs.World.Change.{Return, Finish, Close, Down};
 ghost use Rattle.cdi_engine.specs.Setting.{Narrows};
-ghost use Rattle.cdi_engine.specs.Leads.{MovesTo};
-ghost use Rattle.cdi_engine.specs.Falls.{Falls, rank, call_rank};
+ghost use Rattle.cdi_engine.specs.Leads.{MovesTo, GoesOn};
+ghost use Rattle.cdi_engine.specs.Falls.{Falls, rank, call_rank, frame_rank};
 ghost use Rattle.cdi_engine.specs.declared.task.Outcome.{Outcome};
 ghost use Rattle.cdi_engine.specs.declared.task.Given.{Given};
 ghost use Rattle.cdi_engine.specs.Known.{KnownNext};
@@ -86,11 +86,20 @@ fn call_bean<H: Host>(
     Ok(Next::Needs(part, Frame::Using))
 }
 
-/// The use of the bean has ended: what was borrowed is given back.
-pub(crate) fn returning(completion: Completion) -> Next
-    ensures { result ≡ Next.Needs (Task.Start Call.Dismiss) (Frame.Returning completion) }
+/// The use of the bean has ended: what was borrowed is destroyed and given back, at once if nothing was.
+#[tactic(auto, using(crate::proofs::CommandSteps::leads))]
+pub(crate) fn returning<H: Host>(host: &mut H, completion: Completion) -> Next
+    ensures leads { GoesOn (H.setting host.old) Frame.Using completion
+        (H.world host.old) result (H.world host.new) }
+    ensures falls { Falls (frame_rank Frame.Using)
+        (H.world host.old) result (H.world host.new) }
+    ensures known { KnownNext (H.setting host.new) result }
+    ensures narrows { Narrows (H.setting host.old) (H.setting host.new) }
 {
-    Next::Needs(Task::Start(Call::Dismiss), Frame::Returning(completion))
+    match host.latest_temporary() {
+        Some(None) => returned(host, completion),
+        _ => Next::Needs(Task::Start(Call::Dismiss), Frame::Returning(completion)),
+    }
 }
 
 /// What was borrowed is given back.

@@ -50,36 +50,42 @@ pub(super) fn obtain<H: Host>(host: &H, bean: u32) -> Next
 }
 
 /// Uses the bean to which a type resolves (Jakarta CDI 4.0, *Typesafe resolution*) for a command: its contextual
-/// instance, or one that lasts as long as the command.
+/// instance, or one that lasts as long as the command. What its context has for it is invoked at once.
 #[tactic(auto, using(crate::proofs::ObtainingSteps::leads))]
-pub(super) fn using<H: Host>(host: &H, bean_type: Name, method: Name, args: Seq<Value>) -> Next
-    ensures leads { MovesTo (H.setting host.now) (Task.Using bean_type method args)
-        (H.world host.now) result (H.world host.now) }
-    ensures falls { Falls (rank (Task.Using bean_type method args))
-        (H.world host.now) result (H.world host.now) }
-    ensures known { KnownNext (H.setting host.now) result }
+pub(super) fn using<H: Host>(
+    host: &mut H,
+    bean_type: Name,
+    method: Name,
+    args: Seq<Value>,
+) -> Result<Next, AllocError>
+    ensures leads { IfOk result (λ next. MovesTo (H.setting host.old)
+        (Task.Using bean_type method args) (H.world host.old) next (H.world host.new)) }
+    ensures falls { IfOk result (λ next. Falls (rank (Task.Using bean_type method args))
+        (H.world host.old) next (H.world host.new)) }
+    ensures known { IfOk result (KnownNext (H.setting host.new)) }
+    ensures narrows { Narrows (H.setting host.old) (H.setting host.new) }
+    ensures kept { OnErr result (H.world host.new ≡ H.world host.old) }
 {
     let bean = match host.resolve(bean_type) {
         Resolution::One(bean) => bean,
-        Resolution::Nothing => return raised(BuiltIn::UnsatisfiedResolutionException),
-        Resolution::Many => return raised(BuiltIn::AmbiguousResolutionException),
+        Resolution::Nothing => return Ok(raised(BuiltIn::UnsatisfiedResolutionException)),
+        Resolution::Many => return Ok(raised(BuiltIn::AmbiguousResolutionException)),
     };
     let Some(plan) = host.bean(bean) else {
-        return missing();
+        return Ok(missing());
     };
     match plan.scope {
-        Scope::ApplicationScoped => {
-            Next::Needs(
-                Task::Start(Call::Obtain { bean }),
-                Frame::Reaching { method, args },
-            )
-        }
+        Scope::ApplicationScoped => match host.held(scope_of(Scope::ApplicationScoped), bean) {
+            Some(Held::Is(number)) => invoke(host, number, method, args),
+            _ => {
+                let call = Task::Start(Call::Obtain { bean });
+                Ok(Next::Needs(call, Frame::Reaching { method, args }))
+            }
+        },
         Scope::Dependent => {
             let owner = Owner::Borrower;
-            Next::Needs(
-                Task::Start(Call::Create { bean, owner }),
-                Frame::Borrowing { method, args },
-            )
+            let call = Task::Start(Call::Create { bean, owner });
+            Ok(Next::Needs(call, Frame::Borrowing { method, args }))
         }
     }
 }

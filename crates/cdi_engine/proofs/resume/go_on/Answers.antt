@@ -3,7 +3,7 @@ use Rattle.cdi_engine.specs.Words.{running_of, completion_of}
 use Rattle.cdi_engine.specs.Meanings.{go_on_with}
 use Rattle.cdi_engine.proofs.Sound.{map_ok}
 use Rattle.cdi_engine.proofs.Entries.{settled}
-use Rattle.cdi_engine.proofs.CommandSteps.{starting_leads, returning_leads, closing_leads, finishing_leads, emptied_leads}
+use Rattle.cdi_engine.proofs.CommandSteps.{starting_leads, closing_leads, finishing_leads, emptied_leads}
 use Rattle.cdi_engine.proofs.ResumeSteps.{reached_leads, stopped_leads, exited_leads, cleaned_up_leads, freeing_leads, dismissing_leads, clearing_leads, returned_leads, started_leads, gone_down_leads}
 use Rattle.cdi_engine.proofs.resume.go_on.Goals as goal
 
@@ -53,7 +53,7 @@ returns-in-Exiting-clause-leads g c =
 
 pub returns-in-Using-clause-leads : goal.returns-in-Using-clause-leads
 returns-in-Using-clause-leads g c =
-    rw (c.in-Using.is, c.returning.ensures) (returning_leads (g.H.Host.setting c.args.host.now) (completions.Gave c.args.given) (g.H.Host.world c.args.host.now))
+    rw c.in-Using.is c.returning.ensures.leads
 
 pub returns-in-Returning-clause-leads : goal.returns-in-Returning-clause-leads
 returns-in-Returning-clause-leads g c =
