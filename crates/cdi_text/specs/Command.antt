@@ -1,22 +1,40 @@
 -- The command that a line is.
-use Rattle.std.specs.Prelude.{ℕ, Bool, true, false, List, [], ◌∷◌, codes, Option, Some, None, Result, Ok, Err, if◌then◌else◌}
+use Rattle.std.specs.Prelude.{ℕ, Bool, List, [], ◌∷◌, codes, Option, Some, None, Result, Ok, Err, if◌then◌else◌}
+use Rattle.std.specs.List.{list_all}
 use Rattle.cdi_base.specs.Name.{is_name}
 use Rattle.cdi_base.specs.Reading.{◌>>=◌}
+use Rattle.cdi_base.specs.Stage.{is_included, served}
+use Rattle.cdi_base.specs.Uses.{has_names}
 use Rattle.cdi_base.specs.declared.command.Command.{Command}
-use Rattle.cdi_base.specs.declared.command.Command.TheVariants.{Call, Shutdown}
+use Rattle.cdi_base.specs.declared.command.Command.TheVariants.{Begin, Call, Read, Fire, End, Invalidate, Live, Shutdown}
+use Rattle.cdi_base.specs.declared.stage.Stage.{Stage}
+use Rattle.cdi_base.specs.declared.stage.Stage.TheVariants as stages
 use Rattle.cdi_base.specs.declared.uses.WrittenUse.{WrittenUse}
 use Rattle.cdi_base.specs.declared.value.Value.{Value}
-use Rattle.cdi_base.specs.declared.value.Value.TheVariants as values
+use Rattle.cdi_json.specs.Forms.{value_in, use_in, list_in}
 use Rattle.cdi_json.specs.Json.{is_word, json_in}
-use Rattle.serde_json.specs.Data.{Data, null, number, string, array, Items, no_items, item}
-use Rattle.serde_json.specs.Find.{as_i64}
+use Rattle.serde_json.specs.Data.{Data, null, string, array, Items, no_items, item}
 use Rattle.cdi_text.specs.declared.command.BadLine.{BadLine}
 
--- a command that is served: a call without qualifiers, or the shutdown
+-- the stage since when a command is served
+abbrev pub since : Command → Stage
+since (Begin request session) = stages.Requests
+since (Call request bean_type [] method args) = stages.Counter
+since (Call request bean_type (q ∷ qs) method args) = stages.Injection
+since (Read request bean_type qualifiers) = stages.Producers
+since (Fire request class qualifiers value) = stages.Events
+since (End request) = stages.Requests
+since (Invalidate session) = stages.Requests
+since Live = stages.Requests
+since Shutdown = stages.Counter
+
+-- a command that is served at a stage
+abbrev pub is_served_at : Stage → Command → Bool
+is_served_at stage command = is_included stage (since command)
+
+-- a command that is served now
 abbrev pub is_served : Command → Bool
-is_served (Call request type [] method args) = true
-is_served Shutdown = true
-is_served _ = false
+is_served command = is_served_at served command
 
 abbrev pub Reads : Type 0 → Type 0
 Reads X = Result X BadLine
@@ -40,26 +58,24 @@ request_of d = name_of d >>= λ name. Ok (Some name)
 
 -- null, a whole number of 64 bits or a text
 abbrev pub value_of : Data → Reads Value
-value_of null = Ok values.Null
-value_of (number n) = or_bad (as_i64 n) >>= λ whole. Ok (values.Int whole)
-value_of (string text) = Ok (values.Text text)
-value_of _ = bad
+value_of d = or_bad (value_in d)
 
-abbrev pub each_value : Items → Reads (List Value)
-each_value no_items = Ok []
-each_value (item d ds) = do
-  first ← value_of d
-  others ← each_value ds
-  Ok (first ∷ others)
-
+-- a list of such
 abbrev pub values_of : Data → Reads (List Value)
-values_of (array ds) = each_value ds
-values_of _ = bad
+values_of d = or_bad (list_in value_in d)
 
--- only the empty list of qualifiers
+-- a list of uses, whose texts in a name's place are names
 abbrev pub qualifiers_of : Data → Reads (List WrittenUse)
-qualifiers_of (array no_items) = Ok []
-qualifiers_of _ = bad
+qualifiers_of d = or_bad (list_in use_in d) >>= λ uses. if list_all has_names uses then Ok uses else bad
+
+-- a request, and a session if there is one
+abbrev pub begin_of : Items → Reads Command
+begin_of (item r no_items) = name_of r >>= λ request. Ok (Begin request None)
+begin_of (item r (item s no_items)) = do
+  request ← name_of r
+  session ← name_of s
+  Ok (Begin request (Some session))
+begin_of _ = bad
 
 unfoldable pub call_with : Data → Data → Data → Data → Data → Reads Command
 call_with r t q m a = do
@@ -70,26 +86,82 @@ call_with r t q m a = do
   args ← values_of a
   Ok (Call request bean_type qualifiers method args)
 
--- five more items: a request or null, a type, qualifiers, a method and its values
+-- a request or null, a type, qualifiers, a method and its values
 abbrev pub call_of : Items → Reads Command
 call_of (item r (item t (item q (item m (item a no_items))))) = call_with r t q m a
 call_of _ = bad
 
--- no more items
-abbrev pub shutdown_of : Items → Reads Command
-shutdown_of no_items = Ok Shutdown
-shutdown_of _ = bad
+unfoldable pub read_with : Data → Data → Data → Reads Command
+read_with r t q = do
+  request ← request_of r
+  bean_type ← name_of t
+  qualifiers ← qualifiers_of q
+  Ok (Read request bean_type qualifiers)
 
--- the command with this first item, before these others
+-- a request or null, a type and qualifiers
+abbrev pub read_of : Items → Reads Command
+read_of (item r (item t (item q no_items))) = read_with r t q
+read_of _ = bad
+
+unfoldable pub fire_with : Data → Data → Data → Data → Reads Command
+fire_with r c q v = do
+  request ← request_of r
+  class ← name_of c
+  qualifiers ← qualifiers_of q
+  value ← value_of v
+  Ok (Fire request class qualifiers value)
+
+-- a request or null, a class, qualifiers and a value
+abbrev pub fire_of : Items → Reads Command
+fire_of (item r (item c (item q (item v no_items)))) = fire_with r c q v
+fire_of _ = bad
+
+-- one name
+abbrev pub name_alone : Items → Reads (List ℕ)
+name_alone (item n no_items) = name_of n
+name_alone _ = bad
+
+-- no more items
+abbrev pub alone : Command → Items → Reads Command
+alone command no_items = Ok command
+alone command _ = bad
+
+-- the name of a request
+abbrev pub end_of : Items → Reads Command
+end_of ds = name_alone ds >>= λ request. Ok (End request)
+
+-- the name of a session
+abbrev pub invalidate_of : Items → Reads Command
+invalidate_of ds = name_alone ds >>= λ session. Ok (Invalidate session)
+
+-- the command with this word, and these items behind it
 unfoldable pub command_named : Data → Items → Reads Command
 command_named word ds =
-    if is_word word (codes "call") then call_of ds
-    else (if is_word word (codes "shutdown") then shutdown_of ds else bad)
+    if is_word word (codes "begin") then begin_of ds
+    else (if is_word word (codes "call") then call_of ds
+    else (if is_word word (codes "read") then read_of ds
+    else (if is_word word (codes "fire") then fire_of ds
+    else (if is_word word (codes "end") then end_of ds
+    else (if is_word word (codes "invalidate") then invalidate_of ds
+    else (if is_word word (codes "live") then alone Live ds
+    else (if is_word word (codes "shutdown") then alone Shutdown ds else bad)))))))
 
-abbrev pub command_of : Data → Reads Command
-command_of (array (item word ds)) = command_named word ds
-command_of _ = bad
+-- the command of the whole form that a value is
+abbrev pub whole_command_of : Data → Reads Command
+whole_command_of (array (item word ds)) = command_named word ds
+whole_command_of _ = bad
 
--- the command that the bytes of a line are
-unfoldable pub command_in : List ℕ → Reads Command
-command_in bytes = or_bad (json_in bytes) >>= command_of
+-- a command that isn't served is none
+abbrev pub if_served : Stage → Command → Reads Command
+if_served stage command = if is_served_at stage command then Ok command else bad
+
+abbrev pub command_of : Stage → Data → Reads Command
+command_of stage d = whole_command_of d >>= if_served stage
+
+-- the command that the bytes of a line are at a stage
+unfoldable pub command_at : Stage → List ℕ → Reads Command
+command_at stage bytes = or_bad (json_in bytes) >>= command_of stage
+
+-- the command that they are for what is served now
+abbrev pub command_in : List ℕ → Reads Command
+command_in bytes = command_at served bytes

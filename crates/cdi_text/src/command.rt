@@ -1,20 +1,41 @@
 //! Reading a command line.
 ghost use Rattle.std.specs.Prelude.{◌≡◌, false, Err, IfOk, IsTrue};
+ghost use Rattle.std.specs.List.{list_all};
 ghost use Rattle.std.specs.Str.{is_utf8};
 ghost use Rattle.cdi_base.specs.Reading.{Gives, IsFault};
+ghost use Rattle.cdi_base.specs.Uses.{has_names};
 ghost use Rattle.serde_json.specs.View.{view, items_view};
 ghost use Rattle.cdi_text.specs.Command as spec;
 
-use cdi_base::{Command, ReadError, Seq, Text, Value, WrittenUse, is_name};
-use cdi_json::{is_word, read_json};
+use cdi_base::{Command, ReadError, SERVED, Seq, Stage, Text, Value, WrittenUse, is_name};
+use cdi_json::{Form, is_word, list_of, read_json};
 use serde_json::Value as Json;
 use std::alloc::Global;
 use thiserror::Error;
 
-/// The line is not one JSON array in UTF-8 that has the form of a command, as [`read_command`] lists them.
+/// The line is not one JSON array in UTF-8 that has the form of a command, as [`read_command_at`] lists them.
 #[derive(Clone, Copy, Debug, PartialEq, Eq, Error)]
 #[error("BadLine")]
 pub struct BadLine;
+
+/// The stage since when a command is served. This is the whole table of what is served of commands.
+pub fn since(command: &Command) -> Stage
+    ensures { result ≡ spec.since command.now }
+{
+    match command {
+        Command::Call { qualifiers, .. } => match qualifiers.as_slice() {
+            [] => Stage::Counter,
+            [_, ..] => Stage::Injection,
+        },
+        Command::Shutdown => Stage::Counter,
+        Command::Begin { .. } => Stage::Requests,
+        Command::End { .. } => Stage::Requests,
+        Command::Invalidate { .. } => Stage::Requests,
+        Command::Live => Stage::Requests,
+        Command::Read { .. } => Stage::Producers,
+        Command::Fire { .. } => Stage::Events,
+    }
+}
 
 fn bad<T>() -> Result<T, ReadError<BadLine>>
     ensures { result ≡ Err (ReadError.Fault (record {})) }
@@ -48,44 +69,52 @@ fn request_of(alloc: Global, value: &Json) -> Result<Option<Text>, ReadError<Bad
 fn value_of(alloc: Global, value: &Json) -> Result<Value, ReadError<BadLine>>
     ensures { Gives (λ v. v) result (spec.value_of (view value.now)) }
 {
-    match value {
-        Json::Null => Ok(Value::Null),
-        Json::Number(number) => match number.as_i64() {
-            Some(whole) => Ok(Value::Int(whole)),
-            None => bad(),
-        },
-        Json::String(text) => Ok(Value::Text(Text::from_str(alloc, text.as_str())?)),
-        _ => bad(),
+    match Value::read(alloc, value)? {
+        Some(value) => Ok(value),
+        None => bad(),
     }
-}
-
-fn each_value(alloc: Global, items: &[Json]) -> Result<Seq<Value>, ReadError<BadLine>>
-    ensures { Gives (λ values. values) result (spec.each_value (items_view items.now)) }
-{
-    let mut values = Vec::new(alloc);
-    for item in items {
-        values.push(value_of(alloc, item)?)?;
-    }
-    Ok(Seq::new(values))
 }
 
 fn values_of(alloc: Global, value: &Json) -> Result<Seq<Value>, ReadError<BadLine>>
     ensures { Gives (λ values. values) result (spec.values_of (view value.now)) }
 {
-    match value {
-        Json::Array(items) => each_value(alloc, items.as_slice()),
-        _ => bad(),
+    match list_of::<Value>(alloc, value)? {
+        Some(values) => Ok(values),
+        None => bad(),
     }
+}
+
+fn are_named(uses: &[WrittenUse]) -> bool
+    ensures { result ≡ list_all has_names uses.now }
+{
+    uses.iter().all(WrittenUse::has_names)
 }
 
 fn qualifiers_of(alloc: Global, value: &Json) -> Result<Seq<WrittenUse>, ReadError<BadLine>>
     ensures { Gives (λ uses. uses) result (spec.qualifiers_of (view value.now)) }
 {
-    match value {
-        Json::Array(items) => match items.as_slice() {
-            [] => Ok(Seq::empty(alloc)),
-            [_, ..] => bad(),
-        },
+    let Some(uses) = list_of::<WrittenUse>(alloc, value)? else {
+        return bad();
+    };
+    if !are_named(uses.as_slice()) {
+        return bad();
+    }
+    Ok(uses)
+}
+
+fn begin_of(alloc: Global, items: &[Json]) -> Result<Command, ReadError<BadLine>>
+    ensures { Gives (λ c. c) result (spec.begin_of (items_view items.now)) }
+{
+    match items {
+        [request] => Ok(Command::Begin {
+            request: name_of(alloc, request)?,
+            session: None,
+        }),
+        [request, session] => {
+            let request = name_of(alloc, request)?;
+            let session = Some(name_of(alloc, session)?);
+            Ok(Command::Begin { request, session })
+        }
         _ => bad(),
     }
 }
@@ -125,31 +154,133 @@ fn call_of(alloc: Global, items: &[Json]) -> Result<Command, ReadError<BadLine>>
     call_with(alloc, request, bean_type, qualifiers, method, args)
 }
 
-fn shutdown_of(items: &[Json]) -> Result<Command, ReadError<BadLine>>
-    ensures { Gives (λ c. c) result (spec.shutdown_of (items_view items.now)) }
+#[tactic(auto, unfolding(crate::specs::Command::read_with))]
+fn read_with(
+    alloc: Global,
+    request: &Json,
+    bean_type: &Json,
+    qualifiers: &Json,
+) -> Result<Command, ReadError<BadLine>>
+    ensures { Gives (λ c. c) result
+        (spec.read_with (view request.now) (view bean_type.now) (view qualifiers.now)) }
+{
+    let request = request_of(alloc, request)?;
+    let bean_type = name_of(alloc, bean_type)?;
+    let qualifiers = qualifiers_of(alloc, qualifiers)?;
+    Ok(Command::Read {
+        request,
+        bean_type,
+        qualifiers,
+    })
+}
+
+fn read_of(alloc: Global, items: &[Json]) -> Result<Command, ReadError<BadLine>>
+    ensures { Gives (λ c. c) result (spec.read_of (items_view items.now)) }
+{
+    let [request, bean_type, qualifiers] = items else {
+        return bad();
+    };
+    read_with(alloc, request, bean_type, qualifiers)
+}
+
+#[tactic(auto, unfolding(crate::specs::Command::fire_with))]
+fn fire_with(
+    alloc: Global,
+    request: &Json,
+    class: &Json,
+    qualifiers: &Json,
+    value: &Json,
+) -> Result<Command, ReadError<BadLine>>
+    ensures { Gives (λ c. c) result (spec.fire_with (view request.now) (view class.now)
+        (view qualifiers.now) (view value.now)) }
+{
+    let request = request_of(alloc, request)?;
+    let class = name_of(alloc, class)?;
+    let qualifiers = qualifiers_of(alloc, qualifiers)?;
+    let value = value_of(alloc, value)?;
+    Ok(Command::Fire {
+        request,
+        class,
+        qualifiers,
+        value,
+    })
+}
+
+fn fire_of(alloc: Global, items: &[Json]) -> Result<Command, ReadError<BadLine>>
+    ensures { Gives (λ c. c) result (spec.fire_of (items_view items.now)) }
+{
+    let [request, class, qualifiers, value] = items else {
+        return bad();
+    };
+    fire_with(alloc, request, class, qualifiers, value)
+}
+
+fn name_alone(alloc: Global, items: &[Json]) -> Result<Text, ReadError<BadLine>>
+    ensures { Gives (λ name. name) result (spec.name_alone (items_view items.now)) }
+{
+    let [name] = items else {
+        return bad();
+    };
+    name_of(alloc, name)
+}
+
+fn alone(command: Command, items: &[Json]) -> Result<Command, ReadError<BadLine>>
+    ensures { Gives (λ c. c) result (spec.alone command (items_view items.now)) }
 {
     match items {
-        [] => Ok(Command::Shutdown),
+        [] => Ok(command),
         [_, ..] => bad(),
     }
 }
 
-/// The command with this first item, before these others.
+fn end_of(alloc: Global, items: &[Json]) -> Result<Command, ReadError<BadLine>>
+    ensures { Gives (λ c. c) result (spec.end_of (items_view items.now)) }
+{
+    let request = name_alone(alloc, items)?;
+    Ok(Command::End { request })
+}
+
+fn invalidate_of(alloc: Global, items: &[Json]) -> Result<Command, ReadError<BadLine>>
+    ensures { Gives (λ c. c) result (spec.invalidate_of (items_view items.now)) }
+{
+    let session = name_alone(alloc, items)?;
+    Ok(Command::Invalidate { session })
+}
+
+/// The command with this word, and these items behind it.
 #[tactic(auto, unfolding(crate::specs::Command::command_named))]
 fn command_named(alloc: Global, word: &Json, items: &[Json]) -> Result<Command, ReadError<BadLine>>
     ensures { Gives (λ c. c) result (spec.command_named (view word.now) (items_view items.now)) }
 {
+    if is_word(word, "begin") {
+        return begin_of(alloc, items);
+    }
     if is_word(word, "call") {
         return call_of(alloc, items);
     }
+    if is_word(word, "read") {
+        return read_of(alloc, items);
+    }
+    if is_word(word, "fire") {
+        return fire_of(alloc, items);
+    }
+    if is_word(word, "end") {
+        return end_of(alloc, items);
+    }
+    if is_word(word, "invalidate") {
+        return invalidate_of(alloc, items);
+    }
+    if is_word(word, "live") {
+        return alone(Command::Live, items);
+    }
     if is_word(word, "shutdown") {
-        return shutdown_of(items);
+        return alone(Command::Shutdown, items);
     }
     bad()
 }
 
-fn command_of(alloc: Global, value: &Json) -> Result<Command, ReadError<BadLine>>
-    ensures { Gives (λ c. c) result (spec.command_of (view value.now)) }
+fn whole_command_of(alloc: Global, value: &Json) -> Result<Command, ReadError<BadLine>>
+    ensures { Gives (λ c. c) result (spec.whole_command_of (view value.now)) }
 {
     let Json::Array(items) = value else {
         return bad();
@@ -160,23 +291,55 @@ fn command_of(alloc: Global, value: &Json) -> Result<Command, ReadError<BadLine>
     }
 }
 
-/// Reads the command that a line is. The line is one JSON array with JSON white space round it, if any:
+fn command_of(alloc: Global, stage: Stage, value: &Json) -> Result<Command, ReadError<BadLine>>
+    ensures gives { Gives (λ c. c) result (spec.command_of stage (view value.now)) }
+    ensures served { IfOk result (λ c. IsTrue (spec.is_served_at stage c)) }
+{
+    let command = whole_command_of(alloc, value)?;
+    if !stage.includes(since(&command)) {
+        return bad();
+    }
+    Ok(command)
+}
+
+/// Reads the command that a line is, of those that are served at a stage ([`since`]). The line is one JSON array with
+/// JSON white space round it, if any:
 ///
-/// - `["call",R,type,[],method,args]` calls a method. R is null or the name of a request. The type and the method are
-///   names too (see [`is_name`]). The qualifiers can only be none. Each of the args is null, a number that is an `i64`,
-///   or a text.
+/// - `["begin",R]` and `["begin",R,S]` begin a request, in a session if one is named.
+/// - `["call",R,type,quals,method,args]` calls a method of the bean that a type and qualifiers resolve to.
+/// - `["read",R,type,quals]` reads the product that they resolve to.
+/// - `["fire",R,class,quals,value]` fires an event.
+/// - `["end",R]` ends a request, `["invalidate",S]` a session.
+/// - `["live"]` asks for the live instances.
 /// - `["shutdown"]` shuts the container down.
+///
+/// Each R, S, type, class and method is a name (see [`is_name`]); R may be null where a type or class follows. The
+/// qualifiers are uses, whose texts in a name's place are names, and each of the args and a value is null, a number that
+/// is an `i64`, or a text.
 ///
 /// Every other line is a [`BadLine`]. An error is [`ReadError::Memory`] where a growth was refused, which can be only
 /// where the line is UTF-8.
-#[tactic(auto, unfolding(crate::specs::Command::command_in))]
-pub fn read_command(alloc: Global, line: &[u8]) -> Result<Command, ReadError<BadLine>>
-    ensures gives { Gives (λ c. c) result (spec.command_in line.now) }
-    ensures served { IfOk result (λ c. IsTrue (spec.is_served c)) }
+#[tactic(auto, unfolding(crate::specs::Command::command_at))]
+pub fn read_command_at(
+    alloc: Global,
+    stage: Stage,
+    line: &[u8],
+) -> Result<Command, ReadError<BadLine>>
+    ensures gives { Gives (λ c. c) result (spec.command_at stage line.now) }
+    ensures served { IfOk result (λ c. IsTrue (spec.is_served_at stage c)) }
     ensures no_text { is_utf8 line.now ≡ false → IsFault result (record {}) }
 {
     let Some(value) = read_json(alloc, line)? else {
         return bad();
     };
-    command_of(alloc, &value)
+    command_of(alloc, stage, &value)
+}
+
+/// Reads the command that a line is, of those that are served now: [`read_command_at`] at [`SERVED`].
+pub fn read_command(alloc: Global, line: &[u8]) -> Result<Command, ReadError<BadLine>>
+    ensures gives { Gives (λ c. c) result (spec.command_in line.now) }
+    ensures served { IfOk result (λ c. IsTrue (spec.is_served c)) }
+    ensures no_text { is_utf8 line.now ≡ false → IsFault result (record {}) }
+{
+    read_command_at(alloc, SERVED, line)
 }

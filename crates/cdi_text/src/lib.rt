@@ -5,5 +5,5 @@ pub mod command;
 pub mod places;
 pub mod reply_text;
 
-pub use command::{BadLine, read_command};
+pub use command::{BadLine, read_command, read_command_at};
 pub use reply_text::write_reply;
