@@ -15,3 +15,5 @@ mod reply;
 mod serving;
 #[cfg(test)]
 mod test_ends;
+#[cfg(test)]
+mod whole_commands;
