@@ -1,4 +1,4 @@
-//! What the readers of JSON share: the value that bytes are, and whether a value is a word.
+//! What the readers of JSON share: the value that bytes are, whether a value is a word, and names, values and uses.
 #![tactic(auto)]
 
 ghost use Rattle.std.specs.Prelude.{◌≡◌, false, IfOk, option_map};
@@ -6,6 +6,9 @@ ghost use Rattle.std.specs.Str.{is_utf8};
 ghost use Rattle.serde_json.specs.View.{view};
 ghost use Rattle.cdi_json.specs.Json as spec;
 
+pub mod forms;
+
+pub use forms::{Form, each, is_use, is_value, list_of};
 use serde_json::Value as Json;
 use std::alloc::{AllocError, Global};
 
