@@ -1,0 +1,4 @@
+pub mod Finds
+pub mod Forms
+pub mod Items
+pub mod NamePlaces

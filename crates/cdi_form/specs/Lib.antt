@@ -1,0 +1,9 @@
+pub mod Table
+pub mod Form
+pub mod Words
+pub mod Keys
+pub mod Names
+pub mod Numbers
+pub mod Shape
+pub mod HasForm
+pub mod NamePlaces
