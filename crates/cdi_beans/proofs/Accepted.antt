@@ -12,12 +12,12 @@ use Rattle.cdi_deploy.specs.declared.deployment.Class.{Class}
 use Rattle.cdi_deploy.specs.declared.deployment.Deployment.{Deployment}
 use Rattle.cdi_deploy.specs.declared.deployment.Member.{Member}
 use Rattle.cdi_deploy.specs.declared.deployment.Member.TheVariants as members
+use Rattle.cdi_beans.specs.declared.bean.ServedScope.{ServedScope}
 use Rattle.cdi_beans.specs.declared.problem.Problem.{Problem}
 use Rattle.cdi_beans.specs.declared.problem.ProblemKind.TheVariants as kinds
-use Rattle.cdi_beans.specs.Accepted.{KeepsMethods, KeepsAll, Fits}
-use Rattle.cdi_beans.specs.Build.{method_before, methods_of, bean_before, beans_in}
-use Rattle.cdi_beans.specs.Check.{bean_count, too_many, or_else, problems_of}
-use Rattle.cdi_beans.specs.Duplicates.{member_name}
+use Rattle.cdi_beans.specs.Accepted.{method_names, KeepsMethods, KeepsAll, Fits}
+use Rattle.cdi_beans.specs.Build.{method_before, methods_of, served_scope, scope_of, bean_before, beans_in}
+use Rattle.cdi_beans.specs.Check.{is_bean, bean_count, too_many, or_else, problems_of}
 use Rattle.cdi_beans.specs.WrongBodies.{shape_of, is_wrong, problem_at, has_wrong_body, wrong_members, wrong_in, wrong_of_kind, wrong_bodies}
 
 pub neither : (ps others : List Problem) → or_else ps others ≡ [] → others ≡ []
@@ -37,21 +37,22 @@ empty_second [] ys e = e
 empty_second (x ∷ xs) ys e = absurd cc
 
 module _ (shape : ℕ → Option Shape) (registered : ℕ → Option ℕ) (known : (name : ℕ) → IsTrue (is_some (shape name)) → IsTrue (is_some (registered name))) where
-  kept : (class : Class) (ms : List Member) → wrong_members shape kinds.UnknownBody class ms ≡ [] → map (λ m. m.name) (methods_of registered class.name ms) ≡ map member_name ms
+  kept : (class : Class) (ms : List Member) → wrong_members shape kinds.UnknownBody class ms ≡ [] → map (λ m. m.name) (methods_of registered class.name ms) ≡ method_names ms
   kept class [] e = refl
   kept class (members.Method m ∷ ms) e = by (kept class ms) (shape m.body) (known m.body) e
     where
-      with_body : map (λ m. m.name) (methods_of registered class.name ms) ≡ map member_name ms → (body : Option ℕ) → IsTrue (is_some body)
-          → map (λ m. m.name) (method_before class.name m body (methods_of registered class.name ms)) ≡ m.name ∷ map member_name ms
+      with_body : map (λ m. m.name) (methods_of registered class.name ms) ≡ method_names ms → (body : Option ℕ) → IsTrue (is_some body)
+          → map (λ m. m.name) (method_before class.name m body (methods_of registered class.name ms)) ≡ m.name ∷ method_names ms
       with_body tail None h = absurd cc
       with_body tail (Some body) h = ap (λ names. m.name ∷ names) tail
 
-      by : (wrong_members shape kinds.UnknownBody class ms ≡ [] → map (λ m. m.name) (methods_of registered class.name ms) ≡ map member_name ms)
+      by : (wrong_members shape kinds.UnknownBody class ms ≡ [] → map (λ m. m.name) (methods_of registered class.name ms) ≡ method_names ms)
           → (s : Option Shape) → (IsTrue (is_some s) → IsTrue (is_some (registered m.body)))
           → map (problem_at kinds.UnknownBody class) (cond (is_wrong kinds.UnknownBody class s) (members.Method m ∷ filter (has_wrong_body shape kinds.UnknownBody class) ms) (filter (has_wrong_body shape kinds.UnknownBody class) ms)) ≡ []
-          → map (λ m. m.name) (method_before class.name m (registered m.body) (methods_of registered class.name ms)) ≡ m.name ∷ map member_name ms
+          → map (λ m. m.name) (method_before class.name m (registered m.body) (methods_of registered class.name ms)) ≡ m.name ∷ method_names ms
       by tail None there h = absurd cc
       by tail (Some s) there h = with_body (tail h) (registered m.body) (there refl)
+  kept class (_ ∷ ms) e = kept class ms e
 
   kept_in : (class : Class) → wrong_in shape kinds.UnknownBody class ≡ [] → IsTrue (is_some class.bean) → KeepsMethods registered class
   kept_in class e = by class.bean e
@@ -72,13 +73,20 @@ known_of entries name = by (place_of entries name)
     by None h = h
     by (Some place) h = refl
 
-counted : (registered : ℕ → Option ℕ) (classes : List Class) → length (beans_in registered classes) ≡ bean_count classes
-counted registered [] = refl
-counted registered (class ∷ classes) = by (counted registered classes) class.bean ∙ sym (sum_by-cons (λ (c : Class). cond (is_some c.bean) 1 0) class classes)
+counted : (registered : ℕ → Option ℕ) (classes : List Class) → length (beans_in registered classes) ≤ bean_count classes
+counted registered [] = omega arith
+counted registered (class ∷ classes) =
+    omega (arith, by (counted registered classes) class.bean, sum_by-cons (λ (c : Class). cond (is_bean c) 1 0) class classes)
   where
-    by : length (beans_in registered classes) ≡ bean_count classes → (bean : Option Declared) → length (bean_before registered class bean (beans_in registered classes)) ≡ cond (is_some bean) 1 0 + bean_count classes
+    scoped : length (beans_in registered classes) ≤ bean_count classes → (scope : Option ServedScope)
+        → length (bean_before registered class scope (beans_in registered classes)) ≤ 1 + bean_count classes
+    scoped e None = omega arith
+    scoped e (Some scope) = omega arith
+
+    by : length (beans_in registered classes) ≤ bean_count classes → (bean : Option Declared)
+        → length (bean_before registered class (option_and_then (λ (b : Declared). served_scope b.scope) bean) (beans_in registered classes)) ≤ cond (is_some bean) 1 0 + bean_count classes
     by e None = omega arith
-    by e (Some bean) = omega arith
+    by e (Some bean) = scoped e (served_scope bean.scope)
 
 few_of : (classes : List Class) (registered : ℕ → Option ℕ) → too_many classes ≡ [] → length (beans_in registered classes) ≤ 4096
 few_of classes registered e = by (nat_lt 4096 (bean_count classes)) refl e

@@ -1,15 +1,15 @@
 -- The body of each method of the tables is registered.
-use Rattle.std.proofs.Common.{◌≡◌, ℕ, ◌<◌, Bool, true, false, cond, List, [], ◌∷◌, length, Option, Some, None, refl, arith}
+use Rattle.std.proofs.Common.{◌≡◌, ℕ, ◌<◌, Bool, true, false, cond, List, [], ◌∷◌, ◌++◌, length, Option, Some, None, refl, arith}
 use Rattle.std.specs.Bool.{nat_lt}
 use borrow.Author.Tests.{ltb-true}
 use Rattle.cdi_bodies.specs.declared.entry.Entry.{Entry}
 use Rattle.cdi_bodies.specs.Gives.{place_of}
 use Rattle.cdi_deploy.specs.declared.deployment.Class.{Class}
-use Rattle.cdi_deploy.specs.declared.deployment.Bean.{Bean as Declared}
 use Rattle.cdi_deploy.specs.declared.deployment.Member.{Member}
 use Rattle.cdi_deploy.specs.declared.deployment.Member.TheVariants as members
+use Rattle.cdi_beans.specs.declared.bean.ServedScope.{ServedScope}
 use Rattle.cdi_beans.specs.Beans.{KnowsMethods, KnowsEach}
-use Rattle.cdi_beans.specs.Build.{method_before, methods_of, bean_before, beans_in, beans_of}
+use Rattle.cdi_beans.specs.Build.{method_before, methods_of, scope_of, bean_before, beans_in, beans_of}
 
 module _ (IsBody : ℕ → Type 0) (registered : ℕ → Option ℕ) (is_body : (name : ℕ) (body : ℕ) → registered name ≡ Some body → IsBody body) where
   known_methods : (class : ℕ) (ms : List Member) → KnowsMethods IsBody (methods_of registered class ms)
@@ -19,14 +19,24 @@ module _ (IsBody : ℕ → Type 0) (registered : ℕ → Option ℕ) (is_body : 
       by : KnowsMethods IsBody (methods_of registered class ms) → (body : Option ℕ) → registered m.body ≡ body → KnowsMethods IsBody (method_before class m body (methods_of registered class ms))
       by known None e = known
       by known (Some body) e = (is_body m.body body e, known)
+  known_methods class (_ ∷ ms) = known_methods class ms
 
   known_in : (classes : List Class) → KnowsEach IsBody (beans_in registered classes)
   known_in [] = tt
-  known_in (class ∷ classes) = by (known_in classes) class.bean
+  known_in (class ∷ classes) = by (known_in classes) (scope_of class)
     where
-      by : KnowsEach IsBody (beans_in registered classes) → (bean : Option Declared) → KnowsEach IsBody (bean_before registered class bean (beans_in registered classes))
+      by : KnowsEach IsBody (beans_in registered classes) → (scope : Option ServedScope) → KnowsEach IsBody (bean_before registered class scope (beans_in registered classes))
       by known None = known
-      by known (Some bean) = (known_methods class.name class.members, known)
+      by known (Some scope) = (known_methods class.name class.members, known)
+
+-- the bean of a class stands before those of the others
+pub bean_first : (registered : ℕ → Option ℕ) (class : Class) (classes : List Class)
+    → beans_in registered (class ∷ classes) ≡ bean_before registered class (scope_of class) [] ++ beans_in registered classes
+bean_first registered class classes = by (scope_of class)
+  where
+    by : (scope : Option ServedScope) → bean_before registered class scope (beans_in registered classes) ≡ bean_before registered class scope [] ++ beans_in registered classes
+    by None = refl
+    by (Some scope) = refl
 
 within : (place count body : ℕ) → cond (nat_lt place count) (Some place) None ≡ Some body → body < count
 within place count body e = by (nat_lt place count) refl e

@@ -1,4 +1,5 @@
 pub mod Eligible
+pub mod Loops
 pub mod Built
 pub mod Checked
 pub mod Accepted

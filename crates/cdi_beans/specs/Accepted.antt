@@ -4,12 +4,19 @@ use Rattle.cdi_bodies.specs.declared.entry.Entry.{Entry}
 use Rattle.cdi_bodies.specs.Gives.{place_of}
 use Rattle.cdi_deploy.specs.declared.deployment.Class.{Class}
 use Rattle.cdi_deploy.specs.declared.deployment.Deployment.{Deployment}
+use Rattle.cdi_deploy.specs.declared.deployment.Member.{Member}
+use Rattle.cdi_deploy.specs.declared.deployment.Member.TheVariants as members
 use Rattle.cdi_beans.specs.Build.{methods_of, beans_of}
-use Rattle.cdi_beans.specs.Duplicates.{member_name}
+
+-- the names of the methods among members
+abbrev pub method_names : List Member → List ℕ
+method_names [] = []
+method_names (members.Method m ∷ ms) = m.name ∷ method_names ms
+method_names (_ ∷ ms) = method_names ms
 
 -- the methods of a class, as the machine knows them, are those that it declares
 abbrev pub KeepsMethods : (ℕ → Option ℕ) → Class → Type 0
-KeepsMethods registered class = map (λ m. m.name) (methods_of registered class.name class.members) ≡ map member_name class.members
+KeepsMethods registered class = map (λ m. m.name) (methods_of registered class.name class.members) ≡ method_names class.members
 
 -- no bean loses a method
 abbrev pub KeepsAll : (ℕ → Option ℕ) → List Class → Type 0

@@ -1,5 +1,5 @@
 -- The problems of a deployment.
-use Rattle.std.specs.Prelude.{ℕ, List, [], ◌∷◌, map, nat_lt, count_by, Option, Some, None, is_some, if◌then◌else◌}
+use Rattle.std.specs.Prelude.{ℕ, Bool, List, [], ◌∷◌, map, nat_lt, count_by, Option, Some, None, is_some, if◌then◌else◌}
 use Rattle.cdi_base.specs.declared.place.Place.{Place}
 use Rattle.cdi_bodies.specs.declared.entry.Entry.{Entry}
 use Rattle.cdi_bodies.specs.declared.shape.Shape.{Shape}
@@ -15,9 +15,12 @@ use Rattle.cdi_beans.specs.WrongBodies.{shape_of, wrong_with}
 abbrev pub problems_at : ProblemKind → List Place → List Problem
 problems_at kind ps = map (λ place. record { kind = kind; place = Some place }) ps
 
+abbrev pub is_bean : Class → Bool
+is_bean class = is_some class.bean
+
 -- how many classes are beans
 abbrev pub bean_count : List Class → ℕ
-bean_count classes = count_by (λ class. is_some class.bean) classes
+bean_count classes = count_by is_bean classes
 
 -- more beans than the tables hold
 abbrev pub too_many : List Class → List Problem

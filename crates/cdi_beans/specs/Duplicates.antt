@@ -22,6 +22,13 @@ repeated before (name ∷ names) = if stands_in before name then name ∷ repeat
 
 abbrev pub member_name : Member → ℕ
 member_name (members.Method m) = m.name
+member_name (members.Initializer i) = i.name
+member_name (members.PostConstruct c) = c.name
+member_name (members.PreDestroy c) = c.name
+member_name (members.Producer p) = p.name
+member_name (members.ProducerField p) = p.name
+member_name (members.Disposer d) = d.name
+member_name (members.Observer o) = o.name
 
 abbrev pub field_names : List Field → List ℕ
 field_names fields = map (λ f. f.name) fields

@@ -6,20 +6,20 @@ use Rattle.cdi_base.specs.BuiltIn.{number_of}
 use Rattle.cdi_base.specs.declared.place.Place.TheVariants as places
 use Rattle.cdi_base.specs.declared.scope.Scope.{Scope}
 use Rattle.cdi_base.specs.declared.scope.Scope.TheVariants as scopes
-use Rattle.cdi_deploy.specs.declared.deployment.Scope.{Scope as DeclaredScope}
-use Rattle.cdi_deploy.specs.declared.deployment.Scope.TheVariants as declared
 use Rattle.cdi_machine.specs.Words.{Name}
 use Rattle.cdi_machine.specs.Tables as machine
 use Rattle.cdi_beans.specs.declared.bean.Bean.{Bean}
 use Rattle.cdi_beans.specs.declared.bean.Method.{Method}
+use Rattle.cdi_beans.specs.declared.bean.ServedScope.{ServedScope}
+use Rattle.cdi_beans.specs.declared.bean.ServedScope.TheVariants as served
 use Rattle.cdi_beans.specs.declared.bean.Resolution.{Resolution}
 use Rattle.cdi_beans.specs.declared.bean.Resolution.TheVariants.{One, Nothing, Many}
 use Rattle.cdi_beans.specs.declared.tables.Tables.{Tables}
 use Rattle.cdi_beans.specs.Beans.{bean_of, first_fields, resolve}
 
-abbrev pub machine_scope : DeclaredScope → Scope
-machine_scope declared.ApplicationScoped = scopes.ApplicationScoped
-machine_scope declared.Dependent = scopes.Dependent
+abbrev pub machine_scope : ServedScope → Scope
+machine_scope served.ApplicationScoped = scopes.ApplicationScoped
+machine_scope served.Dependent = scopes.Dependent
 
 -- no interceptor stands round a method
 abbrev pub machine_method : Method → machine.Method

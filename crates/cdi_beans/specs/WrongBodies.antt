@@ -14,6 +14,7 @@ use Rattle.cdi_deploy.specs.declared.deployment.Member.TheVariants as members
 use Rattle.cdi_beans.specs.declared.problem.Problem.{Problem}
 use Rattle.cdi_beans.specs.declared.problem.ProblemKind.{ProblemKind}
 use Rattle.cdi_beans.specs.declared.problem.ProblemKind.TheVariants as kinds
+use Rattle.cdi_beans.specs.Duplicates.{member_name}
 
 -- the shape of the body of a name, if one is registered under it
 abbrev pub shape_of : {X : Type 0} {F : X → Type 0} {g : _} → List (Entry X F g) → ℕ → Option Shape
@@ -25,6 +26,7 @@ has_field fields name = list_any (λ f. f.name == name) fields
 -- a method with the name and the number of values of a call
 abbrev pub is_called : OwnCall → Member → Bool
 is_called own (members.Method m) = (m.name == own.method) && (m.args == own.count)
+is_called own _ = false
 
 abbrev pub has_method : List Member → OwnCall → Bool
 has_method ms own = list_any (is_called own) ms
@@ -57,14 +59,16 @@ is_wrong kinds.ProceedNotAllowed class (Some shape) = shape.chain
 is_wrong _ class _ = false
 
 abbrev pub member_place : Class → Member → Place
-member_place class (members.Method m) = places.Member class.name m.name
+member_place class member = places.Member class.name (member_name member)
 
 -- a problem at a member of a class
 abbrev pub problem_at : ProblemKind → Class → Member → Problem
 problem_at kind class member = record { kind = kind; place = Some (member_place class member) }
 
+-- a member's body is wrong in this way; only methods are served
 abbrev pub has_wrong_body : (ℕ → Option Shape) → ProblemKind → Class → Member → Bool
 has_wrong_body shape_of kind class (members.Method m) = is_wrong kind class (shape_of m.body)
+has_wrong_body shape_of kind class _ = false
 
 -- the members with a wrong body, in their order
 abbrev pub wrong_members : (ℕ → Option Shape) → ProblemKind → Class → List Member → List Problem

@@ -1,10 +1,11 @@
 //! The beans of a deployment, as the machine reads them.
 ghost use Rattle.std.specs.Prelude.{◌≡◌, option_map, Some, OnOk, IfOk};
 ghost use Rattle.cdi_beans.specs.Beans as spec;
+ghost use Rattle.cdi_beans.specs.Build.{served_scope};
 
-use cdi_base::{BuiltIn, Fields, Name, Place, Seq};
+use cdi_base::{BuiltIn, Fields, Name, Place, Scope, Seq};
 use cdi_bodies::BodyId;
-use cdi_deploy::deployment::{Field, Scope};
+use cdi_deploy::deployment::Field;
 use std::alloc::{AllocError, Global};
 
 /// A business method of a bean.
@@ -25,12 +26,34 @@ pub enum Code {
     Method { bean: u32, method: Name },
 }
 
+/// The scope of a bean, of those that are served (Jakarta CDI 4.0, *Built-in scope types*).
+#[derive(Clone, Copy, Debug, PartialEq, Eq)]
+pub enum ServedScope {
+    /// One contextual instance for the whole application.
+    ApplicationScoped,
+    /// A new instance for each injection point.
+    Dependent,
+}
+
+impl ServedScope {
+    /// The scope, if it is served.
+    pub(crate) fn of(scope: Scope) -> Option<ServedScope>
+        ensures { result ≡ served_scope scope }
+    {
+        match scope {
+            Scope::ApplicationScoped => Some(ServedScope::ApplicationScoped),
+            Scope::Dependent => Some(ServedScope::Dependent),
+            Scope::SessionScoped | Scope::RequestScoped => None,
+        }
+    }
+}
+
 /// A managed bean (Jakarta CDI 4.0, *Managed beans*), whose only bean types are its class and `Object`, and whose
 /// only qualifiers are `Default` and `Any`.
 #[derive(Drop)]
 pub struct Bean {
     pub class: Name,
-    pub scope: Scope,
+    pub scope: ServedScope,
     /// The fields of a new instance.
     pub fields: Seq<Field>,
     pub methods: Seq<Method>,

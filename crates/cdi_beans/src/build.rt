@@ -5,7 +5,7 @@ ghost use Rattle.cdi_bodies.specs.Table.{entries_of};
 ghost use Rattle.cdi_beans.specs.Beans.{KnowsEach};
 ghost use Rattle.cdi_beans.specs.Build as spec;
 
-use crate::bean::{Bean, Method};
+use crate::bean::{Bean, Method, ServedScope};
 use crate::tables::Tables;
 use cdi_base::{Name, Place, Seq};
 use cdi_bodies::Bodies;
@@ -36,23 +36,32 @@ fn methods_of(
 {
     let mut methods = Seq::empty(alloc);
     for member in members {
-        match member {
-            Member::Method(method) => {
-                if let Some(body) = bodies.find(method.body) {
-                    methods.push(Method {
-                        name: method.name,
-                        place: Place::Member {
-                            class,
-                            member: method.name,
-                        },
-                        count: method.args,
-                        body,
-                    })?;
-                }
-            }
+        let Member::Method(method) = member else {
+            continue;
+        };
+        if let Some(body) = bodies.find(method.body) {
+            methods.push(Method {
+                name: method.name,
+                place: Place::Member {
+                    class,
+                    member: method.name,
+                },
+                count: method.args,
+                body,
+            })?;
         }
     }
     Ok(methods)
+}
+
+/// The scope of a class that is a bean, if it is served.
+fn scope_of(class: &Class) -> Option<ServedScope>
+    ensures { result ≡ spec.scope_of class.now }
+{
+    match &class.bean {
+        Some(bean) => ServedScope::of(bean.scope),
+        None => None,
+    }
 }
 
 fn beans_of(alloc: Global, classes: &[Class], bodies: &Bodies) -> Result<Seq<Bean>, AllocError>
@@ -60,10 +69,10 @@ fn beans_of(alloc: Global, classes: &[Class], bodies: &Bodies) -> Result<Seq<Bea
 {
     let mut beans = Seq::empty(alloc);
     for class in classes {
-        if let Some(bean) = class.bean {
+        if let Some(scope) = scope_of(class) {
             beans.push(Bean {
                 class: class.name,
-                scope: bean.scope,
+                scope,
                 fields: copy_of(alloc, class.fields.as_slice())?,
                 methods: methods_of(alloc, class.name, class.members.as_slice(), bodies)?,
             })?;

@@ -31,10 +31,22 @@ fn problems_at(
     Ok(problems)
 }
 
+fn is_bean(class: &Class) -> bool
+    ensures { result ≡ spec.is_bean class.now }
+{
+    class.bean.is_some()
+}
+
 fn bean_count(classes: &[Class]) -> usize
     ensures { result ≡ spec.bean_count classes.now }
 {
-    classes.iter().filter(|class| class.bean.is_some()).count()
+    let mut count = 0;
+    for class in classes {
+        if is_bean(class) {
+            count += 1;
+        }
+    }
+    count
 }
 
 fn too_many(alloc: Global, classes: &[Class]) -> Result<Seq<Problem>, AllocError>

@@ -3,6 +3,7 @@ ghost use Rattle.std.specs.Prelude.{◌≡◌, ◌++◌, IfOk, OnOk, option_map}
 ghost use Rattle.cdi_bodies.specs.Table.{entries_of};
 ghost use Rattle.cdi_beans.specs.WrongBodies as spec;
 
+use crate::check::duplicates::member_name;
 use crate::problem::{Problem, ProblemKind};
 use cdi_base::{Name, Place, Seq};
 use cdi_bodies::{Bodies, OwnCall, Shape};
@@ -36,6 +37,7 @@ fn is_called(own: &OwnCall, member: &Member) -> bool
 {
     match member {
         Member::Method(method) => method.name == own.method && method.args as usize == own.count,
+        _ => false,
     }
 }
 
@@ -115,17 +117,16 @@ fn has_wrong_body(bodies: &Bodies, kind: ProblemKind, class: &Class, member: &Me
 {
     match member {
         Member::Method(method) => is_wrong(kind, class, shape_of(bodies, method.body)),
+        _ => false,
     }
 }
 
 fn place_of(class: &Class, member: &Member) -> Place
     ensures { result ≡ spec.member_place class.now member.now }
 {
-    match member {
-        Member::Method(method) => Place::Member {
-            class: class.name,
-            member: method.name,
-        },
+    Place::Member {
+        class: class.name,
+        member: member_name(member),
     }
 }
 

@@ -34,11 +34,18 @@ fn repeated(alloc: Global, names: &[Name]) -> Result<Seq<Name>, AllocError>
     Ok(found)
 }
 
-fn member_name(member: &Member) -> Name
+pub(super) fn member_name(member: &Member) -> Name
     ensures { result ≡ spec.member_name member.now }
 {
     match member {
         Member::Method(method) => method.name,
+        Member::Initializer(initializer) => initializer.name,
+        Member::PostConstruct(callback) => callback.name,
+        Member::PreDestroy(callback) => callback.name,
+        Member::Producer(producer) => producer.name,
+        Member::ProducerField(producer) => producer.name,
+        Member::Disposer(disposer) => disposer.name,
+        Member::Observer(observer) => observer.name,
     }
 }
 
