@@ -33,8 +33,8 @@ use Rattle.cdi_contexts.specs.declared.context.Held.TheVariants.{Is, Making}
 use Rattle.cdi_contexts.specs.declared.context.Status.{Status}
 use Rattle.cdi_contexts.specs.declared.context.Status.TheVariants.{Open, Ending}
 use Rattle.cdi_contexts.specs.Contexts.{Active, entry_in}
-use Rattle.cdi_deploy.specs.declared.deployment.Scope.{Scope as DeclaredScope}
-use Rattle.cdi_deploy.specs.declared.deployment.Scope.TheVariants as declared_scopes
+use Rattle.cdi_beans.specs.declared.bean.ServedScope.{ServedScope as DeclaredScope}
+use Rattle.cdi_beans.specs.declared.bean.ServedScope.TheVariants as declared_scopes
 use Rattle.cdi_beans.specs.declared.bean.Resolution.TheVariants as resolutions
 use Rattle.cdi_machine.specs.Programs.{ActiveContext, active_or_raise, active_in, context}
 use Rattle.cdi_machine.specs.Contexts.{obtain, find_or_create, is_normal, refer_to, reach_instance, direct_reference, stays}

@@ -18,17 +18,17 @@ pub(crate) mod obtaining;
 use crate::host::Host;
 use crate::task::{Call, Completion, Given, Next, Outcome, Task};
 use cdi_base::{BuiltIn, Cause, Entry, Scope, Value};
-use cdi_deploy::deployment;
+use cdi_beans::bean::ServedScope;
 use cdi_machine::Failure;
 use std::alloc::AllocError;
 
 /// The scope as contexts know it.
-fn scope_of(scope: deployment::Scope) -> Scope
+fn scope_of(scope: ServedScope) -> Scope
     ensures { result ≡ machine_scope scope }
 {
     match scope {
-        deployment::Scope::ApplicationScoped => Scope::ApplicationScoped,
-        deployment::Scope::Dependent => Scope::Dependent,
+        ServedScope::ApplicationScoped => Scope::ApplicationScoped,
+        ServedScope::Dependent => Scope::Dependent,
     }
 }
 

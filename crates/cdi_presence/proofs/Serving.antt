@@ -16,6 +16,7 @@ use Rattle.cdi_bodies.specs.declared.view.View.{View}
 use Rattle.cdi_bodies.specs.Gives.{Promises, gives, place_of, shape_at, LieInShape}
 use Rattle.cdi_bodies.specs.Shape.{in_shape, is_thrown, last_answer}
 use Rattle.cdi_deploy.specs.declared.deployment.Bean.{Bean as Declared}
+use Rattle.cdi_beans.specs.declared.bean.ServedScope.{ServedScope}
 use Rattle.cdi_deploy.specs.declared.deployment.Class.{Class}
 use Rattle.cdi_deploy.specs.declared.deployment.Deployment.{Deployment}
 use Rattle.cdi_deploy.specs.declared.deployment.Field.{Field}
@@ -28,7 +29,7 @@ use Rattle.cdi_beans.specs.declared.problem.Problem.{Problem}
 use Rattle.cdi_beans.specs.declared.problem.ProblemKind.TheVariants as kinds
 use Rattle.cdi_beans.specs.declared.tables.Tables.{Tables}
 use Rattle.cdi_beans.specs.Beans.{find_method, all_put, first_fields, KnowsMethods}
-use Rattle.cdi_beans.specs.Build.{method_before, methods_of, bean_before, beans_in, beans_of}
+use Rattle.cdi_beans.specs.Build.{method_before, methods_of, served_scope, bean_before, beans_in, beans_of}
 use Rattle.cdi_beans.specs.Check.{problems_at, too_many, or_else, problems_of}
 use Rattle.cdi_beans.specs.Duplicates.{member_name, field_names, names_in, repeated, stands_in, duplicates}
 use Rattle.cdi_beans.specs.WrongBodies.{has_field, has_method, lacks_field, lacks_method, names_others, is_any, is_outside, is_wrong, problem_at, has_wrong_body, wrong_members, wrong_in, wrong_of_kind, wrong_bodies}
@@ -111,6 +112,11 @@ is_named (members.Method m ∷ ms) own h = by (nat_eq m.name own.method) (nat_eq
     by : (same count : Bool) → (has_method ms own ≡ true → stands_in (map member_name ms) own.method ≡ true) → ((same && count) || has_method ms own) ≡ true → (same || stands_in (map member_name ms) own.method) ≡ true
     by true count tail q = refl
     by false count tail q = tail q
+is_named (x ∷ ms) own h = later (nat_eq (member_name x) own.method) (is_named ms own h)
+  where
+    later : (same : Bool) → stands_in (map member_name ms) own.method ≡ true → (same || stands_in (map member_name ms) own.method) ≡ true
+    later true there = refl
+    later false there = there
 
 -- what is known of all methods is known of one that is found
 known_in : (IsBody : ℕ → Type 0) (ms : List Method) (name : ℕ) {m : Method} → KnowsMethods IsBody ms → find_method ms name ≡ Some m → IsBody m.body
@@ -146,6 +152,7 @@ module _ (shape : ℕ → Option Shape) (registered : ℕ → Option ℕ) where
       by : (has_method ms own ≡ true → HasMethod (methods_of registered class.name ms) own.method own.count) → (body : Option ℕ) → is_wrong kinds.UnknownBody class (option_and_then shape body) ≡ false → HasMethod (method_before class.name m body (methods_of registered class.name ms)) own.method own.count
       by tail None wrong = absurd (cc)
       by tail (Some body) wrong = let k = at_name _ refl (nat_eq m.name own.method) (nat_eq m.args own.count) refl refl tail h in record { method = k.0; has = k.1; takes = k.2 }
+  finds_own class (x ∷ ms) own before e d h = finds_own class ms own (before ++ member_name x ∷ []) e (behind before (member_name x) (map member_name ms) d) h
 
   -- what the check finds of a body, by its shape
   abbrev IsInside : Class → ℕ → Type 0
@@ -164,6 +171,7 @@ module _ (shape : ℕ → Option Shape) (registered : ℕ → Option ℕ) where
       by tail None a b = tail
       by tail (Some body) a b =
           (λ s t. (subst (λ c. is_wrong kinds.BodyOutsideShape class c ≡ false) t a, subst (λ c. is_wrong kinds.ProceedNotAllowed class c ≡ false) t b), tail)
+  all_inside class (_ ∷ ms) e f = all_inside class ms e f
 
   -- a field that is listed is one that there is
   set_served : (fields : List Field) (names : List ℕ) (field : ℕ) → lacks_field fields names ≡ false → list_any (λ f. nat_eq f field) names ≡ true → has_field fields field ≡ true
@@ -269,12 +277,18 @@ module _ (shape : ℕ → Option Shape) (registered : ℕ → Option ℕ) where
             let t = inside s.0 s.1 in
             served class s.0 view a p d.0 t.0 t.1 s.2
 
+        scoped : ((i : ℕ) (b : Bean) → slice_get (beans_in registered classes) i ≡ Some b → ServesAll b) → (scope : Option ServedScope)
+            → wrong_members named kinds.UnknownBody class class.members ≡ [] → wrong_members named kinds.BodyOutsideShape class class.members ≡ [] → wrong_members named kinds.ProceedNotAllowed class class.members ≡ []
+            → (i : ℕ) → slice_get (bean_before registered class scope (beans_in registered classes)) i ≡ Some b → ServesAll b
+        scoped rest None p q r i t = rest i b t
+        scoped rest (Some scope) p q r zero t = subst ServesAll (same_Some _ b t) (head p q r)
+        scoped rest (Some scope) p q r (suc i) t = rest i b t
+
         by : ((i : ℕ) (b : Bean) → slice_get (beans_in registered classes) i ≡ Some b → ServesAll b) → (bean : Option Declared)
             → cond (is_some bean) (wrong_members named kinds.UnknownBody class class.members) [] ≡ [] → cond (is_some bean) (wrong_members named kinds.BodyOutsideShape class class.members) [] ≡ [] → cond (is_some bean) (wrong_members named kinds.ProceedNotAllowed class class.members) [] ≡ []
-            → (i : ℕ) → slice_get (bean_before registered class bean (beans_in registered classes)) i ≡ Some b → ServesAll b
+            → (i : ℕ) → slice_get (bean_before registered class (option_and_then (λ (x : Declared). served_scope x.scope) bean) (beans_in registered classes)) i ≡ Some b → ServesAll b
         by rest None p q r i t = rest i b t
-        by rest (Some bean) p q r zero t = subst ServesAll (same_Some _ b t) (head p q r)
-        by rest (Some bean) p q r (suc i) t = rest i b t
+        by rest (Some bean) p q r i t = scoped rest (served_scope bean.scope) p q r i t
 
 -- the acts that a table gives lie in the shapes
 lie_at : {X : Type 0} {F : X → Type 0} {g : _} (entries : List (Entry X F g)) → LieInShape entries → (id : ℕ) (fields : Fields) (view : View) (a : Act) → gives entries id fields view a → (s : Shape) × (shape_at entries id ≡ Some s) × (in_shape s view a ≡ true)

@@ -28,8 +28,8 @@ use Rattle.cdi_contexts.specs.declared.context.Status.TheVariants.{Ending, Open}
 use Rattle.cdi_contexts.specs.declared.context.Held.{Held}
 use Rattle.cdi_contexts.specs.declared.context.Held.TheVariants.{Making, Is}
 use Rattle.cdi_contexts.specs.Contexts.{Active, greatest, greater}
-use Rattle.cdi_deploy.specs.declared.deployment.Scope.{Scope}
-use Rattle.cdi_deploy.specs.declared.deployment.Scope.TheVariants as scopes
+use Rattle.cdi_beans.specs.declared.bean.ServedScope.{ServedScope as Scope}
+use Rattle.cdi_beans.specs.declared.bean.ServedScope.TheVariants as scopes
 use Rattle.cdi_machine.specs.Words.{Name, Fields}
 use Rattle.cdi_machine.specs.Tables as machine
 use Rattle.cdi_machine.specs.World.{World, Change, Invocation, after_change, with_entry, instance_at}

@@ -14,9 +14,8 @@ use crate::step::invocations::invoke;
 use crate::step::{given, missing, raised, scope_of};
 use crate::task::{Call, Frame, Given, Next, Task};
 use cdi_base::{BuiltIn, Name, Seq, Value};
-use cdi_beans::bean::Resolution;
+use cdi_beans::bean::{Resolution, ServedScope};
 use cdi_contexts::{Held, Status};
-use cdi_deploy::deployment::Scope;
 use cdi_store::{Context, Owner, Phase};
 use std::alloc::AllocError;
 
@@ -75,14 +74,17 @@ pub(super) fn using<H: Host>(
         return Ok(missing());
     };
     match plan.scope {
-        Scope::ApplicationScoped => match host.held(scope_of(Scope::ApplicationScoped), bean) {
+        ServedScope::ApplicationScoped => match host.held(
+            scope_of(ServedScope::ApplicationScoped),
+            bean,
+        ) {
             Some(Held::Is(number)) => invoke(host, number, method, args),
             _ => {
                 let call = Task::Start(Call::Obtain { bean });
                 Ok(Next::Needs(call, Frame::Reaching { method, args }))
             }
         },
-        Scope::Dependent => {
+        ServedScope::Dependent => {
             let owner = Owner::Borrower;
             let call = Task::Start(Call::Create { bean, owner });
             Ok(Next::Needs(call, Frame::Borrowing { method, args }))
