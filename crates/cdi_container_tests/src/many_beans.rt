@@ -1,10 +1,10 @@
 //! As many beans as there may be, and one more.
 use crate::checks::expect_same;
-use cdi_base::{Name, Names, Seq, is_name};
+use cdi_base::{Name, Names, Scope, Seq, is_name};
 use cdi_beans::check::problems;
 use cdi_beans::problem::ProblemKind;
 use cdi_bodies::Bodies;
-use cdi_deploy::{Bean, Class, Deployment, Scope};
+use cdi_deploy::{Bean, Class, Deployment};
 use std::alloc::Global;
 use std::process::Abort;
 use std::test::Fail;
@@ -22,10 +22,22 @@ fn class_name(alloc: Global, names: &mut Names, number: u32) -> Result<Name, Fai
 fn bean_class(alloc: Global, name: Name) -> Class {
     Class {
         name,
+        extends: None,
+        implements: Seq::empty(alloc),
+        is_abstract: false,
+        is_final: false,
+        bindings: Seq::empty(alloc),
         bean: Some(Bean {
             scope: Scope::Dependent,
+            quals: Seq::empty(alloc),
+            typed: None,
+            alternative: false,
+            priority: None,
+            specializes: false,
         }),
         fields: Seq::empty(alloc),
+        inject: Seq::empty(alloc),
+        constructor: None,
         members: Seq::empty(alloc),
     }
 }
@@ -40,7 +52,14 @@ pub(crate) fn beans(alloc: Global, count: u32) -> Result<Deployment, Fail> {
     }
     Ok(Deployment {
         names,
+        interfaces: Seq::empty(alloc),
+        qualifiers: Seq::empty(alloc),
+        bindings: Seq::empty(alloc),
+        exceptions: Seq::empty(alloc),
         classes,
+        interceptors: Seq::empty(alloc),
+        selected: Seq::empty(alloc),
+        order: Seq::empty(alloc),
         scripts: Seq::empty(alloc),
     })
 }

@@ -1,7 +1,7 @@
 //! Tests of reading deployments.
 use crate::checks::{Plain, expect_printed, expect_same, expect_text, expect_value};
-use cdi_base::{BuiltIn, Name, Names, ReadError};
-use cdi_deploy::{Bean, Class, Deployment, Field, Member, Method, ReadFault, Scope, Script, read};
+use cdi_base::{BuiltIn, Name, Names, ReadError, Scope};
+use cdi_deploy::{Class, Deployment, Field, Member, Method, ReadFault, Script, read};
 use std::alloc::Global;
 use std::process::Abort;
 
@@ -442,16 +442,16 @@ fn name_of(rt: &impl Abort, names: &Names, text: &str) -> Name {
     names.find(text).expect(rt, text)
 }
 
-/// Checks the name of a class, and whether it is a bean.
+/// Checks the name of a class, and its scope if it is a bean.
 pub(crate) fn check_class(
     rt: &impl Abort,
     names: &Names,
     class: &Class,
     name: &str,
-    bean: Option<Bean>,
+    scope: Option<Scope>,
 ) {
     expect_same(rt, &class.name, &name_of(rt, names, name));
-    expect_same(rt, &class.bean, &bean);
+    expect_same(rt, &class.bean.as_ref().map(|bean| bean.scope), &scope);
 }
 
 /// Checks the name of a field, and its value.
@@ -473,12 +473,26 @@ pub(crate) fn check_fields(
     }
 }
 
+/// The method that a member is, if it is one.
+fn as_method(member: &Member) -> Option<&Method> {
+    match member {
+        Member::Method(method) => Some(method),
+        _ => None,
+    }
+}
+
 /// Checks that a class has this method, and no other member.
 fn check_method(rt: &impl Abort, names: &Names, class: &Class, name: &str, body: &str, args: u32) {
-    let name = name_of(rt, names, name);
-    let body = name_of(rt, names, body);
-    let method = Member::Method(Method { name, body, args });
-    expect_same(rt, &class.members.as_slice(), &[method].as_slice());
+    expect_same(rt, &class.members.len(), &1);
+    let method = class
+        .members
+        .get(0)
+        .and_then(as_method)
+        .expect(rt, "a method");
+    expect_same(rt, &method.name, &name_of(rt, names, name));
+    expect_same(rt, &method.body, &name_of(rt, names, body));
+    expect_same(rt, &method.args, &args);
+    expect_same(rt, &method.bindings.is_empty(), &true);
 }
 
 /// Checks the name of a script, and its steps.
@@ -518,8 +532,7 @@ fn check_names(rt: &impl Abort, names: &Names) {
 
 /// Checks the class of the counter.
 fn check_counting(rt: &impl Abort, names: &Names, class: &Class) {
-    let scope = Scope::ApplicationScoped;
-    check_class(rt, names, class, "K", Some(Bean { scope }));
+    check_class(rt, names, class, "K", Some(Scope::ApplicationScoped));
     check_fields(rt, names, class, &[("n", Plain::Int(0))]);
     check_method(rt, names, class, "up", "up", 0);
 }
@@ -552,8 +565,7 @@ const SPARSE_FIELDS: &[(&str, Plain)] = &[
 
 /// Checks the bean.
 fn check_bean(rt: &impl Abort, names: &Names, bean: &Class) {
-    let scope = Scope::Dependent;
-    check_class(rt, names, bean, "K", Some(Bean { scope }));
+    check_class(rt, names, bean, "K", Some(Scope::Dependent));
     check_fields(rt, names, bean, SPARSE_FIELDS);
     expect_same(rt, &bean.members.is_empty(), &true);
 }

@@ -13,7 +13,7 @@ use Rattle.cdi_beans.specs.declared.problem.ProblemKind.TheVariants as kinds
 use Rattle.cdi_beans.specs.declared.bean.Bean.{Bean}
 use Rattle.cdi_beans.specs.declared.tables.Tables.{Tables}
 use Rattle.cdi_beans.specs.Served.{machine_tables}
-use Rattle.cdi_deploy.specs.declared.deployment.Scope.TheVariants as scopes
+use Rattle.cdi_beans.specs.declared.bean.ServedScope.TheVariants as scopes
 use Rattle.cdi_machine.specs.Commands.{Command}
 use Rattle.cdi_machine.specs.Container.{before_commands, refusal}
 use Rattle.cdi_engine.specs.Asked.{of_type}
