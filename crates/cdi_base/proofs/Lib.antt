@@ -1,3 +1,4 @@
 pub mod Tables
 pub mod Clones
+pub mod Numbering
 pub mod BuiltIns

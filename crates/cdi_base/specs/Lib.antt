@@ -6,3 +6,5 @@ pub mod Words
 pub mod Limits
 pub mod Plain
 pub mod Maps
+pub mod Stage
+pub mod Uses

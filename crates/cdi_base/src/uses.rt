@@ -1,11 +1,14 @@
 //! Uses of qualifiers and of interceptor bindings.
-ghost use Rattle.std.specs.Prelude.{◌≡◌};
+ghost use Rattle.std.specs.Prelude.{◌≡◌, IsTrue};
+ghost use Rattle.std.specs.List.{list_all};
+ghost use Rattle.cdi_base.specs.Name.{is_name, Extends};
+ghost use Rattle.cdi_base.specs.Uses as spec;
 
-use crate::name::Name;
+use crate::name::{InternError, Name, Names, is_name as is_a_name};
 use crate::seq::Seq;
 use crate::text::Text;
 use crate::value::Value;
-use std::alloc::AllocError;
+use std::alloc::{AllocError, Global};
 
 /// The value that a use gives to a member of its qualifier or interceptor binding.
 #[derive(Debug, PartialEq, Eq, Drop)]
@@ -56,5 +59,73 @@ impl Clone for Use {
             name: self.name,
             members: self.members.clone()?,
         })
+    }
+}
+
+fn are_named(members: &[WrittenMember]) -> bool
+    ensures { result ≡ list_all spec.has_name members.now }
+{
+    members.iter().all(|member| is_a_name(member.name.as_str()))
+}
+
+impl WrittenUse {
+    /// Whether each text of the use that stands in the place of a name is one: its own, and those of its members.
+    pub fn has_names(&self) -> bool
+        ensures { result ≡ spec.has_names self.now }
+    {
+        is_a_name(self.name.as_str()) && are_named(self.members.as_slice())
+    }
+}
+
+/// The name of a text, which has to be a name. An error leaves the table as it is.
+fn number(names: &mut Names, text: &str) -> Result<Name, InternError>
+    requires { IsTrue (is_name text.now) }
+    ensures gives { spec.Interns (λ name. (name, names.new)) result (spec.numbered names.old text.now) }
+    ensures kept { Extends names.old names.new }
+{
+    names.intern(text)
+}
+
+fn number_member(names: &mut Names, written: &WrittenMember) -> Result<MemberValue, InternError>
+    requires { IsTrue (spec.has_name written.now) }
+    ensures gives { spec.Interns (λ m. (m, names.new)) result
+        (spec.numbered_member names.old written.now) }
+    ensures kept { Extends names.old names.new }
+{
+    let name = number(names, written.name.as_str())?;
+    let value = written.value.clone()?;
+    Ok(MemberValue { name, value })
+}
+
+fn number_members(
+    alloc: Global,
+    names: &mut Names,
+    written: &[WrittenMember],
+) -> Result<Seq<MemberValue>, InternError>
+    requires { IsTrue (list_all spec.has_name written.now) }
+    ensures gives { spec.Interns (λ ms. (ms, names.new)) result
+        (spec.numbered_members names.old written.now) }
+    ensures kept { Extends names.old names.new }
+{
+    let mut members = Vec::new(alloc);
+    for member in written {
+        members.push(number_member(names, member)?)?;
+    }
+    Ok(Seq::new(members))
+}
+
+impl Names {
+    /// The use with its names in this table: its own first, and then those of its members in their order. Its texts have
+    /// to be names (see [`WrittenUse::has_names`]). On an error the table may have got some of the names, and those that
+    /// were in it keep their numbers.
+    pub fn intern_use(&mut self, alloc: Global, written: &WrittenUse) -> Result<Use, InternError>
+        requires { IsTrue (spec.has_names written.now) }
+        ensures gives { spec.Interns (λ u. (u, self.new)) result
+            (spec.numbered_use self.old written.now) }
+        ensures kept { Extends self.old self.new }
+    {
+        let name = number(self, written.name.as_str())?;
+        let members = number_members(alloc, self, written.members.as_slice())?;
+        Ok(Use { name, members })
     }
 }

@@ -115,6 +115,7 @@ script-knows names d = both_hold (Knows IsBelow names) (Knows KnowsScript names)
 
 member-keeps : (m n : ℕ) (x : Member) → m ≤ n → KnowsMember m x → KnowsMember n x
 member-keeps m n (variants.Method x) le h = (omega (arith, h.0), omega (arith, h.1))
+member-keeps m n _ le h = tt
 
 fields-of : (names : List (List ℕ)) (ds : Items) → IfOk (each field_at names ds) (Knows (λ count xs. All (KnowsField count) xs) names)
 fields-of = each-knows KnowsField (λ m n x le h. omega (arith, h)) field_at field-knows

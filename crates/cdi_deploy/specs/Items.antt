@@ -1,5 +1,5 @@
 -- What a value of the right form stands for, read into a table of names.
-use Rattle.std.specs.Prelude.{ℕ, List, [], ◌∷◌, codes, Option, Some, None, Result, Ok, Err, if◌then◌else◌}
+use Rattle.std.specs.Prelude.{ℕ, false, List, [], ◌∷◌, codes, Option, Some, None, Result, Ok, Err, if◌then◌else◌}
 use Rattle.cdi_base.specs.BuiltIn.{built_in_names}
 use Rattle.cdi_base.specs.Name.{is_name, has_room, number_of, with_name}
 use Rattle.cdi_base.specs.Reading.{◌>>=◌}
@@ -42,7 +42,7 @@ maybe reading names (Some d) = do
   Ok (Some found.0, found.1)
 
 abbrev pub bean_at : List (List ℕ) → Data → Reads Bean
-bean_at names d = Ok (record { scope = scope_of (get (codes "scope") d) }, names)
+bean_at names d = Ok (record { scope = scope_of (get (codes "scope") d); quals = []; typed = None; alternative = false; priority = None; specializes = false }, names)
 
 unfoldable pub field_at : List (List ℕ) → Data → Reads Field
 field_at names d = do
@@ -53,7 +53,7 @@ unfoldable pub method_at : List (List ℕ) → Data → Reads Method
 method_at names d = do
   name ← named names (text_of (get (codes "name") d))
   body ← named name.1 (text_of (get (codes "body") d))
-  Ok (record { name = name.0; body = body.0; args = count_of (get (codes "args") d) }, body.1)
+  Ok (record { name = name.0; body = body.0; args = count_of (get (codes "args") d); bindings = [] }, body.1)
 
 -- a member is of the one kind that there is
 unfoldable pub member_at : List (List ℕ) → Data → Reads Member
@@ -67,7 +67,22 @@ class_at names d = do
   bean ← maybe bean_at name.1 (get (codes "bean") d)
   fields ← each field_at bean.1 (list_of (get (codes "fields") d))
   members ← each member_at fields.1 (list_of (get (codes "members") d))
-  Ok (record { name = name.0; bean = bean.0; fields = fields.0; members = members.0 }, members.1)
+  Ok (
+    record {
+      name = name.0;
+      extends = None;
+      implements = [];
+      is_abstract = false;
+      is_final = false;
+      bindings = [];
+      bean = bean.0;
+      fields = fields.0;
+      inject = [];
+      constructor = None;
+      members = members.0;
+    },
+    members.1,
+  )
 
 unfoldable pub script_at : List (List ℕ) → Data → Reads Script
 script_at names d = do
@@ -79,4 +94,15 @@ unfoldable pub lists_of : Data → Result Deployment ReadFault
 lists_of d = do
   classes ← each class_at built_in_names (list_of (get (codes "classes") d))
   scripts ← each script_at classes.1 (list_of (get (codes "scripts") d))
-  Ok (record { names = scripts.1; classes = classes.0; scripts = scripts.0 })
+  Ok (record {
+    names = scripts.1;
+    interfaces = [];
+    qualifiers = [];
+    bindings = [];
+    exceptions = [];
+    classes = classes.0;
+    interceptors = [];
+    selected = [];
+    order = [];
+    scripts = scripts.0;
+  })

@@ -14,6 +14,7 @@ KnowsField count f = f.name < count
 
 abbrev pub KnowsMember : ℕ → Member → Type 0
 KnowsMember count (members.Method m) = (m.name < count) × (m.body < count)
+KnowsMember count _ = Unit {0}
 
 pub record KnowsClass (count : ℕ) (c : Class) : Type 0 where
   pub name : c.name < count

@@ -4,8 +4,8 @@ use Rattle.cdi_base.specs.declared.value.Value.{Value}
 use Rattle.cdi_base.specs.declared.value.Value.TheVariants as values
 use Rattle.serde_json.specs.Data.{Num, unsigned, Data, null, number, string, array, Items, no_items}
 use Rattle.serde_json.specs.Find.{as_i64}
-use Rattle.cdi_deploy.specs.declared.deployment.Scope.{Scope}
-use Rattle.cdi_deploy.specs.declared.deployment.Scope.TheVariants as scopes
+use Rattle.cdi_base.specs.declared.scope.Scope.{Scope}
+use Rattle.cdi_base.specs.declared.scope.Scope.TheVariants as scopes
 
 -- a text that is missing is empty
 abbrev pub text_of : Option Data → List ℕ

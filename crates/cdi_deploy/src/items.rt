@@ -74,13 +74,14 @@ fn named(names: &mut Names, text: &str) -> Result<Name, ReadError<ReadFault>>
 impl Item for Bean {
     ghost reading = { bean_at };
 
-    fn read(
-        _alloc: Global,
-        _names: &mut Names,
-        value: &Json,
-    ) -> Result<Bean, ReadError<ReadFault>> {
+    fn read(alloc: Global, _names: &mut Names, value: &Json) -> Result<Bean, ReadError<ReadFault>> {
         Ok(Bean {
             scope: scope_at(value, "scope"),
+            quals: Seq::empty(alloc),
+            typed: None,
+            alternative: false,
+            priority: None,
+            specializes: false,
         })
     }
 }
@@ -101,14 +102,19 @@ impl Item for Method {
 
     #[tactic(auto, unfolding(crate::specs::Items::method_at))]
     fn read(
-        _alloc: Global,
+        alloc: Global,
         names: &mut Names,
         value: &Json,
     ) -> Result<Method, ReadError<ReadFault>> {
         let name = named(names, text_at(value, "name"))?;
         let body = named(names, text_at(value, "body"))?;
         let args = count_at(value, "args");
-        Ok(Method { name, body, args })
+        Ok(Method {
+            name,
+            body,
+            args,
+            bindings: Seq::empty(alloc),
+        })
     }
 }
 
@@ -136,8 +142,15 @@ impl Item for Class {
         let members = each::<Member>(alloc, names, list_at(value, "members"))?;
         Ok(Class {
             name,
+            extends: None,
+            implements: Seq::empty(alloc),
+            is_abstract: false,
+            is_final: false,
+            bindings: Seq::empty(alloc),
             bean,
             fields,
+            inject: Seq::empty(alloc),
+            constructor: None,
             members,
         })
     }
@@ -168,7 +181,14 @@ pub fn lists_of(alloc: Global, value: &Json) -> Result<Deployment, ReadError<Rea
     let scripts = each::<Script>(alloc, &mut names, list_at(value, "scripts"))?;
     Ok(Deployment {
         names,
+        interfaces: Seq::empty(alloc),
+        qualifiers: Seq::empty(alloc),
+        bindings: Seq::empty(alloc),
+        exceptions: Seq::empty(alloc),
         classes,
+        interceptors: Seq::empty(alloc),
+        selected: Seq::empty(alloc),
+        order: Seq::empty(alloc),
         scripts,
     })
 }

@@ -14,7 +14,11 @@ pub mod reading;
 mod shape;
 pub mod steps;
 
-pub use deployment::{Bean, Class, Deployment, Field, Member, Method, Scope, Script};
+pub use deployment::{
+    AnnotationType, Bean, Callback, Class, Constructor, Deployment, Disposer, Exception, Field,
+    Initializer, InjectedField, Interceptor, Interface, Member, Method, Observer, Point,
+    ProducerField, ProducerMethod, Script,
+};
 pub use fault::ReadFault;
 pub use items::lists_of;
 pub use reading::{deployment_of, read};

@@ -5,10 +5,9 @@ ghost use Rattle.serde_json.specs.Find.{get};
 ghost use Rattle.serde_json.specs.View.{view, items_view};
 ghost use Rattle.cdi_deploy.specs.Parts as spec;
 
-use crate::deployment::Scope;
 use crate::limits::MAX_ARGUMENTS;
 use crate::steps::Steps;
-use cdi_base::{Text, Value};
+use cdi_base::{Scope, Text, Value};
 use serde_json::Value as Json;
 use std::alloc::{AllocError, Global};
 
