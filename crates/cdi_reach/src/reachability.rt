@@ -18,7 +18,7 @@ use std::marker::Model;
 /// For n nodes the table has about n² bits, and takes at most n³ / 64 steps to make; a question takes constant time.
 #[derive(Drop)]
 pub struct Reachability {
-    graph: Seq<Seq<u32>>,
+    graph: Seq<Seq<usize>>,
     rows: Vec<BitRow>,
 }
 
@@ -34,7 +34,7 @@ impl Model for Reachability {
 }
 
 /// The row of a node in the first stage: its edges.
-fn row_of(alloc: Global, targets: &[u32], width: usize) -> Result<BitRow, AllocError>
+fn row_of(alloc: Global, targets: &[usize], width: usize) -> Result<BitRow, AllocError>
     requires { All (λ b. b < width * 64) targets.now }
     ensures len { IfOk result (λ row. length row ≡ width) }
     ensures bits { IfOk result
@@ -42,13 +42,13 @@ fn row_of(alloc: Global, targets: &[u32], width: usize) -> Result<BitRow, AllocE
 {
     let mut row = BitRow::new(alloc, width)?;
     for target in targets {
-        row.put(*target as usize);
+        row.put(*target);
     }
     Ok(row)
 }
 
 /// The first stage: the edges.
-fn edges(alloc: Global, graph: &[Seq<u32>], width: usize) -> Result<Vec<BitRow>, AllocError>
+fn edges(alloc: Global, graph: &[Seq<usize>], width: usize) -> Result<Vec<BitRow>, AllocError>
     requires { All (All (λ b. b < width * 64)) graph.now }
     ensures len { IfOk result (λ rows. vec_len rows ≡ length graph.now) }
     ensures width { IfOk result (λ rows. All (λ row. length row ≡ width) rows.items) }
@@ -77,7 +77,7 @@ fn go_through(rows: &mut [BitRow], node: usize, inner: &BitRow)
 }
 
 /// The last stage: the paths of one edge or more.
-fn rows_of(alloc: Global, graph: &[Seq<u32>]) -> Result<Vec<BitRow>, AllocError>
+fn rows_of(alloc: Global, graph: &[Seq<usize>]) -> Result<Vec<BitRow>, AllocError>
     requires { IsGraph graph.now }
     ensures { IfOk result (λ rows. IsTable graph.now rows.items) }
 {
@@ -101,7 +101,7 @@ fn in_rows(rows: &[BitRow], from: usize, to: usize) -> bool
 
 impl Reachability {
     /// The table of a graph, each edge of which leads to a node that has a row.
-    pub fn build(alloc: Global, graph: Seq<Seq<u32>>) -> Result<Reachability, AllocError>
+    pub fn build(alloc: Global, graph: Seq<Seq<usize>>) -> Result<Reachability, AllocError>
         requires { IsGraph graph }
         ensures { IfOk result (λ table. table ≡ graph) }
     {
@@ -110,28 +110,28 @@ impl Reachability {
     }
 
     /// The graph: for each node the nodes that its edges lead to.
-    pub fn graph(&self) -> &[Seq<u32>]
+    pub fn graph(&self) -> &[Seq<usize>]
         ensures { result.now ≡ self.now }
     {
         self.graph.as_slice()
     }
 
     /// Whether a path of one edge or more leads from a node to another, or back to it.
-    pub fn reaches_properly(&self, from: u32, to: u32) -> bool
+    pub fn reaches_properly(&self, from: usize, to: usize) -> bool
         ensures { IsTrue result ↔ ProperPath self.now from to }
     {
-        in_rows(self.rows.as_slice(), from as usize, to as usize)
+        in_rows(self.rows.as_slice(), from, to)
     }
 
     /// Whether a path leads from a node to another. A node reaches itself.
-    pub fn reaches(&self, from: u32, to: u32) -> bool
+    pub fn reaches(&self, from: usize, to: usize) -> bool
         ensures { IsTrue result ↔ Path self.now from to }
     {
         from == to || self.reaches_properly(from, to)
     }
 
     /// Whether a node lies on a cycle, an edge to itself included.
-    pub fn is_on_cycle(&self, node: u32) -> bool
+    pub fn is_on_cycle(&self, node: usize) -> bool
         ensures { IsTrue result ↔ ProperPath self.now node node }
     {
         self.reaches_properly(node, node)

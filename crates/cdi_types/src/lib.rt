@@ -1,0 +1,11 @@
+//! The types of a deployment: which is a subtype of which (Jakarta CDI 4.0, *Bean types*), and what a class inherits
+//! (Jakarta CDI 4.0, *Inheritance and specialization*).
+#![tactic(auto)]
+
+pub mod declaration;
+mod edges;
+pub mod graph;
+mod index;
+
+pub use declaration::{TypeDeclaration, declarations_of};
+pub use graph::TypeGraph;
