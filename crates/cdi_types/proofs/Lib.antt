@@ -1,1 +1,4 @@
-
+pub mod Listed
+pub mod Places
+pub mod Refined
+pub mod Supertypes

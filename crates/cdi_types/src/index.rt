@@ -24,7 +24,9 @@ impl TypeIndex {
     {
         let mut places = HashMap::new(alloc);
         for (place, declared) in types.iter().enumerate() {
-            places.entry(declared.name)?.or_insert(place);
+            if !places.contains_key(&declared.name) {
+                places.insert(declared.name, place)?;
+            }
         }
         Ok(TypeIndex { places })
     }

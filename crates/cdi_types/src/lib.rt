@@ -4,8 +4,10 @@
 
 pub mod declaration;
 mod edges;
+pub mod error;
 pub mod graph;
 mod index;
 
 pub use declaration::{TypeDeclaration, declarations_of};
+pub use error::TypesError;
 pub use graph::TypeGraph;
