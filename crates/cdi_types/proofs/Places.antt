@@ -1,15 +1,17 @@
 -- The place of the first declaration of a name, where one declaration more is looked at.
-use Rattle.std.proofs.Common.{◌≡◌, ◌∙◌, ℕ, ◌+◌, ◌<◌, ◌≤◌, Bool, true, false, cond, not, ◌||◌, nat_eq, List, [], ◌∷◌, ◌++◌, length, take, get_or, position, Option, Some, None, refl, sym, ap, arith, length-append}
+use Rattle.std.proofs.Common.{◌≡◌, ◌∙◌, ℕ, ◌+◌, ◌<◌, ◌≤◌, Bool, true, false, cond, not, ◌||◌, nat_eq, List, [], ◌∷◌, ◌++◌, length, take, get_or, slice_get, option_and_then, position, Option, Some, None, refl, sym, ap, arith, length-append}
 use Rattle.std.proofs.lemmas.Bool.{true≢false}
 use Rattle.std.proofs.lemmas.Bool.Decides.{nat_tests}
 use Rattle.std.proofs.lemmas.Grind.{common_steps}
 use Rattle.std.proofs.lemmas.List.{take_more}
-use Rattle.std.proofs.lemmas.List.Folds.{position_or_len_push}
+use Rattle.std.proofs.lemmas.List.Folds.{find_at, position_or_len_push}
+use Rattle.std.proofs.lemmas.Option.{slice_get_past}
 use Rattle.std.proofs.lemmas.List.Sums.{prefix_len-le-length}
 use Rattle.std.specs.Bool.{nat_lt}
-use Rattle.std.specs.List.{list_any, position_or_len}
+use Rattle.std.specs.List.{list_any, find, position_or_len}
 use Rattle.std.specs.Option.{is_some}
 use Rattle.cdi_types.specs.declared.declaration.TypeDeclaration.{TypeDeclaration}
+use Rattle.cdi_types.specs.Lineage.{superclass_of}
 use Rattle.cdi_types.specs.Nodes.{place_of}
 
 -- the first place, or else this one
@@ -72,3 +74,25 @@ place_of-more types name i d within is =
     let len : length (take i types) ≡ i = grind (arith, common_steps) in
     ap (λ ds. place_of ds name) (take_more types i d within) ∙ ap (λ x. place_of (take i types ++ x ∷ []) name) (sym is)
     ∙ position-push (λ d. nat_eq d.name name) (take i types) d ∙ ap (or_here (place_of (take i types) name) (nat_eq d.name name)) len
+
+-- an element that has no place isn't found
+pub no_place : {X : Type 0} (p : X → Bool) (xs : List X) → position p xs ≡ None → find p xs ≡ None
+no_place p xs e = by (nat_lt (position_or_len p xs) (length xs)) refl e
+  where
+    by : (b : Bool) → nat_lt (position_or_len p xs) (length xs) ≡ b → cond b (Some (position_or_len p xs)) None ≡ None → find p xs ≡ None
+    by true t h = absurd cc
+    by false t h = let past : length xs ≤ position_or_len p xs = grind arith in find_at p xs ∙ slice_get_past xs (position_or_len p xs) past
+
+-- what `find` gives is what stands at the place
+pub superclass_at : (types : List TypeDeclaration) (name i : ℕ) → place_of types name ≡ Some i → superclass_of types name ≡ option_and_then (λ d. d.superclass) (slice_get types i)
+superclass_at types name i e = ap (option_and_then (λ (d : TypeDeclaration). d.superclass)) (find_at p types ∙ ap (slice_get types) (by (nat_lt (position_or_len p types) (length types)) e))
+  where
+    p : TypeDeclaration → Bool
+    p = λ d. nat_eq d.name name
+
+    by : (b : Bool) → cond b (Some (position_or_len p types)) None ≡ Some i → position_or_len p types ≡ i
+    by true h = cc
+    by false h = absurd cc
+
+pub superclass_nowhere : (types : List TypeDeclaration) (name : ℕ) → place_of types name ≡ None → superclass_of types name ≡ None
+superclass_nowhere types name e = ap (option_and_then (λ (d : TypeDeclaration). d.superclass)) (no_place (λ d. nat_eq d.name name) types e)

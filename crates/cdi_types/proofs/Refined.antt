@@ -12,15 +12,9 @@ use Rattle.cdi_reach.specs.Graph.{IsGraph, Path, ProperPath, targets_of}
 use Rattle.cdi_types.specs.declared.declaration.TypeDeclaration.{TypeDeclaration}
 use Rattle.cdi_types.specs.Nodes.{place_of, graph_of}
 use Rattle.cdi_types.specs.Subtype.{is_declared, supertypes_of, IsBelow}
+use Rattle.cdi_types.proofs.Places.{no_place}
 use Rattle.cdi_types.proofs.Listed.{cases_Option, not_in_none, filter_map-contains, filter_map-from}
 use Rattle.cdi_types.proofs.Supertypes.{supertypes_of-none}
-
-no_place : {X : Type 0} (p : X → Bool) (xs : List X) → position p xs ≡ None → find p xs ≡ None
-no_place p xs e = by (nat_lt (position_or_len p xs) (length xs)) refl e
-  where
-    by : (b : Bool) → nat_lt (position_or_len p xs) (length xs) ≡ b → cond b (Some (position_or_len p xs)) None ≡ None → find p xs ≡ None
-    by true t h = absurd cc
-    by false t h = let past : length xs ≤ position_or_len p xs = grind arith in find_at p xs ∙ slice_get_past xs (position_or_len p xs) past
 
 none_passes : {X : Type 0} (p : X → Bool) (xs : List X) → find p xs ≡ None → list_any p xs ≡ false
 none_passes p [] e = refl
@@ -67,7 +61,7 @@ module _ (types : List TypeDeclaration) (place : ℕ → Option ℕ) (is : (name
       ) in
       All-map (All (λ k. k < n)) row types (λ i e lt. All-weaker (Contains (row (get_or types i e))) (λ k. k < n) (within (get_or types i e)) (row (get_or types i e)) (All-contains_itself (row (get_or types i e))))
 
-  edge_to : (a i m k : ℕ) → place a ≡ Some i → Contains (supertypes_of types a) m → place m ≡ Some k → Contains (targets_of (graph_of place types) i) k
+  pub edge_to : (a i m k : ℕ) → place a ≡ Some i → Contains (supertypes_of types a) m → place m ≡ Some k → Contains (targets_of (graph_of place types) i) k
   edge_to a i m k x e y =
       let P : List ℕ → Type 0 = λ ts. Contains ts k in
       subst P (sym (targets-at a i x)) (filter_map-contains place (supertypes_of types a) m k e y)

@@ -1,5 +1,6 @@
 //! The declared types with the graph of what stands above what.
-ghost use Rattle.std.specs.Prelude.{◌≡◌, ◌↔◌, IsTrue, IfOk};
+ghost use Rattle.std.specs.Prelude.{◌≡◌, ◌↔◌, ℕ, IsTrue, IfOk, MatchBool};
+ghost use Rattle.std.specs.List.{list_all};
 ghost use Rattle.cdi_reach.specs.ListsThose.{ListsThose};
 
 use crate::declaration::{TypeDeclaration, declarations_of};
@@ -35,6 +36,7 @@ impl Model for TypeGraph {
 
 impl TypeGraph {
     ghost use Rattle.cdi_types.specs.Declarations as declared;
+    ghost use Rattle.cdi_types.specs.Lineage.{superclass_of};
     ghost use Rattle.cdi_types.specs.Nodes as nodes;
     ghost use Rattle.cdi_types.specs.Subtype as spec;
 
@@ -111,6 +113,19 @@ impl TypeGraph {
         }
     }
 
+    /// Whether a type is its own proper supertype.
+    pub fn has_cycle(&self) -> bool
+        ensures { MatchBool result
+            ((a : ℕ) × spec.IsCyclic self.now a) (spec.IsAcyclic self.now) }
+    {
+        for declared in self.types.as_slice() {
+            if self.is_cyclic(declared.name) {
+                return true;
+            }
+        }
+        false
+    }
+
     /// The types that are their own proper supertypes, each as often as it is declared, in the order of the declarations.
     pub fn cyclic(&self, alloc: Global) -> Result<Seq<Name>, AllocError>
         ensures { IfOk result
@@ -123,5 +138,37 @@ impl TypeGraph {
             }
         }
         Ok(found)
+    }
+
+    /// Whether all names are types'.
+    fn are_types(&self, names: &[Name]) -> bool
+        ensures { result ≡ list_all (spec.is_type self.now) names.now }
+    {
+        names.iter().all(|name| self.is_type(*name))
+    }
+
+    /// Whether each name that a declaration puts above its type is a type's.
+    fn knows_above(&self, declared: &TypeDeclaration) -> bool
+        ensures { result ≡ list_all (spec.is_type self.now) (spec.direct_supertypes declared.now) }
+    {
+        match declared.superclass {
+            Some(name) => self.is_type(name) && self.are_types(declared.interfaces.as_slice()),
+            None => self.are_types(declared.interfaces.as_slice()),
+        }
+    }
+
+    /// Whether each name that stands above a type is a type's.
+    pub fn knows_supertypes(&self) -> bool
+        ensures { result ≡ spec.knows_supertypes self.now }
+    {
+        self.types.as_slice().iter().all(|declared| self.knows_above(declared))
+    }
+
+    /// The class that a class extends directly, if it names one. Where a name is declared twice, the first declaration counts.
+    pub fn superclass_of(&self, name: Name) -> Option<Name>
+        ensures { result ≡ superclass_of self.now name }
+    {
+        let place = self.place(name)?;
+        self.types.get(place)?.superclass
     }
 }

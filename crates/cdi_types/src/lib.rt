@@ -7,7 +7,11 @@ mod edges;
 pub mod error;
 pub mod graph;
 mod index;
+pub mod laws;
+mod lineage;
+pub mod table;
 
 pub use declaration::{TypeDeclaration, declarations_of};
 pub use error::TypesError;
 pub use graph::TypeGraph;
+pub use table::TypeTable;
