@@ -1,0 +1,4 @@
+pub mod Orders
+pub mod Pairs
+pub mod OrderedSets
+pub mod TypeLists
