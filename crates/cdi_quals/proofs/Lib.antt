@@ -1,3 +1,4 @@
+pub mod Having
 pub mod Orders
 pub mod Pairs
 pub mod OrderedSets

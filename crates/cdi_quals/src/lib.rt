@@ -2,6 +2,7 @@
 //! the same way (Jakarta Interceptors 2.1, *Interceptor Resolution*).
 #![tactic(auto)]
 
+pub mod laws;
 pub mod order;
 pub mod qualifier;
 pub mod set;
