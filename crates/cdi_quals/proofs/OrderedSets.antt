@@ -19,11 +19,11 @@ pub ordered_set : {X : Type 0} {R : X → X → Ordering} → IsTotalOrder R →
 ordered_set {X} {R} total apart given sorted set moved rising is =
     let P : List X → Type 0 = IsOrderedSet R given in
     subst P (sym is) (
-      record {
-        rising = IsStrictlySortedBy-dedup total (λ x y. refl) sorted rising;
-        same = λ x. (
-          λ h. Contains-permutation sorted given x (IsPermutation-sym given sorted moved) (Contains-from_dedup (eq_by_cmp R) sorted x h),
-          λ h. Contains-dedup (eq_by_cmp_equiv total) (λ a b e. apart a b (equal (R a b) e)) sorted x (Contains-permutation given sorted x moved h),
-        );
-      }
+    record {
+      rising = IsStrictlySortedBy-dedup total (λ x y. refl) sorted rising;
+      same = λ x. (
+        λ h. Contains-permutation sorted given x (IsPermutation-sym given sorted moved) (Contains-from_dedup (eq_by_cmp R) sorted x h),
+        λ h. Contains-dedup (eq_by_cmp_equiv total) (λ a b e. apart a b (equal (R a b) e)) sorted x (Contains-permutation given sorted x moved h),
+      );
+    }
     )

@@ -74,12 +74,20 @@ fn agree(a: &[QualifierMember], b: &[QualifierMember]) -> bool
 impl Qualifier {
     /// A use with all the members of its type: those that it doesn't give are null, and others that it gives are left out. A type
     /// that isn't known has no members.
-    pub fn new(alloc: Global, types: &QualifierTypes, written: &Use) -> Result<Qualifier, AllocError>
+    pub fn new(
+        alloc: Global,
+        types: &QualifierTypes,
+        written: &Use,
+    ) -> Result<Qualifier, AllocError>
         ensures { IfOk result (λ full. full ≡ spec.full_use types.now written.now) }
     {
         Ok(Qualifier {
             name: written.name,
-            members: members_of(alloc, types.members_of(written.name), written.members.as_slice())?,
+            members: members_of(
+                alloc,
+                types.members_of(written.name),
+                written.members.as_slice(),
+            )?,
         })
     }
 

@@ -82,14 +82,21 @@ impl QualSet {
     pub fn has(&self, required: &Qualifier) -> bool
         ensures { result ≡ spec.has self.now required.now }
     {
-        self.qualifiers.as_slice().iter().any(|own| required.same_binding(own))
+        self.qualifiers
+            .as_slice()
+            .iter()
+            .any(|own| required.same_binding(own))
     }
 
     /// Whether the set has each qualifier of a set.
     pub fn has_all(&self, required: &QualSet) -> bool
         ensures { result ≡ spec.has_all self.now required.now }
     {
-        required.qualifiers.as_slice().iter().all(|qualifier| self.has(qualifier))
+        required
+            .qualifiers
+            .as_slice()
+            .iter()
+            .all(|qualifier| self.has(qualifier))
     }
 
     /// Whether another set has each qualifier of this one, as the qualifiers of an observer have to be among those of an event

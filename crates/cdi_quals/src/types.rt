@@ -146,7 +146,10 @@ fn add_built_in(alloc: Global, types: &mut Seq<QualifierType>) -> Result<(), All
 
 impl QualifierTypes {
     /// The qualifier types of a deployment: those that it declares, and the built-in ones.
-    pub fn qualifiers_of(alloc: Global, deployment: &Deployment) -> Result<QualifierTypes, AllocError>
+    pub fn qualifiers_of(
+        alloc: Global,
+        deployment: &Deployment,
+    ) -> Result<QualifierTypes, AllocError>
         ensures { IfOk result (spec.AreQualifiersOf deployment.now) }
     {
         let mut types = types_of(alloc, &deployment.names, deployment.qualifiers.as_slice())?;

@@ -161,7 +161,10 @@ impl TypeGraph {
     pub fn knows_supertypes(&self) -> bool
         ensures { result ≡ spec.knows_supertypes self.now }
     {
-        self.types.as_slice().iter().all(|declared| self.knows_above(declared))
+        self.types
+            .as_slice()
+            .iter()
+            .all(|declared| self.knows_above(declared))
     }
 
     /// The class that a class extends directly, if it names one. Where a name is declared twice, the first declaration counts.

@@ -23,7 +23,12 @@ pub(crate) fn name(rt: &impl Abort, names: &mut Names, text: &str) -> Name {
 }
 
 /// The names of texts with blanks between them.
-pub(crate) fn names_in(rt: &impl Abort, alloc: Global, names: &mut Names, texts: &str) -> Seq<Name> {
+pub(crate) fn names_in(
+    rt: &impl Abort,
+    alloc: Global,
+    names: &mut Names,
+    texts: &str,
+) -> Seq<Name> {
     let mut found = Seq::empty(alloc);
     for text in texts.split(' ') {
         if !text.is_empty() {
@@ -50,7 +55,13 @@ pub(crate) fn empty(rt: &impl Abort, alloc: Global) -> Deployment {
 }
 
 /// Adds an interface that extends these.
-pub(crate) fn add_interface(rt: &impl Abort, alloc: Global, to: &mut Deployment, text: &str, extends: &str) {
+pub(crate) fn add_interface(
+    rt: &impl Abort,
+    alloc: Global,
+    to: &mut Deployment,
+    text: &str,
+    extends: &str,
+) {
     let interface = Interface {
         name: name(rt, &mut to.names, text),
         extends: names_in(rt, alloc, &mut to.names, extends),
@@ -59,7 +70,12 @@ pub(crate) fn add_interface(rt: &impl Abort, alloc: Global, to: &mut Deployment,
 }
 
 /// A class that declares nothing but what stands above it.
-pub(crate) fn bare_class(alloc: Global, name: Name, extends: Option<Name>, implements: Seq<Name>) -> Class {
+pub(crate) fn bare_class(
+    alloc: Global,
+    name: Name,
+    extends: Option<Name>,
+    implements: Seq<Name>,
+) -> Class {
     Class {
         name,
         extends,
@@ -91,7 +107,9 @@ pub(crate) fn add_class(
         Some(name(rt, &mut to.names, extends))
     };
     let implements = names_in(rt, alloc, &mut to.names, implements);
-    to.classes.push(bare_class(alloc, own, above, implements)).expect(rt, "memory");
+    to.classes
+        .push(bare_class(alloc, own, above, implements))
+        .expect(rt, "memory");
 }
 
 /// Adds a qualifier type with these members.
@@ -120,15 +138,26 @@ fn member(rt: &impl Abort, names: &mut Names, text: &str, value: i64) -> MemberV
 }
 
 /// Uses by the texts of their names, each with its members and their numbers.
-pub(crate) fn uses_in(rt: &impl Abort, alloc: Global, names: &mut Names, texts: &[(&str, &[(&str, i64)])]) -> Seq<Use> {
+pub(crate) fn uses_in(
+    rt: &impl Abort,
+    alloc: Global,
+    names: &mut Names,
+    texts: &[(&str, &[(&str, i64)])],
+) -> Seq<Use> {
     let mut uses = Seq::empty(alloc);
     for (text, members) in texts {
         let own = name(rt, names, text);
         let mut given = Seq::empty(alloc);
         for (of, value) in *members {
-            given.push(member(rt, names, of, *value)).expect(rt, "memory");
+            given
+                .push(member(rt, names, of, *value))
+                .expect(rt, "memory");
         }
-        uses.push(Use { name: own, members: given }).expect(rt, "memory");
+        uses.push(Use {
+            name: own,
+            members: given,
+        })
+        .expect(rt, "memory");
     }
     uses
 }

@@ -18,7 +18,9 @@ fn numbered(rt: &impl Abort, alloc: Global, names: &mut Names, number: usize) ->
 fn below(rt: &impl Abort, alloc: Global, names: &mut Names, number: usize) -> Seq<Name> {
     let mut found = Seq::empty(alloc);
     for other in number.saturating_sub(64)..number {
-        found.push(numbered(rt, alloc, names, other)).expect(rt, "memory");
+        found
+            .push(numbered(rt, alloc, names, other))
+            .expect(rt, "memory");
     }
     found
 }
@@ -29,7 +31,10 @@ fn chain(rt: &impl Abort, alloc: Global, count: usize) -> Deployment {
     for number in 0..count {
         let own = numbered(rt, alloc, &mut types.names, number);
         let above = below(rt, alloc, &mut types.names, number);
-        types.classes.push(bare_class(alloc, own, None, above)).expect(rt, "memory");
+        types
+            .classes
+            .push(bare_class(alloc, own, None, above))
+            .expect(rt, "memory");
     }
     types
 }
@@ -41,8 +46,18 @@ fn a_chain_of_types(rt: HostRuntime) -> Result<(), Fail> {
     let table = TypeTable::build(alloc, &types).expect(&rt, "a table");
     let first = numbered(&rt, alloc, &mut types.names, 0);
     let last = numbered(&rt, alloc, &mut types.names, 1023);
-    expect(&rt, table.is_subtype(last, first), true, "the last type and the first");
-    expect(&rt, table.is_subtype(first, last), false, "the first type and the last");
+    expect(
+        &rt,
+        table.is_subtype(last, first),
+        true,
+        "the last type and the first",
+    );
+    expect(
+        &rt,
+        table.is_subtype(first, last),
+        false,
+        "the first type and the last",
+    );
     let above = table.types_of(alloc, last)?;
     expect_count(&rt, above.len(), 1025, "the types above the last");
     Ok(())
@@ -53,7 +68,10 @@ fn uses(rt: &impl Abort, alloc: Global, names: &mut Names, count: usize) -> Seq<
     let mut found = Seq::empty(alloc);
     for number in 0..count {
         let own = numbered(rt, alloc, names, number / 2);
-        let written = Use { name: own, members: Seq::empty(alloc) };
+        let written = Use {
+            name: own,
+            members: Seq::empty(alloc),
+        };
         found.push(written).expect(rt, "memory");
     }
     found

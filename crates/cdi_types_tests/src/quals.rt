@@ -18,24 +18,72 @@ struct Has<'a> {
 
 const HAS: [Has; 9] = [
     // a nonbinding member doesn't count
-    Has { set: &[("Q", &[("v", 1), ("w", 1)])], required: &[("Q", &[("v", 1), ("w", 2)])], wanted: true },
-    Has { set: &[("Q", &[("v", 1), ("w", 1)])], required: &[("Q", &[("v", 2), ("w", 1)])], wanted: false },
+    Has {
+        set: &[("Q", &[("v", 1), ("w", 1)])],
+        required: &[("Q", &[("v", 1), ("w", 2)])],
+        wanted: true,
+    },
+    Has {
+        set: &[("Q", &[("v", 1), ("w", 1)])],
+        required: &[("Q", &[("v", 2), ("w", 1)])],
+        wanted: false,
+    },
     // a member that isn't given is null
-    Has { set: &[("Q", &[("w", 1)])], required: &[("Q", &[])], wanted: true },
-    Has { set: &[("Q", &[("v", 1)])], required: &[("Q", &[])], wanted: false },
-    Has { set: &[("P", &[]), ("Q", &[])], required: &[("Q", &[]), ("P", &[])], wanted: true },
-    Has { set: &[("P", &[])], required: &[("P", &[]), ("Q", &[])], wanted: false },
-    Has { set: &[], required: &[], wanted: true },
+    Has {
+        set: &[("Q", &[("w", 1)])],
+        required: &[("Q", &[])],
+        wanted: true,
+    },
+    Has {
+        set: &[("Q", &[("v", 1)])],
+        required: &[("Q", &[])],
+        wanted: false,
+    },
+    Has {
+        set: &[("P", &[]), ("Q", &[])],
+        required: &[("Q", &[]), ("P", &[])],
+        wanted: true,
+    },
+    Has {
+        set: &[("P", &[])],
+        required: &[("P", &[]), ("Q", &[])],
+        wanted: false,
+    },
+    Has {
+        set: &[],
+        required: &[],
+        wanted: true,
+    },
     // a bean with Named and Default is found at Default, one with Q alone isn't
-    Has { set: &[("Any", &[]), ("Default", &[]), ("Named", &[("value", 1)])], required: &[("Default", &[])], wanted: true },
-    Has { set: &[("Any", &[]), ("Q", &[])], required: &[("Default", &[])], wanted: false },
+    Has {
+        set: &[("Any", &[]), ("Default", &[]), ("Named", &[("value", 1)])],
+        required: &[("Default", &[])],
+        wanted: true,
+    },
+    Has {
+        set: &[("Any", &[]), ("Q", &[])],
+        required: &[("Default", &[])],
+        wanted: false,
+    },
 ];
 
-fn set_of(rt: &impl Abort, alloc: Global, names: &Names, types: &QualifierTypes, uses: &Seq<Use>) -> QualSet {
+fn set_of(
+    rt: &impl Abort,
+    alloc: Global,
+    names: &Names,
+    types: &QualifierTypes,
+    uses: &Seq<Use>,
+) -> QualSet {
     QualSet::new(alloc, names, types, uses.as_slice()).expect(rt, "memory")
 }
 
-fn check_has(rt: &impl Abort, alloc: Global, of: &mut Deployment, types: &QualifierTypes, row: &Has) {
+fn check_has(
+    rt: &impl Abort,
+    alloc: Global,
+    of: &mut Deployment,
+    types: &QualifierTypes,
+    row: &Has,
+) {
     let uses = uses_in(rt, alloc, &mut of.names, row.set);
     let required = uses_in(rt, alloc, &mut of.names, row.required);
     let set = set_of(rt, alloc, &of.names, types, &uses);
@@ -67,9 +115,20 @@ fn repeats_are_dropped(rt: HostRuntime) -> Result<(), Fail> {
         &rt,
         alloc,
         &mut of.names,
-        &[("Q", &[("v", 2)]), ("Any", &[]), ("Q", &[("v", 1)]), ("Q", &[("v", 2)]), ("Any", &[])],
+        &[
+            ("Q", &[("v", 2)]),
+            ("Any", &[]),
+            ("Q", &[("v", 1)]),
+            ("Q", &[("v", 2)]),
+            ("Any", &[]),
+        ],
     );
     let set = set_of(&rt, alloc, &of.names, &types, &uses);
-    expect_count(&rt, set.as_slice().len(), 3, "a set of five uses, two of them repeats");
+    expect_count(
+        &rt,
+        set.as_slice().len(),
+        3,
+        "a set of five uses, two of them repeats",
+    );
     Ok(())
 }

@@ -15,17 +15,61 @@ struct Below<'a> {
 }
 
 const BELOW: [Below; 11] = [
-    Below { name: "C", above: "C", wanted: true },
-    Below { name: "C", above: "B", wanted: true },
-    Below { name: "C", above: "J", wanted: true },
-    Below { name: "C", above: "I", wanted: true },
-    Below { name: "C", above: "Object", wanted: true },
-    Below { name: "J", above: "I", wanted: true },
-    Below { name: "I", above: "J", wanted: false },
-    Below { name: "B", above: "C", wanted: false },
-    Below { name: "Object", above: "I", wanted: false },
-    Below { name: "D", above: "I", wanted: false },
-    Below { name: "Startup", above: "Object", wanted: true },
+    Below {
+        name: "C",
+        above: "C",
+        wanted: true,
+    },
+    Below {
+        name: "C",
+        above: "B",
+        wanted: true,
+    },
+    Below {
+        name: "C",
+        above: "J",
+        wanted: true,
+    },
+    Below {
+        name: "C",
+        above: "I",
+        wanted: true,
+    },
+    Below {
+        name: "C",
+        above: "Object",
+        wanted: true,
+    },
+    Below {
+        name: "J",
+        above: "I",
+        wanted: true,
+    },
+    Below {
+        name: "I",
+        above: "J",
+        wanted: false,
+    },
+    Below {
+        name: "B",
+        above: "C",
+        wanted: false,
+    },
+    Below {
+        name: "Object",
+        above: "I",
+        wanted: false,
+    },
+    Below {
+        name: "D",
+        above: "I",
+        wanted: false,
+    },
+    Below {
+        name: "Startup",
+        above: "Object",
+        wanted: true,
+    },
 ];
 
 /// A class C below a class B, which implements an interface J that extends I, and a class D.
@@ -62,7 +106,13 @@ fn subtypes(rt: HostRuntime) -> Result<(), Fail> {
     Ok(())
 }
 
-fn check_refused(rt: &impl Abort, alloc: Global, types: &Deployment, wanted: TypesError, about: &str) {
+fn check_refused(
+    rt: &impl Abort,
+    alloc: Global,
+    types: &Deployment,
+    wanted: TypesError,
+    about: &str,
+) {
     let refused = match TypeTable::build(alloc, types) {
         Ok(_) => false,
         Err(error) => error == wanted,
@@ -83,10 +133,22 @@ fn cycles_and_unknown_names(rt: HostRuntime) -> Result<(), Fail> {
     add_interface(&rt, alloc, &mut two, "I", "J");
     add_interface(&rt, alloc, &mut two, "J", "I");
     add_class(&rt, alloc, &mut two, "K", "", "I");
-    check_cyclic(&rt, alloc, &two, 2, "a cycle of two interfaces, and a class below it");
+    check_cyclic(
+        &rt,
+        alloc,
+        &two,
+        2,
+        "a cycle of two interfaces, and a class below it",
+    );
     check_refused(&rt, alloc, &two, TypesError::Cycle, "a cycle");
     add_class(&rt, alloc, &mut two, "L", "Missing", "");
-    check_refused(&rt, alloc, &two, TypesError::Cycle, "a cycle before an unknown name");
+    check_refused(
+        &rt,
+        alloc,
+        &two,
+        TypesError::Cycle,
+        "a cycle before an unknown name",
+    );
     let mut unknown = empty(&rt, alloc);
     add_class(&rt, alloc, &mut unknown, "L", "Missing", "");
     check_refused(&rt, alloc, &unknown, TypesError::Unknown, "an unknown name");

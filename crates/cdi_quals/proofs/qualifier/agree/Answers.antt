@@ -17,7 +17,7 @@ loop-i-preserved c =
     elim c.else-a-i.branch [
       | else-a-i-via-then-a-i+else-is_ne w ↦ goes_on a b i w.index-a-i-then-a-i.result w.index-b-i.result c.loop-i-test.true within w.index-a-i-then-a-i.is w.index-b-i.is (agrees_at_equal w.index-a-i-then-a-i.result w.index-b-i.result w.compare_values.result (rw (← w.index-a-i-then-a-i.is, ← w.index-b-i.is) at w.compare_values.ensures) (sym w.is_ne.ensures ∙ w.if-is_ne.false)) c.loop-i.invariant
       | else-a-i-via-else-a-i w ↦ (
-        let x = c.index-a-i.result in
-        goes_on a b i x (get_or b i x) c.loop-i-test.true within c.index-a-i.is (get_or_default b i x (get_or b i x) within) (agrees_at_nonbinding x (get_or b i x) (rw (← c.index-a-i.is) at w.if-a-i.false)) c.loop-i.invariant
-        )
+          let x = c.index-a-i.result in
+          goes_on a b i x (get_or b i x) c.loop-i-test.true within c.index-a-i.is (get_or_default b i x (get_or b i x) within) (agrees_at_nonbinding x (get_or b i x) (rw (← c.index-a-i.is) at w.if-a-i.false)) c.loop-i.invariant
+          )
     ]
