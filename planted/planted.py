@@ -283,6 +283,12 @@ def by_law(crate, edit, kept):
     return False, f"{label}: NOT REFUSED by {law_of(edit)}: {lines[-1][:160]}"
 
 
+def alone_in(crate, edit, kept):
+    """Returns whether a check of the crate with this edit alone refuses it, and what to say."""
+    word, text = rt.must_fail(crate, edit, ONE, kept)
+    return word in (rt.REFUSED, rt.AT_LIMIT), text
+
+
 def try_crate(crate):
     """Tries all edits of a crate, those alone that no check of many refuses. Returns how many were refused, how many not, and what to print."""
     edits = all_edits(crate)
@@ -296,7 +302,7 @@ def try_crate(crate):
             shutil.copytree(f"{crate.folder}/out/incremental", kept, dirs_exist_ok=True)
         told, checks = in_groups(crate, good, kept)
         alone = [it for it in edits if it not in told]
-        tried = [by_law(crate, it, kept) if law_of(it) else rt.must_fail(crate, it, ONE, kept) for it in alone]
+        tried = [by_law(crate, it, kept) if law_of(it) else alone_in(crate, it, kept) for it in alone]
     refused = len(told) + sum(well for well, _ in tried)
     said = [f"rt: {text}" for _, text in tried]
     said.append(f"planted: {crate.name}: {len(edits)} edits, {checks} checks of many, {len(alone)} of one")

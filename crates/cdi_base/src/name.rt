@@ -16,7 +16,7 @@ pub const MAX_NAMES: usize = 1_048_576;
 pub const MAX_NAME_BYTES: usize = 255;
 
 /// An interned name, which contracts see as its number in the table that gave it.
-#[derive(Clone, Copy, Debug, PartialEq, Eq, Hash)]
+#[derive(Clone, Copy, Debug, PartialEq, Eq, PartialOrd, Ord, Hash)]
 pub struct Name {
     number: u32,
 }

@@ -1,0 +1,4 @@
+pub mod Order
+pub mod OrderedSet
+pub mod Qualifiers
+pub mod Types

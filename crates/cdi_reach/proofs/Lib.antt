@@ -1,0 +1,6 @@
+pub mod Bits
+pub mod Paths
+pub mod Rows
+pub mod Heights
+pub mod Listings
+pub mod OneWay

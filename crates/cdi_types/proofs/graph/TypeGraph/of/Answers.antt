@@ -1,0 +1,11 @@
+use Rattle.std.proofs.Common.{◌≡◌, sym, subst, List, ℕ}
+use Rattle.cdi_reach.specs.Graph.{IsGraph}
+use Rattle.cdi_types.specs.Index.{place_in}
+use Rattle.cdi_types.proofs.Refined.{is_graph}
+use Rattle.cdi_types.proofs.graph.TypeGraph.of.Goals as goal
+
+pub build-requires-2 : goal.build-requires-2
+build-requires-2 c =
+    let places = rw (c.as_slice.ensures, ← c.as_slice-2.ensures) at c.in_ok-index.ensures in
+    let P : List (List ℕ) → Type 0 = IsGraph in
+    subst P (sym c.in_ok-graph.ensures) (is_graph c.as_slice-2.result.now (place_in c.in_ok-index.index) places)

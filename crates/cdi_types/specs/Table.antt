@@ -1,0 +1,17 @@
+-- What building the table of the types answers.
+use Rattle.std.specs.Prelude.{ℕ, ◌≡◌, true, false, List, Result, Ok, Err}
+use Rattle.cdi_types.specs.declared.declaration.TypeDeclaration.{TypeDeclaration}
+use Rattle.cdi_types.specs.declared.error.TypesError.{TypesError}
+use Rattle.cdi_types.specs.declared.error.TypesError.TheVariants as errors
+use Rattle.cdi_types.specs.Subtype.{IsCyclic, IsAcyclic, knows_supertypes}
+
+-- types that have a table
+pub record IsSound (types : List TypeDeclaration) : Type 0 where
+  pub acyclic : IsAcyclic types
+  pub known : knows_supertypes types ≡ true
+
+-- types that have none, and no memory was wanting
+abbrev pub IsRefused : List TypeDeclaration → TypesError → Type 0
+IsRefused types errors.Cycle = (a : ℕ) × IsCyclic types a
+IsRefused types errors.Unknown = IsAcyclic types × (knows_supertypes types ≡ false)
+IsRefused types errors.Memory = Unit {0}

@@ -1,0 +1,177 @@
+//! The declared types with the graph of what stands above what.
+ghost use Rattle.std.specs.Prelude.{◌≡◌, ◌↔◌, ℕ, IsTrue, IfOk, MatchBool};
+ghost use Rattle.std.specs.List.{list_all};
+ghost use Rattle.cdi_reach.specs.ListsThose.{ListsThose};
+
+use crate::declaration::{TypeDeclaration, declarations_of};
+use crate::edges::graph_of;
+use crate::index::TypeIndex;
+use cdi_base::{BuiltIn, Name, Seq};
+use cdi_deploy::Deployment;
+use cdi_reach::Reachability;
+use std::alloc::{AllocError, Global};
+use std::marker::Model;
+
+/// The declared types, whatever they are: some may be their own supertypes, stand twice, or stand below unknown names. Contracts
+/// see the list of the declarations. Where a name is declared twice, what both declarations name stands above it; nothing stands
+/// above an unknown name.
+#[derive(Drop)]
+pub struct TypeGraph {
+    types: Seq<TypeDeclaration>,
+    index: TypeIndex,
+    reachability: Reachability,
+}
+
+impl Model for TypeGraph {
+    ghost use Rattle.std.specs.Prelude.{List};
+    ghost use Rattle.cdi_types.specs.declared.declaration.TypeDeclaration.{TypeDeclaration};
+    ghost use Rattle.cdi_types.specs.Nodes.{IsGraphOf};
+
+    ghost Value = { List TypeDeclaration };
+
+    ghost view = { λ t. t.types };
+
+    ghost invariant = { λ t. IsGraphOf t.types t.index t.reachability };
+}
+
+impl TypeGraph {
+    ghost use Rattle.cdi_types.specs.Declarations as declared;
+    ghost use Rattle.cdi_types.specs.Lineage.{superclass_of};
+    ghost use Rattle.cdi_types.specs.Nodes as nodes;
+    ghost use Rattle.cdi_types.specs.Subtype as spec;
+
+    /// The types of a deployment.
+    pub fn build(alloc: Global, deployment: &Deployment) -> Result<TypeGraph, AllocError>
+        ensures { IfOk result (λ graph. graph ≡ declared.declarations_of deployment.now) }
+    {
+        TypeGraph::of(alloc, declarations_of(alloc, deployment)?)
+    }
+
+    /// These declarations.
+    pub fn of(alloc: Global, types: Seq<TypeDeclaration>) -> Result<TypeGraph, AllocError>
+        ensures { IfOk result (λ graph. graph ≡ types) }
+    {
+        let index = TypeIndex::build(alloc, types.as_slice())?;
+        let graph = graph_of(alloc, &index, types.as_slice())?;
+        let reachability = Reachability::build(alloc, graph)?;
+        Ok(TypeGraph {
+            types,
+            index,
+            reachability,
+        })
+    }
+
+    /// The declarations.
+    pub fn declarations(&self) -> &[TypeDeclaration]
+        ensures { result.now ≡ self.now }
+    {
+        self.types.as_slice()
+    }
+
+    /// The place of the first declaration of a name, if it is declared.
+    pub fn place(&self, name: Name) -> Option<usize>
+        ensures { result ≡ nodes.place_of self.now name }
+    {
+        self.index.place(name)
+    }
+
+    /// Whether a name is declared.
+    pub fn is_declared(&self, name: Name) -> bool
+        ensures { result ≡ spec.is_declared self.now name }
+    {
+        self.place(name).is_some()
+    }
+
+    /// Whether a name is a type's.
+    pub fn is_type(&self, name: Name) -> bool
+        ensures { result ≡ spec.is_type self.now name }
+    {
+        name == BuiltIn::Object.name() || self.is_declared(name)
+    }
+
+    /// Whether a name stands below a declared one, by one step up or more.
+    pub fn is_below(&self, name: Name, above: Name) -> bool
+        requires { IsTrue (spec.is_declared self.now above) }
+        ensures { IsTrue result ↔ spec.IsBelow self.now name above }
+    {
+        let Some(from) = self.index.place(name) else {
+            return false;
+        };
+        let Some(to) = self.index.place(above) else {
+            return false;
+        };
+        self.reachability.reaches_properly(from, to)
+    }
+
+    /// Whether a name is its own proper supertype.
+    pub fn is_cyclic(&self, name: Name) -> bool
+        ensures { IsTrue result ↔ spec.IsCyclic self.now name }
+    {
+        match self.index.place(name) {
+            Some(place) => self.reachability.is_on_cycle(place),
+            None => false,
+        }
+    }
+
+    /// Whether a type is its own proper supertype.
+    pub fn has_cycle(&self) -> bool
+        ensures { MatchBool result
+            ((a : ℕ) × spec.IsCyclic self.now a) (spec.IsAcyclic self.now) }
+    {
+        for declared in self.types.as_slice() {
+            if self.is_cyclic(declared.name) {
+                return true;
+            }
+        }
+        false
+    }
+
+    /// The types that are their own proper supertypes, each as often as it is declared, in the order of the declarations.
+    pub fn cyclic(&self, alloc: Global) -> Result<Seq<Name>, AllocError>
+        ensures { IfOk result
+            (λ found. ListsThose (spec.IsCyclic self.now) (spec.names_of self.now) found) }
+    {
+        let mut found = Seq::empty(alloc);
+        for declared in self.types.as_slice() {
+            if self.is_cyclic(declared.name) {
+                found.push(declared.name)?;
+            }
+        }
+        Ok(found)
+    }
+
+    /// Whether all names are types'.
+    fn are_types(&self, names: &[Name]) -> bool
+        ensures { result ≡ list_all (spec.is_type self.now) names.now }
+    {
+        names.iter().all(|name| self.is_type(*name))
+    }
+
+    /// Whether each name that a declaration puts above its type is a type's.
+    fn knows_above(&self, declared: &TypeDeclaration) -> bool
+        ensures { result ≡ list_all (spec.is_type self.now) (spec.direct_supertypes declared.now) }
+    {
+        match declared.superclass {
+            Some(name) => self.is_type(name) && self.are_types(declared.interfaces.as_slice()),
+            None => self.are_types(declared.interfaces.as_slice()),
+        }
+    }
+
+    /// Whether each name that stands above a type is a type's.
+    pub fn knows_supertypes(&self) -> bool
+        ensures { result ≡ spec.knows_supertypes self.now }
+    {
+        self.types
+            .as_slice()
+            .iter()
+            .all(|declared| self.knows_above(declared))
+    }
+
+    /// The class that a class extends directly, if it names one. Where a name is declared twice, the first declaration counts.
+    pub fn superclass_of(&self, name: Name) -> Option<Name>
+        ensures { result ≡ superclass_of self.now name }
+    {
+        let place = self.place(name)?;
+        self.types.get(place)?.superclass
+    }
+}

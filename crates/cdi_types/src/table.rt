@@ -1,0 +1,133 @@
+//! The table of the types.
+ghost use Rattle.std.specs.Prelude.{◌≡◌, ◌≢◌, ◌↔◌, IsTrue, IfOk, OnOk, IfErr};
+ghost use Rattle.cdi_reach.specs.ListsThose.{ListsThose};
+ghost use Rattle.cdi_types.specs.Table.{IsSound, IsRefused};
+
+use crate::declaration::TypeDeclaration;
+use crate::error::TypesError;
+use crate::graph::TypeGraph;
+use crate::lineage::lineage_of;
+use cdi_base::{BuiltIn, Name, Seq};
+use cdi_deploy::Deployment;
+use std::alloc::{AllocError, Global};
+use std::marker::Model;
+
+/// The types of a deployment, none of which is its own proper supertype, and all of whose supertypes are types. Contracts see the
+/// list of the declarations; `Object` is a type that isn't declared.
+///
+/// For n types it is made in at most n³ / 64 steps; a question about two types takes constant time.
+#[derive(Drop)]
+pub struct TypeTable {
+    graph: TypeGraph,
+}
+
+impl Model for TypeTable {
+    ghost use Rattle.std.specs.Prelude.{List};
+    ghost use Rattle.cdi_types.specs.declared.declaration.TypeDeclaration.{TypeDeclaration};
+    ghost use Rattle.cdi_types.specs.Table.{IsSound};
+
+    ghost Value = { List TypeDeclaration };
+
+    ghost view = { λ t. t.graph };
+
+    ghost invariant = { λ t. IsSound t.graph };
+}
+
+impl TypeTable {
+    ghost use Rattle.cdi_types.specs.Declarations.{declarations_of};
+    ghost use Rattle.cdi_types.specs.Lineage as lineage;
+    ghost use Rattle.cdi_types.specs.Subtype as spec;
+
+    /// The table of the types of a deployment. Where it has none the answer is [`TypesError::Cycle`] before
+    /// [`TypesError::Unknown`], unless memory runs out.
+    pub fn build(alloc: Global, deployment: &Deployment) -> Result<TypeTable, TypesError>
+        ensures table { IfOk result (λ table. table ≡ declarations_of deployment.now) }
+        ensures sound { OnOk result (IsSound (declarations_of deployment.now)) }
+        ensures refused { IfErr result (IsRefused (declarations_of deployment.now)) }
+    {
+        TypeTable::of(TypeGraph::build(alloc, deployment)?)
+    }
+
+    /// The table of these types. The answer is never [`TypesError::Memory`].
+    pub fn of(graph: TypeGraph) -> Result<TypeTable, TypesError>
+        ensures table { IfOk result (λ table. table ≡ graph) }
+        ensures sound { OnOk result (IsSound graph) }
+        ensures refused { IfErr result (IsRefused graph) }
+        ensures decided { IfErr result (λ e. e ≢ TypesError.Memory) }
+    {
+        if graph.has_cycle() {
+            return Err(TypesError::Cycle);
+        }
+        if !graph.knows_supertypes() {
+            return Err(TypesError::Unknown);
+        }
+        Ok(TypeTable { graph })
+    }
+
+    /// No type of the table is its own proper supertype, and all supertypes are types.
+    pub fn law_sound(&self)
+        ensures { IsSound self.now }
+    {
+        let _types = self.graph.declarations();
+    }
+
+    /// The declarations.
+    pub fn declarations(&self) -> &[TypeDeclaration]
+        ensures { result.now ≡ self.now }
+    {
+        self.graph.declarations()
+    }
+
+    /// Whether a name is a type's.
+    pub fn is_type(&self, name: Name) -> bool
+        ensures { result ≡ spec.is_type self.now name }
+    {
+        self.graph.is_type(name)
+    }
+
+    /// Whether one type is a subtype of another (Jakarta CDI 4.0, *Bean types*).
+    pub fn is_subtype(&self, name: Name, above: Name) -> bool
+        ensures { IsTrue result ↔ spec.IsSubtype self.now name above }
+    {
+        if name == above {
+            return true;
+        }
+        if above == BuiltIn::Object.name() {
+            return true;
+        }
+        if !self.graph.is_declared(above) {
+            return false;
+        }
+        self.graph.is_below(name, above)
+    }
+
+    /// The types that a type is a subtype of, in the order of their declaration, and `Object` behind them. They are the bean types
+    /// of a managed bean of the class that are not restricted (Jakarta CDI 4.0, *Bean types*).
+    pub fn types_of(&self, alloc: Global, name: Name) -> Result<Seq<Name>, AllocError>
+        ensures { IfOk result
+            (λ found. ListsThose (spec.IsSubtype self.now name) (spec.all_types self.now) found) }
+    {
+        let mut found = Seq::empty(alloc);
+        for declared in self.graph.declarations() {
+            if self.is_subtype(name, declared.name) {
+                found.push(declared.name)?;
+            }
+        }
+        found.push(BuiltIn::Object.name())?;
+        Ok(found)
+    }
+
+    /// The class that a class extends directly, if it names one. Where a name is declared twice, the first declaration counts.
+    pub fn superclass_of(&self, name: Name) -> Option<Name>
+        ensures { result ≡ lineage.superclass_of self.now name }
+    {
+        self.graph.superclass_of(name)
+    }
+
+    /// A class with its superclasses below `Object`, the topmost first.
+    pub fn lineage(&self, alloc: Global, name: Name) -> Result<Seq<Name>, AllocError>
+        ensures { IfOk result (λ names. lineage.IsLineage self.now name names) }
+    {
+        lineage_of(alloc, &self.graph, name)
+    }
+}

@@ -1,0 +1,163 @@
+//! What the tests share: small deployments, and one call that compares.
+use cdi_base::{MemberValue, Name, Names, Seq, Use, Value, is_name};
+use cdi_deploy::{AnnotationType, Class, Deployment, Interface};
+use std::alloc::Global;
+use std::process::Abort;
+
+/// Ends the test unless something is as it is wanted; what it is about is told.
+pub(crate) fn expect(rt: &impl Abort, found: bool, wanted: bool, about: &str) {
+    assert!(rt; found == wanted, "{found} in place of {wanted} at {about}");
+}
+
+/// Ends the test unless a number is this one; what it is about is told.
+pub(crate) fn expect_count(rt: &impl Abort, found: usize, wanted: usize, about: &str) {
+    assert!(rt; found == wanted, "{found} in place of {wanted} at {about}");
+}
+
+/// The name of a text, which has to be a name.
+pub(crate) fn name(rt: &impl Abort, names: &mut Names, text: &str) -> Name {
+    if !is_name(text) {
+        panic!(rt; "{text} is no name");
+    }
+    names.intern(text).expect(rt, "room for a name")
+}
+
+/// The names of texts with blanks between them.
+pub(crate) fn names_in(
+    rt: &impl Abort,
+    alloc: Global,
+    names: &mut Names,
+    texts: &str,
+) -> Seq<Name> {
+    let mut found = Seq::empty(alloc);
+    for text in texts.split(' ') {
+        if !text.is_empty() {
+            found.push(name(rt, names, text)).expect(rt, "memory");
+        }
+    }
+    found
+}
+
+/// An empty deployment with the built-in names.
+pub(crate) fn empty(rt: &impl Abort, alloc: Global) -> Deployment {
+    Deployment {
+        names: Names::with_built_in(alloc).expect(rt, "memory"),
+        interfaces: Seq::empty(alloc),
+        qualifiers: Seq::empty(alloc),
+        bindings: Seq::empty(alloc),
+        exceptions: Seq::empty(alloc),
+        classes: Seq::empty(alloc),
+        interceptors: Seq::empty(alloc),
+        selected: Seq::empty(alloc),
+        order: Seq::empty(alloc),
+        scripts: Seq::empty(alloc),
+    }
+}
+
+/// Adds an interface that extends these.
+pub(crate) fn add_interface(
+    rt: &impl Abort,
+    alloc: Global,
+    to: &mut Deployment,
+    text: &str,
+    extends: &str,
+) {
+    let interface = Interface {
+        name: name(rt, &mut to.names, text),
+        extends: names_in(rt, alloc, &mut to.names, extends),
+    };
+    to.interfaces.push(interface).expect(rt, "memory");
+}
+
+/// A class that declares nothing but what stands above it.
+pub(crate) fn bare_class(
+    alloc: Global,
+    name: Name,
+    extends: Option<Name>,
+    implements: Seq<Name>,
+) -> Class {
+    Class {
+        name,
+        extends,
+        implements,
+        is_abstract: false,
+        is_final: false,
+        bindings: Seq::empty(alloc),
+        bean: None,
+        fields: Seq::empty(alloc),
+        inject: Seq::empty(alloc),
+        constructor: None,
+        members: Seq::empty(alloc),
+    }
+}
+
+/// Adds a class that extends another, if one is given, and implements these.
+pub(crate) fn add_class(
+    rt: &impl Abort,
+    alloc: Global,
+    to: &mut Deployment,
+    text: &str,
+    extends: &str,
+    implements: &str,
+) {
+    let own = name(rt, &mut to.names, text);
+    let above = if extends.is_empty() {
+        None
+    } else {
+        Some(name(rt, &mut to.names, extends))
+    };
+    let implements = names_in(rt, alloc, &mut to.names, implements);
+    to.classes
+        .push(bare_class(alloc, own, above, implements))
+        .expect(rt, "memory");
+}
+
+/// Adds a qualifier type with these members.
+pub(crate) fn add_qualifier(
+    rt: &impl Abort,
+    alloc: Global,
+    to: &mut Deployment,
+    text: &str,
+    members: &str,
+    nonbinding: &str,
+) {
+    let declared = AnnotationType {
+        name: name(rt, &mut to.names, text),
+        members: names_in(rt, alloc, &mut to.names, members),
+        nonbinding: names_in(rt, alloc, &mut to.names, nonbinding),
+    };
+    to.qualifiers.push(declared).expect(rt, "memory");
+}
+
+/// A member with a number as its value.
+fn member(rt: &impl Abort, names: &mut Names, text: &str, value: i64) -> MemberValue {
+    MemberValue {
+        name: name(rt, names, text),
+        value: Value::Int(value),
+    }
+}
+
+/// Uses by the texts of their names, each with its members and their numbers.
+pub(crate) fn uses_in(
+    rt: &impl Abort,
+    alloc: Global,
+    names: &mut Names,
+    texts: &[(&str, &[(&str, i64)])],
+) -> Seq<Use> {
+    let mut uses = Seq::empty(alloc);
+    for (text, members) in texts {
+        let own = name(rt, names, text);
+        let mut given = Seq::empty(alloc);
+        for (of, value) in *members {
+            given
+                .push(member(rt, names, of, *value))
+                .expect(rt, "memory");
+        }
+        uses.push(Use {
+            name: own,
+            members: given,
+        })
+        .expect(rt, "memory");
+    }
+    uses
+}

@@ -1,0 +1,91 @@
+//! Deployments and sets as large as they may be.
+use crate::checks::{add_qualifier, bare_class, empty, expect, expect_count, name};
+use cdi_base::{Name, Names, Seq, Use};
+use cdi_deploy::Deployment;
+use cdi_quals::{QualSet, QualifierTypes};
+use cdi_types::TypeTable;
+use std::alloc::Global;
+use std::process::Abort;
+use std::test::Fail;
+
+/// The name of a number.
+fn numbered(rt: &impl Abort, alloc: Global, names: &mut Names, number: usize) -> Name {
+    let text = format!(in alloc; "T{number}").expect(rt, "memory");
+    name(rt, names, text.as_str())
+}
+
+/// The names of the 64 numbers below this one, or of as many as there are.
+fn below(rt: &impl Abort, alloc: Global, names: &mut Names, number: usize) -> Seq<Name> {
+    let mut found = Seq::empty(alloc);
+    for other in number.saturating_sub(64)..number {
+        found
+            .push(numbered(rt, alloc, names, other))
+            .expect(rt, "memory");
+    }
+    found
+}
+
+/// Classes in a chain, each of which implements the 64 before it.
+fn chain(rt: &impl Abort, alloc: Global, count: usize) -> Deployment {
+    let mut types = empty(rt, alloc);
+    for number in 0..count {
+        let own = numbered(rt, alloc, &mut types.names, number);
+        let above = below(rt, alloc, &mut types.names, number);
+        types
+            .classes
+            .push(bare_class(alloc, own, None, above))
+            .expect(rt, "memory");
+    }
+    types
+}
+
+#[test]
+fn a_chain_of_types(rt: HostRuntime) -> Result<(), Fail> {
+    let alloc = rt.alloc();
+    let mut types = chain(&rt, alloc, 1024);
+    let table = TypeTable::build(alloc, &types).expect(&rt, "a table");
+    let first = numbered(&rt, alloc, &mut types.names, 0);
+    let last = numbered(&rt, alloc, &mut types.names, 1023);
+    expect(
+        &rt,
+        table.is_subtype(last, first),
+        true,
+        "the last type and the first",
+    );
+    expect(
+        &rt,
+        table.is_subtype(first, last),
+        false,
+        "the first type and the last",
+    );
+    let above = table.types_of(alloc, last)?;
+    expect_count(&rt, above.len(), 1025, "the types above the last");
+    Ok(())
+}
+
+/// So many uses without members, each of them twice.
+fn uses(rt: &impl Abort, alloc: Global, names: &mut Names, count: usize) -> Seq<Use> {
+    let mut found = Seq::empty(alloc);
+    for number in 0..count {
+        let own = numbered(rt, alloc, names, number / 2);
+        let written = Use {
+            name: own,
+            members: Seq::empty(alloc),
+        };
+        found.push(written).expect(rt, "memory");
+    }
+    found
+}
+
+#[test]
+fn a_large_set(rt: HostRuntime) -> Result<(), Fail> {
+    let alloc = rt.alloc();
+    let mut of = empty(&rt, alloc);
+    add_qualifier(&rt, alloc, &mut of, "Q", "", "");
+    let types = QualifierTypes::qualifiers_of(alloc, &of)?;
+    let written = uses(&rt, alloc, &mut of.names, 4000);
+    let set = QualSet::new(alloc, &of.names, &types, written.as_slice())?;
+    expect_count(&rt, set.as_slice().len(), 2000, "a set of 4,000 uses");
+    expect(&rt, set.has_all(&set), true, "a set has itself");
+    Ok(())
+}

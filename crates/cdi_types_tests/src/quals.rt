@@ -1,0 +1,134 @@
+//! Sets of qualifiers.
+use crate::checks::{add_qualifier, empty, expect, expect_count, uses_in};
+use cdi_base::{Names, Seq, Use};
+use cdi_deploy::Deployment;
+use cdi_quals::{QualSet, QualifierTypes};
+use std::alloc::Global;
+use std::process::Abort;
+use std::test::Fail;
+
+type Written<'a> = &'a [(&'a str, &'a [(&'a str, i64)])];
+
+/// Whether a set of uses has all of another.
+struct Has<'a> {
+    set: Written<'a>,
+    required: Written<'a>,
+    wanted: bool,
+}
+
+const HAS: [Has; 9] = [
+    // a nonbinding member doesn't count
+    Has {
+        set: &[("Q", &[("v", 1), ("w", 1)])],
+        required: &[("Q", &[("v", 1), ("w", 2)])],
+        wanted: true,
+    },
+    Has {
+        set: &[("Q", &[("v", 1), ("w", 1)])],
+        required: &[("Q", &[("v", 2), ("w", 1)])],
+        wanted: false,
+    },
+    // a member that isn't given is null
+    Has {
+        set: &[("Q", &[("w", 1)])],
+        required: &[("Q", &[])],
+        wanted: true,
+    },
+    Has {
+        set: &[("Q", &[("v", 1)])],
+        required: &[("Q", &[])],
+        wanted: false,
+    },
+    Has {
+        set: &[("P", &[]), ("Q", &[])],
+        required: &[("Q", &[]), ("P", &[])],
+        wanted: true,
+    },
+    Has {
+        set: &[("P", &[])],
+        required: &[("P", &[]), ("Q", &[])],
+        wanted: false,
+    },
+    Has {
+        set: &[],
+        required: &[],
+        wanted: true,
+    },
+    // a bean with Named and Default is found at Default, one with Q alone isn't
+    Has {
+        set: &[("Any", &[]), ("Default", &[]), ("Named", &[("value", 1)])],
+        required: &[("Default", &[])],
+        wanted: true,
+    },
+    Has {
+        set: &[("Any", &[]), ("Q", &[])],
+        required: &[("Default", &[])],
+        wanted: false,
+    },
+];
+
+fn set_of(
+    rt: &impl Abort,
+    alloc: Global,
+    names: &Names,
+    types: &QualifierTypes,
+    uses: &Seq<Use>,
+) -> QualSet {
+    QualSet::new(alloc, names, types, uses.as_slice()).expect(rt, "memory")
+}
+
+fn check_has(
+    rt: &impl Abort,
+    alloc: Global,
+    of: &mut Deployment,
+    types: &QualifierTypes,
+    row: &Has,
+) {
+    let uses = uses_in(rt, alloc, &mut of.names, row.set);
+    let required = uses_in(rt, alloc, &mut of.names, row.required);
+    let set = set_of(rt, alloc, &of.names, types, &uses);
+    let other = set_of(rt, alloc, &of.names, types, &required);
+    expect(rt, set.has_all(&other), row.wanted, "has_all");
+    expect(rt, other.subset(&set), row.wanted, "subset");
+}
+
+#[test]
+fn what_a_set_has(rt: HostRuntime) -> Result<(), Fail> {
+    let alloc = rt.alloc();
+    let mut of = empty(&rt, alloc);
+    add_qualifier(&rt, alloc, &mut of, "Q", "w v", "w");
+    add_qualifier(&rt, alloc, &mut of, "P", "", "");
+    let types = QualifierTypes::qualifiers_of(alloc, &of)?;
+    for row in &HAS {
+        check_has(&rt, alloc, &mut of, &types, row);
+    }
+    Ok(())
+}
+
+#[test]
+fn repeats_are_dropped(rt: HostRuntime) -> Result<(), Fail> {
+    let alloc = rt.alloc();
+    let mut of = empty(&rt, alloc);
+    add_qualifier(&rt, alloc, &mut of, "Q", "v w", "w");
+    let types = QualifierTypes::qualifiers_of(alloc, &of)?;
+    let uses = uses_in(
+        &rt,
+        alloc,
+        &mut of.names,
+        &[
+            ("Q", &[("v", 2)]),
+            ("Any", &[]),
+            ("Q", &[("v", 1)]),
+            ("Q", &[("v", 2)]),
+            ("Any", &[]),
+        ],
+    );
+    let set = set_of(&rt, alloc, &of.names, &types, &uses);
+    expect_count(
+        &rt,
+        set.as_slice().len(),
+        3,
+        "a set of five uses, two of them repeats",
+    );
+    Ok(())
+}
