@@ -1,10 +1,10 @@
 use Rattle.std.proofs.Common.{◌≡◌, ◌∙◌, ap, Err, arith}
 use Rattle.serde_json.specs.View.{view}
 use Rattle.serde_json.proofs.Views.{view-Array}
-use Rattle.cdi_script.specs.Build.{expression_of}
+use Rattle.cdi_script.specs.Expression.{expression_of}
 use Rattle.cdi_script.specs.declared.fault.ScriptFault.TheVariants.{BadStep}
 use Rattle.cdi_script.proofs.Long.{none_read}
-use Rattle.cdi_script.proofs.build.+expression_of.Goals as goal
+use Rattle.cdi_script.proofs.expression_form.+expression_of.Goals as goal
 
 pub returns-in-len4-up-clause-gives : goal.returns-in-len4-up-clause-gives
 returns-in-len4-up-clause-gives t c =

@@ -1,9 +1,9 @@
 use Rattle.std.proofs.Common.{◌∙◌, ap, sym, arith}
 use Rattle.serde_json.specs.View.{view}
 use Rattle.serde_json.proofs.Views.{view-Array}
-use Rattle.cdi_script.specs.Form.{is_expression}
+use Rattle.cdi_script.specs.Expression.{is_expression}
 use Rattle.cdi_script.proofs.Long.{is_none}
-use Rattle.cdi_script.proofs.form.+is_expression.Goals as goal
+use Rattle.cdi_script.proofs.expression_form.+is_expression.Goals as goal
 
 pub returns-in-len4-up : goal.returns-in-len4-up
 returns-in-len4-up t c =
