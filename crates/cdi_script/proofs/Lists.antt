@@ -1,5 +1,5 @@
 -- Lists of values beside their data: whether all pass, and none left.
-use Rattle.std.proofs.Common.{◌≡◌, ◌==◌, Bool, ◌&&◌, List, [], ◌∷◌, length, ℕ, refl, ap, arith}
+use Rattle.std.proofs.Common.{◌≡◌, ◌==◌, Bool, ◌&&◌, List, [], ◌∷◌, length, refl, ap, arith}
 use Rattle.std.specs.List.{list_all}
 use Rattle.serde_json.specs.Data.{Data}
 use Rattle.serde_json.specs.View.{view, items_view}

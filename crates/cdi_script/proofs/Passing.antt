@@ -185,16 +185,16 @@ found-passes p (y ∷ ys) x h = by (found-passes p ys x) (p y) refl h
     by later false e h = later h
 
 as-read : (stage : Stage) (kind : StepKind) (names : Names) (ds : Items) → fits stage (row_of kind) ds ≡ true → IsRead (action_as (Some kind) names ds)
-as-read stage kind names no_items h = nothing h
-as-read stage kind names (item word ds) h =
-    then (with_parts no_parts names (row_of kind).parts ds) _ (parts-read stage (row_of kind).parts no_parts names ds (and_parts _ _ (and_parts _ _ h).1).1) (λ x. tt)
+as-read stage of names no_items h = nothing h
+as-read stage of names (item word ds) h =
+    then (with_parts no_parts names (row_of of).parts ds) _ (parts-read stage (row_of of).parts no_parts names ds (and_parts _ _ (and_parts _ _ h).1).1) (λ x. tt)
 
 action-read : (stage : Stage) (names : Names) (ds : Items) → is_some (kind_of stage ds) ≡ true → IsRead (action_in stage names ds)
 unfolding action_in
 action-read stage names ds h = by (kind_of stage ds) refl h
   where
     by : (o : Option StepKind) → kind_of stage ds ≡ o → is_some o ≡ true → IsRead (action_as o names ds)
-    by (Some kind) e h = as-read stage kind names ds (found-passes (λ kind. fits stage (row_of kind) ds) all_kinds kind e)
+    by (Some k) e h = as-read stage k names ds (found-passes (λ other. fits stage (row_of other) ds) all_kinds k e)
     by None e h = nothing h
 
 step-read : (stage : Stage) (names : Names) (d : Data) → is_step_at stage d ≡ true → IsRead (step_at stage names d)

@@ -8,4 +8,4 @@ use Rattle.cdi_script.specs.Step.{row_of, action_of}
 
 pub rests : (kind : StepKind) (a b : Parts) → SameAtAll (row_of kind).parts a b → action_of kind a ≡ action_of kind b
 rests kinds.Set a b h = cc
-rests kind a b h = cc
+rests _ a b h = cc

@@ -1,5 +1,5 @@
 -- The names of a use are names exactly if the texts are at the places where names are due.
-use Rattle.std.proofs.Common.{◌≡◌, sym, ap, refl, ℕ, ◌&&◌, Bool, true, false, true≢false, is_some, List, [], ◌∷◌, Option, Some, None, option_map}
+use Rattle.std.proofs.Common.{◌≡◌, sym, ap, refl, ℕ, ◌&&◌, Bool, true, false, true≢false, is_some, List, ◌∷◌, Option, Some, None, option_map}
 use Rattle.std.proofs.Math.Bool.{and-true}
 use Rattle.std.specs.List.{list_all}
 use Rattle.std.specs.Option.{option_map_or, option_and_then}
@@ -9,7 +9,7 @@ use Rattle.cdi_base.specs.declared.uses.WrittenMember.{WrittenMember}
 use Rattle.cdi_base.specs.declared.uses.WrittenUse.{WrittenUse}
 use Rattle.cdi_base.specs.declared.value.Value.{Value}
 use Rattle.cdi_json.specs.Forms.{use_in, members_in, value_in}
-use Rattle.serde_json.specs.Data.{Data, null, boolean, number, string, array, object, Items, no_items, item, Members, no_members, member}
+use Rattle.serde_json.specs.Data.{Data, null, boolean, number, string, array, object, no_items, item, Members, no_members, member}
 use Rattle.cdi_script.specs.Qualifier.{has_named_keys, has_use_names}
 
 nothing : {A : Type 0} → false ≡ true → A

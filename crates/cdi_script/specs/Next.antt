@@ -5,7 +5,6 @@ use Rattle.cdi_base.specs.declared.act.Act.TheVariants as acts
 use Rattle.cdi_base.specs.declared.act.Answer.{Answer}
 use Rattle.cdi_base.specs.declared.act.Answer.TheVariants as answers
 use Rattle.cdi_base.specs.declared.fields.Fields.{Fields}
-use Rattle.cdi_base.specs.declared.value.Value.{Value}
 use Rattle.cdi_base.specs.declared.value.Value.TheVariants as values
 use Rattle.cdi_bodies.specs.declared.view.View.{View}
 use Rattle.cdi_bodies.specs.Shape.{last_answer}

@@ -1,4 +1,4 @@
-use Rattle.std.proofs.Common.{◌∙◌, arith}
+use Rattle.std.proofs.Common.{◌∙◌}
 use Rattle.cdi_script.proofs.Lists.{none_left}
 use Rattle.cdi_script.proofs.part.+are_parts.Goals as goal
 

@@ -16,4 +16,5 @@ pub returns-clause-too_long : goal.returns-clause-too_long
 returns-clause-too_long c =
     let steps : are_steps_at c.args.stage (items_view c.args.items.now) ≡ true = cc in (
       λ h. absurd (no_other_fault c.args.stage c.args.names.now (items_view c.args.items.now) TooLong (λ (xs : List Step). (xs, c.each.new.names)) c.each.result (λ e. cc) steps c.each.ensures.gives h),
-      λ many. absurd (true≢false (sym many ∙ few_are_not_many c.args.stage c.args.items.now c.if-items-gt-MAX_STEPS.false)))
+      λ many. absurd (true≢false (sym many ∙ few_are_not_many c.args.stage c.args.items.now c.if-items-gt-MAX_STEPS.false)),
+    )
