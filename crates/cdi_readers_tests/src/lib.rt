@@ -11,3 +11,5 @@ mod hints;
 mod large;
 #[cfg(test)]
 mod script;
+#[cfg(test)]
+mod steps;

@@ -5,7 +5,7 @@ use Rattle.cdi_base.specs.declared.reading.ReadError.{ReadError}
 use Rattle.cdi_base.specs.declared.reading.ReadError.TheVariants as errors
 use Rattle.cdi_base.specs.Reading.{◌>>=◌, Fails}
 use Rattle.cdi_script.specs.declared.fault.ScriptFault.{ScriptFault}
-use Rattle.cdi_script.specs.Build.{Reads, each}
+use Rattle.cdi_script.specs.Reading.{Reads, each}
 
 module _ {X : Type 0} where
   abbrev pub with_front : List X → Reads (List X) → Reads (List X)

@@ -1,5 +1,9 @@
 pub mod Each
+pub mod Lists
 pub mod Long
+pub mod Passing
+pub mod Rests
+pub mod UseNames
 pub mod Within
 pub mod Boxed
 pub mod Following

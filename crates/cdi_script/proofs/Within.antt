@@ -1,12 +1,15 @@
--- What a script does next lies in its shape.
-use Rattle.std.proofs.Common.{◌≡◌, ◌∙◌, sym, ap, subst, refl, ℕ, ◌+◌, ◌-◌, ◌==◌, ◌&&◌, ◌||◌, Bool, true, false, cond, List, [], ◌∷◌, ◌++◌, length, fold, Option, Some, None, nat_eq, nat_lt, length-append, append_assoc, arith}
+-- What a script does next lies in its shape. A step that is served has a line in each of two lemmas: `with_action-grows`, that what
+-- was listed stays so, and `act_of-in_shape`, that its act lies in the shape with what it names.
+use Rattle.std.proofs.Common.{◌≡◌, ◌∙◌, sym, ap, subst, refl, ℕ, ◌+◌, ◌-◌, ◌<◌, ◌==◌, ◌&&◌, ◌||◌, Bool, true, false, cond, List, [], ◌∷◌, ◌++◌, length, fold, Option, Some, None, nat_eq, nat_lt, length-append, append_assoc, append-nil, arith}
 use Rattle.std.proofs.lemmas.Bool.{lt-ltb}
+use borrow.Author.Tests.{ltb-true}
 use Rattle.std.proofs.lemmas.List.{length-map}
 use Rattle.std.proofs.lemmas.List.Folds.{list_any-append}
 use Rattle.std.proofs.lemmas.Cmp.{int_eq_equiv, nat_list_eq_equiv}
 use Rattle.std.specs.Cmp.Lexicographic.{pointwise}
 use Rattle.std.specs.List.{list_any}
 use Rattle.cdi_base.specs.declared.act.Act.{Act}
+use Rattle.cdi_base.specs.declared.act.Act.TheVariants as acts
 use Rattle.cdi_base.specs.declared.act.Answer.{Answer}
 use Rattle.cdi_base.specs.declared.act.Answer.TheVariants as answers
 use Rattle.cdi_base.specs.declared.act.Via.{Via}
@@ -17,15 +20,21 @@ use Rattle.cdi_base.specs.declared.uses.Use.{Use}
 use Rattle.cdi_base.specs.declared.value.Value.{Value}
 use Rattle.cdi_base.specs.declared.value.Value.TheVariants as values
 use Rattle.cdi_bodies.specs.declared.shape.Shape.{Shape}
+use Rattle.cdi_bodies.specs.declared.shape.MethodCall.{MethodCall}
+use Rattle.cdi_bodies.specs.declared.shape.OwnCall.{OwnCall}
+use Rattle.cdi_bodies.specs.declared.shape.FiredEvent.{FiredEvent}
+use Rattle.cdi_bodies.specs.declared.shape.Lookup.{Lookup}
 use Rattle.cdi_bodies.specs.declared.view.View.{View}
 use Rattle.cdi_bodies.specs.Shape.{in_shape, no_acts, last_answer, is_thrown, via_eq, value_eq, member_eq, use_eq}
 use Rattle.cdi_script.specs.declared.step.Action.{Action}
 use Rattle.cdi_script.specs.declared.step.Action.TheVariants as actions
 use Rattle.cdi_script.specs.declared.step.Step.{Step}
-use Rattle.cdi_script.specs.Listed.{with_action, shape_of}
-use Rattle.cdi_script.specs.Next.{act_of, end_act, act_at, is_lookup, lookups_in, next_of}
+use Rattle.cdi_script.specs.Listed.{shape_of}
+use Rattle.cdi_script.specs.Next.{end_act, act_at, lookups_in, next_of}
 use Rattle.cdi_script.specs.Reached.{is_wanted, from_next, passed, after_answer, reached, threw}
-use Rattle.cdi_script.specs.Value.{value_of}
+use Rattle.cdi_script.specs.Step.{act_of, is_lookup, with_action}
+use Rattle.cdi_script.specs.Term.{Term}
+use Rattle.cdi_script.specs.Value.{values_of}
 use Rattle.cdi_script.specs.Within.{StaysInShape}
 
 -- each is equal to itself
@@ -59,22 +68,6 @@ via-self (vias.Field name) = nat-self name
 via-self (vias.Param k) = nat-self k
 via-self (vias.Local k) = nat-self k
 
--- what the action names is listed
-abbrev covers : Shape → Action → Bool
-covers shape (actions.Set field value) = list_any (λ f. f == field) shape.sets
-covers shape (actions.Call via method args) = list_any (λ c. via_eq c.via via && (c.method == method) && (c.count == length args)) shape.calls
-covers shape (actions.Own method args) = list_any (λ c. (c.method == method) && (c.count == length args)) shape.owns
-covers shape (actions.Read via) = list_any (λ v. via_eq v via) shape.cells
-covers shape (actions.Write via value) = list_any (λ v. via_eq v via) shape.cells
-covers shape (actions.Fire class qualifiers value) = list_any (λ e. (e.class == class) && pointwise use_eq e.qualifiers qualifiers) shape.fires
-covers shape actions.Proceed = shape.chain
-covers shape (actions.ProceedWith args) = shape.chain
-covers shape (actions.Find bean_type qualifiers) = true
-covers shape (actions.Keep key value) = shape.chain
-covers shape (actions.Peek key) = shape.chain
-covers shape (actions.Give value) = true
-covers shape (actions.Throw exception) = list_any (λ x. x == exception) shape.throws
-
 either-true : (a b : Bool) → b ≡ true → (a || b) ≡ true
 either-true true b h = refl
 either-true false b h = h
@@ -82,104 +75,156 @@ either-true false b h = h
 either-kept : (a b : Bool) → a ≡ true → (a || b) ≡ true
 either-kept a b h = rw h refl
 
-module _ {X : Type 0} (p : X → Bool) where
-  at_end : (xs : List X) (x : X) → p x ≡ true → list_any p (xs ++ x ∷ []) ≡ true
-  at_end xs x h = list_any-append p xs (x ∷ []) ∙ either-true (list_any p xs) _ (either-kept (p x) false h)
+either-of : (a b c : Bool) → (a ≡ true → c ≡ true) → (a || b) ≡ true → (c || b) ≡ true
+either-of true b c more h = either-kept c b (more refl)
+either-of false b c more h = either-true c b h
 
-  kept : (xs ys : List X) → list_any p xs ≡ true → list_any p (xs ++ ys) ≡ true
-  kept xs ys h = list_any-append p xs ys ∙ either-kept (list_any p xs) _ h
+at_end : {X : Type 0} (p : X → Bool) (xs : List X) (x : X) → p x ≡ true → list_any p (xs ++ x ∷ []) ≡ true
+at_end p xs x h = list_any-append p xs (x ∷ []) ∙ either-true (list_any p xs) _ (either-kept (p x) false h)
 
--- what was listed stays so where more is
-chain-keeps : (shape : Shape) (a : Action) → covers shape a ≡ true → covers (record shape { chain = true }) a ≡ true
-chain-keeps shape actions.Proceed h = refl
-chain-keeps shape (actions.ProceedWith args) h = refl
-chain-keeps shape (actions.Keep key value) h = refl
-chain-keeps shape (actions.Peek key) h = refl
-chain-keeps shape a h = h
+-- a list that goes on with more
+record Extends {X : Type 0} (xs ys : List X) : Type 0 where
+  more : List X
+  is : xs ++ more ≡ ys
 
-keeps : (shape : Shape) (b a : Action) → covers shape a ≡ true → covers (with_action shape b) a ≡ true
-keeps shape (actions.Set f e) (actions.Set g d) h = kept (λ x. x == g) shape.sets (f ∷ []) h
-keeps shape (actions.Call via m args) (actions.Call via2 m2 args2) h = kept (λ c. via_eq c.via via2 && (c.method == m2) && (c.count == length args2)) shape.calls _ h
-keeps shape (actions.Own m args) (actions.Own m2 args2) h = kept (λ c. (c.method == m2) && (c.count == length args2)) shape.owns _ h
-keeps shape (actions.Read v) (actions.Read w) h = kept (λ x. via_eq x w) shape.cells (v ∷ []) h
-keeps shape (actions.Read v) (actions.Write w e) h = kept (λ x. via_eq x w) shape.cells (v ∷ []) h
-keeps shape (actions.Write v d) (actions.Read w) h = kept (λ x. via_eq x w) shape.cells (v ∷ []) h
-keeps shape (actions.Write v d) (actions.Write w e) h = kept (λ x. via_eq x w) shape.cells (v ∷ []) h
-keeps shape (actions.Fire c qs e) (actions.Fire c2 qs2 e2) h = kept (λ x. (x.class == c2) && pointwise use_eq x.qualifiers qs2) shape.fires _ h
-keeps shape (actions.Throw x) (actions.Throw y) h = kept (λ z. z == y) shape.throws (x ∷ []) h
-keeps shape actions.Proceed a h = chain-keeps shape a h
-keeps shape (actions.ProceedWith args) a h = chain-keeps shape a h
-keeps shape (actions.Keep key value) a h = chain-keeps shape a h
-keeps shape (actions.Peek key) a h = chain-keeps shape a h
-keeps shape b a h = h
+module _ {X : Type 0} where
+  same : (xs : List X) → Extends xs xs
+  same xs = record { more = []; is = append-nil xs }
 
-lists : (shape : Shape) (a : Action) → covers (with_action shape a) a ≡ true
-lists shape (actions.Set f e) = at_end (λ x. x == f) shape.sets f (nat-self f)
-lists shape (actions.Call via m args) = at_end (λ c. via_eq c.via via && (c.method == m) && (c.count == length args)) shape.calls _ (both _ _ (both _ _ (via-self via) (nat-self m)) (nat-self (length args)))
-lists shape (actions.Own m args) = at_end (λ c. (c.method == m) && (c.count == length args)) shape.owns _ (both _ _ (nat-self m) (nat-self (length args)))
-lists shape (actions.Read v) = at_end (λ x. via_eq x v) shape.cells v (via-self v)
-lists shape (actions.Write v e) = at_end (λ x. via_eq x v) shape.cells v (via-self v)
-lists shape (actions.Fire c qs e) = at_end (λ x. (x.class == c) && pointwise use_eq x.qualifiers qs) shape.fires _ (both _ _ (nat-self c) (uses-self qs))
-lists shape actions.Proceed = refl
-lists shape (actions.ProceedWith args) = refl
-lists shape (actions.Find t qs) = refl
-lists shape (actions.Keep key value) = refl
-lists shape (actions.Peek key) = refl
-lists shape (actions.Give e) = refl
-lists shape (actions.Throw x) = at_end (λ y. y == x) shape.throws x (nat-self x)
+  one_more : (xs : List X) (x : X) → Extends xs (xs ++ x ∷ [])
+  one_more xs x = record { more = x ∷ []; is = refl }
+
+  any-extends : (p : X → Bool) (xs ys : List X) → Extends xs ys → list_any p xs ≡ true → list_any p ys ≡ true
+  any-extends p xs ys e h = ap (list_any p) (sym e.is) ∙ list_any-append p xs e.more ∙ either-kept (list_any p xs) _ h
+
+  index-extends : (k : ℕ) (xs ys : List X) → Extends xs ys → nat_lt k (length xs) ≡ true → nat_lt k (length ys) ≡ true
+  index-extends k xs ys e h =
+      let below : k < length xs = ltb-true k (length xs) h in
+      let longer : length xs + length e.more ≡ length ys = sym (length-append xs e.more) ∙ ap length e.is in
+      lt-ltb _ _ (omega arith)
+
+-- a shape that goes on with more
+record Grows (old new : Shape) : Type 0 where
+  sets : Extends old.sets new.sets
+  calls : Extends old.calls new.calls
+  owns : Extends old.owns new.owns
+  cells : Extends old.cells new.cells
+  fires : Extends old.fires new.fires
+  lookups : Extends old.lookups new.lookups
+  throws : Extends old.throws new.throws
+  chain : old.chain ≡ true → new.chain ≡ true
+
+-- an act that lies in a shape lies in each that goes on
+in_shape-grows : (old new : Shape) (view : View) (act : Act) → Grows old new → in_shape old view act ≡ true → in_shape new view act ≡ true
+in_shape-grows old new view (acts.Set field value) g h = any-extends (λ f. f == field) old.sets new.sets g.sets h
+in_shape-grows old new view (acts.Call via method args) g h =
+    any-extends (λ c. via_eq c.via via && (c.method == method) && (c.count == length args)) old.calls new.calls g.calls h
+in_shape-grows old new view (acts.Own method args) g h = any-extends (λ c. (c.method == method) && (c.count == length args)) old.owns new.owns g.owns h
+in_shape-grows old new view (acts.Read via) g h = any-extends (λ v. via_eq v via) old.cells new.cells g.cells h
+in_shape-grows old new view (acts.Write via value) g h = any-extends (λ v. via_eq v via) old.cells new.cells g.cells h
+in_shape-grows old new view (acts.Fire class qualifiers value) g h =
+    any-extends (λ e. (e.class == class) && pointwise use_eq e.qualifiers qualifiers) old.fires new.fires g.fires h
+in_shape-grows old new view (acts.Proceed args) g h = g.chain h
+in_shape-grows old new view (acts.Find lookup) g h = index-extends lookup old.lookups new.lookups g.lookups h
+in_shape-grows old new view (acts.Keep key value) g h = g.chain h
+in_shape-grows old new view (acts.Peek key) g h = g.chain h
+in_shape-grows old new view (acts.Destroy local) g h = index-extends local old.lookups new.lookups g.lookups h
+in_shape-grows old new view (acts.Give value) g h = refl
+in_shape-grows old new view (acts.Throw exception) g h =
+    either-of (list_any (λ x. x == exception) old.throws) _ (list_any (λ x. x == exception) new.throws) (any-extends (λ x. x == exception) old.throws new.throws g.throws) h
+
+-- one thing listed more
+module _ (s : Shape) where
+  nothing : Grows s s
+  nothing = record { sets = same s.sets; calls = same s.calls; owns = same s.owns; cells = same s.cells; fires = same s.fires; lookups = same s.lookups; throws = same s.throws; chain = λ h. h }
+
+  a_set : (x : ℕ) → Grows s (record s { sets = s.sets ++ x ∷ [] })
+  a_set x = record { sets = one_more s.sets x; calls = same s.calls; owns = same s.owns; cells = same s.cells; fires = same s.fires; lookups = same s.lookups; throws = same s.throws; chain = λ h. h }
+
+  a_call : (x : MethodCall) → Grows s (record s { calls = s.calls ++ x ∷ [] })
+  a_call x = record { sets = same s.sets; calls = one_more s.calls x; owns = same s.owns; cells = same s.cells; fires = same s.fires; lookups = same s.lookups; throws = same s.throws; chain = λ h. h }
+
+  an_own : (x : OwnCall) → Grows s (record s { owns = s.owns ++ x ∷ [] })
+  an_own x = record { sets = same s.sets; calls = same s.calls; owns = one_more s.owns x; cells = same s.cells; fires = same s.fires; lookups = same s.lookups; throws = same s.throws; chain = λ h. h }
+
+  a_cell : (x : Via) → Grows s (record s { cells = s.cells ++ x ∷ [] })
+  a_cell x = record { sets = same s.sets; calls = same s.calls; owns = same s.owns; cells = one_more s.cells x; fires = same s.fires; lookups = same s.lookups; throws = same s.throws; chain = λ h. h }
+
+  a_fire : (x : FiredEvent) → Grows s (record s { fires = s.fires ++ x ∷ [] })
+  a_fire x = record { sets = same s.sets; calls = same s.calls; owns = same s.owns; cells = same s.cells; fires = one_more s.fires x; lookups = same s.lookups; throws = same s.throws; chain = λ h. h }
+
+  a_lookup : (x : Lookup) → Grows s (record s { lookups = s.lookups ++ x ∷ [] })
+  a_lookup x = record { sets = same s.sets; calls = same s.calls; owns = same s.owns; cells = same s.cells; fires = same s.fires; lookups = one_more s.lookups x; throws = same s.throws; chain = λ h. h }
+
+  a_throw : (x : ℕ) → Grows s (record s { throws = s.throws ++ x ∷ [] })
+  a_throw x = record { sets = same s.sets; calls = same s.calls; owns = same s.owns; cells = same s.cells; fires = same s.fires; lookups = same s.lookups; throws = one_more s.throws x; chain = λ h. h }
+
+  a_chain : Grows s (record s { chain = true })
+  a_chain = record { sets = same s.sets; calls = same s.calls; owns = same s.owns; cells = same s.cells; fires = same s.fires; lookups = same s.lookups; throws = same s.throws; chain = λ h. refl }
+
+-- what an action names is listed more
+with_action-grows : (shape : Shape) (a : Action) → Grows shape (with_action shape a)
+with_action-grows shape (actions.Set field value) = a_set shape field
+with_action-grows shape (actions.Call via method args) = a_call shape _
+with_action-grows shape (actions.Own method args) = an_own shape _
+with_action-grows shape (actions.Read via) = a_cell shape via
+with_action-grows shape (actions.Write via value) = a_cell shape via
+with_action-grows shape (actions.Fire class qualifiers value) = a_fire shape _
+with_action-grows shape actions.Proceed = a_chain shape
+with_action-grows shape (actions.ProceedWith args) = a_chain shape
+with_action-grows shape (actions.Find bean_type qualifiers) = a_lookup shape _
+with_action-grows shape (actions.Keep key value) = a_chain shape
+with_action-grows shape (actions.Peek key) = a_chain shape
+with_action-grows shape (actions.Give value) = nothing shape
+with_action-grows shape (actions.Throw exception) = a_throw shape exception
+
+-- an action that makes a lookup lists one
+lookups-with_action : (shape : Shape) (a : Action) → length (with_action shape a).lookups ≡ length shape.lookups + cond (is_lookup a) 1 0
+lookups-with_action shape (actions.Find bean_type qualifiers) = length-append shape.lookups _
+lookups-with_action shape a = omega arith
+
+-- as many values are given as expressions
+as_many : (args : List Term) (fields : Fields) (view : View) → (length args == length (values_of args fields view)) ≡ true
+as_many args fields view = rw length-map (nat-self (length args))
+
+-- the act of an action lies in the shape with what the action names
+act_of-in_shape : (shape : Shape) (lookup : ℕ) (a : Action) (fields : Fields) (view : View) → lookup ≡ length shape.lookups
+    → in_shape (with_action shape a) view (act_of lookup a fields view) ≡ true
+act_of-in_shape shape k (actions.Set field value) fields view n = at_end (λ f. f == field) shape.sets field (nat-self field)
+act_of-in_shape shape k (actions.Call via method args) fields view n =
+    at_end (λ c. via_eq c.via via && (c.method == method) && (c.count == length (values_of args fields view))) shape.calls _ (both _ _ (both _ _ (via-self via) (nat-self method)) (as_many args fields view))
+act_of-in_shape shape k (actions.Own method args) fields view n =
+    at_end (λ c. (c.method == method) && (c.count == length (values_of args fields view))) shape.owns _ (both _ _ (nat-self method) (as_many args fields view))
+act_of-in_shape shape k (actions.Read via) fields view n = at_end (λ v. via_eq v via) shape.cells via (via-self via)
+act_of-in_shape shape k (actions.Write via value) fields view n = at_end (λ v. via_eq v via) shape.cells via (via-self via)
+act_of-in_shape shape k (actions.Fire class qualifiers value) fields view n =
+    at_end (λ e. (e.class == class) && pointwise use_eq e.qualifiers qualifiers) shape.fires _ (both _ _ (nat-self class) (uses-self qualifiers))
+act_of-in_shape shape k actions.Proceed fields view n = refl
+act_of-in_shape shape k (actions.ProceedWith args) fields view n = refl
+act_of-in_shape shape k (actions.Find bean_type qualifiers) fields view n = lt-ltb _ _ (omega (arith, length-append shape.lookups (record { bean_type = bean_type; qualifiers = qualifiers } ∷ [])))
+act_of-in_shape shape k (actions.Keep key value) fields view n = refl
+act_of-in_shape shape k (actions.Peek key) fields view n = refl
+act_of-in_shape shape k (actions.Give value) fields view n = refl
+act_of-in_shape shape k (actions.Throw exception) fields view n = either-kept _ _ (at_end (λ x. x == exception) shape.throws exception (nat-self exception))
 
 abbrev all_listed : Shape → List Step → Shape
 all_listed shape steps = fold (λ s step. with_action s step.action) shape steps
 
-stays : (steps : List Step) (shape : Shape) (a : Action) → covers shape a ≡ true → covers (all_listed shape steps) a ≡ true
-stays [] shape a h = h
-stays (step ∷ steps) shape a h = stays steps (with_action shape step.action) a (keeps shape step.action a h)
+stays : (steps : List Step) (shape : Shape) (view : View) (act : Act) → in_shape shape view act ≡ true → in_shape (all_listed shape steps) view act ≡ true
+stays [] shape view act h = h
+stays (step ∷ steps) shape view act h =
+    stays steps (with_action shape step.action) view act (in_shape-grows shape (with_action shape step.action) view act (with_action-grows shape step.action) h)
 
-covered : (front : List Step) (step : Step) (more : List Step) (shape : Shape) → covers (all_listed shape (front ++ step ∷ more)) step.action ≡ true
-covered [] step more shape = stays more (with_action shape step.action) step.action (lists shape step.action)
-covered (first ∷ front) step more shape = covered front step more (with_action shape first.action)
-
--- as many lookups are listed as there are steps that make one
-one_lookup : (shape : Shape) (a : Action) → length (with_action shape a).lookups ≡ length shape.lookups + cond (is_lookup a) 1 0
-one_lookup shape (actions.Find t qs) = length-append shape.lookups _
-one_lookup shape (actions.Set f e) = omega arith
-one_lookup shape (actions.Call v m args) = omega arith
-one_lookup shape (actions.Own m args) = omega arith
-one_lookup shape (actions.Read v) = omega arith
-one_lookup shape (actions.Write v e) = omega arith
-one_lookup shape (actions.Fire c qs e) = omega arith
-one_lookup shape actions.Proceed = omega arith
-one_lookup shape (actions.ProceedWith args) = omega arith
-one_lookup shape (actions.Keep k e) = omega arith
-one_lookup shape (actions.Peek k) = omega arith
-one_lookup shape (actions.Give e) = omega arith
-one_lookup shape (actions.Throw x) = omega arith
-
-all_lookups : (steps : List Step) (shape : Shape) → length (all_listed shape steps).lookups ≡ length shape.lookups + lookups_in steps
-all_lookups [] shape = omega arith
-all_lookups (step ∷ steps) shape = omega (arith, all_lookups steps (with_action shape step.action), one_lookup shape step.action)
+act_of-listed : (front : List Step) (step : Step) (more : List Step) (shape : Shape) (lookup : ℕ) (fields : Fields) (view : View) → lookup ≡ length shape.lookups + lookups_in front
+    → in_shape (all_listed shape (front ++ step ∷ more)) view (act_of lookup step.action fields view) ≡ true
+act_of-listed [] step more shape k fields view n =
+    stays more (with_action shape step.action) view (act_of k step.action fields view) (act_of-in_shape shape k step.action fields view (omega arith))
+act_of-listed (first ∷ front) step more shape k fields view n =
+    act_of-listed front step more (with_action shape first.action) k fields view (omega (arith, lookups-with_action shape first.action))
 
 lookups-append : (front back : List Step) → lookups_in (front ++ back) ≡ lookups_in front + lookups_in back
 lookups-append [] back = omega arith
 lookups-append (step ∷ front) back = omega (arith, lookups-append front back)
-
--- the act of a step that is listed
-act_in : (shape : Shape) (k : ℕ) (a : Action) (fields : Fields) (view : View) → covers shape a ≡ true → (is_lookup a ≡ true → nat_lt k (length shape.lookups) ≡ true) → in_shape shape view (act_of k a fields view) ≡ true
-act_in shape k (actions.Set f e) fields view h n = h
-act_in shape k (actions.Call via m args) fields view h n =
-    subst (λ (i : ℕ). list_any (λ c. via_eq c.via via && (c.method == m) && (c.count == i)) shape.calls ≡ true) (sym (length-map args (λ arg. value_of arg fields view))) h
-act_in shape k (actions.Own m args) fields view h n =
-    subst (λ (i : ℕ). list_any (λ c. (c.method == m) && (c.count == i)) shape.owns ≡ true) (sym (length-map args (λ arg. value_of arg fields view))) h
-act_in shape k (actions.Read v) fields view h n = h
-act_in shape k (actions.Write v e) fields view h n = h
-act_in shape k (actions.Fire c qs e) fields view h n = h
-act_in shape k actions.Proceed fields view h n = h
-act_in shape k (actions.ProceedWith args) fields view h n = h
-act_in shape k (actions.Find t qs) fields view h n = n refl
-act_in shape k (actions.Keep key e) fields view h n = h
-act_in shape k (actions.Peek key) fields view h n = h
-act_in shape k (actions.Give e) fields view h n = h
-act_in shape k (actions.Throw x) fields view h n = either-kept _ _ h
 
 -- where no step is left
 end_in : (shape : Shape) (view : View) (o : Option Answer) → last_answer view ≡ o → in_shape shape view (end_act o) ≡ true
@@ -224,14 +269,10 @@ reached-end steps given = after-end given (from_next false steps) steps (from_ne
 at_in : (steps left : List Step) (fields : Fields) (view : View) → IsEnd left steps → in_shape (shape_of steps) view (act_at steps left fields view) ≡ true
 at_in steps [] fields view p = end_in (shape_of steps) view (last_answer view) refl
 at_in steps (step ∷ more) fields view p =
-    let listed : covers (shape_of steps) step.action ≡ true = subst (λ (xs : List Step). covers (shape_of xs) step.action ≡ true) p.is (covered p.front step more no_acts) in
-    act_in (shape_of steps) (lookups_in steps - lookups_in (step ∷ more)) step.action fields view listed (λ h. numbered steps step more p h)
-  where
-    numbered : (steps : List Step) (step : Step) (more : List Step) → IsEnd (step ∷ more) steps → is_lookup step.action ≡ true → nat_lt (lookups_in steps - lookups_in (step ∷ more)) (length (shape_of steps).lookups) ≡ true
-    numbered steps step more p h =
-        let one : ◌≡◌ {A = ℕ} (cond (is_lookup step.action) 1 0) 1 = rw h refl in
-        let whole_count : lookups_in p.front + lookups_in (step ∷ more) ≡ lookups_in steps = sym (lookups-append p.front (step ∷ more)) ∙ ap lookups_in p.is in
-        lt-ltb _ _ (omega (arith, all_lookups steps no_acts, one, whole_count))
+    let all : lookups_in p.front + lookups_in (step ∷ more) ≡ lookups_in steps = sym (lookups-append p.front (step ∷ more)) ∙ ap lookups_in p.is in
+    let k : ℕ = lookups_in steps - lookups_in (step ∷ more) in
+    let before : k ≡ length no_acts.lookups + lookups_in p.front = omega arith in
+    subst (λ (xs : List Step). in_shape (shape_of xs) view (act_of k step.action fields view) ≡ true) p.is (act_of-listed p.front step more no_acts k fields view before)
 
 pub next_of-in_shape : (steps : List Step) → StaysInShape steps
 next_of-in_shape steps fields view = at_in steps (reached steps view.answers) fields view (reached-end steps view.answers)

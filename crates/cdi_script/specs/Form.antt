@@ -1,86 +1,83 @@
--- Which values are scripts.
-use Rattle.std.specs.Prelude.{Bool, true, false, ◌&&◌, codes, nat_le, nat_lt, is_some, if◌then◌else◌}
-use Rattle.cdi_base.specs.Name.{is_name}
+-- Which values are scripts. Where no stage is named, it is the one that is served.
+use Rattle.std.specs.Prelude.{Bool, false, ◌&&◌, codes, nat_le, nat_lt, is_some, find, unwrap_or, Option, Some, None, if◌then◌else◌}
+use Rattle.cdi_base.specs.Stage.{is_included, served}
+use Rattle.cdi_base.specs.declared.stage.Stage.{Stage}
+use Rattle.cdi_base.specs.declared.stage.Stage.TheVariants.{Injection}
 use Rattle.cdi_json.specs.Json.{is_word}
-use Rattle.serde_json.specs.Data.{Num, unsigned, negative, float, Data, null, boolean, number, string, array, object, Items, no_items, item}
+use Rattle.serde_json.specs.Data.{Data, array, Items, no_items, item}
 use Rattle.serde_json.specs.Events.{items_len}
-use Rattle.serde_json.specs.Find.{as_i64}
+use Rattle.cdi_script.specs.declared.step.StepKind.{StepKind}
+use Rattle.cdi_script.specs.Part.{are_parts}
+use Rattle.cdi_script.specs.Reading.{all_items}
+use Rattle.cdi_script.specs.Step.{Row, row_of, all_kinds}
 
-abbrev pub is_named : Data → Bool
-is_named (string text) = is_name text
-is_named _ = false
+-- the word of a row that is served, and behind it the row's parts
+abbrev pub fits : Stage → Row → Items → Bool
+fits stage row (item word parts) = is_word word row.word && (is_included stage row.since && are_parts stage row.parts parts)
+fits stage row no_items = false
 
--- the number of a parameter or an answer: 0 to 65,535
-abbrev pub is_count_num : Num → Bool
-is_count_num (unsigned n) = nat_le n 65535
-is_count_num (negative z) = false
-is_count_num (float x) = false
+-- the kind of the step that these items are, a catch apart
+abbrev pub kind_of : Stage → Items → Option StepKind
+kind_of stage items = find (λ kind. fits stage (row_of kind) items) all_kinds
 
-abbrev pub is_count : Data → Bool
-is_count (number n) = is_count_num n
-is_count _ = false
+-- the items of the array inside a catch
+abbrev pub caught_in : Stage → Data → Data → Option Items
+caught_in stage word (array inner) = if is_included stage Injection && is_word word (codes "catch") then Some inner else None
+caught_in stage word _ = None
 
--- `["field",f]`, `["arg",k]` and `["ans",k]`
-unfoldable pub is_pair : Data → Data → Bool
-is_pair word value =
-    if is_word word (codes "field") then is_named value
-    else (if is_word word (codes "arg") then is_count value else (if is_word word (codes "ans") then is_count value else false))
+abbrev pub caught : Stage → Items → Option Items
+caught stage (item word (item step no_items)) = caught_in stage word step
+caught stage _ = None
 
--- null, a whole number, a text, one of these pairs, `["last"]` or `["add",e,e]`
-abbrev pub is_expression : Data → Bool
-is_expression null = true
-is_expression (boolean b) = false
-is_expression (number n) = is_some (as_i64 n)
-is_expression (string text) = true
-is_expression (array (item word no_items)) = is_word word (codes "last")
-is_expression (array (item word (item value no_items))) = is_pair word value
-is_expression (array (item word (item left (item right no_items)))) = is_word word (codes "add") && (is_expression left && is_expression right)
-is_expression (array _) = false
-is_expression (object _) = false
+-- the items of the step itself, which in a catch stands inside
+abbrev pub plain_items : Stage → Items → Items
+plain_items stage items = unwrap_or (caught stage items) items
 
-abbrev pub all_items : (Data → Bool) → Items → Bool
-all_items test no_items = true
-all_items test (item d ds) = test d && all_items test ds
+abbrev pub is_step_in : Stage → Items → Bool
+is_step_in stage items = is_some (kind_of stage (plain_items stage items))
 
-abbrev pub are_expressions : Data → Bool
-are_expressions (array items) = all_items is_expression items
-are_expressions _ = false
-
--- `["set",f,e]` and `["own",m,[e..]]`
-unfoldable pub is_step_of_three : Data → Data → Data → Bool
-is_step_of_three word first second =
-    if is_word word (codes "set") then is_named first && is_expression second
-    else (if is_word word (codes "own") then is_named first && are_expressions second else false)
-
--- one of these, or `["give",e]`
-abbrev pub is_step_in : Items → Bool
-is_step_in (item word (item value no_items)) = is_word word (codes "give") && is_expression value
-is_step_in (item word (item first (item second no_items))) = is_step_of_three word first second
-is_step_in _ = false
-
-abbrev pub is_step : Data → Bool
-is_step (array items) = is_step_in items
-is_step _ = false
+abbrev pub is_step_at : Stage → Data → Bool
+is_step_at stage (array items) = is_step_in stage items
+is_step_at stage _ = false
 
 -- each is a step
-abbrev pub are_steps : Items → Bool
-are_steps items = all_items is_step items
+abbrev pub are_steps_at : Stage → Items → Bool
+are_steps_at stage items = all_items (is_step_at stage) items
 
 -- steps, but more than 256
-abbrev pub are_too_many : Items → Bool
-are_too_many items = are_steps items && nat_lt 256 (items_len items)
+abbrev pub are_too_many_at : Stage → Items → Bool
+are_too_many_at stage items = are_steps_at stage items && nat_lt 256 (items_len items)
 
 -- an array of steps
-abbrev pub has_steps : Data → Bool
-has_steps (array items) = are_steps items
-has_steps _ = false
+abbrev pub has_steps_at : Stage → Data → Bool
+has_steps_at stage (array items) = are_steps_at stage items
+has_steps_at stage _ = false
+
+-- steps, at most 256
+abbrev pub are_few_steps_at : Stage → Items → Bool
+are_few_steps_at stage items = are_steps_at stage items && nat_le (items_len items) 256
 
 -- an array of at most 256 steps
-abbrev pub is_script : Data → Bool
-is_script (array items) = are_steps items && nat_le (items_len items) 256
-is_script _ = false
+abbrev pub is_script_at : Stage → Data → Bool
+is_script_at stage (array items) = are_few_steps_at stage items
+is_script_at stage _ = false
 
 -- an array of more steps than that
+abbrev pub is_too_long_at : Stage → Data → Bool
+is_too_long_at stage (array items) = are_too_many_at stage items
+is_too_long_at stage _ = false
+
+abbrev pub is_step : Data → Bool
+is_step d = is_step_at served d
+
+abbrev pub are_steps : Items → Bool
+are_steps items = are_steps_at served items
+
+abbrev pub has_steps : Data → Bool
+has_steps d = has_steps_at served d
+
+abbrev pub is_script : Data → Bool
+is_script d = is_script_at served d
+
 abbrev pub is_too_long : Data → Bool
-is_too_long (array items) = are_too_many items
-is_too_long _ = false
+is_too_long d = is_too_long_at served d

@@ -1,5 +1,5 @@
 -- The value of an expression.
-use Rattle.std.specs.Prelude.{ℤ, pos, negsuc, ◌+ℤ◌, ◌^◌, Bool, slice_get, Option, Some, None, nat_lt, if◌then◌else◌}
+use Rattle.std.specs.Prelude.{ℤ, pos, negsuc, ◌+ℤ◌, ◌^◌, List, map, Bool, slice_get, Option, Some, None, nat_lt, if◌then◌else◌}
 use Rattle.cdi_base.specs.declared.act.Answer.{Answer}
 use Rattle.cdi_base.specs.declared.act.Answer.TheVariants as answers
 use Rattle.cdi_base.specs.declared.fields.Fields.{Fields}
@@ -38,3 +38,6 @@ value_of (terms.argument k) fields view = or_null (slice_get view.args k)
 value_of (terms.answer k) fields view = value_in (slice_get view.answers k)
 value_of terms.last fields view = value_in (last_answer view)
 value_of (terms.sum a b) fields view = sum_of (value_of a fields view) (value_of b fields view)
+
+abbrev pub values_of : List terms.Term → Fields → View → List Value
+values_of args fields view = map (λ arg. value_of arg fields view) args

@@ -1,133 +1,170 @@
-//! Which values are scripts.
-ghost use Rattle.std.specs.Prelude.{◌≡◌};
+//! Which arrays are steps, and what is read of them.
+ghost use Rattle.std.specs.Prelude.{◌≡◌, option_map};
+ghost use Rattle.cdi_base.specs.Name.{Extends};
+ghost use Rattle.cdi_base.specs.Reading.{Gives};
 ghost use Rattle.serde_json.specs.View.{view, items_view};
+ghost use Rattle.cdi_script.specs.Build as build;
 ghost use Rattle.cdi_script.specs.Form as spec;
+ghost use Rattle.cdi_script.specs.Step.{row_of};
 
-use cdi_base::is_name;
+use crate::fault::ScriptFault;
+use crate::part::{Parts, are_parts};
+use crate::reading::{Item, are_all, bad};
+use crate::step::{Action, Step, StepKind};
+use cdi_base::{Names, ReadError, SERVED, Stage};
 use cdi_json::is_word;
 use serde_json::Value as Json;
+use std::alloc::Global;
 
-/// The most that a parameter or an answer is counted to.
-const MAX_COUNT: u64 = 65_535;
-
-fn is_named(value: &Json) -> bool
-    ensures { result ≡ spec.is_named (view value.now) }
+/// Whether these values are a step of a kind that is served at a stage: the word of its row, and then its parts.
+fn fits(stage: Stage, kind: StepKind, items: &[Json]) -> bool
+    ensures { result ≡ spec.fits stage (row_of kind) (items_view items.now) }
 {
-    match value {
-        Json::String(text) => is_name(text.as_str()),
-        _ => false,
-    }
+    let Some((word, parts)) = items.split_first() else {
+        return false;
+    };
+    let row = kind.row();
+    is_word(word, row.word) && stage.includes(row.since) && are_parts(stage, row.parts, parts)
 }
 
-fn is_count(value: &Json) -> bool
-    ensures { result ≡ spec.is_count (view value.now) }
+/// The kind of the step that these values are, a catch apart.
+fn kind_of(stage: Stage, items: &[Json]) -> Option<StepKind>
+    ensures { result ≡ spec.kind_of stage (items_view items.now) }
 {
-    match value.as_u64() {
-        Some(count) => count <= MAX_COUNT,
-        None => false,
-    }
+    StepKind::ALL
+        .iter()
+        .copied()
+        .find(|kind| fits(stage, *kind, items))
 }
 
-#[tactic(auto, unfolding(crate::specs::Form::is_pair))]
-fn is_pair(word: &Json, value: &Json) -> bool
-    ensures { result ≡ spec.is_pair (view word.now) (view value.now) }
+fn caught_in<'v>(stage: Stage, word: &Json, step: &'v Json) -> Option<&'v [Json]>
+    ensures { option_map (λ inner. items_view inner.now) result
+        ≡ spec.caught_in stage (view word.now) (view step.now) }
 {
-    if is_word(word, "field") {
-        return is_named(value);
-    }
-    if is_word(word, "arg") {
-        return is_count(value);
-    }
-    if is_word(word, "ans") {
-        return is_count(value);
-    }
-    false
-}
-
-fn is_expression(value: &Json) -> bool
-    ensures { result ≡ spec.is_expression (view value.now) }
-{
-    match value {
-        Json::Null => true,
-        Json::Bool(_) => false,
-        Json::Number(number) => number.as_i64().is_some(),
-        Json::String(_) => true,
-        Json::Array(items) => match items.as_slice() {
-            [] => false,
-            [word] => is_word(word, "last"),
-            [word, value] => is_pair(word, value),
-            [word, left, right] => {
-                is_word(word, "add") && is_expression(left) && is_expression(right)
+    match step {
+        Json::Array(inner) => {
+            if stage.includes(Stage::Injection) && is_word(word, "catch") {
+                Some(inner.as_slice())
+            } else {
+                None
             }
-            [_, _, _, _, ..] => false,
-        },
-        Json::Object(_) => false,
-    }
-}
-
-fn all_expressions(items: &[Json]) -> bool
-    ensures { result ≡ spec.all_items spec.is_expression (items_view items.now) }
-{
-    for item in items {
-        if !is_expression(item) {
-            return false;
         }
-    }
-    true
-}
-
-fn are_expressions(value: &Json) -> bool
-    ensures { result ≡ spec.are_expressions (view value.now) }
-{
-    match value {
-        Json::Array(items) => all_expressions(items.as_slice()),
-        _ => false,
+        _ => None,
     }
 }
 
-#[tactic(auto, unfolding(crate::specs::Form::is_step_of_three))]
-fn is_step_of_three(word: &Json, first: &Json, second: &Json) -> bool
-    ensures { result ≡ spec.is_step_of_three (view word.now) (view first.now) (view second.now) }
-{
-    if is_word(word, "set") {
-        return is_named(first) && is_expression(second);
-    }
-    if is_word(word, "own") {
-        return is_named(first) && are_expressions(second);
-    }
-    false
-}
-
-fn is_step_in(items: &[Json]) -> bool
-    ensures { result ≡ spec.is_step_in (items_view items.now) }
+/// The values of the array that stands in a catch.
+fn caught(stage: Stage, items: &[Json]) -> Option<&[Json]>
+    ensures { option_map (λ inner. items_view inner.now) result
+        ≡ spec.caught stage (items_view items.now) }
 {
     match items {
-        [] => false,
-        [_] => false,
-        [word, value] => is_word(word, "give") && is_expression(value),
-        [word, first, second] => is_step_of_three(word, first, second),
-        [_, _, _, _, ..] => false,
+        [] => None,
+        [_] => None,
+        [word, step] => caught_in(stage, word, step),
+        [_, _, _, ..] => None,
     }
 }
 
-/// Whether a value is a step.
+/// Whether these values are a step, which may stand in a catch.
+fn is_step_in(stage: Stage, items: &[Json]) -> bool
+    ensures { result ≡ spec.is_step_in stage (items_view items.now) }
+{
+    match caught(stage, items) {
+        Some(inner) => kind_of(stage, inner).is_some(),
+        None => kind_of(stage, items).is_some(),
+    }
+}
+
+#[tactic(auto, unfolding(crate::specs::Build::action_in))]
+fn action_in(
+    alloc: Global,
+    stage: Stage,
+    names: &mut Names,
+    items: &[Json],
+) -> Result<Action, ReadError<ScriptFault>>
+    ensures gives { Gives (λ action. (action, names.new)) result
+        (build.action_in stage names.old (items_view items.now)) }
+    ensures kept { Extends names.old names.new }
+{
+    let Some(kind) = kind_of(stage, items) else {
+        return bad();
+    };
+    let Some((_, values)) = items.split_first() else {
+        return bad();
+    };
+    let mut parts = Parts::none(alloc);
+    parts.read_all(alloc, stage, names, kind.row().parts, values)?;
+    Ok(kind.action(parts))
+}
+
+fn step_in(
+    alloc: Global,
+    stage: Stage,
+    names: &mut Names,
+    items: &[Json],
+) -> Result<Step, ReadError<ScriptFault>>
+    ensures gives { Gives (λ step. (step, names.new)) result
+        (build.step_in stage names.old (items_view items.now)) }
+    ensures kept { Extends names.old names.new }
+{
+    let inner = caught(stage, items);
+    let action = action_in(alloc, stage, names, inner.unwrap_or(items))?;
+    Ok(Step {
+        is_catch: inner.is_some(),
+        action,
+    })
+}
+
+impl Item for Step {
+    ghost test = { spec.is_step_at };
+
+    ghost form = { build.step_at };
+
+    fn is_in(stage: Stage, value: &Json) -> bool {
+        match value {
+            Json::Array(items) => is_step_in(stage, items.as_slice()),
+            _ => false,
+        }
+    }
+
+    fn read(
+        alloc: Global,
+        stage: Stage,
+        names: &mut Names,
+        value: &Json,
+    ) -> Result<Step, ReadError<ScriptFault>> {
+        match value {
+            Json::Array(items) => step_in(alloc, stage, names, items.as_slice()),
+            _ => bad(),
+        }
+    }
+}
+
+/// Whether a value is a step that is served at a stage.
+pub fn is_step_at(stage: Stage, value: &Json) -> bool
+    ensures { result ≡ spec.is_step_at stage (view value.now) }
+{
+    Step::is_in(stage, value)
+}
+
+/// Whether each of these values is a step that is served at a stage.
+pub fn are_steps_at(stage: Stage, items: &[Json]) -> bool
+    ensures { result ≡ spec.are_steps_at stage (items_view items.now) }
+{
+    are_all::<Step>(stage, items)
+}
+
+/// Whether a value is a step that is served.
 pub fn is_step(value: &Json) -> bool
     ensures { result ≡ spec.is_step (view value.now) }
 {
-    match value {
-        Json::Array(items) => is_step_in(items.as_slice()),
-        _ => false,
-    }
+    is_step_at(SERVED, value)
 }
 
-/// Whether each of these values is a step.
+/// Whether each of these values is a step that is served.
 pub fn are_steps(items: &[Json]) -> bool
-    ensures { result ≡ spec.all_items spec.is_step (items_view items.now) }
+    ensures { result ≡ spec.are_steps (items_view items.now) }
 {
-    for item in items {
-        if !is_step(item) {
-            return false;
-        }
-    }
-    true
+    are_steps_at(SERVED, items)
 }

@@ -1,18 +1,23 @@
 //! Scripts: bodies that are written in a deployment.
 #![tactic(auto)]
 
-mod build;
 pub mod expression;
+mod expression_form;
 pub mod fault;
 mod form;
+pub mod laws;
 pub mod next;
+mod part;
+mod qualifier;
+mod reading;
 pub mod script;
 pub mod shape;
 pub mod step;
 pub mod value;
+mod via;
 
 pub use expression::Expression;
 pub use fault::ScriptFault;
-pub use form::{are_steps, is_step};
+pub use form::{are_steps, are_steps_at, is_step, is_step_at};
 pub use script::{MAX_STEPS, Script};
 pub use step::{Action, Step};

@@ -1,15 +1,12 @@
 //! What a script does next.
 ghost use Rattle.std.specs.Prelude.{◌≡◌, ◌≤◌, ◌<◌, ◌^◌, length, IsOk, IfOk, option_map};
-ghost use Rattle.cdi_base.specs.declared.act.Act.TheVariants as acts;
 ghost use Rattle.cdi_script.specs.Next as spec;
 ghost use Rattle.cdi_script.specs.Reached as reaching;
-ghost use Rattle.cdi_script.specs.Value.{value_of};
 ghost use Rattle.cdi_script.specs.Within.{StaysInShape};
 
-use crate::expression::Expression;
 use crate::script::Script;
-use crate::step::{Action, Step, copy_of};
-use cdi_base::{Act, Answer, Fields, Name, Seq, Use, Value, Via};
+use crate::step::Step;
+use cdi_base::{Act, Answer, Fields, Value};
 use cdi_bodies::View;
 use std::alloc::{AllocError, Global};
 
@@ -56,165 +53,17 @@ fn reached<'a>(steps: &'a [Step], answers: &[Answer]) -> &'a [Step]
     left
 }
 
-fn is_lookup(action: &Action) -> bool
-    ensures { result ≡ spec.is_lookup action.now }
-{
-    match action {
-        Action::Find { .. } => true,
-        _ => false,
-    }
-}
-
 fn lookups_in(steps: &[Step]) -> usize
     ensures count { result ≡ spec.lookups_in steps.now }
     ensures within { result ≤ length steps.now }
 {
     let mut count = 0;
     for step in steps {
-        if is_lookup(&step.action) {
+        if step.action.is_lookup() {
             count += 1;
         }
     }
     count
-}
-
-fn values_of(
-    alloc: Global,
-    args: &[Expression],
-    fields: &Fields,
-    view: &View,
-) -> Result<Seq<Value>, AllocError>
-    ensures { IfOk result (λ values. values ≡ spec.values_of args.now fields.now view.now) }
-{
-    let mut values = Vec::new(alloc);
-    for arg in args {
-        values.push(arg.value(alloc, fields, view)?)?;
-    }
-    Ok(Seq::new(values))
-}
-
-fn set_act(
-    alloc: Global,
-    field: Name,
-    value: &Expression,
-    fields: &Fields,
-    view: &View,
-) -> Result<Act, AllocError>
-    ensures { IfOk result (λ act. act ≡ acts.Set field (value_of value.now fields.now view.now)) }
-{
-    let value = value.value(alloc, fields, view)?;
-    Ok(Act::Set { field, value })
-}
-
-fn call_act(
-    alloc: Global,
-    via: Via,
-    method: Name,
-    args: &[Expression],
-    fields: &Fields,
-    view: &View,
-) -> Result<Act, AllocError>
-    ensures { IfOk result
-        (λ act. act ≡ acts.Call via method (spec.values_of args.now fields.now view.now)) }
-{
-    let args = values_of(alloc, args, fields, view)?;
-    Ok(Act::Call { via, method, args })
-}
-
-fn own_act(
-    alloc: Global,
-    method: Name,
-    args: &[Expression],
-    fields: &Fields,
-    view: &View,
-) -> Result<Act, AllocError>
-    ensures { IfOk result
-        (λ act. act ≡ acts.Own method (spec.values_of args.now fields.now view.now)) }
-{
-    let args = values_of(alloc, args, fields, view)?;
-    Ok(Act::Own { method, args })
-}
-
-fn write_act(
-    alloc: Global,
-    via: Via,
-    value: &Expression,
-    fields: &Fields,
-    view: &View,
-) -> Result<Act, AllocError>
-    ensures { IfOk result (λ act. act ≡ acts.Write via (value_of value.now fields.now view.now)) }
-{
-    let value = value.value(alloc, fields, view)?;
-    Ok(Act::Write { via, value })
-}
-
-fn fire_act(
-    alloc: Global,
-    class: Name,
-    qualifiers: &Seq<Use>,
-    value: &Expression,
-    fields: &Fields,
-    view: &View,
-) -> Result<Act, AllocError>
-    ensures { IfOk result
-        (λ act. act ≡ acts.Fire class qualifiers.now (value_of value.now fields.now view.now)) }
-{
-    Ok(Act::Fire {
-        class,
-        qualifiers: copy_of(qualifiers)?,
-        value: value.value(alloc, fields, view)?,
-    })
-}
-
-fn keep_act(
-    alloc: Global,
-    key: Name,
-    value: &Expression,
-    fields: &Fields,
-    view: &View,
-) -> Result<Act, AllocError>
-    ensures { IfOk result (λ act. act ≡ acts.Keep key (value_of value.now fields.now view.now)) }
-{
-    let value = value.value(alloc, fields, view)?;
-    Ok(Act::Keep { key, value })
-}
-
-fn act_of(
-    alloc: Global,
-    lookup: u32,
-    action: &Action,
-    fields: &Fields,
-    view: &View,
-) -> Result<Act, AllocError>
-    ensures { IfOk result (λ act. act ≡ spec.act_of lookup action.now fields.now view.now) }
-{
-    Ok(match action {
-        Action::Set { field, value } => set_act(alloc, *field, value, fields, view)?,
-        Action::Call { via, method, args } => {
-            call_act(alloc, *via, *method, args.as_slice(), fields, view)?
-        }
-        Action::Own { method, args } => own_act(alloc, *method, args.as_slice(), fields, view)?,
-        Action::Read { via } => Act::Read { via: *via },
-        Action::Write { via, value } => write_act(alloc, *via, value, fields, view)?,
-        Action::Fire {
-            class,
-            qualifiers,
-            value,
-        } => fire_act(alloc, *class, qualifiers, value, fields, view)?,
-        Action::Proceed => Act::Proceed { args: None },
-        Action::ProceedWith { args } => Act::Proceed {
-            args: Some(values_of(alloc, args.as_slice(), fields, view)?),
-        },
-        Action::Find { .. } => Act::Find { lookup },
-        Action::Keep { key, value } => keep_act(alloc, *key, value, fields, view)?,
-        Action::Peek { key } => Act::Peek { key: *key },
-        Action::Give { value } => Act::Give {
-            value: value.value(alloc, fields, view)?,
-        },
-        Action::Throw { exception } => Act::Throw {
-            exception: *exception,
-        },
-    })
 }
 
 fn end_act(last: Option<&Answer>) -> Act
@@ -243,7 +92,7 @@ impl Script {
             return Ok(end_act(view.answers.as_slice().last()));
         };
         let lookup = lookups_in(steps).saturating_sub(lookups_in(left)) as u32;
-        act_of(alloc, lookup, &step.action, fields, view)
+        step.action.act(alloc, lookup, fields, view)
     }
 
     /// What a script does next lies in the shape that it has, whatever its fields are and whatever was answered.

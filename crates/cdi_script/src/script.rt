@@ -1,18 +1,16 @@
 //! Scripts, and reading them.
-ghost use Rattle.std.specs.Prelude.{◌≡◌, ◌≤◌, ◌↔◌, [], length, false, IsTrue, IsSome, IfOk, IfSome};
+ghost use Rattle.std.specs.Prelude.{◌≡◌, ◌≤◌, ◌↔◌, [], length, false, option_map, IsTrue, IsSome, IfOk, IfSome};
 ghost use Rattle.cdi_base.specs.Name.{Extends};
 ghost use Rattle.cdi_base.specs.Reading.{Gives, IsFault};
-ghost use Rattle.serde_json.specs.Data.{array};
 ghost use Rattle.serde_json.specs.View.{view, items_view};
 ghost use Rattle.cdi_script.specs.Build as spec;
-ghost use Rattle.cdi_script.specs.Form.{are_steps, are_too_many, has_steps, is_script, is_too_long};
+ghost use Rattle.cdi_script.specs.Form as form;
 ghost use Rattle.cdi_script.specs.declared.fault.ScriptFault.TheVariants.{BadStep, TooLong};
 
-use crate::build::{bad, each};
 use crate::fault::ScriptFault;
-use crate::form::are_steps;
+use crate::reading::{Item, are_all, bad, each};
 use crate::step::Step;
-use cdi_base::{Names, ReadError, Seq};
+use cdi_base::{Names, ReadError, SERVED, Seq, Stage};
 use serde_json::Value as Json;
 use std::alloc::Global;
 use std::marker::Model;
@@ -42,26 +40,30 @@ impl Model for Script {
 }
 
 #[tactic(auto, using(crate::proofs::Long::lengths))]
-fn steps_of(
+fn steps_at(
     alloc: Global,
+    stage: Stage,
     names: &mut Names,
     items: &[Json],
 ) -> Result<Seq<Step>, ReadError<ScriptFault>>
     ensures gives { Gives (λ steps. (steps, names.new)) result
-        (spec.steps_of names.old (items_view items.now)) }
+        (spec.steps_at stage names.old (items_view items.now)) }
     ensures within { IfOk result (λ steps. length steps ≤ MAX_STEPS) }
-    ensures bad_step { are_steps (items_view items.now) ≡ false → IsFault result BadStep }
-    ensures too_long { IsTrue (are_too_many (items_view items.now)) → IsFault result TooLong }
-    ensures refused { is_script (array (items_view items.now)) ≡ false → names.new ≡ names.old }
+    ensures bad_step { IsFault result BadStep
+        ↔ (form.are_steps_at stage (items_view items.now) ≡ false) }
+    ensures too_long { IsFault result TooLong
+        ↔ IsTrue (form.are_too_many_at stage (items_view items.now)) }
+    ensures refused { form.are_few_steps_at stage (items_view items.now) ≡ false
+        → names.new ≡ names.old }
     ensures kept { Extends names.old names.new }
 {
-    if !are_steps(items) {
+    if !are_all::<Step>(stage, items) {
         return bad();
     }
     if items.len() > MAX_STEPS {
         return Err(ReadError::Fault(ScriptFault::TooLong));
     }
-    each::<Step>(alloc, names, items)
+    each::<Step>(alloc, stage, names, items)
 }
 
 impl Script {
@@ -83,10 +85,34 @@ impl Script {
         self.steps.as_slice()
     }
 
-    /// The script that a value is: an array of at most [`MAX_STEPS`] steps. Its names go into the table. A value that
-    /// is no script, or one that is too long, leaves the table as it was, and memory is never wanting for it; where the
-    /// table is full or memory runs out, the table may have got some names of the script. The names that were in it keep
-    /// their numbers.
+    /// The script that a value is at a stage: an array of at most [`MAX_STEPS`] steps that are served there. Its names go
+    /// into the table. A value that is no script, or one that is too long, leaves the table as it was, and memory is never
+    /// wanting for it; where the table is full or memory runs out, the table may have got some names of the script. The
+    /// names that were in it keep their numbers.
+    pub fn read_at(
+        alloc: Global,
+        stage: Stage,
+        value: &Json,
+        names: &mut Names,
+    ) -> Result<Script, ReadError<ScriptFault>>
+        ensures gives { Gives (λ script. (script, names.new)) result
+            (spec.script_at stage names.old (view value.now)) }
+        ensures bad_step { IsFault result BadStep
+            ↔ (form.has_steps_at stage (view value.now) ≡ false) }
+        ensures too_long { IsFault result TooLong
+            ↔ IsTrue (form.is_too_long_at stage (view value.now)) }
+        ensures refused { form.is_script_at stage (view value.now) ≡ false
+            → names.new ≡ names.old }
+        ensures kept { Extends names.old names.new }
+    {
+        let Json::Array(items) = value else {
+            return bad();
+        };
+        let steps = steps_at(alloc, stage, names, items.as_slice())?;
+        Ok(Script { steps })
+    }
+
+    /// The script that a value is at the stage that is served, as [`Script::read_at`] reads it.
     pub fn read(
         alloc: Global,
         value: &Json,
@@ -94,16 +120,13 @@ impl Script {
     ) -> Result<Script, ReadError<ScriptFault>>
         ensures gives { Gives (λ script. (script, names.new)) result
             (spec.script_of names.old (view value.now)) }
-        ensures bad_step { has_steps (view value.now) ≡ false → IsFault result BadStep }
-        ensures too_long { IsTrue (is_too_long (view value.now)) → IsFault result TooLong }
-        ensures refused { is_script (view value.now) ≡ false → names.new ≡ names.old }
+        ensures bad_step { IsFault result BadStep ↔ (form.has_steps (view value.now) ≡ false) }
+        ensures too_long { IsFault result TooLong
+            ↔ IsTrue (form.is_too_long (view value.now)) }
+        ensures refused { form.is_script (view value.now) ≡ false → names.new ≡ names.old }
         ensures kept { Extends names.old names.new }
     {
-        let Json::Array(items) = value else {
-            return bad();
-        };
-        let steps = steps_of(alloc, names, items.as_slice())?;
-        Ok(Script { steps })
+        Script::read_at(alloc, SERVED, value, names)
     }
 
     /// How many steps there are.

@@ -4,7 +4,7 @@ ghost use Rattle.cdi_bodies.specs.Shape.{last_answer};
 ghost use Rattle.cdi_script.specs.Value as spec;
 
 use crate::expression::{Expression, Node};
-use cdi_base::{Answer, Fields, Text, Value};
+use cdi_base::{Answer, Fields, Seq, Text, Value};
 use cdi_bodies::View;
 use std::alloc::{AllocError, Global};
 
@@ -54,4 +54,20 @@ impl Expression {
             }
         }
     }
+}
+
+/// The values of expressions, in order.
+pub(crate) fn values_of(
+    alloc: Global,
+    args: &[Expression],
+    fields: &Fields,
+    view: &View,
+) -> Result<Seq<Value>, AllocError>
+    ensures { IfOk result (λ values. values ≡ spec.values_of args.now fields.now view.now) }
+{
+    let mut values = Vec::new(alloc);
+    for arg in args {
+        values.push(arg.value(alloc, fields, view)?)?;
+    }
+    Ok(Seq::new(values))
 }

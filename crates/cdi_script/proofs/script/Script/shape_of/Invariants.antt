@@ -1,5 +1,6 @@
 use Rattle.std.proofs.Common.{◌≡◌, drop, fold}
-use Rattle.cdi_script.specs.Listed.{with_action, shape_of}
+use Rattle.cdi_script.specs.Listed.{shape_of}
+use Rattle.cdi_script.specs.Step.{with_action}
 use Rattle.cdi_script.proofs.script.Script.shape_of.Given as goal
 
 abbrev pub invariant-loop-step : goal.invariant-loop-step

@@ -1,0 +1,34 @@
+-- How the references are written by which a body reaches another instance.
+use Rattle.std.specs.Prelude.{ℕ, List, Bool, false, ◌&&◌, codes, Ok, Err, if◌then◌else◌}
+use Rattle.cdi_base.specs.Reading.{◌>>=◌}
+use Rattle.cdi_base.specs.Stage.{is_included}
+use Rattle.cdi_base.specs.declared.act.Via.{Via}
+use Rattle.cdi_base.specs.declared.act.Via.TheVariants.{Field, Param, Local}
+use Rattle.cdi_base.specs.declared.stage.Stage.{Stage}
+use Rattle.cdi_base.specs.declared.stage.Stage.TheVariants.{Injection, Lifecycle, Lookups}
+use Rattle.cdi_json.specs.Json.{is_word}
+use Rattle.serde_json.specs.Data.{Data, array, no_items, item}
+use Rattle.cdi_script.specs.declared.fault.ScriptFault.TheVariants.{BadStep}
+use Rattle.cdi_script.specs.Reading.{Reads, is_named, name_of, count_of, is_count, found}
+
+-- `["field",f]`, `["param",k]` and `["local",k]`, each since its stage
+unfoldable pub is_via_pair : Stage → Data → Data → Bool
+is_via_pair stage word value =
+    if is_word word (codes "field") then (is_included stage Injection && is_named value)
+    else (if is_word word (codes "param") then (is_included stage Lifecycle && is_count value)
+    else (if is_word word (codes "local") then (is_included stage Lookups && is_count value) else false))
+
+abbrev pub is_via : Stage → Data → Bool
+is_via stage (array (item word (item value no_items))) = is_via_pair stage word value
+is_via stage _ = false
+
+unfoldable pub via_pair_of : List (List ℕ) → Data → Data → Reads Via
+via_pair_of names word value =
+    if is_word word (codes "field") then (name_of names value >>= λ name. Ok (Field name.0, name.1))
+    else (if is_word word (codes "param") then found Param names (count_of value)
+    else (if is_word word (codes "local") then found Local names (count_of value) else Err BadStep))
+
+-- the reference that a value is
+abbrev pub via_of : List (List ℕ) → Data → Reads Via
+via_of names (array (item word (item value no_items))) = via_pair_of names word value
+via_of names _ = Err BadStep
