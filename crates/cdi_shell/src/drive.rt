@@ -54,18 +54,10 @@ fn prepare_scripts(alloc: Global, deployment: Deployment) -> Result<Prepared, Pr
     ensures err { IfErr result (IsRefusal (spec.with_scripts deployment)) }
     ensures count { IfOk result (λ p. length p.scripts.items ≡ length deployment.scripts) }
 {
-    let Deployment {
-        mut names,
-        classes,
-        scripts: declared,
-    } = deployment;
-    match read_scripts(alloc, &mut names, declared.as_slice()) {
+    let mut deployment = deployment;
+    match read_scripts(alloc, &mut deployment.names, deployment.scripts.as_slice()) {
         Ok(scripts) => Ok(Prepared {
-            deployment: Deployment {
-                names,
-                classes,
-                scripts: declared,
-            },
+            deployment,
             scripts,
         }),
         Err(ReadError::Fault(bad)) => {

@@ -1,0 +1,6 @@
+pub mod DataCode
+pub mod Parts
+pub mod Items
+pub mod Naming
+pub mod Limits
+pub mod Reading
