@@ -4,7 +4,7 @@ use Rattle.std.specs.Prelude.{filter}
 use Rattle.cdi_bodies.specs.declared.entry.Entry.{Entry}
 use Rattle.cdi_bodies.specs.declared.shape.Shape.{Shape}
 use Rattle.cdi_bodies.specs.Gives.{place_of}
-use Rattle.cdi_deploy.specs.declared.deployment.Bean.{Bean as Declared}
+use Rattle.cdi_beans.specs.declared.bean.ServedScope.{ServedScope}
 use Rattle.cdi_deploy.specs.declared.deployment.Class.{Class}
 use Rattle.cdi_deploy.specs.declared.deployment.Deployment.{Deployment}
 use Rattle.cdi_deploy.specs.declared.deployment.Member.{Member}
@@ -14,7 +14,7 @@ use Rattle.cdi_beans.specs.declared.bean.Method.{Method}
 use Rattle.cdi_beans.specs.declared.problem.Problem.{Problem}
 use Rattle.cdi_beans.specs.declared.problem.ProblemKind.{ProblemKind}
 use Rattle.cdi_beans.specs.declared.problem.ProblemKind.TheVariants as kinds
-use Rattle.cdi_beans.specs.Build.{method_before, methods_of, bean_before, beans_in, beans_of}
+use Rattle.cdi_beans.specs.Build.{method_before, methods_of, scope_of, bean_before, beans_in, beans_of}
 use Rattle.cdi_beans.specs.Check.{problems_at, too_many, or_else, problems_with, problems_of}
 use Rattle.cdi_beans.specs.Duplicates.{duplicates}
 use Rattle.cdi_beans.specs.Served.{machine_tables}
@@ -39,18 +39,20 @@ module _ (f h : ℕ → Option ℕ) (same : (name : ℕ) → f name ≡ h name) 
   methods_same : (class : ℕ) (ms : List Member) → methods_of f class ms ≡ methods_of h class ms
   methods_same class [] = refl
   methods_same class (members.Method m ∷ ms) = ap (λ (o : Option ℕ). method_before class m o (methods_of f class ms)) (same m.body) ∙ ap (λ (rest : List Method). method_before class m (h m.body) rest) (methods_same class ms)
+  methods_same class (_ ∷ ms) = methods_same class ms
 
-  before_same : (class : Class) (o : Option Declared) (beans : List Bean) → bean_before f class o beans ≡ bean_before h class o beans
+  before_same : (class : Class) (o : Option ServedScope) (beans : List Bean) → bean_before f class o beans ≡ bean_before h class o beans
   before_same class None beans = refl
-  before_same class (Some b) beans = ap (λ (ms : List Method). (record { class = class.name; scope = b.scope; fields = class.fields; methods = ms }) ∷ beans) (methods_same class.name class.members)
+  before_same class (Some scope) beans = ap (λ (ms : List Method). (record { class = class.name; scope = scope; fields = class.fields; methods = ms }) ∷ beans) (methods_same class.name class.members)
 
   beans_same : (classes : List Class) → beans_in f classes ≡ beans_in h classes
   beans_same [] = refl
-  beans_same (class ∷ classes) = before_same class class.bean (beans_in f classes) ∙ ap (λ (bs : List Bean). bean_before h class class.bean bs) (beans_same classes)
+  beans_same (class ∷ classes) = before_same class (scope_of class) (beans_in f classes) ∙ ap (λ (bs : List Bean). bean_before h class (scope_of class) bs) (beans_same classes)
 
 module _ (f h : ℕ → Option Shape) (same : (name : ℕ) → f name ≡ h name) where
   body_same : (kind : ProblemKind) (class : Class) (m : Member) → has_wrong_body f kind class m ≡ has_wrong_body h kind class m
   body_same kind class (members.Method m) = ap (λ (o : Option Shape). is_wrong kind class o) (same m.body)
+  body_same kind class _ = refl
 
   filter_same : (kind : ProblemKind) (class : Class) (ms : List Member) → filter (has_wrong_body f kind class) ms ≡ filter (has_wrong_body h kind class) ms
   filter_same kind class [] = refl
