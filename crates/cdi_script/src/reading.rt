@@ -97,7 +97,8 @@ pub(crate) trait Item: Sized + Drop {
         names: &mut Names,
         value: &Json,
     ) -> Result<Self, ReadError<ScriptFault>>
-        ensures gives { Gives (λ x. (x, names.new)) result (form stage names.old (view value.now)) }
+        ensures gives { Gives (λ x. (x, names.new)) result
+            (form stage names.old (view value.now)) }
         ensures kept { Extends names.old names.new };
 }
 
