@@ -16,7 +16,7 @@ struct Has<'a> {
     wanted: bool,
 }
 
-const HAS: [Has; 9] = [
+const HAS: [Has; 10] = [
     // a nonbinding member doesn't count
     Has {
         set: &[("Q", &[("v", 1), ("w", 1)])],
@@ -65,6 +65,12 @@ const HAS: [Has; 9] = [
         required: &[("Default", &[])],
         wanted: false,
     },
+    // and is found at Any
+    Has {
+        set: &[("Any", &[]), ("Q", &[])],
+        required: &[("Any", &[])],
+        wanted: true,
+    },
 ];
 
 fn set_of(
@@ -105,24 +111,22 @@ fn what_a_set_has(rt: HostRuntime) -> Result<(), Fail> {
     Ok(())
 }
 
+/// Five uses, two of them repeats.
+const REPEATS: Written = &[
+    ("Q", &[("v", 2)]),
+    ("Any", &[]),
+    ("Q", &[("v", 1)]),
+    ("Q", &[("v", 2)]),
+    ("Any", &[]),
+];
+
 #[test]
 fn repeats_are_dropped(rt: HostRuntime) -> Result<(), Fail> {
     let alloc = rt.alloc();
     let mut of = empty(&rt, alloc);
     add_qualifier(&rt, alloc, &mut of, "Q", "v w", "w");
     let types = QualifierTypes::qualifiers_of(alloc, &of)?;
-    let uses = uses_in(
-        &rt,
-        alloc,
-        &mut of.names,
-        &[
-            ("Q", &[("v", 2)]),
-            ("Any", &[]),
-            ("Q", &[("v", 1)]),
-            ("Q", &[("v", 2)]),
-            ("Any", &[]),
-        ],
-    );
+    let uses = uses_in(&rt, alloc, &mut of.names, REPEATS);
     let set = set_of(&rt, alloc, &of.names, &types, &uses);
     expect_count(
         &rt,

@@ -126,6 +126,33 @@ fn check_cyclic(rt: &impl Abort, alloc: Global, types: &Deployment, count: usize
     expect_count(rt, cyclic.len(), count, about);
 }
 
+/// Checks that these two types are on a cycle, in this order, and no others.
+fn check_both_cyclic(
+    rt: &impl Abort,
+    alloc: Global,
+    types: &mut Deployment,
+    first: &str,
+    second: &str,
+) {
+    let graph = TypeGraph::build(alloc, types).expect(rt, "memory");
+    let cyclic = graph.cyclic(alloc).expect(rt, "memory");
+    let first = name(rt, &mut types.names, first);
+    let second = name(rt, &mut types.names, second);
+    expect_count(rt, cyclic.len(), 2, "two types on a cycle");
+    expect(
+        rt,
+        cyclic.get(0) == Some(&first),
+        true,
+        "the first on a cycle",
+    );
+    expect(
+        rt,
+        cyclic.get(1) == Some(&second),
+        true,
+        "the second on a cycle",
+    );
+}
+
 #[test]
 fn cycles_and_unknown_names(rt: HostRuntime) -> Result<(), Fail> {
     let alloc = rt.alloc();
@@ -133,13 +160,7 @@ fn cycles_and_unknown_names(rt: HostRuntime) -> Result<(), Fail> {
     add_interface(&rt, alloc, &mut two, "I", "J");
     add_interface(&rt, alloc, &mut two, "J", "I");
     add_class(&rt, alloc, &mut two, "K", "", "I");
-    check_cyclic(
-        &rt,
-        alloc,
-        &two,
-        2,
-        "a cycle of two interfaces, and a class below it",
-    );
+    check_both_cyclic(&rt, alloc, &mut two, "I", "J");
     check_refused(&rt, alloc, &two, TypesError::Cycle, "a cycle");
     add_class(&rt, alloc, &mut two, "L", "Missing", "");
     check_refused(
