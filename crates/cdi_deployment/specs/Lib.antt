@@ -4,3 +4,5 @@ pub mod Items
 pub mod Naming
 pub mod Limits
 pub mod Reading
+pub mod KnownNames
+pub mod Readable

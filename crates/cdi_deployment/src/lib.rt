@@ -4,6 +4,7 @@
 pub mod deployment;
 pub mod fault;
 mod items;
+pub mod laws;
 pub mod limits;
 mod members;
 mod naming;

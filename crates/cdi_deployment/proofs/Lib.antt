@@ -1,0 +1,4 @@
+pub mod Covered
+pub mod Known
+pub mod Readable
+pub mod Tables

@@ -1,0 +1,20 @@
+//! Laws of the definitions that the contracts cite.
+ghost use Rattle.std.specs.Prelude.{◌↔◌, ℕ, List, IfOk, IsOk};
+ghost use Rattle.cdi_base.specs.declared.stage.Stage.{Stage as AnyStage};
+ghost use Rattle.cdi_deployment.specs.KnownNames.{KnowsNames};
+ghost use Rattle.cdi_deployment.specs.Readable.{IsReadable};
+ghost use Rattle.cdi_deployment.specs.Reading.{read_at};
+
+/// A deployment is read exactly where there are not too many bytes, they are JSON, each number is a whole number of 64
+/// bits, the value is of the form of a deployment, each text in the place of a name is one, the table has room for
+/// the names, and no list is longer than its limit.
+pub fn law_read()
+    ensures { (stage : AnyStage) (bytes : List ℕ)
+        → IsOk (read_at stage bytes) ↔ IsReadable stage bytes }
+{}
+
+/// Each name in the lists of a deployment that was read is a name of its table, so that [`cdi_base::Names::text`] may
+/// be asked for its text.
+pub fn law_known_names()
+    ensures { (stage : AnyStage) (bytes : List ℕ) → IfOk (read_at stage bytes) KnowsNames }
+{}
