@@ -1,5 +1,7 @@
--- Each text in the place of a name is a name.
-use Rattle.std.specs.Prelude.{ℕ, Bool, true, ◌&&◌, List, Option, Some, None}
+-- The first text in the place of a name that is none. Items go by their index, members by their keys in the order of bytes, and in a
+-- use its name comes before the keys of its members.
+use Rattle.std.specs.Prelude.{ℕ, Bool, List, Option, Some, None, option_and_then, if◌then◌else◌}
+use Rattle.std.specs.Option.{is_none, option_or}
 use Rattle.cdi_base.specs.declared.stage.Stage.{Stage}
 use Rattle.cdi_base.specs.Name.{is_name}
 use Rattle.serde_json.specs.Data.{Data, string, array, object, Items, no_items, item, Members, no_members, member}
@@ -9,34 +11,38 @@ use Rattle.cdi_form.specs.declared.form.Part.TheVariants as parts
 use Rattle.cdi_form.specs.Form.{part_at, named_part}
 use Rattle.cdi_form.specs.Keys.{kind_of}
 
-abbrev pub text_fits : Part → List ℕ → Bool
-text_fits parts.Name s = is_name s
-text_fits parts.Use s = is_name s
-text_fits _ s = true
+-- a text, if it is no name
+abbrev pub no_name : List ℕ → Option (List ℕ)
+no_name s = if is_name s then None else Some s
 
--- the keys of the members in a use
-abbrev pub keys_fit : Members → Bool
-keys_fit no_members = true
-keys_fit (member key d ms) = is_name key && keys_fit ms
+abbrev pub bad_text : Part → List ℕ → Option (List ℕ)
+bad_text parts.Name s = no_name s
+bad_text parts.Use s = no_name s
+bad_text _ s = None
 
--- no name stands where no part or no kind is known
-abbrev pub fits_at : {X : Type 0} → Option X → (X → Bool) → Bool
-fits_at None inside = true
-fits_at (Some x) inside = inside x
+-- the first key of the members in a use that is no name
+abbrev pub first_bad_key : Members → Option (List ℕ)
+first_bad_key no_members = None
+first_bad_key (member key d ms) = option_or (no_name key) (first_bad_key ms)
 
+-- there is none where no part or no kind is known
 abbrev mutual
-  pub names_fit : Stage → Data → Part → Bool
-  names_fit stage (string s) part = text_fits part s
-  names_fit stage (array ds) part = fits_at (named_part part) (λ inner. items_fit stage ds inner)
-  names_fit stage (object ms) parts.Use = keys_fit ms
-  names_fit stage (object ms) part = fits_at (kind_of stage part ms) (λ kind. members_fit stage ms kind)
-  names_fit stage _ part = true
+  pub first_bad_name : Stage → Data → Part → Option (List ℕ)
+  first_bad_name stage (string s) part = bad_text part s
+  first_bad_name stage (array ds) part = option_and_then (λ inner. bad_name_in_items stage ds inner) (named_part part)
+  first_bad_name stage (object ms) parts.Use = first_bad_key ms
+  first_bad_name stage (object ms) part = option_and_then (λ kind. bad_name_in_members stage ms kind) (kind_of stage part ms)
+  first_bad_name stage _ part = None
 
-  pub items_fit : Stage → Items → Part → Bool
-  items_fit stage no_items part = true
-  items_fit stage (item d ds) part = names_fit stage d part && items_fit stage ds part
+  pub bad_name_in_items : Stage → Items → Part → Option (List ℕ)
+  bad_name_in_items stage no_items part = None
+  bad_name_in_items stage (item d ds) part = option_or (first_bad_name stage d part) (bad_name_in_items stage ds part)
 
-  pub members_fit : Stage → Members → Kind → Bool
-  members_fit stage no_members kind = true
-  members_fit stage (member key d ms) kind =
-      fits_at (part_at stage kind key) (λ part. names_fit stage d part) && members_fit stage ms kind
+  pub bad_name_in_members : Stage → Members → Kind → Option (List ℕ)
+  bad_name_in_members stage no_members kind = None
+  bad_name_in_members stage (member key d ms) kind =
+      option_or (option_and_then (λ part. first_bad_name stage d part) (part_at stage kind key)) (bad_name_in_members stage ms kind)
+
+-- each text in the place of a name is one
+abbrev pub names_fit : Stage → Data → Part → Bool
+names_fit stage d part = is_none (first_bad_name stage d part)

@@ -12,6 +12,6 @@ pub mod table;
 pub mod words;
 
 pub use form::{Kind, Part, part_at};
-pub use names::names_fit;
+pub use names::first_bad_name;
 pub use numbers::numbers_fit;
 pub use shape::wrong;

@@ -1,5 +1,5 @@
-//! Whether each text in the place of a name is a name.
-ghost use Rattle.std.specs.Prelude.{◌≡◌};
+//! The first text in the place of a name that is none.
+ghost use Rattle.std.specs.Prelude.{◌≡◌, option_map};
 ghost use Rattle.serde_json.specs.View.{view, items_view, members_view};
 ghost use Rattle.cdi_form.specs.Names as spec;
 
@@ -8,72 +8,83 @@ use crate::keys::kind_of;
 use cdi_base::{Stage, is_name};
 use serde_json::{Map, Value};
 
-fn text_fits(part: Part, text: &str) -> bool
-    ensures { result ≡ spec.text_fits part text.now }
+/// A text, if it is no name.
+fn no_name(text: &str) -> Option<&str>
+    ensures { option_map (λ s. s.now) result ≡ spec.no_name text.now }
+{
+    if is_name(text) { None } else { Some(text) }
+}
+
+fn bad_text(part: Part, text: &str) -> Option<&str>
+    ensures { option_map (λ s. s.now) result ≡ spec.bad_text part text.now }
 {
     match part {
-        Part::Name | Part::Use => is_name(text),
-        _ => true,
+        Part::Name | Part::Use => no_name(text),
+        _ => None,
     }
 }
 
-/// Whether each text in the place of a name, in a value at a part, is a name.
+/// The first text in the place of a name that is none, in a value at a part at this stage, if there is one: items go by
+/// their index, members by their keys in the order of bytes, and in a use its name comes before the keys of its members.
 #[cycle(names)]
-pub fn names_fit(stage: Stage, value: &Value, part: Part) -> bool
-    ensures { result ≡ spec.names_fit stage (view value.now) part }
+pub fn first_bad_name(stage: Stage, value: &Value, part: Part) -> Option<&str>
+    ensures { option_map (λ s. s.now) result ≡ spec.first_bad_name stage (view value.now) part }
 {
     match value {
-        Value::String(text) => text_fits(part, text.as_str()),
+        Value::String(text) => bad_text(part, text.as_str()),
         Value::Array(items) => match named_part(part) {
-            Some(inner) => items_fit(stage, items, inner),
-            None => true,
+            Some(inner) => bad_name_in_items(stage, items, inner),
+            None => None,
         },
         Value::Object(members) => match part {
-            Part::Use => keys_fit(members),
+            Part::Use => first_bad_key(members),
             _ => match kind_of(stage, part, members) {
-                Some(kind) => members_fit(stage, members, kind),
-                None => true,
+                Some(kind) => bad_name_in_members(stage, members, kind),
+                None => None,
             },
         },
-        _ => true,
+        _ => None,
     }
 }
 
 #[cycle(names)]
-fn items_fit(stage: Stage, items: &Vec<Value>, part: Part) -> bool
-    ensures { result ≡ spec.items_fit stage (items_view items.now.items) part }
+fn bad_name_in_items(stage: Stage, items: &Vec<Value>, part: Part) -> Option<&str>
+    ensures { option_map (λ s. s.now) result
+        ≡ spec.bad_name_in_items stage (items_view items.now.items) part }
 {
     for item in items {
-        if !names_fit(stage, item, part) {
-            return false;
+        if let Some(text) = first_bad_name(stage, item, part) {
+            return Some(text);
         }
     }
-    true
+    None
 }
 
 #[cycle(names)]
-fn members_fit(stage: Stage, members: &Map<String, Value>, kind: Kind) -> bool
-    ensures { result ≡ spec.members_fit stage (members_view members.now.entries) kind }
+fn bad_name_in_members(stage: Stage, members: &Map<String, Value>, kind: Kind) -> Option<&str>
+    ensures { option_map (λ s. s.now) result
+        ≡ spec.bad_name_in_members stage (members_view members.now.entries) kind }
 {
     for (key, member) in members.iter() {
         let Some(part) = part_at(stage, kind, key.as_str()) else {
             continue;
         };
-        if !names_fit(stage, member, part) {
-            return false;
+        if let Some(text) = first_bad_name(stage, member, part) {
+            return Some(text);
         }
     }
-    true
+    None
 }
 
-/// Whether each key of the members in a use is a name.
-fn keys_fit(members: &Map<String, Value>) -> bool
-    ensures { result ≡ spec.keys_fit (members_view members.now.entries) }
+/// The first key of the members in a use that is no name.
+fn first_bad_key(members: &Map<String, Value>) -> Option<&str>
+    ensures { option_map (λ s. s.now) result
+        ≡ spec.first_bad_key (members_view members.now.entries) }
 {
     for (key, _) in members.iter() {
         if !is_name(key.as_str()) {
-            return false;
+            return Some(key.as_str());
         }
     }
-    true
+    None
 }

@@ -1,5 +1,8 @@
-use Rattle.cdi_form.proofs.NamePlaces.{is_name-of_fitting, names_fit-of}
+use Rattle.cdi_form.proofs.NamePlaces.{IsBadName, bad-name, is_name-of_fitting, names_fit-of}
 use Rattle.cdi_form.proofs.laws.law_names.Goals as goal
 
-pub returns : goal.returns
-returns c = λ stage part d. (λ fits s stands. is_name-of_fitting stage s part d stands fits, names_fit-of stage d part)
+pub returns-clause-fit : goal.returns-clause-fit
+returns-clause-fit c = λ stage part d. (λ fits s stands. is_name-of_fitting stage s part d stands fits, names_fit-of stage d part)
+
+pub returns-clause-found : goal.returns-clause-found
+returns-clause-found c = λ stage part d s found. let bad : IsBadName stage s part d = bad-name stage d part s found in (bad.stands, bad.is_none)

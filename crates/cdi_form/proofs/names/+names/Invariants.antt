@@ -1,10 +1,12 @@
 use Rattle.std.proofs.Common.{◌≡◌, drop}
 use Rattle.serde_json.specs.View.{items_view, members_view}
-use Rattle.cdi_form.specs.Names.{items_fit, members_fit}
+use Rattle.cdi_form.specs.Names.{bad_name_in_items, bad_name_in_members}
 use Rattle.cdi_form.proofs.names.+names.Given as goal
 
-abbrev pub invariant-items_fit-loop-item : goal.invariant-items_fit-loop-item
-invariant-items_fit-loop-item l = items_fit l.stage (items_view (drop l.item-index l.item-items)) l.part ≡ items_fit l.stage (items_view l.items.items) l.part
+abbrev pub invariant-bad_name_in_items-loop-item : goal.invariant-bad_name_in_items-loop-item
+invariant-bad_name_in_items-loop-item l =
+    bad_name_in_items l.stage (items_view (drop l.item-index l.item-items)) l.part ≡ bad_name_in_items l.stage (items_view l.items.items) l.part
 
-abbrev pub invariant-members_fit-loop-key : goal.invariant-members_fit-loop-key
-invariant-members_fit-loop-key l = members_fit l.stage (members_view l.key-iterator) l.kind ≡ members_fit l.stage (members_view l.members.entries) l.kind
+abbrev pub invariant-bad_name_in_members-loop-key : goal.invariant-bad_name_in_members-loop-key
+invariant-bad_name_in_members-loop-key l =
+    bad_name_in_members l.stage (members_view l.key-iterator) l.kind ≡ bad_name_in_members l.stage (members_view l.members.entries) l.kind
