@@ -1,193 +1,331 @@
--- What is read into a table names only names of the table.
-use Rattle.std.proofs.Common.{◌≡◌, ℕ, ◌+◌, ◌<◌, ◌≤◌, nat_lt, not, Bool, true, false, cond, ◌||◌, List, [], ◌∷◌, ◌++◌, length, codes, Option, Some, None, Result, Ok, Err, IfOk, bytes_eq, if◌then◌else◌, refl, arith}
-use Rattle.std.proofs.lemmas.List.{length-append}
-use Rattle.std.proofs.lemmas.List.Elements.{All-cons, All-nil, All-weaker}
-use Rattle.std.specs.List.{All, list_any, position_or_len}
-use Rattle.cdi_base.specs.BuiltIn.{built_in_names}
-use Rattle.cdi_base.specs.Name.{is_name, has_room, number_of, is_known, with_name}
-use Rattle.cdi_base.specs.Reading.{◌>>=◌}
-use Rattle.cdi_json.specs.Json.{json_in}
-use Rattle.serde_json.specs.Data.{Data, Items, no_items, item}
-use Rattle.serde_json.specs.Find.{get}
-use Rattle.cdi_deploy.specs.declared.fault.ReadFault.{ReadFault}
-use Rattle.cdi_deploy.specs.declared.deployment.Class.{Class}
-use Rattle.cdi_deploy.specs.declared.deployment.Deployment.{Deployment}
-use Rattle.cdi_deploy.specs.declared.deployment.Member.{Member}
-use Rattle.cdi_deploy.specs.declared.deployment.Member.TheVariants as variants
-use Rattle.cdi_deploy.specs.declared.deployment.Method.{Method}
-use Rattle.cdi_deploy.specs.Items.{Reads, named, each, maybe, bean_at, field_at, method_at, member_at, class_at, script_at, lists_of}
-use Rattle.cdi_deploy.specs.KnownNames.{KnowsField, KnowsMember, KnowsClass, KnowsScript, KnowsNames}
-use Rattle.cdi_deploy.specs.Limits.{is_within}
-use Rattle.cdi_deploy.specs.Names.{names_fit}
-use Rattle.cdi_deploy.specs.Numbers.{numbers_fit}
+-- What each kind of object stands for has only names of the table that covers it.
+use Rattle.std.proofs.Common.{◌≡◌, ◌∙◌, ℕ, ◌<◌, Bool, true, false, bytes_eq, List, [], length, codes, Option, Some, None, option_and_then, if◌then◌else◌, IfSome, refl, sym, ap}
+use Rattle.std.specs.List.{All}
+use Rattle.cdi_base.specs.declared.stage.Stage.{Stage}
+use Rattle.cdi_base.specs.declared.stage.Stage.TheVariants as stages
+use Rattle.cdi_base.specs.Stage.{is_included, whole}
+use Rattle.cdi_form.specs.declared.form.Kind.{Kind}
+use Rattle.cdi_form.specs.declared.form.Kind.TheVariants as kinds
+use Rattle.cdi_form.specs.declared.form.Part.{Part}
+use Rattle.cdi_form.specs.declared.form.Part.TheVariants as parts
+use Rattle.cdi_form.specs.Table.{Row, rows, required, optional}
+use Rattle.cdi_form.specs.Form.{row_in, item_part}
+use Rattle.cdi_form.specs.Keys.{kind_of, has_right_keys}
+use Rattle.cdi_form.specs.NamePlaces.{StandsAsName, in_object}
+use Rattle.cdi_form.specs.Shape.{in_kind, wrong_members}
+use Rattle.cdi_form.specs.Words.{Word, member_words, word_in, served_meaning, member_kind}
+use Rattle.serde_json.specs.Data.{Data, null, boolean, number, string, array, object, Members}
+use Rattle.serde_json.specs.Find.{get, get_member, as_str}
+use Rattle.cdi_deploy.specs.Items.{each_at, maybe_at, name_at, name_in, names_in, use_in_table, interface_in, annotation_type_in, exception_in, bean_in, field_in, injected_field_in, point_in, constructor_in, interceptor_in, method_in, initializer_in, callback_in, producer_in, producer_field_in, disposer_in, observer_in, member_of, member_in, class_in, script_in, lists_in}
+use Rattle.cdi_deployment.specs.KnownNames.{IsKnown, AreKnown, KnowsUse, KnowsUses, KnowsInterface, KnowsAnnotationType, KnowsBean, KnowsInjectedField, KnowsPoint, KnowsConstructor, KnowsInterceptor, KnowsMember, KnowsClass, KnowsNames}
 use Rattle.cdi_deploy.specs.Parts.{text_of, list_of}
-use Rattle.cdi_deploy.specs.Reading.{or_not_json, root, or_shape, within_limits, deployment_of, deployment_in}
-use Rattle.cdi_deploy.specs.Shape.{wrong}
+use Rattle.cdi_deployment.specs.declared.deployment.Member.TheVariants as members
+use Rattle.cdi_deploy.proofs.Covered.{found-passes, Covers, covers-key, name-known, maybe-known, list-known, knows-name, knows-names, knows-use}
 
--- what holds after each of two steps
-both_hold : {A B : Type 0} (P : A → Type 0) (Q : B → Type 0) (r : Result A ReadFault) (next : A → Result B ReadFault)
-    → IfOk r P → ((x : A) → P x → IfOk (next x) Q) → IfOk (r >>= next) Q
-both_hold P Q (Ok x) next h step = step x h
-both_hold P Q (Err fault) next h step = tt
+module _ (stage : Stage) (names : List (List ℕ)) where
+  abbrev count : ℕ
+  count = length names
 
--- ---- the table
+  abbrev IsCovered : Part → Data → Type 0
+  IsCovered part d = Covers stage names part d
 
-position-within : {X : Type 0} (p : X → Bool) (xs : List X) → list_any p xs ≡ true → position_or_len p xs < length xs
-position-within p [] h = absurd cc
-position-within p (x ∷ xs) h = by (p x) (position-within p xs) h
-  where
-    by : (b : Bool) → (list_any p xs ≡ true → position_or_len p xs < length xs) → (b || list_any p xs) ≡ true → cond (not b) (1 + position_or_len p xs) 0 < length (x ∷ xs)
-    by true later h = omega arith
-    by false later h = let rest = later h in omega arith
+  -- in an object of a kind: a name that has to be there, one that may be missing, names, those that restrict types, uses, and a list of objects
+  module _ (kind : Kind) (d : Data) (c : IsCovered (parts.Object kind) d) where
+    name-at : (key : List ℕ) (since : Stage) → row_in (rows kind) key ≡ Some (required key parts.Name since) → IsKnown count (name_at names key d)
+    name-at key since found =
+        name-known stage names key since (get key d) (covers-key stage names kind (required key parts.Name since) found d c)
 
-position-to_len : {X : Type 0} (p : X → Bool) (xs : List X) → position_or_len p xs ≤ length xs
-position-to_len p [] = omega arith
-position-to_len p (x ∷ xs) = by (p x) (position-to_len p xs)
-  where
-    by : (b : Bool) → position_or_len p xs ≤ length xs → cond (not b) (1 + position_or_len p xs) 0 ≤ length (x ∷ xs)
-    by true later = omega arith
-    by false later = omega arith
+    maybe-name-at : (key : List ℕ) (since : Stage) → row_in (rows kind) key ≡ Some (optional key parts.Name since)
+        → IfSome (maybe_at (name_in names) key d) (IsKnown count)
+    maybe-name-at key since found =
+        maybe-known stage names (IsKnown count) (name_in names) (optional key parts.Name since) (knows-name stage names) (get key d)
+        (covers-key stage names kind (optional key parts.Name since) found d c)
 
--- a number below the table's length, which has not become less
-abbrev Knows : {X : Type 0} → (ℕ → X → Type 0) → List (List ℕ) → X × List (List ℕ) → Type 0
-Knows P names p = (length names ≤ length p.1) × P (length p.1) p.0
+    names-at : (key : List ℕ) (since : Stage) → row_in (rows kind) key ≡ Some (optional key parts.Names since) → AreKnown count (each_at (name_in names) key d)
+    names-at key since found =
+        list-known stage names (IsKnown count) (name_in names) parts.Name (knows-name stage names) (optional key parts.Names since) refl (get key d)
+        (covers-key stage names kind (optional key parts.Names since) found d c)
 
-abbrev IsBelow : ℕ → ℕ → Type 0
-IsBelow count n = n < count
+    typed-at : (key : List ℕ) (since : Stage) → row_in (rows kind) key ≡ Some (optional key parts.Names since)
+        → IfSome (maybe_at (names_in names) key d) (AreKnown count)
+    typed-at key since found =
+        maybe-known stage names (AreKnown count) (names_in names) (optional key parts.Names since) (knows-names stage names) (get key d)
+        (covers-key stage names kind (optional key parts.Names since) found d c)
 
-with_name-knows : (names : List (List ℕ)) (s : List ℕ) → (length names ≤ length (with_name names s)) × (number_of names s < length (with_name names s))
-with_name-knows names s = by (is_known names s) refl
-  where
-    by : (b : Bool) → is_known names s ≡ b → (length names ≤ length (if b then names else names ++ s ∷ [])) × (number_of names s < length (if b then names else names ++ s ∷ []))
-    by true known = (omega arith, position-within (bytes_eq s) names known)
-    by false new =
-        let longer : length (names ++ s ∷ []) ≡ length names + 1 = length-append names (s ∷ []) in
-        let last : number_of names s ≤ length names = position-to_len (bytes_eq s) names in
-        (omega (arith, longer), omega (arith, longer, last))
+    uses-at : (key : List ℕ) (since : Stage) → row_in (rows kind) key ≡ Some (optional key parts.Uses since)
+        → KnowsUses count (each_at (use_in_table names) key d)
+    uses-at key since found =
+        list-known stage names (KnowsUse count) (use_in_table names) parts.Use (knows-use stage names) (optional key parts.Uses since) refl (get key d)
+        (covers-key stage names kind (optional key parts.Uses since) found d c)
 
-named-knows : (names : List (List ℕ)) (s : List ℕ) → IfOk (named names s) (Knows IsBelow names)
-unfolding named
-named-knows names s = by (is_name s) (has_room names s)
-  where
-    by : (name room : Bool) → IfOk (if name then (if room then Ok (number_of names s, with_name names s) else Err ReadFault.TooMany) else Err ReadFault.BadName) (Knows IsBelow names)
-    by true true = with_name-knows names s
-    by true false = tt
-    by false room = tt
+    some-uses-at : (key : List ℕ) (since : Stage) → row_in (rows kind) key ≡ Some (required key parts.SomeUses since)
+        → KnowsUses count (each_at (use_in_table names) key d)
+    some-uses-at key since found =
+        list-known stage names (KnowsUse count) (use_in_table names) parts.Use (knows-use stage names) (required key parts.SomeUses since) refl (get key d)
+        (covers-key stage names kind (required key parts.SomeUses since) found d c)
 
--- ---- lists
+    module _ {X : Type 0} (P : X → Type 0) (f : Data → X) (inner : Part) (one : (e : Data) → IsCovered inner e → P (f e)) where
+      list-at : (key : List ℕ) (part : Part) (since : Stage) → item_part part ≡ Some inner → row_in (rows kind) key ≡ Some (optional key part since)
+          → All P (each_at f key d)
+      list-at key part since of_items found =
+          list-known stage names P f inner one (optional key part since) of_items (get key d)
+          (covers-key stage names kind (optional key part since) found d c)
 
-module _ {X : Type 0} (P : ℕ → X → Type 0) (keeps : (m n : ℕ) (x : X) → m ≤ n → P m x → P n x) (reading : List (List ℕ) → Data → Reads X) where
-  each-knows : ((names : List (List ℕ)) (d : Data) → IfOk (reading names d) (Knows P names)) → (names : List (List ℕ)) (ds : Items)
-      → IfOk (each reading names ds) (Knows (λ count xs. All (P count) xs) names)
-  each-knows one names no_items = (omega arith, All-nil (P (length names)))
-  each-knows one names (item d ds) =
-      both_hold (Knows P names) (Knows (λ count xs. All (P count) xs) names) (reading names d) _ (one names d)
-      (λ first known. both_hold (Knows (λ count xs. All (P count) xs) first.1) (Knows (λ count xs. All (P count) xs) names) (each reading first.1 ds) _ (each-knows one first.1 ds)
-      (λ others rest. (omega (arith, known.0, rest.0), All-cons (P (length others.1)) first.0 others.0 (keeps (length first.1) (length others.1) first.0 rest.0 known.1) rest.1)))
+      object-at : (key : List ℕ) (since : Stage) → row_in (rows kind) key ≡ Some (optional key inner since) → IfSome (maybe_at f key d) P
+      object-at key since found =
+          maybe-known stage names P f (optional key inner since) one (get key d) (covers-key stage names kind (optional key inner since) found d c)
 
--- ---- what is read
+  interface-knows : (d : Data) → IsCovered (parts.Object kinds.Interface) d → KnowsInterface count (interface_in names d)
+  unfolding interface_in
+  interface-knows d c = (
+    name-at kinds.Interface d c (codes "name") stages.Injection refl,
+    names-at kinds.Interface d c (codes "extends") stages.Injection refl,
+  )
 
-bean-knows : (names : List (List ℕ)) (o : Option Data) → IfOk (maybe bean_at names o) (λ p. length names ≤ length p.1)
-bean-knows names None = omega arith
-bean-knows names (Some d) = omega arith
+  annotation_type-knows : (d : Data) → IsCovered (parts.Object kinds.AnnotationType) d → KnowsAnnotationType count (annotation_type_in names d)
+  unfolding annotation_type_in
+  annotation_type-knows d c = (
+    name-at kinds.AnnotationType d c (codes "name") stages.Injection refl,
+    names-at kinds.AnnotationType d c (codes "members") stages.Injection refl,
+    names-at kinds.AnnotationType d c (codes "nonbinding") stages.Injection refl,
+  )
 
-field-knows : (names : List (List ℕ)) (d : Data) → IfOk (field_at names d) (Knows KnowsField names)
-unfolding field_at
-field-knows names d = both_hold (Knows IsBelow names) (Knows KnowsField names) (named names (text_of (get (codes "name") d))) _ (named-knows names _) (λ name known. known)
+  exception-knows : (d : Data) → IsCovered (parts.Object kinds.Exception) d → IsKnown count (exception_in names d).name
+  unfolding exception_in
+  exception-knows d c = name-at kinds.Exception d c (codes "name") stages.Lifecycle refl
 
-abbrev KnowsMethod : ℕ → Method → Type 0
-KnowsMethod count m = (m.name < count) × (m.body < count)
+  field-knows : (d : Data) → IsCovered (parts.Object kinds.Field) d → IsKnown count (field_in names d).name
+  unfolding field_in
+  field-knows d c = name-at kinds.Field d c (codes "name") stages.Counter refl
 
-method-knows : (names : List (List ℕ)) (d : Data) → IfOk (method_at names d) (Knows KnowsMethod names)
-unfolding method_at
-method-knows names d =
-    both_hold (Knows IsBelow names) (Knows KnowsMethod names) (named names (text_of (get (codes "name") d))) _ (named-knows names _)
-    (λ name known. both_hold (Knows IsBelow name.1) (Knows KnowsMethod names) (named name.1 (text_of (get (codes "body") d))) _ (named-knows name.1 _)
-    (λ body also. (omega (arith, known.0, also.0), (omega (arith, known.1, also.0), also.1))))
+  script-knows : (d : Data) → IsCovered (parts.Object kinds.Script) d → IsKnown count (script_in names d).name
+  unfolding script_in
+  script-knows d c = name-at kinds.Script d c (codes "name") stages.Counter refl
 
-member-knows : (names : List (List ℕ)) (d : Data) → IfOk (member_at names d) (Knows KnowsMember names)
-unfolding member_at
-member-knows names d = both_hold (Knows KnowsMethod names) (Knows KnowsMember names) (method_at names d) _ (method-knows names d) (λ method known. known)
+  bean-knows : (d : Data) → IsCovered (parts.Object kinds.Bean) d → KnowsBean count (bean_in names d)
+  unfolding bean_in
+  bean-knows d c = (
+    uses-at kinds.Bean d c (codes "quals") stages.Injection refl,
+    typed-at kinds.Bean d c (codes "typed") stages.Injection refl,
+  )
 
-script-knows : (names : List (List ℕ)) (d : Data) → IfOk (script_at names d) (Knows KnowsScript names)
-unfolding script_at
-script-knows names d = both_hold (Knows IsBelow names) (Knows KnowsScript names) (named names (text_of (get (codes "name") d))) _ (named-knows names _) (λ name known. known)
+  injected_field-knows : (d : Data) → IsCovered (parts.Object kinds.InjectedField) d → KnowsInjectedField count (injected_field_in names d)
+  unfolding injected_field_in
+  injected_field-knows d c = (
+    name-at kinds.InjectedField d c (codes "name") stages.Injection refl,
+    name-at kinds.InjectedField d c (codes "type") stages.Injection refl,
+    uses-at kinds.InjectedField d c (codes "quals") stages.Injection refl,
+  )
 
-member-keeps : (m n : ℕ) (x : Member) → m ≤ n → KnowsMember m x → KnowsMember n x
-member-keeps m n (variants.Method x) le h = (omega (arith, h.0), omega (arith, h.1))
-member-keeps m n _ le h = tt
+  point-knows : (d : Data) → IsCovered (parts.Object kinds.Point) d → KnowsPoint count (point_in names d)
+  unfolding point_in
+  point-knows d c = (
+    name-at kinds.Point d c (codes "type") stages.Injection refl,
+    uses-at kinds.Point d c (codes "quals") stages.Injection refl,
+  )
 
-fields-of : (names : List (List ℕ)) (ds : Items) → IfOk (each field_at names ds) (Knows (λ count xs. All (KnowsField count) xs) names)
-fields-of = each-knows KnowsField (λ m n x le h. omega (arith, h)) field_at field-knows
+  constructor-knows : (d : Data) → IsCovered (parts.Object kinds.Constructor) d → KnowsConstructor count (constructor_in names d)
+  unfolding constructor_in
+  constructor-knows d c = (
+    list-at kinds.Constructor d c (KnowsPoint count) (point_in names) (parts.Object kinds.Point) point-knows (codes "params") (parts.Objects kinds.Point) stages.Lifecycle refl refl,
+    maybe-name-at kinds.Constructor d c (codes "body") stages.Lifecycle refl,
+  )
 
-members-of : (names : List (List ℕ)) (ds : Items) → IfOk (each member_at names ds) (Knows (λ count xs. All (KnowsMember count) xs) names)
-members-of = each-knows KnowsMember member-keeps member_at member-knows
+  interceptor-knows : (d : Data) → IsCovered (parts.Object kinds.Interceptor) d → KnowsInterceptor count (interceptor_in names d)
+  unfolding interceptor_in
+  interceptor-knows d c = record {
+    name = name-at kinds.Interceptor d c (codes "name") stages.Interceptors refl;
+    bindings = some-uses-at kinds.Interceptor d c (codes "bindings") stages.Interceptors refl;
+    fields = list-at kinds.Interceptor d c (λ f. IsKnown count f.name) (field_in names) (parts.Object kinds.Field) field-knows (codes "fields") (parts.Objects kinds.Field) stages.Interceptors refl refl;
+    inject = list-at kinds.Interceptor d c (KnowsInjectedField count) (injected_field_in names) (parts.Object kinds.InjectedField) injected_field-knows (codes "inject") (parts.Objects kinds.InjectedField) stages.Interceptors refl refl;
+    invoke = maybe-name-at kinds.Interceptor d c (codes "invoke") stages.Interceptors refl;
+    construct = maybe-name-at kinds.Interceptor d c (codes "construct") stages.Interceptors refl;
+    post = maybe-name-at kinds.Interceptor d c (codes "post") stages.Interceptors refl;
+    pre = maybe-name-at kinds.Interceptor d c (codes "pre") stages.Interceptors refl;
+  }
 
-class-keeps : (m n : ℕ) (c : Class) → m ≤ n → KnowsClass m c → KnowsClass n c
-class-keeps m n c le h = record {
-  name = omega (arith, h.name);
-  fields = All-weaker (KnowsField m) (KnowsField n) (λ f known. omega (arith, known)) c.fields h.fields;
-  members = All-weaker (KnowsMember m) (KnowsMember n) (λ x known. member-keeps m n x le known) c.members h.members;
-}
+  method-knows : (d : Data) → IsCovered (parts.Object kinds.Method) d → KnowsMember count (members.Method (method_in names d))
+  unfolding method_in
+  method-knows d c = (
+    name-at kinds.Method d c (codes "name") stages.Counter refl,
+    name-at kinds.Method d c (codes "body") stages.Counter refl,
+    uses-at kinds.Method d c (codes "bindings") stages.Interceptors refl,
+  )
 
-class-knows : (names : List (List ℕ)) (d : Data) → IfOk (class_at names d) (Knows KnowsClass names)
-unfolding class_at
-class-knows names d =
-    both_hold (Knows IsBelow names) (Knows KnowsClass names) (named names (text_of (get (codes "name") d))) _ (named-knows names _)
-    (λ name a. both_hold (λ p. length name.1 ≤ length p.1) (Knows KnowsClass names) (maybe bean_at name.1 (get (codes "bean") d)) _ (bean-knows name.1 _)
-    (λ bean b. both_hold (Knows (λ count xs. All (KnowsField count) xs) bean.1) (Knows KnowsClass names) (each field_at bean.1 (list_of (get (codes "fields") d))) _ (fields-of bean.1 _)
-    (λ fields c. both_hold (Knows (λ count xs. All (KnowsMember count) xs) fields.1) (Knows KnowsClass names) (each member_at fields.1 (list_of (get (codes "members") d))) _ (members-of fields.1 _)
-    (λ members e. (
-      omega (arith, a.0, b, c.0, e.0),
-      record {
-        name = omega (arith, a.1, b, c.0, e.0);
-        fields = All-weaker (KnowsField (length fields.1)) (KnowsField (length members.1)) (λ f known. omega (arith, known, e.0)) fields.0 c.1;
-        members = e.1;
-      },
-    )))))
+  initializer-knows : (d : Data) → IsCovered (parts.Object kinds.Initializer) d → KnowsMember count (members.Initializer (initializer_in names d))
+  unfolding initializer_in
+  initializer-knows d c = (
+    name-at kinds.Initializer d c (codes "name") stages.Lifecycle refl,
+    name-at kinds.Initializer d c (codes "body") stages.Lifecycle refl,
+    list-at kinds.Initializer d c (KnowsPoint count) (point_in names) (parts.Object kinds.Point) point-knows (codes "params") (parts.Objects kinds.Point) stages.Lifecycle refl refl,
+  )
 
-classes-of : (names : List (List ℕ)) (ds : Items) → IfOk (each class_at names ds) (Knows (λ count xs. All (KnowsClass count) xs) names)
-classes-of = each-knows KnowsClass class-keeps class_at class-knows
+  post_construct-knows : (d : Data) → IsCovered (parts.Object kinds.PostConstruct) d → KnowsMember count (members.PostConstruct (callback_in names d))
+  unfolding callback_in
+  post_construct-knows d c = (
+    name-at kinds.PostConstruct d c (codes "name") stages.Lifecycle refl,
+    name-at kinds.PostConstruct d c (codes "body") stages.Lifecycle refl,
+  )
 
-scripts-of : (names : List (List ℕ)) (ds : Items) → IfOk (each script_at names ds) (Knows (λ count xs. All (KnowsScript count) xs) names)
-scripts-of = each-knows KnowsScript (λ m n x le h. omega (arith, h)) script_at script-knows
+  pre_destroy-knows : (d : Data) → IsCovered (parts.Object kinds.PreDestroy) d → KnowsMember count (members.PreDestroy (callback_in names d))
+  unfolding callback_in
+  pre_destroy-knows d c = (
+    name-at kinds.PreDestroy d c (codes "name") stages.Lifecycle refl,
+    name-at kinds.PreDestroy d c (codes "body") stages.Lifecycle refl,
+  )
 
-lists-know : (d : Data) → IfOk (lists_of d) KnowsNames
-unfolding lists_of
-lists-know d =
-    both_hold (Knows (λ count xs. All (KnowsClass count) xs) built_in_names) KnowsNames (each class_at built_in_names (list_of (get (codes "classes") d))) _ (classes-of built_in_names _)
-    (λ classes a. both_hold (Knows (λ count xs. All (KnowsScript count) xs) classes.1) KnowsNames (each script_at classes.1 (list_of (get (codes "scripts") d))) _ (scripts-of classes.1 _)
-    (λ scripts b. record {
-      classes = All-weaker (KnowsClass (length classes.1)) (KnowsClass (length scripts.1)) (λ c known. class-keeps (length classes.1) (length scripts.1) c b.0 known) classes.0 a.1;
-      scripts = b.1;
-    }))
+  producer-knows : (d : Data) → IsCovered (parts.Object kinds.Producer) d → KnowsMember count (members.Producer (producer_in names d))
+  unfolding producer_in
+  producer-knows d c = (
+    name-at kinds.Producer d c (codes "name") stages.Producers refl,
+    name-at kinds.Producer d c (codes "body") stages.Producers refl,
+    name-at kinds.Producer d c (codes "type") stages.Producers refl,
+    uses-at kinds.Producer d c (codes "quals") stages.Producers refl,
+    typed-at kinds.Producer d c (codes "typed") stages.Producers refl,
+    list-at kinds.Producer d c (KnowsPoint count) (point_in names) (parts.Object kinds.Point) point-knows (codes "params") (parts.Objects kinds.Point) stages.Producers refl refl,
+    uses-at kinds.Producer d c (codes "bindings") stages.Interceptors refl,
+  )
 
-within-knows : (d : Deployment) → KnowsNames d → IfOk (within_limits d) KnowsNames
-within-knows d known = by (is_within d)
-  where
-    by : (b : Bool) → IfOk (if b then Ok d else Err ReadFault.TooMany) KnowsNames
-    by true = known
-    by false = tt
+  producer_field-knows : (d : Data) → IsCovered (parts.Object kinds.ProducerField) d → KnowsMember count (members.ProducerField (producer_field_in names d))
+  unfolding producer_field_in
+  producer_field-knows d c = (
+    name-at kinds.ProducerField d c (codes "name") stages.Producers refl,
+    name-at kinds.ProducerField d c (codes "field") stages.Producers refl,
+    name-at kinds.ProducerField d c (codes "type") stages.Producers refl,
+    uses-at kinds.ProducerField d c (codes "quals") stages.Producers refl,
+    typed-at kinds.ProducerField d c (codes "typed") stages.Producers refl,
+  )
 
-value-knows : (d : Data) → IfOk (deployment_of d) KnowsNames
-unfolding deployment_of
-value-knows d = by (numbers_fit d) (wrong d root) (names_fit d root)
-  where
-    by : (numbers : Bool) (place : Option (List ℕ)) (names : Bool)
-        → IfOk (if not numbers then Err ReadFault.BadNumber else or_shape place (if not names then Err ReadFault.BadName else lists_of d >>= within_limits)) KnowsNames
-    by true None true = both_hold KnowsNames KnowsNames (lists_of d) within_limits (lists-know d) within-knows
-    by true None false = tt
-    by true (Some path) names = tt
-    by false place names = tt
+  disposer-knows : (d : Data) → IsCovered (parts.Object kinds.Disposer) d → KnowsMember count (members.Disposer (disposer_in names d))
+  unfolding disposer_in
+  disposer-knows d c = (
+    name-at kinds.Disposer d c (codes "name") stages.Producers refl,
+    name-at kinds.Disposer d c (codes "body") stages.Producers refl,
+    name-at kinds.Disposer d c (codes "type") stages.Producers refl,
+    uses-at kinds.Disposer d c (codes "quals") stages.Producers refl,
+    list-at kinds.Disposer d c (KnowsPoint count) (point_in names) (parts.Object kinds.Point) point-knows (codes "params") (parts.Objects kinds.Point) stages.Producers refl refl,
+    uses-at kinds.Disposer d c (codes "bindings") stages.Interceptors refl,
+  )
 
-pub deployment-knows : (bytes : List ℕ) → IfOk (deployment_in bytes) KnowsNames
-unfolding deployment_in
-deployment-knows bytes = by (nat_lt 1048576 (length bytes))
-  where
-    by : (long : Bool) → IfOk (if long then Err ReadFault.TooLong else or_not_json (json_in bytes) >>= deployment_of) KnowsNames
-    by true = tt
-    by false = both_hold (λ d. Unit {0}) KnowsNames (or_not_json (json_in bytes)) deployment_of (any (or_not_json (json_in bytes))) (λ d known. value-knows d)
-      where
-        any : (r : Result Data ReadFault) → IfOk r (λ d. Unit {0})
-        any (Ok d) = tt
-        any (Err fault) = tt
+  observer-knows : (d : Data) → IsCovered (parts.Object kinds.Observer) d → KnowsMember count (members.Observer (observer_in names d))
+  unfolding observer_in
+  observer-knows d c = (
+    name-at kinds.Observer d c (codes "name") stages.Events refl,
+    name-at kinds.Observer d c (codes "body") stages.Events refl,
+    name-at kinds.Observer d c (codes "type") stages.Events refl,
+    uses-at kinds.Observer d c (codes "quals") stages.Events refl,
+    list-at kinds.Observer d c (KnowsPoint count) (point_in names) (parts.Object kinds.Point) point-knows (codes "params") (parts.Objects kinds.Point) stages.Events refl refl,
+    uses-at kinds.Observer d c (codes "bindings") stages.Events refl,
+  )
+
+  -- ---- members
+
+  abbrev is_member : Kind → Bool
+  is_member kinds.Method = true
+  is_member kinds.Initializer = true
+  is_member kinds.PostConstruct = true
+  is_member kinds.PreDestroy = true
+  is_member kinds.Producer = true
+  is_member kinds.ProducerField = true
+  is_member kinds.Disposer = true
+  is_member kinds.Observer = true
+  is_member _ = false
+
+  included-whole : (since : Stage) → is_included whole since ≡ true
+  included-whole stages.Counter = refl
+  included-whole stages.Injection = refl
+  included-whole stages.Alternatives = refl
+  included-whole stages.Requests = refl
+  included-whole stages.Lifecycle = refl
+  included-whole stages.Producers = refl
+  included-whole stages.Interceptors = refl
+  included-whole stages.Events = refl
+  included-whole stages.Lookups = refl
+
+  -- what is served is so at the last stage
+  served-whole : (w : Word Kind) (k : Kind) → served_meaning stage w ≡ Some k → (served_meaning whole w ≡ Some k) × (w.meaning ≡ k)
+  served-whole w k e =
+      let is : w.meaning ≡ k = by (is_included stage w.since) e in
+      (ap (λ b. if b then Some w.meaning else None) (included-whole w.since) ∙ ap (λ (m : Kind). Some m) is, is)
+    where
+      by : (b : Bool) → (if b then Some w.meaning else None) ≡ Some k → w.meaning ≡ k
+      by true h = cc
+      by false h = absurd cc
+
+  meaning-of : (word : List ℕ) (k : Kind) (o : Option (Word Kind)) → word_in member_words word ≡ o → option_and_then (served_meaning stage) o ≡ Some k
+      → (option_and_then (served_meaning whole) o ≡ Some k) × (is_member k ≡ true)
+  meaning-of word k None is e = absurd cc
+  meaning-of word k (Some w) is e =
+      let served = served-whole w k e in
+      (served.0, ap is_member (sym served.1) ∙ found-passes (λ v. is_member v.meaning) (λ v. bytes_eq v.text word) member_words w refl is)
+
+  of-kind : (k : Kind) → is_member k ≡ true → (d : Data) → IsCovered (parts.Object k) d → KnowsMember count (member_of (Some k) names d)
+  unfolding member_of
+  of-kind kinds.Method is d c = method-knows d c
+  of-kind kinds.Initializer is d c = initializer-knows d c
+  of-kind kinds.PostConstruct is d c = post_construct-knows d c
+  of-kind kinds.PreDestroy is d c = pre_destroy-knows d c
+  of-kind kinds.Producer is d c = producer-knows d c
+  of-kind kinds.ProducerField is d c = producer_field-knows d c
+  of-kind kinds.Disposer is d c = disposer-knows d c
+  of-kind kinds.Observer is d c = observer-knows d c
+  of-kind _ is d c = absurd cc
+
+  -- what stands as a name in a member does so in the object that it is
+  stands-in_member : (ms : Members) (k : Kind) → kind_of stage parts.Member ms ≡ Some k → (s : List ℕ) → StandsAsName stage s (parts.Object k) (object ms)
+      → StandsAsName stage s parts.Member (object ms)
+  stands-in_member ms k is s (in_object outer inner all kind key d of_kind h at stands) = in_object parts.Member inner ms kind key d (is ∙ of_kind) h at stands
+
+  member-knows : (d : Data) → IsCovered parts.Member d → KnowsMember count (member_in names d)
+  member-knows (object ms) c = by_word (get_member (codes "kind") ms) refl c.right
+    where
+      by_kind : (word : List ℕ) → get_member (codes "kind") ms ≡ Some (string word) → (o : Option Kind) → member_kind stage word ≡ o
+          → in_kind o (λ kind. if has_right_keys stage kind ms then wrong_members stage ms kind else Some []) ≡ None
+          → KnowsMember count (member_of (member_kind whole word) names (object ms))
+      by_kind word at None is e = absurd cc
+      by_kind word at (Some k) is e =
+          let means = meaning-of word k (word_in member_words word) refl is in
+          let kind : kind_of stage parts.Member ms ≡ Some k = ap (λ o. option_and_then (member_kind stage) (option_and_then as_str o)) at ∙ is in
+          rw means.0 (of-kind k means.1 (object ms) (record { right = e; known = λ s stands. c.known s (stands-in_member ms k kind s stands) }))
+
+      by_word : (o : Option Data) → get_member (codes "kind") ms ≡ o
+          → in_kind (option_and_then (member_kind stage) (option_and_then as_str o)) (λ kind. if has_right_keys stage kind ms then wrong_members stage ms kind else Some []) ≡ None
+          → KnowsMember count (member_of (member_kind whole (text_of o)) names (object ms))
+      by_word None at e = absurd cc
+      by_word (Some (string word)) at e = by_kind word at (member_kind stage word) refl e
+      by_word (Some d) at e = absurd cc
+  member-knows null c = let e = c.right in absurd cc
+  member-knows (boolean b) c = let e = c.right in absurd cc
+  member-knows (number n) c = let e = c.right in absurd cc
+  member-knows (string s) c = let e = c.right in absurd cc
+  member-knows (array ds) c = let e = c.right in absurd cc
+
+  -- ---- classes and the whole
+
+  class-knows : (d : Data) → IsCovered (parts.Object kinds.Class) d → KnowsClass count (class_in names d)
+  unfolding class_in
+  class-knows d c = record {
+    name = name-at kinds.Class d c (codes "name") stages.Counter refl;
+    extends = maybe-name-at kinds.Class d c (codes "extends") stages.Injection refl;
+    implements = names-at kinds.Class d c (codes "implements") stages.Injection refl;
+    bindings = uses-at kinds.Class d c (codes "bindings") stages.Interceptors refl;
+    bean = object-at kinds.Class d c (KnowsBean count) (bean_in names) (parts.Object kinds.Bean) bean-knows (codes "bean") stages.Counter refl;
+    fields = list-at kinds.Class d c (λ f. IsKnown count f.name) (field_in names) (parts.Object kinds.Field) field-knows (codes "fields") (parts.Objects kinds.Field) stages.Counter refl refl;
+    inject = list-at kinds.Class d c (KnowsInjectedField count) (injected_field_in names) (parts.Object kinds.InjectedField) injected_field-knows (codes "inject") (parts.Objects kinds.InjectedField) stages.Injection refl refl;
+    constructor = object-at kinds.Class d c (KnowsConstructor count) (constructor_in names) (parts.Object kinds.Constructor) constructor-knows (codes "constructor") stages.Lifecycle refl;
+    members = list-at kinds.Class d c (KnowsMember count) (member_in names) parts.Member member-knows (codes "members") parts.Members stages.Counter refl refl;
+  }
+
+  pub lists-know : (d : Data) → IsCovered (parts.Object kinds.Deployment) d → KnowsNames (lists_in names d)
+  unfolding lists_in
+  lists-know d c = record {
+    interfaces = list-at kinds.Deployment d c (KnowsInterface count) (interface_in names) (parts.Object kinds.Interface) interface-knows (codes "interfaces") (parts.Objects kinds.Interface) stages.Injection refl refl;
+    qualifiers = list-at kinds.Deployment d c (KnowsAnnotationType count) (annotation_type_in names) (parts.Object kinds.AnnotationType) annotation_type-knows (codes "qualifiers") (parts.Objects kinds.AnnotationType) stages.Injection refl refl;
+    bindings = list-at kinds.Deployment d c (KnowsAnnotationType count) (annotation_type_in names) (parts.Object kinds.AnnotationType) annotation_type-knows (codes "bindings") (parts.Objects kinds.AnnotationType) stages.Interceptors refl refl;
+    exceptions = list-at kinds.Deployment d c (λ e. IsKnown count e.name) (exception_in names) (parts.Object kinds.Exception) exception-knows (codes "exceptions") (parts.Objects kinds.Exception) stages.Lifecycle refl refl;
+    classes = list-at kinds.Deployment d c (KnowsClass count) (class_in names) (parts.Object kinds.Class) class-knows (codes "classes") (parts.Objects kinds.Class) stages.Counter refl refl;
+    interceptors = list-at kinds.Deployment d c (KnowsInterceptor count) (interceptor_in names) (parts.Object kinds.Interceptor) interceptor-knows (codes "interceptors") (parts.Objects kinds.Interceptor) stages.Interceptors refl refl;
+    selected = names-at kinds.Deployment d c (codes "selected") stages.Alternatives refl;
+    order = names-at kinds.Deployment d c (codes "order") stages.Interceptors refl;
+    scripts = list-at kinds.Deployment d c (λ s. IsKnown count s.name) (script_in names) (parts.Object kinds.Script) script-knows (codes "scripts") (parts.Objects kinds.Script) stages.Counter refl refl;
+  }

@@ -1,4 +1,4 @@
-pub mod Each
-pub mod Forms
+pub mod Covered
 pub mod Known
-pub mod NamePlaces
+pub mod Readable
+pub mod Tables

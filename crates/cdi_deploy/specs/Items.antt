@@ -1,108 +1,240 @@
--- What a value of the right form stands for, read into a table of names.
-use Rattle.std.specs.Prelude.{ℕ, false, List, [], ◌∷◌, codes, Option, Some, None, Result, Ok, Err, if◌then◌else◌}
-use Rattle.cdi_base.specs.BuiltIn.{built_in_names}
-use Rattle.cdi_base.specs.Name.{is_name, has_room, number_of, with_name}
-use Rattle.cdi_base.specs.Reading.{◌>>=◌}
+-- What a value of the right form stands for, where all names in it stand in a table.
+use Rattle.std.specs.Prelude.{ℕ, List, [], ◌∷◌, map, codes, Option, Some, None, option_map}
+use Rattle.std.specs.Option.{unwrap_or}
+use Rattle.cdi_base.specs.declared.uses.MemberValue.{MemberValue}
+use Rattle.cdi_base.specs.declared.uses.Use.{Use}
+use Rattle.cdi_base.specs.declared.uses.WrittenMember.{WrittenMember}
+use Rattle.cdi_base.specs.declared.uses.WrittenUse.{WrittenUse}
+use Rattle.cdi_base.specs.Name.{number_of}
+use Rattle.cdi_base.specs.Stage.{whole}
+use Rattle.cdi_form.specs.declared.form.Kind.{Kind}
+use Rattle.cdi_form.specs.declared.form.Kind.TheVariants as kinds
+use Rattle.cdi_form.specs.Words.{member_kind}
+use Rattle.cdi_json.specs.Forms.{use_in}
 use Rattle.serde_json.specs.Data.{Data, Items, no_items, item}
 use Rattle.serde_json.specs.Find.{get}
-use Rattle.cdi_deploy.specs.declared.fault.ReadFault.{ReadFault}
-use Rattle.cdi_deploy.specs.declared.fault.ReadFault.TheVariants as faults
-use Rattle.cdi_deploy.specs.declared.deployment.Bean.{Bean}
-use Rattle.cdi_deploy.specs.declared.deployment.Class.{Class}
-use Rattle.cdi_deploy.specs.declared.deployment.Deployment.{Deployment}
-use Rattle.cdi_deploy.specs.declared.deployment.Field.{Field}
-use Rattle.cdi_deploy.specs.declared.deployment.Member.{Member}
-use Rattle.cdi_deploy.specs.declared.deployment.Member.TheVariants as members
-use Rattle.cdi_deploy.specs.declared.deployment.Method.{Method}
-use Rattle.cdi_deploy.specs.declared.deployment.Script.{Script}
-use Rattle.cdi_deploy.specs.Parts.{text_of, list_of, value_of, count_of, scope_of, data_of}
+use Rattle.cdi_deployment.specs.declared.deployment.AnnotationType.{AnnotationType}
+use Rattle.cdi_deployment.specs.declared.deployment.Bean.{Bean}
+use Rattle.cdi_deployment.specs.declared.deployment.Callback.{Callback}
+use Rattle.cdi_deployment.specs.declared.deployment.Class.{Class}
+use Rattle.cdi_deployment.specs.declared.deployment.Constructor.{Constructor}
+use Rattle.cdi_deployment.specs.declared.deployment.Deployment.{Deployment}
+use Rattle.cdi_deployment.specs.declared.deployment.Disposer.{Disposer}
+use Rattle.cdi_deployment.specs.declared.deployment.Exception.{Exception}
+use Rattle.cdi_deployment.specs.declared.deployment.Field.{Field}
+use Rattle.cdi_deployment.specs.declared.deployment.Initializer.{Initializer}
+use Rattle.cdi_deployment.specs.declared.deployment.InjectedField.{InjectedField}
+use Rattle.cdi_deployment.specs.declared.deployment.Interceptor.{Interceptor}
+use Rattle.cdi_deployment.specs.declared.deployment.Interface.{Interface}
+use Rattle.cdi_deployment.specs.declared.deployment.Member.{Member}
+use Rattle.cdi_deployment.specs.declared.deployment.Member.TheVariants as members
+use Rattle.cdi_deployment.specs.declared.deployment.Method.{Method}
+use Rattle.cdi_deployment.specs.declared.deployment.Observer.{Observer}
+use Rattle.cdi_deployment.specs.declared.deployment.Point.{Point}
+use Rattle.cdi_deployment.specs.declared.deployment.ProducerField.{ProducerField}
+use Rattle.cdi_deployment.specs.declared.deployment.ProducerMethod.{ProducerMethod}
+use Rattle.cdi_deployment.specs.declared.deployment.Script.{Script}
+use Rattle.cdi_deploy.specs.Parts.{text_of, list_of, value_of, count_of, mark_of, whole_number_of, scope_of, data_of}
 
--- what is read into a table of names, with the table then
-abbrev pub Reads : Type 0 → Type 0
-Reads X = Result (X × List (List ℕ)) ReadFault
+-- the items of an array
+abbrev pub each : {X : Type 0} → (Data → X) → Items → List X
+each form no_items = []
+each form (item d ds) = form d ∷ each form ds
 
--- the number of a name
-unfoldable pub named : List (List ℕ) → List ℕ → Reads ℕ
-named names s =
-    if is_name s then (if has_room names s then Ok (number_of names s, with_name names s) else Err faults.TooMany) else Err faults.BadName
+-- the items of the array at a key
+abbrev pub each_at : {X : Type 0} → (Data → X) → List ℕ → Data → List X
+each_at form key d = each form (list_of (get key d))
 
--- the items of an array, one after the other
-abbrev pub each : {X : Type 0} → (List (List ℕ) → Data → Reads X) → List (List ℕ) → Items → Reads (List X)
-each reading names no_items = Ok ([], names)
-each reading names (item d ds) = do
-  first ← reading names d
-  others ← each reading first.1 ds
-  Ok (first.0 ∷ others.0, others.1)
+-- what stands at a key that may be missing
+abbrev pub maybe_at : {X : Type 0} → (Data → X) → List ℕ → Data → Option X
+maybe_at form key d = option_map form (get key d)
 
--- what may be missing
-abbrev pub maybe : {X : Type 0} → (List (List ℕ) → Data → Reads X) → List (List ℕ) → Option Data → Reads (Option X)
-maybe reading names None = Ok (None, names)
-maybe reading names (Some d) = do
-  found ← reading names d
-  Ok (Some found.0, found.1)
+-- the number of the name that a value is
+abbrev pub name_in : List (List ℕ) → Data → ℕ
+name_in names d = number_of names (text_of (Some d))
 
-abbrev pub bean_at : List (List ℕ) → Data → Reads Bean
-bean_at names d = Ok (record { scope = scope_of (get (codes "scope") d); quals = []; typed = None; alternative = false; priority = None; specializes = false }, names)
+abbrev pub name_at : List (List ℕ) → List ℕ → Data → ℕ
+name_at names key d = number_of names (text_of (get key d))
 
-unfoldable pub field_at : List (List ℕ) → Data → Reads Field
-field_at names d = do
-  name ← named names (text_of (get (codes "name") d))
-  Ok (record { name = name.0; value = value_of (get (codes "value") d) }, name.1)
+abbrev pub names_in : List (List ℕ) → Data → List ℕ
+names_in names d = each (name_in names) (list_of (Some d))
 
-unfoldable pub method_at : List (List ℕ) → Data → Reads Method
-method_at names d = do
-  name ← named names (text_of (get (codes "name") d))
-  body ← named name.1 (text_of (get (codes "body") d))
-  Ok (record { name = name.0; body = body.0; args = count_of (get (codes "args") d); bindings = [] }, body.1)
+abbrev pub member_value : List (List ℕ) → WrittenMember → MemberValue
+member_value names m = record { name = number_of names m.name; value = m.value }
 
--- a member is of the one kind that there is
-unfoldable pub member_at : List (List ℕ) → Data → Reads Member
-member_at names d = do
-  method ← method_at names d
-  Ok (members.Method method.0, method.1)
+-- a use with the numbers of its names
+abbrev pub numbered : List (List ℕ) → WrittenUse → Use
+numbered names written = record { name = number_of names written.name; members = map (member_value names) written.members }
 
-unfoldable pub class_at : List (List ℕ) → Data → Reads Class
-class_at names d = do
-  name ← named names (text_of (get (codes "name") d))
-  bean ← maybe bean_at name.1 (get (codes "bean") d)
-  fields ← each field_at bean.1 (list_of (get (codes "fields") d))
-  members ← each member_at fields.1 (list_of (get (codes "members") d))
-  Ok (
-    record {
-      name = name.0;
-      extends = None;
-      implements = [];
-      is_abstract = false;
-      is_final = false;
-      bindings = [];
-      bean = bean.0;
-      fields = fields.0;
-      inject = [];
-      constructor = None;
-      members = members.0;
-    },
-    members.1,
-  )
+abbrev pub nameless : WrittenUse
+nameless = record { name = []; members = [] }
 
-unfoldable pub script_at : List (List ℕ) → Data → Reads Script
-script_at names d = do
-  name ← named names (text_of (get (codes "name") d))
-  Ok (record { name = name.0; steps = data_of (get (codes "steps") d) }, name.1)
+abbrev pub use_in_table : List (List ℕ) → Data → Use
+use_in_table names d = numbered names (unwrap_or (use_in d) nameless)
 
--- the lists of a deployment, read into a table that begins with the built-in names
-unfoldable pub lists_of : Data → Result Deployment ReadFault
-lists_of d = do
-  classes ← each class_at built_in_names (list_of (get (codes "classes") d))
-  scripts ← each script_at classes.1 (list_of (get (codes "scripts") d))
-  Ok (record {
-    names = scripts.1;
-    interfaces = [];
-    qualifiers = [];
-    bindings = [];
-    exceptions = [];
-    classes = classes.0;
-    interceptors = [];
-    selected = [];
-    order = [];
-    scripts = scripts.0;
-  })
+-- ---- the objects
+
+unfoldable pub interface_in : List (List ℕ) → Data → Interface
+interface_in names d = record { name = name_at names (codes "name") d; extends = each_at (name_in names) (codes "extends") d }
+
+unfoldable pub annotation_type_in : List (List ℕ) → Data → AnnotationType
+annotation_type_in names d = record {
+  name = name_at names (codes "name") d;
+  members = each_at (name_in names) (codes "members") d;
+  nonbinding = each_at (name_in names) (codes "nonbinding") d;
+}
+
+unfoldable pub exception_in : List (List ℕ) → Data → Exception
+exception_in names d = record { name = name_at names (codes "name") d; checked = mark_of (get (codes "checked") d) }
+
+unfoldable pub bean_in : List (List ℕ) → Data → Bean
+bean_in names d = record {
+  scope = scope_of (get (codes "scope") d);
+  quals = each_at (use_in_table names) (codes "quals") d;
+  typed = maybe_at (names_in names) (codes "typed") d;
+  alternative = mark_of (get (codes "alternative") d);
+  priority = whole_number_of (get (codes "priority") d);
+  specializes = mark_of (get (codes "specializes") d);
+}
+
+unfoldable pub field_in : List (List ℕ) → Data → Field
+field_in names d = record { name = name_at names (codes "name") d; value = value_of (get (codes "value") d) }
+
+unfoldable pub injected_field_in : List (List ℕ) → Data → InjectedField
+injected_field_in names d = record {
+  name = name_at names (codes "name") d;
+  ty = name_at names (codes "type") d;
+  quals = each_at (use_in_table names) (codes "quals") d;
+}
+
+unfoldable pub point_in : List (List ℕ) → Data → Point
+point_in names d = record { ty = name_at names (codes "type") d; quals = each_at (use_in_table names) (codes "quals") d }
+
+unfoldable pub constructor_in : List (List ℕ) → Data → Constructor
+constructor_in names d = record { params = each_at (point_in names) (codes "params") d; body = maybe_at (name_in names) (codes "body") d }
+
+unfoldable pub interceptor_in : List (List ℕ) → Data → Interceptor
+interceptor_in names d = record {
+  name = name_at names (codes "name") d;
+  bindings = each_at (use_in_table names) (codes "bindings") d;
+  priority = whole_number_of (get (codes "priority") d);
+  fields = each_at (field_in names) (codes "fields") d;
+  inject = each_at (injected_field_in names) (codes "inject") d;
+  invoke = maybe_at (name_in names) (codes "invoke") d;
+  construct = maybe_at (name_in names) (codes "construct") d;
+  post = maybe_at (name_in names) (codes "post") d;
+  pre = maybe_at (name_in names) (codes "pre") d;
+}
+
+-- ---- the members of a class
+
+unfoldable pub method_in : List (List ℕ) → Data → Method
+method_in names d = record {
+  name = name_at names (codes "name") d;
+  body = name_at names (codes "body") d;
+  args = count_of (get (codes "args") d);
+  bindings = each_at (use_in_table names) (codes "bindings") d;
+}
+
+unfoldable pub initializer_in : List (List ℕ) → Data → Initializer
+initializer_in names d = record {
+  name = name_at names (codes "name") d;
+  body = name_at names (codes "body") d;
+  params = each_at (point_in names) (codes "params") d;
+}
+
+unfoldable pub callback_in : List (List ℕ) → Data → Callback
+callback_in names d = record { name = name_at names (codes "name") d; body = name_at names (codes "body") d }
+
+unfoldable pub producer_in : List (List ℕ) → Data → ProducerMethod
+producer_in names d = record {
+  name = name_at names (codes "name") d;
+  body = name_at names (codes "body") d;
+  ty = name_at names (codes "type") d;
+  quals = each_at (use_in_table names) (codes "quals") d;
+  typed = maybe_at (names_in names) (codes "typed") d;
+  scope = scope_of (get (codes "scope") d);
+  params = each_at (point_in names) (codes "params") d;
+  bindings = each_at (use_in_table names) (codes "bindings") d;
+}
+
+unfoldable pub producer_field_in : List (List ℕ) → Data → ProducerField
+producer_field_in names d = record {
+  name = name_at names (codes "name") d;
+  field = name_at names (codes "field") d;
+  ty = name_at names (codes "type") d;
+  quals = each_at (use_in_table names) (codes "quals") d;
+  typed = maybe_at (names_in names) (codes "typed") d;
+  scope = scope_of (get (codes "scope") d);
+}
+
+unfoldable pub disposer_in : List (List ℕ) → Data → Disposer
+disposer_in names d = record {
+  name = name_at names (codes "name") d;
+  body = name_at names (codes "body") d;
+  ty = name_at names (codes "type") d;
+  quals = each_at (use_in_table names) (codes "quals") d;
+  params = each_at (point_in names) (codes "params") d;
+  bindings = each_at (use_in_table names) (codes "bindings") d;
+}
+
+unfoldable pub observer_in : List (List ℕ) → Data → Observer
+observer_in names d = record {
+  name = name_at names (codes "name") d;
+  body = name_at names (codes "body") d;
+  ty = name_at names (codes "type") d;
+  quals = each_at (use_in_table names) (codes "quals") d;
+  params = each_at (point_in names) (codes "params") d;
+  priority = whole_number_of (get (codes "priority") d);
+  if_exists = mark_of (get (codes "if_exists") d);
+  bindings = each_at (use_in_table names) (codes "bindings") d;
+}
+
+-- a member of the kind that it names
+unfoldable pub member_of : Option Kind → List (List ℕ) → Data → Member
+member_of (Some kinds.Initializer) names d = members.Initializer (initializer_in names d)
+member_of (Some kinds.PostConstruct) names d = members.PostConstruct (callback_in names d)
+member_of (Some kinds.PreDestroy) names d = members.PreDestroy (callback_in names d)
+member_of (Some kinds.Producer) names d = members.Producer (producer_in names d)
+member_of (Some kinds.ProducerField) names d = members.ProducerField (producer_field_in names d)
+member_of (Some kinds.Disposer) names d = members.Disposer (disposer_in names d)
+member_of (Some kinds.Observer) names d = members.Observer (observer_in names d)
+member_of _ names d = members.Method (method_in names d)
+
+abbrev pub member_in : List (List ℕ) → Data → Member
+member_in names d = member_of (member_kind whole (text_of (get (codes "kind") d))) names d
+
+-- ---- classes, scripts and the whole
+
+unfoldable pub class_in : List (List ℕ) → Data → Class
+class_in names d = record {
+  name = name_at names (codes "name") d;
+  extends = maybe_at (name_in names) (codes "extends") d;
+  implements = each_at (name_in names) (codes "implements") d;
+  is_abstract = mark_of (get (codes "abstract") d);
+  is_final = mark_of (get (codes "final") d);
+  bindings = each_at (use_in_table names) (codes "bindings") d;
+  bean = maybe_at (bean_in names) (codes "bean") d;
+  fields = each_at (field_in names) (codes "fields") d;
+  inject = each_at (injected_field_in names) (codes "inject") d;
+  constructor = maybe_at (constructor_in names) (codes "constructor") d;
+  members = each_at (member_in names) (codes "members") d;
+}
+
+unfoldable pub script_in : List (List ℕ) → Data → Script
+script_in names d = record { name = name_at names (codes "name") d; steps = data_of (get (codes "steps") d) }
+
+-- the lists of a deployment
+unfoldable pub lists_in : List (List ℕ) → Data → Deployment
+lists_in names d = record {
+  names = names;
+  interfaces = each_at (interface_in names) (codes "interfaces") d;
+  qualifiers = each_at (annotation_type_in names) (codes "qualifiers") d;
+  bindings = each_at (annotation_type_in names) (codes "bindings") d;
+  exceptions = each_at (exception_in names) (codes "exceptions") d;
+  classes = each_at (class_in names) (codes "classes") d;
+  interceptors = each_at (interceptor_in names) (codes "interceptors") d;
+  selected = each_at (name_in names) (codes "selected") d;
+  order = each_at (name_in names) (codes "order") d;
+  scripts = each_at (script_in names) (codes "scripts") d;
+}

@@ -1,12 +1,5 @@
-pub mod DataCode
-pub mod Form
-pub mod Shape
-pub mod HasForm
-pub mod Numbers
-pub mod Names
 pub mod Parts
 pub mod Items
-pub mod Limits
+pub mod Naming
 pub mod Reading
-pub mod KnownNames
-pub mod NamePlaces
+pub mod Readable

@@ -1,11 +1,15 @@
--- What a part of an object stands for, and what stands for it where it is missing.
-use Rattle.std.specs.Prelude.{ℕ, ℤ, List, [], codes, bytes_eq, Option, Some, None, nat_le, if◌then◌else◌}
-use Rattle.cdi_base.specs.declared.value.Value.{Value}
-use Rattle.cdi_base.specs.declared.value.Value.TheVariants as values
-use Rattle.serde_json.specs.Data.{Num, unsigned, Data, null, number, string, array, Items, no_items}
-use Rattle.serde_json.specs.Find.{as_i64}
+-- What stands at a key of an object, and what stands for it where it is missing.
+use Rattle.std.specs.Prelude.{ℕ, ℤ, Bool, false, List, [], Option, Some, None, nat_le, if◌then◌else◌}
+use Rattle.std.specs.Option.{unwrap_or}
 use Rattle.cdi_base.specs.declared.scope.Scope.{Scope}
 use Rattle.cdi_base.specs.declared.scope.Scope.TheVariants as scopes
+use Rattle.cdi_base.specs.declared.value.Value.{Value}
+use Rattle.cdi_base.specs.declared.value.Value.TheVariants as values
+use Rattle.cdi_base.specs.Stage.{whole}
+use Rattle.cdi_form.specs.Words.{scope_named}
+use Rattle.cdi_json.specs.Forms.{value_in}
+use Rattle.serde_json.specs.Data.{Num, unsigned, Data, null, boolean, number, string, array, Items, no_items}
+use Rattle.serde_json.specs.Find.{as_i64}
 
 -- a text that is missing is empty
 abbrev pub text_of : Option Data → List ℕ
@@ -17,15 +21,10 @@ abbrev pub list_of : Option Data → Items
 list_of (Some (array ds)) = ds
 list_of _ = no_items
 
-abbrev pub value_of_whole : Option ℤ → Value
-value_of_whole (Some n) = values.Int n
-value_of_whole None = values.Null
-
 -- a value that is missing is null
 abbrev pub value_of : Option Data → Value
-value_of (Some (string s)) = values.Text s
-value_of (Some (number n)) = value_of_whole (as_i64 n)
-value_of _ = values.Null
+value_of None = values.Null
+value_of (Some d) = unwrap_or (value_in d) values.Null
 
 abbrev pub count_of_num : Num → ℕ
 count_of_num (unsigned n) = if nat_le n 8 then n else 0
@@ -36,12 +35,19 @@ abbrev pub count_of : Option Data → ℕ
 count_of (Some (number n)) = count_of_num n
 count_of _ = 0
 
-abbrev pub scope_named : List ℕ → Scope
-scope_named word = if bytes_eq word (codes "ApplicationScoped") then scopes.ApplicationScoped else scopes.Dependent
+-- a mark that is missing is false
+abbrev pub mark_of : Option Data → Bool
+mark_of (Some (boolean b)) = b
+mark_of _ = false
+
+-- a whole number may be missing
+abbrev pub whole_number_of : Option Data → Option ℤ
+whole_number_of (Some (number n)) = as_i64 n
+whole_number_of _ = None
 
 -- a scope that is missing is Dependent
 abbrev pub scope_of : Option Data → Scope
-scope_of d = scope_named (text_of d)
+scope_of d = unwrap_or (scope_named whole (text_of d)) scopes.Dependent
 
 abbrev pub data_of : Option Data → Data
 data_of (Some d) = d

@@ -1,35 +1,27 @@
-//! What a value of the right form stands for, read into a table of names.
-ghost use Rattle.std.specs.Prelude.{◌≡◌, ℕ, List, Result, option_map};
-ghost use Rattle.cdi_base.specs.Reading.{Gives};
+//! What is read of a value whose names all stand in a table: names, uses and lists. All that may be missing, and all that
+//! a list holds, is read by one way each.
+ghost use Rattle.std.specs.Prelude.{◌≡◌, ℕ, List, IfOk, map, option_map};
 ghost use Rattle.serde_json.specs.Data.{Data};
 ghost use Rattle.serde_json.specs.View.{view, items_view};
-ghost use Rattle.cdi_deploy.specs.declared.fault.ReadFault.{ReadFault as AnyFault};
 ghost use Rattle.cdi_deploy.specs.Items as spec;
-ghost use Rattle.cdi_deploy.specs.Items.{bean_at, field_at, method_at, member_at, class_at, script_at};
+ghost use Rattle.cdi_deploy.specs.Items.{name_in, names_in, use_in_table};
 
-use crate::deployment::{Bean, Class, Deployment, Field, Member, Method, Script};
-use crate::fault::ReadFault;
-use crate::parts::{count_at, list_at, scope_at, steps_at, text_at, value_at};
-use cdi_base::{InternError, Name, Names, ReadError, Seq, is_name};
+use crate::parts::{list_at, list_in, text_at, text_in};
+use cdi_base::{MemberValue, Name, Names, Seq, Text, Use, WrittenMember, WrittenUse};
+use cdi_json::Form;
 use serde_json::Value as Json;
-use std::alloc::Global;
+use std::alloc::{AllocError, Global};
 
-/// What is read of a value, into a table of names.
-trait Item: Sized + Drop {
-    ghost reading: { List (List ℕ) → Data → Result (Self × List (List ℕ)) AnyFault };
+/// What a value of the right form stands for.
+pub(crate) trait Item: Sized + Drop {
+    ghost form: { List (List ℕ) → Data → Self };
 
-    fn read(alloc: Global, names: &mut Names, value: &Json) -> Result<Self, ReadError<ReadFault>>
-        ensures { Gives (λ item. (item, names.new)) result (reading names.old (view value.now)) };
+    fn read(alloc: Global, names: &Names, value: &Json) -> Result<Self, AllocError>
+        ensures { IfOk result (λ item. item ≡ form names.now (view value.now)) };
 }
 
-/// The items of an array, read one after the other.
-fn each<T: Item>(
-    alloc: Global,
-    names: &mut Names,
-    values: &[Json],
-) -> Result<Seq<T>, ReadError<ReadFault>>
-    ensures { Gives (λ items. (items, names.new)) result
-        (spec.each T.reading names.old (items_view values.now)) }
+fn each<T: Item>(alloc: Global, names: &Names, values: &[Json]) -> Result<Seq<T>, AllocError>
+    ensures { IfOk result (λ items. items ≡ spec.each (T.form names.now) (items_view values.now)) }
 {
     let mut items = Vec::new(alloc);
     for value in values {
@@ -38,157 +30,100 @@ fn each<T: Item>(
     Ok(Seq::new(items))
 }
 
-/// What may be missing.
-fn maybe<T: Item>(
+/// The items of the array at a key, none where it is missing.
+pub(crate) fn each_at<T: Item>(
     alloc: Global,
-    names: &mut Names,
-    value: Option<&Json>,
-) -> Result<Option<T>, ReadError<ReadFault>>
-    ensures { Gives (λ item. (item, names.new)) result
-        (spec.maybe T.reading names.old (option_map (λ v. view v.now) value.entry)) }
+    names: &Names,
+    value: &Json,
+    key: &str,
+) -> Result<Seq<T>, AllocError>
+    ensures { IfOk result
+        (λ items. items ≡ spec.each_at (T.form names.now) key.now (view value.now)) }
 {
-    match value {
+    each::<T>(alloc, names, list_at(value, key))
+}
+
+/// What stands at a key, if it is there.
+pub(crate) fn maybe_at<T: Item>(
+    alloc: Global,
+    names: &Names,
+    value: &Json,
+    key: &str,
+) -> Result<Option<T>, AllocError>
+    ensures { IfOk result
+        (λ item. item ≡ spec.maybe_at (T.form names.now) key.now (view value.now)) }
+{
+    match value.get(key) {
         None => Ok(None),
-        Some(value) => {
-            let item = T::read(alloc, names, value)?;
-            Ok(Some(item))
+        Some(found) => Ok(Some(T::read(alloc, names, found)?)),
+    }
+}
+
+/// The name at a key.
+pub(crate) fn name_at(names: &Names, value: &Json, key: &str) -> Name
+    ensures { result ≡ spec.name_at names.now key.now (view value.now) }
+{
+    names.name_for(text_at(value, key))
+}
+
+impl Item for Name {
+    ghost form = { name_in };
+
+    fn read(_alloc: Global, names: &Names, value: &Json) -> Result<Name, AllocError> {
+        Ok(names.name_for(text_in(value)))
+    }
+}
+
+impl Item for Seq<Name> {
+    ghost form = { names_in };
+
+    fn read(alloc: Global, names: &Names, value: &Json) -> Result<Seq<Name>, AllocError> {
+        each::<Name>(alloc, names, list_in(value))
+    }
+}
+
+fn member_values(
+    alloc: Global,
+    names: &Names,
+    members: &[WrittenMember],
+) -> Result<Seq<MemberValue>, AllocError>
+    ensures { IfOk result (λ values. values ≡ map (spec.member_value names.now) members.now) }
+{
+    let mut values = Vec::new(alloc);
+    for member in members {
+        let name = names.name_for(member.name.as_str());
+        let value = member.value.clone()?;
+        values.push(MemberValue { name, value })?;
+    }
+    Ok(Seq::new(values))
+}
+
+/// A use with the numbers of its names.
+fn numbered(alloc: Global, names: &Names, written: &WrittenUse) -> Result<Use, AllocError>
+    ensures { IfOk result (λ u. u ≡ spec.numbered names.now written.now) }
+{
+    let name = names.name_for(written.name.as_str());
+    let members = member_values(alloc, names, written.members.as_slice())?;
+    Ok(Use { name, members })
+}
+
+/// What stands for a use where a value is none.
+fn nameless(alloc: Global) -> WrittenUse
+    ensures { result ≡ spec.nameless }
+{
+    WrittenUse {
+        name: Text::new(String::new(alloc)),
+        members: Seq::empty(alloc),
+    }
+}
+
+impl Item for Use {
+    ghost form = { use_in_table };
+
+    fn read(alloc: Global, names: &Names, value: &Json) -> Result<Use, AllocError> {
+        match WrittenUse::read(alloc, value)? {
+            Some(written) => numbered(alloc, names, &written),
+            None => numbered(alloc, names, &nameless(alloc)),
         }
     }
-}
-
-/// The name of a text. What isn't a name was refused before, so the test only tells [`Names::intern`] so.
-#[tactic(auto, unfolding(crate::specs::Items::named))]
-fn named(names: &mut Names, text: &str) -> Result<Name, ReadError<ReadFault>>
-    ensures { Gives (λ name. (name, names.new)) result (spec.named names.old text.now) }
-{
-    if !is_name(text) {
-        return Err(ReadError::Fault(ReadFault::BadName));
-    }
-    match names.intern(text) {
-        Ok(name) => Ok(name),
-        Err(InternError::Full) => Err(ReadError::Fault(ReadFault::TooMany)),
-        Err(InternError::Memory) => Err(ReadError::Memory),
-    }
-}
-
-impl Item for Bean {
-    ghost reading = { bean_at };
-
-    fn read(alloc: Global, _names: &mut Names, value: &Json) -> Result<Bean, ReadError<ReadFault>> {
-        Ok(Bean {
-            scope: scope_at(value, "scope"),
-            quals: Seq::empty(alloc),
-            typed: None,
-            alternative: false,
-            priority: None,
-            specializes: false,
-        })
-    }
-}
-
-impl Item for Field {
-    ghost reading = { field_at };
-
-    #[tactic(auto, unfolding(crate::specs::Items::field_at))]
-    fn read(alloc: Global, names: &mut Names, value: &Json) -> Result<Field, ReadError<ReadFault>> {
-        let name = named(names, text_at(value, "name"))?;
-        let value = value_at(alloc, value, "value")?;
-        Ok(Field { name, value })
-    }
-}
-
-impl Item for Method {
-    ghost reading = { method_at };
-
-    #[tactic(auto, unfolding(crate::specs::Items::method_at))]
-    fn read(
-        alloc: Global,
-        names: &mut Names,
-        value: &Json,
-    ) -> Result<Method, ReadError<ReadFault>> {
-        let name = named(names, text_at(value, "name"))?;
-        let body = named(names, text_at(value, "body"))?;
-        let args = count_at(value, "args");
-        Ok(Method {
-            name,
-            body,
-            args,
-            bindings: Seq::empty(alloc),
-        })
-    }
-}
-
-impl Item for Member {
-    ghost reading = { member_at };
-
-    #[tactic(auto, unfolding(crate::specs::Items::member_at))]
-    fn read(
-        alloc: Global,
-        names: &mut Names,
-        value: &Json,
-    ) -> Result<Member, ReadError<ReadFault>> {
-        Ok(Member::Method(Method::read(alloc, names, value)?))
-    }
-}
-
-impl Item for Class {
-    ghost reading = { class_at };
-
-    #[tactic(auto, unfolding(crate::specs::Items::class_at))]
-    fn read(alloc: Global, names: &mut Names, value: &Json) -> Result<Class, ReadError<ReadFault>> {
-        let name = named(names, text_at(value, "name"))?;
-        let bean = maybe::<Bean>(alloc, names, value.get("bean"))?;
-        let fields = each::<Field>(alloc, names, list_at(value, "fields"))?;
-        let members = each::<Member>(alloc, names, list_at(value, "members"))?;
-        Ok(Class {
-            name,
-            extends: None,
-            implements: Seq::empty(alloc),
-            is_abstract: false,
-            is_final: false,
-            bindings: Seq::empty(alloc),
-            bean,
-            fields,
-            inject: Seq::empty(alloc),
-            constructor: None,
-            members,
-        })
-    }
-}
-
-impl Item for Script {
-    ghost reading = { script_at };
-
-    #[tactic(auto, unfolding(crate::specs::Items::script_at))]
-    fn read(
-        _alloc: Global,
-        names: &mut Names,
-        value: &Json,
-    ) -> Result<Script, ReadError<ReadFault>> {
-        let name = named(names, text_at(value, "name"))?;
-        let steps = steps_at(value, "steps")?;
-        Ok(Script { name, steps })
-    }
-}
-
-/// The lists of a deployment of the right form.
-#[tactic(auto, unfolding(crate::specs::Items::lists_of))]
-pub fn lists_of(alloc: Global, value: &Json) -> Result<Deployment, ReadError<ReadFault>>
-    ensures { Gives (λ d. d) result (spec.lists_of (view value.now)) }
-{
-    let mut names = Names::with_built_in(alloc)?;
-    let classes = each::<Class>(alloc, &mut names, list_at(value, "classes"))?;
-    let scripts = each::<Script>(alloc, &mut names, list_at(value, "scripts"))?;
-    Ok(Deployment {
-        names,
-        interfaces: Seq::empty(alloc),
-        qualifiers: Seq::empty(alloc),
-        bindings: Seq::empty(alloc),
-        exceptions: Seq::empty(alloc),
-        classes,
-        interceptors: Seq::empty(alloc),
-        selected: Seq::empty(alloc),
-        order: Seq::empty(alloc),
-        scripts,
-    })
 }

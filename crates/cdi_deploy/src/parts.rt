@@ -1,15 +1,37 @@
-//! What the parts of an object stand for. The object was found to be of the right form before; a value of another
-//! form would be read as if it were missing.
-ghost use Rattle.std.specs.Prelude.{◌≡◌, IfOk};
+//! What stands at a key of an object. The object was found to be of the right form before; a value of another form would be
+//! read as if it were missing.
+ghost use Rattle.std.specs.Prelude.{◌≡◌, IfOk, Some};
 ghost use Rattle.serde_json.specs.Find.{get};
 ghost use Rattle.serde_json.specs.View.{view, items_view};
 ghost use Rattle.cdi_deploy.specs.Parts as spec;
 
-use crate::limits::MAX_ARGUMENTS;
-use crate::steps::Steps;
-use cdi_base::{Scope, Text, Value};
+use cdi_base::{Scope, Value, WHOLE};
+use cdi_deployment::Steps;
+use cdi_form::shape::MAX_ARGUMENTS;
+use cdi_form::words::scope_named;
+use cdi_json::Form;
 use serde_json::Value as Json;
 use std::alloc::{AllocError, Global};
+
+/// The text that a value is, empty where it is none.
+pub(crate) fn text_in(value: &Json) -> &str
+    ensures { result.now ≡ spec.text_of (Some (view value.now)) }
+{
+    match value {
+        Json::String(text) => text.as_str(),
+        _ => "",
+    }
+}
+
+/// The items of an array, none where a value is no array.
+pub(crate) fn list_in(value: &Json) -> &[Json]
+    ensures { items_view result.now ≡ spec.list_of (Some (view value.now)) }
+{
+    match value {
+        Json::Array(items) => items.as_slice(),
+        _ => &[],
+    }
+}
 
 /// The text at a key, empty where it is missing.
 pub(crate) fn text_at<'v>(value: &'v Json, key: &str) -> &'v str
@@ -45,17 +67,33 @@ pub(crate) fn count_at(value: &Json, key: &str) -> u32
     }
 }
 
+/// The mark at a key, false where it is missing.
+pub(crate) fn mark_at(value: &Json, key: &str) -> bool
+    ensures { result ≡ spec.mark_of (get key.now (view value.now)) }
+{
+    match value.get(key) {
+        Some(Json::Bool(mark)) => *mark,
+        _ => false,
+    }
+}
+
+/// The whole number at a key, if there is one.
+pub(crate) fn whole_number_at(value: &Json, key: &str) -> Option<i64>
+    ensures { result ≡ spec.whole_number_of (get key.now (view value.now)) }
+{
+    match value.get(key) {
+        Some(Json::Number(number)) => number.as_i64(),
+        _ => None,
+    }
+}
+
 /// The value at a key, null where it is missing.
 pub(crate) fn value_at(alloc: Global, value: &Json, key: &str) -> Result<Value, AllocError>
     ensures { IfOk result (λ v. v ≡ spec.value_of (get key.now (view value.now))) }
 {
     match value.get(key) {
-        Some(Json::String(text)) => Ok(Value::Text(Text::from_str(alloc, text.as_str())?)),
-        Some(Json::Number(number)) => match number.as_i64() {
-            Some(n) => Ok(Value::Int(n)),
-            None => Ok(Value::Null),
-        },
-        _ => Ok(Value::Null),
+        Some(found) => Ok(Value::read(alloc, found)?.unwrap_or(Value::Null)),
+        None => Ok(Value::Null),
     }
 }
 
@@ -63,10 +101,7 @@ pub(crate) fn value_at(alloc: Global, value: &Json, key: &str) -> Result<Value, 
 pub(crate) fn scope_at(value: &Json, key: &str) -> Scope
     ensures { result ≡ spec.scope_of (get key.now (view value.now)) }
 {
-    match text_at(value, key) {
-        "ApplicationScoped" => Scope::ApplicationScoped,
-        _ => Scope::Dependent,
-    }
+    scope_named(WHOLE, text_at(value, key)).unwrap_or(Scope::Dependent)
 }
 
 /// A copy of the steps at a key.

@@ -4,15 +4,13 @@ ghost use Rattle.serde_json.specs.View.{view};
 ghost use Rattle.cdi_base.specs.Reading.{Gives, IsFault};
 ghost use Rattle.cdi_deploy.specs.Reading as spec;
 
-use crate::deployment::Deployment;
 use crate::fault::ReadFault;
-use crate::form::{Kind, Part};
-use crate::items::lists_of;
-use crate::limits::is_within;
-use crate::names::names_fit;
-use crate::numbers::numbers_fit;
-use crate::shape::wrong;
-use cdi_base::ReadError;
+use crate::naming::add_names;
+use crate::objects::lists_in;
+use cdi_base::{Names, ReadError, SERVED, Stage};
+use cdi_deployment::Deployment;
+use cdi_deployment::limits::is_within;
+use cdi_form::{Kind, Part, first_bad_name, numbers_fit, wrong};
 use cdi_json::read_json;
 use serde_json::Value as Json;
 use std::alloc::Global;
@@ -23,34 +21,71 @@ pub const MAX_BYTES: usize = 1_048_576;
 /// What stands at the root.
 const ROOT: Part = Part::Object(Kind::Deployment);
 
-/// The deployment that a JSON value declares, or its first fault in the order of [`ReadFault`]. An error is
+/// The lists of a JSON value that is of the form of a deployment at a stage: the only fault is that its names are too many
+/// for a table.
+#[tactic(auto, unfolding(crate::specs::Reading::lists_at))]
+pub fn lists_at(
+    alloc: Global,
+    stage: Stage,
+    value: &Json,
+) -> Result<Deployment, ReadError<ReadFault>>
+    ensures { Gives (λ d. d) result (spec.lists_at stage (view value.now)) }
+{
+    let mut names = Names::with_built_in(alloc)?;
+    add_names(stage, &mut names, value, ROOT)?;
+    Ok(lists_in(alloc, names, value)?)
+}
+
+/// The same for what is served.
+pub fn lists_of(alloc: Global, value: &Json) -> Result<Deployment, ReadError<ReadFault>>
+    ensures { Gives (λ d. d) result (spec.lists_of (view value.now)) }
+{
+    lists_at(alloc, SERVED, value)
+}
+
+/// The deployment that a JSON value declares at a stage, or its first fault in the order of [`ReadFault`]. An error is
 /// [`ReadError::Memory`] where a growth was refused.
-#[tactic(auto, unfolding(crate::specs::Reading::deployment_of))]
-pub fn deployment_of(alloc: Global, value: &Json) -> Result<Deployment, ReadError<ReadFault>>
-    ensures { Gives (λ d. d) result (spec.deployment_of (view value.now)) }
+#[tactic(auto, unfolding(crate::specs::Reading::deployment_at))]
+pub fn deployment_at(
+    alloc: Global,
+    stage: Stage,
+    value: &Json,
+) -> Result<Deployment, ReadError<ReadFault>>
+    ensures { Gives (λ d. d) result (spec.deployment_at stage (view value.now)) }
 {
     if !numbers_fit(value) {
         return Err(ReadError::Fault(ReadFault::BadNumber));
     }
-    if let Some(path) = wrong(alloc, value, ROOT)? {
+    if let Some(path) = wrong(alloc, stage, value, ROOT)? {
         return Err(ReadError::Fault(ReadFault::Shape(path)));
     }
-    if !names_fit(value, ROOT) {
+    if first_bad_name(stage, value, ROOT).is_some() {
         return Err(ReadError::Fault(ReadFault::BadName));
     }
-    let deployment = lists_of(alloc, value)?;
+    let deployment = lists_at(alloc, stage, value)?;
     if !is_within(&deployment) {
         return Err(ReadError::Fault(ReadFault::TooMany));
     }
     Ok(deployment)
 }
 
-/// Reads a deployment: gives what the bytes declare, or the first fault that holds of them in the order of
+/// The same for what is served.
+pub fn deployment_of(alloc: Global, value: &Json) -> Result<Deployment, ReadError<ReadFault>>
+    ensures { Gives (λ d. d) result (spec.deployment_of (view value.now)) }
+{
+    deployment_at(alloc, SERVED, value)
+}
+
+/// Reads a deployment at a stage: gives what the bytes declare, or the first fault that holds of them in the order of
 /// [`ReadFault`]. An error is [`ReadError::Memory`] where a growth was refused: it never is in place of
 /// [`ReadFault::TooLong`], nor of [`ReadFault::NotJson`] for bytes that aren't UTF-8, as nothing grows there.
-#[tactic(auto, unfolding(crate::specs::Reading::deployment_in))]
-pub fn read(alloc: Global, bytes: &[u8]) -> Result<Deployment, ReadError<ReadFault>>
-    ensures gives { Gives (λ d. d) result (spec.deployment_in bytes.now) }
+#[tactic(auto, unfolding(crate::specs::Reading::read_at))]
+pub fn read_at(
+    alloc: Global,
+    stage: Stage,
+    bytes: &[u8],
+) -> Result<Deployment, ReadError<ReadFault>>
+    ensures gives { Gives (λ d. d) result (spec.read_at stage bytes.now) }
     ensures too_long { IsTrue (spec.is_too_long bytes.now) → IsFault result ReadFault.TooLong }
     ensures no_text { IsTrue (spec.is_no_text bytes.now) → IsFault result ReadFault.NotJson }
 {
@@ -60,5 +95,14 @@ pub fn read(alloc: Global, bytes: &[u8]) -> Result<Deployment, ReadError<ReadFau
     let Some(value) = read_json(alloc, bytes)? else {
         return Err(ReadError::Fault(ReadFault::NotJson));
     };
-    deployment_of(alloc, &value)
+    deployment_at(alloc, stage, &value)
+}
+
+/// The same for what is served.
+pub fn read(alloc: Global, bytes: &[u8]) -> Result<Deployment, ReadError<ReadFault>>
+    ensures gives { Gives (λ d. d) result (spec.deployment_in bytes.now) }
+    ensures too_long { IsTrue (spec.is_too_long bytes.now) → IsFault result ReadFault.TooLong }
+    ensures no_text { IsTrue (spec.is_no_text bytes.now) → IsFault result ReadFault.NotJson }
+{
+    read_at(alloc, SERVED, bytes)
 }

@@ -28,7 +28,7 @@ pub struct Deployment {
 }
 
 /// An interface: a type with no members of its own.
-#[derive(Debug, PartialEq, Eq, Drop)]
+#[derive(PartialEq, Eq, Drop)]
 pub struct Interface {
     pub name: Name,
     /// The interfaces that it extends: at most 64 names.
@@ -36,7 +36,7 @@ pub struct Interface {
 }
 
 /// A qualifier type or an interceptor binding type.
-#[derive(Debug, PartialEq, Eq, Drop)]
+#[derive(PartialEq, Eq, Drop)]
 pub struct AnnotationType {
     pub name: Name,
     /// The names of its members: at most 8.
@@ -47,7 +47,7 @@ pub struct AnnotationType {
 }
 
 /// An exception that bodies may throw.
-#[derive(Clone, Copy, Debug, PartialEq, Eq)]
+#[derive(Clone, Copy, PartialEq, Eq)]
 pub struct Exception {
     pub name: Name,
     /// Whether it is a checked exception, which a lifecycle callback may not throw.
@@ -55,7 +55,7 @@ pub struct Exception {
 }
 
 /// A class, which is a managed bean where it has a [`Bean`] (Jakarta CDI 4.0, *Managed beans*).
-#[derive(Debug, PartialEq, Eq, Drop)]
+#[derive(PartialEq, Eq, Drop)]
 pub struct Class {
     pub name: Name,
     /// The class that it extends directly; none where that is `Object`.
@@ -80,7 +80,7 @@ pub struct Class {
 }
 
 /// What a class declares of itself as a managed bean.
-#[derive(Debug, PartialEq, Eq, Drop)]
+#[derive(PartialEq, Eq, Drop)]
 pub struct Bean {
     /// Jakarta CDI 4.0, *Declaring the bean scope*: the dependent pseudo-scope where none is written.
     pub scope: Scope,
@@ -98,14 +98,14 @@ pub struct Bean {
 }
 
 /// A field of a class or an interceptor, with the value that it begins with: null where none is written.
-#[derive(Debug, PartialEq, Eq, Drop)]
+#[derive(PartialEq, Eq, Drop)]
 pub struct Field {
     pub name: Name,
     pub value: Value,
 }
 
 /// An injected field of a class or an interceptor (Jakarta CDI 4.0, *Injected fields*).
-#[derive(Debug, PartialEq, Eq, Drop)]
+#[derive(PartialEq, Eq, Drop)]
 pub struct InjectedField {
     pub name: Name,
     /// The required type.
@@ -115,7 +115,7 @@ pub struct InjectedField {
 }
 
 /// A bean constructor (Jakarta CDI 4.0, *Bean constructors*).
-#[derive(Debug, PartialEq, Eq, Drop)]
+#[derive(PartialEq, Eq, Drop)]
 pub struct Constructor {
     /// At most 16 parameters.
     pub params: Seq<Point>,
@@ -124,7 +124,7 @@ pub struct Constructor {
 }
 
 /// An injection point that is a parameter (Jakarta CDI 4.0, *Injection points*).
-#[derive(Debug, PartialEq, Eq, Drop)]
+#[derive(PartialEq, Eq, Drop)]
 pub struct Point {
     /// The required type.
     pub ty: Name,
@@ -134,7 +134,7 @@ pub struct Point {
 
 /// An interceptor (Jakarta Interceptors 2.1, *Definition of Interceptor Classes*), with the names of the bodies of those of
 /// its interceptor methods that it has.
-#[derive(Debug, PartialEq, Eq, Drop)]
+#[derive(PartialEq, Eq, Drop)]
 pub struct Interceptor {
     pub name: Name,
     /// Its interceptor bindings: 1 to 16 uses.
@@ -156,7 +156,7 @@ pub struct Interceptor {
 }
 
 /// A member of a class.
-#[derive(Debug, PartialEq, Eq, Drop)]
+#[derive(PartialEq, Eq, Drop)]
 pub enum Member {
     /// A business method (Jakarta CDI 4.0, *Container invocations and interception*).
     Method(Method),
@@ -177,7 +177,7 @@ pub enum Member {
 }
 
 /// A business method.
-#[derive(Debug, PartialEq, Eq, Drop)]
+#[derive(PartialEq, Eq, Drop)]
 pub struct Method {
     pub name: Name,
     /// The name of the body that runs where the method is called.
@@ -189,7 +189,7 @@ pub struct Method {
 }
 
 /// An initializer method, which the container calls once for each instance, with its parameters injected.
-#[derive(Debug, PartialEq, Eq, Drop)]
+#[derive(PartialEq, Eq, Drop)]
 pub struct Initializer {
     pub name: Name,
     /// The name of its body.
@@ -199,7 +199,7 @@ pub struct Initializer {
 }
 
 /// A post-construct or pre-destroy callback.
-#[derive(Clone, Copy, Debug, PartialEq, Eq)]
+#[derive(Clone, Copy, PartialEq, Eq)]
 pub struct Callback {
     pub name: Name,
     /// The name of its body.
@@ -207,7 +207,7 @@ pub struct Callback {
 }
 
 /// A producer method, whose value is an instance of a bean of its own.
-#[derive(Debug, PartialEq, Eq, Drop)]
+#[derive(PartialEq, Eq, Drop)]
 pub struct ProducerMethod {
     pub name: Name,
     /// The name of its body.
@@ -227,7 +227,7 @@ pub struct ProducerMethod {
 }
 
 /// A producer field, whose value is an instance of a bean of its own.
-#[derive(Debug, PartialEq, Eq, Drop)]
+#[derive(PartialEq, Eq, Drop)]
 pub struct ProducerField {
     pub name: Name,
     /// The field of the class that holds the value.
@@ -243,7 +243,7 @@ pub struct ProducerField {
 }
 
 /// A disposer method, which runs where an instance that a producer of its class gave is destroyed.
-#[derive(Debug, PartialEq, Eq, Drop)]
+#[derive(PartialEq, Eq, Drop)]
 pub struct Disposer {
     pub name: Name,
     /// The name of its body.
@@ -259,7 +259,7 @@ pub struct Disposer {
 }
 
 /// An observer method, which runs where an event is fired that its event parameter resolves to.
-#[derive(Debug, PartialEq, Eq, Drop)]
+#[derive(PartialEq, Eq, Drop)]
 pub struct Observer {
     pub name: Name,
     /// The name of its body.

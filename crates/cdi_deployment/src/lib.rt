@@ -1,16 +1,8 @@
-//! Deployments, read from JSON: which bytes are one, what the first fault of others is, and what is declared in it.
+//! Deployments: what an application declares, and how long its lists may be.
 #![tactic(auto)]
 
 pub mod deployment;
-pub mod fault;
-mod items;
-pub mod laws;
 pub mod limits;
-mod members;
-mod naming;
-mod objects;
-mod parts;
-pub mod reading;
 pub mod steps;
 
 pub use deployment::{
@@ -18,6 +10,4 @@ pub use deployment::{
     Initializer, InjectedField, Interceptor, Interface, Member, Method, Observer, Point,
     ProducerField, ProducerMethod, Script,
 };
-pub use fault::ReadFault;
-pub use reading::{deployment_at, deployment_of, lists_at, lists_of, read, read_at};
 pub use steps::Steps;

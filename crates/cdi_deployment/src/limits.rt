@@ -58,7 +58,16 @@ fn is_typed_within(typed: &Option<Seq<Name>>) -> bool
     }
 }
 
-fn is_annotation_type_within(annotation: &AnnotationType) -> bool
+/// Whether an interface extends at most [`MAX_NAMES_LISTED`] interfaces.
+pub fn is_interface_within(interface: &Interface) -> bool
+    ensures { result ≡ spec.is_interface_within interface.now }
+{
+    are_names_within(&interface.extends)
+}
+
+/// Whether a qualifier type or an interceptor binding type has at most [`MAX_ANNOTATION_MEMBERS`] members, and names at
+/// most [`MAX_NAMES_LISTED`] of them as nonbinding.
+pub fn is_annotation_type_within(annotation: &AnnotationType) -> bool
     ensures { result ≡ spec.is_annotation_type_within annotation.now }
 {
     annotation.members.len() <= MAX_ANNOTATION_MEMBERS && are_names_within(&annotation.nonbinding)
@@ -129,14 +138,15 @@ fn are_members_within(members: &[Member]) -> bool
     members.iter().all(|member| is_member_within(member))
 }
 
-/// Whether there are not too many fields that hold values and injected fields together.
-fn are_fields_within(fields: usize, inject: usize) -> bool
-    ensures { result ≡ nat_le (fields + inject) 64 }
+/// Whether there are at most [`MAX_FIELDS`] fields that hold values and injected fields together.
+pub fn are_fields_within(fields: usize, inject: usize) -> bool
+    ensures { result ≡ spec.are_fields_within fields inject }
 {
     inject <= MAX_FIELDS && fields <= MAX_FIELDS - inject
 }
 
-fn is_class_within(class: &Class) -> bool
+/// Whether no list of a class is longer than its limit.
+pub fn is_class_within(class: &Class) -> bool
     ensures { result ≡ spec.is_class_within class.now }
 {
     are_fields_within(class.fields.len(), class.inject.len())
@@ -149,7 +159,8 @@ fn is_class_within(class: &Class) -> bool
         && are_members_within(class.members.as_slice())
 }
 
-fn is_interceptor_within(interceptor: &Interceptor) -> bool
+/// Whether no list of an interceptor is longer than its limit.
+pub fn is_interceptor_within(interceptor: &Interceptor) -> bool
     ensures { result ≡ spec.is_interceptor_within interceptor.now }
 {
     are_fields_within(interceptor.fields.len(), interceptor.inject.len())
@@ -162,7 +173,7 @@ fn are_interfaces_within(interfaces: &[Interface]) -> bool
 {
     interfaces
         .iter()
-        .all(|interface| are_names_within(&interface.extends))
+        .all(|interface| is_interface_within(interface))
 }
 
 fn are_annotation_types_within(annotations: &[AnnotationType]) -> bool
@@ -187,8 +198,8 @@ fn are_interceptors_within(interceptors: &[Interceptor]) -> bool
         .all(|interceptor| is_interceptor_within(interceptor))
 }
 
-/// Whether there are not too many types: what each list alone may hold is looked at first, so that no sum wraps.
-fn are_types_within(interfaces: usize, classes: usize, interceptors: usize) -> bool
+/// Whether the sum of three lengths is at most [`MAX_TYPES`]: each is looked at first, so that no sum wraps.
+fn is_sum_within(interfaces: usize, classes: usize, interceptors: usize) -> bool
     ensures { result ≡ nat_le (interfaces + classes + interceptors) 1024 }
 {
     interfaces <= MAX_TYPES
@@ -196,29 +207,37 @@ fn are_types_within(interfaces: usize, classes: usize, interceptors: usize) -> b
         && interceptors <= MAX_TYPES - interfaces - classes
 }
 
-fn is_length_within(deployment: &Deployment) -> bool
-    ensures { result ≡ spec.is_length_within deployment.now }
+/// Whether a deployment has at most [`MAX_TYPES`] interfaces, classes and interceptors together.
+pub fn are_types_within(deployment: &Deployment) -> bool
+    ensures { result ≡ spec.are_types_within deployment.now }
 {
-    are_types_within(
+    is_sum_within(
         deployment.interfaces.len(),
         deployment.classes.len(),
         deployment.interceptors.len(),
-    ) && deployment.qualifiers.len() <= MAX_DECLARED
+    )
+}
+
+fn is_length_within(deployment: &Deployment) -> bool
+    ensures { result ≡ spec.is_length_within deployment.now }
+{
+    are_types_within(deployment)
+        && deployment.scripts.len() <= MAX_SCRIPTS
+        && deployment.qualifiers.len() <= MAX_DECLARED
         && deployment.bindings.len() <= MAX_DECLARED
         && deployment.exceptions.len() <= MAX_DECLARED
         && deployment.selected.len() <= MAX_DECLARED
         && deployment.order.len() <= MAX_DECLARED
-        && deployment.scripts.len() <= MAX_SCRIPTS
 }
 
 /// Whether no list of a deployment is longer than its limit.
-pub(crate) fn is_within(deployment: &Deployment) -> bool
+pub fn is_within(deployment: &Deployment) -> bool
     ensures { result ≡ spec.is_within deployment.now }
 {
     is_length_within(deployment)
+        && are_classes_within(deployment.classes.as_slice())
         && are_interfaces_within(deployment.interfaces.as_slice())
         && are_annotation_types_within(deployment.qualifiers.as_slice())
         && are_annotation_types_within(deployment.bindings.as_slice())
-        && are_classes_within(deployment.classes.as_slice())
         && are_interceptors_within(deployment.interceptors.as_slice())
 }

@@ -1,5 +1,0 @@
-use Rattle.cdi_deploy.proofs.Forms.{form-of, nothing_wrong}
-use Rattle.cdi_deploy.proofs.laws.law_form.Goals as goal
-
-pub returns : goal.returns
-returns c = λ part d. (form-of d part, nothing_wrong part d)

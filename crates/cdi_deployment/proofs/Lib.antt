@@ -1,4 +1,0 @@
-pub mod Covered
-pub mod Known
-pub mod Readable
-pub mod Tables

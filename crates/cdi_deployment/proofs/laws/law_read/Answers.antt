@@ -1,5 +1,0 @@
-use Rattle.cdi_deployment.proofs.Readable.{readable-of, read-of}
-use Rattle.cdi_deployment.proofs.laws.law_read.Goals as goal
-
-pub returns : goal.returns
-returns c = λ stage bytes. (readable-of stage bytes, read-of stage bytes)
