@@ -4,9 +4,9 @@ use Rattle.std.specs.Bool.{nat_lt}
 use borrow.Author.Tests.{ltb-true}
 use Rattle.cdi_bodies.specs.declared.entry.Entry.{Entry}
 use Rattle.cdi_bodies.specs.Gives.{place_of}
-use Rattle.cdi_deploy.specs.declared.deployment.Class.{Class}
-use Rattle.cdi_deploy.specs.declared.deployment.Member.{Member}
-use Rattle.cdi_deploy.specs.declared.deployment.Member.TheVariants as members
+use Rattle.cdi_deployment.specs.declared.deployment.Class.{Class}
+use Rattle.cdi_deployment.specs.declared.deployment.Member.{Member}
+use Rattle.cdi_deployment.specs.declared.deployment.Member.TheVariants as members
 use Rattle.cdi_beans.specs.declared.bean.ServedScope.{ServedScope}
 use Rattle.cdi_beans.specs.Beans.{KnowsMethods, KnowsEach}
 use Rattle.cdi_beans.specs.Build.{method_before, methods_of, scope_of, bean_before, beans_in, beans_of}

@@ -4,7 +4,7 @@ use Rattle.cdi_base.specs.declared.value.Value.{Value}
 use Rattle.cdi_base.specs.declared.built_in.BuiltIn.TheVariants as built_in
 use Rattle.cdi_base.specs.BuiltIn.{number_of}
 use Rattle.cdi_base.specs.Fields.{put}
-use Rattle.cdi_deploy.specs.declared.deployment.Field.{Field}
+use Rattle.cdi_deployment.specs.declared.deployment.Field.{Field}
 use Rattle.cdi_beans.specs.declared.bean.Bean.{Bean}
 use Rattle.cdi_beans.specs.declared.bean.Method.{Method}
 use Rattle.cdi_beans.specs.declared.tables.Tables.{Tables}

@@ -5,11 +5,11 @@ use Rattle.cdi_base.specs.declared.scope.Scope.{Scope}
 use Rattle.cdi_base.specs.declared.scope.Scope.TheVariants as scopes
 use Rattle.cdi_bodies.specs.declared.entry.Entry.{Entry}
 use Rattle.cdi_bodies.specs.Gives.{place_of}
-use Rattle.cdi_deploy.specs.declared.deployment.Class.{Class}
-use Rattle.cdi_deploy.specs.declared.deployment.Bean.{Bean as Declared}
-use Rattle.cdi_deploy.specs.declared.deployment.Member.{Member}
-use Rattle.cdi_deploy.specs.declared.deployment.Member.TheVariants as members
-use Rattle.cdi_deploy.specs.declared.deployment.Method.{Method as DeclaredMethod}
+use Rattle.cdi_deployment.specs.declared.deployment.Class.{Class}
+use Rattle.cdi_deployment.specs.declared.deployment.Bean.{Bean as Declared}
+use Rattle.cdi_deployment.specs.declared.deployment.Member.{Member}
+use Rattle.cdi_deployment.specs.declared.deployment.Member.TheVariants as members
+use Rattle.cdi_deployment.specs.declared.deployment.Method.{Method as DeclaredMethod}
 use Rattle.cdi_beans.specs.declared.bean.Bean.{Bean}
 use Rattle.cdi_beans.specs.declared.bean.Method.{Method}
 use Rattle.cdi_beans.specs.declared.bean.ServedScope.{ServedScope}

@@ -3,8 +3,8 @@ use Rattle.std.specs.Prelude.{ℕ, Bool, List, [], ◌∷◌, map, nat_lt, count
 use Rattle.cdi_base.specs.declared.place.Place.{Place}
 use Rattle.cdi_bodies.specs.declared.entry.Entry.{Entry}
 use Rattle.cdi_bodies.specs.declared.shape.Shape.{Shape}
-use Rattle.cdi_deploy.specs.declared.deployment.Deployment.{Deployment}
-use Rattle.cdi_deploy.specs.declared.deployment.Class.{Class}
+use Rattle.cdi_deployment.specs.declared.deployment.Deployment.{Deployment}
+use Rattle.cdi_deployment.specs.declared.deployment.Class.{Class}
 use Rattle.cdi_beans.specs.declared.problem.Problem.{Problem}
 use Rattle.cdi_beans.specs.declared.problem.ProblemKind.{ProblemKind}
 use Rattle.cdi_beans.specs.declared.problem.ProblemKind.TheVariants as kinds

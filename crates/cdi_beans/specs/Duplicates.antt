@@ -5,12 +5,12 @@ use Rattle.cdi_base.specs.declared.built_in.BuiltIn.TheVariants as built_in
 use Rattle.cdi_base.specs.BuiltIn.{number_of}
 use Rattle.cdi_base.specs.declared.place.Place.{Place}
 use Rattle.cdi_base.specs.declared.place.Place.TheVariants as places
-use Rattle.cdi_deploy.specs.declared.deployment.Deployment.{Deployment}
-use Rattle.cdi_deploy.specs.declared.deployment.Class.{Class}
-use Rattle.cdi_deploy.specs.declared.deployment.Field.{Field}
-use Rattle.cdi_deploy.specs.declared.deployment.Script.{Script}
-use Rattle.cdi_deploy.specs.declared.deployment.Member.{Member}
-use Rattle.cdi_deploy.specs.declared.deployment.Member.TheVariants as members
+use Rattle.cdi_deployment.specs.declared.deployment.Deployment.{Deployment}
+use Rattle.cdi_deployment.specs.declared.deployment.Class.{Class}
+use Rattle.cdi_deployment.specs.declared.deployment.Field.{Field}
+use Rattle.cdi_deployment.specs.declared.deployment.Script.{Script}
+use Rattle.cdi_deployment.specs.declared.deployment.Member.{Member}
+use Rattle.cdi_deployment.specs.declared.deployment.Member.TheVariants as members
 
 abbrev pub stands_in : List ℕ → ℕ → Bool
 stands_in names name = list_any (λ n. n == name) names

@@ -7,10 +7,10 @@ use Rattle.cdi_bodies.specs.declared.entry.Entry.{Entry}
 use Rattle.cdi_bodies.specs.declared.shape.Shape.{Shape}
 use Rattle.cdi_bodies.specs.declared.shape.OwnCall.{OwnCall}
 use Rattle.cdi_bodies.specs.Gives.{place_of, shape_at}
-use Rattle.cdi_deploy.specs.declared.deployment.Class.{Class}
-use Rattle.cdi_deploy.specs.declared.deployment.Field.{Field}
-use Rattle.cdi_deploy.specs.declared.deployment.Member.{Member}
-use Rattle.cdi_deploy.specs.declared.deployment.Member.TheVariants as members
+use Rattle.cdi_deployment.specs.declared.deployment.Class.{Class}
+use Rattle.cdi_deployment.specs.declared.deployment.Field.{Field}
+use Rattle.cdi_deployment.specs.declared.deployment.Member.{Member}
+use Rattle.cdi_deployment.specs.declared.deployment.Member.TheVariants as members
 use Rattle.cdi_beans.specs.declared.problem.Problem.{Problem}
 use Rattle.cdi_beans.specs.declared.problem.ProblemKind.{ProblemKind}
 use Rattle.cdi_beans.specs.declared.problem.ProblemKind.TheVariants as kinds

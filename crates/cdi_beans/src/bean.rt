@@ -5,7 +5,7 @@ ghost use Rattle.cdi_beans.specs.Build.{served_scope};
 
 use cdi_base::{BuiltIn, Fields, Name, Place, Scope, Seq};
 use cdi_bodies::BodyId;
-use cdi_deploy::deployment::Field;
+use cdi_deployment::deployment::Field;
 use std::alloc::{AllocError, Global};
 
 /// A business method of a bean.

@@ -9,7 +9,7 @@ use crate::bean::{Bean, Method, ServedScope};
 use crate::tables::Tables;
 use cdi_base::{Name, Place, Seq};
 use cdi_bodies::Bodies;
-use cdi_deploy::{Class, Deployment, Field, Member};
+use cdi_deployment::{Class, Deployment, Field, Member};
 use std::alloc::{AllocError, Global};
 
 fn copy_of(alloc: Global, fields: &[Field]) -> Result<Seq<Field>, AllocError>

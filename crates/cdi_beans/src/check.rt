@@ -11,7 +11,7 @@ use crate::problem::{Problem, ProblemKind};
 use crate::tables::MAX_BEANS;
 use cdi_base::{Place, Seq};
 use cdi_bodies::Bodies;
-use cdi_deploy::{Class, Deployment};
+use cdi_deployment::{Class, Deployment};
 use std::alloc::{AllocError, Global};
 
 fn problems_at(

@@ -1,7 +1,7 @@
 -- Which deployments are accepted.
 use Rattle.std.specs.Prelude.{◌≡◌, ◌≢◌, ◌<◌, List, [], map, length}
 use Rattle.cdi_bodies.specs.declared.entry.Entry.{Entry}
-use Rattle.cdi_deploy.specs.declared.deployment.Deployment.{Deployment}
+use Rattle.cdi_deployment.specs.declared.deployment.Deployment.{Deployment}
 use Rattle.cdi_machine.specs.Registered.{legal_of}
 use Rattle.cdi_beans.specs.Beans.{KnowsEach}
 use Rattle.cdi_beans.specs.Build.{beans_of}

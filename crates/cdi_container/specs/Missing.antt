@@ -3,7 +3,7 @@ use Rattle.std.specs.Prelude.{ℕ, ◌≡◌, List, None, IsTrue}
 use Rattle.cdi_base.specs.declared.command.Command.{Command}
 use Rattle.cdi_base.specs.declared.reply.Reply.{Reply}
 use Rattle.cdi_bodies.specs.declared.entry.Entry.{Entry}
-use Rattle.cdi_deploy.specs.declared.deployment.Deployment.{Deployment}
+use Rattle.cdi_deployment.specs.declared.deployment.Deployment.{Deployment}
 use Rattle.cdi_text.specs.Command.{is_served}
 use Rattle.cdi_machine.specs.Tables as machine
 use Rattle.cdi_machine.specs.World.{World, at_begin}

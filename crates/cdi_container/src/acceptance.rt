@@ -10,7 +10,7 @@ use cdi_beans::check::{accepted_fits, problems};
 use cdi_beans::problem::Problem;
 use cdi_beans::tables::Tables;
 use cdi_bodies::Bodies;
-use cdi_deploy::{Class, Deployment};
+use cdi_deployment::{Class, Deployment};
 use cdi_presence::laws::law_accepted_serves;
 use std::alloc::{AllocError, Global};
 

@@ -7,7 +7,7 @@ ghost use Rattle.cdi_container.specs.History.{KeepsOrder};
 ghost use Rattle.cdi_container.specs.Missing.{NoneMissed};
 
 use cdi_bodies::Bodies;
-use cdi_deploy::Deployment;
+use cdi_deployment::Deployment;
 use cdi_ledger::laws as ledger;
 use cdi_machine::Driver;
 use cdi_presence::laws as presence;

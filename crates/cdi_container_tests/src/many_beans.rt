@@ -4,7 +4,7 @@ use cdi_base::{Name, Names, Scope, Seq, is_name};
 use cdi_beans::check::problems;
 use cdi_beans::problem::ProblemKind;
 use cdi_bodies::Bodies;
-use cdi_deploy::{Bean, Class, Deployment};
+use cdi_deployment::{Bean, Class, Deployment};
 use std::alloc::Global;
 use std::process::Abort;
 use std::test::Fail;

@@ -15,13 +15,13 @@ use Rattle.cdi_bodies.specs.declared.shape.OwnCall.{OwnCall}
 use Rattle.cdi_bodies.specs.declared.view.View.{View}
 use Rattle.cdi_bodies.specs.Gives.{Promises, gives, place_of, shape_at, LieInShape}
 use Rattle.cdi_bodies.specs.Shape.{in_shape, is_thrown, last_answer}
-use Rattle.cdi_deploy.specs.declared.deployment.Bean.{Bean as Declared}
+use Rattle.cdi_deployment.specs.declared.deployment.Bean.{Bean as Declared}
 use Rattle.cdi_beans.specs.declared.bean.ServedScope.{ServedScope}
-use Rattle.cdi_deploy.specs.declared.deployment.Class.{Class}
-use Rattle.cdi_deploy.specs.declared.deployment.Deployment.{Deployment}
-use Rattle.cdi_deploy.specs.declared.deployment.Field.{Field}
-use Rattle.cdi_deploy.specs.declared.deployment.Member.{Member}
-use Rattle.cdi_deploy.specs.declared.deployment.Member.TheVariants as members
+use Rattle.cdi_deployment.specs.declared.deployment.Class.{Class}
+use Rattle.cdi_deployment.specs.declared.deployment.Deployment.{Deployment}
+use Rattle.cdi_deployment.specs.declared.deployment.Field.{Field}
+use Rattle.cdi_deployment.specs.declared.deployment.Member.{Member}
+use Rattle.cdi_deployment.specs.declared.deployment.Member.TheVariants as members
 use Rattle.cdi_machine.specs.Words.{Fields}
 use Rattle.cdi_beans.specs.declared.bean.Bean.{Bean}
 use Rattle.cdi_beans.specs.declared.bean.Method.{Method}

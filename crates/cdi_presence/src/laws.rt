@@ -8,7 +8,7 @@ ghost use Rattle.cdi_presence.specs.Missing.{AsksWhatIsThere, MissesNothing};
 
 use cdi_beans::tables::Tables;
 use cdi_bodies::Bodies;
-use cdi_deploy::Deployment;
+use cdi_deployment::Deployment;
 use cdi_machine::Driver;
 
 /// No look-up fails: if the bodies give only acts that are served, a command that isn't refused never comes to a point at

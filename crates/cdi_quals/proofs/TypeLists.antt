@@ -1,7 +1,7 @@
 -- One type more.
 use Rattle.std.proofs.Common.{◌≡◌, ◌∙◌, ℕ, ◌+◌, ◌<◌, List, [], ◌∷◌, ◌++◌, length, take, get_or, sym, ap, subst}
 use Rattle.std.proofs.lemmas.List.{take_more}
-use Rattle.cdi_deploy.specs.declared.deployment.AnnotationType.{AnnotationType}
+use Rattle.cdi_deployment.specs.declared.deployment.AnnotationType.{AnnotationType}
 use Rattle.cdi_quals.specs.Types.{IsTypeOf, AreTypesOf}
 use Rattle.cdi_quals.specs.declared.types.QualifierType.{QualifierType}
 

@@ -4,8 +4,8 @@ use Rattle.std.specs.List.{find, list_any}
 use Rattle.cdi_base.specs.BuiltIn.{number_of}
 use Rattle.cdi_base.specs.declared.built_in.BuiltIn.{BuiltIn}
 use Rattle.cdi_base.specs.declared.built_in.BuiltIn.TheVariants as names
-use Rattle.cdi_deploy.specs.declared.deployment.AnnotationType.{AnnotationType}
-use Rattle.cdi_deploy.specs.declared.deployment.Deployment.{Deployment}
+use Rattle.cdi_deployment.specs.declared.deployment.AnnotationType.{AnnotationType}
+use Rattle.cdi_deployment.specs.declared.deployment.Deployment.{Deployment}
 use Rattle.cdi_quals.specs.Order.{compare_names}
 use Rattle.cdi_quals.specs.OrderedSet.{IsOrderedSet}
 use Rattle.cdi_quals.specs.declared.types.MemberType.{MemberType}

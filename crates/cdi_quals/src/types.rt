@@ -7,7 +7,7 @@ ghost use Rattle.cdi_quals.specs.Types as spec;
 
 use crate::order::compare_names;
 use cdi_base::{BuiltIn, Name, Names, Seq};
-use cdi_deploy::{AnnotationType, Deployment};
+use cdi_deployment::{AnnotationType, Deployment};
 use std::alloc::{AllocError, Global};
 use std::marker::Model;
 

@@ -1,7 +1,8 @@
 //! Tests of reading deployments.
 use crate::checks::{Plain, expect_printed, expect_same, expect_text, expect_value};
 use cdi_base::{BuiltIn, Name, Names, ReadError, Scope};
-use cdi_deploy::{Class, Deployment, Field, Member, Method, ReadFault, Script, read};
+use cdi_deploy::{ReadFault, read};
+use cdi_deployment::{Class, Deployment, Field, Member, Method, Script};
 use std::alloc::Global;
 use std::process::Abort;
 

@@ -5,10 +5,10 @@ use Rattle.cdi_bodies.specs.declared.entry.Entry.{Entry}
 use Rattle.cdi_bodies.specs.declared.shape.Shape.{Shape}
 use Rattle.cdi_bodies.specs.Gives.{place_of}
 use Rattle.cdi_beans.specs.declared.bean.ServedScope.{ServedScope}
-use Rattle.cdi_deploy.specs.declared.deployment.Class.{Class}
-use Rattle.cdi_deploy.specs.declared.deployment.Deployment.{Deployment}
-use Rattle.cdi_deploy.specs.declared.deployment.Member.{Member}
-use Rattle.cdi_deploy.specs.declared.deployment.Member.TheVariants as members
+use Rattle.cdi_deployment.specs.declared.deployment.Class.{Class}
+use Rattle.cdi_deployment.specs.declared.deployment.Deployment.{Deployment}
+use Rattle.cdi_deployment.specs.declared.deployment.Member.{Member}
+use Rattle.cdi_deployment.specs.declared.deployment.Member.TheVariants as members
 use Rattle.cdi_beans.specs.declared.bean.Bean.{Bean}
 use Rattle.cdi_beans.specs.declared.bean.Method.{Method}
 use Rattle.cdi_beans.specs.declared.problem.Problem.{Problem}

@@ -2,7 +2,7 @@
 use Rattle.std.specs.Prelude.{ℕ, ◌==◌, List, [], ◌∷◌, ◌++◌, Bool, Result, Ok, Err, fold, if◌then◌else◌}
 use Rattle.std.specs.List.{list_any}
 use Rattle.cdi_base.specs.Reading.{◌>>=◌}
-use Rattle.cdi_deploy.specs.declared.deployment.Script.{Script as Declared}
+use Rattle.cdi_deployment.specs.declared.deployment.Script.{Script as Declared}
 use Rattle.cdi_script.specs.declared.fault.ScriptFault.{ScriptFault}
 use Rattle.cdi_script.specs.declared.step.Step.{Step}
 use Rattle.cdi_script.specs.Build.{script_of}

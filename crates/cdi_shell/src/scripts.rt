@@ -4,7 +4,7 @@ ghost use Rattle.cdi_base.specs.Reading.{Gives};
 ghost use Rattle.cdi_shell.specs.Scripts as spec;
 
 use cdi_base::{Name, Names, ReadError, Text};
-use cdi_deploy::deployment::Script as Declared;
+use cdi_deployment::deployment::Script as Declared;
 use cdi_script::{Script, ScriptFault};
 use cdi_text::places::name_text;
 use std::alloc::Global;

@@ -3,7 +3,7 @@ ghost use Rattle.std.specs.Prelude.{◌≡◌, ◌++◌, IfOk, OnOk, map};
 ghost use Rattle.cdi_types.specs.Declarations as spec;
 
 use cdi_base::{BuiltIn, Name, Seq};
-use cdi_deploy::{Class, Deployment, Interface};
+use cdi_deployment::{Class, Deployment, Interface};
 use std::alloc::{AllocError, Global};
 
 /// A class or an interface with what it names directly above it.

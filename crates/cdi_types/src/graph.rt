@@ -7,7 +7,7 @@ use crate::declaration::{TypeDeclaration, declarations_of};
 use crate::edges::graph_of;
 use crate::index::TypeIndex;
 use cdi_base::{BuiltIn, Name, Seq};
-use cdi_deploy::Deployment;
+use cdi_deployment::Deployment;
 use cdi_reach::Reachability;
 use std::alloc::{AllocError, Global};
 use std::marker::Model;

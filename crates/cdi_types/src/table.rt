@@ -8,7 +8,7 @@ use crate::error::TypesError;
 use crate::graph::TypeGraph;
 use crate::lineage::lineage_of;
 use cdi_base::{BuiltIn, Name, Seq};
-use cdi_deploy::Deployment;
+use cdi_deployment::Deployment;
 use std::alloc::{AllocError, Global};
 use std::marker::Model;
 

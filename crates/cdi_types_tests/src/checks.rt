@@ -1,6 +1,6 @@
 //! What the tests share: small deployments, and one call that compares.
 use cdi_base::{MemberValue, Name, Names, Seq, Use, Value, is_name};
-use cdi_deploy::{AnnotationType, Class, Deployment, Interface};
+use cdi_deployment::{AnnotationType, Class, Deployment, Interface};
 use std::alloc::Global;
 use std::process::Abort;
 

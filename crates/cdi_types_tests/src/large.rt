@@ -1,7 +1,7 @@
 //! Deployments and sets as large as they may be.
 use crate::checks::{add_qualifier, bare_class, empty, expect, expect_count, name};
 use cdi_base::{Name, Names, Seq, Use};
-use cdi_deploy::Deployment;
+use cdi_deployment::Deployment;
 use cdi_quals::{QualSet, QualifierTypes};
 use cdi_types::TypeTable;
 use std::alloc::Global;

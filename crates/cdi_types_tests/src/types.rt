@@ -1,7 +1,7 @@
 //! Subtypes, cycles and superclasses.
 use crate::checks::{add_class, add_interface, empty, expect, expect_count, name};
 use cdi_base::BuiltIn;
-use cdi_deploy::Deployment;
+use cdi_deployment::Deployment;
 use cdi_types::{TypeGraph, TypeTable, TypesError};
 use std::alloc::Global;
 use std::process::Abort;

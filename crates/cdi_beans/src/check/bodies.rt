@@ -7,7 +7,7 @@ use crate::check::duplicates::member_name;
 use crate::problem::{Problem, ProblemKind};
 use cdi_base::{Name, Place, Seq};
 use cdi_bodies::{Bodies, OwnCall, Shape};
-use cdi_deploy::{Class, Field, Member};
+use cdi_deployment::{Class, Field, Member};
 use std::alloc::{AllocError, Global};
 
 /// The shape of the body of a name, if one is registered under it.

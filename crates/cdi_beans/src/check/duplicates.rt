@@ -5,7 +5,7 @@ ghost use Rattle.cdi_base.specs.declared.place.Place.TheVariants as places;
 ghost use Rattle.cdi_beans.specs.Duplicates as spec;
 
 use cdi_base::{BuiltIn, Name, Place, Seq};
-use cdi_deploy::{Class, Deployment, Field, Member, Script};
+use cdi_deployment::{Class, Deployment, Field, Member, Script};
 use std::alloc::{AllocError, Global};
 
 fn stands_in(names: &[Name], name: Name) -> bool

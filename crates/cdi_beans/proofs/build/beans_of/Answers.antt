@@ -1,7 +1,7 @@
 use Rattle.std.proofs.Common.{◌≡◌, ◌++◌, List, [], ◌∷◌, Option, Some, None, rules, refl}
 use Rattle.cdi_bodies.specs.Gives.{place_of}
 use Rattle.cdi_bodies.specs.Table.{entries_of}
-use Rattle.cdi_deploy.specs.declared.deployment.Class.{Class}
+use Rattle.cdi_deployment.specs.declared.deployment.Class.{Class}
 use Rattle.cdi_beans.specs.declared.bean.Bean.{Bean}
 use Rattle.cdi_beans.specs.declared.bean.ServedScope.{ServedScope}
 use Rattle.cdi_beans.specs.Build.{scope_of, bean_before, beans_in}

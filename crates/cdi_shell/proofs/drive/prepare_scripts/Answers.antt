@@ -1,5 +1,5 @@
 use Rattle.std.proofs.Common.{◌∙◌, ap, length, List}
-use Rattle.cdi_deploy.specs.declared.deployment.Script.{Script}
+use Rattle.cdi_deployment.specs.declared.deployment.Script.{Script}
 use Rattle.cdi_shell.proofs.Counted.{scripts-count}
 use Rattle.cdi_shell.proofs.drive.prepare_scripts.Goals as goal
 
