@@ -7,30 +7,28 @@ use Rattle.std.specs.Str.Lossy.{utf8_valid_len}
 use Rattle.cdi_base.specs.Reading.{◌>>=◌}
 use Rattle.cdi_json.specs.Json.{json_in}
 use Rattle.serde_json.specs.Data.{Data}
-use Rattle.cdi_deploy.specs.declared.deployment.Class.{Class}
-use Rattle.cdi_deploy.specs.declared.deployment.Deployment.{Deployment}
-use Rattle.cdi_deploy.specs.declared.deployment.Script.{Script}
+use Rattle.cdi_deployment.specs.declared.deployment.Class.{Class}
+use Rattle.cdi_deployment.specs.declared.deployment.Deployment.{Deployment}
+use Rattle.cdi_deployment.specs.declared.deployment.Script.{Script}
 use Rattle.cdi_deploy.specs.declared.fault.ReadFault.{ReadFault}
 use Rattle.cdi_deploy.specs.declared.fault.ReadFault.TheVariants as faults
-use Rattle.cdi_deploy.specs.Items.{lists_of}
-use Rattle.cdi_deploy.specs.Limits.{is_within}
-use Rattle.cdi_deploy.specs.Names.{names_fit}
-use Rattle.cdi_deploy.specs.Numbers.{numbers_fit}
-use Rattle.cdi_deploy.specs.Reading.{is_too_long, or_not_json, or_shape, root, within_limits, deployment_of, deployment_in}
-use Rattle.cdi_deploy.specs.Shape.{wrong}
+use Rattle.cdi_deployment.specs.Limits.{are_fields_within, is_annotation_type_within, is_at_most, is_class_within, is_interceptor_within, is_interface_within, is_within}
+use Rattle.cdi_base.specs.Stage.{served}
+use Rattle.cdi_form.specs.Names.{first_bad_name, names_fit}
+use Rattle.cdi_form.specs.Numbers.{numbers_fit}
+use Rattle.cdi_form.specs.Shape.{wrong}
+use Rattle.cdi_deploy.specs.Reading.{is_too_long, or_not_json, or_shape, root, within_limits, lists_of, deployment_at, deployment_of, deployment_in, read_at}
 use Rattle.cdi_script.specs.Form.{is_script}
 use Rattle.cdi_text.specs.Places.{name_text}
-use Rattle.cdi_hints.specs.BadName.{first_bad_name}
 use Rattle.cdi_hints.specs.BadStep.{bad_step, bad_step_of, first_bad_step}
 use Rattle.cdi_hints.specs.Hint.{IsHintBy, IsHintFor, bad_name, hint_by, hint_of}
 use Rattle.cdi_hints.specs.Kinds.{FitsReading, IsList, IsName, IsStep, lists_in}
-use Rattle.cdi_hints.specs.LongList.{class_list_at, first_long_list, list_at, long_list_in_classes, long_list_of_class}
+use Rattle.cdi_hints.specs.LongList.{class_list_at, first_beyond, first_long_list, item_at, list_at, long_item, long_list_in_classes, long_list_key, long_list_of_class}
 use Rattle.cdi_hints.specs.Position.{IsPlaceIn, IsPosition, place_after, place_from}
 use Rattle.cdi_hints.specs.declared.hint.Hint.{Hint}
 use Rattle.cdi_hints.specs.declared.hint.Hint.TheVariants as hints
-use Rattle.cdi_hints.proofs.BadNames.{fits_where_none}
 use Rattle.cdi_hints.proofs.LongLists.{deployment-none}
-use Rattle.cdi_hints.proofs.Right.{OnlyFull, lists_full}
+use Rattle.cdi_hints.proofs.Full.{OnlyFull, lists_full}
 
 -- ---- lists
 
@@ -44,17 +42,36 @@ list_or (Some hint) p first second = first
 
 class_list : (index : ℕ) (c : Class) → IfSome (long_list_of_class index c) IsList
 class_list index c =
-    list_if (nat_lt 64 (length c.fields)) (class_list_at index (codes "fields") 64) _ tt
-    (list_if (nat_lt 64 (length c.members)) (class_list_at index (codes "members") 64) None tt tt)
+    list_if (is_class_within c) None _ tt
+    (list_if (not (are_fields_within (length c.fields) (length c.inject))) (Some (class_list_at index (codes "fields") 64)) _ tt
+    (list_if (not (is_at_most 64 c.members)) (Some (class_list_at index (codes "members") 64)) (Some (item_at (codes "classes") index)) tt tt))
 
 classes_list : (index : ℕ) (cs : List Class) → IfSome (long_list_in_classes index cs) IsList
 classes_list index [] = tt
 classes_list index (c ∷ cs) = list_or (long_list_of_class index c) _ (class_list index c) (classes_list (index + 1) cs)
 
+map_list : {X : Type 0} (f : X → Hint) (o : Option X) → ((x : X) → IsList (f x)) → IfSome (option_map f o) IsList
+map_list f None list = tt
+map_list f (Some x) list = list x
+
+item_list : (key : List ℕ) (o : Option ℕ) → IfSome (option_map (item_at key) o) IsList
+item_list key o = map_list (item_at key) o (λ index. tt)
+
+items_list : (d : Deployment) → IfSome (long_item d) IsList
+items_list d =
+    let interface : Option ℕ = first_beyond is_interface_within d.interfaces in
+    let qualifier : Option ℕ = first_beyond is_annotation_type_within d.qualifiers in
+    let binding : Option ℕ = first_beyond is_annotation_type_within d.bindings in
+    let interceptor : Option ℕ = first_beyond is_interceptor_within d.interceptors in
+    list_or (option_map (item_at (codes "interfaces")) interface) _ (item_list (codes "interfaces") interface)
+    (list_or (option_map (item_at (codes "qualifiers")) qualifier) _ (item_list (codes "qualifiers") qualifier)
+    (list_or (option_map (item_at (codes "bindings")) binding) _ (item_list (codes "bindings") binding)
+    (item_list (codes "interceptors") interceptor)))
+
 deployment_list : (d : Deployment) → IfSome (first_long_list d) IsList
 deployment_list d =
-    list_if (nat_lt 1024 (length d.classes)) (list_at (codes "classes") 1024) _ tt
-    (list_if (nat_lt 1024 (length d.scripts)) (list_at (codes "scripts") 1024) (long_list_in_classes 0 d.classes) tt (classes_list 0 d.classes))
+    list_or (option_map list_at (long_list_key d)) _ (map_list list_at (long_list_key d) (λ key. tt))
+    (list_or (long_list_in_classes 0 d.classes) (long_item d) (classes_list 0 d.classes) (items_list d))
 
 list_where : (o : Option Hint) → IfSome o IsList → is_none o ≡ false → IsSomeAnd o IsList
 list_where None list h = absurd cc
@@ -79,8 +96,8 @@ name_where : (o : Option (List ℕ)) → is_none o ≡ false → IsSomeAnd (opti
 name_where None h = absurd cc
 name_where (Some s) h = tt
 
-name_for : (d : Data) → names_fit d root ≡ false → IsSomeAnd (bad_name d) IsName
-name_for d unfit = name_where (first_bad_name d root) (sym (fits_where_none d root) ∙ unfit)
+name_for : (d : Data) → names_fit served d root ≡ false → IsSomeAnd (bad_name d) IsName
+name_for d unfit = name_where (first_bad_name served d root) unfit
 
 -- ---- places
 
@@ -130,17 +147,17 @@ number_fits : (lists : Result Deployment ReadFault) → FitsReading lists (Err f
 number_fits (Ok deployment) = refl
 number_fits (Err fault) = refl
 
-value_fits_by : (d : Data) (numbers : Bool) (place : Option (List ℕ)) (names : Bool) → wrong d root ≡ place → names_fit d root ≡ names
+value_fits_by : (d : Data) (numbers : Bool) (place : Option (List ℕ)) (names : Bool) → wrong served d root ≡ place → names_fit served d root ≡ names
     → let read : Result Deployment ReadFault = if not numbers then Err faults.BadNumber else or_shape place (if not names then Err faults.BadName else lists_of d >>= within_limits) in
     FitsReading (lists_of d) read (hint_by d (lists_of d) read)
 value_fits_by d false place names form fit = number_fits (lists_of d)
 value_fits_by d true (Some path) names form fit = none_fits (lists_of d) path
 value_fits_by d true None false form fit = name_fits d (lists_of d) (name_for d fit)
-value_fits_by d true None true form fit = lists_fit d (lists_of d) (lists_full d (record { form = form; names = fit }))
+value_fits_by d true None true form fit = lists_fit d (lists_of d) (lists_full d)
 
 value_fits : (d : Data) → FitsReading (lists_of d) (deployment_of d) (hint_of d)
-unfolding deployment_of hint_of
-value_fits d = value_fits_by d (numbers_fit d) (wrong d root) (names_fit d root) refl refl
+unfolding deployment_at hint_of
+value_fits d = value_fits_by d (numbers_fit d) (wrong served d root) (names_fit served d root) refl refl
 
 -- ---- bytes
 
@@ -155,5 +172,5 @@ bytes_fit_by bytes false None hint is = position_in bytes hint is
 bytes_fit_by bytes false (Some d) hint is = subst (FitsReading (lists_of d) (deployment_of d)) (sym is) (value_fits d)
 
 pub bytes_fit : (bytes : List ℕ) (hint : Option Hint) → IsHintFor bytes hint → FitsReading (lists_in bytes) (deployment_in bytes) hint
-unfolding deployment_in
+unfolding read_at
 bytes_fit bytes hint is = bytes_fit_by bytes (is_too_long bytes) (json_in bytes) hint is

@@ -1,6 +1,5 @@
 pub mod Options
 pub mod Items
-pub mod BadNames
 pub mod LongLists
-pub mod Right
+pub mod Full
 pub mod KindLemmas

@@ -1,8 +1,8 @@
 -- The first step that is none, of the first script that isn't one.
 use Rattle.std.specs.Prelude.{ℕ, ◌+◌, List, not, find, Option, Some, None, option_map, option_and_then, if◌then◌else◌}
 use Rattle.serde_json.specs.Data.{Data, array, Items, no_items, item}
-use Rattle.cdi_deploy.specs.declared.deployment.Deployment.{Deployment}
-use Rattle.cdi_deploy.specs.declared.deployment.Script.{Script}
+use Rattle.cdi_deployment.specs.declared.deployment.Deployment.{Deployment}
+use Rattle.cdi_deployment.specs.declared.deployment.Script.{Script}
 use Rattle.cdi_script.specs.Form.{is_script, is_step}
 use Rattle.cdi_text.specs.Places.{name_text}
 use Rattle.cdi_hints.specs.declared.hint.Hint.{Hint}

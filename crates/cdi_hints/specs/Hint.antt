@@ -5,12 +5,12 @@ use Rattle.cdi_base.specs.declared.reading.ReadError.{ReadError}
 use Rattle.cdi_base.specs.declared.reading.ReadError.TheVariants as errors
 use Rattle.cdi_json.specs.Json.{json_in}
 use Rattle.serde_json.specs.Data.{Data}
-use Rattle.cdi_deploy.specs.declared.deployment.Deployment.{Deployment}
+use Rattle.cdi_deployment.specs.declared.deployment.Deployment.{Deployment}
 use Rattle.cdi_deploy.specs.declared.fault.ReadFault.{ReadFault}
 use Rattle.cdi_deploy.specs.declared.fault.ReadFault.TheVariants as faults
-use Rattle.cdi_deploy.specs.Items.{lists_of}
-use Rattle.cdi_deploy.specs.Reading.{deployment_of, is_too_long, root}
-use Rattle.cdi_hints.specs.BadName.{first_bad_name}
+use Rattle.cdi_base.specs.Stage.{served}
+use Rattle.cdi_form.specs.Names.{first_bad_name}
+use Rattle.cdi_deploy.specs.Reading.{deployment_of, is_too_long, lists_of, root}
 use Rattle.cdi_hints.specs.BadStep.{first_bad_step}
 use Rattle.cdi_hints.specs.LongList.{first_long_list}
 use Rattle.cdi_hints.specs.Position.{IsPlaceIn}
@@ -18,7 +18,7 @@ use Rattle.cdi_hints.specs.declared.hint.Hint.{Hint}
 use Rattle.cdi_hints.specs.declared.hint.Hint.TheVariants as hints
 
 abbrev pub bad_name : Data → Option Hint
-bad_name d = option_map hints.Name (first_bad_name d root)
+bad_name d = option_map hints.Name (first_bad_name served d root)
 
 -- lists can't be read where the names are too many for their table
 abbrev pub long_list_in : Result Deployment ReadFault → Option Hint

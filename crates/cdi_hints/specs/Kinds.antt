@@ -2,9 +2,8 @@
 use Rattle.std.specs.Prelude.{◌≡◌, ℕ, List, Option, None, Result, Ok, Err, IfSome, IsSomeAnd}
 use Rattle.cdi_base.specs.Reading.{◌>>=◌}
 use Rattle.cdi_json.specs.Json.{json_in}
-use Rattle.cdi_deploy.specs.Items.{lists_of}
-use Rattle.cdi_deploy.specs.Reading.{or_not_json}
-use Rattle.cdi_deploy.specs.declared.deployment.Deployment.{Deployment}
+use Rattle.cdi_deploy.specs.Reading.{lists_of, or_not_json}
+use Rattle.cdi_deployment.specs.declared.deployment.Deployment.{Deployment}
 use Rattle.cdi_deploy.specs.declared.fault.ReadFault.{ReadFault}
 use Rattle.cdi_deploy.specs.declared.fault.ReadFault.TheVariants as faults
 use Rattle.cdi_hints.specs.Position.{IsPosition}
@@ -15,8 +14,10 @@ abbrev pub IsName : Hint → Type 0
 IsName (hints.Name text) = Unit {0}
 IsName _ = ⊥
 
+-- a list, or what it is a list of
 abbrev pub IsList : Hint → Type 0
 IsList (hints.List path limit) = Unit {0}
+IsList (hints.Item path) = Unit {0}
 IsList _ = ⊥
 
 abbrev pub IsStep : Hint → Type 0

@@ -15,9 +15,16 @@ pub enum Hint {
     /// This text stands in the place of a name, and is none. It is the first such, where items go by their index and
     /// members by their keys in the order of bytes.
     Name(Text),
-    /// The list at this JSON Pointer (RFC 6901) has more items than its limit. It is the first such in the order
-    /// `/classes`, `/scripts`, and then class by class its `fields` and its `members`.
+    /// The list at this JSON Pointer (RFC 6901) has more items than its limit. `/classes` counts with the interfaces and
+    /// the interceptors, and the `fields` of a class with its injected fields. It is the first list of a deployment that
+    /// is too long, in the order `/classes`, `/scripts`, `/qualifiers`, `/bindings`, `/exceptions`, `/selected`, `/order`,
+    /// then class by class its `fields`, its `members` and its other lists, and then those of the interfaces, of the
+    /// qualifiers, of the bindings and of the interceptors.
     List { path: Text, limit: usize },
+    /// Some list of the class, interface, qualifier, binding or interceptor at this JSON Pointer has more items than its
+    /// limit, or more fields of an interceptor and injected ones together. It is the first list that is too long, in the
+    /// order of [`Hint::List`].
+    Item { path: Text },
     /// The item at this index of the steps of this script, counted from 0, is no step. It is the first such of the first
     /// script that isn't one.
     Step { script: Text, step: usize },
@@ -36,6 +43,10 @@ impl fmt::Display for Hint {
             Hint::List { path, limit } => {
                 let path = path.as_str();
                 write!(f, "{path} has more than {limit} items")
+            }
+            Hint::Item { path } => {
+                let path = path.as_str();
+                write!(f, "{path} has a list that is longer than its limit")
             }
             Hint::Step { script, step } => {
                 let script = script.as_str();

@@ -4,7 +4,6 @@
 pub mod hint;
 pub mod laws;
 mod lists;
-mod names;
 mod position;
 pub mod reading;
 mod steps;

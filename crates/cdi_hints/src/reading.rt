@@ -8,13 +8,12 @@ ghost use Rattle.cdi_hints.specs.Hint as spec;
 
 use crate::hint::Hint;
 use crate::lists::first_long_list;
-use crate::names::first_bad_name;
 use crate::position::place_after;
 use crate::steps::first_bad_step;
-use cdi_base::{ReadError, Text};
-use cdi_deploy::form::{Kind, Part};
+use cdi_base::{ReadError, SERVED, Text};
 use cdi_deploy::reading::MAX_BYTES;
 use cdi_deploy::{ReadFault, deployment_of, lists_of};
+use cdi_form::{Kind, Part, first_bad_name};
 use serde_json::Value as Json;
 use std::alloc::{AllocError, Global};
 
@@ -52,7 +51,7 @@ fn value_in(alloc: Global, bytes: &[u8]) -> Result<Json, ReadError<Hint>>
 fn bad_name(alloc: Global, value: &Json) -> Result<Option<Hint>, AllocError>
     ensures { IfOk result (λ hint. hint ≡ spec.bad_name (view value.now)) }
 {
-    match first_bad_name(value, ROOT) {
+    match first_bad_name(SERVED, value, ROOT) {
         Some(text) => Ok(Some(Hint::Name(Text::from_str(alloc, text)?))),
         None => Ok(None),
     }
@@ -84,7 +83,7 @@ fn hint_of(alloc: Global, value: &Json) -> Result<Option<Hint>, AllocError>
 
 /// The hint for the bytes of a deployment, if there is one. It is a [`Hint::Position`] exactly where the bytes are at most
 /// [`MAX_BYTES`] and no JSON text in UTF-8; a [`Hint::Name`] exactly where [`cdi_deploy::read`] answers
-/// [`ReadFault::BadName`]; a [`Hint::List`] exactly where it answers [`ReadFault::TooMany`] because of a list; a
+/// [`ReadFault::BadName`]; a [`Hint::List`] or a [`Hint::Item`] exactly where it answers [`ReadFault::TooMany`] because of a list; a
 /// [`Hint::Step`] exactly where it gives a deployment whose first script that isn't one has a step that is none. An error
 /// where a growth was refused, which is neither for too many bytes nor for bytes that aren't UTF-8.
 pub fn hint_for(alloc: Global, bytes: &[u8]) -> Result<Option<Hint>, AllocError>

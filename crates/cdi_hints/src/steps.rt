@@ -7,7 +7,7 @@ ghost use Rattle.cdi_hints.specs.BadStep as spec;
 
 use crate::hint::Hint;
 use cdi_base::Text;
-use cdi_deploy::{Deployment, Script};
+use cdi_deployment::{Deployment, Script};
 use cdi_script::{MAX_STEPS, are_steps, is_step};
 use cdi_text::places::name_text;
 use serde_json::Value as Json;

@@ -1,18 +1,12 @@
 -- A deployment that was read has at most 1,024 scripts.
-use Rattle.std.proofs.Common.{◌≡◌, ℕ, ◌+◌, ◌≤◌, nat_lt, nat_le, not, Bool, true, false, ◌&&◌, List, [], ◌∷◌, ◌++◌, length, length-append, Option, Some, None, Result, Ok, Err, IfOk, if◌then◌else◌, refl, subst, arith}
-use Rattle.std.specs.List.{list_all}
+use Rattle.std.proofs.Common.{◌≡◌, ℕ, ◌+◌, ◌≤◌, nat_le, Bool, true, false, ◌&&◌, List, [], ◌∷◌, ◌++◌, length, length-append, Option, Some, None, Result, Ok, Err, IfOk, if◌then◌else◌, refl, subst, arith}
 use Rattle.cdi_base.specs.Reading.{◌>>=◌}
-use Rattle.serde_json.specs.Data.{Data}
-use Rattle.cdi_json.specs.Json.{json_in}
-use Rattle.cdi_deploy.specs.declared.fault.ReadFault.{ReadFault}
-use Rattle.cdi_deploy.specs.declared.deployment.Deployment.{Deployment}
-use Rattle.cdi_deploy.specs.declared.deployment.Script.{Script as Declared}
-use Rattle.cdi_deploy.specs.Items.{lists_of}
-use Rattle.cdi_deploy.specs.Limits.{is_class_within}
-use Rattle.cdi_deploy.specs.Names.{names_fit}
-use Rattle.cdi_deploy.specs.Numbers.{numbers_fit}
-use Rattle.cdi_deploy.specs.Reading.{or_not_json, root, or_shape, within_limits, deployment_of, deployment_in}
-use Rattle.cdi_deploy.specs.Shape.{wrong}
+use Rattle.cdi_base.specs.Stage.{served}
+use Rattle.cdi_deployment.specs.declared.deployment.Deployment.{Deployment}
+use Rattle.cdi_deployment.specs.declared.deployment.Script.{Script as Declared}
+use Rattle.cdi_deployment.specs.Limits.{are_types_within, is_length_within, is_within}
+use Rattle.cdi_deploy.proofs.Readable.{read-within}
+use Rattle.cdi_deploy.specs.Reading.{deployment_in}
 use Rattle.cdi_script.specs.declared.fault.ScriptFault.{ScriptFault}
 use Rattle.cdi_script.specs.declared.step.Step.{Step}
 use Rattle.cdi_script.specs.Build.{script_of}
@@ -21,38 +15,28 @@ use Rattle.cdi_shell.specs.declared.scripts.NamedScript.{NamedScript}
 use Rattle.cdi_text.specs.Places.{name_text}
 use Rattle.cdi_shell.specs.Scripts.{told, scripts_after, scripts_in}
 
--- what holds after each of two steps
-after : {A B : Type 0} (P : B → Type 0) (r : Result A ReadFault) (next : A → Result B ReadFault) → ((x : A) → IfOk (next x) P) → IfOk (r >>= next) P
-after P (Ok x) next step = step x
-after P (Err fault) next step = tt
+pub weaker : {A E : Type 0} (P Q : A → Type 0) (r : Result A E) → ((x : A) → P x → Q x) → IfOk r P → IfOk r Q
+weaker P Q (Ok x) step h = step x h
+weaker P Q (Err e) step h = tt
 
-within-few : (d : Deployment) → IfOk (within_limits d) (λ d. length d.scripts ≤ 1024)
-within-few d = by (nat_le (length d.classes) 1024) (nat_le (length d.scripts) 1024) (list_all is_class_within d.classes) refl
-  where
-    by : (a b c : Bool) → nat_le (length d.scripts) 1024 ≡ b → IfOk (if a && b && c then Ok d else Err ReadFault.TooMany) (λ d. length d.scripts ≤ 1024)
-    by true true true h = grind arith
-    by true true false h = tt
-    by true false c h = tt
-    by false b c h = tt
+front : (a b : Bool) → (a && b) ≡ true → a ≡ true
+front true b e = refl
+front false b e = absurd cc
 
-value-few : (d : Data) → IfOk (deployment_of d) (λ d. length d.scripts ≤ 1024)
-unfolding deployment_of
-value-few d = by (numbers_fit d) (wrong d root) (names_fit d root)
-  where
-    by : (numbers : Bool) (place : Option (List ℕ)) (names : Bool)
-        → IfOk (if not numbers then Err ReadFault.BadNumber else or_shape place (if not names then Err ReadFault.BadName else lists_of d >>= within_limits)) (λ d. length d.scripts ≤ 1024)
-    by true None true = after (λ d. length d.scripts ≤ 1024) (lists_of d) within_limits within-few
-    by true None false = tt
-    by true (Some path) names = tt
-    by false place names = tt
+back : (a b : Bool) → (a && b) ≡ true → b ≡ true
+back true b e = e
+back false b e = absurd cc
+
+within-few : (d : Deployment) → is_within d ≡ true → length d.scripts ≤ 1024
+within-few d e =
+    let lengths : is_length_within d ≡ true = front _ _ (front _ _ (front _ _ (front _ _ (front _ _ e)))) in
+    let scripts : nat_le (length d.scripts) 1024 ≡ true =
+    back (are_types_within d) _ (front _ _ (front _ _ (front _ _ (front _ _ (front _ _ lengths))))) in
+    grind (arith, scripts)
 
 pub deployment-few : (bytes : List ℕ) → IfOk (deployment_in bytes) (λ d. length d.scripts ≤ 1024)
-unfolding deployment_in
-deployment-few bytes = by (nat_lt 1048576 (length bytes))
-  where
-    by : (long : Bool) → IfOk (if long then Err ReadFault.TooLong else or_not_json (json_in bytes) >>= deployment_of) (λ d. length d.scripts ≤ 1024)
-    by true = tt
-    by false = after (λ d. length d.scripts ≤ 1024) (or_not_json (json_in bytes)) deployment_of value-few
+deployment-few bytes =
+    weaker (λ d. is_within d ≡ true) (λ d. length d.scripts ≤ 1024) (deployment_in bytes) within-few (read-within served bytes)
 
 -- as many scripts are read as are declared
 after-count : (ds : List Declared) (done : List NamedScript) (names : List (List ℕ)) → IfOk (scripts_after done names ds) (λ read. length read.0 ≡ length done + length ds)
@@ -78,7 +62,3 @@ scripts-count names ds scripts table e =
 
 pub few-scripts : (bytes : List ℕ) (d : Deployment) → deployment_in bytes ≡ Ok d → length d.scripts ≤ 1024
 few-scripts bytes d e = subst (λ (r : Result Deployment ReadFault). IfOk r (λ d. length d.scripts ≤ 1024)) e (deployment-few bytes)
-
-pub weaker : {A E : Type 0} (P Q : A → Type 0) (r : Result A E) → ((x : A) → P x → Q x) → IfOk r P → IfOk r Q
-weaker P Q (Ok x) step h = step x h
-weaker P Q (Err e) step h = tt
