@@ -1,0 +1,13 @@
+//! What a class has of what it and its superclasses declare (Jakarta CDI 4.0, *Inheritance and specialization*).
+#![tactic(auto)]
+
+pub mod class_index;
+pub mod laws;
+pub mod line;
+mod lowest;
+mod member;
+pub mod part;
+
+pub use class_index::ClassIndex;
+pub use line::ClassLine;
+pub use part::ClassPart;
