@@ -7,7 +7,7 @@ use Rattle.std.specs.List.{list_any}
 use Rattle.cdi_deploy.specs.declared.deployment.Class.{Class}
 use Rattle.cdi_deploy.specs.declared.deployment.Member.{Member}
 use Rattle.cdi_members.specs.Lowest.{lowest_from, is_at, is_had}
-use Rattle.cdi_members.specs.Members.{name_of, is_inherited, declares, comes_down, parts_of, members_of}
+use Rattle.cdi_members.specs.Members.{member_name, is_inherited, declares, comes_down, parts_of, members_of}
 
 -- a class below stays below
 later : (i j m : ℕ) (cs : List Class) (name : ℕ) → i < j → i < m → is_at i (lowest_from j cs name (Some m)) ≡ false
@@ -31,42 +31,42 @@ is_lowest i j (c ∷ cs) name before = by (is_lowest i (j + 1) cs name (omega ar
     by rest false = rest
 
 module _ (lowest : ℕ → Option ℕ) (i : ℕ) (class : Class) (below : List Class) (before : ℕ → Option ℕ) (is : (name : ℕ) → lowest name ≡ lowest_from i (class ∷ below) name (before name)) where
-  had : (last : Bool) → last ≡ nat_eq (length below) 0 → (m : Member) → declares (name_of m) class ≡ true → is_had lowest i last m ≡ comes_down below m
+  had : (last : Bool) → last ≡ nat_eq (length below) 0 → (m : Member) → declares (member_name m) class ≡ true → is_had lowest i last m ≡ comes_down below m
   had last end m own = by below refl
     where
-      at_place : is_at i (lowest (name_of m)) ≡ not (list_any (declares (name_of m)) below)
+      at_place : is_at i (lowest (member_name m)) ≡ not (list_any (declares (member_name m)) below)
       at_place =
-          ap (is_at i) (is (name_of m) ∙ ap (λ b. lowest_from (i + 1) below (name_of m) (cond b (Some i) (before (name_of m)))) own)
-          ∙ is_lowest i (i + 1) below (name_of m) (omega arith)
+          ap (is_at i) (is (member_name m) ∙ ap (λ b. lowest_from (i + 1) below (member_name m) (cond b (Some i) (before (member_name m)))) own)
+          ∙ is_lowest i (i + 1) below (member_name m) (omega arith)
 
-      test : (b : Bool) → last ≡ b → is_had lowest i last m ≡ (b || (is_inherited m && not (list_any (declares (name_of m)) below)))
-      test b e = ap (λ l. l || (is_inherited m && is_at i (lowest (name_of m)))) e ∙ ap (λ a. b || (is_inherited m && a)) at_place
+      test : (b : Bool) → last ≡ b → is_had lowest i last m ≡ (b || (is_inherited m && not (list_any (declares (member_name m)) below)))
+      test b e = ap (λ l. l || (is_inherited m && is_at i (lowest (member_name m)))) e ∙ ap (λ a. b || (is_inherited m && a)) at_place
 
       more : (cs : List Class) (c : Class) → nat_eq (length (c ∷ cs)) 0 ≡ false
       more cs c = grind (arith, nat_tests)
 
       by : (cs : List Class) → below ≡ cs → is_had lowest i last m ≡ comes_down below m
       by [] e = test true (end ∙ ap (λ cs. nat_eq (length cs) 0) e) ∙ sym (ap (λ cs. comes_down cs m) e)
-      by (c ∷ cs) e = test false (end ∙ ap (λ cs. nat_eq (length cs) 0) e ∙ more cs c) ∙ ap (λ ds. is_inherited m && not (list_any (declares (name_of m)) ds)) e ∙ sym (ap (λ cs. comes_down cs m) e)
+      by (c ∷ cs) e = test false (end ∙ ap (λ cs. nat_eq (length cs) 0) e ∙ more cs c) ∙ ap (λ ds. is_inherited m && not (list_any (declares (member_name m)) ds)) e ∙ sym (ap (λ cs. comes_down cs m) e)
 
-among : (front : List Member) (m : Member) (ms : List Member) → list_any (λ k. nat_eq (name_of k) (name_of m)) (front ++ m ∷ ms) ≡ true
-among [] m ms = by (nat_eq (name_of m) (name_of m)) (grind (arith, nat_tests))
+among : (front : List Member) (m : Member) (ms : List Member) → list_any (λ k. nat_eq (member_name k) (member_name m)) (front ++ m ∷ ms) ≡ true
+among [] m ms = by (nat_eq (member_name m) (member_name m)) (grind (arith, nat_tests))
   where
-    by : (b : Bool) → b ≡ true → (b || list_any (λ k. nat_eq (name_of k) (name_of m)) ms) ≡ true
+    by : (b : Bool) → b ≡ true → (b || list_any (λ k. nat_eq (member_name k) (member_name m)) ms) ≡ true
     by true e = refl
     by false e = absurd cc
-among (f ∷ fs) m ms = by (among fs m ms) (nat_eq (name_of f) (name_of m))
+among (f ∷ fs) m ms = by (among fs m ms) (nat_eq (member_name f) (member_name m))
   where
-    by : list_any (λ k. nat_eq (name_of k) (name_of m)) (fs ++ m ∷ ms) ≡ true → (b : Bool)
-        → (b || list_any (λ k. nat_eq (name_of k) (name_of m)) (fs ++ m ∷ ms)) ≡ true
+    by : list_any (λ k. nat_eq (member_name k) (member_name m)) (fs ++ m ∷ ms) ≡ true → (b : Bool)
+        → (b || list_any (λ k. nat_eq (member_name k) (member_name m)) (fs ++ m ∷ ms)) ≡ true
     by rest true = refl
     by rest false = rest
 
 module _ (p q : Member → Bool) where
-  same_from : (front ms : List Member) → ((m : Member) → list_any (λ k. nat_eq (name_of k) (name_of m)) (front ++ ms) ≡ true → p m ≡ q m) → filter p ms ≡ filter q ms
+  same_from : (front ms : List Member) → ((m : Member) → list_any (λ k. nat_eq (member_name k) (member_name m)) (front ++ ms) ≡ true → p m ≡ q m) → filter p ms ≡ filter q ms
   same_from front [] h = refl
   same_from front (m ∷ ms) h =
-      let rest : filter p ms ≡ filter q ms = same_from (front ++ m ∷ []) ms (λ k e. h k (ap (list_any (λ k'. nat_eq (name_of k') (name_of k))) (sym (append_assoc front (m ∷ []) ms)) ∙ e)) in
+      let rest : filter p ms ≡ filter q ms = same_from (front ++ m ∷ []) ms (λ k e. h k (ap (list_any (λ k'. nat_eq (member_name k') (member_name k))) (sym (append_assoc front (m ∷ []) ms)) ∙ e)) in
       ap (λ b. cond b (m ∷ filter p ms) (filter p ms)) (h m (among front m ms)) ∙ ap (λ ns. cond (q m) (m ∷ ns) ns) rest
 
 -- the members of a class that are had are those that come down

@@ -8,7 +8,7 @@ use Rattle.cdi_deploy.specs.declared.deployment.Member.{Member}
 use Rattle.cdi_types.specs.declared.declaration.TypeDeclaration.{TypeDeclaration}
 use Rattle.cdi_types.specs.Lineage.{IsLineage, superclass_of}
 use Rattle.cdi_members.specs.Line.{IsLineOf, class_named}
-use Rattle.cdi_members.specs.Members.{name_of, is_inherited, declares, comes_down, parts_of, members_of, inherits}
+use Rattle.cdi_members.specs.Members.{member_name, is_inherited, declares, comes_down, parts_of, members_of, inherits}
 
 one_name : (a b : ℕ) → Some a ≡ Some b → a ≡ b
 one_name a b e = cc
@@ -35,15 +35,15 @@ module _ (class : Class) where
 
   -- past a class more
   past_more : (cs : List Class) (owner : Class) (m : Member) → comes_down (cs ++ class ∷ []) m ≡ (comes_down cs m && inherits class (owner, m))
-  past_more [] owner m = by (is_inherited m) (declares (name_of m) class)
+  past_more [] owner m = by (is_inherited m) (declares (member_name m) class)
     where
       by : (i e : Bool) → (i && not (e || false)) ≡ (i && not e)
       by true true = refl
       by true false = refl
       by false e = refl
   past_more (c ∷ cs) owner m =
-      ap (λ b. is_inherited m && not b) (any_push (declares (name_of m)) (c ∷ cs))
-      ∙ by (is_inherited m) (list_any (declares (name_of m)) (c ∷ cs)) (declares (name_of m) class)
+      ap (λ b. is_inherited m && not b) (any_push (declares (member_name m)) (c ∷ cs))
+      ∙ by (is_inherited m) (list_any (declares (member_name m)) (c ∷ cs)) (declares (member_name m) class)
     where
       by : (i d e : Bool) → (i && not (d || (e || false))) ≡ ((i && not d) && (i && not e))
       by true true e = refl

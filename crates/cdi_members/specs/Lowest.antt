@@ -3,7 +3,7 @@ use Rattle.std.specs.Prelude.{ℕ, ◌+◌, ◌==◌, ◌&&◌, ◌||◌, Bool, 
 use Rattle.std.specs.HashMap.{get}
 use Rattle.cdi_deploy.specs.declared.deployment.Class.{Class}
 use Rattle.cdi_deploy.specs.declared.deployment.Member.{Member}
-use Rattle.cdi_members.specs.Members.{name_of, is_inherited, declares}
+use Rattle.cdi_members.specs.Members.{member_name, is_inherited, declares}
 use Rattle.cdi_members.specs.declared.lowest.LowestDeclarations.{LowestDeclarations}
 
 abbrev pub place_in : LowestDeclarations → ℕ → Option ℕ
@@ -20,4 +20,4 @@ is_at place (Some i) = i == place
 
 -- a member of the class at a place of a line is one that the last class has
 abbrev pub is_had : (ℕ → Option ℕ) → ℕ → Bool → Member → Bool
-is_had lowest place is_last member = is_last || (is_inherited member && is_at place (lowest (name_of member)))
+is_had lowest place is_last member = is_last || (is_inherited member && is_at place (lowest (member_name member)))

@@ -7,15 +7,15 @@ use Rattle.cdi_deploy.specs.declared.deployment.InjectedField.{InjectedField}
 use Rattle.cdi_deploy.specs.declared.deployment.Member.{Member}
 use Rattle.cdi_deploy.specs.declared.deployment.Member.TheVariants as members
 
-abbrev pub name_of : Member → ℕ
-name_of (members.Method m) = m.name
-name_of (members.Initializer i) = i.name
-name_of (members.PostConstruct c) = c.name
-name_of (members.PreDestroy c) = c.name
-name_of (members.Producer p) = p.name
-name_of (members.ProducerField p) = p.name
-name_of (members.Disposer d) = d.name
-name_of (members.Observer o) = o.name
+abbrev pub member_name : Member → ℕ
+member_name (members.Method m) = m.name
+member_name (members.Initializer i) = i.name
+member_name (members.PostConstruct c) = c.name
+member_name (members.PreDestroy c) = c.name
+member_name (members.Producer p) = p.name
+member_name (members.ProducerField p) = p.name
+member_name (members.Disposer d) = d.name
+member_name (members.Observer o) = o.name
 
 -- methods, initializers, callbacks and observers; producers, producer fields and disposers are those of their class alone
 abbrev pub is_inherited : Member → Bool
@@ -26,12 +26,12 @@ is_inherited _ = true
 
 -- a class declares a member with this name
 abbrev pub declares : ℕ → Class → Bool
-declares name class = list_any (λ m. name_of m == name) class.members
+declares name class = list_any (λ m. member_name m == name) class.members
 
 -- a member has come down past the classes below its own: it is inherited, and none of them overrides it by a member with its name
 abbrev pub comes_down : List Class → Member → Bool
 comes_down [] member = true
-comes_down below member = is_inherited member && not (list_any (declares (name_of member)) below)
+comes_down below member = is_inherited member && not (list_any (declares (member_name member)) below)
 
 -- something that a class declares, with that class
 abbrev pub parts_of : {A : Type 0} → Class → List A → List (Class × A)
@@ -51,4 +51,4 @@ injected_fields_of line = flat_map (λ class. parts_of class class.inject) line
 
 -- a class inherits a member of a superclass's if it is of an inherited kind and the class doesn't override it
 abbrev pub inherits : Class → Class × Member → Bool
-inherits class (_, member) = is_inherited member && not (declares (name_of member) class)
+inherits class (_, member) = is_inherited member && not (declares (member_name member) class)

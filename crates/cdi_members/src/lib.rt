@@ -5,9 +5,10 @@ pub mod class_index;
 pub mod laws;
 pub mod line;
 mod lowest;
-mod member;
+pub mod member;
 pub mod part;
 
 pub use class_index::ClassIndex;
 pub use line::ClassLine;
+pub use member::member_name;
 pub use part::ClassPart;

@@ -4,7 +4,7 @@ ghost use Rattle.std.specs.HashMap.{get};
 ghost use Rattle.cdi_members.specs.Members.{declares};
 ghost use Rattle.cdi_members.specs.Lowest as spec;
 
-use crate::member::{is_inherited, name_of};
+use crate::member::{is_inherited, member_name};
 use cdi_base::Name;
 use cdi_deploy::{Class, Member};
 use std::alloc::{AllocError, Global};
@@ -26,7 +26,7 @@ fn put_names(
         ≡ if declares name class.now then Some place else get nat_eq places.old name) }
 {
     for member in class.members.as_slice() {
-        places.insert(name_of(member), place)?;
+        places.insert(member_name(member), place)?;
     }
     Ok(())
 }
@@ -58,6 +58,6 @@ impl LowestDeclarations {
     pub(crate) fn is_had(&self, place: usize, is_last: bool, member: &Member) -> bool
         ensures { result ≡ spec.is_had (spec.place_in self.now) place is_last member.now }
     {
-        is_last || (is_inherited(member) && self.is_at(place, name_of(member)))
+        is_last || (is_inherited(member) && self.is_at(place, member_name(member)))
     }
 }

@@ -6,8 +6,8 @@ use cdi_base::Name;
 use cdi_deploy::Member;
 
 /// The name of a member.
-pub(crate) fn name_of(member: &Member) -> Name
-    ensures { result ≡ spec.name_of member.now }
+pub fn member_name(member: &Member) -> Name
+    ensures { result ≡ spec.member_name member.now }
 {
     match member {
         Member::Method(method) => method.name,
