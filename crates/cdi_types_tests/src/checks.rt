@@ -112,6 +112,22 @@ pub(crate) fn add_class(
         .expect(rt, "memory");
 }
 
+/// The type of a qualifier or of an interceptor binding with these members.
+fn annotation_type(
+    rt: &impl Abort,
+    alloc: Global,
+    names: &mut Names,
+    text: &str,
+    members: &str,
+    nonbinding: &str,
+) -> AnnotationType {
+    AnnotationType {
+        name: name(rt, names, text),
+        members: names_in(rt, alloc, names, members),
+        nonbinding: names_in(rt, alloc, names, nonbinding),
+    }
+}
+
 /// Adds a qualifier type with these members.
 pub(crate) fn add_qualifier(
     rt: &impl Abort,
@@ -121,12 +137,21 @@ pub(crate) fn add_qualifier(
     members: &str,
     nonbinding: &str,
 ) {
-    let declared = AnnotationType {
-        name: name(rt, &mut to.names, text),
-        members: names_in(rt, alloc, &mut to.names, members),
-        nonbinding: names_in(rt, alloc, &mut to.names, nonbinding),
-    };
+    let declared = annotation_type(rt, alloc, &mut to.names, text, members, nonbinding);
     to.qualifiers.push(declared).expect(rt, "memory");
+}
+
+/// Adds an interceptor binding type with these members.
+pub(crate) fn add_binding(
+    rt: &impl Abort,
+    alloc: Global,
+    to: &mut Deployment,
+    text: &str,
+    members: &str,
+    nonbinding: &str,
+) {
+    let declared = annotation_type(rt, alloc, &mut to.names, text, members, nonbinding);
+    to.bindings.push(declared).expect(rt, "memory");
 }
 
 /// A member with a number as its value.

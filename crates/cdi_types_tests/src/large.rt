@@ -1,7 +1,9 @@
 //! Deployments and sets as large as they may be.
 use crate::checks::{add_qualifier, bare_class, empty, expect, expect_count, name};
+use crate::declared::{Kind, member};
 use cdi_base::{Name, Names, Seq, Use};
-use cdi_deployment::Deployment;
+use cdi_deploy::{Class, Deployment};
+use cdi_members::ClassIndex;
 use cdi_quals::{QualSet, QualifierTypes};
 use cdi_types::TypeTable;
 use std::alloc::Global;
@@ -60,6 +62,57 @@ fn a_chain_of_types(rt: HostRuntime) -> Result<(), Fail> {
     );
     let above = table.types_of(alloc, last)?;
     expect_count(&rt, above.len(), 1025, "the types above the last");
+    Ok(())
+}
+
+/// The class of a number: it extends that of the number below, and has a method with its own name, and one that each class has.
+fn overriding(rt: &impl Abort, alloc: Global, names: &mut Names, number: usize) -> Class {
+    let own = numbered(rt, alloc, names, number);
+    let above = if number == 0 {
+        None
+    } else {
+        Some(numbered(rt, alloc, names, number - 1))
+    };
+    let mut class = bare_class(alloc, own, above, Seq::empty(alloc));
+    for method in [own, name(rt, names, "same")] {
+        class
+            .members
+            .push(member(alloc, Kind::Method, method))
+            .expect(rt, "memory");
+    }
+    class
+}
+
+/// Classes in a line, each of which overrides a method.
+fn line(rt: &impl Abort, alloc: Global, count: usize) -> Deployment {
+    let mut types = empty(rt, alloc);
+    for number in 0..count {
+        let class = overriding(rt, alloc, &mut types.names, number);
+        types.classes.push(class).expect(rt, "memory");
+    }
+    types
+}
+
+#[test]
+fn a_line_of_classes(rt: HostRuntime) -> Result<(), Fail> {
+    let alloc = rt.alloc();
+    let mut of = line(&rt, alloc, 1024);
+    let last = numbered(&rt, alloc, &mut of.names, 1023);
+    let types = TypeTable::build(alloc, &of).expect(&rt, "a table");
+    let index = ClassIndex::build(alloc, of.classes.as_slice())?;
+    let line = index.line(alloc, &types, last)?;
+    expect_count(
+        &rt,
+        line.classes().len(),
+        1024,
+        "the line of the last class",
+    );
+    expect_count(
+        &rt,
+        line.members(alloc)?.len(),
+        1025,
+        "what the last class has",
+    );
     Ok(())
 }
 

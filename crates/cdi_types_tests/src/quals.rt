@@ -1,8 +1,8 @@
 //! Sets of qualifiers.
-use crate::checks::{add_qualifier, empty, expect, expect_count, uses_in};
+use crate::checks::{add_binding, add_qualifier, empty, expect, expect_count, uses_in};
 use cdi_base::{Names, Seq, Use};
-use cdi_deployment::Deployment;
-use cdi_quals::{QualSet, QualifierTypes};
+use cdi_deploy::Deployment;
+use cdi_quals::{QualSet, Qualifier, QualifierTypes};
 use std::alloc::Global;
 use std::process::Abort;
 use std::test::Fail;
@@ -107,6 +107,84 @@ fn what_a_set_has(rt: HostRuntime) -> Result<(), Fail> {
     let types = QualifierTypes::qualifiers_of(alloc, &of)?;
     for row in &HAS {
         check_has(&rt, alloc, &mut of, &types, row);
+    }
+    Ok(())
+}
+
+/// Interceptor bindings are compared in the same way.
+#[test]
+fn what_a_set_of_bindings_has(rt: HostRuntime) -> Result<(), Fail> {
+    let alloc = rt.alloc();
+    let mut of = empty(&rt, alloc);
+    add_binding(&rt, alloc, &mut of, "Q", "w v", "w");
+    add_binding(&rt, alloc, &mut of, "P", "", "");
+    let types = QualifierTypes::bindings_of(alloc, &of)?;
+    for row in &HAS {
+        check_has(&rt, alloc, &mut of, &types, row);
+    }
+    Ok(())
+}
+
+/// Whether two uses are the same but for nonbinding members.
+struct Same<'a> {
+    uses: Written<'a>,
+    wanted: bool,
+}
+
+const SAME: [Same; 6] = [
+    Same {
+        uses: &[("Q", &[("v", 1), ("w", 1)]), ("Q", &[("v", 1), ("w", 2)])],
+        wanted: true,
+    },
+    Same {
+        uses: &[("Q", &[("v", 1), ("w", 1)]), ("Q", &[("v", 2), ("w", 1)])],
+        wanted: false,
+    },
+    Same {
+        uses: &[("Q", &[("w", 1), ("v", 1)]), ("Q", &[("v", 1)])],
+        wanted: true,
+    },
+    Same {
+        uses: &[("Q", &[("v", 1)]), ("Q", &[])],
+        wanted: false,
+    },
+    // of two types
+    Same {
+        uses: &[("P", &[]), ("Q", &[])],
+        wanted: false,
+    },
+    // a member that the type hasn't
+    Same {
+        uses: &[("P", &[("v", 1)]), ("P", &[("v", 2)])],
+        wanted: true,
+    },
+];
+
+fn check_same(
+    rt: &impl Abort,
+    alloc: Global,
+    of: &mut Deployment,
+    types: &QualifierTypes,
+    row: &Same,
+) {
+    let uses = uses_in(rt, alloc, &mut of.names, row.uses);
+    let own = uses.get(0).expect(rt, "two uses");
+    let other = uses.get(1).expect(rt, "two uses");
+    let own = Qualifier::new(alloc, types, own).expect(rt, "memory");
+    let other = Qualifier::new(alloc, types, other).expect(rt, "memory");
+    expect(rt, own.same_binding(&other), row.wanted, "same_binding");
+    expect(rt, other.same_binding(&own), row.wanted, "same_binding");
+}
+
+#[test]
+fn nonbinding_members(rt: HostRuntime) -> Result<(), Fail> {
+    let alloc = rt.alloc();
+    let mut of = empty(&rt, alloc);
+    add_qualifier(&rt, alloc, &mut of, "Q", "v w", "w");
+    add_qualifier(&rt, alloc, &mut of, "P", "", "");
+    let types = QualifierTypes::qualifiers_of(alloc, &of)?;
+    for row in &SAME {
+        check_same(&rt, alloc, &mut of, &types, row);
     }
     Ok(())
 }
