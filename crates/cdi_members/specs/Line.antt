@@ -1,7 +1,7 @@
 -- The line of a class: it with its superclasses, the topmost first.
 use Rattle.std.specs.Prelude.{ℕ, ◌==◌, ◌≡◌, List, Option}
 use Rattle.std.specs.List.{find, filter_map}
-use Rattle.cdi_deploy.specs.declared.deployment.Class.{Class}
+use Rattle.cdi_deployment.specs.declared.deployment.Class.{Class}
 use Rattle.cdi_types.specs.declared.declaration.TypeDeclaration.{TypeDeclaration}
 use Rattle.cdi_types.specs.Lineage.{IsLineage}
 

@@ -1,8 +1,8 @@
 -- The lowest class of a line that declares a member of a name, by its place in the line.
 use Rattle.std.specs.Prelude.{ℕ, ◌+◌, ◌==◌, ◌&&◌, ◌||◌, Bool, false, List, [], ◌∷◌, Option, Some, None, nat_eq, if◌then◌else◌}
 use Rattle.std.specs.HashMap.{get}
-use Rattle.cdi_deploy.specs.declared.deployment.Class.{Class}
-use Rattle.cdi_deploy.specs.declared.deployment.Member.{Member}
+use Rattle.cdi_deployment.specs.declared.deployment.Class.{Class}
+use Rattle.cdi_deployment.specs.declared.deployment.Member.{Member}
 use Rattle.cdi_members.specs.Members.{member_name, is_inherited, declares}
 use Rattle.cdi_members.specs.declared.lowest.LowestDeclarations.{LowestDeclarations}
 

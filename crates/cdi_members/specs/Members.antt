@@ -1,11 +1,11 @@
 -- What a class has of what the classes of its line declare, the topmost first (Jakarta CDI 4.0, Inheritance of member-level metadata).
 use Rattle.std.specs.Prelude.{ℕ, ◌==◌, ◌&&◌, ◌++◌, Bool, true, false, not, List, [], ◌∷◌, map, filter}
 use Rattle.std.specs.List.{list_any, flat_map}
-use Rattle.cdi_deploy.specs.declared.deployment.Class.{Class}
-use Rattle.cdi_deploy.specs.declared.deployment.Field.{Field}
-use Rattle.cdi_deploy.specs.declared.deployment.InjectedField.{InjectedField}
-use Rattle.cdi_deploy.specs.declared.deployment.Member.{Member}
-use Rattle.cdi_deploy.specs.declared.deployment.Member.TheVariants as members
+use Rattle.cdi_deployment.specs.declared.deployment.Class.{Class}
+use Rattle.cdi_deployment.specs.declared.deployment.Field.{Field}
+use Rattle.cdi_deployment.specs.declared.deployment.InjectedField.{InjectedField}
+use Rattle.cdi_deployment.specs.declared.deployment.Member.{Member}
+use Rattle.cdi_deployment.specs.declared.deployment.Member.TheVariants as members
 
 abbrev pub member_name : Member → ℕ
 member_name (members.Method m) = m.name

@@ -6,7 +6,7 @@ ghost use Rattle.cdi_members.specs.Line.{class_named, IsLineOf};
 
 use crate::line::ClassLine;
 use cdi_base::{Name, Seq};
-use cdi_deploy::Class;
+use cdi_deployment::Class;
 use cdi_types::TypeTable;
 use std::alloc::{AllocError, Global};
 use std::collections::HashMap;
@@ -22,7 +22,7 @@ pub struct ClassIndex<'a> {
 impl<'a> Model for ClassIndex<'a> {
     ghost use Rattle.std.specs.Prelude.{List, ◌≡◌, ◌==◌, ℕ, position, nat_eq};
     ghost use Rattle.std.specs.HashMap.{get};
-    ghost use Rattle.cdi_deploy.specs.declared.deployment.Class.{Class};
+    ghost use Rattle.cdi_deployment.specs.declared.deployment.Class.{Class};
 
     ghost Value = { List Class };
 

@@ -1,6 +1,6 @@
 //! Laws of what is inherited, over the definitions alone.
 ghost use Rattle.std.specs.Prelude.{◌≡◌, ◌++◌, ◌∷◌, [], ℕ, List, filter};
-ghost use Rattle.cdi_deploy.specs.declared.deployment.Class.{Class};
+ghost use Rattle.cdi_deployment.specs.declared.deployment.Class.{Class};
 ghost use Rattle.cdi_types.specs.declared.declaration.TypeDeclaration.{TypeDeclaration};
 ghost use Rattle.cdi_members.specs.Line.{IsLineOf};
 ghost use Rattle.cdi_members.specs.Members as spec;

@@ -6,7 +6,7 @@ ghost use Rattle.cdi_members.specs.Members as spec;
 use crate::lowest::LowestDeclarations;
 use crate::part::ClassPart;
 use cdi_base::Seq;
-use cdi_deploy::{Class, Field, InjectedField, Member};
+use cdi_deployment::{Class, Field, InjectedField, Member};
 use std::alloc::{AllocError, Global};
 use std::marker::Model;
 
@@ -18,7 +18,7 @@ pub struct ClassLine<'a> {
 
 impl<'a> Model for ClassLine<'a> {
     ghost use Rattle.std.specs.Prelude.{List, map};
-    ghost use Rattle.cdi_deploy.specs.declared.deployment.Class.{Class};
+    ghost use Rattle.cdi_deployment.specs.declared.deployment.Class.{Class};
 
     ghost Value = { List Class };
 

@@ -6,7 +6,7 @@ ghost use Rattle.cdi_members.specs.Lowest as spec;
 
 use crate::member::{is_inherited, member_name};
 use cdi_base::Name;
-use cdi_deploy::{Class, Member};
+use cdi_deployment::{Class, Member};
 use std::alloc::{AllocError, Global};
 use std::collections::HashMap;
 

@@ -3,7 +3,7 @@ ghost use Rattle.std.specs.Prelude.{◌≡◌};
 ghost use Rattle.cdi_members.specs.Members as spec;
 
 use cdi_base::Name;
-use cdi_deploy::Member;
+use cdi_deployment::Member;
 
 /// The name of a member.
 pub fn member_name(member: &Member) -> Name

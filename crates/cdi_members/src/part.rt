@@ -1,5 +1,5 @@
 //! What a class declares, with the class.
-use cdi_deploy::Class;
+use cdi_deployment::Class;
 use std::marker::Model;
 
 /// A field or a member, with the class that declares it.
@@ -10,7 +10,7 @@ pub struct ClassPart<'a, T> {
 }
 
 impl<'a, T> Model for ClassPart<'a, T> {
-    ghost use Rattle.cdi_deploy.specs.declared.deployment.Class.{Class};
+    ghost use Rattle.cdi_deployment.specs.declared.deployment.Class.{Class};
 
     ghost Value = { Class × T };
 

@@ -1,7 +1,7 @@
 //! Classes with fields and members, for the tests of what is inherited.
 use crate::checks::{bare_class, name};
 use cdi_base::{Name, Names, Scope, Seq, Value};
-use cdi_deploy::{
+use cdi_deployment::{
     Callback, Class, Deployment, Disposer, Field, Initializer, InjectedField, Member, Method,
     Observer, ProducerField, ProducerMethod,
 };

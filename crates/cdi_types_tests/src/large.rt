@@ -2,7 +2,7 @@
 use crate::checks::{add_qualifier, bare_class, empty, expect, expect_count, name};
 use crate::declared::{Kind, member};
 use cdi_base::{Name, Names, Seq, Use};
-use cdi_deploy::{Class, Deployment};
+use cdi_deployment::{Class, Deployment};
 use cdi_members::ClassIndex;
 use cdi_quals::{QualSet, QualifierTypes};
 use cdi_types::TypeTable;

@@ -2,7 +2,7 @@
 use crate::checks::{empty, expect, expect_count};
 use crate::declared::{Kind, Written, add_written};
 use cdi_base::{Name, Names};
-use cdi_deploy::{Class, Deployment};
+use cdi_deployment::{Class, Deployment};
 use cdi_members::{ClassIndex, ClassLine, member_name};
 use cdi_types::TypeTable;
 use std::alloc::Global;

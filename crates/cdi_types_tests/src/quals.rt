@@ -1,7 +1,7 @@
 //! Sets of qualifiers.
 use crate::checks::{add_binding, add_qualifier, empty, expect, expect_count, uses_in};
 use cdi_base::{Names, Seq, Use};
-use cdi_deploy::Deployment;
+use cdi_deployment::Deployment;
 use cdi_quals::{QualSet, Qualifier, QualifierTypes};
 use std::alloc::Global;
 use std::process::Abort;

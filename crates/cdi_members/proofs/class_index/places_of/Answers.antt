@@ -1,7 +1,7 @@
 use Rattle.std.proofs.Common.{◌≡◌, ◌∙◌, ℕ, Bool, true, false, cond, nat_eq, position, take, Some, Option, sym, ap}
 use Rattle.std.proofs.lemmas.Bool.{eqb-true}
 use Rattle.std.specs.Option.{is_some}
-use Rattle.cdi_deploy.specs.declared.deployment.Class.{Class}
+use Rattle.cdi_deployment.specs.declared.deployment.Class.{Class}
 use Rattle.cdi_types.proofs.Places.{gets_place, keeps_place}
 use Rattle.cdi_members.proofs.Places.{position-more}
 use Rattle.cdi_members.proofs.class_index.places_of.Goals as goal

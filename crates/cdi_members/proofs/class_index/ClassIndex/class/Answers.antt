@@ -1,7 +1,7 @@
 use Rattle.std.proofs.Common.{◌≡◌, ◌∙◌, nat_eq, Some, None, slice_get, rules, sym, ap}
 use Rattle.std.specs.Option.{option_copied}
 use Rattle.std.specs.HashMap.{get}
-use Rattle.cdi_deploy.specs.declared.deployment.Class.{Class}
+use Rattle.cdi_deployment.specs.declared.deployment.Class.{Class}
 use Rattle.cdi_members.specs.Line.{class_named}
 use Rattle.cdi_types.proofs.Places.{no_place}
 use Rattle.cdi_members.proofs.Places.{found_at, got}
