@@ -2,13 +2,13 @@
 use Rattle.std.proofs.Common.{◌≡◌, refl}
 use Rattle.cdi_machine.specs.World.{World}
 use Rattle.cdi_machine.specs.Container.{reply_to}
-use Rattle.cdi_engine.specs.declared.task.Given.TheVariants as givens
-use Rattle.cdi_engine.specs.declared.task.Completion.TheVariants as completions
-use Rattle.cdi_engine.specs.declared.task.Outcome.{Outcome}
-use Rattle.cdi_engine.specs.declared.task.Outcome.TheVariants as outcomes
-use Rattle.cdi_engine.specs.declared.task.Job.{Job}
-use Rattle.cdi_engine.specs.declared.task.Job.TheVariants as jobs
-use Rattle.cdi_engine.specs.Words.{command_of, outcome_of}
+use Rattle.cdi_steps.specs.declared.task.Given.TheVariants as givens
+use Rattle.cdi_steps.specs.declared.task.Completion.TheVariants as completions
+use Rattle.cdi_steps.specs.declared.task.Outcome.{Outcome}
+use Rattle.cdi_steps.specs.declared.task.Outcome.TheVariants as outcomes
+use Rattle.cdi_steps.specs.declared.task.Job.{Job}
+use Rattle.cdi_steps.specs.declared.task.Job.TheVariants as jobs
+use Rattle.cdi_steps.specs.Words.{command_of, outcome_of}
 use Rattle.cdi_container.specs.Replies.{has_value, reply_of}
 
 pub replied : (job : Job) (o : Outcome) (w : World) → reply_of (has_value job) o ≡ reply_to (command_of job) (outcome_of o) w

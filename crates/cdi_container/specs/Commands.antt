@@ -4,7 +4,7 @@ use Rattle.cdi_base.specs.declared.command.Command.{Command}
 use Rattle.cdi_base.specs.declared.command.Command.TheVariants as commands
 use Rattle.cdi_base.specs.Name.{number_of}
 use Rattle.cdi_machine.specs.Commands as machine
-use Rattle.cdi_engine.specs.Asked.{of_type}
+use Rattle.cdi_steps.specs.Asked.{of_type}
 
 -- Names are numbers of the table. No command that is served has qualifiers.
 abbrev pub machine_command : List (List ℕ) → Command → machine.Command

@@ -10,7 +10,7 @@ use cdi_container::{Accepted, accept};
 use cdi_deploy::read;
 use cdi_deployment::Deployment;
 use cdi_engine::run::run;
-use cdi_engine::{Completion, Given, Job, Outcome};
+use cdi_steps::{Completion, Given, Job, Outcome};
 use cdi_machine::{Driver, Failure};
 use cdi_runtime::Runtime;
 use std::alloc::{AllocError, Global};

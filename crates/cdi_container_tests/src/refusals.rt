@@ -7,7 +7,7 @@ use crate::deployed::{Asks, TWO, accept_well, carry_out, deploy, job_of};
 use cdi_base::{Limits, Names, Refusal, Seq, Text, Value};
 use cdi_bodies::Bodies;
 use cdi_container::Accepted;
-use cdi_engine::Job;
+use cdi_steps::Job;
 use cdi_machine::Driver;
 use cdi_runtime::Runtime;
 use std::alloc::{AllocError, Global};

@@ -1,11 +1,3 @@
 pub mod Sound
-pub mod Cost
-pub mod Entries
 pub mod StaysKnown
-pub mod CreationSteps
-pub mod InvocationSteps
-pub mod BodySteps
-pub mod ObtainingSteps
-pub mod DestructionSteps
-pub mod CommandSteps
 pub mod ResumeSteps

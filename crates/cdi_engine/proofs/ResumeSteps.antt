@@ -1,29 +1,29 @@
 -- What frames do once what they wait for has ended is what the machine does.
 use Rattle.std.proofs.Common.{ℕ, ◌≡◌, refl}
 use Rattle.std.specs.Global.{Box}
-use Rattle.cdi_engine.specs.declared.task.Running.{Running}
+use Rattle.cdi_steps.specs.declared.task.Running.{Running}
 use Rattle.cdi_base.specs.declared.value.Value.TheVariants as values
 use Rattle.cdi_base.specs.declared.place.InterceptorMethod.{InterceptorMethod}
 use Rattle.cdi_base.specs.declared.place.InterceptorMethod.TheVariants as roles
 use Rattle.cdi_base.specs.declared.reply.Cause.{Cause}
 use Rattle.cdi_machine.specs.Words.{Name}
 use Rattle.cdi_machine.specs.World.{World, Change, after_change}
-use Rattle.cdi_engine.specs.Setting.{Setting}
-use Rattle.cdi_engine.specs.Words.{given_at_end}
-use Rattle.cdi_engine.specs.Meanings.{after}
-use Rattle.cdi_engine.specs.Leads.{Comes, ComesTo, GoesOn}
-use Rattle.cdi_engine.specs.declared.task.Call.TheVariants as calls
-use Rattle.cdi_engine.specs.declared.task.Completion.{Completion}
-use Rattle.cdi_engine.specs.declared.task.Completion.TheVariants as completions
-use Rattle.cdi_engine.specs.declared.task.Given.{Given}
-use Rattle.cdi_engine.specs.declared.task.Given.TheVariants as givens
-use Rattle.cdi_engine.specs.declared.task.Outcome.TheVariants as outcomes
-use Rattle.cdi_engine.specs.declared.task.Task.TheVariants as tasks
-use Rattle.cdi_engine.specs.declared.task.Frame.{Frame}
-use Rattle.cdi_engine.specs.declared.task.Frame.TheVariants as frames
-use Rattle.cdi_engine.specs.declared.task.Next.TheVariants as nexts
-use Rattle.cdi_engine.proofs.CommandSteps.{starting_leads, closing_leads, finishing_leads, emptied_leads}
-use Rattle.cdi_engine.proofs.Entries.{stays_falls, lowers_falls}
+use Rattle.cdi_steps.specs.Setting.{Setting}
+use Rattle.cdi_steps.specs.Words.{given_at_end}
+use Rattle.cdi_steps.specs.Meanings.{after}
+use Rattle.cdi_steps.specs.Leads.{Comes, ComesTo, GoesOn}
+use Rattle.cdi_steps.specs.declared.task.Call.TheVariants as calls
+use Rattle.cdi_steps.specs.declared.task.Completion.{Completion}
+use Rattle.cdi_steps.specs.declared.task.Completion.TheVariants as completions
+use Rattle.cdi_steps.specs.declared.task.Given.{Given}
+use Rattle.cdi_steps.specs.declared.task.Given.TheVariants as givens
+use Rattle.cdi_steps.specs.declared.task.Outcome.TheVariants as outcomes
+use Rattle.cdi_steps.specs.declared.task.Task.TheVariants as tasks
+use Rattle.cdi_steps.specs.declared.task.Frame.{Frame}
+use Rattle.cdi_steps.specs.declared.task.Frame.TheVariants as frames
+use Rattle.cdi_steps.specs.declared.task.Next.TheVariants as nexts
+use Rattle.cdi_steps.proofs.CommandSteps.{starting_leads, closing_leads, finishing_leads, emptied_leads}
+use Rattle.cdi_steps.proofs.Entries.{stays_falls, lowers_falls}
 
 module _ (s : Setting) where
   pub cut_leads : (k : Frame) (cause : Cause) (w : World) → ComesTo s (after k (outcomes.Cut cause)) w (nexts.Finished (outcomes.Cut cause)) w

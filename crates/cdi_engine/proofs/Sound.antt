@@ -12,19 +12,20 @@ use Rattle.cdi_machine.specs.Machine.{machine}
 use Rattle.cdi_machine.specs.Runs as runs
 use Rattle.cdi_machine.specs.Runs.{Legal, Runs, rest_after}
 use Rattle.cdi_machine.specs.Laws.{IsWithin}
-use Rattle.cdi_engine.specs.Setting.{Setting, Narrows}
-use Rattle.cdi_engine.specs.Words.{outcome_of, task_of}
-use Rattle.cdi_engine.specs.Meanings.{over, around, node, first, rest, waits, after}
-use Rattle.cdi_engine.specs.Leads.{next_stop, after_steps, Comes, ComesTo, IsOnWay, Ran}
-use Rattle.cdi_engine.specs.declared.task.Call.{Call}
-use Rattle.cdi_engine.specs.declared.task.Completion.TheVariants as completions
-use Rattle.cdi_engine.specs.declared.task.Outcome.{Outcome}
-use Rattle.cdi_engine.specs.declared.task.Outcome.TheVariants as outcomes
-use Rattle.cdi_engine.specs.declared.task.Task.{Task}
-use Rattle.cdi_engine.specs.declared.task.Task.TheVariants as tasks
-use Rattle.cdi_engine.specs.declared.task.Frame.{Frame}
-use Rattle.cdi_engine.specs.declared.task.Next.{Next}
-use Rattle.cdi_engine.specs.declared.task.Next.TheVariants as nexts
+use Rattle.cdi_steps.specs.Setting.{Setting, Narrows}
+use Rattle.cdi_steps.specs.Words.{outcome_of, task_of}
+use Rattle.cdi_steps.specs.Meanings.{over, around, node, first, rest, waits, after}
+use Rattle.cdi_steps.specs.Leads.{next_stop, after_steps, Comes, ComesTo, IsOnWay, Ran}
+use Rattle.cdi_steps.proofs.Narrowing.{comes_before}
+use Rattle.cdi_steps.specs.declared.task.Call.{Call}
+use Rattle.cdi_steps.specs.declared.task.Completion.TheVariants as completions
+use Rattle.cdi_steps.specs.declared.task.Outcome.{Outcome}
+use Rattle.cdi_steps.specs.declared.task.Outcome.TheVariants as outcomes
+use Rattle.cdi_steps.specs.declared.task.Task.{Task}
+use Rattle.cdi_steps.specs.declared.task.Task.TheVariants as tasks
+use Rattle.cdi_steps.specs.declared.task.Frame.{Frame}
+use Rattle.cdi_steps.specs.declared.task.Next.{Next}
+use Rattle.cdi_steps.specs.declared.task.Next.TheVariants as nexts
 
 module _ (tables : Tables) (legal : Legal) (Starved : Type 0) where
   abbrev R : Prog Given → World → runs.Outcome → World → Type 0
@@ -141,39 +142,7 @@ module _ {tables : Tables} {small large : Legal} {Starved Other : Type 0} (i : I
   wider (Runs.calls {u = u} {o1 = o1} r1 r) = Runs.calls (wider r1) (wider r)
   wider (Runs.starves s) = Runs.starves (f s)
 
-wider_comes : {tables : Tables} {small large : Legal} {p q : Prog Given} {w v : World} → IsWithin small large → Comes tables small p w q v → Comes tables large p w q v
-wider_comes i (Comes.same e) = Comes.same e
-wider_comes i (Comes.within n e) = Comes.within n e
-wider_comes i (Comes.writes e h c) = Comes.writes e h (wider_comes i c)
-wider_comes i (Comes.fills e h) = Comes.fills e h
-wider_comes i (Comes.does {u = u} {b = b} {fields = fields} {view = view} a e l c) = Comes.does a e (i.act b (length u.trace) fields view a l) (wider_comes i c)
-wider_comes i (Comes.calls r e d c) = Comes.calls r e d (wider_comes i c)
-wider_comes i (Comes.picks {u = u} {n = n} x e l h c) = Comes.picks x e l (i.pick (candidates n) (length u.trace) x h) (wider_comes i c)
-
--- ---- from one asking of the driver to the next
-
-pub narrows_self : (s : Setting) → Narrows s s
-narrows_self s = record { tables = refl; legal = record { act = λ b n f v a h. h; pick = λ n m i h. h }; knows = λ b h. h }
-
-pub narrows_trans : {r s t : Setting} → Narrows r s → Narrows s t → Narrows r t
-narrows_trans m n =
-    record {
-      tables = n.tables ∙ m.tables;
-      legal =
-          record {
-            act = λ b e f v a h. m.legal.act b e f v a (n.legal.act b e f v a h);
-            pick = λ c e i h. m.legal.pick c e i (n.legal.pick c e i h);
-          };
-      knows = λ b h. n.knows b (m.knows b h);
-    }
-
-pub narrows_same : {r s t : Setting} → Narrows r s → t ≡ s → Narrows r t
-narrows_same {r = r} n e = subst (λ x. Narrows r x) (sym e) n
-
 module _ {r s : Setting} (n : Narrows r s) where
-  pub comes_before : {p q : Prog Given} {w v : World} → Comes s.tables s.legal p w q v → Comes r.tables r.legal p w q v
-  comes_before {p = p} {q = q} {w = w} {v = v} c = wider_comes n.legal (subst (λ y. Comes y s.legal p w q v) n.tables c)
-
   runs_before : {Starved Other : Type 0} (p : Prog Given) {w v : World} {o : runs.Outcome} → (Starved → Other) → Runs s.tables s.legal Starved p w o v → Runs r.tables r.legal Other p w o v
   runs_before {Starved = Starved} p {w} {v} {o} f a =
       wider n.legal f (subst (λ y. Runs y s.legal Starved p w o v) n.tables a)
@@ -232,17 +201,3 @@ module _ {r s : Setting} (n : Narrows r s) {p : Prog Given} {w : World} where
 pub ran_err : (r : Setting) {p : Prog Given} {w : World} (v : World) (x : Either Outcome Failure) → IsErr x → Runs r.tables r.legal (Unit {0}) p w (runs.Cut causes.Memory) v → Ran r p w x v
 ran_err r v (Ok o) h s = absurd (true≢false (sym h))
 ran_err r v (Err e) h s = s
-
--- what follows of what a result holds if it is one
-pub map_ok : {A E : Type 0} (r : Either A E) {P Q : A → Type 0} → ((a : A) → P a → Q a) → IfOk r P → IfOk r Q
-map_ok (Ok a) f h = f a h
-map_ok (Err e) f h = h
-
--- what follows if it is none
-pub map_err : {A E : Type 0} (r : Either A E) {P Q : Type 0} → (P → Q) → OnErr r P → OnErr r Q
-map_err (Ok a) f h = h
-map_err (Err e) f h = f h
-
-pub as_err : {A E : Type 0} (r : Either A E) {P : Type 0} → P → OnErr r P
-as_err (Ok a) h = tt
-as_err (Err e) h = h

@@ -1,8 +1,8 @@
 -- What frames rest on stays so.
-use Rattle.cdi_engine.specs.Setting.{Setting, Narrows}
-use Rattle.cdi_engine.specs.Known.{KnownFrame}
-use Rattle.cdi_engine.specs.declared.task.Frame.{Frame}
-use Rattle.cdi_engine.specs.declared.task.Frame.TheVariants as frames
+use Rattle.cdi_steps.specs.Setting.{Setting, Narrows}
+use Rattle.cdi_steps.specs.Known.{KnownFrame}
+use Rattle.cdi_steps.specs.declared.task.Frame.{Frame}
+use Rattle.cdi_steps.specs.declared.task.Frame.TheVariants as frames
 
 -- after a call
 pub known_frame : (k : Frame) {s z : Setting} → Narrows s z → KnownFrame s k → KnownFrame z k

@@ -1,15 +1,15 @@
 //! What comes after a call, or a part: what the frame does that waited for it.
 ghost use Rattle.std.specs.Prelude.{◌≡◌, IfOk, OnErr};
-ghost use Rattle.cdi_engine.specs.Setting.{Narrows};
-ghost use Rattle.cdi_engine.specs.Meanings.{after};
-ghost use Rattle.cdi_engine.specs.Leads.{ComesTo, GoesOn};
-ghost use Rattle.cdi_engine.specs.Falls.{Falls, back_rank, frame_rank, thrown_rank};
-ghost use Rattle.cdi_engine.specs.Known.{KnownFrame, KnownNext};
+ghost use Rattle.cdi_steps.specs.Setting.{Narrows};
+ghost use Rattle.cdi_steps.specs.Meanings.{after};
+ghost use Rattle.cdi_steps.specs.Leads.{ComesTo, GoesOn};
+ghost use Rattle.cdi_steps.specs.Falls.{Falls, back_rank, frame_rank, thrown_rank};
+ghost use Rattle.cdi_steps.specs.Known.{KnownFrame, KnownNext};
 
-use crate::host::Host;
-use crate::step::{bodies, commands, cut, destruction, ended, invocations, null, obtaining};
-use crate::task::{Call, Completion, Frame, Given, Next, Outcome, Task};
 use cdi_base::Name;
+use cdi_steps::step::{bodies, commands, cut, destruction, ended, invocations, null, obtaining};
+use cdi_steps::task::{Call, Completion, Frame, Given, Next, Outcome, Task};
+use cdi_steps::Host;
 use std::alloc::AllocError;
 
 /// Goes on once what a frame waits for has ended.

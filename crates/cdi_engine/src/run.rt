@@ -1,17 +1,17 @@
 //! The engine: a loop over its steps, which calls itself only for what a step needs.
 ghost use Rattle.std.specs.Prelude.{◌≡◌};
 ghost use Rattle.cdi_machine.specs.Commands.{task};
-ghost use Rattle.cdi_engine.specs.Setting.{Narrows};
-ghost use Rattle.cdi_engine.specs.Words.{command_of};
-ghost use Rattle.cdi_engine.specs.Meanings.{first};
-ghost use Rattle.cdi_engine.specs.Leads.{Ran};
-ghost use Rattle.cdi_engine.specs.Known.{Known};
+ghost use Rattle.cdi_steps.specs.Setting.{Narrows};
+ghost use Rattle.cdi_steps.specs.Words.{command_of};
+ghost use Rattle.cdi_steps.specs.Meanings.{first};
+ghost use Rattle.cdi_steps.specs.Leads.{Ran};
+ghost use Rattle.cdi_steps.specs.Known.{Known};
 
-use crate::host::Host;
 use crate::resume::resume;
-use crate::step::step;
-use crate::task::{Job, Next, Outcome, Task};
 use cdi_machine::Failure;
+use cdi_steps::task::{Next, Task};
+use cdi_steps::step::step;
+use cdi_steps::{Host, Job, Outcome};
 
 /// Carries a task out to its end.
 fn run_task<H: Host>(host: &mut H, task: Task) -> Result<Outcome, Failure>

@@ -14,7 +14,7 @@ use Rattle.cdi_beans.proofs.Served.{at_method, resolved_is_there}
 use Rattle.cdi_machine.specs.World.{World}
 use Rattle.cdi_machine.specs.Commands.{Command}
 use Rattle.cdi_machine.specs.Container.{refusal, call_refusals, bean_of}
-use Rattle.cdi_engine.specs.Asked.{of_type}
+use Rattle.cdi_steps.specs.Asked.{of_type}
 use Rattle.cdi_runtime.specs.Refusals.{method_refusal, bean_refusal, call_refusal}
 
 module _ (classes : List ℕ) (t : Tables) (type name count : ℕ) where

@@ -16,8 +16,8 @@ use Rattle.cdi_machine.specs.World.{World}
 use Rattle.cdi_machine.specs.Runs.{Legal}
 use Rattle.cdi_machine.specs.Laws.{IsWithin}
 use Rattle.cdi_presence.specs.Missing.{IsServed, GivesServed}
-use Rattle.cdi_engine.specs.Setting.{is_served}
-use Rattle.cdi_engine.specs.Asked.{method_in, method_at}
+use Rattle.cdi_steps.specs.Setting.{is_served}
+use Rattle.cdi_steps.specs.Asked.{method_in, method_at}
 use Rattle.cdi_runtime.specs.Standing.{IsMethodBody, IsWorking}
 
 -- ---- methods

@@ -3,13 +3,13 @@ ghost use Rattle.std.specs.Prelude.{◌≡◌, length, option_map, None};
 ghost use Rattle.cdi_contexts.specs.Refusals.{first_that_holds};
 ghost use Rattle.cdi_machine.specs.Container as machine;
 ghost use Rattle.cdi_beans.specs.Served.{is_type, machine_bean, machine_method, machine_tables};
-ghost use Rattle.cdi_engine.specs.Words.{command_of};
+ghost use Rattle.cdi_steps.specs.Words.{command_of};
 ghost use Rattle.cdi_runtime.specs.Refusals.{call_refusal, in_request, method_refusal};
 
 use crate::runtime::Runtime;
 use cdi_base::{BuiltIn, Name, Refusal, Text};
 use cdi_beans::bean::{Code, Method, Resolution};
-use cdi_engine::Job;
+use cdi_steps::Job;
 use cdi_machine::Driver;
 
 /// Whether a name is a type: a class of the deployment, or a built-in one.

@@ -16,7 +16,7 @@ use Rattle.cdi_beans.specs.Served.{machine_tables}
 use Rattle.cdi_beans.specs.declared.bean.ServedScope.TheVariants as scopes
 use Rattle.cdi_machine.specs.Commands.{Command}
 use Rattle.cdi_machine.specs.Container.{before_commands, refusal}
-use Rattle.cdi_engine.specs.Asked.{of_type}
+use Rattle.cdi_steps.specs.Asked.{of_type}
 use Rattle.cdi_script.specs.declared.fault.ScriptFault.TheVariants as script_faults
 use Rattle.cdi_lines.specs.Lines.{complete_lines, all_lines}
 use Rattle.cdi_shell.specs.RefusalText.{fault_line, script_line, problem_line}

@@ -1,8 +1,9 @@
 use Rattle.std.proofs.Common.{rules, arith}
-use Rattle.cdi_engine.specs.Meanings.{first, after}
-use Rattle.cdi_engine.specs.Falls.{rank}
-use Rattle.cdi_engine.proofs.Sound.{narrows_self, narrows_trans, kept_start, kept_point, kept_comes, kept_on_way, kept_ends, kept_starved, kept_back, kept_starved_within, ran_err}
-use Rattle.cdi_engine.proofs.Cost.{falls_cost, back_falls}
+use Rattle.cdi_steps.specs.Meanings.{first, after}
+use Rattle.cdi_steps.specs.Falls.{rank}
+use Rattle.cdi_steps.proofs.Narrowing.{narrows_self, narrows_trans}
+use Rattle.cdi_engine.proofs.Sound.{kept_start, kept_point, kept_comes, kept_on_way, kept_ends, kept_starved, kept_back, kept_starved_within, ran_err}
+use Rattle.cdi_steps.proofs.Cost.{falls_cost, back_falls}
 use Rattle.cdi_engine.proofs.run.+run_task.Goals as goal
 
 pub returns-in_err-next-clause-ran : goal.returns-in_err-next-clause-ran

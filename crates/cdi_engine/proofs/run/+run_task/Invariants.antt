@@ -1,8 +1,8 @@
 use Rattle.std.proofs.Common.{◌<◌}
-use Rattle.cdi_engine.specs.Setting.{Narrows}
-use Rattle.cdi_engine.specs.Meanings.{first, node}
-use Rattle.cdi_engine.specs.Falls.{rank, weight, cost}
-use Rattle.cdi_engine.specs.Known.{KnownNext}
+use Rattle.cdi_steps.specs.Setting.{Narrows}
+use Rattle.cdi_steps.specs.Meanings.{first, node}
+use Rattle.cdi_steps.specs.Falls.{rank, weight, cost}
+use Rattle.cdi_steps.specs.Known.{KnownNext}
 use Rattle.cdi_engine.proofs.Sound.{Kept}
 use Rattle.cdi_engine.proofs.run.+run_task.Given as goal
 

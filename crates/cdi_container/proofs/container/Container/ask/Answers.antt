@@ -1,6 +1,6 @@
 use Rattle.std.proofs.Common.{◌≡◌, ◌∙◌, sym, subst, option_map, Some}
 use Rattle.cdi_machine.specs.Container.{refusal}
-use Rattle.cdi_engine.specs.Words.{command_of}
+use Rattle.cdi_steps.specs.Words.{command_of}
 use Rattle.cdi_runtime.specs.Refusals.{in_request}
 use Rattle.cdi_container.specs.Standing.{tables_of, state_of}
 use Rattle.cdi_container.specs.States.{machine_state}

@@ -1,6 +1,6 @@
 use Rattle.std.proofs.Common.{◌≡◌, ◌∙◌, ap, sym, subst, None}
 use Rattle.cdi_machine.specs.Container.{refusal}
-use Rattle.cdi_engine.specs.Words.{command_of, outcome_of}
+use Rattle.cdi_steps.specs.Words.{command_of, outcome_of}
 use Rattle.cdi_container.specs.Replies.{reply_of}
 use Rattle.cdi_container.specs.Standing.{tables_of, state_of}
 use Rattle.cdi_container.specs.States.{Answers, machine_state}

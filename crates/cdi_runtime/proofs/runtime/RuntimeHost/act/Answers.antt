@@ -1,5 +1,5 @@
 use Rattle.std.proofs.Common.{subst, sym}
-use Rattle.cdi_engine.proofs.Sound.{map_ok}
+use Rattle.cdi_steps.proofs.Results.{map_ok}
 use Rattle.cdi_runtime.specs.Standing.{IsMethodBody}
 use Rattle.cdi_runtime.proofs.Working.{known_body, still_working, gives_served}
 use Rattle.cdi_runtime.proofs.runtime.RuntimeHost.act.Goals as goal

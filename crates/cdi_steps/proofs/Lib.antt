@@ -1,0 +1,10 @@
+pub mod Results
+pub mod Narrowing
+pub mod Cost
+pub mod Entries
+pub mod CreationSteps
+pub mod InvocationSteps
+pub mod BodySteps
+pub mod ObtainingSteps
+pub mod DestructionSteps
+pub mod CommandSteps
