@@ -1,3 +1,5 @@
+pub mod BodySteps
+pub mod CommandSteps
 pub mod Sound
 pub mod StaysKnown
 pub mod ResumeSteps

@@ -22,7 +22,7 @@ use Rattle.cdi_steps.specs.declared.task.Task.TheVariants as tasks
 use Rattle.cdi_steps.specs.declared.task.Frame.{Frame}
 use Rattle.cdi_steps.specs.declared.task.Frame.TheVariants as frames
 use Rattle.cdi_steps.specs.declared.task.Next.TheVariants as nexts
-use Rattle.cdi_steps.proofs.CommandSteps.{starting_leads, closing_leads, finishing_leads, emptied_leads}
+use Rattle.cdi_engine.proofs.CommandSteps.{starting_leads, closing_leads, finishing_leads, emptied_leads}
 use Rattle.cdi_steps.proofs.Entries.{stays_falls, lowers_falls}
 
 module _ (s : Setting) where

@@ -6,10 +6,11 @@ ghost use Rattle.cdi_steps.specs.Leads.{ComesTo, GoesOn};
 ghost use Rattle.cdi_steps.specs.Falls.{Falls, back_rank, frame_rank, thrown_rank};
 ghost use Rattle.cdi_steps.specs.Known.{KnownFrame, KnownNext};
 
+use crate::step::{bodies, commands};
 use cdi_base::Name;
-use cdi_steps::step::{bodies, commands, cut, destruction, ended, invocations, null, obtaining};
+use cdi_steps::ends::{cut, ended, null};
 use cdi_steps::task::{Call, Completion, Frame, Given, Next, Outcome, Task};
-use cdi_steps::Host;
+use cdi_steps::{Host, destruction, invocations, obtaining};
 use std::alloc::AllocError;
 
 /// Goes on once what a frame waits for has ended.

@@ -8,9 +8,9 @@ ghost use Rattle.cdi_steps.specs.Leads.{Ran};
 ghost use Rattle.cdi_steps.specs.Known.{Known};
 
 use crate::resume::resume;
+use crate::step::step;
 use cdi_machine::Failure;
 use cdi_steps::task::{Next, Task};
-use cdi_steps::step::step;
 use cdi_steps::{Host, Job, Outcome};
 
 /// Carries a task out to its end.

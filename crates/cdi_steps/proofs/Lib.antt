@@ -4,7 +4,5 @@ pub mod Cost
 pub mod Entries
 pub mod CreationSteps
 pub mod InvocationSteps
-pub mod BodySteps
 pub mod ObtainingSteps
 pub mod DestructionSteps
-pub mod CommandSteps

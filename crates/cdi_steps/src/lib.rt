@@ -1,9 +1,14 @@
-//! The steps of the engine: what a task does first, up to what it needs, as the machine of `cdi_machine` has it.
+//! Steps of the engine: what a task, or a frame, does up to what it needs, as the machine of `cdi_machine` has it. Here are
+//! those that obtain, make, call and destroy instances.
 #![tactic(auto)]
 
-mod events;
+pub mod creation;
+pub mod destruction;
+pub mod ends;
+pub mod entries;
 pub mod host;
-pub mod step;
+pub mod invocations;
+pub mod obtaining;
 pub mod task;
 
 pub use host::Host;
