@@ -31,7 +31,7 @@ use Rattle.cdi_steps.specs.Asked.{method_in, method_of_component, method_of_inst
 use Rattle.cdi_steps.specs.Words.{given_of, running_of}
 use Rattle.cdi_steps.specs.Meanings.{start_body, end_with, go_on_with, told}
 use Rattle.cdi_steps.specs.Leads.{next_stop, Comes, ComesTo, MovesTo, Settles, IsOnWay, Written, Spent}
-use Rattle.cdi_steps.proofs.Entries.{cut_before, comes_after, on_way_after, on_way_at_start, stays_falls, lowers_falls}
+use Rattle.cdi_steps.proofs.AfterEntries.{cut_before, comes_after, on_way_after, on_way_at_start, stays_falls, lowers_falls}
 use Rattle.cdi_steps.specs.declared.task.Call.TheVariants as calls
 use Rattle.cdi_steps.specs.declared.task.Completion.TheVariants as completions
 use Rattle.cdi_steps.specs.declared.task.Given.{Given as CodeGiven}

@@ -19,7 +19,7 @@ use Rattle.cdi_steps.specs.Asked.{latest_in}
 use Rattle.cdi_steps.proofs.DestructionSteps.{dismiss_settled}
 use Rattle.cdi_steps.specs.Meanings.{start_container, bring_down, close_application, finish_context}
 use Rattle.cdi_steps.specs.Leads.{next_stop, Comes, ComesTo, MovesTo, GoesOn, Written, Spent}
-use Rattle.cdi_steps.proofs.Entries.{cut_before, comes_after, on_way_at_start, stays_falls, lowers_falls}
+use Rattle.cdi_steps.proofs.AfterEntries.{cut_before, comes_after, on_way_at_start, stays_falls, lowers_falls}
 use Rattle.cdi_steps.specs.declared.task.Call.TheVariants as calls
 use Rattle.cdi_steps.specs.declared.task.Completion.{Completion as CodeCompletion}
 use Rattle.cdi_steps.specs.declared.task.Completion.TheVariants as completions

@@ -23,7 +23,7 @@ use Rattle.cdi_steps.specs.declared.task.Frame.{Frame}
 use Rattle.cdi_steps.specs.declared.task.Frame.TheVariants as frames
 use Rattle.cdi_steps.specs.declared.task.Next.TheVariants as nexts
 use Rattle.cdi_engine.proofs.CommandSteps.{starting_leads, closing_leads, finishing_leads, emptied_leads}
-use Rattle.cdi_steps.proofs.Entries.{stays_falls, lowers_falls}
+use Rattle.cdi_steps.proofs.AfterEntries.{stays_falls, lowers_falls}
 
 module _ (s : Setting) where
   pub cut_leads : (k : Frame) (cause : Cause) (w : World) → ComesTo s (after k (outcomes.Cut cause)) w (nexts.Finished (outcomes.Cut cause)) w

@@ -14,7 +14,7 @@ use cdi_steps::task::{Call, Next, Task};
 use cdi_steps::{Host, creation, destruction, invocations, obtaining};
 
 /// What a task does first.
-#[tactic(auto, using(cdi_steps::proofs::Entries::starts))]
+#[tactic(auto, using(cdi_steps::proofs::AfterEntries::starts))]
 pub(crate) fn step<H: Host>(host: &mut H, task: Task) -> Result<Next, Failure>
     requires { Known (H.setting host.old) task }
     ensures leads { IfOk result (λ next. MovesTo (H.setting host.old) task
@@ -38,7 +38,7 @@ pub(crate) fn step<H: Host>(host: &mut H, task: Task) -> Result<Next, Failure>
 }
 
 /// What a call does first.
-#[tactic(auto, using(cdi_steps::proofs::Entries::starts))]
+#[tactic(auto, using(cdi_steps::proofs::AfterEntries::starts))]
 fn start<H: Host>(host: &mut H, call: Call) -> Result<Next, Failure>
     requires { KnownCall (H.setting host.old) call }
     ensures leads { IfOk result (λ next. MovesTo (H.setting host.old) (Task.Start call)

@@ -20,7 +20,7 @@ use Rattle.cdi_steps.specs.Asked.{number_left}
 use Rattle.cdi_steps.specs.Meanings.{make_instance}
 use Rattle.cdi_steps.specs.Leads.{next_stop, Comes, ComesTo, MovesTo, IsOnWay, Written, Spent}
 use Rattle.cdi_steps.proofs.Narrowing.{comes_before}
-use Rattle.cdi_steps.proofs.Entries.{cut_before, comes_after, on_way_after, on_way_at_start, stays_falls, lowers_falls}
+use Rattle.cdi_steps.proofs.AfterEntries.{cut_before, comes_after, on_way_after, on_way_at_start, stays_falls, lowers_falls}
 use Rattle.cdi_steps.specs.declared.task.Next.{Next}
 use Rattle.cdi_steps.specs.declared.task.Call.TheVariants as calls
 use Rattle.cdi_steps.specs.declared.task.Completion.TheVariants as completions

@@ -25,7 +25,7 @@ use Rattle.cdi_steps.specs.Asked.{HasSeveral, top_of, latest_in}
 use Rattle.cdi_steps.specs.Meanings.{node, let_go, free_dependents, end_clean_up, clean_up_quietly, end_instance}
 use Rattle.cdi_steps.specs.Leads.{next_stop, Comes, ComesTo, MovesTo, Settles, IsOnWay, Written, Spent}
 use Rattle.cdi_steps.proofs.Narrowing.{comes_before}
-use Rattle.cdi_steps.proofs.Entries.{settled, cut_before, comes_after, on_way_after, on_way_at_start, stays_falls, lowers_falls}
+use Rattle.cdi_steps.proofs.AfterEntries.{settled, cut_before, comes_after, on_way_after, on_way_at_start, stays_falls, lowers_falls}
 use Rattle.cdi_steps.specs.declared.task.Call.TheVariants as calls
 use Rattle.cdi_steps.specs.declared.task.Completion.TheVariants as completions
 use Rattle.cdi_steps.specs.declared.task.Given.TheVariants as givens

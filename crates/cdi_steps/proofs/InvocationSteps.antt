@@ -23,7 +23,7 @@ use Rattle.cdi_steps.specs.Asked.{method_in, method_of_component, method_of_inst
 use Rattle.cdi_steps.specs.Words.{running_of}
 use Rattle.cdi_steps.specs.Meanings.{reach_end, end_with}
 use Rattle.std.specs.Global.{Box}
-use Rattle.cdi_steps.proofs.Entries.{on_way_at_start, stays_falls, lowers_falls}
+use Rattle.cdi_steps.proofs.AfterEntries.{on_way_at_start, stays_falls, lowers_falls}
 use Rattle.cdi_steps.specs.Leads.{next_stop, Comes, MovesTo, Settles}
 use Rattle.cdi_steps.specs.declared.task.Call.TheVariants as calls
 use Rattle.cdi_steps.specs.declared.task.Completion.TheVariants as completions

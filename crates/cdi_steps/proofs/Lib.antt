@@ -1,7 +1,7 @@
 pub mod Results
 pub mod Narrowing
 pub mod Cost
-pub mod Entries
+pub mod AfterEntries
 pub mod CreationSteps
 pub mod InvocationSteps
 pub mod ObtainingSteps

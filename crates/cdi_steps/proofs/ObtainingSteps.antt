@@ -18,7 +18,7 @@ use Rattle.cdi_steps.specs.Setting.{Setting}
 use Rattle.cdi_steps.specs.Asked.{of_type}
 use Rattle.cdi_steps.specs.Meanings.{node, use_for, use_lent}
 use Rattle.cdi_steps.specs.Leads.{next_stop, Comes, MovesTo, GoesOn, Settles}
-use Rattle.cdi_steps.proofs.Entries.{on_way_at_start, stays_falls, lowers_falls}
+use Rattle.cdi_steps.proofs.AfterEntries.{on_way_at_start, stays_falls, lowers_falls}
 use Rattle.cdi_steps.specs.declared.task.Call.TheVariants as calls
 use Rattle.cdi_steps.specs.declared.task.Completion.TheVariants as completions
 use Rattle.cdi_steps.specs.declared.task.Given.TheVariants as givens

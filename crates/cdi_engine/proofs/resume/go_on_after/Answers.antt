@@ -2,7 +2,7 @@ use Rattle.cdi_steps.specs.declared.task.Completion.TheVariants as completions
 use Rattle.cdi_steps.specs.Words.{running_of, completion_of}
 use Rattle.cdi_steps.specs.Meanings.{go_on_with}
 use Rattle.cdi_steps.proofs.Results.{map_ok}
-use Rattle.cdi_steps.proofs.Entries.{settled}
+use Rattle.cdi_steps.proofs.AfterEntries.{settled}
 use Rattle.cdi_engine.proofs.CommandSteps.{starting_leads, closing_leads, finishing_leads}
 use Rattle.cdi_engine.proofs.ResumeSteps.{stopped_leads, exited_leads, cleaned_up_leads, threw_at_return, threw_leads, started_leads, gone_down_leads}
 use Rattle.cdi_engine.proofs.resume.go_on_after.Goals as goal
