@@ -1,0 +1,7 @@
+//! The beans of a deployment with their interceptors, observers and disposers (Jakarta CDI 4.0, *Beans*), and the problems of a
+//! deployment in which all names are known.
+#![tactic(auto)]
+
+pub mod bean;
+
+pub use bean::{Bean, BeanKind, BeanList, DisposerMethod, EnabledInterceptor, ObserverMethod};
