@@ -1,5 +1,5 @@
 -- What stands in a deployment, in the order of its places.
-use Rattle.std.specs.Prelude.{ℕ, List, [], ◌∷◌, ◌++◌, map, option_to_list}
+use Rattle.std.specs.Prelude.{ℕ, List, ◌∷◌, ◌++◌, map, option_to_list}
 use Rattle.std.specs.List.{flat_map, enumerate_from}
 use Rattle.cdi_base.specs.declared.place.Place.{Place}
 use Rattle.cdi_base.specs.declared.place.Place.TheVariants as places
@@ -100,8 +100,8 @@ element_of (lent.Member i c m) = Element.AMember i c.now m.now
 element_of (lent.Interceptor i j) = Element.AnInterceptor i j.now
 element_of (lent.InterceptorField i j f) = Element.AnInterceptorField i j.now f.now
 element_of (lent.InterceptorInjectedField i j f) = Element.AnInterceptorInjectedField i j.now f.now
-element_of (lent.SelectedName name) = Element.ASelectedName name
-element_of (lent.OrderedName name) = Element.AnOrderedName name
+element_of (lent.SelectedName name) = Element.ASelectedName name.now
+element_of (lent.OrderedName name) = Element.AnOrderedName name.now
 element_of (lent.Script s) = Element.AScript s.now
 
 abbrev pub shown : List Lent → List Element

@@ -14,6 +14,12 @@ pub record ArePlacesWhere {X : Type 0} (P : X → Type 0) (place : X → Place) 
 abbrev pub ArePlacesOf : (Element → Type 0) → List Element → List Place → Type 0
 ArePlacesOf P elements found = ArePlacesWhere P place_of elements found
 
+-- the same places before each is kept once
+pub record ListPlacesWhere (P : Element → Type 0) (elements : List Element) (found : List Place) : Type 0 where
+  pub those : List Element
+  pub listed : ListsThose P elements those
+  pub are : found ≡ map place_of those
+
 -- an element with those before it
 pub record Placed : Type 0 where
   pub before : List Element

@@ -1,5 +1,6 @@
 -- Places as they are printed, and lists of them.
-use Rattle.std.specs.Prelude.{ℕ, Bool, true, false, not, ◌==◌, ◌&&◌, List, [], ◌∷◌, ◌++◌, filter, codes, slice_get, unwrap_or}
+use Rattle.std.specs.Prelude.{ℕ, Bool, true, false, ◌==◌, ◌&&◌, List, [], ◌∷◌, ◌++◌, fold, codes, slice_get, unwrap_or, if◌then◌else◌}
+use Rattle.std.specs.List.{list_any}
 use Rattle.cdi_base.specs.declared.place.InterceptorMethod.{InterceptorMethod}
 use Rattle.cdi_base.specs.declared.place.InterceptorMethod.TheVariants as methods
 use Rattle.cdi_base.specs.declared.place.Place.{Place}
@@ -36,7 +37,10 @@ same_place (places.Constructor a) (places.Constructor b) = a == b
 same_place (places.Interceptor a m) (places.Interceptor b n) = (a == b) && same_method m n
 same_place _ _ = false
 
+-- a place behind others, unless it stands among them
+abbrev pub with_place : List Place → Place → List Place
+with_place listed place = if list_any (λ other. same_place other place) listed then listed else listed ++ place ∷ []
+
 -- each place once, where it stands first
 abbrev pub once : List Place → List Place
-once [] = []
-once (place ∷ others) = place ∷ filter (λ other. not (same_place place other)) (once others)
+once listed = fold with_place [] listed

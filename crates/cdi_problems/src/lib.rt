@@ -3,7 +3,11 @@
 #![tactic(auto)]
 
 pub mod element;
+pub mod finding;
+pub mod place;
 pub mod problem;
 
-pub use element::Element;
-pub use problem::{Problem, ProblemKind};
+pub use element::{Element, elements_of};
+pub use finding::{Rule, places_where};
+pub use place::{PlaceText, once};
+pub use problem::{Problem, ProblemKind, ProblemText, problems_at};

@@ -1,8 +1,11 @@
 //! The problems of a deployment.
-ghost use Rattle.std.specs.Prelude.{◌≡◌, Some};
-ghost use Rattle.cdi_problems.specs.Words.{kind_text};
+ghost use Rattle.std.specs.Prelude.{◌≡◌, Some, IfOk};
+ghost use Rattle.cdi_problems.specs.Words as spec;
+ghost use Rattle.cdi_problems.specs.Words.{kind_text, problem_text};
 
-use cdi_base::Place;
+use crate::place::PlaceText;
+use cdi_base::{Names, Place, Seq};
+use std::alloc::{AllocError, Global};
 use std::fmt;
 
 /// The kinds of problems, in the order of their numbers (Jakarta CDI 4.0, *Problems detected automatically by the container*).
@@ -100,4 +103,48 @@ impl fmt::Display for ProblemKind {
     fn fmt<W: fmt::Write>(&self, f: &mut fmt::Formatter<W>) -> fmt::Result {
         f.write_str(self.text())
     }
+}
+
+/// A problem as it is printed: its kind, and its place if it has one.
+#[derive(Clone, Copy)]
+pub struct ProblemText<'a> {
+    /// The table that has the names of the place.
+    pub names: &'a Names,
+    pub problem: &'a Problem,
+}
+
+impl fmt::Display for ProblemText<'_> {
+    ghost output = { λ text. Some (problem_text text.names.now text.problem.now) };
+
+    fn fmt<W: fmt::Write>(&self, f: &mut fmt::Formatter<W>) -> fmt::Result {
+        let kind = self.problem.kind;
+        match &self.problem.place {
+            Some(place) => {
+                let place = PlaceText {
+                    names: self.names,
+                    place,
+                };
+                write!(f, "{kind} {place}")
+            }
+            None => write!(f, "{kind}"),
+        }
+    }
+}
+
+/// The problems of a kind at these places.
+pub fn problems_at(
+    alloc: Global,
+    kind: ProblemKind,
+    places: &[Place],
+) -> Result<Seq<Problem>, AllocError>
+    ensures { IfOk result (λ problems. problems ≡ spec.problems_at kind places.now) }
+{
+    let mut problems = Seq::empty(alloc);
+    for place in places {
+        problems.push(Problem {
+            kind,
+            place: Some(*place),
+        })?;
+    }
+    Ok(problems)
 }
