@@ -2,6 +2,10 @@
 //! deployment in which all names are known.
 #![tactic(auto)]
 
+pub mod abstract_bean;
 pub mod bean;
+pub mod bindings;
 
+pub use abstract_bean::AbstractBean;
 pub use bean::{Bean, BeanKind, BeanList, DisposerMethod, EnabledInterceptor, ObserverMethod};
+pub use bindings::TwoBindingsOfOneType;

@@ -3,5 +3,7 @@
 #![tactic(auto)]
 
 pub mod claim;
+pub mod cyclic_hierarchy;
 
 pub use claim::Claim;
+pub use cyclic_hierarchy::CyclicHierarchy;
