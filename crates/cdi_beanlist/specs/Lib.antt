@@ -6,6 +6,7 @@ pub mod Inherited
 pub mod Interceptors
 pub mod Limits
 pub mod ManagedBeans
+pub mod NameSets
 pub mod Observers
 pub mod Qualifiers
 pub mod Repeated

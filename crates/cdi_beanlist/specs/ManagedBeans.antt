@@ -1,6 +1,6 @@
 -- Classes that are beans, and what they specialize.
-use Rattle.std.specs.Prelude.{ℕ, Bool, true, false, not, ◌==◌, ◌&&◌, List, Option, Some, None, is_some, IsTrue, option_and_then}
-use Rattle.std.specs.List.{find}
+use Rattle.std.specs.Prelude.{ℕ, Bool, true, false, not, ◌==◌, ◌&&◌, List, map, filter, Option, Some, None, is_some, IsTrue, option_and_then}
+use Rattle.std.specs.List.{find, list_any}
 use Rattle.cdi_base.specs.declared.scope.Scope.{Scope}
 use Rattle.cdi_base.specs.declared.scope.Scope.TheVariants as scopes
 use Rattle.cdi_deploy.specs.declared.deployment.Bean.{Bean}
@@ -22,8 +22,20 @@ bean_class classes name = find (λ c. (c.name == name) && is_bean c) classes
 abbrev pub extended_bean : List Class → Class → Option Class
 extended_bean classes c = option_and_then (bean_class classes) c.extends
 
-abbrev pub specializes_nothing : List Class → Class → Bool
-specializes_nothing classes c = says_specializes c.bean && not (is_some (extended_bean classes c))
+-- the names of the classes that are beans
+abbrev pub bean_names : List Class → List ℕ
+bean_names classes = map (λ c. c.name) (filter is_bean classes)
+
+abbrev pub stands_in : List ℕ → ℕ → Bool
+stands_in names name = list_any (λ n. n == name) names
+
+abbrev pub is_one_of : List ℕ → Option ℕ → Bool
+is_one_of names None = false
+is_one_of names (Some name) = stands_in names name
+
+-- a class directly extends one of these
+abbrev pub extends_one_of : List ℕ → Class → Bool
+extends_one_of names c = is_one_of names c.extends
 
 -- P4 AbstractBean: a bean's class is abstract
 abbrev pub IsAbstractBean : Element → Type 0
@@ -31,9 +43,9 @@ IsAbstractBean (Element.AClass i c) = IsTrue (is_bean c && c.is_abstract)
 IsAbstractBean _ = ⊥
 
 -- P6 SpecializesNothing: a bean specializes and its class doesn't directly extend a bean's class
-abbrev pub SpecializesNothing : List Class → Element → Type 0
-SpecializesNothing classes (Element.AClass i c) = IsTrue (specializes_nothing classes c)
-SpecializesNothing classes _ = ⊥
+abbrev pub SpecializesNothing : List ℕ → Element → Type 0
+SpecializesNothing beans (Element.AClass i c) = IsTrue (says_specializes c.bean && not (extends_one_of beans c))
+SpecializesNothing beans _ = ⊥
 
 abbrev pub is_dependent : Scope → Bool
 is_dependent scopes.Dependent = true

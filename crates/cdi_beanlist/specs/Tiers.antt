@@ -13,7 +13,7 @@ use Rattle.cdi_beanlist.specs.BeanTypes.{HasTypedNotAType, HasSpecializedTypeLos
 use Rattle.cdi_beanlist.specs.BindingLists.{HasTwoBindingsOfOneType}
 use Rattle.cdi_beanlist.specs.Disposers.{IsUnmatchedDisposer, HasTwoDisposers}
 use Rattle.cdi_beanlist.specs.Limits.{HasTooMany}
-use Rattle.cdi_beanlist.specs.ManagedBeans.{IsAbstractBean, SpecializesNothing}
+use Rattle.cdi_beanlist.specs.ManagedBeans.{bean_names, IsAbstractBean, SpecializesNothing}
 use Rattle.cdi_beanlist.specs.Observers.{IsConditionalDependent}
 use Rattle.cdi_beanlist.specs.Repeated.{RepeatsSuperclass}
 
@@ -35,7 +35,7 @@ pub record AreBeanProblems (d : Deployment) (qualifiers : List QualifierType) (p
   pub typed : List Place
   pub are_typed : PlacesIn d (HasTypedNotAType (declarations_of d)) typed
   pub specializing : List Place
-  pub are_specializing : PlacesIn d (SpecializesNothing d.classes) specializing
+  pub are_specializing : PlacesIn d (SpecializesNothing (bean_names d.classes)) specializing
   pub losing : List Place
   pub are_losing : PlacesIn d (HasSpecializedTypeLost d.classes (declarations_of d)) losing
   pub unmatched : List Place

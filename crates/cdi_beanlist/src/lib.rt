@@ -4,8 +4,12 @@
 
 pub mod abstract_bean;
 pub mod bean;
+pub mod bean_names;
 pub mod bindings;
+pub mod specialization;
 
 pub use abstract_bean::AbstractBean;
 pub use bean::{Bean, BeanKind, BeanList, DisposerMethod, EnabledInterceptor, ObserverMethod};
+pub use bean_names::BeanNames;
 pub use bindings::TwoBindingsOfOneType;
+pub use specialization::SpecializesNothing;
