@@ -3,6 +3,7 @@ use Rattle.std.specs.Prelude.{ℕ, ◌≡◌, Bool, true, ◌==◌, ◌||◌, Li
 use Rattle.std.specs.List.{list_any}
 use Rattle.cdi_deploy.specs.declared.deployment.Bean.{Bean}
 use Rattle.cdi_deploy.specs.declared.deployment.Class.{Class}
+use Rattle.cdi_deploy.specs.declared.deployment.Member.{Member}
 use Rattle.cdi_deploy.specs.declared.deployment.Member.TheVariants as members
 use Rattle.cdi_problems.specs.Elements.{Element}
 use Rattle.cdi_types.specs.declared.declaration.TypeDeclaration.{TypeDeclaration}
@@ -33,11 +34,21 @@ abbrev pub restriction : Option Bean → Option (List ℕ)
 restriction None = None
 restriction (Some b) = b.typed
 
+-- a producer that is restricted wrongly
+abbrev pub IsProductWrong : List TypeDeclaration → Member → Type 0
+IsProductWrong types (members.Producer p) = RestrictedWrongly types p.ty p.typed
+IsProductWrong types (members.ProducerField p) = RestrictedWrongly types p.ty p.typed
+IsProductWrong types _ = ⊥
+
+-- only the producers of a bean make beans
+pub record IsMemberWrong (types : List TypeDeclaration) (c : Class) (m : Member) : Type 0 where
+  pub of_bean : IsTrue (is_bean c)
+  pub wrong : IsProductWrong types m
+
 -- P5 TypedNotAType: the restriction of a bean or of a bean's producer lists a type outside the unrestricted ones
 abbrev pub HasTypedNotAType : List TypeDeclaration → Element → Type 0
 HasTypedNotAType types (Element.AClass i c) = RestrictedWrongly types c.name (restriction c.bean)
-HasTypedNotAType types (Element.AMember i c (members.Producer p)) = IsTrue (is_bean c) × RestrictedWrongly types p.ty p.typed
-HasTypedNotAType types (Element.AMember i c (members.ProducerField p)) = IsTrue (is_bean c) × RestrictedWrongly types p.ty p.typed
+HasTypedNotAType types (Element.AMember i c m) = IsMemberWrong types c m
 HasTypedNotAType types _ = ⊥
 
 abbrev pub IsTypeOfClass : List TypeDeclaration → Class → ℕ → Type 0

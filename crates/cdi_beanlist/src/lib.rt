@@ -7,9 +7,11 @@ pub mod bean;
 pub mod bean_names;
 pub mod bindings;
 pub mod specialization;
+pub mod typed;
 
 pub use abstract_bean::AbstractBean;
 pub use bean::{Bean, BeanKind, BeanList, DisposerMethod, EnabledInterceptor, ObserverMethod};
 pub use bean_names::BeanNames;
 pub use bindings::TwoBindingsOfOneType;
 pub use specialization::SpecializesNothing;
+pub use typed::TypedNotAType;

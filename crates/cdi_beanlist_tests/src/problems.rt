@@ -173,13 +173,41 @@ fn lines_of(rt: &impl Abort, alloc: Global, deployment: &Deployment) -> String {
     let mut text = String::new(alloc);
     let types = TypeGraph::build(alloc, deployment).expect(rt, "memory");
     let cyclic = CyclicHierarchy { types: &types };
-    add_found(rt, alloc, deployment, ProblemKind::CyclicHierarchy, &cyclic, &mut text);
-    add_found(rt, alloc, deployment, ProblemKind::AbstractBean, &AbstractBean, &mut text);
+    add_found(
+        rt,
+        alloc,
+        deployment,
+        ProblemKind::CyclicHierarchy,
+        &cyclic,
+        &mut text,
+    );
+    add_found(
+        rt,
+        alloc,
+        deployment,
+        ProblemKind::AbstractBean,
+        &AbstractBean,
+        &mut text,
+    );
     let beans = BeanNames::build(alloc, deployment.classes.as_slice()).expect(rt, "memory");
     let specializing = SpecializesNothing { beans: &beans };
-    add_found(rt, alloc, deployment, ProblemKind::SpecializesNothing, &specializing, &mut text);
+    add_found(
+        rt,
+        alloc,
+        deployment,
+        ProblemKind::SpecializesNothing,
+        &specializing,
+        &mut text,
+    );
     let bindings = TwoBindingsOfOneType;
-    add_found(rt, alloc, deployment, ProblemKind::TwoBindingsOfOneType, &bindings, &mut text);
+    add_found(
+        rt,
+        alloc,
+        deployment,
+        ProblemKind::TwoBindingsOfOneType,
+        &bindings,
+        &mut text,
+    );
     text
 }
 
@@ -219,7 +247,8 @@ fn order_of_places(rt: HostRuntime) -> Result<(), Fail> {
     };
     add_class(&rt, alloc, &mut deployment, &class);
     add_cyclic_interface(&rt, alloc, &mut deployment, "I");
-    let wanted = "P3 CyclicHierarchy I\nP3 CyclicHierarchy K\nP11 TwoBindingsOfOneType K\nP11 TwoBindingsOfOneType J\n";
+    let wanted =
+        "P3 CyclicHierarchy I\nP3 CyclicHierarchy K\nP11 TwoBindingsOfOneType K\nP11 TwoBindingsOfOneType J\n";
     check(&rt, alloc, &deployment, wanted);
     Ok(())
 }
