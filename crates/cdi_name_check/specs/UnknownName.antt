@@ -21,17 +21,23 @@ stands_in listed name = list_any (λ n. n == name) listed
 abbrev pub is_built_in : BuiltIn → ℕ → Bool
 is_built_in n name = number_of n == name
 
+-- a class of the deployment that isn't final
+abbrev pub is_open_class : Deployment → ℕ → Bool
+is_open_class d name = list_any (λ c. (c.name == name) && not c.is_final) d.classes
+
 -- what a class may extend: Object, or a class that isn't final
 abbrev pub is_extensible : Deployment → ℕ → Bool
-is_extensible d name = is_built_in names.Object name || list_any (λ c. (c.name == name) && not c.is_final) d.classes
+is_extensible d name = is_built_in names.Object name || is_open_class d name
 
 abbrev pub is_interface : Deployment → ℕ → Bool
 is_interface d name = list_any (λ i. i.name == name) d.interfaces
 
+abbrev pub is_declared_class : Deployment → ℕ → Bool
+is_declared_class d name = list_any (λ c. c.name == name) d.classes
+
 abbrev pub is_class : Deployment → ℕ → Bool
 is_class d name =
-    is_built_in names.Object name || is_built_in names.Startup name || is_built_in names.Shutdown name
-    || list_any (λ c. c.name == name) d.classes
+    is_built_in names.Object name || is_built_in names.Startup name || is_built_in names.Shutdown name || is_declared_class d name
 
 abbrev pub is_type : Deployment → ℕ → Bool
 is_type d name = is_class d name || is_interface d name
@@ -63,11 +69,12 @@ abbrev pub is_qualifier_member : Deployment → ℕ → ℕ → Bool
 is_qualifier_member d name member =
     has_member d.qualifiers name member || (is_valued_qualifier name && is_built_in names.Value member)
 
+abbrev pub is_qualifier : Deployment → ℕ → Bool
+is_qualifier d name = is_plain_qualifier name || is_valued_qualifier name || is_declared d.qualifiers name
+
 -- a use of a qualifier: its type is known, and each member is one of the type's
 abbrev pub is_qualifier_use : Deployment → Use → Bool
-is_qualifier_use d u =
-    (is_plain_qualifier u.name || is_valued_qualifier u.name || is_declared d.qualifiers u.name)
-    && list_all (λ m. is_qualifier_member d u.name m.name) u.members
+is_qualifier_use d u = is_qualifier d u.name && list_all (λ m. is_qualifier_member d u.name m.name) u.members
 
 abbrev pub is_binding_use : Deployment → Use → Bool
 is_binding_use d u = is_declared d.bindings u.name && list_all (λ m. has_member d.bindings u.name m.name) u.members

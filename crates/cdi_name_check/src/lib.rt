@@ -4,6 +4,8 @@
 
 pub mod claim;
 pub mod cyclic_hierarchy;
+pub mod unknown_name;
 
 pub use claim::Claim;
 pub use cyclic_hierarchy::CyclicHierarchy;
+pub use unknown_name::UnknownName;
