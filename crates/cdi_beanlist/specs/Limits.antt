@@ -1,0 +1,35 @@
+-- How many beans and observers there are.
+use Rattle.std.specs.Prelude.{ℕ, ◌≡◌, ◌+◌, ◌<◌, Bool, true, false, List, filter, count_by, sum_by, if◌then◌else◌, ◌⊎◌}
+use Rattle.std.specs.List.{AllZip}
+use Rattle.cdi_deployment.specs.declared.deployment.Class.{Class}
+use Rattle.cdi_deployment.specs.declared.deployment.Member.{Member}
+use Rattle.cdi_deployment.specs.declared.deployment.Member.TheVariants as members
+use Rattle.cdi_types.specs.declared.declaration.TypeDeclaration.{TypeDeclaration}
+use Rattle.cdi_beanlist.specs.Inherited.{Declared, AreMembersOf}
+use Rattle.cdi_beanlist.specs.ManagedBeans.{is_bean}
+
+abbrev pub is_producer : Member → Bool
+is_producer (members.Producer p) = true
+is_producer (members.ProducerField p) = true
+is_producer m = false
+
+-- a managed bean and its products
+abbrev pub beans_in : Class → ℕ
+beans_in c = if is_bean c then 1 + count_by is_producer c.members else 0
+
+abbrev pub bean_count : List Class → ℕ
+bean_count classes = sum_by beans_in classes
+
+abbrev pub is_observer : Member → Bool
+is_observer (members.Observer o) = true
+is_observer m = false
+
+-- how many observers the beans have, those that they inherit too
+pub record IsObserverCount (classes : List Class) (types : List TypeDeclaration) (count : ℕ) : Type 0 where
+  pub members_of_beans : List (List Declared)
+  pub each : AllZip (AreMembersOf classes types) (filter is_bean classes) members_of_beans
+  pub sum : count ≡ sum_by (count_by (λ d. is_observer d.member)) members_of_beans
+
+-- P22 TooMany: over 4,096 managed beans and products together, or over 16,384 observers with the inherited ones
+abbrev pub HasTooMany : List Class → List TypeDeclaration → Type 0
+HasTooMany classes types = (4096 < bean_count classes) ⊎ ((count : ℕ) × IsObserverCount classes types count × (16384 < count))

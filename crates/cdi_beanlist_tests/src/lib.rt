@@ -1,0 +1,7 @@
+//! Tests of the problems of names and beans.
+#![tactic(auto)]
+
+#[cfg(test)]
+mod deployments;
+#[cfg(test)]
+mod problems;

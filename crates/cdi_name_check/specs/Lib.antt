@@ -1,0 +1,4 @@
+pub mod CyclicHierarchy
+pub mod DuplicateName
+pub mod NameProblems
+pub mod UnknownName

@@ -1,0 +1,11 @@
+//! Names that stand twice, names that aren't known, and types above themselves: the problems of a deployment that are looked for
+//! before all others.
+#![tactic(auto)]
+
+pub mod claim;
+pub mod cyclic_hierarchy;
+pub mod unknown_name;
+
+pub use claim::Claim;
+pub use cyclic_hierarchy::CyclicHierarchy;
+pub use unknown_name::UnknownName;

@@ -1,0 +1,4 @@
+pub mod Elements
+pub mod Findings
+pub mod Places
+pub mod Words

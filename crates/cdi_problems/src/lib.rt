@@ -1,0 +1,13 @@
+//! Problems of a deployment (Jakarta CDI 4.0, *Problems detected automatically by the container*), with their words, and the
+//! elements of a deployment at whose places they stand, in the order of these places.
+#![tactic(auto)]
+
+pub mod element;
+pub mod finding;
+pub mod place;
+pub mod problem;
+
+pub use element::{Element, elements_of};
+pub use finding::{Rule, places_where};
+pub use place::{PlaceText, once};
+pub use problem::{Problem, ProblemKind, ProblemText, problems_at};
