@@ -17,9 +17,9 @@ use crate::acceptance::Accepted;
 use crate::reply::{cause, has_value, reply_of};
 use cdi_base::{Cause, Command, Limits, Names, Refusal, Reply, Text};
 use cdi_engine::run::run;
-use cdi_steps::{Job, Outcome};
 use cdi_machine::Driver;
 use cdi_runtime::Runtime;
+use cdi_steps::{Job, Outcome};
 use std::alloc::Global;
 use std::marker::Model;
 

@@ -10,9 +10,9 @@ use cdi_container::{Accepted, accept};
 use cdi_deploy::read;
 use cdi_deployment::Deployment;
 use cdi_engine::run::run;
-use cdi_steps::{Completion, Given, Job, Outcome};
 use cdi_machine::{Driver, Failure};
 use cdi_runtime::Runtime;
+use cdi_steps::{Completion, Given, Job, Outcome};
 use std::alloc::{AllocError, Global};
 use std::test::Fail;
 

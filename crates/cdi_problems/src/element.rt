@@ -6,7 +6,7 @@ ghost use Rattle.cdi_problems.specs.Elements as spec;
 mod owned;
 
 use cdi_base::{Name, Place};
-use cdi_deploy::{
+use cdi_deployment::{
     AnnotationType, Class, Constructor, Deployment, Exception, Field, InjectedField, Interceptor,
     Interface, Member, Script,
 };

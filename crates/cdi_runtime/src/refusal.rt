@@ -9,8 +9,8 @@ ghost use Rattle.cdi_runtime.specs.Refusals.{call_refusal, in_request, method_re
 use crate::runtime::Runtime;
 use cdi_base::{BuiltIn, Name, Refusal, Text};
 use cdi_beans::bean::{Code, Method, Resolution};
-use cdi_steps::Job;
 use cdi_machine::Driver;
+use cdi_steps::Job;
 
 /// Whether a name is a type: a class of the deployment, or a built-in one.
 fn is_type(classes: &[Name], name: Name) -> bool
