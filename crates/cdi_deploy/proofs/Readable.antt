@@ -1,10 +1,8 @@
 -- What is read is readable, is within its limits and knows its names, and what is readable is read.
-use Rattle.std.proofs.Common.{◌≡◌, ◌∙◌, ℕ, ◌≤◌, Bool, true, false, not, List, [], length, nat_lt, nat_le, Option, Some, None, Result, Ok, Err, IfOk, IsOk, if◌then◌else◌, refl, sym, ap, subst, arith}
-use Rattle.std.proofs.lemmas.Bool.{leb-true, le-leb}
+use Rattle.std.proofs.Common.{◌≡◌, ◌∙◌, ℕ, ◌≤◌, Bool, true, false, not, List, [], length, Option, Some, None, Result, Ok, Err, IfOk, IsOk, if◌then◌else◌, refl, sym, ap, subst, arith}
 use Rattle.std.specs.Result.{is_ok}
 use Rattle.cdi_base.specs.declared.stage.Stage.{Stage}
 use Rattle.cdi_base.specs.BuiltIn.{built_in_names}
-use Rattle.cdi_base.specs.Name.{is_known}
 use Rattle.cdi_base.specs.Reading.{◌>>=◌}
 use Rattle.cdi_form.specs.Names.{names_fit}
 use Rattle.cdi_form.specs.Numbers.{numbers_fit}
@@ -14,7 +12,6 @@ use Rattle.cdi_form.proofs.NamePlaces.{is_name-of_fitting, names_fit-of}
 use Rattle.cdi_json.specs.Json.{json_in}
 use Rattle.serde_json.specs.Data.{Data}
 use Rattle.cdi_deploy.specs.declared.fault.ReadFault.{ReadFault}
-use Rattle.cdi_deploy.specs.declared.fault.ReadFault.TheVariants as faults
 use Rattle.cdi_deployment.specs.declared.deployment.Deployment.{Deployment}
 use Rattle.cdi_deploy.specs.Items.{lists_in}
 use Rattle.cdi_deployment.specs.KnownNames.{KnowsNames}
@@ -22,7 +19,6 @@ use Rattle.cdi_deployment.specs.Limits.{is_within}
 use Rattle.cdi_deploy.specs.Naming.{Table}
 use Rattle.cdi_deploy.specs.Readable.{IsReadable}
 use Rattle.cdi_deploy.specs.Reading.{or_not_json, root, or_shape, table_of, within_limits, lists_at, deployment_at, is_too_long, read_at}
-use Rattle.cdi_deploy.proofs.Covered.{Covers}
 use Rattle.cdi_deploy.proofs.Known.{lists-know}
 use Rattle.cdi_deploy.proofs.Tables.{names-add}
 

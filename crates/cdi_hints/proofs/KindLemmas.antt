@@ -1,5 +1,5 @@
 -- The kind of a hint fits what reading gives.
-use Rattle.std.proofs.Common.{◌≡◌, ◌∙◌, ℕ, ◌+◌, ◌==◌, Bool, true, false, not, cond, List, [], ◌∷◌, codes, length, nat_lt, Option, Some, None, option_map, option_and_then, Result, Ok, Err, IfSome, IsSomeAnd, find, take, if◌then◌else◌, refl, sym, ap, subst}
+use Rattle.std.proofs.Common.{◌≡◌, ◌∙◌, ℕ, ◌+◌, ◌==◌, Bool, true, false, not, List, [], ◌∷◌, codes, length, Option, Some, None, option_map, option_and_then, Result, Ok, Err, IfSome, IsSomeAnd, find, take, if◌then◌else◌, refl, sym, subst}
 use Rattle.std.specs.Bool.{MatchBool}
 use Rattle.std.specs.Option.{option_or, is_none}
 use Rattle.std.specs.Str.{is_utf8}
@@ -20,7 +20,7 @@ use Rattle.cdi_form.specs.Shape.{wrong}
 use Rattle.cdi_deploy.specs.Reading.{is_too_long, or_not_json, or_shape, root, within_limits, lists_of, deployment_at, deployment_of, deployment_in, read_at}
 use Rattle.cdi_script.specs.Form.{is_script}
 use Rattle.cdi_text.specs.Places.{name_text}
-use Rattle.cdi_hints.specs.BadStep.{bad_step, bad_step_of, first_bad_step}
+use Rattle.cdi_hints.specs.BadStep.{bad_step, bad_step_of}
 use Rattle.cdi_hints.specs.Hint.{IsHintBy, IsHintFor, bad_name, hint_by, hint_of}
 use Rattle.cdi_hints.specs.Kinds.{FitsReading, IsList, IsName, IsStep, lists_in}
 use Rattle.cdi_hints.specs.LongList.{class_list_at, first_beyond, first_long_list, item_at, list_at, long_item, long_list_in_classes, long_list_key, long_list_of_class}

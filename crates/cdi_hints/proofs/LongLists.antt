@@ -1,11 +1,11 @@
 -- No long list is found exactly where a deployment is within the limits.
-use Rattle.std.proofs.Common.{◌≡◌, ◌∙◌, ℕ, ◌+◌, Bool, true, false, not, ◌&&◌, List, [], ◌∷◌, length, Option, Some, None, cond, option_map, if◌then◌else◌, refl, ap₂}
+use Rattle.std.proofs.Common.{◌≡◌, ◌∙◌, ℕ, ◌+◌, Bool, true, false, not, ◌&&◌, List, [], ◌∷◌, length, Option, Some, None, cond, option_map, if◌then◌else◌, refl}
 use Rattle.std.specs.List.{list_all, position_from}
 use Rattle.std.specs.Option.{is_none, option_or}
 use Rattle.cdi_deployment.specs.declared.deployment.Class.{Class}
 use Rattle.cdi_deployment.specs.declared.deployment.Deployment.{Deployment}
 use Rattle.cdi_deployment.specs.Limits.{is_at_most, are_fields_within, are_types_within, is_annotation_type_within, is_class_within, is_interceptor_within, is_interface_within, is_length_within, is_within}
-use Rattle.cdi_hints.specs.LongList.{first_beyond, first_long_list, item_at, list_at, long_item, long_list_in_classes, long_list_key, long_list_of_class}
+use Rattle.cdi_hints.specs.LongList.{first_beyond, first_long_list, list_at, long_item, long_list_in_classes, long_list_key, long_list_of_class}
 use Rattle.cdi_hints.proofs.Options.{both_none}
 
 -- ---- one of several that is not so

@@ -1,5 +1,5 @@
 -- A deployment that was read has at most 1,024 scripts.
-use Rattle.std.proofs.Common.{◌≡◌, ℕ, ◌+◌, ◌≤◌, nat_le, Bool, true, false, ◌&&◌, List, [], ◌∷◌, ◌++◌, length, length-append, Option, Some, None, Result, Ok, Err, IfOk, if◌then◌else◌, refl, subst, arith}
+use Rattle.std.proofs.Common.{◌≡◌, ℕ, ◌+◌, ◌≤◌, nat_le, Bool, true, false, ◌&&◌, List, [], ◌∷◌, ◌++◌, length, length-append, Result, Ok, Err, IfOk, refl, subst, arith}
 use Rattle.cdi_base.specs.Reading.{◌>>=◌}
 use Rattle.cdi_base.specs.Stage.{served}
 use Rattle.cdi_deployment.specs.declared.deployment.Deployment.{Deployment}
