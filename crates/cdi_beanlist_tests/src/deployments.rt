@@ -1,6 +1,10 @@
 //! Small deployments.
 use cdi_base::{Name, Names, Scope, Seq, Use, is_name};
+<<<<<<< HEAD
 use cdi_deployment::{Bean, Class, Deployment, Interceptor, Interface, Member, Method};
+=======
+use cdi_deployment::{AnnotationType, Bean, Class, Deployment, Interceptor, Interface, Member, Method};
+>>>>>>> cebc44ac008c858944f665590893e9e6b2ba1bb5
 use std::alloc::Global;
 use std::process::Abort;
 
@@ -12,7 +16,10 @@ pub(crate) struct ClassRow<'a> {
     pub(crate) extends: &'a str,
     pub(crate) is_bean: bool,
     pub(crate) is_abstract: bool,
+    pub(crate) is_final: bool,
     pub(crate) specializes: bool,
+    /// What restricts its types, with blanks between them; nothing does if it is empty.
+    pub(crate) typed: &'a str,
     /// The types of its bindings, with blanks between them.
     pub(crate) bindings: &'a str,
     /// The types of the bindings of its method `m`, which it has if there are any.
@@ -25,7 +32,9 @@ pub(crate) const PLAIN: ClassRow<'static> = ClassRow {
     extends: "",
     is_bean: true,
     is_abstract: false,
+    is_final: false,
     specializes: false,
+    typed: "",
     bindings: "",
     method_bindings: "",
 };
@@ -51,8 +60,31 @@ fn uses_in(rt: &impl Abort, alloc: Global, names: &mut Names, texts: &str) -> Se
     uses
 }
 
+/// Adds a binding type without members.
+fn add_binding(rt: &impl Abort, alloc: Global, to: &mut Deployment, text: &str) {
+    let declared = AnnotationType {
+        name: name(rt, &mut to.names, text),
+        members: Seq::empty(alloc),
+        nonbinding: Seq::empty(alloc),
+    };
+    to.bindings.push(declared).expect(rt, "memory");
+}
+
+/// A deployment with the binding types B and C alone.
+pub(crate) fn with_bindings(rt: &impl Abort, alloc: Global) -> Deployment {
+    let mut deployment = empty(rt, alloc);
+    add_binding(rt, alloc, &mut deployment, "B");
+    add_binding(rt, alloc, &mut deployment, "C");
+    deployment
+}
+
+/// Selects the alternatives of these classes.
+pub(crate) fn select(rt: &impl Abort, alloc: Global, to: &mut Deployment, texts: &str) {
+    to.selected = names_in(rt, alloc, &mut to.names, texts);
+}
+
 /// An empty deployment with the built-in names.
-pub(crate) fn empty(rt: &impl Abort, alloc: Global) -> Deployment {
+fn empty(rt: &impl Abort, alloc: Global) -> Deployment {
     Deployment {
         names: Names::with_built_in(alloc).expect(rt, "memory"),
         interfaces: Seq::empty(alloc),
@@ -67,14 +99,34 @@ pub(crate) fn empty(rt: &impl Abort, alloc: Global) -> Deployment {
     }
 }
 
-fn bean_of(alloc: Global, row: &ClassRow<'_>) -> Option<Bean> {
+fn names_in(rt: &impl Abort, alloc: Global, names: &mut Names, texts: &str) -> Seq<Name> {
+    let mut found = Seq::empty(alloc);
+    for text in texts.split(' ') {
+        found.push(name(rt, names, text)).expect(rt, "memory");
+    }
+    found
+}
+
+fn restriction_of(
+    rt: &impl Abort,
+    alloc: Global,
+    names: &mut Names,
+    row: &ClassRow<'_>,
+) -> Option<Seq<Name>> {
+    if row.typed.is_empty() {
+        return None;
+    }
+    Some(names_in(rt, alloc, names, row.typed))
+}
+
+fn bean_of(rt: &impl Abort, alloc: Global, names: &mut Names, row: &ClassRow<'_>) -> Option<Bean> {
     if !row.is_bean {
         return None;
     }
     Some(Bean {
         scope: Scope::Dependent,
         quals: Seq::empty(alloc),
-        typed: None,
+        typed: restriction_of(rt, alloc, names, row),
         alternative: false,
         priority: None,
         specializes: row.specializes,
@@ -114,9 +166,9 @@ pub(crate) fn add_class(rt: &impl Abort, alloc: Global, to: &mut Deployment, row
         extends: superclass_of(rt, &mut to.names, row),
         implements: Seq::empty(alloc),
         is_abstract: row.is_abstract,
-        is_final: false,
+        is_final: row.is_final,
         bindings: uses_in(rt, alloc, &mut to.names, row.bindings),
-        bean: bean_of(alloc, row),
+        bean: bean_of(rt, alloc, &mut to.names, row),
         fields: Seq::empty(alloc),
         inject: Seq::empty(alloc),
         constructor: None,

@@ -1,13 +1,21 @@
 //! Problems of classes, as they are printed.
 use crate::deployments::{
-    ClassRow, PLAIN, add_class, add_cyclic_interface, add_interceptor, empty,
+    ClassRow, PLAIN, add_class, add_cyclic_interface, add_interceptor, select, with_bindings,
 };
 use cdi_base::{Names, Place};
+<<<<<<< HEAD
 use cdi_beanlist::{AbstractBean, BeanNames, SpecializesNothing, TwoBindingsOfOneType};
 use cdi_deployment::Deployment;
 use cdi_name_check::CyclicHierarchy;
+=======
+use cdi_beanlist::{
+    AbstractBean, BeanNames, SpecializesNothing, TwoBindingsOfOneType, TypedNotAType,
+};
+use cdi_deployment::Deployment;
+use cdi_name_check::{CyclicHierarchy, UnknownName};
+>>>>>>> cebc44ac008c858944f665590893e9e6b2ba1bb5
 use cdi_problems::{ProblemKind, ProblemText, Rule, elements_of, places_where, problems_at};
-use cdi_types::TypeGraph;
+use cdi_types::{TypeGraph, TypeTable};
 use std::alloc::Global;
 use std::process::Abort;
 use std::test::Fail;
@@ -135,6 +143,88 @@ const ROWS: &[Row<'static>] = &[
         }],
         wanted: "",
     },
+    Row {
+        classes: &[ClassRow {
+            extends: "Z",
+            ..PLAIN
+        }],
+        wanted: "P2 UnknownName K\n",
+    },
+    Row {
+        classes: &[ClassRow {
+            extends: "Object",
+            ..PLAIN
+        }],
+        wanted: "",
+    },
+    Row {
+        classes: &[ClassRow {
+            extends: "Startup",
+            ..PLAIN
+        }],
+        wanted: "P2 UnknownName K\n",
+    },
+    Row {
+        classes: &[
+            ClassRow {
+                extends: "L",
+                ..PLAIN
+            },
+            ClassRow {
+                name: "L",
+                is_final: true,
+                ..PLAIN
+            },
+        ],
+        wanted: "P2 UnknownName K\n",
+    },
+    Row {
+        classes: &[ClassRow {
+            bindings: "B D",
+            method_bindings: "D",
+            ..PLAIN
+        }],
+        wanted: "P2 UnknownName K\nP2 UnknownName K#m\n",
+    },
+    Row {
+        classes: &[ClassRow {
+            typed: "Object",
+            ..PLAIN
+        }],
+        wanted: "",
+    },
+    Row {
+        classes: &[ClassRow {
+            typed: "Z",
+            ..PLAIN
+        }],
+        wanted: "P2 UnknownName K\nP5 TypedNotAType K\n",
+    },
+    Row {
+        classes: &[
+            ClassRow {
+                typed: "K L",
+                ..PLAIN
+            },
+            ClassRow { name: "L", ..PLAIN },
+        ],
+        wanted: "P5 TypedNotAType K\n",
+    },
+    Row {
+        classes: &[
+            ClassRow {
+                typed: "L",
+                extends: "L",
+                ..PLAIN
+            },
+            ClassRow {
+                name: "L",
+                typed: "K",
+                ..PLAIN
+            },
+        ],
+        wanted: "P5 TypedNotAType L\n",
+    },
 ];
 
 /// Adds the lines of the problems of a kind.
@@ -168,9 +258,18 @@ fn add_found<R: Rule>(
     add_lines(rt, alloc, &deployment.names, kind, places.as_slice(), text);
 }
 
-/// The lines of a deployment's problems, of those that are looked for here.
+/// The lines of a deployment's problems, of those that are looked for here, each kind by itself.
 fn lines_of(rt: &impl Abort, alloc: Global, deployment: &Deployment) -> String {
     let mut text = String::new(alloc);
+    let unknown = UnknownName { deployment };
+    add_found(
+        rt,
+        alloc,
+        deployment,
+        ProblemKind::UnknownName,
+        &unknown,
+        &mut text,
+    );
     let types = TypeGraph::build(alloc, deployment).expect(rt, "memory");
     let cyclic = CyclicHierarchy { types: &types };
     add_found(
@@ -189,6 +288,17 @@ fn lines_of(rt: &impl Abort, alloc: Global, deployment: &Deployment) -> String {
         &AbstractBean,
         &mut text,
     );
+    if let Ok(types) = TypeTable::of(types) {
+        let typed = TypedNotAType { types: &types };
+        add_found(
+            rt,
+            alloc,
+            deployment,
+            ProblemKind::TypedNotAType,
+            &typed,
+            &mut text,
+        );
+    }
     let beans = BeanNames::build(alloc, deployment.classes.as_slice()).expect(rt, "memory");
     let specializing = SpecializesNothing { beans: &beans };
     add_found(
@@ -218,7 +328,7 @@ fn check(rt: &impl Abort, alloc: Global, deployment: &Deployment, wanted: &str) 
 }
 
 fn check_row(rt: &impl Abort, alloc: Global, row: &Row<'_>) {
-    let mut deployment = empty(rt, alloc);
+    let mut deployment = with_bindings(rt, alloc);
     for class in row.classes {
         add_class(rt, alloc, &mut deployment, class);
     }
@@ -238,7 +348,7 @@ fn problems_of_classes(rt: HostRuntime) -> Result<(), Fail> {
 #[test]
 fn order_of_places(rt: HostRuntime) -> Result<(), Fail> {
     let alloc = rt.alloc();
-    let mut deployment = empty(&rt, alloc);
+    let mut deployment = with_bindings(&rt, alloc);
     add_interceptor(&rt, alloc, &mut deployment, "J", "B B");
     let class = ClassRow {
         extends: "K",
@@ -249,6 +359,18 @@ fn order_of_places(rt: HostRuntime) -> Result<(), Fail> {
     add_cyclic_interface(&rt, alloc, &mut deployment, "I");
     let wanted =
         "P3 CyclicHierarchy I\nP3 CyclicHierarchy K\nP11 TwoBindingsOfOneType K\nP11 TwoBindingsOfOneType J\n";
+    check(&rt, alloc, &deployment, wanted);
+    Ok(())
+}
+
+/// A name that stands twice in a list is told once.
+#[test]
+fn selected_names(rt: HostRuntime) -> Result<(), Fail> {
+    let alloc = rt.alloc();
+    let mut deployment = with_bindings(&rt, alloc);
+    add_class(&rt, alloc, &mut deployment, &PLAIN);
+    select(&rt, alloc, &mut deployment, "Z K Y Z");
+    let wanted = "P2 UnknownName Z\nP2 UnknownName Y\n";
     check(&rt, alloc, &deployment, wanted);
     Ok(())
 }
