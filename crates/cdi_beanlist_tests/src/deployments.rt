@@ -1,10 +1,8 @@
 //! Small deployments.
 use cdi_base::{Name, Names, Scope, Seq, Use, is_name};
-<<<<<<< HEAD
-use cdi_deployment::{Bean, Class, Deployment, Interceptor, Interface, Member, Method};
-=======
-use cdi_deployment::{AnnotationType, Bean, Class, Deployment, Interceptor, Interface, Member, Method};
->>>>>>> cebc44ac008c858944f665590893e9e6b2ba1bb5
+use cdi_deployment::{
+    AnnotationType, Bean, Class, Deployment, Interceptor, Interface, Member, Method,
+};
 use std::alloc::Global;
 use std::process::Abort;
 

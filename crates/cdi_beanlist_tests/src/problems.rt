@@ -3,17 +3,11 @@ use crate::deployments::{
     ClassRow, PLAIN, add_class, add_cyclic_interface, add_interceptor, select, with_bindings,
 };
 use cdi_base::{Names, Place};
-<<<<<<< HEAD
-use cdi_beanlist::{AbstractBean, BeanNames, SpecializesNothing, TwoBindingsOfOneType};
-use cdi_deployment::Deployment;
-use cdi_name_check::CyclicHierarchy;
-=======
 use cdi_beanlist::{
     AbstractBean, BeanNames, SpecializesNothing, TwoBindingsOfOneType, TypedNotAType,
 };
 use cdi_deployment::Deployment;
 use cdi_name_check::{CyclicHierarchy, UnknownName};
->>>>>>> cebc44ac008c858944f665590893e9e6b2ba1bb5
 use cdi_problems::{ProblemKind, ProblemText, Rule, elements_of, places_where, problems_at};
 use cdi_types::{TypeGraph, TypeTable};
 use std::alloc::Global;
