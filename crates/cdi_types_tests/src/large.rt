@@ -60,7 +60,7 @@ fn a_chain_of_types(rt: HostRuntime) -> Result<(), Fail> {
         false,
         "the first type and the last",
     );
-    let above = table.types_of(alloc, last)?;
+    let above = table.types_of(alloc, last).expect(&rt, "memory");
     expect_count(&rt, above.len(), 1025, "the types above the last");
     Ok(())
 }
@@ -93,26 +93,22 @@ fn line(rt: &impl Abort, alloc: Global, count: usize) -> Deployment {
     types
 }
 
+/// Checks how many classes the line of a class has, and how many members the class.
+fn check_line(rt: &impl Abort, alloc: Global, of: &Deployment, last: Name) {
+    let types = TypeTable::build(alloc, of).expect(rt, "a table");
+    let index = ClassIndex::build(alloc, of.classes.as_slice()).expect(rt, "memory");
+    let line = index.line(alloc, &types, last).expect(rt, "memory");
+    expect_count(rt, line.classes().len(), 1024, "the line of the last class");
+    let members = line.members(alloc).expect(rt, "memory");
+    expect_count(rt, members.len(), 1025, "what the last class has");
+}
+
 #[test]
 fn a_line_of_classes(rt: HostRuntime) -> Result<(), Fail> {
     let alloc = rt.alloc();
     let mut of = line(&rt, alloc, 1024);
     let last = numbered(&rt, alloc, &mut of.names, 1023);
-    let types = TypeTable::build(alloc, &of).expect(&rt, "a table");
-    let index = ClassIndex::build(alloc, of.classes.as_slice())?;
-    let line = index.line(alloc, &types, last)?;
-    expect_count(
-        &rt,
-        line.classes().len(),
-        1024,
-        "the line of the last class",
-    );
-    expect_count(
-        &rt,
-        line.members(alloc)?.len(),
-        1025,
-        "what the last class has",
-    );
+    check_line(&rt, alloc, &of, last);
     Ok(())
 }
 
@@ -130,15 +126,20 @@ fn uses(rt: &impl Abort, alloc: Global, names: &mut Names, count: usize) -> Seq<
     found
 }
 
+/// Checks how large the set of some uses is, and that it has itself.
+fn check_set(rt: &impl Abort, alloc: Global, of: &Deployment, written: &[Use]) {
+    let types = QualifierTypes::qualifiers_of(alloc, of).expect(rt, "memory");
+    let set = QualSet::new(alloc, &of.names, &types, written).expect(rt, "memory");
+    expect_count(rt, set.as_slice().len(), 2000, "a set of 4,000 uses");
+    expect(rt, set.has_all(&set), true, "a set has itself");
+}
+
 #[test]
 fn a_large_set(rt: HostRuntime) -> Result<(), Fail> {
     let alloc = rt.alloc();
     let mut of = empty(&rt, alloc);
     add_qualifier(&rt, alloc, &mut of, "Q", "", "");
-    let types = QualifierTypes::qualifiers_of(alloc, &of)?;
     let written = uses(&rt, alloc, &mut of.names, 4000);
-    let set = QualSet::new(alloc, &of.names, &types, written.as_slice())?;
-    expect_count(&rt, set.as_slice().len(), 2000, "a set of 4,000 uses");
-    expect(&rt, set.has_all(&set), true, "a set has itself");
+    check_set(&rt, alloc, &of, written.as_slice());
     Ok(())
 }

@@ -104,7 +104,7 @@ fn what_a_set_has(rt: HostRuntime) -> Result<(), Fail> {
     let mut of = empty(&rt, alloc);
     add_qualifier(&rt, alloc, &mut of, "Q", "w v", "w");
     add_qualifier(&rt, alloc, &mut of, "P", "", "");
-    let types = QualifierTypes::qualifiers_of(alloc, &of)?;
+    let types = QualifierTypes::qualifiers_of(alloc, &of).expect(&rt, "memory");
     for row in &HAS {
         check_has(&rt, alloc, &mut of, &types, row);
     }
@@ -118,7 +118,7 @@ fn what_a_set_of_bindings_has(rt: HostRuntime) -> Result<(), Fail> {
     let mut of = empty(&rt, alloc);
     add_binding(&rt, alloc, &mut of, "Q", "w v", "w");
     add_binding(&rt, alloc, &mut of, "P", "", "");
-    let types = QualifierTypes::bindings_of(alloc, &of)?;
+    let types = QualifierTypes::bindings_of(alloc, &of).expect(&rt, "memory");
     for row in &HAS {
         check_has(&rt, alloc, &mut of, &types, row);
     }
@@ -182,7 +182,7 @@ fn nonbinding_members(rt: HostRuntime) -> Result<(), Fail> {
     let mut of = empty(&rt, alloc);
     add_qualifier(&rt, alloc, &mut of, "Q", "v w", "w");
     add_qualifier(&rt, alloc, &mut of, "P", "", "");
-    let types = QualifierTypes::qualifiers_of(alloc, &of)?;
+    let types = QualifierTypes::qualifiers_of(alloc, &of).expect(&rt, "memory");
     for row in &SAME {
         check_same(&rt, alloc, &mut of, &types, row);
     }
@@ -203,7 +203,7 @@ fn repeats_are_dropped(rt: HostRuntime) -> Result<(), Fail> {
     let alloc = rt.alloc();
     let mut of = empty(&rt, alloc);
     add_qualifier(&rt, alloc, &mut of, "Q", "v w", "w");
-    let types = QualifierTypes::qualifiers_of(alloc, &of)?;
+    let types = QualifierTypes::qualifiers_of(alloc, &of).expect(&rt, "memory");
     let uses = uses_in(&rt, alloc, &mut of.names, REPEATS);
     let set = set_of(&rt, alloc, &of.names, &types, &uses);
     expect_count(

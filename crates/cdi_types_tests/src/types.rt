@@ -97,11 +97,17 @@ fn subtypes(rt: HostRuntime) -> Result<(), Fail> {
     for row in &BELOW {
         check_below(&rt, &mut few, &table, row);
     }
-    let of_class = table.types_of(alloc, name(&rt, &mut few.names, "C"))?;
+    let of_class = table
+        .types_of(alloc, name(&rt, &mut few.names, "C"))
+        .expect(&rt, "memory");
     expect_count(&rt, of_class.len(), 5, "the types of C");
-    let lineage = table.lineage(alloc, name(&rt, &mut few.names, "C"))?;
+    let lineage = table
+        .lineage(alloc, name(&rt, &mut few.names, "C"))
+        .expect(&rt, "memory");
     expect_count(&rt, lineage.len(), 2, "C and its superclass");
-    let of_startup = table.types_of(alloc, BuiltIn::Startup.name())?;
+    let of_startup = table
+        .types_of(alloc, BuiltIn::Startup.name())
+        .expect(&rt, "memory");
     expect_count(&rt, of_startup.len(), 2, "the types of Startup");
     Ok(())
 }
@@ -154,7 +160,7 @@ fn check_both_cyclic(
 }
 
 #[test]
-fn cycles_and_unknown_names(rt: HostRuntime) -> Result<(), Fail> {
+fn a_cycle_of_two_interfaces(rt: HostRuntime) -> Result<(), Fail> {
     let alloc = rt.alloc();
     let mut two = empty(&rt, alloc);
     add_interface(&rt, alloc, &mut two, "I", "J");
@@ -170,10 +176,22 @@ fn cycles_and_unknown_names(rt: HostRuntime) -> Result<(), Fail> {
         TypesError::Cycle,
         "a cycle before an unknown name",
     );
+    Ok(())
+}
+
+#[test]
+fn an_unknown_name(rt: HostRuntime) -> Result<(), Fail> {
+    let alloc = rt.alloc();
     let mut unknown = empty(&rt, alloc);
     add_class(&rt, alloc, &mut unknown, "L", "Missing", "");
     check_refused(&rt, alloc, &unknown, TypesError::Unknown, "an unknown name");
     check_cyclic(&rt, alloc, &unknown, 0, "an unknown name");
+    Ok(())
+}
+
+#[test]
+fn a_name_that_is_declared_twice(rt: HostRuntime) -> Result<(), Fail> {
+    let alloc = rt.alloc();
     let mut twice = empty(&rt, alloc);
     add_class(&rt, alloc, &mut twice, "A", "", "");
     add_class(&rt, alloc, &mut twice, "A", "B", "");
