@@ -6,6 +6,7 @@ use Rattle.cdi_deployment.specs.declared.deployment.Deployment.{Deployment}
 use Rattle.cdi_deployment.specs.declared.deployment.Script.{Script as Declared}
 use Rattle.cdi_deployment.specs.Limits.{are_types_within, is_length_within, is_within}
 use Rattle.cdi_deploy.proofs.Readable.{read-within}
+use Rattle.cdi_deploy.specs.declared.fault.ReadFault.{ReadFault}
 use Rattle.cdi_deploy.specs.Reading.{deployment_in}
 use Rattle.cdi_script.specs.declared.fault.ScriptFault.{ScriptFault}
 use Rattle.cdi_script.specs.declared.step.Step.{Step}
