@@ -17,13 +17,13 @@ use Rattle.cdi_quals.specs.declared.types.QualifierType.{QualifierType}
 use Rattle.cdi_reach.specs.ListsThose.{ListsThose}
 use Rattle.cdi_types.specs.Declarations.{declarations_of}
 use Rattle.cdi_types.specs.Subtype.{all_types}
-use Rattle.cdi_beanlist.specs.BeanTypes.{IsBeanType, restriction}
-use Rattle.cdi_beanlist.specs.Disposers.{Serves}
-use Rattle.cdi_beanlist.specs.Inherited.{Declared, AreMembersOf}
+use Rattle.cdi_bean_check.specs.BeanTypes.{IsBeanType, restriction}
+use Rattle.cdi_bean_check.specs.Disposers.{Serves}
+use Rattle.cdi_bean_check.specs.Inherited.{AreMembersOf}
 use Rattle.cdi_beanlist.specs.Interceptors.{AreInterceptorsOf}
-use Rattle.cdi_beanlist.specs.Limits.{is_producer}
-use Rattle.cdi_beanlist.specs.ManagedBeans.{is_bean}
-use Rattle.cdi_beanlist.specs.Qualifiers.{AreUsesOf, uses_with_built_in, IsSetOf}
+use Rattle.cdi_bean_check.specs.Limits.{is_producer}
+use Rattle.cdi_bean_check.specs.ManagedBeans.{is_bean}
+use Rattle.cdi_bean_check.specs.Qualifiers.{AreUsesOf, uses_with_built_in, IsSetOf}
 use Rattle.cdi_beanlist.specs.declared.bean.Bean.{Bean}
 use Rattle.cdi_beanlist.specs.declared.bean.BeanKind.{BeanKind}
 use Rattle.cdi_beanlist.specs.declared.bean.BeanKind.TheVariants as kinds
@@ -85,18 +85,18 @@ pub record IsObserverOf (d : Deployment) (qualifiers : List QualifierType) (bean
   pub if_exists : m.if_exists ≡ o.if_exists
 
 -- the observers among the members that a bean has
-pub data AreObserversAmong (d : Deployment) (qualifiers : List QualifierType) (bean : Class) : List Declared → List ObserverMethod → Type 0 where
+pub data AreObserversAmong (d : Deployment) (qualifiers : List QualifierType) (bean : Class) : List (Class × Member) → List ObserverMethod → Type 0 where
   none : AreObserversAmong d qualifiers bean [] []
-  observer : {c : Class} {o : Observer} {m : ObserverMethod} {has : List Declared} {ms : List ObserverMethod} → IsObserverOf d qualifiers bean c o m
+  observer : {c : Class} {o : Observer} {m : ObserverMethod} {has : List (Class × Member)} {ms : List ObserverMethod} → IsObserverOf d qualifiers bean c o m
       → AreObserversAmong d qualifiers bean has ms
-      → AreObserversAmong d qualifiers bean ((record { class = c; member = members.Observer o }) ∷ has) (m ∷ ms)
-  other : {x : Declared} {has : List Declared} {ms : List ObserverMethod} → ((o : Observer) → x.member ≡ members.Observer o → ⊥)
+      → AreObserversAmong d qualifiers bean ((c, members.Observer o) ∷ has) (m ∷ ms)
+  other : {x : Class × Member} {has : List (Class × Member)} {ms : List ObserverMethod} → ((o : Observer) → x.1 ≡ members.Observer o → ⊥)
       → AreObserversAmong d qualifiers bean has ms → AreObserversAmong d qualifiers bean (x ∷ has) ms
 
 -- the observers of some beans, bean by bean
 pub data AreObserversOf (d : Deployment) (qualifiers : List QualifierType) : List Class → List ObserverMethod → Type 0 where
   none : AreObserversOf d qualifiers [] []
-  next : {c : Class} {cs : List Class} {has : List Declared} {first rest : List ObserverMethod} → AreMembersOf d.classes (declarations_of d) c has
+  next : {c : Class} {cs : List Class} {has : List (Class × Member)} {first rest : List ObserverMethod} → AreMembersOf d.classes (declarations_of d) c has
       → AreObserversAmong d qualifiers c has first → AreObserversOf d qualifiers cs rest → AreObserversOf d qualifiers (c ∷ cs) (first ++ rest)
 
 abbrev pub disposer : Member → Option Disposer

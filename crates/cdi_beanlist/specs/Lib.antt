@@ -1,13 +1,2 @@
-pub mod BeanTypes
 pub mod Beans
-pub mod BindingLists
-pub mod Disposers
-pub mod Inherited
 pub mod Interceptors
-pub mod Limits
-pub mod ManagedBeans
-pub mod NameSets
-pub mod Observers
-pub mod Qualifiers
-pub mod Repeated
-pub mod Tiers

@@ -1,17 +1,6 @@
-//! The beans of a deployment with their interceptors, observers and disposers (Jakarta CDI 4.0, *Beans*), and the problems of a
-//! deployment in which all names are known.
+//! The beans of a deployment with their interceptors, observers and disposers (Jakarta CDI 4.0, *Beans*).
 #![tactic(auto)]
 
-pub mod abstract_bean;
 pub mod bean;
-pub mod bean_names;
-pub mod bindings;
-pub mod specialization;
-pub mod typed;
 
-pub use abstract_bean::AbstractBean;
 pub use bean::{Bean, BeanKind, BeanList, DisposerMethod, EnabledInterceptor, ObserverMethod};
-pub use bean_names::BeanNames;
-pub use bindings::TwoBindingsOfOneType;
-pub use specialization::SpecializesNothing;
-pub use typed::TypedNotAType;

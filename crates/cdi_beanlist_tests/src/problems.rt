@@ -3,7 +3,7 @@ use crate::deployments::{
     ClassRow, PLAIN, add_class, add_cyclic_interface, add_interceptor, select, with_bindings,
 };
 use cdi_base::{Names, Place};
-use cdi_beanlist::{
+use cdi_bean_check::{
     AbstractBean, BeanNames, SpecializesNothing, TwoBindingsOfOneType, TypedNotAType,
 };
 use cdi_deployment::Deployment;

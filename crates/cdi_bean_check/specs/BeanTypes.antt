@@ -8,7 +8,7 @@ use Rattle.cdi_deployment.specs.declared.deployment.Member.TheVariants as member
 use Rattle.cdi_problems.specs.Elements.{Element}
 use Rattle.cdi_types.specs.declared.declaration.TypeDeclaration.{TypeDeclaration}
 use Rattle.cdi_types.specs.Subtype.{IsSubtype, object}
-use Rattle.cdi_beanlist.specs.ManagedBeans.{is_bean, says_specializes, extended_bean}
+use Rattle.cdi_bean_check.specs.ManagedBeans.{is_bean, says_specializes, extended_bean}
 
 -- a restriction leaves the types that it lists, and Object
 abbrev pub is_left : Option (List ℕ) → ℕ → Bool

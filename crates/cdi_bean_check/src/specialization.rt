@@ -1,6 +1,6 @@
 //! Specialization.
 ghost use Rattle.std.specs.Prelude.{◌≡◌};
-ghost use Rattle.cdi_beanlist.specs.ManagedBeans as spec;
+ghost use Rattle.cdi_bean_check.specs.ManagedBeans as spec;
 
 use crate::bean_names::BeanNames;
 use cdi_deployment::{Bean, Class};
@@ -33,7 +33,7 @@ fn extends_bean(beans: &BeanNames, class: &Class) -> bool
 }
 
 impl Rule for SpecializesNothing<'_> {
-    ghost use Rattle.cdi_beanlist.specs.ManagedBeans.{SpecializesNothing as Holds};
+    ghost use Rattle.cdi_bean_check.specs.ManagedBeans.{SpecializesNothing as Holds};
 
     ghost holds_at = { λ rule e. Holds rule.beans.now e };
 

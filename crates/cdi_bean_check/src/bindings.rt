@@ -1,7 +1,7 @@
 //! Lists of interceptor bindings.
 ghost use Rattle.std.specs.Prelude.{◌≡◌, ◌==◌};
 ghost use Rattle.std.specs.List.{list_any};
-ghost use Rattle.cdi_beanlist.specs.BindingLists as spec;
+ghost use Rattle.cdi_bean_check.specs.BindingLists as spec;
 ghost use Rattle.cdi_problems.specs.Elements.{element_of};
 
 use cdi_base::{Name, Use};
@@ -43,7 +43,7 @@ fn bindings_of_member(member: &Member) -> &[Use]
 }
 
 impl Rule for TwoBindingsOfOneType {
-    ghost use Rattle.cdi_beanlist.specs.BindingLists.{HasTwoBindingsOfOneType};
+    ghost use Rattle.cdi_bean_check.specs.BindingLists.{HasTwoBindingsOfOneType};
 
     ghost holds_at = { λ rule e. HasTwoBindingsOfOneType e };
 

@@ -1,9 +1,9 @@
 use Rattle.std.proofs.Common.{◌∙◌, ◌++◌, ◌∷◌, [], sym, ap}
 use Rattle.std.proofs.lemmas.List.{append-nil}
-use Rattle.cdi_beanlist.specs.ManagedBeans.{is_bean}
-use Rattle.cdi_beanlist.proofs.NameLists.{one_picked, none_picked, one_more}
-use Rattle.cdi_beanlist.proofs.bean_names.BeanNames.build.Goals as goal
-use Rattle.cdi_beanlist.proofs.bean_names.BeanNames.build.Goals.{then-is_bean+in_ok-insert+in_ok-push, else-is_bean}
+use Rattle.cdi_bean_check.specs.ManagedBeans.{is_bean}
+use Rattle.cdi_bean_check.proofs.NameLists.{one_picked, none_picked, one_more}
+use Rattle.cdi_bean_check.proofs.bean_names.BeanNames.build.Goals as goal
+use Rattle.cdi_bean_check.proofs.bean_names.BeanNames.build.Goals.{then-is_bean+in_ok-insert+in_ok-push, else-is_bean}
 
 pub loop-class-preserved : goal.loop-class-preserved
 loop-class-preserved c =

@@ -5,8 +5,8 @@ use Rattle.cdi_deployment.specs.declared.deployment.Member.{Member}
 use Rattle.cdi_deployment.specs.declared.deployment.Member.TheVariants as members
 use Rattle.cdi_problems.specs.Elements.{Element}
 use Rattle.cdi_types.specs.declared.declaration.TypeDeclaration.{TypeDeclaration}
-use Rattle.cdi_beanlist.specs.Inherited.{Declared, AreMembersOf}
-use Rattle.cdi_beanlist.specs.ManagedBeans.{has_dependent_scope}
+use Rattle.cdi_bean_check.specs.Inherited.{AreMembersOf}
+use Rattle.cdi_bean_check.specs.ManagedBeans.{has_dependent_scope}
 
 abbrev pub is_conditional : Member → Bool
 is_conditional (members.Observer o) = o.if_exists
@@ -18,9 +18,9 @@ pub record IsConditionalIn (classes : List Class) (types : List TypeDeclaration)
   pub bean : Class
   pub listed : Contains classes bean
   pub dependent : IsTrue (has_dependent_scope bean.bean)
-  pub has : List Declared
+  pub has : List (Class × Member)
   pub are : AreMembersOf classes types bean has
-  pub had : Contains has (record { class = c; member = m })
+  pub had : Contains has (c, m)
 
 -- P10 ConditionalDependent: a Dependent bean has a conditional observer; the place is the observer where it is declared
 abbrev pub IsConditionalDependent : List Class → List TypeDeclaration → Element → Type 0

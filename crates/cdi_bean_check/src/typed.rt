@@ -1,6 +1,6 @@
 //! Restricted bean types.
 ghost use Rattle.std.specs.Prelude.{◌≡◌, MatchBool};
-ghost use Rattle.cdi_beanlist.specs.BeanTypes as spec;
+ghost use Rattle.cdi_bean_check.specs.BeanTypes as spec;
 
 use cdi_base::{Name, Seq};
 use cdi_deployment::{Class, Member};
@@ -76,7 +76,7 @@ fn is_member_wrong(types: &TypeTable, class: &Class, member: &Member) -> bool
 }
 
 impl Rule for TypedNotAType<'_> {
-    ghost use Rattle.cdi_beanlist.specs.BeanTypes.{HasTypedNotAType};
+    ghost use Rattle.cdi_bean_check.specs.BeanTypes.{HasTypedNotAType};
 
     ghost holds_at = { λ rule e. HasTypedNotAType rule.types.now e };
 

@@ -5,8 +5,8 @@ use Rattle.cdi_deployment.specs.declared.deployment.Class.{Class}
 use Rattle.cdi_deployment.specs.declared.deployment.Member.{Member}
 use Rattle.cdi_deployment.specs.declared.deployment.Member.TheVariants as members
 use Rattle.cdi_types.specs.declared.declaration.TypeDeclaration.{TypeDeclaration}
-use Rattle.cdi_beanlist.specs.Inherited.{Declared, AreMembersOf}
-use Rattle.cdi_beanlist.specs.ManagedBeans.{is_bean}
+use Rattle.cdi_bean_check.specs.Inherited.{AreMembersOf}
+use Rattle.cdi_bean_check.specs.ManagedBeans.{is_bean}
 
 abbrev pub is_producer : Member → Bool
 is_producer (members.Producer p) = true
@@ -26,9 +26,9 @@ is_observer m = false
 
 -- how many observers the beans have, those that they inherit too
 pub record IsObserverCount (classes : List Class) (types : List TypeDeclaration) (count : ℕ) : Type 0 where
-  pub members_of_beans : List (List Declared)
+  pub members_of_beans : List (List (Class × Member))
   pub each : AllZip (AreMembersOf classes types) (filter is_bean classes) members_of_beans
-  pub sum : count ≡ sum_by (count_by (λ d. is_observer d.member)) members_of_beans
+  pub sum : count ≡ sum_by (count_by (λ d. is_observer d.1)) members_of_beans
 
 -- P22 TooMany: over 4,096 managed beans and products together, or over 16,384 observers with the inherited ones
 abbrev pub HasTooMany : List Class → List TypeDeclaration → Type 0

@@ -9,13 +9,13 @@ use Rattle.cdi_problems.specs.declared.problem.Problem.{Problem}
 use Rattle.cdi_problems.specs.declared.problem.ProblemKind.TheVariants as kinds
 use Rattle.cdi_quals.specs.declared.types.QualifierType.{QualifierType}
 use Rattle.cdi_types.specs.Declarations.{declarations_of}
-use Rattle.cdi_beanlist.specs.BeanTypes.{HasTypedNotAType, HasSpecializedTypeLost}
-use Rattle.cdi_beanlist.specs.BindingLists.{HasTwoBindingsOfOneType}
-use Rattle.cdi_beanlist.specs.Disposers.{IsUnmatchedDisposer, HasTwoDisposers}
-use Rattle.cdi_beanlist.specs.Limits.{HasTooMany}
-use Rattle.cdi_beanlist.specs.ManagedBeans.{bean_names, IsAbstractBean, SpecializesNothing}
-use Rattle.cdi_beanlist.specs.Observers.{IsConditionalDependent}
-use Rattle.cdi_beanlist.specs.Repeated.{RepeatsSuperclass}
+use Rattle.cdi_bean_check.specs.BeanTypes.{HasTypedNotAType, HasSpecializedTypeLost}
+use Rattle.cdi_bean_check.specs.BindingLists.{HasTwoBindingsOfOneType}
+use Rattle.cdi_bean_check.specs.Disposers.{IsUnmatchedDisposer, HasTwoDisposers}
+use Rattle.cdi_bean_check.specs.Limits.{HasTooMany}
+use Rattle.cdi_bean_check.specs.ManagedBeans.{bean_names, IsAbstractBean, SpecializesNothing}
+use Rattle.cdi_bean_check.specs.Observers.{IsConditionalDependent}
+use Rattle.cdi_bean_check.specs.Repeated.{RepeatsSuperclass}
 
 -- the elements of a deployment of which P holds
 abbrev pub PlacesIn : Deployment → (Element → Type 0) → List Place → Type 0

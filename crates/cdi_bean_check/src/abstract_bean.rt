@@ -6,7 +6,7 @@ use cdi_problems::{Element, Rule};
 pub struct AbstractBean;
 
 impl Rule for AbstractBean {
-    ghost use Rattle.cdi_beanlist.specs.ManagedBeans.{IsAbstractBean};
+    ghost use Rattle.cdi_bean_check.specs.ManagedBeans.{IsAbstractBean};
 
     ghost holds_at = { λ rule e. IsAbstractBean e };
 

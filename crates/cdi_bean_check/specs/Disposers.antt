@@ -9,9 +9,9 @@ use Rattle.cdi_problems.specs.Elements.{Element}
 use Rattle.cdi_quals.specs.Qualifiers.{has_all}
 use Rattle.cdi_quals.specs.declared.types.QualifierType.{QualifierType}
 use Rattle.cdi_types.specs.declared.declaration.TypeDeclaration.{TypeDeclaration}
-use Rattle.cdi_beanlist.specs.BeanTypes.{IsBeanType}
-use Rattle.cdi_beanlist.specs.ManagedBeans.{is_bean}
-use Rattle.cdi_beanlist.specs.Qualifiers.{uses_with_built_in, required_uses, full_uses}
+use Rattle.cdi_bean_check.specs.BeanTypes.{IsBeanType}
+use Rattle.cdi_bean_check.specs.ManagedBeans.{is_bean}
+use Rattle.cdi_bean_check.specs.Qualifiers.{uses_with_built_in, required_uses, full_uses}
 
 -- a product has the type and the qualifiers of the disposed parameter
 pub record Fits (types : List TypeDeclaration) (qualifiers : List QualifierType) (m : Disposer) (of : ℕ) (typed : Option (List ℕ)) (uses : List Use) : Type 0 where

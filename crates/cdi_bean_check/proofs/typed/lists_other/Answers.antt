@@ -3,7 +3,7 @@ use Rattle.std.proofs.lemmas.Grind.{common_steps}
 use Rattle.std.proofs.lemmas.List.Elements.{All-contains}
 use Rattle.cdi_types.proofs.Cycles.{all_more}
 use Rattle.cdi_types.specs.Subtype.{IsSubtype}
-use Rattle.cdi_beanlist.proofs.typed.lists_other.Goals as goal
+use Rattle.cdi_bean_check.proofs.typed.lists_other.Goals as goal
 
 pub loop-name-preserved : goal.loop-name-preserved
 loop-name-preserved c =

@@ -12,7 +12,7 @@ use Rattle.cdi_quals.specs.OrderedSet.{IsOrderedSet}
 use Rattle.cdi_quals.specs.Qualifiers.{full_use}
 use Rattle.cdi_quals.specs.declared.qualifier.Qualifier.{Qualifier}
 use Rattle.cdi_quals.specs.declared.types.QualifierType.{QualifierType}
-use Rattle.cdi_beanlist.specs.ManagedBeans.{says_specializes, extended_bean}
+use Rattle.cdi_bean_check.specs.ManagedBeans.{says_specializes, extended_bean}
 
 abbrev pub plain_use : BuiltIn → Use
 plain_use n = record { name = number_of n; members = [] }

@@ -1,6 +1,6 @@
 //! The names of the classes that are beans.
 ghost use Rattle.std.specs.Prelude.{◌≡◌, IfOk};
-ghost use Rattle.cdi_beanlist.specs.ManagedBeans as spec;
+ghost use Rattle.cdi_bean_check.specs.ManagedBeans as spec;
 
 use cdi_base::{Name, Seq};
 use cdi_deployment::Class;
@@ -17,7 +17,7 @@ pub struct BeanNames {
 
 impl Model for BeanNames {
     ghost use Rattle.std.specs.Prelude.{List, ℕ};
-    ghost use Rattle.cdi_beanlist.specs.NameSets.{HasNames};
+    ghost use Rattle.cdi_bean_check.specs.NameSets.{HasNames};
 
     ghost Value = { List ℕ };
 
