@@ -1,0 +1,50 @@
+-- Which beans are left at a step of resolution.
+use Rattle.std.specs.Prelude.{ℕ, ℤ, ◌==◌, ◌&&◌, List, [], ◌∷◌, Bool, false, Option, Some, None, is_none, filter, slice_index_or}
+use Rattle.std.specs.List.{list_any, enumerate_from}
+use Rattle.std.specs.Ordering.{int_eq}
+use Rattle.cdi_base.specs.BuiltIn.{number_of}
+use Rattle.cdi_base.specs.declared.built_in.BuiltIn.TheVariants as names
+use Rattle.cdi_beanlist.specs.declared.bean.Bean.{Bean}
+use Rattle.cdi_quals.specs.Qualifiers.{has_all}
+use Rattle.cdi_quals.specs.declared.qualifier.Qualifier.{Qualifier}
+use Rattle.cdi_resolve.specs.declared.filter.Left.{Left}
+use Rattle.cdi_resolve.specs.declared.filter.Left.TheVariants as lefts
+
+abbrev pub default : Qualifier
+default = record { name = number_of names.Default; members = [] }
+
+-- no qualifier stands for Default
+abbrev pub required : List Qualifier → List Qualifier
+required [] = default ∷ []
+required (q ∷ qs) = q ∷ qs
+
+-- a bean has the type and each required qualifier
+abbrev pub fits : ℕ → List Qualifier → Bean → Bool
+fits type qualifiers b = list_any (λ t. t == type) b.types && has_all b.qualifiers (required qualifiers)
+
+abbrev pub is_enabled : List Bool → ℕ → Bool
+is_enabled enabled index = slice_index_or enabled index false
+
+-- the enabled ones of a list of beans, with their indices
+abbrev pub enabled_beans : List Bean → List Bool → List (ℕ × Bean)
+enabled_beans beans enabled = filter (λ p. is_enabled enabled p.0) (enumerate_from 0 beans)
+
+abbrev pub is_priority : ℤ → Option ℤ → Bool
+is_priority priority None = false
+is_priority priority (Some own) = int_eq own priority
+
+abbrev pub has_priority : ℤ → Bean → Bool
+has_priority priority b = is_priority priority b.priority
+
+-- a bean fits, and is left of those that do
+abbrev pub passes : ℕ → List Qualifier → Left → Bean → Bool
+passes type qualifiers lefts.Eligible b = fits type qualifiers b
+passes type qualifiers lefts.Alternatives b = fits type qualifiers b && b.alternative
+passes type qualifiers lefts.WithoutPriority b = (fits type qualifiers b && b.alternative) && is_none b.priority
+passes type qualifiers (lefts.WithPriority priority) b = (fits type qualifiers b && b.alternative) && has_priority priority b
+
+abbrev pub is_wanted : ℕ → List Qualifier → Left → List Bool → ℕ × Bean → Bool
+is_wanted type qualifiers left enabled (index, b) = is_enabled enabled index && passes type qualifiers left b
+
+abbrev pub those_left : ℕ → List Qualifier → Left → List Bean → List Bool → List (ℕ × Bean)
+those_left type qualifiers left beans enabled = filter (is_wanted type qualifiers left enabled) (enumerate_from 0 beans)

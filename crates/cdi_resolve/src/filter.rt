@@ -1,0 +1,85 @@
+//! Which beans are left at a step of resolution.
+ghost use Rattle.std.specs.Prelude.{◌≡◌, ◌==◌};
+ghost use Rattle.std.specs.List.{list_any};
+ghost use Rattle.cdi_quals.specs.Qualifiers.{has_all};
+ghost use Rattle.cdi_resolve.specs.Filters as spec;
+
+use cdi_base::Name;
+use cdi_beanlist::Bean;
+use cdi_quals::{QualSet, Qualifier};
+
+/// What beans are left, of those that have a type and required qualifiers.
+#[derive(Clone, Copy)]
+pub(crate) enum Left {
+    /// All of them.
+    Eligible,
+    /// Alternatives, and what alternatives declare.
+    Alternatives,
+    /// Those of them without a priority.
+    WithoutPriority,
+    /// Those of them with this priority.
+    WithPriority(i64),
+}
+
+/// What is asked for.
+#[derive(Clone, Copy)]
+pub(crate) struct Wanted<'a> {
+    pub ty: Name,
+    /// The required qualifiers; none stands for `Default`.
+    pub qualifiers: &'a QualSet,
+    /// The qualifier `Default`.
+    pub default: &'a Qualifier,
+}
+
+/// Whether a bean has a type.
+fn has_type(bean: &Bean, ty: Name) -> bool
+    ensures { result ≡ list_any (λ t. t == ty) bean.now.types }
+{
+    bean.types.iter().any(|own| *own == ty)
+}
+
+/// Whether a bean has each required qualifier.
+fn has_qualifiers(bean: &Bean, wanted: &Wanted<'_>) -> bool
+    requires { wanted.now.default.now ≡ spec.default }
+    ensures { result ≡ has_all bean.now.qualifiers (spec.required wanted.now.qualifiers.now) }
+{
+    if wanted.qualifiers.as_slice().is_empty() {
+        return bean.qualifiers.has(wanted.default);
+    }
+    bean.qualifiers.has_all(wanted.qualifiers)
+}
+
+/// Whether a bean has the type and the required qualifiers.
+fn fits(bean: &Bean, wanted: &Wanted<'_>) -> bool
+    requires { wanted.now.default.now ≡ spec.default }
+    ensures { result ≡ spec.fits wanted.now.ty wanted.now.qualifiers.now bean.now }
+{
+    has_type(bean, wanted.ty) && has_qualifiers(bean, wanted)
+}
+
+/// Whether a bean has a priority.
+fn has_priority(bean: &Bean, priority: i64) -> bool
+    ensures { result ≡ spec.has_priority priority bean.now }
+{
+    match bean.priority {
+        Some(own) => own == priority,
+        None => false,
+    }
+}
+
+/// Whether a bean fits, and is left of those that do.
+pub(crate) fn passes(bean: &Bean, wanted: &Wanted<'_>, left: Left) -> bool
+    requires { wanted.now.default.now ≡ spec.default }
+    ensures { result ≡ spec.passes wanted.now.ty wanted.now.qualifiers.now left bean.now }
+{
+    match left {
+        Left::Eligible => fits(bean, wanted),
+        Left::Alternatives => fits(bean, wanted) && bean.alternative,
+        Left::WithoutPriority => {
+            fits(bean, wanted) && bean.alternative && bean.priority.is_none()
+        }
+        Left::WithPriority(priority) => {
+            fits(bean, wanted) && bean.alternative && has_priority(bean, priority)
+        }
+    }
+}

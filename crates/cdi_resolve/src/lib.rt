@@ -1,0 +1,9 @@
+//! Typesafe resolution: which bean a type and qualifiers stand for (Jakarta CDI 4.0, *Typesafe resolution*).
+#![tactic(auto)]
+
+mod filter;
+pub mod resolution;
+pub mod resolver;
+
+pub use resolution::Resolution;
+pub use resolver::Resolver;

@@ -1,0 +1,197 @@
+//! The resolver.
+ghost use Rattle.std.specs.Prelude.{◌≡◌, filter};
+ghost use Rattle.cdi_resolve.specs.Filters.{default, is_enabled, is_wanted as is_wanted_at, those_left, enabled_beans, passes as passes_of};
+ghost use Rattle.cdi_resolve.specs.Resolution as spec;
+
+use crate::filter::{Left, Wanted, passes};
+use crate::resolution::Resolution;
+use cdi_base::{BuiltIn, Name, Seq};
+use cdi_beanlist::Bean;
+use cdi_quals::{QualSet, Qualifier};
+use std::alloc::Global;
+use std::marker::Model;
+
+/// Typesafe resolution among the enabled ones of a list of beans (Jakarta CDI 4.0, *Typesafe resolution*). Contracts see the enabled
+/// beans, each with its index in the list. A question goes through all beans, at most four times.
+#[derive(Drop)]
+pub struct Resolver {
+    beans: Seq<Bean>,
+    enabled: Seq<bool>,
+    default: Qualifier,
+}
+
+impl Model for Resolver {
+    ghost use Rattle.std.specs.Prelude.{List, ◌≡◌, ℕ};
+    ghost use Rattle.cdi_beanlist.specs.declared.bean.Bean.{Bean};
+    ghost use Rattle.cdi_resolve.specs.Filters as filters;
+
+    ghost Value = { List (ℕ × Bean) };
+
+    ghost view = { λ r. filters.enabled_beans r.beans r.enabled };
+
+    ghost invariant = { λ r. r.default ≡ filters.default };
+}
+
+/// What a list says of an index; what isn't there isn't enabled.
+fn has_flag(enabled: &[bool], index: usize) -> bool
+    ensures { result ≡ is_enabled enabled.now index }
+{
+    match enabled.get(index) {
+        Some(flag) => *flag,
+        None => false,
+    }
+}
+
+/// Whether a bean is enabled, fits, and is left of those that do.
+fn is_wanted(
+    enabled: &[bool],
+    index: usize,
+    bean: &Bean,
+    wanted: &Wanted<'_>,
+    left: Left,
+) -> bool
+    requires { wanted.now.default.now ≡ default }
+    ensures { result ≡ is_wanted_at wanted.now.ty wanted.now.qualifiers.now left enabled.now
+        (index, bean.now) }
+{
+    has_flag(enabled, index) && passes(bean, wanted, left)
+}
+
+/// The only enabled bean that is left, if there is one.
+fn sole(beans: &[Bean], enabled: &[bool], wanted: &Wanted<'_>, left: Left) -> Resolution
+    requires { wanted.now.default.now ≡ default }
+    ensures { result ≡ spec.sole
+        (those_left wanted.now.ty wanted.now.qualifiers.now left beans.now enabled.now) }
+{
+    let mut found = Resolution::Nothing;
+    for (index, bean) in beans.iter().enumerate() {
+        if is_wanted(enabled, index, bean, wanted, left) {
+            found = found.with(index);
+        }
+    }
+    found
+}
+
+/// The greater of two priorities.
+fn greater(priority: Option<i64>, other: Option<i64>) -> Option<i64>
+    ensures { result ≡ spec.greater priority other }
+{
+    match priority {
+        Some(p) => match other {
+            Some(q) => Some(p.max(q)),
+            None => Some(p),
+        },
+        None => other,
+    }
+}
+
+/// The greatest priority of the enabled alternatives that fit.
+fn greatest_priority(beans: &[Bean], enabled: &[bool], wanted: &Wanted<'_>) -> Option<i64>
+    requires { wanted.now.default.now ≡ default }
+    ensures { result ≡ spec.greatest_priority (those_left wanted.now.ty
+        wanted.now.qualifiers.now Left.Alternatives beans.now enabled.now) }
+{
+    let mut found = None;
+    for (index, bean) in beans.iter().enumerate() {
+        if is_wanted(enabled, index, bean, wanted, Left::Alternatives) {
+            found = greater(found, bean.priority);
+        }
+    }
+    found
+}
+
+impl Resolver {
+    /// Resolution among those of these beans that a list of flags tells to be enabled, by their indices.
+    pub fn new(alloc: Global, beans: Seq<Bean>, enabled: Seq<bool>) -> Resolver
+        ensures { result ≡ enabled_beans beans enabled }
+    {
+        Resolver {
+            beans,
+            enabled,
+            default: Qualifier {
+                name: BuiltIn::Default.name(),
+                members: Seq::empty(alloc),
+            },
+        }
+    }
+
+    fn wanted<'a>(&'a self, ty: Name, qualifiers: &'a QualSet) -> Wanted<'a>
+        ensures ty { result.ty ≡ ty }
+        ensures qualifiers { result.qualifiers.now ≡ qualifiers.now }
+        ensures default { result.default.now ≡ default }
+    {
+        Wanted {
+            ty,
+            qualifiers,
+            default: &self.default,
+        }
+    }
+
+    /// The only bean that is left.
+    fn only(&self, wanted: &Wanted<'_>, left: Left) -> Resolution
+        requires { wanted.now.default.now ≡ default }
+        ensures { result ≡ spec.sole
+            (filter (λ b. passes_of wanted.now.ty wanted.now.qualifiers.now left b.1) self.now) }
+    {
+        sole(self.beans.as_slice(), self.enabled.as_slice(), wanted, left)
+    }
+
+    /// The only one of the alternatives that fit with a priority.
+    fn only_with(&self, wanted: &Wanted<'_>, priority: i64) -> Resolution
+        requires { wanted.now.default.now ≡ default }
+        ensures { result ≡ spec.sole (filter (λ b. passes_of wanted.now.ty
+            wanted.now.qualifiers.now (Left.WithPriority priority) b.1) self.now) }
+    {
+        self.only(wanted, Left::WithPriority(priority))
+    }
+
+    /// The only one of the alternatives that fit with the highest priority.
+    fn with_greatest(&self, wanted: &Wanted<'_>) -> Resolution
+        requires { wanted.now.default.now ≡ default }
+        ensures { result ≡ spec.one_or_many (spec.sole (spec.highest
+            (spec.alternatives (spec.eligible wanted.now.ty wanted.now.qualifiers.now self.now)))) }
+    {
+        match greatest_priority(self.beans.as_slice(), self.enabled.as_slice(), wanted) {
+            Some(priority) => self.only_with(wanted, priority).one_or_many(),
+            None => Resolution::Many,
+        }
+    }
+
+    /// What the alternatives that fit are narrowed down to by their priorities.
+    fn among_priorities(&self, wanted: &Wanted<'_>) -> Resolution
+        requires { wanted.now.default.now ≡ default }
+        ensures { result ≡ spec.among_priorities
+            (spec.alternatives (spec.eligible wanted.now.ty wanted.now.qualifiers.now self.now)) }
+    {
+        match self.only(wanted, Left::WithoutPriority) {
+            Resolution::Nothing => self.with_greatest(wanted),
+            _ => Resolution::Many,
+        }
+    }
+
+    /// What several beans that fit are narrowed down to.
+    fn among_alternatives(&self, wanted: &Wanted<'_>) -> Resolution
+        requires { wanted.now.default.now ≡ default }
+        ensures { result ≡ spec.among_alternatives
+            (spec.alternatives (spec.eligible wanted.now.ty wanted.now.qualifiers.now self.now)) }
+    {
+        match self.only(wanted, Left::Alternatives) {
+            Resolution::One(bean) => Resolution::One(bean),
+            _ => self.among_priorities(wanted),
+        }
+    }
+
+    /// What a type and qualifiers resolve to (Jakarta CDI 4.0, *Typesafe resolution*, *Unsatisfied and ambiguous dependencies*). No
+    /// qualifiers stand for `Default`. One bean that has the type and each of the qualifiers is enough, whether it is an alternative
+    /// or not. Of several, the one alternative, or product of an alternative, is taken; of several alternatives that all have a
+    /// priority, the one whose priority is the highest.
+    pub fn resolve(&self, ty: Name, qualifiers: &QualSet) -> Resolution
+        ensures { result ≡ spec.resolution ty qualifiers.now self.now }
+    {
+        let wanted = self.wanted(ty, qualifiers);
+        match self.only(&wanted, Left::Eligible) {
+            Resolution::Many => self.among_alternatives(&wanted),
+            told => told,
+        }
+    }
+}
