@@ -12,4 +12,6 @@ mod members;
 #[cfg(test)]
 mod quals;
 #[cfg(test)]
+mod resolution;
+#[cfg(test)]
 mod types;
