@@ -1,1 +1,4 @@
+pub mod LostTypes
+pub mod Mapped
 pub mod NameLists
+pub mod Pairs

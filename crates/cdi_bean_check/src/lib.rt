@@ -3,13 +3,23 @@
 #![tactic(auto)]
 
 pub mod abstract_bean;
+pub mod bean_classes;
 pub mod bean_names;
+pub mod bean_types;
 pub mod bindings;
+pub mod disposers;
+pub mod lost_types;
+pub mod required;
 pub mod specialization;
 pub mod typed;
 
 pub use abstract_bean::AbstractBean;
+pub use bean_classes::BeanClasses;
 pub use bean_names::BeanNames;
+pub use bean_types::{is_bean_type, is_type_of_class};
 pub use bindings::TwoBindingsOfOneType;
+pub use disposers::{TwoDisposers, UnmatchedDisposer, serves};
+pub use lost_types::SpecializedTypeLost;
+pub use required::has_required;
 pub use specialization::SpecializesNothing;
 pub use typed::TypedNotAType;
