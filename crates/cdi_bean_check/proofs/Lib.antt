@@ -1,3 +1,4 @@
+pub mod Counts
 pub mod LostTypes
 pub mod Mapped
 pub mod NameLists
