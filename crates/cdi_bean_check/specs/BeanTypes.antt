@@ -54,14 +54,21 @@ HasTypedNotAType types _ = ⊥
 abbrev pub IsTypeOfClass : List TypeDeclaration → Class → ℕ → Type 0
 IsTypeOfClass types c type = IsBeanType types c.name (restriction c.bean) type
 
+-- a type of a class that another hasn't
+pub record IsLost (types : List TypeDeclaration) (specialized c : Class) (type : ℕ) : Type 0 where
+  pub its_type : IsTypeOfClass types specialized type
+  pub lost : IsTypeOfClass types c type → ⊥
+
+pub record LacksTypeOf (types : List TypeDeclaration) (specialized c : Class) : Type 0 where
+  pub type : ℕ
+  pub is_lost : IsLost types specialized c type
+
 -- a class directly specializes a bean, and lacks one of that bean's types
 pub record LosesType (classes : List Class) (types : List TypeDeclaration) (c : Class) : Type 0 where
   pub says : IsTrue (says_specializes c.bean)
   pub specialized : Class
   pub extends_it : extended_bean classes c ≡ Some specialized
-  pub type : ℕ
-  pub its_type : IsTypeOfClass types specialized type
-  pub lost : IsTypeOfClass types c type → ⊥
+  pub lacks : LacksTypeOf types specialized c
 
 -- P7 SpecializedTypeLost: a bean directly specializes another and lacks a bean type of that
 abbrev pub HasSpecializedTypeLost : List Class → List TypeDeclaration → Element → Type 0

@@ -24,30 +24,46 @@ Serves types qualifiers m (members.Producer p) = Fits types qualifiers m p.ty p.
 Serves types qualifiers m (members.ProducerField p) = Fits types qualifiers m p.ty p.typed p.quals
 Serves types qualifiers m _ = ⊥
 
+-- a disposer serves none of these members
+abbrev pub ServesNone : List TypeDeclaration → List QualifierType → List Member → Disposer → Type 0
+ServesNone types qualifiers all m = (producer : Member) → Contains all producer → Serves types qualifiers m producer → ⊥
+
 -- a disposer of a bean serves no member of its class
 pub record ServesNothing (types : List TypeDeclaration) (qualifiers : List QualifierType) (c : Class) (m : Disposer) : Type 0 where
   pub of_bean : IsTrue (is_bean c)
-  pub nothing : (producer : Member) → Contains c.members producer → Serves types qualifiers m producer → ⊥
+  pub nothing : ServesNone types qualifiers c.members m
+
+abbrev pub IsUnmatched : List TypeDeclaration → List QualifierType → Class → Member → Type 0
+IsUnmatched types qualifiers c (members.Disposer m) = ServesNothing types qualifiers c m
+IsUnmatched types qualifiers c _ = ⊥
 
 -- P8 UnmatchedDisposer: a bean's disposer serves no producer
 abbrev pub IsUnmatchedDisposer : List TypeDeclaration → List QualifierType → Element → Type 0
-IsUnmatchedDisposer types qualifiers (Element.AMember i c (members.Disposer m)) = ServesNothing types qualifiers c m
+IsUnmatchedDisposer types qualifiers (Element.AMember i c m) = IsUnmatched types qualifiers c m
 IsUnmatchedDisposer types qualifiers _ = ⊥
 
--- two disposers of a bean serve one member
-pub record HasTwo (types : List TypeDeclaration) (qualifiers : List QualifierType) (c : Class) (producer : Member) : Type 0 where
-  pub of_bean : IsTrue (is_bean c)
+-- a member is a disposer that serves another
+abbrev pub Disposes : List TypeDeclaration → List QualifierType → Member → Member → Type 0
+Disposes types qualifiers (members.Disposer m) producer = Serves types qualifiers m producer
+Disposes types qualifiers _ producer = ⊥
+
+-- two of these members are disposers that serve another
+pub record HasTwo (types : List TypeDeclaration) (qualifiers : List QualifierType) (all : List Member) (producer : Member) : Type 0 where
   pub one : ℕ
   pub other : ℕ
   pub two : one < other
-  pub first : Disposer
-  pub first_is : slice_get c.members one ≡ Some (members.Disposer first)
-  pub first_serves : Serves types qualifiers first producer
-  pub second : Disposer
-  pub second_is : slice_get c.members other ≡ Some (members.Disposer second)
-  pub second_serves : Serves types qualifiers second producer
+  pub first : Member
+  pub first_is : slice_get all one ≡ Some first
+  pub first_serves : Disposes types qualifiers first producer
+  pub second : Member
+  pub second_is : slice_get all other ≡ Some second
+  pub second_serves : Disposes types qualifiers second producer
 
--- P9 TwoDisposers: two disposers serve one producer
+pub record IsServedTwice (types : List TypeDeclaration) (qualifiers : List QualifierType) (c : Class) (producer : Member) : Type 0 where
+  pub of_bean : IsTrue (is_bean c)
+  pub served : HasTwo types qualifiers c.members producer
+
+-- P9 TwoDisposers: two disposers of a bean serve one producer
 abbrev pub HasTwoDisposers : List TypeDeclaration → List QualifierType → Element → Type 0
-HasTwoDisposers types qualifiers (Element.AMember i c m) = HasTwo types qualifiers c m
+HasTwoDisposers types qualifiers (Element.AMember i c m) = IsServedTwice types qualifiers c m
 HasTwoDisposers types qualifiers _ = ⊥

@@ -4,6 +4,7 @@ pub mod Disposers
 pub mod Inherited
 pub mod Limits
 pub mod ManagedBeans
+pub mod MemberPlaces
 pub mod NameSets
 pub mod Observers
 pub mod Qualifiers

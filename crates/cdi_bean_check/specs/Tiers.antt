@@ -6,6 +6,7 @@ use Rattle.cdi_problems.specs.Elements.{Element, elements_of}
 use Rattle.cdi_problems.specs.Findings.{ArePlacesOf}
 use Rattle.cdi_problems.specs.Words.{problems_at}
 use Rattle.cdi_problems.specs.declared.problem.Problem.{Problem}
+use Rattle.cdi_problems.specs.declared.problem.ProblemKind.{ProblemKind}
 use Rattle.cdi_problems.specs.declared.problem.ProblemKind.TheVariants as kinds
 use Rattle.cdi_quals.specs.declared.types.QualifierType.{QualifierType}
 use Rattle.cdi_types.specs.Declarations.{declarations_of}
@@ -25,6 +26,18 @@ PlacesIn d P found = ArePlacesOf P (elements_of d) found
 pub data AreTooMany (d : Deployment) : List Problem → Type 0 where
   too_many : HasTooMany d.classes (declarations_of d) → AreTooMany d ((record { kind = kinds.TooMany; place = None }) ∷ [])
   few : ¬ HasTooMany d.classes (declarations_of d) → AreTooMany d []
+
+-- to a list are added the problems of a kind, where it holds of some elements
+pub record AddsProblems (P : Element → Type 0) (elements : List Element) (kind : ProblemKind) (old new : List Problem) : Type 0 where
+  pub places : List Place
+  pub are : ArePlacesOf P elements places
+  pub adds : new ≡ old ++ problems_at kind places
+
+-- and that there are too many, if there are
+pub record AddsExcess (d : Deployment) (old new : List Problem) : Type 0 where
+  pub excess : List Problem
+  pub are : AreTooMany d excess
+  pub adds : new ≡ old ++ excess
 
 -- the problems of beans: each where it holds, by number and then in the order of the places
 pub record AreBeanProblems (d : Deployment) (qualifiers : List QualifierType) (problems : List Problem) : Type 0 where

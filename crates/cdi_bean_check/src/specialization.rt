@@ -13,7 +13,7 @@ pub struct SpecializesNothing<'a> {
     pub beans: &'a BeanNames,
 }
 
-fn says_specializes(bean: &Option<Bean>) -> bool
+pub(crate) fn says_specializes(bean: &Option<Bean>) -> bool
     ensures { result ≡ spec.says_specializes bean.now }
 {
     match bean {
