@@ -1,5 +1,5 @@
 -- The bean types that a restriction leaves.
-use Rattle.std.proofs.Common.{◌≡◌, ◌∙◌, Bool, true, false, cond, ℕ, List, [], ◌∷◌, filter, Option, refl, sym, true≢false, IsTrue}
+use Rattle.std.proofs.Common.{◌≡◌, ◌∙◌, Bool, true, false, cond, ℕ, List, ◌∷◌, filter, Option, refl, sym, true≢false}
 use Rattle.cdi_reach.specs.ListsThose.{ListsThose}
 use Rattle.cdi_types.specs.Subtype.{IsSubtype}
 use Rattle.cdi_types.specs.declared.declaration.TypeDeclaration.{TypeDeclaration}
