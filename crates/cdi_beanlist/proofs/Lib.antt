@@ -1,0 +1,7 @@
+pub mod Adding
+pub mod ObserverLists
+pub mod Restricted
+pub mod Served
+pub mod Sets
+pub mod Sorted
+pub mod Specialized

@@ -32,12 +32,16 @@ pub record AreEnabled (d : Deployment) (enabled : List Indexed) : Type 0 where
   pub in_order : IsOrderedSet compare_priorities (filter has_priority (enumerate_from 0 d.interceptors)) by_priority
   pub are : enabled ≡ by_priority ++ filter_map (listed (enumerate_from 0 d.interceptors)) d.order
 
-pub record IsEnabledInterceptor (d : Deployment) (bindings : List QualifierType) (p : Indexed) (j : EnabledInterceptor) : Type 0 where
+pub record IsEnabledInterceptor (names : List (List ℕ)) (bindings : List QualifierType) (p : Indexed) (j : EnabledInterceptor) : Type 0 where
   pub index : j.index ≡ p.0
   pub name : j.name ≡ p.1.name
-  pub bound : IsSetOf d.names bindings p.1.bindings j.bindings
+  pub bound : IsSetOf names bindings p.1.bindings j.bindings
+  pub invoke : j.invoke ≡ p.1.invoke
+  pub construct : j.construct ≡ p.1.construct
+  pub post : j.post ≡ p.1.post
+  pub pre : j.pre ≡ p.1.pre
 
 pub record AreInterceptorsOf (d : Deployment) (bindings : List QualifierType) (interceptors : List EnabledInterceptor) : Type 0 where
   pub enabled : List Indexed
   pub are_enabled : AreEnabled d enabled
-  pub each : AllZip (IsEnabledInterceptor d bindings) enabled interceptors
+  pub each : AllZip (IsEnabledInterceptor d.names bindings) enabled interceptors

@@ -1,2 +1,6 @@
+pub mod Adds
+pub mod BeanLists
 pub mod Beans
+pub mod DisposerMethods
 pub mod Interceptors
+pub mod ObserverMethods

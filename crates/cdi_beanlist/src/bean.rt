@@ -13,6 +13,14 @@ pub enum BeanKind {
     ProducerField(Name),
 }
 
+/// A member that a bean has (Jakarta CDI 4.0, *Inheritance of member-level metadata*).
+#[derive(Clone, Copy, Debug, PartialEq, Eq)]
+pub struct BeanMember {
+    /// The class that declares it: that of the bean, or a superclass.
+    pub class: Name,
+    pub name: Name,
+}
+
 /// A bean (Jakarta CDI 4.0, *Beans*), enabled or not.
 #[derive(Debug, Drop)]
 pub struct Bean {
@@ -28,6 +36,8 @@ pub struct Bean {
     pub alternative: bool,
     /// The priority of its class, if it has one.
     pub priority: Option<i64>,
+    /// The members of a managed bean, those of the topmost superclass first; a product has none.
+    pub members: Seq<BeanMember>,
 }
 
 /// An enabled interceptor (Jakarta Interceptors 2.1, *Enabling Interceptors*).
@@ -37,6 +47,14 @@ pub struct EnabledInterceptor {
     pub index: usize,
     pub name: Name,
     pub bindings: QualSet,
+    /// The body of the around-invoke method.
+    pub invoke: Option<Name>,
+    /// The body of the around-construct method.
+    pub construct: Option<Name>,
+    /// The body of the post-construct method.
+    pub post: Option<Name>,
+    /// The body of the pre-destroy method.
+    pub pre: Option<Name>,
 }
 
 /// An observer method of a bean (Jakarta CDI 4.0, *Observer methods*).

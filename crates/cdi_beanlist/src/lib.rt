@@ -2,5 +2,17 @@
 #![tactic(auto)]
 
 pub mod bean;
+mod bean_classes;
+mod beans;
+mod disposers;
+mod interceptors;
+pub mod list;
+mod observers;
+mod tables;
+mod types;
+mod uses;
 
-pub use bean::{Bean, BeanKind, BeanList, DisposerMethod, EnabledInterceptor, ObserverMethod};
+pub use bean::{
+    Bean, BeanKind, BeanList, BeanMember, DisposerMethod, EnabledInterceptor, ObserverMethod,
+};
+pub use list::list_beans;
