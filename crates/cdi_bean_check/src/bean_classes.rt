@@ -3,8 +3,10 @@ ghost use Rattle.std.specs.Prelude.{◌≡◌, ◌==◌, ◌&&◌, ℕ, position
 ghost use Rattle.std.specs.HashMap.{get};
 ghost use Rattle.std.specs.Option.{option_copied};
 ghost use Rattle.cdi_bean_check.specs.ManagedBeans as spec;
+ghost use Rattle.cdi_bean_check.specs.Qualifiers.{specialized_bean};
 
 use crate::bean_names::is_bean;
+use crate::specialization::says_specializes;
 use cdi_base::Name;
 use cdi_deployment::Class;
 use std::alloc::{AllocError, Global};
@@ -72,5 +74,15 @@ impl<'a> BeanClasses<'a> {
             Some(name) => self.class(name),
             None => None,
         }
+    }
+
+    /// The bean, by its class, that a class directly specializes (Jakarta CDI 4.0, *Specialization*), if it does.
+    pub fn specialized(&self, class: &Class) -> Option<&'a Class>
+        ensures { option_copied result ≡ specialized_bean self.now class.now }
+    {
+        if !says_specializes(&class.bean) {
+            return None;
+        }
+        self.extended(class)
     }
 }

@@ -13,8 +13,8 @@ fn lists(typed: &[Name], ty: Name) -> bool
     typed.iter().any(|other| *other == ty)
 }
 
-/// Whether a restriction leaves a type.
-fn is_left(typed: &Option<Seq<Name>>, ty: Name) -> bool
+/// Whether a restriction leaves a type (Jakarta CDI 4.0, *Restricting the bean types of a bean*).
+pub fn is_left(typed: &Option<Seq<Name>>, ty: Name) -> bool
     ensures { result ≡ spec.is_left typed.now ty }
 {
     match typed {

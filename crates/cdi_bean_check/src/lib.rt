@@ -21,7 +21,7 @@ pub mod typed;
 pub use abstract_bean::AbstractBean;
 pub use bean_classes::BeanClasses;
 pub use bean_names::BeanNames;
-pub use bean_types::{is_bean_type, is_type_of_class};
+pub use bean_types::{is_bean_type, is_left, is_type_of_class};
 pub use bindings::TwoBindingsOfOneType;
 pub use conditional::{ConditionalDependent, conditional_of_dependent};
 pub use disposers::{TwoDisposers, UnmatchedDisposer, serves};

@@ -1,5 +1,5 @@
 -- One member more that a disposer may serve.
-use Rattle.std.proofs.Common.{◌≡◌, ◌∙◌, ℕ, ◌+◌, ◌<◌, Bool, true, false, List, [], ◌∷◌, ◌++◌, length, take, get_or, MatchBool, refl, sym, ap, subst}
+use Rattle.std.proofs.Common.{◌≡◌, ◌∙◌, ℕ, ◌+◌, ◌<◌, List, [], ◌∷◌, ◌++◌, length, take, get_or, refl, sym, ap, subst}
 use Rattle.std.proofs.lemmas.List.{map-append}
 use Rattle.cdi_deployment.specs.declared.deployment.Disposer.{Disposer}
 use Rattle.cdi_deployment.specs.declared.deployment.Member.{Member}
@@ -11,15 +11,6 @@ use Rattle.cdi_types.specs.declared.declaration.TypeDeclaration.{TypeDeclaration
 use Rattle.cdi_bean_check.specs.Disposers.{Serves}
 use Rattle.cdi_beanlist.specs.DisposerMethods.{AreServed}
 use Rattle.cdi_beanlist.proofs.Adding.{next_of}
-
--- what a test says
-pub told : (P Q : Type 0) (b : Bool) → MatchBool b P Q → b ≡ true → P
-told P Q true h e = h
-told P Q false h e = absurd cc
-
-pub denied : (P Q : Type 0) (b : Bool) → MatchBool b P Q → b ≡ false → Q
-denied P Q true h e = absurd cc
-denied P Q false h e = h
 
 module _ (types : List TypeDeclaration) (qualifiers : List QualifierType) (m : Disposer) (ms : List Member) (i : ℕ) (x : Member) (lt : i < length ms) (is : x ≡ get_or ms i x) where
   next : take i ms ++ x ∷ [] ≡ take (i + 1) ms

@@ -18,7 +18,7 @@ use Rattle.cdi_bean_check.specs.BeanTypes.{IsBeanType, restriction}
 use Rattle.cdi_bean_check.specs.Inherited.{AreMembersOf}
 use Rattle.cdi_bean_check.specs.Limits.{is_producer}
 use Rattle.cdi_bean_check.specs.ManagedBeans.{is_bean}
-use Rattle.cdi_bean_check.specs.Qualifiers.{AreUsesOf, uses_with_built_in, IsSetOf}
+use Rattle.cdi_bean_check.specs.Qualifiers.{AreUsesOf, uses_with_built_in, IsSetOf, specialized_bean}
 use Rattle.cdi_beanlist.specs.declared.bean.Bean.{Bean}
 use Rattle.cdi_beanlist.specs.declared.bean.BeanKind.{BeanKind}
 use Rattle.cdi_beanlist.specs.declared.bean.BeanKind.TheVariants as kinds
@@ -61,19 +61,21 @@ pub record IsBeanWith (d : Deployment) (qualifiers : List QualifierType) (kind :
 abbrev pub bean_member : Class × Member → BeanMember
 bean_member (c, m) = record { class = c.name; name = member_name m }
 
--- the members of a class, its own and those that it inherits
-pub record HasMembersOf (d : Deployment) (c : Class) (b : Bean) : Type 0 where
+-- what a managed bean has of its class and its superclasses: the bean that it specializes, and its members, with those that it inherits
+pub record IsManagedBeanOf (d : Deployment) (c : Class) (b : Bean) : Type 0 where
+  pub specializes : b.specializes ≡ option_map (λ s. s.name) (specialized_bean d.classes c)
   pub has : List (Class × Member)
   pub had : AreMembersOf d.classes (declarations_of d) c has
   pub are : b.members ≡ map bean_member has
 
--- a product of a class's producer: declared by the class, and without members
+-- a product of a class's producer: declared by the class, and without members; it specializes none
 pub record IsProductOf (c : Class) (b : Bean) : Type 0 where
   pub declared : IsDeclaredBy c b
+  pub specializes : b.specializes ≡ None
   pub no_members : b.members ≡ []
 
 pub data IsBeanOf (d : Deployment) (qualifiers : List QualifierType) : Source → Bean → Type 0 where
-  managed : {c : Class} {uses : List Use} {b : Bean} → AreUsesOf d.classes c uses → IsDeclaredBy c b → HasMembersOf d c b
+  managed : {c : Class} {uses : List Use} {b : Bean} → AreUsesOf d.classes c uses → IsDeclaredBy c b → IsManagedBeanOf d c b
       → IsBeanWith d qualifiers kinds.Managed c.name (restriction c.bean) uses (option_map (λ bean. bean.scope) c.bean) b
       → IsBeanOf d qualifiers (Source.AClass c) b
   produced : {c : Class} {p : ProducerMethod} {b : Bean} → IsProductOf c b

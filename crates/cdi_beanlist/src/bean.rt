@@ -36,6 +36,8 @@ pub struct Bean {
     pub alternative: bool,
     /// The priority of its class, if it has one.
     pub priority: Option<i64>,
+    /// The class of the bean that it directly specializes, if it does (Jakarta CDI 4.0, *Specialization*); a product specializes none.
+    pub specializes: Option<Name>,
     /// The members of a managed bean, those of the topmost superclass first; a product has none.
     pub members: Seq<BeanMember>,
 }
@@ -89,6 +91,8 @@ pub struct DisposerMethod {
 #[derive(Debug, Drop)]
 pub struct BeanList {
     pub beans: Seq<Bean>,
+    /// The classes whose beans are selected alternatives without a priority (Jakarta CDI 4.0, *Declaring selected alternatives*).
+    pub selected: Seq<Name>,
     pub interceptors: Seq<EnabledInterceptor>,
     pub observers: Seq<ObserverMethod>,
     pub disposers: Seq<DisposerMethod>,

@@ -61,6 +61,7 @@ fn managed<'a>(
         scope: declared.scope,
         alternative: declared.alternative,
         priority: declared.priority,
+        specializes: tables.specialized(class),
         members,
     })
 }
@@ -89,6 +90,7 @@ fn produced(
         scope: producer.scope,
         alternative: declared.alternative,
         priority: declared.priority,
+        specializes: None,
         members: Seq::empty(alloc),
     })
 }
@@ -117,6 +119,7 @@ fn held(
         scope: producer.scope,
         alternative: declared.alternative,
         priority: declared.priority,
+        specializes: None,
         members: Seq::empty(alloc),
     })
 }

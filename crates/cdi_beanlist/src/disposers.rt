@@ -1,99 +1,18 @@
 //! The disposers of beans, with the producers that they serve.
-ghost use Rattle.std.specs.Prelude.{◌≡◌, [], ◌∷◌, filter, MatchBool, IfOk, OnOk};
+ghost use Rattle.std.specs.Prelude.{◌≡◌, [], ◌∷◌, filter, IfOk, OnOk};
 ghost use Rattle.std.specs.List.{flat_map, filter_map, AllZip};
 ghost use Rattle.cdi_types.specs.Declarations.{declarations_of};
-ghost use Rattle.cdi_bean_check.specs.Disposers.{Fits, Serves};
 ghost use Rattle.cdi_bean_check.specs.ManagedBeans.{is_bean};
-ghost use Rattle.cdi_bean_check.specs.Qualifiers.{full_uses, uses_with_built_in as built_in_and, required_uses as required_of};
-ghost use Rattle.cdi_quals.specs.Qualifiers.{has_all};
 ghost use Rattle.cdi_beanlist.specs.Adds.{Adds};
 ghost use Rattle.cdi_beanlist.specs.DisposerMethods as spec;
 
 use crate::bean::DisposerMethod;
 use crate::tables::Tables;
-use crate::types::is_left;
-use crate::uses::{required_uses, uses_with_built_in};
-use cdi_base::{Name, Seq, Use};
+use cdi_base::{Name, Seq};
+use cdi_bean_check::serves;
 use cdi_deployment::{Class, Disposer, Member};
 use cdi_members::member_name;
 use std::alloc::{AllocError, Global};
-
-/// Whether what has these uses as a bean has all that the disposed parameter requires.
-fn has_required(
-    alloc: Global,
-    tables: &Tables<'_>,
-    disposer: &Disposer,
-    uses: &[Use],
-) -> Result<bool, AllocError>
-    ensures { IfOk result (λ had. had ≡ has_all
-        (full_uses tables.now.qualifiers.now (built_in_and uses.now))
-        (full_uses tables.now.qualifiers.now (required_of disposer.now.quals))) }
-{
-    let declared = uses_with_built_in(alloc, uses)?;
-    let own = tables.set_of(alloc, declared.as_slice())?;
-    let wanted = required_uses(alloc, disposer.quals.as_slice())?;
-    let required = tables.set_of(alloc, wanted.as_slice())?;
-    Ok(own.has_all(&required))
-}
-
-/// Whether a product of this type that is restricted so and has these uses has the type and the qualifiers of the disposed parameter
-/// (Jakarta CDI 4.0, *Disposed parameter of a disposer method*).
-fn fits(
-    alloc: Global,
-    tables: &Tables<'_>,
-    disposer: &Disposer,
-    of: Name,
-    typed: &Option<Seq<Name>>,
-    uses: &[Use],
-) -> Result<bool, AllocError>
-    ensures { IfOk result (λ does. MatchBool does
-        (Fits (declarations_of tables.now.deployment.now) tables.now.qualifiers.now disposer.now
-        of typed.now uses.now)
-        (¬ Fits (declarations_of tables.now.deployment.now) tables.now.qualifiers.now
-        disposer.now of typed.now uses.now)) }
-{
-    if !tables.types.is_subtype(of, disposer.ty) {
-        return Ok(false);
-    }
-    if !is_left(typed, disposer.ty) {
-        return Ok(false);
-    }
-    has_required(alloc, tables, disposer, uses)
-}
-
-/// Whether a disposer serves a member of its class.
-fn serves(
-    alloc: Global,
-    tables: &Tables<'_>,
-    disposer: &Disposer,
-    member: &Member,
-) -> Result<bool, AllocError>
-    ensures { IfOk result (λ does. MatchBool does
-        (Serves (declarations_of tables.now.deployment.now) tables.now.qualifiers.now
-        disposer.now member.now)
-        (¬ Serves (declarations_of tables.now.deployment.now) tables.now.qualifiers.now
-        disposer.now member.now)) }
-{
-    match member {
-        Member::Producer(producer) => fits(
-            alloc,
-            tables,
-            disposer,
-            producer.ty,
-            &producer.typed,
-            producer.quals.as_slice(),
-        ),
-        Member::ProducerField(producer) => fits(
-            alloc,
-            tables,
-            disposer,
-            producer.ty,
-            &producer.typed,
-            producer.quals.as_slice(),
-        ),
-        _ => Ok(false),
-    }
-}
 
 /// The names of those members that a disposer serves.
 fn served(
@@ -107,8 +26,7 @@ fn served(
 {
     let mut names = Seq::empty(alloc);
     for member in members {
-        let is_served = serves(alloc, tables, disposer, member)?;
-        if is_served {
+        if serves(tables.types, tables.qualifiers, disposer, member) {
             names.push(member_name(member))?;
         }
     }

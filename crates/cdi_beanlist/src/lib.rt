@@ -2,7 +2,6 @@
 #![tactic(auto)]
 
 pub mod bean;
-mod bean_classes;
 mod beans;
 mod disposers;
 mod interceptors;

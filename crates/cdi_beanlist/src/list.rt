@@ -9,10 +9,17 @@ use crate::disposers::disposers_of;
 use crate::interceptors::interceptors_of;
 use crate::observers::observers_of;
 use crate::tables::Tables;
+use cdi_base::{Name, Seq};
 use cdi_deployment::Deployment;
 use cdi_quals::QualifierTypes;
 use cdi_types::TypeTable;
 use std::alloc::{AllocError, Global};
+
+fn copy_of(alloc: Global, names: &[Name]) -> Result<Seq<Name>, AllocError>
+    ensures { IfOk result (λ copy. copy ≡ names.now) }
+{
+    Ok(Seq::new(Vec::from_slice(alloc, names)?))
+}
 
 /// The beans of a deployment, and what belongs to them, by the table of its types, the types of its qualifiers and those of its
 /// interceptor bindings (Jakarta CDI 4.0, *Beans*). Of classes with one name the first counts where a name is looked up: among all
@@ -29,11 +36,13 @@ pub fn list_beans(
 {
     let tables = Tables::build(alloc, deployment, types, qualifiers)?;
     let beans = beans_of(alloc, &tables)?;
+    let selected = copy_of(alloc, deployment.selected.as_slice())?;
     let interceptors = interceptors_of(alloc, deployment, bindings)?;
     let observers = observers_of(alloc, &tables)?;
     let disposers = disposers_of(alloc, &tables)?;
     Ok(BeanList {
         beans,
+        selected,
         interceptors,
         observers,
         disposers,

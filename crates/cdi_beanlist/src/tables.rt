@@ -1,16 +1,16 @@
 //! What a bean list is made from.
-ghost use Rattle.std.specs.Prelude.{◌≡◌, Contains, IfOk};
+ghost use Rattle.std.specs.Prelude.{◌≡◌, Contains, option_map, IfOk};
 ghost use Rattle.cdi_reach.specs.ListsThose.{ListsThose};
 ghost use Rattle.cdi_types.specs.Declarations.{declarations_of};
 ghost use Rattle.cdi_types.specs.Subtype.{all_types};
 ghost use Rattle.cdi_bean_check.specs.BeanTypes.{IsBeanType};
 ghost use Rattle.cdi_bean_check.specs.Inherited.{AreMembersOf};
-ghost use Rattle.cdi_bean_check.specs.Qualifiers.{AreUsesOf, IsSetOf};
+ghost use Rattle.cdi_bean_check.specs.Qualifiers.{AreUsesOf, IsSetOf, specialized_bean};
 
-use crate::bean_classes::BeanClasses;
 use crate::types::bean_types;
 use crate::uses::uses_of;
 use cdi_base::{Name, Seq, Use};
+use cdi_bean_check::BeanClasses;
 use cdi_deployment::{Class, Deployment, Member};
 use cdi_members::{ClassIndex, ClassPart};
 use cdi_quals::{QualSet, QualifierTypes};
@@ -82,6 +82,17 @@ impl<'a> Tables<'a> {
     {
         self.types.law_sound();
         uses_of(alloc, &self.beans, class)
+    }
+
+    /// The class of the bean that a class directly specializes, if it does.
+    pub(crate) fn specialized(&self, class: &Class) -> Option<Name>
+        ensures { result ≡ option_map (λ s. s.name)
+            (specialized_bean self.now.deployment.now.classes class.now) }
+    {
+        match self.beans.specialized(class) {
+            Some(specialized) => Some(specialized.name),
+            None => None,
+        }
     }
 
     /// The members that a class has, each with the class that declares it.

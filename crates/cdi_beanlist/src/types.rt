@@ -1,29 +1,13 @@
 //! The types of beans.
-ghost use Rattle.std.specs.Prelude.{◌≡◌, ◌==◌, IfOk};
-ghost use Rattle.std.specs.List.{list_any};
+ghost use Rattle.std.specs.Prelude.{IfOk};
 ghost use Rattle.cdi_reach.specs.ListsThose.{ListsThose};
 ghost use Rattle.cdi_types.specs.Subtype.{all_types};
 ghost use Rattle.cdi_bean_check.specs.BeanTypes as spec;
 
-use cdi_base::{BuiltIn, Name, Seq};
+use cdi_base::{Name, Seq};
+use cdi_bean_check::is_left;
 use cdi_types::TypeTable;
 use std::alloc::{AllocError, Global};
-
-fn is_listed(names: &[Name], name: Name) -> bool
-    ensures { result ≡ list_any (λ n. n == name) names.now }
-{
-    names.iter().any(|other| *other == name)
-}
-
-/// Whether a restriction leaves a type (Jakarta CDI 4.0, *Restricting the bean types of a bean*).
-pub(crate) fn is_left(typed: &Option<Seq<Name>>, name: Name) -> bool
-    ensures { result ≡ spec.is_left typed.now name }
-{
-    match typed {
-        Some(typed) => name == BuiltIn::Object.name() || is_listed(typed.as_slice(), name),
-        None => true,
-    }
-}
 
 /// The bean types of what has this type and is restricted so (Jakarta CDI 4.0, *Bean types*).
 pub(crate) fn bean_types(

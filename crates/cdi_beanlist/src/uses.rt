@@ -4,8 +4,8 @@ ghost use Rattle.cdi_bean_check.specs.Qualifiers as spec;
 ghost use Rattle.cdi_types.specs.Declarations.{of_class};
 ghost use Rattle.cdi_types.specs.Subtype.{IsAcyclic};
 
-use crate::bean_classes::BeanClasses;
 use cdi_base::{BuiltIn, Seq, Use};
+use cdi_bean_check::BeanClasses;
 use cdi_deployment::Class;
 use std::alloc::{AllocError, Global};
 
@@ -84,18 +84,6 @@ pub(crate) fn uses_with_built_in(alloc: Global, declared: &[Use]) -> Result<Seq<
 {
     let mut uses = Seq::empty(alloc);
     add_with_built_in(alloc, declared, &mut uses)?;
-    Ok(uses)
-}
-
-/// The uses that a point with these requires: `Default` if it has none.
-pub(crate) fn required_uses(alloc: Global, declared: &[Use]) -> Result<Seq<Use>, AllocError>
-    ensures { IfOk result (λ uses. uses ≡ spec.required_uses declared.now) }
-{
-    let mut uses = Seq::empty(alloc);
-    add_uses(declared, &mut uses)?;
-    if declared.is_empty() {
-        uses.push(plain_use(alloc, BuiltIn::Default))?;
-    }
     Ok(uses)
 }
 

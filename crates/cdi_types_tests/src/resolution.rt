@@ -276,6 +276,8 @@ fn bean_of(
         scope: Scope::Dependent,
         alternative: given.is_alternative(),
         priority: given.priority(),
+        specializes: None,
+        members: Seq::empty(alloc),
     }
 }
 

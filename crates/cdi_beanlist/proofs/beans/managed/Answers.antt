@@ -14,7 +14,7 @@ returns c =
     let P : Option (List ℕ) → Type 0 = λ typed. ListsThose (IsBeanType (declarations_of d) c.args.class.now.name typed) (all_types (declarations_of d)) c.in_ok-types.types in
     IsBeanOf.managed c.in_ok-uses.ensures
     (record { class = refl; alternative = sym (ap is_alternative says); priority = sym (ap priority_of says) })
-    (record { has = c.in_ok-has.has; had = c.in_ok-has.ensures; are = c.in_ok-members.ensures ∙ ap (map bean_member) c.as_slice-2.ensures })
+    (record { specializes = c.specialized.ensures; has = c.in_ok-has.has; had = c.in_ok-has.ensures; are = c.in_ok-members.ensures ∙ ap (map bean_member) c.as_slice-2.ensures })
     (record {
       kind_is = refl;
       types = subst P (sym (ap restriction says)) c.in_ok-types.ensures;

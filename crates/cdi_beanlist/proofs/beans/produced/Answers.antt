@@ -11,6 +11,7 @@ returns c =
     IsBeanOf.produced
     (record {
       declared = record { class = refl; alternative = sym (ap is_alternative c.requires); priority = sym (ap priority_of c.requires) };
+      specializes = refl;
       no_members = c.empty.ensures;
     })
     (record {
