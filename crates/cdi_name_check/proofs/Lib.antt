@@ -1,0 +1,2 @@
+pub mod ClaimSets
+pub mod Duplicates

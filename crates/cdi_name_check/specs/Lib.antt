@@ -1,3 +1,4 @@
+pub mod Claims
 pub mod CyclicHierarchy
 pub mod DuplicateName
 pub mod NameProblems
