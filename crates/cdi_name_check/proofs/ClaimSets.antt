@@ -14,7 +14,7 @@ use Rattle.cdi_name_check.specs.declared.claims.Claims.{Claims}
 same_number : (a : ℕ) → nat_eq a a ≡ true
 same_number a = (Decides-eqb a a).1 refl
 
-both : (a b : Bool) → (a && b) ≡ true → (a ≡ true) × (b ≡ true)
+pub both : (a b : Bool) → (a && b) ≡ true → (a ≡ true) × (b ≡ true)
 both true b e = (refl, e)
 both false b e = absurd (true≢false (sym e))
 

@@ -1,12 +1,11 @@
 -- Duplicate names, and one element more that is looked at.
-use Rattle.std.proofs.Common.{◌≡◌, ◌∙◌, ℕ, ◌+◌, ◌<◌, ◌||◌, Bool, true, false, List, [], ◌∷◌, ◌++◌, length, map, take, get_or, refl, sym, ap, subst, true≢false, append_assoc, inl, inr, arith}
+use Rattle.std.proofs.Common.{◌≡◌, ◌∙◌, ℕ, ◌+◌, ◌<◌, ◌||◌, Bool, true, false, List, [], ◌∷◌, ◌++◌, length, take, get_or, refl, sym, ap, subst, true≢false, append_assoc, inl, inr, arith}
 use Rattle.std.proofs.lemmas.List.{take_more, map_push, flat_map_more, append-nil}
 use Rattle.std.proofs.lemmas.List.Elements.{Contains-append_right}
 use Rattle.std.proofs.lemmas.Map.Made.{is_member-Decides}
 use Rattle.std.specs.List.{Contains, list_any}
-use Rattle.cdi_name_check.specs.Claims.{same_claim, has, HasClaims, AddsClaims}
+use Rattle.cdi_name_check.specs.Claims.{has, HasClaims, AddsClaims}
 use Rattle.cdi_name_check.specs.DuplicateName.{claims_of, claims_after, built_in_claims, HasDuplicateName, ListDuplicates}
-use Rattle.cdi_name_check.specs.declared.claim.Claim.{Claim}
 use Rattle.cdi_name_check.specs.declared.claims.Claims.{Claims}
 use Rattle.cdi_name_check.proofs.ClaimSets.{Decides-same_claim, has_more}
 use Rattle.cdi_base.specs.declared.place.Place.{Place}
@@ -25,11 +24,11 @@ placed_after-push : (before es : List Element) (e : Element) → placed_after be
 placed_after-push before [] e = ap (λ b. (record { before = b; element = e }) ∷ []) (sym (append-nil before))
 placed_after-push before (x ∷ xs) e =
     ap (λ ps. (record { before = before; element = x }) ∷ ps) (
-      placed_after-push (before ++ x ∷ []) xs e
-      ∙ ap (λ b. placed_after (before ++ x ∷ []) xs ++ (record { before = b; element = e }) ∷ []) (append_assoc before (x ∷ []) xs)
+    placed_after-push (before ++ x ∷ []) xs e
+    ∙ ap (λ b. placed_after (before ++ x ∷ []) xs ++ (record { before = b; element = e }) ∷ []) (append_assoc before (x ∷ []) xs)
     )
 
-any_found : {X : Type 0} (p : X → Bool) (xs : List X) → list_any p xs ≡ true → (x : X) × Contains xs x × (p x ≡ true)
+pub any_found : {X : Type 0} (p : X → Bool) (xs : List X) → list_any p xs ≡ true → (x : X) × Contains xs x × (p x ≡ true)
 any_found p [] e = absurd (true≢false (sym e))
 any_found p (y ∷ ys) e = by (any_found p ys) (p y) refl e
   where
@@ -37,7 +36,7 @@ any_found p (y ∷ ys) e = by (any_found p ys) (p y) refl e
     by rest true is h = (y, (0, omega arith, refl), is)
     by rest false is h = let r = rest h in (r.0, Contains-append_right (y ∷ []) ys r.0 r.1, r.2)
 
-found_any : {X : Type 0} (p : X → Bool) (xs : List X) (x : X) → Contains xs x → p x ≡ true → list_any p xs ≡ true
+pub found_any : {X : Type 0} (p : X → Bool) (xs : List X) (x : X) → Contains xs x → p x ≡ true → list_any p xs ≡ true
 found_any p [] x at is = absurd (not_in_none [] x refl at)
 found_any p (y ∷ ys) x at is =
     elim (first_or_later y ys x at) [

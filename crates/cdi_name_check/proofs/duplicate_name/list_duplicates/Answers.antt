@@ -27,13 +27,13 @@ loop-element-preserved c =
       listed = (
           elim c.if-again.branch [
             | then-again+in_ok-push w ↦ (
-              let P : List Element → Type 0 = λ es. ListDuplicates es (i.found ++ place_of (element_of e) ∷ []) in
-              rw (w.found-is, w.in_ok-push.ensures.ok, w.place.ensures) (subst P next (keep_duplicate before (element_of e) i.found i.invariant.listed (is_duplicate before (element_of e) i.claims i.invariant.claimed (sym c.in_ok-again.ensures.again ∙ w.if-again.true))))
-              )
+                let P : List Element → Type 0 = λ es. ListDuplicates es (i.found ++ place_of (element_of e) ∷ []) in
+                rw (w.found-is, w.in_ok-push.ensures.ok, w.place.ensures) (subst P next (keep_duplicate before (element_of e) i.found i.invariant.listed (is_duplicate before (element_of e) i.claims i.invariant.claimed (sym c.in_ok-again.ensures.again ∙ w.if-again.true))))
+                )
             | else-again w ↦ (
-              let P : List Element → Type 0 = λ es. ListDuplicates es i.found in
-              rw w.found-is (subst P next (skip_duplicate before (element_of e) i.found i.invariant.listed (is_none before (element_of e) i.claims i.invariant.claimed (sym c.in_ok-again.ensures.again ∙ w.if-again.false))))
-              )
+                let P : List Element → Type 0 = λ es. ListDuplicates es i.found in
+                rw w.found-is (subst P next (skip_duplicate before (element_of e) i.found i.invariant.listed (is_none before (element_of e) i.claims i.invariant.claimed (sym c.in_ok-again.ensures.again ∙ w.if-again.false))))
+                )
           ]
           );
     }
