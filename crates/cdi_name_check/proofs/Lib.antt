@@ -1,0 +1,4 @@
+pub mod ClaimSets
+pub mod Duplicates
+pub mod NameSteps
+pub mod SoundTypes

@@ -1,14 +1,23 @@
 -- Names that stand twice.
-use Rattle.std.specs.Prelude.{List, [], ◌∷◌, ◌++◌, map, Contains}
-use Rattle.std.specs.List.{flat_map}
-use Rattle.cdi_base.specs.BuiltIn.{number_of}
+use Rattle.std.specs.Prelude.{ℕ, ◌≡◌, List, [], ◌∷◌, ◌++◌, map, Option, Some, None, Contains}
+use Rattle.std.specs.List.{flat_map, filter_map}
+use Rattle.cdi_base.specs.BuiltIn.{number_of, all_built_in}
 use Rattle.cdi_base.specs.declared.built_in.BuiltIn.{BuiltIn}
 use Rattle.cdi_base.specs.declared.built_in.BuiltIn.TheVariants as names
+use Rattle.cdi_base.specs.declared.place.Place.{Place}
+use Rattle.cdi_deployment.specs.declared.deployment.Member.{Member}
 use Rattle.cdi_deployment.specs.declared.deployment.Member.TheVariants as members
 use Rattle.cdi_name_check.specs.declared.claim.Claim.{Claim}
 use Rattle.cdi_name_check.specs.declared.claim.Claim.TheVariants as claims
-use Rattle.cdi_problems.specs.Elements.{Element, member_name}
-use Rattle.cdi_problems.specs.Findings.{Placed}
+use Rattle.cdi_problems.specs.Elements.{Element, member_name, place_of}
+use Rattle.cdi_problems.specs.Findings.{Placed, placed}
+use Rattle.cdi_reach.specs.ListsThose.{ListsThose}
+
+-- the name of a member within its class, and the place of a callback
+abbrev pub member_claims : ℕ → Member → List Claim
+member_claims i (members.PostConstruct m) = claims.ClassPart i m.name ∷ claims.PostConstruct i ∷ []
+member_claims i (members.PreDestroy m) = claims.ClassPart i m.name ∷ claims.PreDestroy i ∷ []
+member_claims i m = claims.ClassPart i (member_name m) ∷ []
 
 -- what an element claims for itself alone
 abbrev pub claims_of : Element → List Claim
@@ -20,9 +29,7 @@ claims_of (Element.AClass i c) = claims.Type c.name ∷ []
 claims_of (Element.AField i c f) = claims.ClassPart i f.name ∷ []
 claims_of (Element.AnInjectedField i c f) = claims.ClassPart i f.name ∷ []
 claims_of (Element.AConstructor i c k) = []
-claims_of (Element.AMember i c (members.PostConstruct m)) = claims.ClassPart i m.name ∷ claims.PostConstruct i ∷ []
-claims_of (Element.AMember i c (members.PreDestroy m)) = claims.ClassPart i m.name ∷ claims.PreDestroy i ∷ []
-claims_of (Element.AMember i c m) = claims.ClassPart i (member_name m) ∷ []
+claims_of (Element.AMember i c m) = member_claims i m
 claims_of (Element.AnInterceptor i j) = claims.Type j.name ∷ []
 claims_of (Element.AnInterceptorField i j f) = claims.InterceptorPart i f.name ∷ []
 claims_of (Element.AnInterceptorInjectedField i j f) = claims.InterceptorPart i f.name ∷ []
@@ -30,23 +37,30 @@ claims_of (Element.ASelectedName name) = claims.SelectedName name ∷ []
 claims_of (Element.AnOrderedName name) = claims.OrderedName name ∷ []
 claims_of (Element.AScript s) = claims.Script s.name ∷ []
 
-abbrev pub built_in_types : List BuiltIn
-built_in_types = names.Object ∷ names.Startup ∷ names.Shutdown ∷ []
+-- what a built-in name claims before anything is declared: it is a class, a qualifier, the member of a qualifier, or an exception
+abbrev pub built_in_claim : BuiltIn → Option Claim
+built_in_claim names.Object = Some (claims.Type (number_of names.Object))
+built_in_claim names.Startup = Some (claims.Type (number_of names.Startup))
+built_in_claim names.Shutdown = Some (claims.Type (number_of names.Shutdown))
+built_in_claim names.Any = Some (claims.Qualifier (number_of names.Any))
+built_in_claim names.Default = Some (claims.Qualifier (number_of names.Default))
+built_in_claim names.Named = Some (claims.Qualifier (number_of names.Named))
+built_in_claim names.Initialized = Some (claims.Qualifier (number_of names.Initialized))
+built_in_claim names.BeforeDestroyed = Some (claims.Qualifier (number_of names.BeforeDestroyed))
+built_in_claim names.Destroyed = Some (claims.Qualifier (number_of names.Destroyed))
+built_in_claim names.Value = None
+built_in_claim names.ContextNotActiveException = Some (claims.Exception (number_of names.ContextNotActiveException))
+built_in_claim names.CreationException = Some (claims.Exception (number_of names.CreationException))
+built_in_claim names.IllegalProductException = Some (claims.Exception (number_of names.IllegalProductException))
+built_in_claim names.IllegalStateException = Some (claims.Exception (number_of names.IllegalStateException))
+built_in_claim names.IllegalArgumentException = Some (claims.Exception (number_of names.IllegalArgumentException))
+built_in_claim names.NullPointerException = Some (claims.Exception (number_of names.NullPointerException))
+built_in_claim names.ObserverException = Some (claims.Exception (number_of names.ObserverException))
+built_in_claim names.UnsatisfiedResolutionException = Some (claims.Exception (number_of names.UnsatisfiedResolutionException))
+built_in_claim names.AmbiguousResolutionException = Some (claims.Exception (number_of names.AmbiguousResolutionException))
 
-abbrev pub built_in_qualifiers : List BuiltIn
-built_in_qualifiers = names.Any ∷ names.Default ∷ names.Named ∷ names.Initialized ∷ names.BeforeDestroyed ∷ names.Destroyed ∷ []
-
-abbrev pub built_in_exceptions : List BuiltIn
-built_in_exceptions =
-    names.ContextNotActiveException ∷ names.CreationException ∷ names.IllegalProductException ∷ names.IllegalStateException
-    ∷ names.IllegalArgumentException ∷ names.NullPointerException ∷ names.ObserverException ∷ names.UnsatisfiedResolutionException
-    ∷ names.AmbiguousResolutionException ∷ []
-
--- what is claimed before anything is declared
 abbrev pub built_in_claims : List Claim
-built_in_claims =
-    map (λ n. claims.Type (number_of n)) built_in_types ++ map (λ n. claims.Qualifier (number_of n)) built_in_qualifiers
-    ++ map (λ n. claims.Exception (number_of n)) built_in_exceptions
+built_in_claims = filter_map built_in_claim all_built_in
 
 -- what is claimed once some elements have come
 abbrev pub claims_after : List Element → List Claim
@@ -57,3 +71,9 @@ pub record HasDuplicateName (p : Placed) : Type 0 where
   pub claim : Claim
   pub claimed : Contains (claims_of p.element) claim
   pub earlier : Contains (claims_after p.before) claim
+
+-- the places of duplicate names before each is kept once
+pub record ListDuplicates (elements : List Element) (found : List Place) : Type 0 where
+  pub those : List Placed
+  pub listed : ListsThose HasDuplicateName (placed elements) those
+  pub are : found ≡ map (λ p. place_of p.element) those

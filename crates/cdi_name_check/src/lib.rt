@@ -3,9 +3,16 @@
 #![tactic(auto)]
 
 pub mod claim;
+mod claims;
 pub mod cyclic_hierarchy;
+pub mod duplicate_name;
+pub mod laws;
+pub mod problems;
 pub mod unknown_name;
 
 pub use claim::Claim;
 pub use cyclic_hierarchy::CyclicHierarchy;
+pub use duplicate_name::duplicate_places;
+pub use problems::name_problems;
 pub use unknown_name::UnknownName;
+pub use unknown_name::declared::DeclaredNames;

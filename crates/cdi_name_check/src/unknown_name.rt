@@ -4,11 +4,13 @@ ghost use Rattle.std.specs.List.{list_all};
 ghost use Rattle.cdi_name_check.specs.UnknownName as spec;
 ghost use Rattle.cdi_problems.specs.Elements.{element_of};
 
-mod declared;
+pub mod declared;
+mod name_sets;
 mod uses;
 
+use crate::unknown_name::declared::DeclaredNames;
 use cdi_base::{Name, Seq};
-use cdi_deployment::{AnnotationType, Bean, Class, Deployment, Field, Member, Point};
+use cdi_deployment::{AnnotationType, Bean, Class, Field, Member, Point};
 use cdi_problems::{Element, Rule};
 
 /// A name that an element has isn't declared, or is of the wrong kind: of `extends`, `implements`, `typed`, a type, a use of a
@@ -16,84 +18,86 @@ use cdi_problems::{Element, Rule};
 /// interceptor. `Default` isn't a qualifier of an event.
 #[derive(Clone, Copy)]
 pub struct UnknownName<'a> {
-    pub deployment: &'a Deployment,
+    /// The names of the deployment.
+    pub names: &'a DeclaredNames<'a>,
 }
 
-fn are_interfaces(deployment: &Deployment, names: &[Name]) -> bool
-    ensures { result ≡ list_all (spec.is_interface deployment.now) names.now }
+fn are_interfaces(known: &DeclaredNames<'_>, names: &[Name]) -> bool
+    ensures { result ≡ list_all (spec.is_interface known.now) names.now }
 {
-    names
-        .iter()
-        .all(|name| declared::is_interface(deployment, *name))
+    names.iter().all(|name| known.is_interface(*name))
 }
 
-fn are_types(deployment: &Deployment, names: &[Name]) -> bool
-    ensures { result ≡ list_all (spec.is_type deployment.now) names.now }
+fn are_types(known: &DeclaredNames<'_>, names: &[Name]) -> bool
+    ensures { result ≡ list_all (spec.is_type known.now) names.now }
 {
-    names
-        .iter()
-        .all(|name| declared::is_type(deployment, *name))
+    names.iter().all(|name| known.is_type(*name))
+}
+
+fn stands_in(names: &[Name], name: Name) -> bool
+    ensures { result ≡ spec.stands_in names.now name }
+{
+    names.iter().any(|other| *other == name)
 }
 
 fn are_members(declared: &AnnotationType) -> bool
     ensures { result ≡ list_all (spec.stands_in declared.now.members) declared.now.nonbinding }
 {
-    declared.nonbinding.as_slice().iter().all(|name| declared::stands_in(
-        declared.members.as_slice(),
-        *name,
-    ))
+    declared
+        .nonbinding
+        .as_slice()
+        .iter()
+        .all(|name| stands_in(declared.members.as_slice(), *name))
 }
 
-fn knows_point(deployment: &Deployment, point: &Point) -> bool
-    ensures { result ≡ spec.knows_point deployment.now point.now }
+fn knows_point(known: &DeclaredNames<'_>, point: &Point) -> bool
+    ensures { result ≡ spec.knows_point known.now point.now }
 {
-    declared::is_type(deployment, point.ty)
-        && uses::are_qualifiers(deployment, point.quals.as_slice())
+    known.is_type(point.ty) && uses::are_qualifiers(known, point.quals.as_slice())
 }
 
-fn know_points(deployment: &Deployment, points: &[Point]) -> bool
-    ensures { result ≡ spec.know_points deployment.now points.now }
+fn know_points(known: &DeclaredNames<'_>, points: &[Point]) -> bool
+    ensures { result ≡ spec.know_points known.now points.now }
 {
-    points.iter().all(|point| knows_point(deployment, point))
+    points.iter().all(|point| knows_point(known, point))
 }
 
-fn knows_typed(deployment: &Deployment, typed: &Option<Seq<Name>>) -> bool
-    ensures { result ≡ spec.knows_typed deployment.now typed.now }
+fn knows_typed(known: &DeclaredNames<'_>, typed: &Option<Seq<Name>>) -> bool
+    ensures { result ≡ spec.knows_typed known.now typed.now }
 {
     match typed {
-        Some(typed) => are_types(deployment, typed.as_slice()),
+        Some(typed) => are_types(known, typed.as_slice()),
         None => true,
     }
 }
 
-fn knows_bean(deployment: &Deployment, bean: &Option<Bean>) -> bool
-    ensures { result ≡ spec.knows_bean deployment.now bean.now }
+fn knows_bean(known: &DeclaredNames<'_>, bean: &Option<Bean>) -> bool
+    ensures { result ≡ spec.knows_bean known.now bean.now }
 {
     match bean {
         Some(bean) => {
-            uses::are_qualifiers(deployment, bean.quals.as_slice())
-                && knows_typed(deployment, &bean.typed)
+            uses::are_qualifiers(known, bean.quals.as_slice()) && knows_typed(known, &bean.typed)
         }
         None => true,
     }
 }
 
-fn knows_superclass(deployment: &Deployment, extends: Option<Name>) -> bool
-    ensures { result ≡ spec.knows_superclass deployment.now extends }
+fn knows_superclass(known: &DeclaredNames<'_>, extends: Option<Name>) -> bool
+    ensures { result ≡ spec.knows_superclass known.now extends }
 {
     match extends {
-        Some(name) => declared::is_extensible(deployment, name),
+        Some(name) => known.is_extensible(name),
         None => true,
     }
 }
 
-fn knows_class(deployment: &Deployment, class: &Class) -> bool
-    ensures { result ≡ spec.knows_class deployment.now class.now }
+fn knows_class(known: &DeclaredNames<'_>, class: &Class) -> bool
+    ensures { result ≡ spec.knows_class known.now class.now }
 {
-    knows_superclass(deployment, class.extends)
-        && are_interfaces(deployment, class.implements.as_slice())
-        && uses::are_bindings(deployment, class.bindings.as_slice())
-        && knows_bean(deployment, &class.bean)
+    knows_superclass(known, class.extends)
+        && are_interfaces(known, class.implements.as_slice())
+        && uses::are_bindings(known, class.bindings.as_slice())
+        && knows_bean(known, &class.bean)
 }
 
 fn has_field(fields: &[Field], name: Name) -> bool
@@ -102,70 +106,66 @@ fn has_field(fields: &[Field], name: Name) -> bool
     fields.iter().any(|field| field.name == name)
 }
 
-fn knows_member(deployment: &Deployment, class: &Class, member: &Member) -> bool
-    ensures { result ≡ spec.knows_member deployment.now class.now member.now }
+fn knows_member(known: &DeclaredNames<'_>, class: &Class, member: &Member) -> bool
+    ensures { result ≡ spec.knows_member known.now class.now member.now }
 {
     match member {
-        Member::Method(method) => uses::are_bindings(deployment, method.bindings.as_slice()),
-        Member::Initializer(initializer) => {
-            know_points(deployment, initializer.params.as_slice())
-        }
+        Member::Method(method) => uses::are_bindings(known, method.bindings.as_slice()),
+        Member::Initializer(initializer) => { know_points(known, initializer.params.as_slice()) }
         Member::PostConstruct(_) => true,
         Member::PreDestroy(_) => true,
         Member::Producer(producer) => {
-            declared::is_type(deployment, producer.ty)
-                && uses::are_qualifiers(deployment, producer.quals.as_slice())
-                && knows_typed(deployment, &producer.typed)
-                && know_points(deployment, producer.params.as_slice())
-                && uses::are_bindings(deployment, producer.bindings.as_slice())
+            known.is_type(producer.ty)
+                && uses::are_qualifiers(known, producer.quals.as_slice())
+                && knows_typed(known, &producer.typed)
+                && know_points(known, producer.params.as_slice())
+                && uses::are_bindings(known, producer.bindings.as_slice())
         }
         Member::ProducerField(producer) => {
             has_field(class.fields.as_slice(), producer.field)
-                && declared::is_type(deployment, producer.ty)
-                && uses::are_qualifiers(deployment, producer.quals.as_slice())
-                && knows_typed(deployment, &producer.typed)
+                && known.is_type(producer.ty)
+                && uses::are_qualifiers(known, producer.quals.as_slice())
+                && knows_typed(known, &producer.typed)
         }
         Member::Disposer(disposer) => {
-            declared::is_type(deployment, disposer.ty)
-                && uses::are_qualifiers(deployment, disposer.quals.as_slice())
-                && know_points(deployment, disposer.params.as_slice())
-                && uses::are_bindings(deployment, disposer.bindings.as_slice())
+            known.is_type(disposer.ty)
+                && uses::are_qualifiers(known, disposer.quals.as_slice())
+                && know_points(known, disposer.params.as_slice())
+                && uses::are_bindings(known, disposer.bindings.as_slice())
         }
         Member::Observer(observer) => {
-            declared::is_type(deployment, observer.ty)
-                && uses::are_event_qualifiers(deployment, observer.quals.as_slice())
-                && know_points(deployment, observer.params.as_slice())
-                && uses::are_bindings(deployment, observer.bindings.as_slice())
+            known.is_type(observer.ty)
+                && uses::are_event_qualifiers(known, observer.quals.as_slice())
+                && know_points(known, observer.params.as_slice())
+                && uses::are_bindings(known, observer.bindings.as_slice())
         }
     }
 }
 
 /// Whether each name that an element has is declared, and of the right kind.
-fn knows_names(deployment: &Deployment, element: &Element<'_>) -> bool
-    ensures { result ≡ spec.knows_names deployment.now (element_of element.now) }
+fn knows_names(known: &DeclaredNames<'_>, element: &Element<'_>) -> bool
+    ensures { result ≡ spec.knows_names known.now (element_of element.now) }
 {
     match element {
-        Element::Interface(interface) => are_interfaces(deployment, interface.extends.as_slice()),
+        Element::Interface(interface) => are_interfaces(known, interface.extends.as_slice()),
         Element::Qualifier(qualifier) => are_members(qualifier),
         Element::Binding(binding) => are_members(binding),
-        Element::Class { class, .. } => knows_class(deployment, class),
+        Element::Class { class, .. } => knows_class(known, class),
         Element::InjectedField { field, .. } => {
-            declared::is_type(deployment, field.ty)
-                && uses::are_qualifiers(deployment, field.quals.as_slice())
+            known.is_type(field.ty) && uses::are_qualifiers(known, field.quals.as_slice())
         }
         Element::Constructor { constructor, .. } => {
-            know_points(deployment, constructor.params.as_slice())
+            know_points(known, constructor.params.as_slice())
         }
-        Element::Member { class, member, .. } => knows_member(deployment, class, member),
+        Element::Member { class, member, .. } => knows_member(known, class, member),
         Element::Interceptor { interceptor, .. } => {
-            uses::are_bindings(deployment, interceptor.bindings.as_slice())
+            uses::are_bindings(known, interceptor.bindings.as_slice())
         }
         Element::InterceptorInjectedField { field, .. } => {
-            declared::is_type(deployment, field.ty)
-                && uses::are_qualifiers(deployment, field.quals.as_slice())
+            known.is_type(field.ty) && uses::are_qualifiers(known, field.quals.as_slice())
         }
-        Element::SelectedName(name) => declared::is_bean_class(deployment, **name),
-        Element::OrderedName(name) => declared::is_interceptor(deployment, **name),
+        Element::SelectedName(name) => known.is_bean_class(**name),
+        Element::OrderedName(name) => known.is_interceptor(**name),
         _ => true,
     }
 }
@@ -173,9 +173,9 @@ fn knows_names(deployment: &Deployment, element: &Element<'_>) -> bool
 impl Rule for UnknownName<'_> {
     ghost use Rattle.cdi_name_check.specs.UnknownName.{HasUnknownName};
 
-    ghost holds_at = { λ rule e. HasUnknownName rule.deployment.now e };
+    ghost holds_at = { λ rule e. HasUnknownName rule.names.now e };
 
     fn holds(&self, element: &Element<'_>) -> bool {
-        !knows_names(self.deployment, element)
+        !knows_names(self.names, element)
     }
 }

@@ -1,14 +1,32 @@
 //! What a deployment declares, by name.
-ghost use Rattle.std.specs.Prelude.{◌≡◌};
+ghost use Rattle.std.specs.Prelude.{◌≡◌, IfOk};
 ghost use Rattle.cdi_name_check.specs.UnknownName as spec;
 
+use crate::unknown_name::name_sets::NameSets;
 use cdi_base::{BuiltIn, Name};
 use cdi_deployment::Deployment;
+use std::alloc::{AllocError, Global};
+use std::marker::Model;
 
-pub(super) fn stands_in(names: &[Name], name: Name) -> bool
-    ensures { result ≡ spec.stands_in names.now name }
-{
-    names.iter().any(|other| *other == name)
+/// The names that a deployment declares. Contracts see the deployment; a question takes constant time.
+#[derive(Drop)]
+pub struct DeclaredNames<'a> {
+    deployment: &'a Deployment,
+    sets: NameSets,
+}
+
+impl<'a> Model for DeclaredNames<'a> {
+    ghost use Rattle.cdi_deployment.specs.declared.deployment.Deployment.{Deployment};
+    ghost use Rattle.cdi_deployment.specs.contracts.deployment.Deployment as written;
+    ghost use Rattle.cdi_name_check.specs.NameSets.{HasDeclared};
+
+    ghost Value = { Deployment };
+
+    ghost coded = { written.the_row.coded };
+
+    ghost view = { λ names. names.deployment.now };
+
+    ghost invariant = { λ names. HasDeclared names.deployment.now names.sets };
 }
 
 pub(super) fn is_built_in(built_in: BuiltIn, name: Name) -> bool
@@ -17,77 +35,88 @@ pub(super) fn is_built_in(built_in: BuiltIn, name: Name) -> bool
     built_in.name() == name
 }
 
-/// Whether a name is that of a class of the deployment that isn't final.
-fn is_open_class(deployment: &Deployment, name: Name) -> bool
-    ensures { result ≡ spec.is_open_class deployment.now name }
-{
-    deployment
-        .classes
-        .as_slice()
-        .iter()
-        .any(|class| class.name == name && !class.is_final)
-}
+impl<'a> DeclaredNames<'a> {
+    /// The names that a deployment declares.
+    pub fn build(alloc: Global, deployment: &'a Deployment) -> Result<DeclaredNames<'a>, AllocError>
+        ensures { IfOk result (λ names. names ≡ deployment.now) }
+    {
+        let sets = NameSets::of(alloc, deployment)?;
+        Ok(DeclaredNames { deployment, sets })
+    }
 
-/// Whether a class may extend what has this name: `Object`, or a class that isn't final.
-pub(super) fn is_extensible(deployment: &Deployment, name: Name) -> bool
-    ensures { result ≡ spec.is_extensible deployment.now name }
-{
-    is_built_in(BuiltIn::Object, name) || is_open_class(deployment, name)
-}
+    /// The deployment.
+    pub fn deployment(&self) -> &'a Deployment
+        ensures { result.now ≡ self.now }
+    {
+        self.deployment
+    }
 
-pub(super) fn is_interface(deployment: &Deployment, name: Name) -> bool
-    ensures { result ≡ spec.is_interface deployment.now name }
-{
-    deployment
-        .interfaces
-        .as_slice()
-        .iter()
-        .any(|interface| interface.name == name)
-}
+    /// Whether a class may extend what has this name: `Object`, or a class of the deployment that isn't final.
+    pub(super) fn is_extensible(&self, name: Name) -> bool
+        ensures { result ≡ spec.is_extensible self.now name }
+    {
+        is_built_in(BuiltIn::Object, name) || self.sets.open_classes.contains(&name)
+    }
 
-fn is_declared_class(deployment: &Deployment, name: Name) -> bool
-    ensures { result ≡ spec.is_declared_class deployment.now name }
-{
-    deployment
-        .classes
-        .as_slice()
-        .iter()
-        .any(|class| class.name == name)
-}
+    pub(super) fn is_interface(&self, name: Name) -> bool
+        ensures { result ≡ spec.is_interface self.now name }
+    {
+        self.sets.interfaces.contains(&name)
+    }
 
-fn is_class(deployment: &Deployment, name: Name) -> bool
-    ensures { result ≡ spec.is_class deployment.now name }
-{
-    is_built_in(BuiltIn::Object, name)
-        || is_built_in(BuiltIn::Startup, name)
-        || is_built_in(BuiltIn::Shutdown, name)
-        || is_declared_class(deployment, name)
-}
+    fn is_class(&self, name: Name) -> bool
+        ensures { result ≡ spec.is_class self.now name }
+    {
+        is_built_in(BuiltIn::Object, name)
+            || is_built_in(BuiltIn::Startup, name)
+            || is_built_in(BuiltIn::Shutdown, name)
+            || self.sets.classes.contains(&name)
+    }
 
-/// Whether a name is that of a class, declared or built in, or of an interface.
-pub(super) fn is_type(deployment: &Deployment, name: Name) -> bool
-    ensures { result ≡ spec.is_type deployment.now name }
-{
-    is_class(deployment, name) || is_interface(deployment, name)
-}
+    /// Whether a name is that of a class, declared or built in, or of an interface.
+    pub(super) fn is_type(&self, name: Name) -> bool
+        ensures { result ≡ spec.is_type self.now name }
+    {
+        self.is_class(name) || self.is_interface(name)
+    }
 
-/// Whether a name is that of a class of the deployment that is a bean.
-pub(super) fn is_bean_class(deployment: &Deployment, name: Name) -> bool
-    ensures { result ≡ spec.is_bean_class deployment.now name }
-{
-    deployment
-        .classes
-        .as_slice()
-        .iter()
-        .any(|class| class.name == name && class.bean.is_some())
-}
+    /// Whether a name is that of a class of the deployment that is a bean.
+    pub(super) fn is_bean_class(&self, name: Name) -> bool
+        ensures { result ≡ spec.is_bean_class self.now name }
+    {
+        self.sets.bean_classes.contains(&name)
+    }
 
-pub(super) fn is_interceptor(deployment: &Deployment, name: Name) -> bool
-    ensures { result ≡ spec.is_interceptor deployment.now name }
-{
-    deployment
-        .interceptors
-        .as_slice()
-        .iter()
-        .any(|interceptor| interceptor.name == name)
+    pub(super) fn is_interceptor(&self, name: Name) -> bool
+        ensures { result ≡ spec.is_interceptor self.now name }
+    {
+        self.sets.interceptors.contains(&name)
+    }
+
+    /// Whether a name is that of a qualifier of the deployment.
+    pub(super) fn is_declared_qualifier(&self, name: Name) -> bool
+        ensures { result ≡ spec.is_declared self.now.qualifiers name }
+    {
+        self.sets.qualifiers.names.contains(&name)
+    }
+
+    /// Whether a qualifier of the deployment has a member.
+    pub(super) fn has_declared_member(&self, qualifier: Name, name: Name) -> bool
+        ensures { result ≡ spec.has_member self.now.qualifiers qualifier name }
+    {
+        self.sets.qualifiers.members.contains(&(qualifier, name))
+    }
+
+    pub(super) fn is_binding(&self, name: Name) -> bool
+        ensures { result ≡ spec.is_declared self.now.bindings name }
+    {
+        self.sets.bindings.names.contains(&name)
+    }
+
+    /// Whether a binding has a member.
+    pub(super) fn has_binding_member(&self, binding: Name, name: Name) -> bool
+        ensures { result ≡ spec.has_member self.now.bindings binding name }
+    {
+        self.sets.bindings.members.contains(&(binding, name))
+    }
 }

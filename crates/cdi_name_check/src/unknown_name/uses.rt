@@ -3,9 +3,8 @@ ghost use Rattle.std.specs.Prelude.{◌≡◌};
 ghost use Rattle.std.specs.List.{list_all};
 ghost use Rattle.cdi_name_check.specs.UnknownName as spec;
 
-use crate::unknown_name::declared::{is_built_in, stands_in};
+use crate::unknown_name::declared::{DeclaredNames, is_built_in};
 use cdi_base::{BuiltIn, Name, Use};
-use cdi_deployment::{AnnotationType, Deployment};
 
 fn is_plain_qualifier(name: Name) -> bool
     ensures { result ≡ spec.is_plain_qualifier name }
@@ -23,93 +22,73 @@ fn is_valued_qualifier(name: Name) -> bool
         || is_built_in(BuiltIn::Destroyed, name)
 }
 
-fn is_declared(types: &[AnnotationType], name: Name) -> bool
-    ensures { result ≡ spec.is_declared types.now name }
+fn is_qualifier_member(known: &DeclaredNames<'_>, name: Name, member: Name) -> bool
+    ensures { result ≡ spec.is_qualifier_member known.now name member }
 {
-    types.iter().any(|declared| declared.name == name)
-}
-
-/// Whether a declaration of a name has a member.
-fn has_member(types: &[AnnotationType], name: Name, member: Name) -> bool
-    ensures { result ≡ spec.has_member types.now name member }
-{
-    types.iter().any(|declared| declared.name == name
-        && stands_in(declared.members.as_slice(), member))
-}
-
-fn is_qualifier_member(deployment: &Deployment, name: Name, member: Name) -> bool
-    ensures { result ≡ spec.is_qualifier_member deployment.now name member }
-{
-    has_member(deployment.qualifiers.as_slice(), name, member)
+    known.has_declared_member(name, member)
         || (is_valued_qualifier(name) && is_built_in(BuiltIn::Value, member))
 }
 
-fn is_qualifier(deployment: &Deployment, name: Name) -> bool
-    ensures { result ≡ spec.is_qualifier deployment.now name }
+fn is_qualifier(known: &DeclaredNames<'_>, name: Name) -> bool
+    ensures { result ≡ spec.is_qualifier known.now name }
 {
-    is_plain_qualifier(name)
-        || is_valued_qualifier(name)
-        || is_declared(deployment.qualifiers.as_slice(), name)
+    is_plain_qualifier(name) || is_valued_qualifier(name) || known.is_declared_qualifier(name)
 }
 
-fn has_qualifier_members(deployment: &Deployment, written: &Use) -> bool
+fn has_qualifier_members(known: &DeclaredNames<'_>, written: &Use) -> bool
     ensures { result ≡ list_all
-        (λ m. spec.is_qualifier_member deployment.now written.now.name m.name) written.now.members }
+        (λ m. spec.is_qualifier_member known.now written.now.name m.name) written.now.members }
 {
     written.members.as_slice().iter().all(|member| is_qualifier_member(
-        deployment,
+        known,
         written.name,
         member.name,
     ))
 }
 
-fn is_qualifier_use(deployment: &Deployment, written: &Use) -> bool
-    ensures { result ≡ spec.is_qualifier_use deployment.now written.now }
+fn is_qualifier_use(known: &DeclaredNames<'_>, written: &Use) -> bool
+    ensures { result ≡ spec.is_qualifier_use known.now written.now }
 {
-    is_qualifier(deployment, written.name) && has_qualifier_members(deployment, written)
+    is_qualifier(known, written.name) && has_qualifier_members(known, written)
 }
 
-fn has_binding_members(deployment: &Deployment, written: &Use) -> bool
+fn has_binding_members(known: &DeclaredNames<'_>, written: &Use) -> bool
     ensures { result ≡ list_all
-        (λ m. spec.has_member deployment.now.bindings written.now.name m.name) written.now.members }
+        (λ m. spec.has_member known.now.bindings written.now.name m.name) written.now.members }
 {
-    written.members.as_slice().iter().all(|member| has_member(
-        deployment.bindings.as_slice(),
+    written.members.as_slice().iter().all(|member| known.has_binding_member(
         written.name,
         member.name,
     ))
 }
 
-fn is_binding_use(deployment: &Deployment, written: &Use) -> bool
-    ensures { result ≡ spec.is_binding_use deployment.now written.now }
+fn is_binding_use(known: &DeclaredNames<'_>, written: &Use) -> bool
+    ensures { result ≡ spec.is_binding_use known.now written.now }
 {
-    is_declared(deployment.bindings.as_slice(), written.name)
-        && has_binding_members(deployment, written)
+    known.is_binding(written.name) && has_binding_members(known, written)
 }
 
-fn is_event_qualifier_use(deployment: &Deployment, written: &Use) -> bool
-    ensures { result ≡ spec.is_event_qualifier_use deployment.now written.now }
+fn is_event_qualifier_use(known: &DeclaredNames<'_>, written: &Use) -> bool
+    ensures { result ≡ spec.is_event_qualifier_use known.now written.now }
 {
-    !is_built_in(BuiltIn::Default, written.name) && is_qualifier_use(deployment, written)
+    !is_built_in(BuiltIn::Default, written.name) && is_qualifier_use(known, written)
 }
 
-pub(super) fn are_qualifiers(deployment: &Deployment, uses: &[Use]) -> bool
-    ensures { result ≡ spec.are_qualifiers deployment.now uses.now }
+pub(super) fn are_qualifiers(known: &DeclaredNames<'_>, uses: &[Use]) -> bool
+    ensures { result ≡ spec.are_qualifiers known.now uses.now }
+{
+    uses.iter().all(|written| is_qualifier_use(known, written))
+}
+
+pub(super) fn are_event_qualifiers(known: &DeclaredNames<'_>, uses: &[Use]) -> bool
+    ensures { result ≡ list_all (spec.is_event_qualifier_use known.now) uses.now }
 {
     uses.iter()
-        .all(|written| is_qualifier_use(deployment, written))
+        .all(|written| is_event_qualifier_use(known, written))
 }
 
-pub(super) fn are_event_qualifiers(deployment: &Deployment, uses: &[Use]) -> bool
-    ensures { result ≡ list_all (spec.is_event_qualifier_use deployment.now) uses.now }
+pub(super) fn are_bindings(known: &DeclaredNames<'_>, uses: &[Use]) -> bool
+    ensures { result ≡ spec.are_bindings known.now uses.now }
 {
-    uses.iter()
-        .all(|written| is_event_qualifier_use(deployment, written))
-}
-
-pub(super) fn are_bindings(deployment: &Deployment, uses: &[Use]) -> bool
-    ensures { result ≡ spec.are_bindings deployment.now uses.now }
-{
-    uses.iter()
-        .all(|written| is_binding_use(deployment, written))
+    uses.iter().all(|written| is_binding_use(known, written))
 }

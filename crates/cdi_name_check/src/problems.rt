@@ -1,0 +1,86 @@
+//! The problems of a deployment that are looked for before all others.
+ghost use Rattle.std.specs.Prelude.{◌≡◌, ◌++◌, IfOk, OnOk};
+ghost use Rattle.cdi_name_check.specs.NameProblems.{AreNameProblems};
+ghost use Rattle.cdi_name_check.specs.CyclicHierarchy.{IsCyclicHierarchy};
+ghost use Rattle.cdi_name_check.specs.UnknownName.{HasUnknownName};
+ghost use Rattle.cdi_problems.specs.Elements.{shown};
+ghost use Rattle.cdi_problems.specs.Findings.{ArePlacesOf};
+ghost use Rattle.cdi_problems.specs.Words as words;
+ghost use Rattle.cdi_types.specs.Declarations.{declarations_of};
+
+use crate::cyclic_hierarchy::CyclicHierarchy;
+use crate::duplicate_name::duplicate_places;
+use crate::unknown_name::UnknownName;
+use crate::unknown_name::declared::DeclaredNames;
+use cdi_base::{Place, Seq};
+use cdi_deployment::Deployment;
+use cdi_problems::{Element, Problem, ProblemKind, elements_of, places_where};
+use cdi_types::TypeGraph;
+use std::alloc::{AllocError, Global};
+
+/// Adds the problems of a kind at these places.
+fn add_problems(
+    kind: ProblemKind,
+    places: &[Place],
+    problems: &mut Seq<Problem>,
+) -> Result<(), AllocError>
+    ensures { OnOk result (problems.new ≡ problems.old ++ words.problems_at kind places.now) }
+{
+    for place in places {
+        problems.push(Problem {
+            kind,
+            place: Some(*place),
+        })?;
+    }
+    Ok(())
+}
+
+/// The places where an element has an unknown name.
+fn unknown_places(
+    alloc: Global,
+    deployment: &Deployment,
+    elements: &[Element<'_>],
+) -> Result<Seq<Place>, AllocError>
+    ensures { IfOk result
+        (ArePlacesOf (HasUnknownName deployment.now) (shown elements.now)) }
+{
+    let names = DeclaredNames::build(alloc, deployment)?;
+    places_where(alloc, &UnknownName { names: &names }, elements)
+}
+
+/// The places of the types that are their own proper supertypes.
+fn cyclic_places(
+    alloc: Global,
+    deployment: &Deployment,
+    elements: &[Element<'_>],
+) -> Result<Seq<Place>, AllocError>
+    ensures { IfOk result
+        (ArePlacesOf (IsCyclicHierarchy (declarations_of deployment.now)) (shown elements.now)) }
+{
+    let types = TypeGraph::build(alloc, deployment)?;
+    places_where(alloc, &CyclicHierarchy { types: &types }, elements)
+}
+
+/// The duplicate names of a deployment, then its unknown names, then its types that are their own proper supertypes: each where it
+/// holds, in the order of the places, and once at a place (Jakarta CDI 4.0, *Problems detected automatically by the container*).
+pub fn name_problems(alloc: Global, deployment: &Deployment) -> Result<Seq<Problem>, AllocError>
+    ensures { IfOk result (AreNameProblems deployment.now) }
+{
+    let elements = elements_of(alloc, deployment)?;
+    let duplicate = duplicate_places(alloc, elements.as_slice())?;
+    let unknown = unknown_places(alloc, deployment, elements.as_slice())?;
+    let cyclic = cyclic_places(alloc, deployment, elements.as_slice())?;
+    let mut problems = Seq::empty(alloc);
+    add_problems(
+        ProblemKind::DuplicateName,
+        duplicate.as_slice(),
+        &mut problems,
+    )?;
+    add_problems(ProblemKind::UnknownName, unknown.as_slice(), &mut problems)?;
+    add_problems(
+        ProblemKind::CyclicHierarchy,
+        cyclic.as_slice(),
+        &mut problems,
+    )?;
+    Ok(problems)
+}
