@@ -4,4 +4,10 @@
 #[cfg(test)]
 mod deployments;
 #[cfg(test)]
+mod list_text;
+#[cfg(test)]
+mod lists;
+#[cfg(test)]
 mod problems;
+#[cfg(test)]
+mod rows;
