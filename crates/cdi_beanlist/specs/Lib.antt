@@ -4,3 +4,4 @@ pub mod Beans
 pub mod DisposerMethods
 pub mod Interceptors
 pub mod ObserverMethods
+pub mod Problems
