@@ -4,4 +4,8 @@
 #[cfg(test)]
 mod deployments;
 #[cfg(test)]
+mod names;
+#[cfg(test)]
 mod problems;
+#[cfg(test)]
+mod written;
