@@ -1,4 +1,4 @@
-//! Tests of the problems of names and beans.
+//! Tests of the problems of names and beans, and of bean lists.
 #![tactic(auto)]
 
 #[cfg(test)]
@@ -8,6 +8,10 @@ mod list_text;
 #[cfg(test)]
 mod lists;
 #[cfg(test)]
+mod names;
+#[cfg(test)]
 mod problems;
 #[cfg(test)]
 mod rows;
+#[cfg(test)]
+mod written;

@@ -7,7 +7,7 @@ use cdi_bean_check::{
     AbstractBean, BeanNames, SpecializesNothing, TwoBindingsOfOneType, TypedNotAType,
 };
 use cdi_deployment::Deployment;
-use cdi_name_check::{CyclicHierarchy, UnknownName};
+use cdi_name_check::{CyclicHierarchy, DeclaredNames, UnknownName};
 use cdi_problems::{ProblemKind, ProblemText, Rule, elements_of, places_where, problems_at};
 use cdi_types::{TypeGraph, TypeTable};
 use std::alloc::Global;
@@ -255,7 +255,8 @@ fn add_found<R: Rule>(
 /// The lines of a deployment's problems, of those that are looked for here, each kind by itself.
 fn lines_of(rt: &impl Abort, alloc: Global, deployment: &Deployment) -> String {
     let mut text = String::new(alloc);
-    let unknown = UnknownName { deployment };
+    let names = DeclaredNames::build(alloc, deployment).expect(rt, "memory");
+    let unknown = UnknownName { names: &names };
     add_found(
         rt,
         alloc,
