@@ -2,6 +2,10 @@
 #![tactic(auto)]
 
 #[cfg(test)]
+mod bean_problems;
+#[cfg(test)]
+mod counts;
+#[cfg(test)]
 mod deployments;
 #[cfg(test)]
 mod problems;
