@@ -43,13 +43,7 @@ fn has_flag(enabled: &[bool], index: usize) -> bool
 }
 
 /// Whether a bean is enabled, fits, and is left of those that do.
-fn is_wanted(
-    enabled: &[bool],
-    index: usize,
-    bean: &Bean,
-    wanted: &Wanted<'_>,
-    left: Left,
-) -> bool
+fn is_wanted(enabled: &[bool], index: usize, bean: &Bean, wanted: &Wanted<'_>, left: Left) -> bool
     requires { wanted.now.default.now ≡ default }
     ensures { result ≡ is_wanted_at wanted.now.ty wanted.now.qualifiers.now left enabled.now
         (index, bean.now) }

@@ -12,11 +12,11 @@ loop-index-preserved c =
     let wanted : ℕ × Bean → Bool = is_wanted c.args.wanted.now.ty c.args.wanted.now.qualifiers.now c.args.left c.args.enabled.now in
     elim c.if-is_wanted.branch [
       | then-is_wanted w ↦ rw (w.found-is, w.with-found.ensures) (
-        counted with_found wanted c.args.beans.now c.loop-index.found i b c.loop-index-test.true c.index-beans-index.is (sym c.is_wanted.ensures ∙ w.if-is_wanted.true)
-        ∙ c.loop-index.invariant)
+          counted with_found wanted c.args.beans.now c.loop-index.found i b c.loop-index-test.true c.index-beans-index.is (sym c.is_wanted.ensures ∙ w.if-is_wanted.true)
+          ∙ c.loop-index.invariant)
       | else-is_wanted w ↦ rw w.found-is (
-        passed_over with_found wanted c.args.beans.now c.loop-index.found i b c.loop-index-test.true c.index-beans-index.is (sym c.is_wanted.ensures ∙ w.if-is_wanted.false)
-        ∙ c.loop-index.invariant)
+          passed_over with_found wanted c.args.beans.now c.loop-index.found i b c.loop-index-test.true c.index-beans-index.is (sym c.is_wanted.ensures ∙ w.if-is_wanted.false)
+          ∙ c.loop-index.invariant)
     ]
 
 pub returns : goal.returns

@@ -10,7 +10,7 @@ returns-in-Some c =
     let asked = c.args.wanted.now in
     let left : List (ℕ × Bean) = alternatives (eligible asked.ty asked.qualifiers.now c.args.self.now) in
     let is : c.greatest_priority.result ≡ greatest_priority left =
-      rw (c.greatest_priority.ensures, c.as_slice.ensures, c.as_slice-2.ensures, ← c.self.view_is) (ap greatest_priority (alternatives_enabled asked.ty asked.qualifiers.now c.self.inside.beans c.self.inside.enabled)) in
+    rw (c.greatest_priority.ensures, c.as_slice.ensures, c.as_slice-2.ensures, ← c.self.view_is) (ap greatest_priority (alternatives_enabled asked.ty asked.qualifiers.now c.self.inside.beans c.self.inside.enabled)) in
     let fits : SFits w64 c.in-Some.priority = search rules in
     let told : c.only_with.result ≡ sole (with_greatest (Some c.in-Some.priority) left) = (simp to_z-of_z at c.only_with.ensures) ∙ ap sole (with_left asked.ty asked.qualifiers.now c.in-Some.priority c.args.self.now) in
     c.one_or_many.ensures ∙ ap one_or_many (told ∙ ap (λ p. sole (with_greatest p left)) (sym c.in-Some.is ∙ is))
@@ -20,5 +20,5 @@ returns-in-None c =
     let asked = c.args.wanted.now in
     let left : List (ℕ × Bean) = alternatives (eligible asked.ty asked.qualifiers.now c.args.self.now) in
     let is : c.greatest_priority.result ≡ greatest_priority left =
-      rw (c.greatest_priority.ensures, c.as_slice.ensures, c.as_slice-2.ensures, ← c.self.view_is) (ap greatest_priority (alternatives_enabled asked.ty asked.qualifiers.now c.self.inside.beans c.self.inside.enabled)) in
+    rw (c.greatest_priority.ensures, c.as_slice.ensures, c.as_slice-2.ensures, ← c.self.view_is) (ap greatest_priority (alternatives_enabled asked.ty asked.qualifiers.now c.self.inside.beans c.self.inside.enabled)) in
     ap (λ p. one_or_many (sole (with_greatest p left))) (sym c.in-None.is ∙ is)
