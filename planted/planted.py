@@ -285,8 +285,9 @@ def by_law(crate, edit, kept):
 
 def alone_in(crate, edit, kept):
     """Returns whether a check of the crate with this edit alone refuses it, and what to say."""
-    word, text = rt.must_fail(crate, edit, ONE, kept)
-    return word in (rt.REFUSED, rt.AT_LIMIT), text
+    told, text = rt.must_fail(crate, edit, ONE, kept)
+    # (some kits answer a bool, others a word)
+    return told is True or told in (getattr(rt, "REFUSED", True), getattr(rt, "AT_LIMIT", True)), text
 
 
 def try_crate(crate):
