@@ -1,3 +1,4 @@
 pub mod Counting
+pub mod Enabled
 pub mod Filtering
 pub mod Narrowing

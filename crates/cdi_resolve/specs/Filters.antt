@@ -4,11 +4,14 @@ use Rattle.std.specs.List.{list_any, enumerate_from}
 use Rattle.std.specs.Ordering.{int_eq}
 use Rattle.cdi_base.specs.BuiltIn.{number_of}
 use Rattle.cdi_base.specs.declared.built_in.BuiltIn.TheVariants as names
+use Rattle.cdi_bean_check.specs.Qualifiers.{full_uses}
 use Rattle.cdi_beanlist.specs.declared.bean.Bean.{Bean}
 use Rattle.cdi_quals.specs.Qualifiers.{has_all}
 use Rattle.cdi_quals.specs.declared.qualifier.Qualifier.{Qualifier}
 use Rattle.cdi_resolve.specs.declared.filter.Left.{Left}
 use Rattle.cdi_resolve.specs.declared.filter.Left.TheVariants as lefts
+use Rattle.cdi_resolve.specs.declared.required.Required.{Required}
+use Rattle.cdi_resolve.specs.declared.required.Required.TheVariants as given
 
 abbrev pub default : Qualifier
 default = record { name = number_of names.Default; members = [] }
@@ -22,12 +25,25 @@ required (q ∷ qs) = q ∷ qs
 abbrev pub fits : ℕ → List Qualifier → Bean → Bool
 fits type qualifiers b = list_any (λ t. t == type) b.types && has_all b.qualifiers (required qualifiers)
 
+-- the required qualifiers of a question, however they are given
+abbrev pub required_of : Required → List Qualifier
+required_of (given.Set set) = set.now
+required_of (given.Written types uses) = full_uses types.now uses.now
+
 abbrev pub is_enabled : List Bool → ℕ → Bool
 is_enabled enabled index = slice_index_or enabled index false
 
 -- the enabled ones of a list of beans, with their indices
 abbrev pub enabled_beans : List Bean → List Bool → List (ℕ × Bean)
 enabled_beans beans enabled = filter (λ p. is_enabled enabled p.0) (enumerate_from 0 beans)
+
+-- some beans, and which of them are enabled
+pub record Candidates : Type 0 where
+  pub beans : List Bean
+  pub flags : List Bool
+
+abbrev pub enabled_of : Candidates → List (ℕ × Bean)
+enabled_of c = enabled_beans c.beans c.flags
 
 abbrev pub is_priority : ℤ → Option ℤ → Bool
 is_priority priority None = false

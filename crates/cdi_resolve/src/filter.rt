@@ -1,12 +1,12 @@
 //! Which beans are left at a step of resolution.
 ghost use Rattle.std.specs.Prelude.{◌≡◌, ◌==◌};
 ghost use Rattle.std.specs.List.{list_any};
-ghost use Rattle.cdi_quals.specs.Qualifiers.{has_all};
 ghost use Rattle.cdi_resolve.specs.Filters as spec;
 
+use crate::required::Required;
 use cdi_base::Name;
 use cdi_beanlist::Bean;
-use cdi_quals::{QualSet, Qualifier};
+use cdi_quals::Qualifier;
 
 /// What beans are left, of those that have a type and required qualifiers.
 #[derive(Clone, Copy)]
@@ -26,7 +26,7 @@ pub(crate) enum Left {
 pub(crate) struct Wanted<'a> {
     pub ty: Name,
     /// The required qualifiers; none stands for `Default`.
-    pub qualifiers: &'a QualSet,
+    pub required: Required<'a>,
     /// The qualifier `Default`.
     pub default: &'a Qualifier,
 }
@@ -38,23 +38,12 @@ fn has_type(bean: &Bean, ty: Name) -> bool
     bean.types.iter().any(|own| *own == ty)
 }
 
-/// Whether a bean has each required qualifier.
-fn has_qualifiers(bean: &Bean, wanted: &Wanted<'_>) -> bool
-    requires { wanted.now.default.now ≡ spec.default }
-    ensures { result ≡ has_all bean.now.qualifiers (spec.required wanted.now.qualifiers.now) }
-{
-    if wanted.qualifiers.as_slice().is_empty() {
-        return bean.qualifiers.has(wanted.default);
-    }
-    bean.qualifiers.has_all(wanted.qualifiers)
-}
-
 /// Whether a bean has the type and the required qualifiers.
 fn fits(bean: &Bean, wanted: &Wanted<'_>) -> bool
     requires { wanted.now.default.now ≡ spec.default }
-    ensures { result ≡ spec.fits wanted.now.ty wanted.now.qualifiers.now bean.now }
+    ensures { result ≡ spec.fits wanted.now.ty (spec.required_of wanted.now.required) bean.now }
 {
-    has_type(bean, wanted.ty) && has_qualifiers(bean, wanted)
+    has_type(bean, wanted.ty) && wanted.required.is_had_by(&bean.qualifiers, wanted.default)
 }
 
 /// Whether a bean has a priority.
@@ -70,7 +59,7 @@ fn has_priority(bean: &Bean, priority: i64) -> bool
 /// Whether a bean fits, and is left of those that do.
 pub(crate) fn passes(bean: &Bean, wanted: &Wanted<'_>, left: Left) -> bool
     requires { wanted.now.default.now ≡ spec.default }
-    ensures { result ≡ spec.passes wanted.now.ty wanted.now.qualifiers.now left bean.now }
+    ensures { result ≡ spec.passes wanted.now.ty (spec.required_of wanted.now.required) left bean.now }
 {
     match left {
         Left::Eligible => fits(bean, wanted),

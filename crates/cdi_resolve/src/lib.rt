@@ -2,6 +2,7 @@
 #![tactic(auto)]
 
 mod filter;
+mod required;
 pub mod resolution;
 pub mod resolver;
 

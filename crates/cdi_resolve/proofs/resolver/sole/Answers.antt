@@ -1,6 +1,6 @@
 use Rattle.std.proofs.Common.{◌≡◌, ◌∙◌, ℕ, Bool, sym}
 use Rattle.cdi_beanlist.specs.declared.bean.Bean.{Bean}
-use Rattle.cdi_resolve.specs.Filters.{is_wanted, those_left}
+use Rattle.cdi_resolve.specs.Filters.{required_of, is_wanted, those_left}
 use Rattle.cdi_resolve.proofs.Counting.{with_found, counted, passed_over, at_end, found_none}
 use Rattle.cdi_resolve.proofs.resolver.sole.Goals as goal
 use Rattle.cdi_resolve.proofs.resolver.sole.Goals.{then-is_wanted, else-is_wanted}
@@ -9,7 +9,7 @@ pub loop-index-preserved : goal.loop-index-preserved
 loop-index-preserved c =
     let i = c.loop-index.index in
     let b = c.index-beans-index.result in
-    let wanted : ℕ × Bean → Bool = is_wanted c.args.wanted.now.ty c.args.wanted.now.qualifiers.now c.args.left c.args.enabled.now in
+    let wanted : ℕ × Bean → Bool = is_wanted c.args.wanted.now.ty (required_of c.args.wanted.now.required) c.args.left c.args.enabled.now in
     elim c.if-is_wanted.branch [
       | then-is_wanted w ↦ rw (w.found-is, w.with-found.ensures) (
           counted with_found wanted c.args.beans.now c.loop-index.found i b c.loop-index-test.true c.index-beans-index.is (sym c.is_wanted.ensures ∙ w.if-is_wanted.true)
@@ -21,5 +21,5 @@ loop-index-preserved c =
 
 pub returns : goal.returns
 returns c =
-    let wanted : ℕ × Bean → Bool = is_wanted c.args.wanted.now.ty c.args.wanted.now.qualifiers.now c.args.left c.args.enabled.now in
-    sym (at_end with_found wanted c.args.beans.now c.loop-index.found c.loop-index.index c.loop-index-test.false) ∙ c.loop-index.invariant ∙ found_none (those_left c.args.wanted.now.ty c.args.wanted.now.qualifiers.now c.args.left c.args.beans.now c.args.enabled.now)
+    let wanted : ℕ × Bean → Bool = is_wanted c.args.wanted.now.ty (required_of c.args.wanted.now.required) c.args.left c.args.enabled.now in
+    sym (at_end with_found wanted c.args.beans.now c.loop-index.found c.loop-index.index c.loop-index-test.false) ∙ c.loop-index.invariant ∙ found_none (those_left c.args.wanted.now.ty (required_of c.args.wanted.now.required) c.args.left c.args.beans.now c.args.enabled.now)

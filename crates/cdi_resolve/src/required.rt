@@ -1,0 +1,126 @@
+//! Required qualifiers, and whether a bean has them.
+ghost use Rattle.std.specs.Prelude.{◌≡◌, unwrap_or, map};
+ghost use Rattle.std.specs.Option.{option_copied};
+ghost use Rattle.cdi_quals.specs.Qualifiers as quals;
+ghost use Rattle.cdi_bean_check.specs.Qualifiers.{full_uses};
+ghost use Rattle.cdi_resolve.specs.Filters as spec;
+
+use cdi_base::{MemberValue, Name, Use, Value};
+use cdi_quals::order::compare_values;
+use cdi_quals::{MemberType, QualSet, Qualifier, QualifierMember, QualifierTypes};
+
+/// Required qualifiers, as they are given.
+#[derive(Clone, Copy)]
+pub(crate) enum Required<'a> {
+    Set(&'a QualSet),
+    /// As they were written. The types say which members each has; those that it doesn't give are null.
+    Written {
+        types: &'a QualifierTypes,
+        uses: &'a [Use],
+    },
+}
+
+/// The value that a use gives to a member, if it gives one.
+fn value_of(given: &[MemberValue], name: Name) -> Option<&Value>
+    ensures { unwrap_or (option_copied result) Value.Null ≡ quals.value_of given.now name }
+{
+    for member in given {
+        if member.name == name {
+            return Some(&member.value);
+        }
+    }
+    None
+}
+
+/// Whether what a use gives agrees with a member that a bean has.
+fn agrees(member: &MemberType, given: &[MemberValue], own: &QualifierMember) -> bool
+    ensures { result ≡ quals.agrees (quals.full_member given.now member.now) own.now }
+{
+    let null = Value::Null;
+    let value = value_of(given, member.name).unwrap_or(&null);
+    !member.is_binding || compare_values(value, &own.value).is_eq()
+}
+
+/// Whether what a use of a type with these members gives agrees with all members that a bean has.
+fn agree(members: &[MemberType], given: &[MemberValue], own: &[QualifierMember]) -> bool
+    ensures { result ≡ quals.agree (map (quals.full_member given.now) members.now) own.now }
+{
+    if members.len() != own.len() {
+        return false;
+    }
+    for i in 0..members.len() {
+        if !agrees(&members[i], given, &own[i]) {
+            return false;
+        }
+    }
+    true
+}
+
+/// Whether a qualifier is what a use of a type with these members requires.
+fn meets(own: &Qualifier, name: Name, members: &[MemberType], given: &[MemberValue]) -> bool
+    ensures { result ≡ quals.same_binding
+        (record { name = name; members = map (quals.full_member given.now) members.now }) own.now }
+{
+    name == own.name && agree(members, given, own.members.as_slice())
+}
+
+/// Whether a set has a qualifier that is given as it was written.
+fn has_written(set: &QualSet, types: &QualifierTypes, written: &Use) -> bool
+    ensures { result ≡ quals.has set.now (quals.full_use types.now written.now) }
+{
+    let members = types.members_of(written.name);
+    let given = written.members.as_slice();
+    for own in set.as_slice() {
+        if meets(own, written.name, members, given) {
+            return true;
+        }
+    }
+    false
+}
+
+/// Whether a set has each of the qualifiers that are given as they were written.
+fn has_each_written(set: &QualSet, types: &QualifierTypes, uses: &[Use]) -> bool
+    ensures { result ≡ quals.has_all set.now (full_uses types.now uses.now) }
+{
+    for written in uses {
+        if !has_written(set, types, written) {
+            return false;
+        }
+    }
+    true
+}
+
+/// Whether a set has what a set requires; an empty one requires `Default`.
+fn has_set(own: &QualSet, set: &QualSet, default: &Qualifier) -> bool
+    requires { default.now ≡ spec.default }
+    ensures { result ≡ quals.has_all own.now (spec.required set.now) }
+{
+    if set.as_slice().is_empty() {
+        return own.has(default);
+    }
+    own.has_all(set)
+}
+
+/// Whether a set has what is required as it was written; if nothing is written, that is `Default`.
+fn has_uses(own: &QualSet, types: &QualifierTypes, uses: &[Use], default: &Qualifier) -> bool
+    requires { default.now ≡ spec.default }
+    ensures { result ≡ quals.has_all own.now (spec.required (full_uses types.now uses.now)) }
+{
+    match uses {
+        [] => own.has(default),
+        _ => has_each_written(own, types, uses),
+    }
+}
+
+impl Required<'_> {
+    /// Whether a bean with these qualifiers has each required one; if none is required, `Default` is.
+    pub(crate) fn is_had_by(&self, own: &QualSet, default: &Qualifier) -> bool
+        requires { default.now ≡ spec.default }
+        ensures { result ≡ quals.has_all own.now (spec.required (spec.required_of self.now)) }
+    {
+        match self {
+            Required::Set(set) => has_set(own, set, default),
+            Required::Written { types, uses } => has_uses(own, types, uses, default),
+        }
+    }
+}
