@@ -110,7 +110,8 @@ impl SiteRule for OutsideShape<'_> {
 
     ghost holds_at = { λ rule s. IsTrue (is_outside_with
         (application.application_of rule.tables.application.now) rule.tables.live.now
-        (registered.shape_of (table.entries_of rule.tables.bodies.now)) (own.parts_in rule.own.now) s) };
+        (registered.shape_of (table.entries_of rule.tables.bodies.now))
+        (own.parts_in rule.own.now) s) };
 
     fn holds(&self, site: &BodySite<'_>) -> bool {
         let tables = &self.tables;
@@ -133,7 +134,8 @@ fn add_of_class(
 ) -> Result<(), AllocError>
     ensures { OnOk result (AddsPlacesOf (spec.HasBodyOutsideShape
         (application_of tables.now.application.now) tables.now.live.now
-        (shape_of (entries_of tables.now.bodies.now))) (class_sites class.now) found.old found.new) }
+        (shape_of (entries_of tables.now.bodies.now))) (class_sites class.now)
+        found.old found.new) }
 {
     let own = OwnTables::of_class(alloc, tables.application, class)?;
     let mut sites = Vec::new(alloc);

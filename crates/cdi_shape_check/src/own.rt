@@ -1,10 +1,9 @@
 //! What the instance has that a body runs on.
-ghost use Rattle.std.specs.Prelude.{◌≡◌, ◌||◌, ℕ, List, [], map, IfOk, OnOk};
+ghost use Rattle.std.specs.Prelude.{◌≡◌, ◌||◌, ℕ, nat_eq, map, IfOk, OnOk};
 ghost use Rattle.std.specs.HashSet.{contains};
 ghost use Rattle.std.specs.List.{list_any, flat_map};
 ghost use Rattle.cdi_name_check.specs.NameSets.{HasNames, HasPairs, same_pair};
 ghost use Rattle.cdi_shape_check.specs.OwnParts as spec;
-ghost use Rattle.std.specs.Prelude.{nat_eq};
 
 use crate::application::ApplicationTables;
 use crate::injected::{InjectedFields, add_fields as add_injected};
