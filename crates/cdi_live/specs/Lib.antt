@@ -1,0 +1,3 @@
+pub mod Enabled
+pub mod Live
+pub mod LiveSets

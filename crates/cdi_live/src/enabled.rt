@@ -1,0 +1,75 @@
+//! The enabled ones of a list of beans.
+ghost use Rattle.std.specs.Prelude.{◌≡◌, IfOk};
+ghost use Rattle.cdi_live.specs.Live.{is_managed as kind_is_managed};
+ghost use Rattle.cdi_resolve.specs.Filters.{is_enabled, enabled_beans};
+
+use cdi_base::{Name, Seq};
+use cdi_beanlist::{Bean, BeanKind, BeanMember};
+use std::alloc::{AllocError, Global};
+use std::marker::Model;
+
+/// An enabled bean with its index in the bean list. Contracts see the pair.
+#[derive(Drop)]
+pub(crate) struct EnabledBean<'a> {
+    index: usize,
+    bean: &'a Bean,
+}
+
+impl<'a> Model for EnabledBean<'a> {
+    ghost use Rattle.std.specs.Prelude.{ℕ};
+    ghost use Rattle.cdi_beanlist.specs.declared.bean.Bean.{Bean};
+
+    ghost Value = { ℕ × Bean };
+
+    ghost view = { λ b. (b.index, b.bean.now) };
+}
+
+/// What a list says of an index; what isn't there isn't enabled.
+fn has_flag(flags: &[bool], index: usize) -> bool
+    ensures { result ≡ is_enabled flags.now index }
+{
+    match flags.get(index) {
+        Some(flag) => *flag,
+        None => false,
+    }
+}
+
+/// Those of these beans that a list of flags tells to be enabled, by their indices.
+pub(crate) fn enabled_of<'a>(
+    alloc: Global,
+    beans: &'a [Bean],
+    flags: &[bool],
+) -> Result<Seq<EnabledBean<'a>>, AllocError>
+    ensures { IfOk result (λ enabled. enabled ≡ enabled_beans beans.now flags.now) }
+{
+    let mut enabled = Seq::empty(alloc);
+    for (index, bean) in beans.iter().enumerate() {
+        if has_flag(flags, index) {
+            enabled.push(EnabledBean { index, bean })?;
+        }
+    }
+    Ok(enabled)
+}
+
+impl<'a> EnabledBean<'a> {
+    /// Whether it is a managed bean.
+    pub(crate) fn is_managed(&self) -> bool
+        ensures { result ≡ kind_is_managed self.now.1.kind }
+    {
+        matches!(self.bean.kind, BeanKind::Managed)
+    }
+
+    /// The class that declares it.
+    pub(crate) fn class(&self) -> Name
+        ensures { result ≡ self.now.1.class }
+    {
+        self.bean.class
+    }
+
+    /// Its members.
+    pub(crate) fn members(&self) -> &'a [BeanMember]
+        ensures { result.now ≡ self.now.1.members }
+    {
+        self.bean.members.as_slice()
+    }
+}

@@ -1,0 +1,9 @@
+//! What of a deployment is live: what the container calls, and where it injects (Jakarta CDI 4.0, *Enabled and disabled beans*,
+//! *Injection points*).
+#![tactic(auto)]
+
+mod enabled;
+mod sets;
+pub mod tables;
+
+pub use tables::LiveTables;

@@ -1,0 +1,133 @@
+//! Sets of what is live.
+ghost use Rattle.std.specs.Prelude.{◌≡◌, ◌||◌, ◌↔◌, ℕ, IsTrue, IfOk, OnOk};
+ghost use Rattle.std.specs.HashSet.{contains};
+ghost use Rattle.std.specs.List.{Any};
+ghost use Rattle.cdi_live.specs.Live as spec;
+ghost use Rattle.cdi_live.specs.LiveSets.{HasThose, AreLive};
+ghost use Rattle.cdi_name_check.specs.NameSets.{HasNames, HasPairs, same_pair};
+
+use crate::enabled::EnabledBean;
+use cdi_base::Name;
+use cdi_beanlist::EnabledInterceptor;
+use cdi_deployment::Class;
+use cdi_types::TypeTable;
+use std::alloc::{AllocError, Global};
+use std::collections::HashSet;
+
+/// What is live, by its names.
+#[derive(Drop)]
+pub(crate) struct LiveSets {
+    /// The classes of enabled managed beans.
+    pub(crate) classes: HashSet<Name>,
+    /// The members of enabled beans, by the classes that declare them and their names.
+    pub(crate) members: HashSet<(Name, Name)>,
+    /// The classes of enabled managed beans, and the classes above them.
+    pub(crate) with_fields: HashSet<Name>,
+    /// The enabled interceptors.
+    pub(crate) interceptors: HashSet<Name>,
+}
+
+/// The classes of managed beans.
+fn classes_of(alloc: Global, enabled: &[EnabledBean<'_>]) -> Result<HashSet<Name>, AllocError>
+    ensures { IfOk result (HasNames (spec.is_live_class enabled.now)) }
+{
+    let mut set = HashSet::new(alloc);
+    for bean in enabled {
+        if bean.is_managed() {
+            set.insert(bean.class())?;
+        }
+    }
+    Ok(set)
+}
+
+/// Adds the members of a bean.
+fn add_members(bean: &EnabledBean<'_>, set: &mut HashSet<(Name, Name)>) -> Result<(), AllocError>
+    ensures { OnOk result ((class name : ℕ) → contains same_pair set.new (class, name)
+        ≡ (contains same_pair set.old (class, name) || spec.has_member class name bean.now)) }
+{
+    for member in bean.members() {
+        set.insert((member.class, member.name))?;
+    }
+    Ok(())
+}
+
+/// The members of beans.
+fn members_of(
+    alloc: Global,
+    enabled: &[EnabledBean<'_>],
+) -> Result<HashSet<(Name, Name)>, AllocError>
+    ensures { IfOk result (HasPairs (spec.is_live_member enabled.now)) }
+{
+    let mut set = HashSet::new(alloc);
+    for bean in enabled {
+        add_members(bean, &mut set)?;
+    }
+    Ok(set)
+}
+
+/// Whether a managed bean is of a class or of one below it.
+fn is_below(types: &TypeTable, bean: &EnabledBean<'_>, class: Name) -> bool
+    ensures { IsTrue result ↔ spec.IsBeanBelow types.now class bean.now }
+{
+    bean.is_managed() && types.is_subtype(bean.class(), class)
+}
+
+/// Whether one of some beans is a managed one of a class or of one below it.
+fn has_below(types: &TypeTable, enabled: &[EnabledBean<'_>], class: Name) -> bool
+    ensures { IsTrue result ↔ Any (spec.IsBeanBelow types.now class) enabled.now }
+{
+    enabled.iter().any(|bean| is_below(types, bean, class))
+}
+
+/// Those of some classes that are of managed beans, or above these.
+fn classes_with_fields(
+    alloc: Global,
+    types: &TypeTable,
+    classes: &[Class],
+    enabled: &[EnabledBean<'_>],
+) -> Result<HashSet<Name>, AllocError>
+    ensures { IfOk result (HasThose (spec.HasFieldsOf classes.now types.now enabled.now)) }
+{
+    let mut set = HashSet::new(alloc);
+    for class in classes {
+        if has_below(types, enabled, class.name) {
+            set.insert(class.name)?;
+        }
+    }
+    Ok(set)
+}
+
+fn names_of(alloc: Global, interceptors: &[EnabledInterceptor]) -> Result<HashSet<Name>, AllocError>
+    ensures { IfOk result (HasNames (spec.is_live_interceptor interceptors.now)) }
+{
+    let mut set = HashSet::new(alloc);
+    for interceptor in interceptors {
+        set.insert(interceptor.name)?;
+    }
+    Ok(set)
+}
+
+impl LiveSets {
+    /// What is live by these beans and interceptors.
+    pub(crate) fn of(
+        alloc: Global,
+        types: &TypeTable,
+        classes: &[Class],
+        enabled: &[EnabledBean<'_>],
+        interceptors: &[EnabledInterceptor],
+    ) -> Result<LiveSets, AllocError>
+        ensures { IfOk result (AreLive (record {
+          classes = classes.now;
+          types = types.now;
+          beans = enabled.now;
+          interceptors = interceptors.now;
+        })) }
+    {
+        Ok(LiveSets {
+            classes: classes_of(alloc, enabled)?,
+            members: members_of(alloc, enabled)?,
+            with_fields: classes_with_fields(alloc, types, classes, enabled)?,
+            interceptors: names_of(alloc, interceptors)?,
+        })
+    }
+}
