@@ -1,5 +1,5 @@
 -- The problems of injection points (Jakarta CDI 4.0, Unsatisfied and ambiguous dependencies, Unproxyable bean types).
-use Rattle.std.specs.Prelude.{ℕ, ◌≡◌, Bool, true, false, not, List, Option, Some, None, IsTrue}
+use Rattle.std.specs.Prelude.{ℕ, ◌≡◌, Bool, false, not, List, Option, Some, None, IsTrue}
 use Rattle.cdi_base.specs.Maps.{at}
 use Rattle.cdi_bean_check.specs.ManagedBeans.{is_dependent}
 use Rattle.cdi_bean_check.specs.Qualifiers.{full_uses}

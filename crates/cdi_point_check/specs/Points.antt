@@ -1,5 +1,5 @@
 -- Injection points, and which of them are live (Jakarta CDI 4.0, Injection points).
-use Rattle.std.specs.Prelude.{ℕ, List, [], ◌∷◌, IsTrue}
+use Rattle.std.specs.Prelude.{List, [], ◌∷◌, IsTrue}
 use Rattle.std.specs.List.{Any}
 use Rattle.cdi_deployment.specs.declared.deployment.InjectedField.{InjectedField}
 use Rattle.cdi_deployment.specs.declared.deployment.Member.{Member}
