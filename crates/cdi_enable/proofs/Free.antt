@@ -3,7 +3,7 @@ use Rattle.std.proofs.Common.{◌≡◌, ◌∙◌, ◌↔◌, ℕ, ◌<◌, ◌
 use Rattle.std.proofs.lemmas.Bool.{cases_Bool, cases_eq, cases_lt, true≢false}
 use Rattle.std.proofs.lemmas.Option.{slice_get_past}
 use Rattle.cdi_reach.proofs.Paths.{proper_join, proper_decided}
-use Rattle.cdi_enable.specs.declared.enabled_set.ManagedBean.{ManagedBean}
+use Rattle.cdi_enable.specs.declared.managed_bean.ManagedBean.{ManagedBean}
 use Rattle.cdi_enable.specs.Enabled.{graph_of, is_candidate, may_be_enabled, Specializes, IsForest, Enabled}
 use Rattle.cdi_enable.specs.Free.{flag, IsFree, IsSetOf}
 
@@ -56,7 +56,7 @@ module _ (beans : List ManagedBean) where
   enabled_free b free = Enabled.enabled free.0 (λ x s. Enabled.not_selected (not_true (may_be_enabled beans x) (λ a. free.1 x a s)))
 
   -- where an may_be_enabled bean specializes a bean, an enabled one does
-  enabled_over : IsForest beans → (b x : ℕ) → Over x b → (y : ℕ) × Specializes beans y b × Enabled beans y true
+  pub enabled_over : IsForest beans → (b x : ℕ) → Over x b → (y : ℕ) × Specializes beans y b × Enabled beans y true
   enabled_over forest b x o =
       let t = topmost forest b x (length beans) o in
       let last : (z : ℕ) → may_be_enabled beans z ≡ true → Specializes beans z t.0 → ⊥ = λ z a s. elim (cases_lt z (length beans)) [ inl lt ↦ t.2 z lt (a, s) | inr le ↦ true≢false (sym a ∙ not_past beans z le) ] in
@@ -75,6 +75,10 @@ module _ (beans : List ManagedBean) where
             ]
             )
       ]
+
+  -- an enabled bean is free
+  pub free_enabled : IsForest beans → (b : ℕ) → Enabled beans b true → IsFree beans b
+  free_enabled forest b (Enabled.enabled a f) = (a, λ x may s. (let y = enabled_over forest b x (may, s) in true≢false (once y.0 true false y.2 (f y.0 y.1))))
 
   -- a bean that is not free is not enabled
   pub disabled_unfree : IsForest beans → (b : ℕ) → (IsFree beans b → ⊥) → Enabled beans b false

@@ -1,10 +1,10 @@
 use Rattle.std.proofs.Common.{◌≡◌, ◌∙◌, ℕ, true, false, List, true≢false, sym, ap, subst, refl}
 use Rattle.cdi_reach.specs.Graph.{ProperPath}
 use Rattle.cdi_enable.specs.Enabled.{Enabled, Specializes, graph_of}
-use Rattle.cdi_enable.proofs.Enablement.{once}
+use Rattle.cdi_enable.proofs.Free.{once}
 use Rattle.cdi_enable.proofs.Two.{next_such, next_other}
-use Rattle.cdi_enable.proofs.enabled_set.EnabledSet.inconsistent.Goals as goal
-use Rattle.cdi_enable.proofs.enabled_set.EnabledSet.inconsistent.Goals.{then-contains+then-reaches_properly+else-seen, else-contains, else-contains-via-then-contains+else-reaches_properly, else-contains-via-else-contains}
+use Rattle.cdi_enable.proofs.enabled_managed.EnabledManaged.inconsistent.Goals as goal
+use Rattle.cdi_enable.proofs.enabled_managed.EnabledManaged.inconsistent.Goals.{then-contains+then-reaches_properly+else-seen, else-contains, else-contains-via-then-contains+else-reaches_properly, else-contains-via-else-contains}
 
 pub loop-other-preserved : goal.loop-other-preserved
 loop-other-preserved c =
