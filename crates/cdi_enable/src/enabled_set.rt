@@ -69,6 +69,18 @@ impl EnabledSet {
         }
     }
 
+    /// Whether two enabled beans specialize the managed bean of a class (Jakarta CDI 4.0, *Inconsistent specialization*). A class
+    /// without one never is so.
+    pub fn inconsistent_class(&self, class: Name) -> bool
+        ensures { IsTrue result
+            ↔ spec.IsInconsistentBean self.now (spec.bean_of_class self.now.classes class) }
+    {
+        match self.classes.bean_of(class) {
+            Some(bean) => self.managed.inconsistent(bean),
+            None => false,
+        }
+    }
+
     /// A bean of the list by its index among the managed beans, if it is one.
     fn managed_index(&self, bean: &ListedBean) -> Option<usize>
         ensures { result ≡ spec.managed_index self.now.classes bean.now }
