@@ -7,5 +7,5 @@ pub mod rule;
 pub mod tables;
 
 pub use problem::PointProblem;
-pub use rule::PointRule;
+pub use rule::{PointRule, params_of};
 pub use tables::PointTables;

@@ -15,8 +15,8 @@ pub struct PointRule<'a> {
     pub tables: PointTables<'a>,
 }
 
-/// The injected parameters of a member.
-fn params_of(member: &Member) -> &[Point]
+/// The injected parameters of a member: the disposed parameter and the event parameter are none (Jakarta CDI 4.0, *Injection points*).
+pub fn params_of(member: &Member) -> &[Point]
     ensures { result.now ≡ spec.params_of member.now }
 {
     match member {

@@ -47,7 +47,7 @@ fn is_normal(bean: Option<&Bean>) -> bool
 
 impl PointTables<'_> {
     /// What a type and qualifiers as they were written resolve to.
-    fn resolve(&self, ty: Name, quals: &[Use]) -> Resolution
+    pub fn resolve(&self, ty: Name, quals: &[Use]) -> Resolution
         ensures { result ≡ spec.resolved self.now.qualifiers.now self.now.live.now
             (record { ty = ty; quals = quals.now }) }
     {

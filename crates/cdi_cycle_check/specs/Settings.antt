@@ -1,0 +1,13 @@
+-- What the tables of the code show.
+use Rattle.cdi_cycle_check.specs.OwnPoints.{Setting}
+use Rattle.cdi_cycle_check.specs.declared.tables.CycleTables.{CycleTables}
+
+abbrev pub setting_of : CycleTables → Setting
+setting_of t =
+    record {
+      qualifiers = t.points.qualifiers.now;
+      interceptors = t.interceptors.now;
+      enabled = t.points.live.now;
+      chains = t.chains.now;
+      disposers = t.disposers.now;
+    }
