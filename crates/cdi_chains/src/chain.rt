@@ -1,13 +1,14 @@
 //! A chain of interceptors.
-ghost use Rattle.std.specs.Prelude.{◌≡◌, ◌↔◌, [], length, slice_get, is_some, option_map, IsTrue};
+ghost use Rattle.std.specs.Prelude.{◌≡◌, ◌↔◌, [], length, slice_get, is_some, option_map, IsTrue, IfOk};
 ghost use Rattle.std.specs.List.{list_any};
 ghost use Rattle.cdi_quals.specs.Qualifiers.{has, has_all};
 ghost use Rattle.cdi_chains.specs.Bindings as bindings;
 ghost use Rattle.cdi_chains.specs.Chains as spec;
 
-use cdi_base::InterceptorMethod;
+use cdi_base::{InterceptorMethod, Seq};
 use cdi_beanlist::EnabledInterceptor;
 use cdi_quals::Qualifier;
+use std::alloc::{AllocError, Global};
 use std::marker::Model;
 
 /// The interceptors that stand round a member or a lifecycle method of a bean, in their order (Jakarta Interceptors 2.1, *Interceptor
@@ -144,6 +145,26 @@ fn place_at(
     None
 }
 
+/// The places of the interceptors that stand in a chain.
+fn places_in(
+    alloc: Global,
+    interceptors: &[EnabledInterceptor],
+    method: InterceptorMethod,
+    own: &[Qualifier],
+    of_class: &[Qualifier],
+) -> Result<Seq<usize>, AllocError>
+    ensures { IfOk result (λ places. places
+        ≡ spec.chain_of method (bindings.bindings_had own.now of_class.now) interceptors.now) }
+{
+    let mut places = Seq::empty(alloc);
+    for (place, interceptor) in interceptors.iter().enumerate() {
+        if is_bound(method, own, of_class, interceptor) {
+            places.push(place)?;
+        }
+    }
+    Ok(places)
+}
+
 impl<'a> Chain<'a> {
     /// The chain of a member that has these bindings of its own, none if its calls aren't intercepted, and these of its class.
     pub(crate) fn of_member(
@@ -202,6 +223,16 @@ impl<'a> Chain<'a> {
         match self.own {
             Some(own) => place_at(self.interceptors, self.method, own, self.of_class, index),
             None => None,
+        }
+    }
+
+    /// The interceptors of the chain, by their places among the enabled ones, in their order.
+    pub fn places(&self, alloc: Global) -> Result<Seq<usize>, AllocError>
+        ensures { IfOk result (λ places. places ≡ self.now) }
+    {
+        match self.own {
+            Some(own) => places_in(alloc, self.interceptors, self.method, own, self.of_class),
+            None => Ok(Seq::empty(alloc)),
         }
     }
 }
