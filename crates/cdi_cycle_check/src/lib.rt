@@ -2,10 +2,14 @@
 //! pseudo-scope*).
 #![tactic(auto)]
 
+mod cycles;
+mod graph;
 mod needs;
 pub mod node;
 mod points;
+pub mod rule;
 pub mod tables;
 
 pub use node::Node;
+pub use rule::dependent_cycles;
 pub use tables::CycleTables;

@@ -83,7 +83,7 @@ fn declaring_bean(bean: &EnabledBean<'_>, class: Name) -> Option<Node>
 }
 
 /// The name of a producer.
-fn product_name(kind: BeanKind) -> Option<Name>
+pub(crate) fn product_name(kind: BeanKind) -> Option<Name>
     ensures { result ≡ own.product_name kind }
 {
     match kind {
