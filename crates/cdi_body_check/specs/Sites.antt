@@ -42,9 +42,15 @@ member_body (members.Observer o) = Some o.body
 abbrev pub member_site : Class → Member → Option Site
 member_site c m = option_map (Site.AMember c m) (member_body m)
 
+abbrev pub constructor_sites : Class → List Site
+constructor_sites c = option_to_list (option_and_then (constructor_site c) c.constructor)
+
+abbrev pub member_sites : Class → List Site
+member_sites c = filter_map (member_site c) c.members
+
 -- of a class: its constructor, its members
 abbrev pub class_sites : Class → List Site
-class_sites c = option_to_list (option_and_then (constructor_site c) c.constructor) ++ filter_map (member_site c) c.members
+class_sites c = constructor_sites c ++ member_sites c
 
 -- an interceptor has those methods that name a body
 abbrev pub method_body : Interceptor → InterceptorMethod → Option ℕ

@@ -1,5 +1,5 @@
 -- Bodies that aren't registered.
-use Rattle.std.specs.Prelude.{ℕ, Bool, ◌&&◌, Option, is_none, IsTrue}
+use Rattle.std.specs.Prelude.{ℕ, ◌&&◌, Option, is_none, IsTrue}
 use Rattle.cdi_bodies.specs.declared.shape.Shape.{Shape}
 use Rattle.cdi_live.specs.Enabled.{Enabled}
 use Rattle.cdi_body_check.specs.Sites.{Site, is_live, body_of}

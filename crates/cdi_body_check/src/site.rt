@@ -1,6 +1,6 @@
 //! What names a body.
-ghost use Rattle.std.specs.Prelude.{◌≡◌, ◌++◌, OnOk, IfOk, option_map, option_to_list, option_and_then};
-ghost use Rattle.std.specs.List.{flat_map, filter_map};
+ghost use Rattle.std.specs.Prelude.{◌≡◌, ◌++◌, OnOk, IfOk, option_map};
+ghost use Rattle.std.specs.List.{flat_map};
 ghost use Rattle.std.specs.Option.{option_copied};
 ghost use Rattle.cdi_body_check.specs.Sites as spec;
 
@@ -84,8 +84,8 @@ fn member_site<'a>(class: &'a Class, member: &'a Member) -> Option<BodySite<'a>>
 }
 
 fn add_constructor<'a>(class: &'a Class, sites: &mut Vec<BodySite<'a>>) -> Result<(), AllocError>
-    ensures { OnOk result (spec.shown sites.new.items ≡ spec.shown sites.old.items
-        ++ option_to_list (option_and_then (spec.constructor_site class.now) class.now.constructor)) }
+    ensures { OnOk result (spec.shown sites.new.items
+        ≡ spec.shown sites.old.items ++ spec.constructor_sites class.now) }
 {
     if let Some(constructor) = &class.constructor {
         if let Some(site) = constructor_site(class, constructor) {
@@ -97,7 +97,7 @@ fn add_constructor<'a>(class: &'a Class, sites: &mut Vec<BodySite<'a>>) -> Resul
 
 fn add_members<'a>(class: &'a Class, sites: &mut Vec<BodySite<'a>>) -> Result<(), AllocError>
     ensures { OnOk result (spec.shown sites.new.items
-        ≡ spec.shown sites.old.items ++ filter_map (spec.member_site class.now) class.now.members) }
+        ≡ spec.shown sites.old.items ++ spec.member_sites class.now) }
 {
     for member in class.members.as_slice() {
         if let Some(site) = member_site(class, member) {

@@ -12,6 +12,7 @@ use crate::unknown_name::declared::DeclaredNames;
 use cdi_base::{Name, Seq};
 use cdi_deployment::{AnnotationType, Bean, Class, Field, Member, Point};
 use cdi_problems::{Element, Rule};
+pub use uses::{are_event_qualifiers, are_qualifiers};
 
 /// A name that an element has isn't declared, or is of the wrong kind: of `extends`, `implements`, `typed`, a type, a use of a
 /// qualifier or binding or a member in it, a nonbinding member, the field of a producer field, a selected alternative, or an enabled

@@ -74,7 +74,7 @@ impl<'a> DeclaredNames<'a> {
     }
 
     /// Whether a name is that of a class, declared or built in, or of an interface.
-    pub(super) fn is_type(&self, name: Name) -> bool
+    pub fn is_type(&self, name: Name) -> bool
         ensures { result ≡ spec.is_type self.now name }
     {
         self.is_class(name) || self.is_interface(name)

@@ -74,13 +74,15 @@ fn is_event_qualifier_use(known: &DeclaredNames<'_>, written: &Use) -> bool
     !is_built_in(BuiltIn::Default, written.name) && is_qualifier_use(known, written)
 }
 
-pub(super) fn are_qualifiers(known: &DeclaredNames<'_>, uses: &[Use]) -> bool
+/// Whether each of some uses is of a known qualifier, and each member that it gives is one of the qualifier's.
+pub fn are_qualifiers(known: &DeclaredNames<'_>, uses: &[Use]) -> bool
     ensures { result ≡ spec.are_qualifiers known.now uses.now }
 {
     uses.iter().all(|written| is_qualifier_use(known, written))
 }
 
-pub(super) fn are_event_qualifiers(known: &DeclaredNames<'_>, uses: &[Use]) -> bool
+/// The same of the qualifiers of an event (Jakarta CDI 4.0, *Event types and qualifier types*), none of which is `Default`.
+pub fn are_event_qualifiers(known: &DeclaredNames<'_>, uses: &[Use]) -> bool
     ensures { result ≡ list_all (spec.is_event_qualifier_use known.now) uses.now }
 {
     uses.iter()

@@ -1,0 +1,14 @@
+//! The problem of bodies whose shapes name something that isn't there: a field, a method, a reference, an event, a lookup or an
+//! exception.
+#![tactic(auto)]
+
+pub mod application;
+mod events;
+mod injected;
+mod lookups;
+pub mod outside_shape;
+mod own;
+mod references;
+
+pub use application::ApplicationTables;
+pub use outside_shape::{ShapeTables, bodies_outside_shape};
