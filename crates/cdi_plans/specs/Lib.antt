@@ -1,0 +1,6 @@
+pub mod Apart
+pub mod Codes
+pub mod Plans
+pub mod Products
+pub mod Steps
+pub mod Tables
