@@ -7,7 +7,6 @@ use Rattle.cdi_base.specs.declared.place.InterceptorMethod.TheVariants as method
 use Rattle.cdi_base.specs.declared.place.Place.TheVariants as places
 use Rattle.cdi_chains.specs.Chains.{ChainTables, invoke_chain, life_chain}
 use Rattle.cdi_deployment.specs.declared.deployment.Class.{Class}
-use Rattle.cdi_deployment.specs.declared.deployment.Constructor.{Constructor}
 use Rattle.cdi_deployment.specs.declared.deployment.Member.{Member}
 use Rattle.cdi_deployment.specs.declared.deployment.Member.TheVariants as members
 use Rattle.cdi_deployment.specs.declared.deployment.Point.{Point}

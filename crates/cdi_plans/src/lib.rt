@@ -4,6 +4,8 @@
 
 mod codes;
 mod copies;
+mod managed;
+mod observer;
 pub mod plan;
 pub mod planner;
 mod product;

@@ -1,16 +1,17 @@
 //! What makes plans.
-ghost use Rattle.std.specs.Prelude.{◌≡◌, IfOk, IsSome, IsTrue};
+ghost use Rattle.std.specs.Prelude.{◌≡◌, Some, option_map, IfOk, IsSome, IsTrue};
 ghost use Rattle.std.specs.Option.{option_copied};
 ghost use Rattle.cdi_members.specs.Line.{class_named};
+ghost use Rattle.cdi_plans.specs.Observers as observers;
 ghost use Rattle.cdi_plans.specs.Plans as spec;
 ghost use Rattle.cdi_plans.specs.Products.{producer_of, IsPlanBy, IsProductPlan};
 ghost use Rattle.cdi_bean_check.specs.Limits.{is_producer};
 
-use crate::codes::{business_methods, destruction, injected_method};
-use crate::copies::copy_fields;
+use crate::codes::injected_method;
+use crate::managed::managed_plan;
+use crate::observer::observer_in;
 use crate::plan::{InjectedMethod, ManagedPlan, Plan, ProductPlan};
 use crate::product::{disposers_of, producer_in, source_of};
-use crate::steps::steps_of;
 use cdi_base::Name;
 use cdi_beanlist::{Bean, BeanKind, ObserverMethod};
 use cdi_chains::Chains;
@@ -82,16 +83,8 @@ impl<'a> Planner<'a> {
         ensures { IfOk result (spec.IsManagedPlan self.now bean.now) }
     {
         let line = self.classes.line(alloc, self.types, bean.class)?;
-        let members = line.members(alloc)?;
-        let members = members.as_slice();
-        let fields = line.fields(alloc)?;
         let constructor = self.constructor(bean.class);
-        Ok(ManagedPlan {
-            fields: copy_fields(alloc, fields.as_slice())?,
-            steps: steps_of(alloc, self.chains, constructor, bean, &line, members)?,
-            methods: business_methods(alloc, self.chains, bean.class, members)?,
-            pre_destroy: destruction(alloc, self.chains, bean.class, members)?,
-        })
+        managed_plan(alloc, self.chains, constructor, bean, &line)
     }
 
     /// The producer of beans of this kind that a class declares, if it declares one.
@@ -130,6 +123,48 @@ impl<'a> Planner<'a> {
     {
         match self.producer(class, kind) {
             Some(producer) => self.produced(alloc, producer.class, producer.part),
+            None => unreachable!(),
+        }
+    }
+
+    /// An observer as the class that declares it says, if one does.
+    fn declared(&self, observer: &ObserverMethod) -> Option<ClassPart<'a, Observer>>
+        ensures { result ≡ observers.observer_of self.now.classes observer.now }
+    {
+        match self.classes.class(observer.class) {
+            Some(class) => observer_in(class, observer.name),
+            None => None,
+        }
+    }
+
+    /// What runs where an observer is notified (Jakarta CDI 4.0, *Observer methods*): its body, what is injected into its parameters, and
+    /// the chain round it, which is that of the bean that has it. The first class of the name of the one that declares it has to declare
+    /// it, as it does for the observers of a deployment whose names have no problem.
+    pub fn observer(
+        &self,
+        alloc: Global,
+        observer: &ObserverMethod,
+    ) -> Result<InjectedMethod, AllocError>
+        requires { IsSome (observers.observer_of self.now.classes observer.now) }
+        ensures { IfOk result (λ method. Some method ≡ option_map
+            (observers.observer_method self.now.chains observer.now.bean)
+            (observers.observer_of self.now.classes observer.now)) }
+    {
+        let bean = observer.bean;
+        match self.declared(observer) {
+            Some(found) => {
+                let method = found.part;
+                let params = method.params.as_slice();
+                injected_method(
+                    alloc,
+                    self.chains,
+                    bean,
+                    found.class,
+                    method.name,
+                    method.body,
+                    params,
+                )
+            }
             None => unreachable!(),
         }
     }
