@@ -1,5 +1,5 @@
 -- The interceptor bindings of classes and of their members (Jakarta Interceptors 2.1, Interceptor Bindings).
-use Rattle.std.specs.Prelude.{ℕ, ◌==◌, ◌&&◌, Bool, not, List, ◌++◌, filter, Option, Some, None, option_map}
+use Rattle.std.specs.Prelude.{◌==◌, ◌&&◌, Bool, not, List, ◌++◌, filter, Option, Some, None, option_map}
 use Rattle.std.specs.List.{filter_map, list_any}
 use Rattle.cdi_base.specs.declared.uses.Use.{Use}
 use Rattle.cdi_bean_check.specs.Qualifiers.{full_uses}

@@ -1,4 +1,4 @@
-use Rattle.std.proofs.Common.{◌≡◌, ◌∙◌, ◌||◌, Bool, true, false, refl, sym, ap}
+use Rattle.std.proofs.Common.{◌≡◌, ◌∙◌, ◌||◌, true, false, sym, ap}
 use Rattle.std.specs.List.{list_any}
 use Rattle.cdi_quals.specs.Qualifiers.{has}
 use Rattle.cdi_chains.specs.Bindings.{is_met_by_class}

@@ -1,4 +1,4 @@
-use Rattle.std.proofs.Common.{sym, ap}
+use Rattle.std.proofs.Common.{ap}
 use Rattle.cdi_chains.specs.Chains.{chain_of}
 use Rattle.cdi_chains.proofs.Bound.{all_of_class}
 use Rattle.cdi_chains.proofs.chain.Chain.of_lifecycle.Goals as goal
