@@ -1,3 +1,5 @@
+pub mod Added
 pub mod Flags
-pub mod Enablement
+pub mod Forests
+pub mod Free
 pub mod Two

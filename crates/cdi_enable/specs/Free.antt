@@ -1,7 +1,7 @@
 -- The same without recursion, as the code has it: no bean that may be enabled specializes it. (The most derived of those would be
 -- enabled.)
 use Rattle.std.specs.Prelude.{ℕ, ◌≡◌, ◌↔◌, List, Bool, true, false, slice_index_or, IsTrue}
-use Rattle.cdi_enable.specs.declared.enabled_set.ManagedBean.{ManagedBean}
+use Rattle.cdi_enable.specs.declared.managed_bean.ManagedBean.{ManagedBean}
 use Rattle.cdi_enable.specs.Enabled.{graph_of, may_be_enabled, Specializes, IsForest}
 
 abbrev pub IsFree : List ManagedBean → ℕ → Type 0

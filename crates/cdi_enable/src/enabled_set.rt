@@ -1,151 +1,118 @@
-//! The enabled beans.
-ghost use Rattle.std.specs.Prelude.{◌≡◌, ◌↔◌, ℕ, IsTrue, IfOk};
-ghost use Rattle.cdi_enable.specs.Enabled as spec;
-ghost use Rattle.cdi_enable.specs.Free.{flag, IsFree};
+//! The enabled ones of the beans of a bean list.
+ghost use Rattle.std.specs.Prelude.{◌≡◌, ◌↔◌, IsTrue, IfOk};
+ghost use Rattle.cdi_enable.specs.Enabled.{IsForest};
+ghost use Rattle.cdi_enable.specs.Enablement as spec;
 
-use cdi_base::Seq;
-use cdi_reach::Reachability;
+use crate::class_places::ClassPlaces;
+use crate::enabled_managed::EnabledManaged;
+use crate::listed_bean::ListedBean;
+use crate::managed_beans::{listed_beans, managed_beans, managed_classes};
+use cdi_base::{Name, Seq};
+use cdi_beanlist::BeanList;
 use std::alloc::{AllocError, Global};
 use std::marker::Model;
 
-/// What decides whether a managed bean is enabled.
-#[derive(Clone, Copy, Debug, PartialEq, Eq)]
-pub struct ManagedBean {
-    /// The bean that it directly specializes, by its index (Jakarta CDI 4.0, *Specialization*).
-    pub specializes: Option<usize>,
-    /// Whether it is an alternative (Jakarta CDI 4.0, *Alternatives*).
-    pub alternative: bool,
-    /// Whether it is a selected alternative: by its priority or by the list of those that are selected (Jakarta CDI 4.0, *Declaring
-    /// selected alternatives*).
-    pub selected: bool,
-}
-
-/// The enabled ones of a list of managed beans (Jakarta CDI 4.0, *Enabled and disabled beans*). Contracts see the list of the beans.
+/// The enabled ones of the beans of a bean list (Jakarta CDI 4.0, *Enabled and disabled beans*). Contracts see what of the list
+/// decides which they are.
 ///
-/// For n beans it is made in at most n³ / 64 steps; a look takes constant time.
+/// For m managed beans among n it is made in time in proportion to n + m³ / 64; asking whether a bean is enabled takes constant time.
 #[derive(Drop)]
 pub struct EnabledSet {
-    beans: Seq<ManagedBean>,
-    reach: Reachability,
-    flags: Seq<bool>,
+    classes: ClassPlaces,
+    managed: EnabledManaged,
+    beans: Seq<ListedBean>,
 }
 
 impl Model for EnabledSet {
-    ghost use Rattle.std.specs.Prelude.{List};
-    ghost use Rattle.cdi_enable.specs.declared.enabled_set.ManagedBean.{ManagedBean};
-    ghost use Rattle.cdi_enable.specs.Free.{IsSetOf};
+    ghost use Rattle.cdi_enable.specs.Enablement.{Enablement};
 
-    ghost Value = { List ManagedBean };
+    ghost Value = { Enablement };
 
-    ghost view = { λ s. s.beans };
-
-    ghost invariant = { λ s. IsSetOf s.beans s.reach s.flags };
+    ghost view = { λ s. record { classes = s.classes; managed = s.managed; beans = s.beans } };
 }
 
-/// Each bean with the one that it directly specializes.
-fn graph_of(alloc: Global, beans: &[ManagedBean]) -> Result<Seq<Seq<usize>>, AllocError>
-    ensures { IfOk result (λ graph. graph ≡ spec.graph_of beans.now) }
+/// The enabled ones of the beans of a list, no managed bean of which specializes itself, directly or through others.
+pub fn enabled(alloc: Global, list: &BeanList) -> Result<EnabledSet, AllocError>
+    requires { IsForest (spec.enablement_of list.now).managed }
+    ensures { IfOk result (λ set. set ≡ spec.enablement_of list.now) }
 {
-    let mut graph = Seq::empty(alloc);
-    for bean in beans {
-        let mut row = Seq::empty(alloc);
-        if let Some(target) = bean.specializes {
-            row.push(target)?;
-        }
-        graph.push(row)?;
-    }
-    Ok(graph)
-}
-
-/// Whether a bean is no alternative, or a selected one.
-fn may_be_enabled(beans: &[ManagedBean], bean: usize) -> bool
-    ensures { result ≡ spec.may_be_enabled beans.now bean }
-{
-    match beans.get(bean) {
-        Some(bean) => !bean.alternative || bean.selected,
-        None => false,
-    }
-}
-
-/// Whether a bean may be enabled, and none that may be specializes it.
-fn is_free(beans: &[ManagedBean], reach: &Reachability, bean: usize) -> bool
-    requires { reach.now ≡ spec.graph_of beans.now }
-    ensures { IsTrue result ↔ IsFree beans.now bean }
-{
-    if !may_be_enabled(beans, bean) {
-        return false;
-    }
-    for other in 0..beans.len() {
-        if may_be_enabled(beans, other) && reach.reaches_properly(other, bean) {
-            return false;
-        }
-    }
-    true
-}
-
-/// Each bean with whether it is free.
-fn flags_of(
-    alloc: Global,
-    beans: &[ManagedBean],
-    reach: &Reachability,
-) -> Result<Seq<bool>, AllocError>
-    requires { reach.now ≡ spec.graph_of beans.now }
-    ensures { IfOk result (λ flags. (b : ℕ) → IsTrue (flag flags b) ↔ IsFree beans.now b) }
-{
-    let mut flags = Seq::empty(alloc);
-    for bean in 0..beans.len() {
-        flags.push(is_free(beans, reach, bean))?;
-    }
-    Ok(flags)
-}
-
-/// What a bean's flag says.
-fn has_flag(flags: &[bool], bean: usize) -> bool
-    ensures { result ≡ flag flags.now bean }
-{
-    match flags.get(bean) {
-        Some(flag) => *flag,
-        None => false,
-    }
+    let beans = list.beans.as_slice();
+    let classes = ClassPlaces::build(alloc, managed_classes(alloc, beans)?)?;
+    let managed = managed_beans(alloc, beans, &classes, list.selected.as_slice())?;
+    Ok(EnabledSet {
+        classes,
+        managed: EnabledManaged::build(alloc, managed)?,
+        beans: listed_beans(alloc, beans)?,
+    })
 }
 
 impl EnabledSet {
-    /// The enabled ones of these beans, none of which specializes itself, directly or through others.
-    pub fn build(alloc: Global, beans: Seq<ManagedBean>) -> Result<EnabledSet, AllocError>
-        requires { spec.IsForest beans }
-        ensures { IfOk result (λ set. set ≡ beans) }
-    {
-        let graph = graph_of(alloc, beans.as_slice())?;
-        let reach = Reachability::build(alloc, graph)?;
-        let flags = flags_of(alloc, beans.as_slice(), &reach)?;
-        Ok(EnabledSet {
-            beans,
-            reach,
-            flags,
-        })
-    }
-
-    /// Whether a bean is enabled: no enabled bean specializes it, directly or through others, and it is no alternative or a selected
-    /// one. There is none past the last.
+    /// Whether a bean of the list is enabled, by its index. A managed bean is if no enabled bean specializes it, directly or through
+    /// others, and it is no alternative or a selected one; a product is if the managed bean of the class that declares it is. There is
+    /// none past the last.
     pub fn contains(&self, bean: usize) -> bool
-        ensures { spec.Enabled self.now bean result }
+        ensures { spec.IsEnabled self.now bean result }
     {
-        has_flag(self.flags.as_slice(), bean)
+        match self.beans.get(bean) {
+            Some(bean) => self.contains_class(bean.class),
+            None => false,
+        }
     }
 
-    /// Whether two enabled beans specialize a bean (Jakarta CDI 4.0, *Inconsistent specialization*).
+    /// Whether the managed bean of a class is enabled. A class without one has none that is.
+    pub fn contains_class(&self, class: Name) -> bool
+        ensures { spec.IsEnabledClass self.now class result }
+    {
+        match self.classes.bean_of(class) {
+            Some(bean) => self.managed.contains(bean),
+            None => false,
+        }
+    }
+
+    /// Whether two enabled beans specialize the managed bean of a class (Jakarta CDI 4.0, *Inconsistent specialization*). A class
+    /// without one never is so.
+    pub fn inconsistent_class(&self, class: Name) -> bool
+        ensures { IsTrue result
+            ↔ spec.IsInconsistentBean self.now (spec.bean_of_class self.now.classes class) }
+    {
+        match self.classes.bean_of(class) {
+            Some(bean) => self.managed.inconsistent(bean),
+            None => false,
+        }
+    }
+
+    /// A bean of the list by its index among the managed beans, if it is one.
+    fn managed_index(&self, bean: &ListedBean) -> Option<usize>
+        ensures { result ≡ spec.managed_index self.now.classes bean.now }
+    {
+        if !bean.is_managed {
+            return None;
+        }
+        self.classes.bean_of(bean.class)
+    }
+
+    /// Whether two enabled beans specialize a managed bean, which is told by its index in the list (Jakarta CDI 4.0, *Inconsistent
+    /// specialization*). Of a product, and past the last bean, it never is so. It goes through the managed beans.
     pub fn inconsistent(&self, bean: usize) -> bool
         ensures { IsTrue result ↔ spec.IsInconsistent self.now bean }
     {
-        let mut seen = false;
-        for other in 0..self.beans.len() {
-            if self.contains(other) && self.reach.reaches_properly(other, bean) {
-                if seen {
-                    return true;
-                }
-                seen = true;
-            }
+        let Some(listed) = self.beans.get(bean) else {
+            return false;
+        };
+        match self.managed_index(listed) {
+            Some(managed) => self.managed.inconsistent(managed),
+            None => false,
         }
-        false
+    }
+
+    /// For each bean of the list, in order, whether it is enabled.
+    pub fn flags(&self, alloc: Global) -> Result<Seq<bool>, AllocError>
+        ensures { IfOk result (spec.AreFlags self.now) }
+    {
+        let mut flags = Seq::empty(alloc);
+        for bean in self.beans.as_slice() {
+            flags.push(self.contains_class(bean.class))?;
+        }
+        Ok(flags)
     }
 }

@@ -1,6 +1,6 @@
 //! The enabled ones of a list of beans.
 ghost use Rattle.std.specs.Prelude.{◌≡◌, IfOk};
-ghost use Rattle.cdi_live.specs.Live.{is_managed as kind_is_managed};
+ghost use Rattle.cdi_live.specs.Live.{is_managed as kind_is_managed, is_bean_of};
 ghost use Rattle.cdi_resolve.specs.Filters.{is_enabled, enabled_beans};
 
 use cdi_base::{Name, Seq};
@@ -10,7 +10,7 @@ use std::marker::Model;
 
 /// An enabled bean with its index in the bean list. Contracts see the pair.
 #[derive(Drop)]
-pub(crate) struct EnabledBean<'a> {
+pub struct EnabledBean<'a> {
     index: usize,
     bean: &'a Bean,
 }
@@ -52,8 +52,29 @@ pub(crate) fn enabled_of<'a>(
 }
 
 impl<'a> EnabledBean<'a> {
+    /// Its index in the bean list.
+    pub fn index(&self) -> usize
+        ensures { result ≡ self.now.0 }
+    {
+        self.index
+    }
+
+    /// The bean.
+    pub fn bean(&self) -> &'a Bean
+        ensures { result.now ≡ self.now.1 }
+    {
+        self.bean
+    }
+
+    /// Whether it is a managed bean of a class.
+    pub fn is_of(&self, class: Name) -> bool
+        ensures { result ≡ is_bean_of class self.now }
+    {
+        self.is_managed() && self.bean.class == class
+    }
+
     /// Whether it is a managed bean.
-    pub(crate) fn is_managed(&self) -> bool
+    pub fn is_managed(&self) -> bool
         ensures { result ≡ kind_is_managed self.now.1.kind }
     {
         matches!(self.bean.kind, BeanKind::Managed)

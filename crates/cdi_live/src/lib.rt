@@ -2,8 +2,9 @@
 //! *Injection points*).
 #![tactic(auto)]
 
-mod enabled;
+pub mod enabled;
 mod sets;
 pub mod tables;
 
+pub use enabled::EnabledBean;
 pub use tables::LiveTables;

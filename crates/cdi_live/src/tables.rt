@@ -74,6 +74,20 @@ impl<'a> LiveTables<'a> {
         })
     }
 
+    /// The enabled beans, in the order of the bean list.
+    pub fn beans(&self) -> &[EnabledBean<'a>]
+        ensures { result.now ≡ self.now.beans }
+    {
+        self.beans.as_slice()
+    }
+
+    /// The enabled interceptors, in their order.
+    pub fn interceptors(&self) -> &'a [EnabledInterceptor]
+        ensures { result.now ≡ self.now.interceptors }
+    {
+        self.interceptors
+    }
+
     /// Whether the constructor of a class is live: an enabled managed bean is of the class.
     pub fn has_bean(&self, class: Name) -> bool
         ensures { result ≡ spec.is_live_class self.now.beans class }

@@ -1,4 +1,5 @@
 pub mod Counting
+pub mod Eligible
 pub mod Enabled
 pub mod Filtering
 pub mod Narrowing

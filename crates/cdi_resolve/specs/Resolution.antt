@@ -1,6 +1,6 @@
 -- What a type and qualifiers resolve to (Jakarta CDI 4.0, Typesafe resolution, Ambiguous dependencies), among the enabled beans, each
 -- with its index.
-use Rattle.std.specs.Prelude.{ℕ, ℤ, List, [], ◌∷◌, Option, Some, None, is_none, fold, filter}
+use Rattle.std.specs.Prelude.{ℕ, ℤ, ◌≡◌, true, List, [], ◌∷◌, Option, Some, None, is_none, fold, filter, Contains}
 use Rattle.std.specs.Int.{int_max}
 use Rattle.cdi_beanlist.specs.declared.bean.Bean.{Bean}
 use Rattle.cdi_quals.specs.declared.qualifier.Qualifier.{Qualifier}
@@ -17,6 +17,12 @@ sole (b ∷ c ∷ bs) = Many
 -- the enabled beans that have the type and each required qualifier
 abbrev pub eligible : ℕ → List Qualifier → List (ℕ × Bean) → List (ℕ × Bean)
 eligible type qualifiers beans = filter (λ b. fits type qualifiers b.1) beans
+
+-- one of them, by its index
+pub record IsEligible (type : ℕ) (qualifiers : List Qualifier) (beans : List (ℕ × Bean)) (index : ℕ) : Type 0 where
+  pub bean : Bean
+  pub stands : Contains beans (index, bean)
+  pub fitting : fits type qualifiers bean ≡ true
 
 -- alternatives, and producers that alternatives declare
 abbrev pub alternatives : List (ℕ × Bean) → List (ℕ × Bean)

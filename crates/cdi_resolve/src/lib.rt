@@ -2,6 +2,7 @@
 #![tactic(auto)]
 
 mod filter;
+pub mod laws;
 mod required;
 pub mod resolution;
 pub mod resolver;

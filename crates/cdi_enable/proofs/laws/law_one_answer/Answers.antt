@@ -1,4 +1,4 @@
-use Rattle.cdi_enable.proofs.Enablement.{once}
+use Rattle.cdi_enable.proofs.Free.{once}
 use Rattle.cdi_enable.proofs.laws.law_one_answer.Goals as goal
 
 pub returns : goal.returns

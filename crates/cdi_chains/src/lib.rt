@@ -1,0 +1,12 @@
+//! Which interceptors stand round the members of a bean, and in which order (Jakarta Interceptors 2.1, *Interceptor Resolution*,
+//! *Interceptor Ordering*).
+#![tactic(auto)]
+
+pub mod bindings;
+pub mod chain;
+pub mod chains;
+pub mod laws;
+
+pub use bindings::{ClassBindings, MemberBindings};
+pub use chain::Chain;
+pub use chains::Chains;

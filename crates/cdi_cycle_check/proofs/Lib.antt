@@ -1,0 +1,6 @@
+pub mod Growing
+pub mod Members
+pub mod Needy
+pub mod Paths
+pub mod Rows
+pub mod Within

@@ -1,0 +1,5 @@
+pub mod Cycles
+pub mod Graphs
+pub mod Needs
+pub mod OwnPoints
+pub mod Settings

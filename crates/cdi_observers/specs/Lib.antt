@@ -1,0 +1,4 @@
+pub mod Groups
+pub mod Observers
+pub mod Order
+pub mod Runs

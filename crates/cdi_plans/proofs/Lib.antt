@@ -1,0 +1,4 @@
+pub mod Fronts
+pub mod Lineages
+pub mod Producers
+pub mod Serving

@@ -1,0 +1,17 @@
+//! By which steps an instance of a bean is created, and what runs where it is destroyed (Jakarta CDI 4.0, *Lifecycle of managed beans*,
+//! *Lifecycle of producer methods*, *Lifecycle of producer fields*).
+#![tactic(auto)]
+
+mod codes;
+mod copies;
+mod managed;
+mod observer;
+pub mod plan;
+pub mod planner;
+mod product;
+mod steps;
+
+pub use plan::{
+    BusinessMethod, Code, InjectedMethod, Lifecycle, ManagedPlan, Plan, ProductPlan, Source, Step,
+};
+pub use planner::Planner;
