@@ -1,3 +1,4 @@
+pub mod Declared
 pub mod Fronts
 pub mod Lineages
 pub mod Producers
