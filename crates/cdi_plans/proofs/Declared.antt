@@ -23,7 +23,7 @@ use Rattle.cdi_plans.specs.Plans.{IsDeclared, IsDeclaredAs}
 use Rattle.cdi_plans.specs.Products.{is_producer_of, producer_in, producer_of}
 use Rattle.cdi_plans.proofs.Fronts.{same}
 
-some_found : {X : Type 0} (p : X → Bool) (xs : List X) → list_any p xs ≡ true → IsSome (find p xs)
+pub some_found : {X : Type 0} (p : X → Bool) (xs : List X) → list_any p xs ≡ true → IsSome (find p xs)
 some_found p [] e = absurd (true≢false (sym e))
 some_found p (x ∷ xs) e = by (some_found p xs) (p x) e
   where
