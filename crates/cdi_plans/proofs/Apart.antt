@@ -1,5 +1,5 @@
 -- In a deployment without duplicate names no two classes have one name.
-use Rattle.std.proofs.Common.{◌≡◌, ◌∙◌, ℕ, ◌+◌, ◌||◌, Bool, true, false, nat_eq, List, [], ◌∷◌, ◌++◌, length, map, fold, refl, sym, ap, subst, append_assoc, append-nil, arith, if◌then◌else◌}
+use Rattle.std.proofs.Common.{◌≡◌, ◌∙◌, ℕ, ◌+◌, ◌||◌, Bool, true, false, nat_eq, List, [], ◌∷◌, ◌++◌, map, fold, refl, sym, ap, subst, append_assoc, append-nil, arith, if◌then◌else◌}
 use Rattle.std.proofs.lemmas.Bool.{eqb-true}
 use Rattle.std.proofs.lemmas.Grind.{flat_map-append}
 use Rattle.std.proofs.lemmas.List.Elements.{Contains-append_left, Contains-append_right}
@@ -12,7 +12,7 @@ use Rattle.cdi_name_check.specs.NameProblems.{AreNameProblems}
 use Rattle.cdi_name_check.specs.declared.claim.Claim.{Claim}
 use Rattle.cdi_name_check.specs.declared.claim.Claim.TheVariants as claims
 use Rattle.cdi_problems.specs.Elements.{Element, elements_of, class_elements, interceptor_elements, place_of}
-use Rattle.cdi_problems.specs.Findings.{ArePlacesAfter, ArePlacesWhere, Placed, placed_after, placed}
+use Rattle.cdi_problems.specs.Findings.{Placed, placed_after, placed}
 use Rattle.cdi_problems.specs.Places.{once, with_place}
 use Rattle.cdi_problems.specs.Words.{problems_at}
 use Rattle.cdi_problems.specs.declared.problem.ProblemKind.TheVariants as kinds

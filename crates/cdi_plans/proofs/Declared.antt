@@ -1,7 +1,7 @@
 -- The beans of a list are declared by the classes of their names.
-use Rattle.std.proofs.Common.{◌≡◌, ◌∙◌, ℕ, zero, suc, ◌<◌, ◌||◌, Bool, true, false, cond, nat_eq, List, [], ◌∷◌, ◌++◌, length, map, filter, Option, Some, None, refl, sym, ap, subst, arith}
-use Rattle.std.specs.Prelude.{IsSome, option_map, option_and_then, if◌then◌else◌}
-use Rattle.std.specs.List.{All, AllZip, find, list_any, flat_map, slice_index_or}
+use Rattle.std.proofs.Common.{◌≡◌, ◌∙◌, ℕ, ◌||◌, Bool, true, false, cond, nat_eq, List, [], ◌∷◌, ◌++◌, map, filter, Option, Some, None, refl, sym, ap, subst}
+use Rattle.std.specs.Prelude.{IsSome, option_map, if◌then◌else◌}
+use Rattle.std.specs.List.{All, AllZip, find, list_any, flat_map}
 use Rattle.std.proofs.lemmas.Bool.{eqb-true, true≢false}
 use Rattle.std.proofs.lemmas.List.Elements.{All-cons, All-nil}
 use Rattle.cdi_bean_check.specs.Limits.{is_producer}
@@ -20,7 +20,7 @@ use Rattle.cdi_members.specs.Line.{class_named}
 use Rattle.cdi_quals.specs.declared.types.QualifierType.{QualifierType}
 use Rattle.cdi_plans.specs.Apart.{has_class, AreNamedApart}
 use Rattle.cdi_plans.specs.Plans.{IsDeclared, IsDeclaredAs}
-use Rattle.cdi_plans.specs.Products.{is_producer_of, producer_in, producer_of}
+use Rattle.cdi_plans.specs.Products.{is_producer_of, producer_of}
 use Rattle.cdi_plans.proofs.Fronts.{same}
 
 pub some_found : {X : Type 0} (p : X → Bool) (xs : List X) → list_any p xs ≡ true → IsSome (find p xs)

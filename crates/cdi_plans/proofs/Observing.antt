@@ -1,7 +1,7 @@
 -- The observers of a list are declared by the classes that are told to declare them.
-use Rattle.std.proofs.Common.{◌≡◌, ◌∙◌, ℕ, ◌||◌, Bool, true, false, cond, nat_eq, List, [], ◌∷◌, ◌++◌, map, filter, Option, Some, None, refl, sym, ap, subst}
-use Rattle.std.specs.Prelude.{IsSome, option_map, option_and_then}
-use Rattle.std.specs.List.{All, AllZip, find, list_any, filter_map, cons_option}
+use Rattle.std.proofs.Common.{◌≡◌, ◌∙◌, ℕ, ◌||◌, Bool, true, false, cond, nat_eq, List, [], ◌∷◌, ◌++◌, filter, Option, Some, None, refl, sym, ap, subst}
+use Rattle.std.specs.Prelude.{IsSome, option_map}
+use Rattle.std.specs.List.{All, AllZip, list_any, filter_map, cons_option}
 use Rattle.std.proofs.lemmas.Bool.{eqb-true, true≢false}
 use Rattle.std.proofs.lemmas.List.Elements.{All-cons, All-nil}
 use Rattle.cdi_beanlist.specs.ObserverMethods.{AreObserversOf, IsObserverOf, observer}
@@ -14,7 +14,7 @@ use Rattle.cdi_deployment.specs.declared.deployment.Observer.{Observer}
 use Rattle.cdi_members.specs.Line.{class_named}
 use Rattle.cdi_members.specs.Members.{comes_down, members_of, parts_of}
 use Rattle.cdi_quals.specs.declared.types.QualifierType.{QualifierType}
-use Rattle.cdi_plans.specs.Observers.{as_observer, observer_in, observer_named, observer_of}
+use Rattle.cdi_plans.specs.Observers.{as_observer, observer_named, observer_of}
 use Rattle.cdi_plans.proofs.Declared.{some_found}
 use Rattle.cdi_plans.proofs.Fronts.{same}
 use Rattle.cdi_plans.proofs.Lineages.{passes}
