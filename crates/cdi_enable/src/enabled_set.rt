@@ -15,7 +15,8 @@ use std::marker::Model;
 /// The enabled ones of the beans of a bean list (Jakarta CDI 4.0, *Enabled and disabled beans*). Contracts see what of the list
 /// decides which they are.
 ///
-/// For m managed beans among n it is made in time in proportion to n + m³ / 64; asking whether a bean is enabled takes constant time.
+/// For m managed beans among n, and s names in the list of the selected ones, it is made in time in proportion to n + m s + m³ / 64;
+/// asking whether a bean is enabled takes constant time.
 #[derive(Drop)]
 pub struct EnabledSet {
     classes: ClassPlaces,

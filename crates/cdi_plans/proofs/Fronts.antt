@@ -12,7 +12,7 @@ use Rattle.cdi_plans.specs.Steps.{injection, initialization, injections}
 use Rattle.cdi_plans.specs.declared.plan.Step.{Step}
 use Rattle.cdi_plans.proofs.Lineages.{neither}
 
-same : (n : ℕ) → nat_eq n n ≡ true
+pub same : (n : ℕ) → nat_eq n n ≡ true
 same n = by (nat_eq n n) refl
   where
     by : (b : Bool) → nat_eq n n ≡ b → b ≡ true

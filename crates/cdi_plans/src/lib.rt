@@ -4,6 +4,7 @@
 
 mod codes;
 mod copies;
+pub mod laws;
 mod managed;
 mod observer;
 pub mod plan;

@@ -139,7 +139,8 @@ impl<'a> Planner<'a> {
 
     /// What runs where an observer is notified (Jakarta CDI 4.0, *Observer methods*): its body, what is injected into its parameters, and
     /// the chain round it, which is that of the bean that has it. The first class of the name of the one that declares it has to declare
-    /// it, as it does for the observers of a deployment whose names have no problem.
+    /// it, as it does for the observers of a deployment whose names have no problem
+    /// ([`law_observers_are_declared`](crate::laws::law_observers_are_declared)).
     pub fn observer(
         &self,
         alloc: Global,
@@ -171,8 +172,9 @@ impl<'a> Planner<'a> {
 
     /// By which steps an instance of a bean is created (Jakarta CDI 4.0, *Lifecycle of managed beans*, *Lifecycle of producer methods*,
     /// *Lifecycle of producer fields*), and what else runs in its life. If the bean is a product, the first class of the name of its
-    /// class has to declare its producer, as it does for the beans of a deployment whose names have no problem. Copying takes memory
-    /// in proportion to what the classes of its line declare.
+    /// class has to declare its producer, as it does for the beans of a deployment whose names have no problem
+    /// ([`law_beans_are_declared`](crate::laws::law_beans_are_declared)). It takes time and memory in proportion to what the classes of
+    /// the bean's line declare, times the enabled interceptors for each member that is called through a chain.
     pub fn plan(&self, alloc: Global, bean: &Bean) -> Result<Plan, AllocError>
         requires { spec.IsDeclared self.now.classes bean.now }
         ensures { IfOk result (spec.IsPlanOf self.now bean.now) }
