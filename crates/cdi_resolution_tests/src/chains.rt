@@ -1,7 +1,7 @@
 //! Which interceptors stand round what, in deployments as they are written.
 use crate::written::{Listed, add, add_name, beans_of, deployment_of, expect_text};
 use cdi_base::{InterceptorMethod, Names};
-use cdi_beanlist::{Bean, BeanKind, BeanMember};
+use cdi_beanlist::{Bean, BeanKind, BeanList, BeanMember};
 use cdi_chains::{Chain, Chains};
 use cdi_deployment::Deployment;
 use cdi_quals::QualifierTypes;
@@ -274,10 +274,13 @@ fn text_of(
 fn lines_of(rt: &impl Abort, alloc: Global, deployment: &Deployment) -> String {
     let bindings = QualifierTypes::bindings_of(alloc, deployment).expect(rt, "memory");
     let Listed { list, .. } = beans_of(rt, alloc, deployment);
-    let chains = Chains::build(alloc, deployment, &bindings, list.interceptors).expect(
-        rt, "memory",
-    );
-    text_of(rt, alloc, &deployment.names, &chains, list.beans.as_slice())
+    let BeanList {
+        beans,
+        interceptors,
+        ..
+    } = list;
+    let chains = Chains::build(alloc, deployment, &bindings, interceptors).expect(rt, "memory");
+    text_of(rt, alloc, &deployment.names, &chains, beans.as_slice())
 }
 
 fn check_row(rt: &impl Abort, alloc: Global, row: &Row<'_>) {

@@ -1,7 +1,9 @@
 //! Which observers hear an event, in deployments as they are written.
-use crate::written::{Asked, add, add_name, asked_deployment, beans_of, expect_text, points_of};
+use crate::written::{
+    Asked, Listed, add, add_name, asked_deployment, beans_of, expect_text, points_of,
+};
 use cdi_base::Names;
-use cdi_beanlist::ObserverMethod;
+use cdi_beanlist::{BeanList, ObserverMethod};
 use cdi_deployment::{Deployment, InjectedField};
 use cdi_observers::{ObserverGroup, Observers};
 use cdi_quals::{QualSet, QualifierTypes};
@@ -191,9 +193,10 @@ fn text_of(
 }
 
 fn observers_of(rt: &impl Abort, alloc: Global, deployment: &Deployment) -> Observers {
-    let listed = beans_of(rt, alloc, deployment);
     let types = TypeTable::build(alloc, deployment).expect(rt, "types");
-    Observers::build(alloc, listed.list.observers, &listed.enabled, types).expect(rt, "memory")
+    let Listed { list, enabled } = beans_of(rt, alloc, deployment);
+    let BeanList { observers, .. } = list;
+    Observers::build(alloc, observers, &enabled, types).expect(rt, "memory")
 }
 
 fn check_row(rt: &impl Abort, alloc: Global, row: &Asked<'_>) {

@@ -1,6 +1,9 @@
 //! What points resolve to, in deployments as they are written.
-use crate::written::{Asked, add, add_bean, asked_deployment, beans_of, expect_text, points_of};
+use crate::written::{
+    Asked, Listed, add, add_bean, asked_deployment, beans_of, expect_text, points_of,
+};
 use cdi_base::Names;
+use cdi_beanlist::BeanList;
 use cdi_deployment::{Deployment, InjectedField};
 use cdi_quals::{QualSet, QualifierTypes};
 use cdi_resolve::{Resolution, Resolver};
@@ -283,9 +286,10 @@ fn text_of(
 }
 
 fn resolver_of(rt: &impl Abort, alloc: Global, deployment: &Deployment) -> Resolver {
-    let listed = beans_of(rt, alloc, deployment);
-    let flags = listed.enabled.flags(alloc).expect(rt, "memory");
-    Resolver::new(alloc, listed.list.beans, flags)
+    let Listed { list, enabled } = beans_of(rt, alloc, deployment);
+    let flags = enabled.flags(alloc).expect(rt, "memory");
+    let BeanList { beans, .. } = list;
+    Resolver::new(alloc, beans, flags)
 }
 
 fn check_row(rt: &impl Abort, alloc: Global, row: &Asked<'_>) {
