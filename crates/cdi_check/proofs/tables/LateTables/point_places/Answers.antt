@@ -1,0 +1,10 @@
+use Rattle.std.proofs.Common.{subst}
+use Rattle.cdi_point_check.specs.PointProblems.{HasPointProblem}
+use Rattle.cdi_problems.specs.Findings.{ArePlacesOf}
+use Rattle.cdi_check.proofs.tables.LateTables.point_places.Goals as goal
+
+pub returns : goal.returns
+returns c =
+    let points = c.args.self.now.cycles.points in
+    subst (λ es. ArePlacesOf (HasPointProblem c.args.problem points.qualifiers.now points.live.now) es c.in_ok-places.places) c.requires
+    c.in_ok-places.ensures

@@ -1,0 +1,103 @@
+-- The last tier of problems: those of a deployment whose names and beans have none.
+use Rattle.std.specs.Prelude.{ℕ, ◌≡◌, ◌++◌, List, Option}
+use Rattle.cdi_base.specs.declared.place.Place.{Place}
+use Rattle.cdi_bodies.specs.declared.shape.Shape.{Shape}
+use Rattle.cdi_body_check.specs.CheckedLifecycle.{HasCheckedLifecycle}
+use Rattle.cdi_body_check.specs.Findings.{ArePlacesOf as AreSitesOf}
+use Rattle.cdi_body_check.specs.ProceedNotAllowed.{HasProceedNotAllowed}
+use Rattle.cdi_body_check.specs.Sites.{Site, sites_of}
+use Rattle.cdi_body_check.specs.UnknownBody.{HasUnknownBody}
+use Rattle.cdi_cycle_check.specs.Cycles.{HasDependentCycle}
+use Rattle.cdi_cycle_check.specs.OwnPoints.{Setting}
+use Rattle.cdi_deployment.specs.declared.deployment.Deployment.{Deployment}
+use Rattle.cdi_enable.specs.Enablement.{Enablement}
+use Rattle.cdi_point_check.specs.PointProblems.{HasPointProblem}
+use Rattle.cdi_point_check.specs.declared.problem.PointProblem.{PointProblem}
+use Rattle.cdi_point_check.specs.declared.problem.PointProblem.TheVariants as points
+use Rattle.cdi_problems.specs.Elements.{Element, elements_of}
+use Rattle.cdi_problems.specs.Findings.{ArePlacesOf}
+use Rattle.cdi_problems.specs.Words.{problems_at}
+use Rattle.cdi_problems.specs.declared.problem.Problem.{Problem}
+use Rattle.cdi_problems.specs.declared.problem.ProblemKind.TheVariants as kinds
+use Rattle.cdi_shape_check.specs.BodyOutsideShape.{HasBodyOutsideShape}
+use Rattle.cdi_check.specs.BeanRules.{HasInconsistentSpecialization, HasFinalIntercepted}
+
+abbrev pub SitesIn : Deployment → (Site → Type 0) → List Place → Type 0
+SitesIn d P found = AreSitesOf P (sites_of d) found
+
+abbrev pub PlacesIn : Deployment → (Element → Type 0) → List Place → Type 0
+PlacesIn d P found = ArePlacesOf P (elements_of d) found
+
+-- P13 BodyOutsideShape, at the places where it holds
+abbrev pub AreOutsideShape : Deployment → (ℕ → Option Shape) → Setting → List Place → Type 0
+AreOutsideShape d shape_of s found =
+    SitesIn d (HasBodyOutsideShape (record { deployment = d; qualifiers = s.qualifiers; enabled = s.enabled.beans }) s.enabled shape_of) found
+
+-- the problems of bodies
+pub record AreBodyProblems (d : Deployment) (shape_of : ℕ → Option Shape) (s : Setting) (problems : List Problem) : Type 0 where
+  pub unknown : List Place
+  pub are_unknown : SitesIn d (HasUnknownBody s.enabled shape_of) unknown
+  pub outside : List Place
+  pub are_outside : AreOutsideShape d shape_of s outside
+  pub proceeding : List Place
+  pub are_proceeding : SitesIn d (HasProceedNotAllowed s.enabled shape_of) proceeding
+  pub checked : List Place
+  pub are_checked : SitesIn d (HasCheckedLifecycle d.exceptions s.enabled shape_of) checked
+  pub are :
+      problems
+      ≡ problems_at kinds.UnknownBody unknown ++ problems_at kinds.BodyOutsideShape outside ++ problems_at kinds.ProceedNotAllowed proceeding
+      ++ problems_at kinds.CheckedLifecycle checked
+
+-- to a list are added the problems of bodies
+pub record AddsBodyProblems (d : Deployment) (shape_of : ℕ → Option Shape) (s : Setting) (old new : List Problem) : Type 0 where
+  pub added : List Problem
+  pub are : AreBodyProblems d shape_of s added
+  pub adds : new ≡ old ++ added
+
+abbrev pub ArePointPlaces : PointProblem → Deployment → Setting → List Place → Type 0
+ArePointPlaces problem d s found = PlacesIn d (HasPointProblem problem s.qualifiers s.enabled) found
+
+-- the problems of injection points
+pub record ArePointProblems (d : Deployment) (s : Setting) (problems : List Problem) : Type 0 where
+  pub unsatisfied : List Place
+  pub are_unsatisfied : ArePointPlaces points.Unsatisfied d s unsatisfied
+  pub ambiguous : List Place
+  pub are_ambiguous : ArePointPlaces points.Ambiguous d s ambiguous
+  pub unproxyable : List Place
+  pub are_unproxyable : ArePointPlaces points.Unproxyable d s unproxyable
+  pub are :
+      problems
+      ≡ problems_at kinds.Unsatisfied unsatisfied ++ problems_at kinds.Ambiguous ambiguous ++ problems_at kinds.Unproxyable unproxyable
+
+pub record AddsPointProblems (d : Deployment) (s : Setting) (old new : List Problem) : Type 0 where
+  pub added : List Problem
+  pub are : ArePointProblems d s added
+  pub adds : new ≡ old ++ added
+
+-- the problems of enabled beans and interceptors
+pub record AreEnabledProblems (d : Deployment) (e : Enablement) (s : Setting) (problems : List Problem) : Type 0 where
+  pub inconsistent : List Place
+  pub are_inconsistent : PlacesIn d (HasInconsistentSpecialization e) inconsistent
+  pub cyclic : List Place
+  pub are_cyclic : PlacesIn d (HasDependentCycle s) cyclic
+  pub intercepted : List Place
+  pub are_intercepted : PlacesIn d (HasFinalIntercepted s.enabled s.chains) intercepted
+  pub are :
+      problems
+      ≡ problems_at kinds.InconsistentSpecialization inconsistent ++ problems_at kinds.DependentCycle cyclic
+      ++ problems_at kinds.FinalIntercepted intercepted
+
+pub record AddsEnabledProblems (d : Deployment) (e : Enablement) (s : Setting) (old new : List Problem) : Type 0 where
+  pub added : List Problem
+  pub are : AreEnabledProblems d e s added
+  pub adds : new ≡ old ++ added
+
+-- all of them, by number and then in the order of the places
+pub record AreProblemsIn (d : Deployment) (shape_of : ℕ → Option Shape) (e : Enablement) (s : Setting) (problems : List Problem) : Type 0 where
+  pub of_bodies : List Problem
+  pub are_of_bodies : AreBodyProblems d shape_of s of_bodies
+  pub of_points : List Problem
+  pub are_of_points : ArePointProblems d s of_points
+  pub of_enabled : List Problem
+  pub are_of_enabled : AreEnabledProblems d e s of_enabled
+  pub are : problems ≡ of_bodies ++ of_points ++ of_enabled

@@ -1,0 +1,2 @@
+pub mod BeanRules
+pub mod Late
