@@ -41,8 +41,8 @@ pub adds_bodies : (d : Deployment) (shape_of : ℕ → Option Shape) (s : Settin
     → AddsBodyProblems d shape_of s old new
 adds_bodies d shape_of s old first second third new unknown outside proceeding checked u o p c a b e f =
     let added : List Problem =
-              problems_at kinds.UnknownBody unknown ++ problems_at kinds.BodyOutsideShape outside ++ problems_at kinds.ProceedNotAllowed proceeding
-          ++ problems_at kinds.CheckedLifecycle checked in
+    problems_at kinds.UnknownBody unknown ++ problems_at kinds.BodyOutsideShape outside ++ problems_at kinds.ProceedNotAllowed proceeding
+    ++ problems_at kinds.CheckedLifecycle checked in
     record {
       added = added;
       are =
@@ -72,7 +72,7 @@ pub adds_points : (d : Deployment) (s : Setting) (old first second new : List Pr
     → AddsPointProblems d s old new
 adds_points d s old first second new unsatisfied ambiguous unproxyable u v w a b c =
     let added : List Problem =
-       problems_at kinds.Unsatisfied unsatisfied ++ problems_at kinds.Ambiguous ambiguous ++ problems_at kinds.Unproxyable unproxyable in
+    problems_at kinds.Unsatisfied unsatisfied ++ problems_at kinds.Ambiguous ambiguous ++ problems_at kinds.Unproxyable unproxyable in
     record {
       added = added;
       are =
@@ -101,8 +101,8 @@ pub adds_enabled : (d : Deployment) (e : Enablement) (s : Setting) (elements : L
     → AddsEnabledProblems d e s old new
 adds_enabled d e s elements all old first second new inconsistent cyclic intercepted u v w a b c =
     let added : List Problem =
-              problems_at kinds.InconsistentSpecialization inconsistent ++ problems_at kinds.DependentCycle cyclic
-          ++ problems_at kinds.FinalIntercepted intercepted in
+    problems_at kinds.InconsistentSpecialization inconsistent ++ problems_at kinds.DependentCycle cyclic
+    ++ problems_at kinds.FinalIntercepted intercepted in
     record {
       added = added;
       are =

@@ -12,10 +12,10 @@ ghost use Rattle.cdi_cycle_check.specs.Settings.{setting_of};
 use crate::bean_rules::{FinalIntercepted, InconsistentSpecialization};
 use crate::tables::LateTables;
 use cdi_base::{Place, Seq};
+use cdi_bodies::Bodies;
 use cdi_body_check::{
     BodyTables, DeclaredExceptions, checked_lifecycles, proceeds_not_allowed, unknown_bodies,
 };
-use cdi_bodies::Bodies;
 use cdi_cycle_check::dependent_cycles;
 use cdi_name_check::DeclaredNames;
 use cdi_point_check::{PointProblem, PointRule};
@@ -169,11 +169,7 @@ impl LateTables<'_> {
 
     /// All problems of the last tier, which looks at what is enabled: by their numbers, and those of a number in the order of the places,
     /// each place once. They are told of a deployment whose names and beans have no problem.
-    pub fn problems(
-        &self,
-        alloc: Global,
-        bodies: &Bodies,
-    ) -> Result<Seq<Problem>, AllocError>
+    pub fn problems(&self, alloc: Global, bodies: &Bodies) -> Result<Seq<Problem>, AllocError>
         ensures { IfOk result (spec.AreProblemsIn self.now.deployment.now
             (shape_of (entries_of bodies.now)) self.now.enabled.now
             (setting_of self.now.cycles)) }
