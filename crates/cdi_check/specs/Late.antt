@@ -1,16 +1,19 @@
 -- The last tier of problems: those of a deployment whose names and beans have none.
-use Rattle.std.specs.Prelude.{ℕ, ◌≡◌, ◌++◌, List, Option}
+use Rattle.std.specs.Prelude.{ℕ, ◌≡◌, ◌++◌, Bool, List, Option, map}
 use Rattle.cdi_base.specs.declared.place.Place.{Place}
+use Rattle.cdi_beanlist.specs.Problems.{IsMadeOf}
+use Rattle.cdi_beanlist.specs.declared.bean.BeanList.{BeanList}
 use Rattle.cdi_bodies.specs.declared.shape.Shape.{Shape}
 use Rattle.cdi_body_check.specs.CheckedLifecycle.{HasCheckedLifecycle}
 use Rattle.cdi_body_check.specs.Findings.{ArePlacesOf as AreSitesOf}
 use Rattle.cdi_body_check.specs.ProceedNotAllowed.{HasProceedNotAllowed}
 use Rattle.cdi_body_check.specs.Sites.{Site, sites_of}
 use Rattle.cdi_body_check.specs.UnknownBody.{HasUnknownBody}
+use Rattle.cdi_chains.specs.Bindings.{class_bindings}
 use Rattle.cdi_cycle_check.specs.Cycles.{HasDependentCycle}
 use Rattle.cdi_cycle_check.specs.OwnPoints.{Setting}
 use Rattle.cdi_deployment.specs.declared.deployment.Deployment.{Deployment}
-use Rattle.cdi_enable.specs.Enablement.{Enablement}
+use Rattle.cdi_enable.specs.Enablement.{Enablement, enablement_of, AreFlags}
 use Rattle.cdi_point_check.specs.PointProblems.{HasPointProblem}
 use Rattle.cdi_point_check.specs.declared.problem.PointProblem.{PointProblem}
 use Rattle.cdi_point_check.specs.declared.problem.PointProblem.TheVariants as points
@@ -19,8 +22,29 @@ use Rattle.cdi_problems.specs.Findings.{ArePlacesOf}
 use Rattle.cdi_problems.specs.Words.{problems_at}
 use Rattle.cdi_problems.specs.declared.problem.Problem.{Problem}
 use Rattle.cdi_problems.specs.declared.problem.ProblemKind.TheVariants as kinds
+use Rattle.cdi_quals.specs.Types.{AreQualifiersOf, AreTypesOf}
+use Rattle.cdi_quals.specs.declared.types.QualifierType.{QualifierType}
+use Rattle.cdi_resolve.specs.Filters.{enabled_beans}
 use Rattle.cdi_shape_check.specs.BodyOutsideShape.{HasBodyOutsideShape}
+use Rattle.cdi_types.specs.Declarations.{declarations_of}
 use Rattle.cdi_check.specs.BeanRules.{HasInconsistentSpecialization, HasFinalIntercepted}
+
+-- what a deployment with this bean list is, where these flags tell which beans are enabled
+abbrev pub setting_of : Deployment → BeanList → List Bool → List QualifierType → List QualifierType → Setting
+setting_of d list flags qualifiers bindings =
+    record {
+      qualifiers = qualifiers;
+      interceptors = d.interceptors;
+      enabled =
+          record {
+            classes = d.classes;
+            types = declarations_of d;
+            beans = enabled_beans list.beans flags;
+            interceptors = list.interceptors;
+          };
+      chains = record { classes = map (class_bindings bindings) d.classes; interceptors = list.interceptors };
+      disposers = list.disposers;
+    }
 
 abbrev pub SitesIn : Deployment → (Site → Type 0) → List Place → Type 0
 SitesIn d P found = AreSitesOf P (sites_of d) found
@@ -101,3 +125,15 @@ pub record AreProblemsIn (d : Deployment) (shape_of : ℕ → Option Shape) (e :
   pub of_enabled : List Problem
   pub are_of_enabled : AreEnabledProblems d e s of_enabled
   pub are : problems ≡ of_bodies ++ of_points ++ of_enabled
+
+-- the last tier of problems of a deployment with its bean list and with these registered bodies
+pub record AreLateProblems (d : Deployment) (shape_of : ℕ → Option Shape) (problems : List Problem) : Type 0 where
+  pub list : BeanList
+  pub made : IsMadeOf d list
+  pub qualifiers : List QualifierType
+  pub are_qualifiers : AreQualifiersOf d qualifiers
+  pub bindings : List QualifierType
+  pub are_bindings : AreTypesOf d.names d.bindings bindings
+  pub flags : List Bool
+  pub are_flags : AreFlags (enablement_of list) flags
+  pub are : AreProblemsIn d shape_of (enablement_of list) (setting_of d list flags qualifiers bindings) problems

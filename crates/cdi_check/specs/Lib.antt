@@ -1,2 +1,4 @@
 pub mod BeanRules
 pub mod Late
+pub mod Problems
+pub mod Tables

@@ -167,9 +167,12 @@ impl LateTables<'_> {
         Ok(())
     }
 
-    /// All problems of the last tier, which looks at what is enabled: by their numbers, and those of a number in the order of the places,
-    /// each place once. They are told of a deployment whose names and beans have no problem.
-    pub fn problems(&self, alloc: Global, bodies: &Bodies) -> Result<Seq<Problem>, AllocError>
+    /// All problems of the last tier.
+    pub(crate) fn problems(
+        &self,
+        alloc: Global,
+        bodies: &Bodies,
+    ) -> Result<Seq<Problem>, AllocError>
         ensures { IfOk result (spec.AreProblemsIn self.now.deployment.now
             (shape_of (entries_of bodies.now)) self.now.enabled.now
             (setting_of self.now.cycles)) }

@@ -1,8 +1,11 @@
-//! The last tier of problems, all together (Jakarta CDI 4.0, *Problems detected automatically by the container*).
+//! All problems of a deployment with its registered bodies (Jakarta CDI 4.0, *Problems detected automatically by the container*).
 #![tactic(auto)]
 
 mod bean_rules;
 mod late;
+mod making;
+mod settings;
 mod tables;
+mod tiers;
 
-pub use tables::LateTables;
+pub use tiers::check;

@@ -1,0 +1,52 @@
+//! All problems of a deployment with its registered bodies.
+ghost use Rattle.std.specs.Prelude.{IfOk};
+ghost use Rattle.cdi_beanlist.specs.Problems.{IsMadeOf};
+ghost use Rattle.cdi_bodies.specs.Table.{entries_of};
+ghost use Rattle.cdi_body_check.specs.Shapes.{shape_of};
+ghost use Rattle.cdi_check.specs.Late.{AreLateProblems};
+ghost use Rattle.cdi_check.specs.Problems.{AreProblemsOf};
+
+use crate::making::{bean_tables, declared_tables, enabled_beans};
+use crate::settings::problems_by;
+use cdi_base::Seq;
+use cdi_beanlist::{BeanList, BeanListError};
+use cdi_bodies::Bodies;
+use cdi_deployment::Deployment;
+use cdi_problems::Problem;
+use std::alloc::{AllocError, Global};
+
+/// The last tier of problems, of a deployment with this bean list.
+fn late_problems(
+    alloc: Global,
+    deployment: &Deployment,
+    bodies: &Bodies,
+    list: BeanList,
+) -> Result<Seq<Problem>, AllocError>
+    requires { IsMadeOf deployment.now list }
+    ensures { IfOk result
+        (AreLateProblems deployment.now (shape_of (entries_of bodies.now))) }
+{
+    let declared = declared_tables(alloc, deployment)?;
+    let enabled = enabled_beans(alloc, deployment, &list)?;
+    let tables = bean_tables(alloc, deployment, list, declared, enabled)?;
+    let problems = problems_by(alloc, deployment, &tables, bodies)?;
+    Ok(problems)
+}
+
+/// The problems of a deployment with its registered bodies (Jakarta CDI 4.0, *Problems detected automatically by the container*): those
+/// of names or, if there are none, those of beans and, if there are none of either, those of the last tier, which looks at what is
+/// enabled. They stand by their numbers, and those of a number in the order of the places. A deployment is accepted if there is none.
+pub fn check(
+    alloc: Global,
+    deployment: &Deployment,
+    bodies: &Bodies,
+) -> Result<Seq<Problem>, AllocError>
+    ensures { IfOk result
+        (AreProblemsOf deployment.now (shape_of (entries_of bodies.now))) }
+{
+    match BeanList::build(alloc, deployment) {
+        Ok(list) => late_problems(alloc, deployment, bodies, list),
+        Err(BeanListError::Problems(problems)) => Ok(problems),
+        Err(BeanListError::Memory) => Err(AllocError),
+    }
+}
