@@ -48,8 +48,7 @@ module _ (types : List TypeDeclaration) where
   below_other a b ne other IsSubtype.object_above = absurd (other refl)
   below_other a b ne other (IsSubtype.below_it p) = p
 
-  -- what isn't declared is above no other name
-  pub nothing_below : knows_supertypes types ≡ true → (a b : ℕ) → a ≢ b → nat_eq b object ≡ false → is_declared types b ≡ false → IsSubtype types a b → ⊥
-  nothing_below known a b ne apart undeclared s =
-      let type : is_type types b ≡ true = known_above types known a b (below_other a b ne (eqb-false b object apart) s) in
-      true≢false (sym type ∙ ap (λ t. t || is_declared types b) apart ∙ undeclared)
+  -- what is above another name, and isn't Object, is declared
+  pub declared_above : knows_supertypes types ≡ true → (a b : ℕ) → a ≢ b → nat_eq b object ≡ false → IsSubtype types a b → is_declared types b ≡ true
+  declared_above known a b ne apart s =
+      sym (ap (λ t. t || is_declared types b) apart) ∙ known_above types known a b (below_other a b ne (eqb-false b object apart) s)

@@ -89,18 +89,28 @@ impl TypeGraph {
         name == BuiltIn::Object.name() || self.is_declared(name)
     }
 
+    /// Whether the name that is first declared at a place stands below a declared one, by one step up or more. A name that isn't
+    /// declared has no place, and stands below none.
+    pub(crate) fn is_below_from(&self, place: Option<usize>, above: Name) -> bool
+        ensures { (name : ℕ) → place ≡ nodes.place_of self.now name
+            → (IsTrue result
+            ↔ (IsTrue (spec.is_declared self.now above) × spec.IsBelow self.now name above)) }
+    {
+        let Some(to) = self.index.place(above) else {
+            return false;
+        };
+        let Some(from) = place else {
+            return false;
+        };
+        self.reachability.reaches_properly(from, to)
+    }
+
     /// Whether a name stands below a declared one, by one step up or more.
     pub fn is_below(&self, name: Name, above: Name) -> bool
         requires { IsTrue (spec.is_declared self.now above) }
         ensures { IsTrue result ↔ spec.IsBelow self.now name above }
     {
-        let Some(from) = self.index.place(name) else {
-            return false;
-        };
-        let Some(to) = self.index.place(above) else {
-            return false;
-        };
-        self.reachability.reaches_properly(from, to)
+        self.is_below_from(self.place(name), above)
     }
 
     /// Whether a name is its own proper supertype.

@@ -36,6 +36,7 @@ impl Model for TypeTable {
 impl TypeTable {
     ghost use Rattle.cdi_types.specs.Declarations.{declarations_of};
     ghost use Rattle.cdi_types.specs.Lineage as lineage;
+    ghost use Rattle.cdi_types.specs.Nodes.{place_of};
     ghost use Rattle.cdi_types.specs.Subtype as spec;
 
     /// The table of the types of a deployment. Where it has none the answer is [`TypesError::Cycle`] before
@@ -85,9 +86,10 @@ impl TypeTable {
         self.graph.is_type(name)
     }
 
-    /// Whether one type is a subtype of another (Jakarta CDI 4.0, *Bean types*).
-    pub fn is_subtype(&self, name: Name, above: Name) -> bool
-        ensures { IsTrue result ↔ spec.IsSubtype self.now name above }
+    /// Whether a type, whose first declaration stands at this place, if it is declared, is a subtype of another.
+    fn is_subtype_from(&self, name: Name, place: Option<usize>, above: Name) -> bool
+        ensures { place ≡ place_of self.now name
+            → (IsTrue result ↔ spec.IsSubtype self.now name above) }
     {
         if name == above {
             return true;
@@ -95,10 +97,14 @@ impl TypeTable {
         if above == BuiltIn::Object.name() {
             return true;
         }
-        if !self.graph.is_declared(above) {
-            return false;
-        }
-        self.graph.is_below(name, above)
+        self.graph.is_below_from(place, above)
+    }
+
+    /// Whether one type is a subtype of another (Jakarta CDI 4.0, *Bean types*).
+    pub fn is_subtype(&self, name: Name, above: Name) -> bool
+        ensures { IsTrue result ↔ spec.IsSubtype self.now name above }
+    {
+        self.is_subtype_from(name, self.graph.place(name), above)
     }
 
     /// The types that a type is a subtype of, in the order of their declaration, and `Object` behind them. They are the bean types
@@ -107,9 +113,10 @@ impl TypeTable {
         ensures { IfOk result
             (λ found. ListsThose (spec.IsSubtype self.now name) (spec.all_types self.now) found) }
     {
+        let place = self.graph.place(name);
         let mut found = Seq::empty(alloc);
         for declared in self.graph.declarations() {
-            if self.is_subtype(name, declared.name) {
+            if self.is_subtype_from(name, place, declared.name) {
                 found.push(declared.name)?;
             }
         }

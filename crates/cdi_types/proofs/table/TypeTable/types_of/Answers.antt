@@ -5,7 +5,7 @@ use Rattle.cdi_reach.proofs.Listings.{keep_next, skip_next, keep_last}
 use Rattle.cdi_types.specs.Subtype.{object, names_of, IsSubtype}
 use Rattle.cdi_types.specs.declared.declaration.TypeDeclaration.{TypeDeclaration}
 use Rattle.cdi_types.proofs.table.TypeTable.types_of.Goals as goal
-use Rattle.cdi_types.proofs.table.TypeTable.types_of.Goals.{then-is_subtype+in_ok-push, else-is_subtype}
+use Rattle.cdi_types.proofs.table.TypeTable.types_of.Goals.{then-is_subtype_from+in_ok-push, else-is_subtype_from}
 
 pub loop-declared-init : goal.loop-declared-init
 loop-declared-init c = rw c.empty-found.ensures ListsThose.none
@@ -13,9 +13,10 @@ loop-declared-init c = rw c.empty-found.ensures ListsThose.none
 pub loop-declared-preserved : goal.loop-declared-preserved
 loop-declared-preserved c =
     let i = c.loop-declared in
-    elim c.if-is_subtype.branch [
-      | then-is_subtype+in_ok-push w ↦ rw (w.found-is, w.in_ok-push.ensures.ok) (keep_next (λ d. d.name) _ i.declared-index _ i.found c.loop-declared-test.true c.declared-item.is i.invariant (w.if-is_subtype.ensures.0 refl))
-      | else-is_subtype w ↦ rw w.found-is (skip_next (λ d. d.name) _ i.declared-index _ i.found c.loop-declared-test.true c.declared-item.is i.invariant (λ s. true≢false (sym (w.if-is_subtype.ensures.1 s))))
+    let place = rw c.self.view_is at c.place-place.ensures in
+    elim c.if-is_subtype_from.branch [
+      | then-is_subtype_from+in_ok-push w ↦ rw (w.found-is, w.in_ok-push.ensures.ok) (keep_next (λ d. d.name) _ i.declared-index _ i.found c.loop-declared-test.true c.declared-item.is i.invariant ((w.if-is_subtype_from.ensures place).0 refl))
+      | else-is_subtype_from w ↦ rw w.found-is (skip_next (λ d. d.name) _ i.declared-index _ i.found c.loop-declared-test.true c.declared-item.is i.invariant (λ s. true≢false (sym ((w.if-is_subtype_from.ensures place).1 s))))
     ]
 
 pub returns : goal.returns
