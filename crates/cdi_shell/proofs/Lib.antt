@@ -1,5 +1,4 @@
 pub mod Attended
-pub mod Counted
 pub mod Determined
 pub mod Holding
 pub mod OneOutput

@@ -26,10 +26,12 @@ use Rattle.cdi_container.specs.Sessions.{AnswersLine}
 use Rattle.cdi_container.specs.States.{before_start}
 use Rattle.cdi_beans.specs.WrongBodies.{shape_of, is_wrong, problem_at, has_wrong_body, wrong_in, wrong_of_kind, wrong_with}
 use Rattle.cdi_shell.specs.declared.ending.Ending.{Ending}
-use Rattle.cdi_shell.specs.declared.scripts.NamedScript.{NamedScript}
-use Rattle.cdi_shell.specs.Drive.{Streams, Lives, Plays, PlaysScripts, place_under, shape_under, legal_by}
+use Rattle.cdi_prepare.specs.declared.scripts.NamedScript.{NamedScript}
+use Rattle.cdi_prepare.specs.Scripts.{place_under, shape_under}
+use Rattle.cdi_prepare.proofs.Holding.{AreBodiesOf, same_place, same_shape}
+use Rattle.cdi_shell.specs.Drive.{Streams, Lives, Plays, PlaysScripts, legal_by}
 use Rattle.cdi_text.specs.ReplyText.{reply_line}
-use Rattle.cdi_shell.proofs.Holding.{Holds, same_place, same_shape, within}
+use Rattle.cdi_shell.proofs.Holding.{within}
 use Rattle.cdi_shell.proofs.Attended.{attended}
 use Rattle.cdi_shell.proofs.Wider.{answers_more, line_more}
 
@@ -99,7 +101,7 @@ plays_wider depth ticks names problems beans classes small large streams e more 
 plays_wider depth ticks names problems beans classes small large streams e more (Plays.refuses some h) = Plays.refuses some h
 plays_wider depth ticks names problems beans classes small large streams e more (Plays.runs none h) = Plays.runs none (lives depth ticks names beans classes small large streams e more h)
 
-pub scripts_play : {X : Type 0} {F : X → Type 0} {g : _} (depth ticks : ℕ) (d : Deployment) (es : List (Entry X F g)) (ss : List NamedScript) (streams : Streams) (e : Ending) → Holds es ss
+pub scripts_play : {X : Type 0} {F : X → Type 0} {g : _} (depth ticks : ℕ) (d : Deployment) (es : List (Entry X F g)) (ss : List NamedScript) (streams : Streams) (e : Ending) → AreBodiesOf es ss
     → Plays depth ticks d.names (problems_of d es) (beans_of d.classes es) (map (λ class. class.name) d.classes) (legal_of es) streams e → PlaysScripts depth ticks d ss streams e
 scripts_play depth ticks d es ss streams e h p =
     let names = map (λ (class : Class). class.name) d.classes in

@@ -1,10 +1,8 @@
 -- A run of the program, from the bytes of a deployment and of its input to the bytes of its output.
-use Rattle.std.specs.Prelude.{◌≡◌, ◌≢◌, ℕ, List, [], map, Option, Result, Ok, Err, slice_get, position, option_map, option_and_then, MatchOption}
+use Rattle.std.specs.Prelude.{◌≡◌, ◌≢◌, ℕ, List, [], map, Option, Result, Ok, Err, slice_get, MatchOption}
 use Rattle.cdi_base.specs.declared.reply.Reply.{Reply}
-use Rattle.cdi_base.specs.Reading.{◌>>=◌}
-use Rattle.cdi_bodies.specs.declared.shape.Shape.{Shape}
+use Rattle.cdi_base.specs.Stage.{served}
 use Rattle.cdi_deployment.specs.declared.deployment.Deployment.{Deployment}
-use Rattle.cdi_deploy.specs.Reading.{deployment_in}
 use Rattle.cdi_beans.specs.declared.bean.Bean.{Bean}
 use Rattle.cdi_beans.specs.declared.problem.Problem.{Problem}
 use Rattle.cdi_beans.specs.declared.tables.Tables.{Tables}
@@ -12,7 +10,6 @@ use Rattle.cdi_beans.specs.Build.{beans_in}
 use Rattle.cdi_beans.specs.Check.{problems_with}
 use Rattle.cdi_beans.specs.Served.{machine_tables}
 use Rattle.cdi_machine.specs.Runs.{Legal}
-use Rattle.cdi_script.specs.Listed.{shape_of}
 use Rattle.cdi_script.specs.Next.{next_of}
 use Rattle.cdi_container.specs.declared.acceptance.Unaccepted.{Unaccepted}
 use Rattle.cdi_container.specs.declared.acceptance.Unaccepted.TheVariants as errors
@@ -21,45 +18,17 @@ use Rattle.cdi_container.specs.States.{State, Boots}
 use Rattle.cdi_shell.specs.declared.ending.Ending.{Ending}
 use Rattle.cdi_lines.specs.declared.fault.ServeFault.{ServeFault}
 use Rattle.cdi_lines.specs.declared.sink.WriteFailed.{WriteFailed}
-use Rattle.cdi_shell.specs.declared.scripts.BadScript.{BadScript}
-use Rattle.cdi_shell.specs.declared.scripts.NamedScript.{NamedScript}
+use Rattle.cdi_prepare.specs.declared.scripts.NamedScript.{NamedScript}
+use Rattle.cdi_prepare.specs.Ready.{Readied, readied_at}
+use Rattle.cdi_prepare.specs.Scripts.{registered, place_under, shape_under}
 use Rattle.cdi_shell.specs.Endings.{after_serving, after_refusal, starved}
 use Rattle.cdi_lines.specs.Ends.{WritesAll}
-use Rattle.cdi_shell.specs.RefusalText.{fault_line, script_line, problem_lines}
+use Rattle.cdi_shell.specs.RefusalText.{problem_lines}
 use Rattle.cdi_text.specs.ReplyText.{reply_line}
-use Rattle.cdi_shell.specs.Scripts.{is_named, registered, scripts_in}
 
--- a fault, as the line that tells it
-abbrev pub or_line : {X F : Type 0} → (F → List ℕ) → Result X F → Result X (List ℕ)
-or_line line (Ok x) = Ok x
-or_line line (Err fault) = Err (line fault)
-
-abbrev pub bad_script_line : BadScript → List ℕ
-bad_script_line bad = script_line bad.name bad.fault
-
--- a deployment with its scripts, whose names are in its table
-pub record Readied : Type 0 where
-  pub deployment : Deployment
-  pub scripts : List NamedScript
-
--- the scripts of a deployment that was read, or the line of the first that is bad
-abbrev pub with_scripts : Deployment → Result Readied (List ℕ)
-with_scripts d = or_line bad_script_line (scripts_in d.names d.scripts) >>= λ read. Ok (record { deployment = record d { names = read.1 }; scripts = read.0 })
-
--- the deployment that bytes are, or the line of its first fault
+-- the deployment that bytes are with its scripts, as it is served now, or the line of its first fault
 abbrev pub readied : List ℕ → Result Readied (List ℕ)
-readied bytes = or_line fault_line (deployment_in bytes) >>= with_scripts
-
--- ---- scripts as bodies
-
-abbrev pub place_under : List NamedScript → ℕ → Option ℕ
-place_under scripts name = position (is_named name) scripts
-
-abbrev pub shape_at : List NamedScript → ℕ → Option Shape
-shape_at scripts id = option_map (λ s. shape_of s.script) (slice_get scripts id)
-
-abbrev pub shape_under : List NamedScript → ℕ → Option Shape
-shape_under scripts name = option_and_then (shape_at scripts) (place_under scripts name)
+readied bytes = readied_at served bytes
 
 -- a body does what its script does next, and the first of several candidates is picked: one act and one pick is legal
 abbrev pub legal_by : List NamedScript → Legal

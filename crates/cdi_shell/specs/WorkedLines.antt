@@ -19,7 +19,8 @@ use Rattle.cdi_machine.specs.Container.{before_commands, refusal}
 use Rattle.cdi_steps.specs.Asked.{of_type}
 use Rattle.cdi_script.specs.declared.fault.ScriptFault.TheVariants as script_faults
 use Rattle.cdi_lines.specs.Lines.{complete_lines, all_lines}
-use Rattle.cdi_shell.specs.RefusalText.{fault_line, script_line, problem_line}
+use Rattle.cdi_prepare.specs.FaultText.{fault_line, script_line}
+use Rattle.cdi_shell.specs.RefusalText.{problem_line}
 use Rattle.cdi_text.specs.ReplyText.{reply_line}
 
 -- the names of the counter at 0, 1 and 2

@@ -1,89 +1,25 @@
 //! A run of the program, from the bytes of a deployment and of its input to the bytes of its output.
-ghost use Rattle.std.specs.Prelude.{◌≡◌, ◌≤◌, length, Bool, Ok, IfOk, IfErr, OnOk, OnErr, IsTrue};
+ghost use Rattle.std.specs.Prelude.{◌≡◌, ◌≤◌, length, Bool, IfOk, OnOk, OnErr, IsTrue};
 ghost use Rattle.cdi_beans.specs.Beans.{KnowsEach};
 ghost use Rattle.cdi_presence.specs.Missing.{GivesServed};
+ghost use Rattle.cdi_prepare.specs.Scripts.{registered};
 ghost use Rattle.cdi_script.specs.Next.{next_of};
-ghost use Rattle.cdi_shell.specs.declared.drive.PrepareError.TheVariants as prepare_errors;
 ghost use Rattle.cdi_shell.specs.Drive as spec;
 ghost use Rattle.cdi_lines.specs.Served.{Blames};
 ghost use Rattle.cdi_shell.specs.Endings.{outcome_of};
 ghost use Rattle.cdi_shell.specs.Laws.{DrivesOnce};
-ghost use Rattle.cdi_shell.specs.Prepared.{IsRefusal};
 ghost use Rattle.cdi_shell.specs.RefusalText.{problem_lines};
-ghost use Rattle.cdi_shell.specs.Scripts.{registered};
 
 use crate::ending::{Ending, after_serving};
-use crate::refusal_text::{write_fault, write_problems, write_script_fault};
-use crate::scripts::{NamedScript, read_scripts};
-use cdi_base::{Act, Fields, Limits, Names, ReadError};
+use crate::refusal_text::write_problems;
+use cdi_base::{Act, Fields, Limits, Names, SERVED};
 use cdi_beans::problem::Problem;
 use cdi_bodies::{AddError, Bodies, Body, MAX_BODIES, View};
 use cdi_container::{Accepted, Container, Unaccepted, accept, serve};
-use cdi_deploy::read;
-use cdi_deployment::Deployment;
 use cdi_lines::{ServeFault, Sink, Source};
 use cdi_machine::Driver;
+use cdi_prepare::{NamedScript, PrepareError, Prepared, prepare};
 use std::alloc::{AllocError, Global};
-
-/// A deployment with its scripts.
-#[derive(Drop)]
-struct Prepared {
-    deployment: Deployment,
-    scripts: Vec<NamedScript>,
-}
-
-/// Why no deployment was prepared.
-#[derive(Drop)]
-pub(crate) enum PrepareError {
-    /// The deployment or one of its scripts has a fault, which these bytes tell.
-    Refused(Vec<u8>),
-    /// A growth was refused.
-    Memory,
-}
-
-impl From<AllocError> for PrepareError {
-    ghost from_gives = { λ _ e. e ≡ prepare_errors.Memory };
-
-    fn from(_error: AllocError) -> PrepareError {
-        PrepareError::Memory
-    }
-}
-
-/// Reads the scripts of a deployment.
-fn prepare_scripts(alloc: Global, deployment: Deployment) -> Result<Prepared, PrepareError>
-    ensures ok { IfOk result (λ p. spec.with_scripts deployment ≡ Ok (record { deployment = p.deployment; scripts = p.scripts.items })) }
-    ensures err { IfErr result (IsRefusal (spec.with_scripts deployment)) }
-    ensures count { IfOk result (λ p. length p.scripts.items ≡ length deployment.scripts) }
-{
-    let mut deployment = deployment;
-    match read_scripts(alloc, &mut deployment.names, deployment.scripts.as_slice()) {
-        Ok(scripts) => Ok(Prepared {
-            deployment,
-            scripts,
-        }),
-        Err(ReadError::Fault(bad)) => {
-            let line = write_script_fault(alloc, bad.name.as_str(), bad.fault)?;
-            Err(PrepareError::Refused(line))
-        }
-        Err(ReadError::Memory) => Err(PrepareError::Memory),
-    }
-}
-
-/// Reads a deployment with its scripts.
-fn prepare(alloc: Global, bytes: &[u8]) -> Result<Prepared, PrepareError>
-    ensures ok { IfOk result (λ p. spec.readied bytes.now ≡ Ok (record { deployment = p.deployment; scripts = p.scripts.items })) }
-    ensures err { IfErr result (IsRefusal (spec.readied bytes.now)) }
-    ensures few { IfOk result (λ p. length p.scripts.items ≤ MAX_BODIES) }
-{
-    match read(alloc, bytes) {
-        Ok(deployment) => prepare_scripts(alloc, deployment),
-        Err(ReadError::Fault(fault)) => {
-            let line = write_fault(alloc, &fault)?;
-            Err(PrepareError::Refused(line))
-        }
-        Err(ReadError::Memory) => Err(PrepareError::Memory),
-    }
-}
 
 /// Memory ran out where no container was served.
 const STARVED: Ending = Ending::Fault {
@@ -182,7 +118,8 @@ fn play_scripts<R: Source, W: Sink>(
     output: &mut W,
 ) -> Result<Ending, AllocError>
     requires { length prepared.scripts.items ≤ MAX_BODIES }
-    ensures plays { IfOk result (spec.PlaysScripts limits.depth limits.ticks prepared.deployment (registered prepared.scripts.items)
+    ensures plays { IfOk result (spec.PlaysScripts limits.depth limits.ticks
+        prepared.deployment (registered prepared.scripts.items)
         (record {
           unread = R.unread input.old;
           unread_after = R.unread input.new;
@@ -245,7 +182,7 @@ fn run<R: Source, W: Sink>(
         (R.has_failed input.old) (R.has_failed input.new)
         (W.has_failed output.old) (W.has_failed output.new) }
 {
-    match prepare(alloc, deployment) {
+    match prepare(alloc, SERVED, deployment) {
         Ok(prepared) => match play_scripts(alloc, prepared, limits, input, output) {
             Ok(ending) => ending,
             Err(_) => STARVED,

@@ -34,6 +34,16 @@ impl Ending {
             Ending::Halted(_) => 4,
         }
     }
+
+    /// The fault that the run ended with, if it did.
+    pub const fn outcome(self) -> Result<(), ServeFault>
+        ensures { result ≡ spec.outcome_of self }
+    {
+        match self {
+            Ending::Fault { fault, .. } => Err(fault),
+            Ending::Fine | Ending::Refused | Ending::Halted(_) => Ok(()),
+        }
+    }
 }
 
 /// How a run ended that served a container so.

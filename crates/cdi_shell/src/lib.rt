@@ -5,6 +5,5 @@ pub mod drive;
 pub mod ending;
 pub mod laws;
 pub mod refusal_text;
-pub mod scripts;
 
 pub use ending::Ending;

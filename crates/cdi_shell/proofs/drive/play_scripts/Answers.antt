@@ -6,10 +6,10 @@ use Rattle.cdi_script.specs.Next.{next_of}
 use Rattle.cdi_script.proofs.Boxed.{made_post}
 use Rattle.cdi_script.proofs.Following.{nil_of}
 use Rattle.cdi_script.proofs.Within.{lies}
-use Rattle.cdi_shell.specs.declared.scripts.NamedScript.{NamedScript}
-use Rattle.cdi_shell.specs.Drive.{Streams, place_under}
-use Rattle.cdi_shell.specs.Scripts.{added, registered}
-use Rattle.cdi_shell.proofs.Holding.{holds_add, same_length, same_place, add_known, add_new, holds_all, not_full}
+use Rattle.cdi_prepare.specs.declared.scripts.NamedScript.{NamedScript}
+use Rattle.cdi_prepare.specs.Scripts.{added, place_under, registered}
+use Rattle.cdi_shell.specs.Drive.{Streams}
+use Rattle.cdi_prepare.proofs.Holding.{holds_add, same_length, same_place, add_known, add_new, holds_all, not_full}
 use Rattle.cdi_shell.proofs.Playing.{plays, refused}
 use Rattle.cdi_shell.proofs.Scripted.{scripts_play}
 use Rattle.cdi_shell.proofs.drive.play_scripts.OwnLists.{own-1, at-1-1}

@@ -1,9 +1,9 @@
 //! The scripts of a deployment.
 ghost use Rattle.cdi_base.specs.Name.{Extends};
 ghost use Rattle.cdi_base.specs.Reading.{Gives};
-ghost use Rattle.cdi_shell.specs.Scripts as spec;
+ghost use Rattle.cdi_prepare.specs.Scripts as spec;
 
-use cdi_base::{Name, Names, ReadError, Text};
+use cdi_base::{Name, Names, ReadError, Stage, Text};
 use cdi_deployment::deployment::Script as Declared;
 use cdi_script::{Script, ScriptFault};
 use cdi_text::places::name_text;
@@ -25,14 +25,16 @@ pub struct BadScript {
 
 fn read_script(
     alloc: Global,
+    stage: Stage,
     names: &mut Names,
     declared: &Declared,
 ) -> Result<NamedScript, ReadError<BadScript>>
-    ensures gives { Gives (λ script. (script, names.new)) result (spec.script_in names.old declared.now) }
+    ensures gives { Gives (λ script. (script, names.new)) result
+        (spec.script_in stage names.old declared.now) }
     ensures kept { Extends names.old names.new }
 {
     let name = Text::from_str(alloc, name_text(names, declared.name))?;
-    match Script::read(alloc, declared.steps.as_value(), names) {
+    match Script::read_at(alloc, stage, declared.steps.as_value(), names) {
         Ok(script) => Ok(NamedScript {
             name: declared.name,
             script,
@@ -42,19 +44,22 @@ fn read_script(
     }
 }
 
-/// Reads the scripts of a deployment one after the other, up to the first that can't be read. Their names go into the
-/// table.
+/// Reads the scripts of a deployment one after the other, with the steps of a stage, up to the first that can't be read.
+/// Their names go into the table. An error is [`ReadError::Memory`] if a growth was refused; the table may then have
+/// some of the names.
 pub fn read_scripts(
     alloc: Global,
+    stage: Stage,
     names: &mut Names,
     declared: &[Declared],
 ) -> Result<Vec<NamedScript>, ReadError<BadScript>>
-    ensures gives { Gives (λ scripts. (scripts.items, names.new)) result (spec.scripts_in names.old declared.now) }
+    ensures gives { Gives (λ scripts. (scripts.items, names.new)) result
+        (spec.scripts_in stage names.old declared.now) }
     ensures kept { Extends names.old names.new }
 {
     let mut scripts = Vec::new(alloc);
     for script in declared {
-        scripts.push(read_script(alloc, names, script)?)?;
+        scripts.push(read_script(alloc, stage, names, script)?)?;
     }
     Ok(scripts)
 }
