@@ -1,10 +1,14 @@
 -- What the matches of a command tell of the words.
 use Rattle.std.proofs.Common.{◌≡◌, ◌∙◌, [], Bor, List, Option, Some, None, refl, ap, codes}
-use Rattle.std.specs.Prelude.{option_map, option_and_then, unwrap_or}
+use Rattle.std.specs.Prelude.{Box, option_map, option_and_then, unwrap_or}
+use Rattle.std.specs.Box.{box_value}
 use Rattle.clap.proofs.WalkLemmas.{first_value-rows}
 use Rattle.clap.specs.Words.{Row, Text, first_of, first_value}
+use Rattle.clap.specs.Simple.{subcommand_rows}
 use Rattle.clap.specs.Walk.{rows_of}
 use Rattle.clap.specs.declared.parser.matches.Found.{Found}
+use Rattle.clap.specs.declared.parser.matches.ArgMatches.TheViews.{out-SubCommand}
+use Rattle.clap.specs.declared.parser.matches.SubCommand.{SubCommand}
 use Rattle.cdi_program.specs.Options as spec
 
 -- only the rows of a subcommand matter
@@ -15,6 +19,12 @@ by_rows (Some p) = refl
 -- the file is what the matches of the subcommand say
 pub file_of_found : (f : Found) (o : Option (Text × List Row)) → Some (rows_of f) ≡ option_map (λ p. p.1) o → first_value f (codes "FILE") ≡ spec.file_of o
 file_of_found f o e = first_value-rows f (codes "FILE") ∙ ap (option_and_then (first_of (codes "FILE"))) e ∙ by_rows o
+
+-- the name of the subcommand that was met is that of its rows
+pub name_of_met : {Z : Type 0} (o : Option (Box SubCommand Z))
+    → option_map (λ b. (out-SubCommand (box_value b)).name.now) o ≡ option_map (λ found. found.0) (subcommand_rows o)
+name_of_met None = refl
+name_of_met (Some b) = refl
 
 -- a text behind a borrow, or an empty one
 pub now_or_empty : (o : Option (Bor Text)) (empty : Bor Text) → empty.now ≡ [] → (unwrap_or o empty).now ≡ unwrap_or (option_map (λ text. text.now) o) []

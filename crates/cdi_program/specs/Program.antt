@@ -1,5 +1,5 @@
 -- The program: from the words of the command line to the exit status.
-use Rattle.std.specs.Prelude.{◌≡◌, ℕ, Bool, true, false, List, [], map, Option, Result, Ok, Err}
+use Rattle.std.specs.Prelude.{◌≡◌, ℕ, Bool, true, false, List, [], map, Option, Result, Ok, Err, OnOk, IsTrue}
 use Rattle.std.specs.Borrow.{Bor}
 use Rattle.std.specs.Io.KnownBytes.{Keeps}
 use Rattle.clap.specs.Words.{IsAmong, Text}
@@ -7,11 +7,17 @@ use Rattle.clap.specs.declared.error.kind.ErrorKind.{ErrorKind}
 use Rattle.cdi_lines.specs.Ends.{Tells, WritesAll}
 use Rattle.cdi_lines.specs.declared.sink.WriteFailed.{WriteFailed}
 use Rattle.cdi_lines.specs.declared.fault.ServeFault.{ServeFault}
+use Rattle.cdi_lines.specs.Served.{Blames}
+use Rattle.cdi_report.specs.Reports.{ReportsOn}
+use Rattle.cdi_report.specs.Verdicts.{outcome_of as outcome_of_verdict, status_of as status_of_verdict}
+use Rattle.cdi_report.specs.declared.verdict.Verdict.{Verdict}
 use Rattle.cdi_shell.specs.Endings.{outcome_of, status_of as status_of_ending}
 use Rattle.cdi_shell.specs.Laws.{DrivesOnce}
 use Rattle.cdi_shell.specs.declared.ending.Ending.{Ending}
-use Rattle.cdi_program.specs.Options.{faults_in, file_in}
+use Rattle.cdi_program.specs.Options.{faults_in, file_in, mode_in}
 use Rattle.cdi_program.specs.Statuses.{is_shown, status_of}
+use Rattle.cdi_program.specs.declared.options.Mode.{Mode}
+use Rattle.cdi_program.specs.declared.options.Mode.TheVariants as modes
 use Rattle.cdi_program.specs.declared.words.WordsError.{WordsError}
 use Rattle.cdi_program.specs.declared.words.WordsError.TheVariants as words_errors
 
@@ -81,14 +87,33 @@ pub record RunsBytes (bytes : List ℕ) (ends : Ends) (status : ℕ) : Type 0 wh
   pub is_left : IsLeft (outcome_of ending) output (output_after ends)
   pub is_status : status ≡ status_of_ending ending
 
--- A file is run: the deployment is in the bytes that come of its first 1,048,577, or it can't be read.
-pub data RunsFile (gives : List ℕ → ℕ → List ℕ → Type 0) (unreadable : List ℕ → Type 0) (path : List ℕ) (ends : Ends) (status : ℕ) : Type 0 where
-  reads : (bytes : List ℕ) → gives path 1048577 bytes → RunsBytes bytes ends status → RunsFile gives unreadable path ends status
-  fails : unreadable path → IsUntouched ends → status ≡ 3 → RunsFile gives unreadable path ends status
+-- These bytes of a deployment are reported on, and the status is that of the verdict. Nothing is read.
+pub record ChecksBytes (bytes : List ℕ) (ends : Ends) (status : ℕ) : Type 0 where
+  pub verdict : Verdict
+  pub output : Output
+  pub reports : ReportsOn bytes ends.held output.held verdict
+  pub blames : Blames (outcome_of_verdict verdict) ends.source ends.source_after ends.sink output.has_failed
+  pub passed_on : OnOk (outcome_of_verdict verdict) (IsTrue output.is_passed_on)
+  pub is_unread : IsUnread ends
+  pub is_left : IsLeft (outcome_of_verdict verdict) output (output_after ends)
+  pub is_status : status ≡ status_of_verdict verdict
 
--- Words that are of the form run the file that they name, and others are answered by one of their kinds.
+abbrev pub ServesBytes : Mode → List ℕ → Ends → ℕ → Type 0
+ServesBytes modes.Check bytes ends status = ChecksBytes bytes ends status
+ServesBytes modes.Run bytes ends status = RunsBytes bytes ends status
+
+-- A file is checked or run: the deployment is in the bytes that come of its first 1,048,577, or it can't be read.
+pub data ServesFile (gives : List ℕ → ℕ → List ℕ → Type 0) (unreadable : List ℕ → Type 0)
+    (mode : Mode) (path : List ℕ) (ends : Ends) (status : ℕ) : Type 0 where
+  reads : (bytes : List ℕ) → gives path 1048577 bytes → ServesBytes mode bytes ends status
+      → ServesFile gives unreadable mode path ends status
+  fails : unreadable path → IsUntouched ends → status ≡ 3
+      → ServesFile gives unreadable mode path ends status
+
+-- Words that are of the form check or run the file that they name, and others are answered by one of their kinds.
 pub data RunsWords (gives : List ℕ → ℕ → List ℕ → Type 0) (unreadable : List ℕ → Type 0) (words : List Text) (ends : Ends) (status : ℕ) : Type 0 where
-  runs : faults_in words ≡ [] → RunsFile gives unreadable (file_in words) ends status → RunsWords gives unreadable words ends status
+  serves : faults_in words ≡ [] → ServesFile gives unreadable (mode_in words) (file_in words) ends status
+      → RunsWords gives unreadable words ends status
   tells : (kind : ErrorKind) → IsAmong kind (faults_in words) → AnswersUsage kind ends status → RunsWords gives unreadable words ends status
   starves : IsUntouched ends → status ≡ 3 → RunsWords gives unreadable words ends status
 

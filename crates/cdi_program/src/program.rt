@@ -1,16 +1,18 @@
 //! The program: from the words of the command line to the exit status.
 ghost use Rattle.std.specs.Prelude.{◌≡◌, map};
 ghost use Rattle.clap.specs.Words.{kind_of};
-ghost use Rattle.cdi_shell.specs.Endings.{outcome_of};
 ghost use Rattle.cdi_program.specs.Program as spec;
 
 use crate::files::Files;
-use crate::options::Options;
+use crate::options::{Mode, Options};
 use crate::status::{FAULT, is_shown, status_of};
 use crate::telling::{tell, tell_of_file};
 use crate::words::WordsError;
+use cdi_base::Stage;
+use cdi_base::stage::{SERVED, WHOLE};
 use cdi_hints::hint_for;
 use cdi_lines::{ServeFault, Sink, Source};
+use cdi_report::{Verdict, report};
 use cdi_shell::Ending;
 use cdi_shell::drive::drive;
 use clap::Error;
@@ -58,10 +60,15 @@ fn answer_usage<R: Source, W: Sink, E: Sink>(
     }
 }
 
-/// Tells the cause of a fault. A run without one has passed all on; after a fault, what is held back still goes out if it
+/// Tells the cause of a fault. Without one all has been passed on; after a fault, what is held back still goes out if it
 /// can.
-fn tell_ending<W: Sink, E: Sink>(alloc: Global, ending: Ending, output: &mut W, errors: &mut E)
-    ensures { spec.IsLeft (outcome_of ending)
+fn tell_outcome<W: Sink, E: Sink>(
+    alloc: Global,
+    outcome: Result<(), ServeFault>,
+    output: &mut W,
+    errors: &mut E,
+)
+    ensures { spec.IsLeft outcome
         (record {
           held = W.written output.old;
           has_failed = W.has_failed output.old;
@@ -73,20 +80,47 @@ fn tell_ending<W: Sink, E: Sink>(alloc: Global, ending: Ending, output: &mut W, 
           is_passed_on = W.is_passed_on output.new;
         }) }
 {
-    if let Ending::Fault { fault, .. } = ending {
+    if let Err(fault) = outcome {
         let _ = output.flush();
         tell(alloc, errors, &fault);
     }
 }
 
-/// Tells what is wrong with a refused deployment beyond what its line says, where there is more to say.
-fn tell_hint<E: Sink>(alloc: Global, ending: Ending, file: &str, bytes: &[u8], errors: &mut E) {
-    if ending != Ending::Refused {
-        return;
-    }
-    if let Ok(Some(hint)) = hint_for(alloc, bytes) {
+/// Tells what is wrong with a refused deployment beyond what its line says, if there is more to say.
+fn tell_hint<E: Sink>(alloc: Global, stage: Stage, file: &str, bytes: &[u8], errors: &mut E) {
+    if let Ok(Some(hint)) = hint_for(alloc, stage, bytes) {
         tell_of_file(alloc, errors, file, &hint);
     }
+}
+
+/// Checks a deployment.
+fn check_bytes<R: Source, W: Sink, E: Sink>(
+    alloc: Global,
+    file: &str,
+    bytes: &[u8],
+    input: &R,
+    output: &mut W,
+    errors: &mut E,
+) -> u8
+    ensures { spec.ChecksBytes bytes.now
+        (record {
+          unread = R.unread input.now;
+          unread_after = R.unread input.now;
+          held = W.written output.old;
+          held_after = W.written output.new;
+          source = R.has_failed input.now;
+          source_after = R.has_failed input.now;
+          sink = W.has_failed output.old;
+          sink_after = W.has_failed output.new;
+          is_passed_on = W.is_passed_on output.new;
+        }) result }
+{
+    let verdict = report(alloc, bytes, output);
+    tell_outcome(alloc, verdict.outcome(), output, errors);
+    if verdict == Verdict::Refused {
+        tell_hint(alloc, WHOLE, file, bytes, errors);
+    }
+    verdict.status()
 }
 
 /// Runs a deployment.
@@ -113,13 +147,44 @@ fn run_bytes<R: Source, W: Sink, E: Sink>(
         }) result }
 {
     let ending = drive(alloc, bytes, options.limits, input, output);
-    tell_ending(alloc, ending, output, errors);
-    tell_hint(alloc, ending, options.file, bytes, errors);
+    tell_outcome(alloc, ending.outcome(), output, errors);
+    if ending == Ending::Refused {
+        tell_hint(alloc, SERVED, options.file, bytes, errors);
+    }
     ending.status()
 }
 
-/// Runs what the words ask for.
-fn run_options<F: Files, R: Source, W: Sink, E: Sink>(
+/// Does what the words ask for with the bytes of a deployment.
+fn serve_bytes<R: Source, W: Sink, E: Sink>(
+    alloc: Global,
+    options: &Options<'_>,
+    bytes: &[u8],
+    input: &mut R,
+    output: &mut W,
+    errors: &mut E,
+) -> u8
+    requires { (options.now.limits.depth ≡ 32) × (options.now.limits.ticks ≡ 100000) }
+    ensures { spec.ServesBytes options.now.mode bytes.now
+        (record {
+          unread = R.unread input.old;
+          unread_after = R.unread input.new;
+          held = W.written output.old;
+          held_after = W.written output.new;
+          source = R.has_failed input.old;
+          source_after = R.has_failed input.new;
+          sink = W.has_failed output.old;
+          sink_after = W.has_failed output.new;
+          is_passed_on = W.is_passed_on output.new;
+        }) result }
+{
+    match options.mode {
+        Mode::Check => check_bytes(alloc, options.file, bytes, input, output, errors),
+        Mode::Run => run_bytes(alloc, options, bytes, input, output, errors),
+    }
+}
+
+/// Does what the words ask for.
+fn serve_options<F: Files, R: Source, W: Sink, E: Sink>(
     alloc: Global,
     options: &Options<'_>,
     files: &F,
@@ -128,7 +193,8 @@ fn run_options<F: Files, R: Source, W: Sink, E: Sink>(
     errors: &mut E,
 ) -> u8
     requires { (options.now.limits.depth ≡ 32) × (options.now.limits.ticks ≡ 100000) }
-    ensures { spec.RunsFile (F.gives files.now) (F.refuses files.now) options.now.file.now
+    ensures { spec.ServesFile (F.gives files.now) (F.refuses files.now)
+        options.now.mode options.now.file.now
         (record {
           unread = R.unread input.old;
           unread_after = R.unread input.new;
@@ -142,7 +208,7 @@ fn run_options<F: Files, R: Source, W: Sink, E: Sink>(
         }) result }
 {
     match files.front(alloc, options.file, MAX_READ) {
-        Ok(bytes) => run_bytes(alloc, options, &bytes, input, output, errors),
+        Ok(bytes) => serve_bytes(alloc, options, &bytes, input, output, errors),
         Err(error) => {
             tell_of_file(alloc, errors, options.file, &error);
             FAULT
@@ -152,8 +218,10 @@ fn run_options<F: Files, R: Source, W: Sink, E: Sink>(
 
 /// Runs the program, from what came of asking for its words to the exit status.
 ///
-/// Words that ask for a run name the file of a deployment, which is read up to [`MAX_READ`] bytes and run as
-/// [`drive`] does, under the default limits. Then the status is that of how the run ended ([`Ending::status`]). Help and
+/// Words that ask for a mode name the file of a deployment, which is read up to [`MAX_READ`] bytes. [`Mode::Check`] tells
+/// its problems as [`report`] does, reads nothing, and the status is that of the verdict ([`Verdict::status`]).
+/// [`Mode::Run`] runs it as [`drive`] does, under the default limits, and the status is that of how the run ended
+/// ([`Ending::status`]). Help and
 /// the version go to the output, with status 0. Wrong words are status 2, and a file that can't be read, and want of memory
 /// outside of a command, status 3: nothing is read or written then. Each status 2 and 3 has words on `errors` that name
 /// the cause, as far as these can be written, and a refused deployment may have a hint there.
@@ -181,7 +249,7 @@ pub fn run_program<S: AsStr, F: Files, R: Source, W: Sink, E: Sink>(
 {
     match words {
         Ok(words) => match Options::parse(alloc, words) {
-            Ok(options) => run_options(alloc, &options, files, input, output, errors),
+            Ok(options) => serve_options(alloc, &options, files, input, output, errors),
             Err(error) => answer_usage(alloc, &error, input, output, errors),
         },
         Err(error) => {

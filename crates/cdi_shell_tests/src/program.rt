@@ -13,8 +13,8 @@ const RUN: [&str; 3] = ["cdi", "run", "k.json"];
 
 /// One file, under the name `k.json`.
 #[derive(Drop)]
-struct OneFile<'a> {
-    bytes: &'a [u8],
+pub(crate) struct OneFile<'a> {
+    pub(crate) bytes: &'a [u8],
 }
 
 impl Files for OneFile<'_> {
@@ -35,13 +35,13 @@ impl Files for OneFile<'_> {
 
 /// How a run of the program ended, with what it wrote.
 #[derive(Drop)]
-struct Ran<W> {
-    status: u8,
-    writer: W,
-    errors: Vec<u8>,
+pub(crate) struct Ran<W> {
+    pub(crate) status: u8,
+    pub(crate) writer: W,
+    pub(crate) errors: Vec<u8>,
 }
 
-fn run<R: Read + Drop, W: Write>(
+pub(crate) fn run<R: Read + Drop, W: Write>(
     alloc: Global,
     words: Result<&[&str], WordsError>,
     files: &impl Files,
@@ -61,14 +61,14 @@ fn run<R: Read + Drop, W: Write>(
 
 /// What a run has to come to: its status, and what it writes to the output and to standard error.
 #[derive(Clone, Copy, Drop)]
-struct Wanted<'a> {
-    status: u8,
-    output: &'a str,
-    errors: &'a str,
+pub(crate) struct Wanted<'a> {
+    pub(crate) status: u8,
+    pub(crate) output: &'a str,
+    pub(crate) errors: &'a str,
 }
 
 /// Ends the test unless the run came to what is wanted. A long text on standard error only has to begin as wanted.
-fn expect_ran(rt: &impl Abort, ran: &Ran<Vec<u8>>, wanted: &Wanted) {
+pub(crate) fn expect_ran(rt: &impl Abort, ran: &Ran<Vec<u8>>, wanted: &Wanted) {
     let output = str::from_utf8(&ran.writer).unwrap_or("no text");
     let errors = str::from_utf8(&ran.errors).unwrap_or("no text");
     let is_same = ran.status == wanted.status
@@ -82,7 +82,13 @@ fn expect_ran(rt: &impl Abort, ran: &Ran<Vec<u8>>, wanted: &Wanted) {
     );
 }
 
-fn check(rt: &impl Abort, alloc: Global, words: &[&str], deployment: &str, wanted: &Wanted) {
+pub(crate) fn check(
+    rt: &impl Abort,
+    alloc: Global,
+    words: &[&str],
+    deployment: &str,
+    wanted: &Wanted,
+) {
     let files = OneFile {
         bytes: deployment.as_bytes(),
     };
@@ -145,6 +151,10 @@ fn tells_what_is_wrong_with_the_words(rt: HostRuntime) {
         (&["cdi", "walk"], "error: unrecognized subcommand 'walk'\n"),
         (
             &["cdi", "run"],
+            "error: the following required arguments were not provided:\n  <FILE>\n",
+        ),
+        (
+            &["cdi", "check"],
             "error: the following required arguments were not provided:\n  <FILE>\n",
         ),
         (
@@ -215,6 +225,9 @@ fn shows_the_help(rt: HostRuntime) {
     let text = str::from_utf8(&ran.writer).unwrap_or("");
     for part in [
         "Usage: cdi <COMMAND>",
+        "check  Tells all problems of a deployment, or that it is accepted\n",
+        "run    Runs a deployment on the command lines of the standard input\n",
+        "cdi check counter.json",
         "cdi run counter.json < commands",
         "Exit status:",
         "docs/FORMS.md",
@@ -253,7 +266,7 @@ fn ends_halted(rt: HostRuntime) {
 
 /// Fails at each read.
 #[derive(Drop)]
-struct Broken;
+pub(crate) struct Broken;
 
 impl Read for Broken {
     fn read(&mut self, _buf: &mut [u8]) -> io::Result<usize> {
@@ -285,7 +298,7 @@ fn tells_that_the_input_failed(rt: HostRuntime) {
 }
 
 /// Checks that a run is a fault where its output has room for three bytes, and that this is told.
-fn check_unwritten(rt: &impl Abort, alloc: Global, words: &[&str], deployment: &str) {
+pub(crate) fn check_unwritten(rt: &impl Abort, alloc: Global, words: &[&str], deployment: &str) {
     let files = OneFile {
         bytes: deployment.as_bytes(),
     };

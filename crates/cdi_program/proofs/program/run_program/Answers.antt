@@ -1,13 +1,13 @@
 use Rattle.std.proofs.Common.{List, map}
 use Rattle.clap.specs.Words.{Text, kind_of}
-use Rattle.cdi_program.specs.Program.RunsWords.{runs}
+use Rattle.cdi_program.specs.Program.RunsWords.{serves}
 use Rattle.cdi_program.proofs.Usage.{usage}
 use Rattle.cdi_program.proofs.program.run_program.Goals as goal
 
 pub returns-in-Ok-parse : goal.returns-in-Ok-parse
 returns-in-Ok-parse g c =
     let asks = c.in-Ok-parse.ensures.ok in
-    rw c.in-Ok.is (runs asks.is_fit (rw asks.names at c.run_options.ensures))
+    rw c.in-Ok.is (serves asks.is_fit (rw asks.names_mode at rw asks.names at c.serve_options.ensures))
 
 pub returns-in-Err-parse : goal.returns-in-Err-parse
 returns-in-Err-parse g c =

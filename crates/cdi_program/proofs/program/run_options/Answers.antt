@@ -1,8 +1,0 @@
-use Rattle.std.proofs.Common.{rules, ◌≡◌}
-use Rattle.cdi_program.specs.Program.RunsFile.{reads}
-use Rattle.cdi_program.proofs.program.run_options.Goals as goal
-
-pub returns-in-Ok : goal.returns-in-Ok
-returns-in-Ok g c =
-    let same : c.deref.result.now ≡ c.in-Ok.bytes.items = search rules in
-    reads _ c.in-Ok.ensures.bytes (rw same at c.run_bytes.ensures)
