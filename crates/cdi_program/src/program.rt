@@ -9,6 +9,7 @@ use crate::options::Options;
 use crate::status::{FAULT, is_shown, status_of};
 use crate::telling::{tell, tell_of_file};
 use crate::words::WordsError;
+use cdi_base::SERVED;
 use cdi_hints::hint_for;
 use cdi_lines::{ServeFault, Sink, Source};
 use cdi_shell::Ending;
@@ -84,7 +85,7 @@ fn tell_hint<E: Sink>(alloc: Global, ending: Ending, file: &str, bytes: &[u8], e
     if ending != Ending::Refused {
         return;
     }
-    if let Ok(Some(hint)) = hint_for(alloc, bytes) {
+    if let Ok(Some(hint)) = hint_for(alloc, SERVED, bytes) {
         tell_of_file(alloc, errors, file, &hint);
     }
 }
