@@ -1,10 +1,9 @@
--- The lists of a value are read unless the table of names is full.
+-- The lists of a value are read at a stage unless the table of names is full.
 use Rattle.std.proofs.Common.{Bool, true, false, ℕ, List, Option, Some, None, Result, Ok, Err, if◌then◌else◌}
 use Rattle.cdi_base.specs.BuiltIn.{built_in_names}
 use Rattle.cdi_base.specs.declared.stage.Stage.{Stage}
 use Rattle.cdi_base.specs.Name.{is_name, has_room, with_name}
 use Rattle.cdi_base.specs.Reading.{◌>>=◌}
-use Rattle.cdi_base.specs.Stage.{served}
 use Rattle.serde_json.specs.Data.{Data, null, boolean, number, string, array, object, Items, no_items, item, Members, no_members, member}
 use Rattle.cdi_form.specs.declared.form.Kind.{Kind}
 use Rattle.cdi_form.specs.declared.form.Part.{Part}
@@ -14,7 +13,7 @@ use Rattle.cdi_form.specs.Keys.{kind_of}
 use Rattle.cdi_deploy.specs.declared.fault.ReadFault.{ReadFault}
 use Rattle.cdi_deploy.specs.declared.fault.ReadFault.TheVariants as faults
 use Rattle.cdi_deploy.specs.Naming.{Table, added, text_added, keys_added, added_at, names_added, items_added, members_added}
-use Rattle.cdi_deploy.specs.Reading.{lists_at, lists_of, root}
+use Rattle.cdi_deploy.specs.Reading.{lists_at, root}
 
 abbrev pub IsFull : ReadFault → Type 0
 IsFull faults.TooMany = Unit {0}
@@ -74,6 +73,6 @@ module _ (stage : Stage) where
         (at_full (part_at stage kind key) names (λ part. names_added stage names d part) (λ part. names_full names d part))
         (λ after. members_full after ms kind)
 
-pub lists_full : (d : Data) → OnlyFull (lists_of d)
+pub lists_full : (stage : Stage) (d : Data) → OnlyFull (lists_at stage d)
 unfolding lists_at
-lists_full d = then_full (names_added served built_in_names d root) _ (names_full served built_in_names d root) (λ names. tt)
+lists_full stage d = then_full (names_added stage built_in_names d root) _ (names_full stage built_in_names d root) (λ names. tt)

@@ -1,4 +1,4 @@
-//! Hints: what is wrong with a refused deployment, beyond the one line that tells its fault.
+//! Hints: what is wrong with a deployment that is refused at a stage, beyond the one line that tells its fault.
 #![tactic(auto)]
 
 pub mod hint;

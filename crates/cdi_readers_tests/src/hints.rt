@@ -1,20 +1,27 @@
 //! Tests of the hints for refused deployments.
+use cdi_base::{SERVED, Stage};
 use cdi_hints::hint_for;
 use std::alloc::{AllocError, Global};
 use std::process::Abort;
 use std::test::Fail;
 
-/// The hint for bytes as it is written, or `none`.
-fn told(alloc: Global, bytes: &[u8]) -> Result<String, AllocError> {
-    match hint_for(alloc, bytes)? {
+/// The hint for bytes at a stage as it is written, or `none`.
+fn told(alloc: Global, stage: Stage, bytes: &[u8]) -> Result<String, AllocError> {
+    match hint_for(alloc, stage, bytes)? {
         Some(hint) => format!(in alloc; "{hint}"),
         None => String::from_str(alloc, "none"),
     }
 }
 
-/// Compares the hint for bytes.
-fn check(rt: &impl Abort, alloc: Global, bytes: &[u8], expected: &str) -> Result<(), Fail> {
-    let found = told(alloc, bytes)?;
+/// Compares the hint for bytes at a stage.
+fn check(
+    rt: &impl Abort,
+    alloc: Global,
+    stage: Stage,
+    bytes: &[u8],
+    expected: &str,
+) -> Result<(), Fail> {
+    let found = told(alloc, stage, bytes)?;
     assert_eq!(rt; found.as_str(), expected);
     Ok(())
 }
@@ -100,7 +107,7 @@ const STEPS: &[(&str, &str)] = &[
 fn tells_what_is_wrong(rt: HostRuntime) -> Result<(), Fail> {
     for rows in [PLACES, NAMES, STEPS] {
         for (text, expected) in rows {
-            check(&rt, rt.alloc(), text.as_bytes(), expected)?;
+            check(&rt, rt.alloc(), SERVED, text.as_bytes(), expected)?;
         }
     }
     Ok(())
@@ -109,7 +116,7 @@ fn tells_what_is_wrong(rt: HostRuntime) -> Result<(), Fail> {
 #[test]
 fn tells_nothing(rt: HostRuntime) -> Result<(), Fail> {
     for text in NONE {
-        check(&rt, rt.alloc(), text.as_bytes(), "none")?;
+        check(&rt, rt.alloc(), SERVED, text.as_bytes(), "none")?;
     }
     Ok(())
 }
@@ -127,7 +134,7 @@ const BYTES: &[(&[u8], &str)] = &[
 #[test]
 fn finds_what_is_no_text(rt: HostRuntime) -> Result<(), Fail> {
     for (bytes, expected) in BYTES {
-        check(&rt, rt.alloc(), bytes, expected)?;
+        check(&rt, rt.alloc(), SERVED, bytes, expected)?;
     }
     Ok(())
 }
@@ -240,7 +247,7 @@ const REPEATED: &[(&str, &str, usize, &str, &str)] = &[
 fn keeps_to_the_limits(rt: HostRuntime) -> Result<(), Fail> {
     for (front, item, count, back, expected) in REPEATED {
         let text = repeated(rt.alloc(), front, item, *count, back)?;
-        check(&rt, rt.alloc(), text.as_bytes(), expected)?;
+        check(&rt, rt.alloc(), SERVED, text.as_bytes(), expected)?;
     }
     Ok(())
 }
