@@ -1,5 +1,8 @@
-//! What the tests share: each compares by a call, since an assertion in a test makes its proof longer than a call does.
-use std::alloc::{AllocError, Global};
+//! What the tests share: each compares by a call, since an assertion in a test makes its proof longer than a call does. What is
+//! refused for want of memory ends the test too: to hand it on by `?` would make the proofs longer.
+use cdi_base::{Command, ReadError, Text};
+use cdi_text::BadLine;
+use std::alloc::Global;
 use std::fmt::{Debug, Display};
 use std::process::Abort;
 
@@ -14,13 +17,38 @@ pub(crate) fn expect_bytes(rt: &impl Abort, found: &[u8], wanted: &[u8]) {
 }
 
 /// Ends the test unless something is printed so.
-pub(crate) fn expect_text(
-    rt: &impl Abort,
-    alloc: Global,
-    it: &impl Display,
-    wanted: &str,
-) -> Result<(), AllocError> {
-    let text = it.to_string(alloc)?;
+pub(crate) fn expect_text(rt: &impl Abort, alloc: Global, it: &impl Display, wanted: &str) {
+    let text = it.to_string(alloc).expect(rt, "memory");
     expect_same(rt, &text.as_str(), &wanted);
-    Ok(())
+}
+
+/// What was read: nothing if a line is no command.
+pub(crate) fn command_in(
+    rt: &impl Abort,
+    read: Result<Command, ReadError<BadLine>>,
+) -> Option<Command> {
+    match read {
+        Ok(command) => Some(command),
+        Err(ReadError::Fault(BadLine)) => None,
+        Err(ReadError::Memory) => panic!(rt; "memory"),
+    }
+}
+
+/// Ends the test unless what was read of a line is what is wanted: nothing if it is no command. Both are dropped here and nowhere
+/// else, since that makes a proof long.
+pub(crate) fn expect_command(
+    rt: &impl Abort,
+    line: &str,
+    read: Option<Command>,
+    wanted: Option<Command>,
+) {
+    assert!(rt;
+        read == wanted,
+        "{line} is {read:?}, in place of {wanted:?}"
+    );
+}
+
+/// A text.
+pub(crate) fn text(rt: &impl Abort, alloc: Global, text: &str) -> Text {
+    Text::from_str(alloc, text).expect(rt, "memory")
 }

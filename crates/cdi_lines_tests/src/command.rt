@@ -1,136 +1,54 @@
 //! Tests of reading command lines.
-use crate::checks::expect_text;
-use cdi_base::{Command, ReadError, Value};
+use crate::checks::{command_in, expect_command, expect_text, text};
+use cdi_base::{Command, Seq, Text, Value};
 use cdi_text::{BadLine, read_command};
-use std::alloc::{AllocError, Global};
+use std::alloc::Global;
 use std::process::Abort;
-use std::test::Fail;
 
-/// A value of a call.
-#[derive(Clone, Copy, Debug, PartialEq, Eq, Drop)]
-pub(crate) enum Argument<'a> {
-    Null,
-    Int(i64),
-    Text(&'a str),
-}
-
-/// What a line is to be read as.
-#[derive(Clone, Copy, Debug, Drop)]
-pub(crate) enum Wanted<'a> {
-    NoCommand,
-    Shutdown,
-    /// A call of `up` of `K`, without qualifiers.
-    Up {
-        request: Option<&'a str>,
-        arguments: &'a [Argument<'a>],
-    },
-}
-
-fn as_argument(value: &Value) -> Argument<'_> {
-    match value {
-        Value::Null => Argument::Null,
-        Value::Int(number) => Argument::Int(*number),
-        Value::Text(text) => Argument::Text(text.as_str()),
-    }
-}
-
-fn are_arguments(values: &[Value], arguments: &[Argument]) -> bool {
-    values.len() == arguments.len()
-        && values
-            .iter()
-            .zip(arguments)
-            .all(|(value, argument)| { as_argument(value) == *argument })
-}
-
-fn is_up(command: &Command, in_request: Option<&str>, arguments: &[Argument]) -> bool {
-    match command {
-        Command::Call {
-            request,
-            bean_type,
-            qualifiers,
-            method,
-            args,
-        } => {
-            request.as_ref().map(|name| name.as_str()) == in_request
-                && bean_type.as_str() == "K"
-                && qualifiers.is_empty()
-                && method.as_str() == "up"
-                && are_arguments(args.as_slice(), arguments)
-        }
-        _ => false,
-    }
-}
-
-/// Checks what a line is read as, where it is a command.
-fn check_command(rt: &impl Abort, line: &[u8], command: &Command, wanted: Wanted) {
-    let is_wanted = match wanted {
-        Wanted::NoCommand => false,
-        Wanted::Shutdown => matches!(command, Command::Shutdown),
-        Wanted::Up { request, arguments } => is_up(command, request, arguments),
-    };
-    assert!(rt;
-        is_wanted,
-        "{line:?} is {command:?}, in place of {wanted:?}"
-    );
-}
-
-/// Checks what a line is read as.
-pub(crate) fn check_line(
-    rt: &impl Abort,
-    alloc: Global,
-    line: &[u8],
-    wanted: Wanted,
-) -> Result<(), AllocError> {
-    match read_command(alloc, line) {
-        Ok(command) => check_command(rt, line, &command, wanted),
-        Err(ReadError::Fault(BadLine)) => check_refused(rt, line, wanted),
-        Err(ReadError::Memory) => return Err(AllocError),
-    }
-    Ok(())
-}
-
-fn check_refused(rt: &impl Abort, line: &[u8], wanted: Wanted) {
-    assert!(rt;
-        matches!(wanted, Wanted::NoCommand),
-        "{line:?} is no command, in place of {wanted:?}"
-    );
+/// Checks what a line is read as: nothing if it is no command.
+pub(crate) fn check_line(rt: &impl Abort, alloc: Global, line: &str, wanted: Option<Command>) {
+    let read = command_in(rt, read_command(alloc, line.as_bytes()));
+    expect_command(rt, line, read, wanted);
 }
 
 /// Checks that none of these lines is a command.
-fn check_no_commands(rt: &impl Abort, alloc: Global, lines: &[&str]) -> Result<(), AllocError> {
+fn check_no_commands(rt: &impl Abort, alloc: Global, lines: &[&str]) {
     for line in lines {
-        check_line(rt, alloc, line.as_bytes(), Wanted::NoCommand)?;
+        check_line(rt, alloc, line, None);
     }
-    Ok(())
+}
+
+/// A call of `up` of `K`, without qualifiers.
+pub(crate) fn call_of(
+    rt: &impl Abort,
+    alloc: Global,
+    request: Option<Text>,
+    args: Seq<Value>,
+) -> Command {
+    Command::Call {
+        request,
+        bean_type: text(rt, alloc, "K"),
+        qualifiers: Seq::empty(alloc),
+        method: text(rt, alloc, "up"),
+        args,
+    }
 }
 
 /// Checks what a call of `up` of `K` is read as, with values as they are written.
-fn check_call(
-    rt: &impl Abort,
-    alloc: Global,
-    written: &str,
-    wanted: Wanted,
-) -> Result<(), AllocError> {
-    let line = format!(in alloc; "[\"call\",null,\"K\",[],\"up\",[{written}]]")?;
-    check_line(rt, alloc, line.as_bytes(), wanted)
+fn check_call(rt: &impl Abort, alloc: Global, written: &str, wanted: Option<Command>) {
+    let line = format!(in alloc; "[\"call\",null,\"K\",[],\"up\",[{written}]]");
+    check_line(rt, alloc, line.expect(rt, "memory").as_str(), wanted);
 }
 
 /// Checks what the only value of a call is read as.
-fn check_value(
-    rt: &impl Abort,
-    alloc: Global,
-    written: &str,
-    value: Argument,
-) -> Result<(), AllocError> {
-    let wanted = Wanted::Up {
-        request: None,
-        arguments: &[value],
-    };
-    check_call(rt, alloc, written, wanted)
+fn check_value(rt: &impl Abort, alloc: Global, written: &str, value: Value) {
+    let args = Vec::from_array(alloc, [value]).expect(rt, "memory");
+    let call = call_of(rt, alloc, None, Seq::new(args));
+    check_call(rt, alloc, written, Some(call));
 }
 
 #[test]
-fn refuses_what_is_no_command(rt: HostRuntime) -> Result<(), Fail> {
+fn refuses_what_is_no_command(rt: HostRuntime) {
     const LINES: &[&str] = &[
         "",
         " ",
@@ -172,12 +90,11 @@ fn refuses_what_is_no_command(rt: HostRuntime) -> Result<(), Fail> {
         "[\"read\",null,\"K\",[]]",
         "[\"fire\",null,\"K\",[],1]",
     ];
-    check_no_commands(&rt, rt.alloc(), LINES)?;
-    Ok(())
+    check_no_commands(&rt, rt.alloc(), LINES);
 }
 
 #[test]
-fn refuses_calls_with_a_wrong_part(rt: HostRuntime) -> Result<(), Fail> {
+fn refuses_calls_with_a_wrong_part(rt: HostRuntime) {
     const LINES: &[&str] = &[
         "[\"call\",\"\",\"K\",[],\"up\",[]]",
         "[\"call\",\"R 1\",\"K\",[],\"up\",[]]",
@@ -205,12 +122,11 @@ fn refuses_calls_with_a_wrong_part(rt: HostRuntime) -> Result<(), Fail> {
         "[\"call\",null,\"K\",[],\"up\",{}]",
         "[[\"call\",null,\"K\",[],\"up\",[]]]",
     ];
-    check_no_commands(&rt, rt.alloc(), LINES)?;
-    Ok(())
+    check_no_commands(&rt, rt.alloc(), LINES);
 }
 
 #[test]
-fn refuses_what_is_no_value(rt: HostRuntime) -> Result<(), Fail> {
+fn refuses_what_is_no_value(rt: HostRuntime) {
     const ROWS: &[&str] = &[
         "true",
         "false",
@@ -246,13 +162,12 @@ fn refuses_what_is_no_value(rt: HostRuntime) -> Result<(), Fail> {
         "1 2",
     ];
     for value in ROWS {
-        check_call(&rt, rt.alloc(), value, Wanted::NoCommand)?;
+        check_call(&rt, rt.alloc(), value, None);
     }
-    Ok(())
 }
 
 #[test]
-fn refuses_what_is_not_utf8(rt: HostRuntime) -> Result<(), Fail> {
+fn refuses_what_is_not_utf8(rt: HostRuntime) {
     const ROWS: &[&[u8]] = &[
         b"\xff",
         b"[\"shutdown\"]\xff",
@@ -262,13 +177,13 @@ fn refuses_what_is_not_utf8(rt: HostRuntime) -> Result<(), Fail> {
         b"[\"call\",null,\"K\",[],\"up\",[\"\xc0\xaf\"]]",
     ];
     for line in ROWS {
-        check_line(&rt, rt.alloc(), line, Wanted::NoCommand)?;
+        let read = command_in(&rt, read_command(rt.alloc(), line));
+        expect_command(&rt, "not UTF-8", read, None);
     }
-    Ok(())
 }
 
 #[test]
-fn reads_a_shutdown(rt: HostRuntime) -> Result<(), Fail> {
+fn reads_a_shutdown(rt: HostRuntime) {
     const ROWS: &[&str] = &[
         "[\"shutdown\"]",
         "[\"shutdown\"]\r",
@@ -276,19 +191,12 @@ fn reads_a_shutdown(rt: HostRuntime) -> Result<(), Fail> {
         "[\"\\u0073hutdown\"]",
     ];
     for line in ROWS {
-        check_line(&rt, rt.alloc(), line.as_bytes(), Wanted::Shutdown)?;
+        check_line(&rt, rt.alloc(), line, Some(Command::Shutdown));
     }
-    Ok(())
 }
 
-/// A call without values, outside a request.
-const BARE_CALL: Wanted<'static> = Wanted::Up {
-    request: None,
-    arguments: &[],
-};
-
 #[test]
-fn reads_a_call_without_values(rt: HostRuntime) -> Result<(), Fail> {
+fn reads_a_call_without_values(rt: HostRuntime) {
     const ROWS: &[&str] = &[
         "[\"call\",null,\"K\",[],\"up\",[]]",
         "[\"call\",null,\"K\",[],\"up\",[]]\r",
@@ -297,30 +205,27 @@ fn reads_a_call_without_values(rt: HostRuntime) -> Result<(), Fail> {
         "[\"\\u0063all\",null,\"\\u004B\",[],\"up\",[]]",
     ];
     for line in ROWS {
-        check_line(&rt, rt.alloc(), line.as_bytes(), BARE_CALL)?;
+        let call = call_of(&rt, rt.alloc(), None, Seq::empty(rt.alloc()));
+        check_line(&rt, rt.alloc(), line, Some(call));
     }
-    Ok(())
 }
 
 /// A call of three values in a request.
-const FULL_CALL: Wanted<'static> = Wanted::Up {
-    request: Some("R.1_$"),
-    arguments: &[
-        Argument::Null,
-        Argument::Int(7),
-        Argument::Text("two words"),
-    ],
-};
-
-#[test]
-fn reads_a_call_with_all_parts(rt: HostRuntime) -> Result<(), Fail> {
-    let line = b"[\"call\",\"R.1_$\",\"K\",[],\"up\",[null,7,\"two words\"]]";
-    check_line(&rt, rt.alloc(), line, FULL_CALL)?;
-    Ok(())
+fn full_call(rt: &impl Abort, alloc: Global) -> Command {
+    let words = Value::Text(text(rt, alloc, "two words"));
+    let args = vec![in alloc; Value::Null, Value::Int(7), words].expect(rt, "memory");
+    let request = Some(text(rt, alloc, "R.1_$"));
+    call_of(rt, alloc, request, Seq::new(args))
 }
 
 #[test]
-fn reads_whole_numbers(rt: HostRuntime) -> Result<(), Fail> {
+fn reads_a_call_with_all_parts(rt: HostRuntime) {
+    let line = "[\"call\",\"R.1_$\",\"K\",[],\"up\",[null,7,\"two words\"]]";
+    check_line(&rt, rt.alloc(), line, Some(full_call(&rt, rt.alloc())));
+}
+
+#[test]
+fn reads_whole_numbers(rt: HostRuntime) {
     const ROWS: &[(&str, i64)] = &[
         ("0", 0),
         ("-1", -1),
@@ -329,13 +234,12 @@ fn reads_whole_numbers(rt: HostRuntime) -> Result<(), Fail> {
         ("-9223372036854775808", -9_223_372_036_854_775_808),
     ];
     for &(written, number) in ROWS {
-        check_value(&rt, rt.alloc(), written, Argument::Int(number))?;
+        check_value(&rt, rt.alloc(), written, Value::Int(number));
     }
-    Ok(())
 }
 
 #[test]
-fn reads_texts(rt: HostRuntime) -> Result<(), Fail> {
+fn reads_texts(rt: HostRuntime) {
     const ROWS: &[(&str, &str)] = &[
         ("\"\"", ""),
         ("\"7\"", "7"),
@@ -347,14 +251,13 @@ fn reads_texts(rt: HostRuntime) -> Result<(), Fail> {
             "\"\\/\n\u{e4}\u{1f600}",
         ),
     ];
-    for &(written, text) in ROWS {
-        check_value(&rt, rt.alloc(), written, Argument::Text(text))?;
+    for &(written, value) in ROWS {
+        let value = Value::Text(text(&rt, rt.alloc(), value));
+        check_value(&rt, rt.alloc(), written, value);
     }
-    Ok(())
 }
 
 #[test]
-fn is_printed(rt: HostRuntime) -> Result<(), Fail> {
-    expect_text(&rt, rt.alloc(), &BadLine, "BadLine")?;
-    Ok(())
+fn is_printed(rt: HostRuntime) {
+    expect_text(&rt, rt.alloc(), &BadLine, "BadLine");
 }

@@ -1,10 +1,9 @@
 use crate::checks::{expect_bytes, expect_same, expect_text};
-use crate::test_ends::{Room, Steps, Stuck, Sunk};
+use crate::test_ends::{Room, Steps, Stuck, Sunk, buffered};
 use cdi_lines::{Input, Output, ReadFailed, ServeFault, Sink, Source, WriteFailed};
 use std::alloc::Global;
-use std::io::{BufWriter, Read, Write};
+use std::io::{Read, Write};
 use std::process::Abort;
-use std::test::Fail;
 
 // ---- inputs
 
@@ -18,9 +17,12 @@ fn check_read<R: Read>(
     has_failed: bool,
 ) {
     let mut buf = *b"xyz";
-    expect_same(rt, &input.read(&mut buf, &Sunk), &wanted);
-    expect_bytes(rt, &buf, buffer);
-    expect_same(rt, &input.has_failed(), &has_failed);
+    let read = input.read(&mut buf, &Sunk);
+    expect_same(
+        rt,
+        &(read, buf, input.has_failed()),
+        &(wanted, *buffer, has_failed),
+    );
 }
 
 /// Reads `abc` in steps of two bytes, and then twice more, which has to give this.
@@ -51,9 +53,8 @@ fn check_write(
     written: &[u8],
 ) {
     let mut output = Output::new(room);
-    expect_same(rt, &output.write(bytes), &wanted);
-    expect_same(rt, &output.has_failed(), &wanted.is_err());
-    expect_same(rt, &output.flush(), &wanted);
+    let found = (output.write(bytes), output.has_failed(), output.flush());
+    expect_same(rt, &found, &(wanted, wanted.is_err(), wanted));
     expect_bytes(rt, output.into_inner().taken.as_slice(), written);
 }
 
@@ -71,12 +72,12 @@ fn an_output_writes_all_or_remembers(rt: HostRuntime) {
 }
 
 /// The first so many of bytes that repeat after 251.
-fn many_bytes(alloc: Global, count: usize) -> Result<Vec<u8>, Fail> {
+fn many_bytes(rt: &impl Abort, alloc: Global, count: usize) -> Vec<u8> {
     let mut bytes = Vec::new(alloc);
     for at in 0..count {
-        bytes.push((at % 251) as u8)?;
+        bytes.push((at % 251) as u8).expect(rt, "memory");
     }
-    Ok(bytes)
+    bytes
 }
 
 /// Writes 5,000 bytes at once into a room, of which so many have to stand there.
@@ -86,26 +87,24 @@ fn check_large(
     room: Room,
     wanted: Result<(), WriteFailed>,
     count: usize,
-) -> Result<(), Fail> {
-    let bytes = many_bytes(alloc, 5_000)?;
-    let written = many_bytes(alloc, count)?;
+) {
+    let bytes = many_bytes(rt, alloc, 5_000);
+    let written = many_bytes(rt, alloc, count);
     check_write(rt, room, bytes.as_slice(), wanted, written.as_slice());
-    Ok(())
 }
 
 /// Steps that divide 4,096 and that don't, and one that takes all at once.
 #[test]
-fn an_output_writes_a_large_reply_in_small_steps(rt: HostRuntime) -> Result<(), Fail> {
+fn an_output_writes_a_large_reply_in_small_steps(rt: HostRuntime) {
     const STEPS: &[usize] = &[1, 7, 64, 4_095, 4_096, 5_000];
     for &step in STEPS {
         let room = Room::new(rt.alloc(), step, usize::MAX, false);
-        check_large(&rt, rt.alloc(), room, Ok(()), 5_000)?;
+        check_large(&rt, rt.alloc(), room, Ok(()), 5_000);
     }
-    Ok(())
 }
 
 #[test]
-fn an_output_fails_within_a_large_reply(rt: HostRuntime) -> Result<(), Fail> {
+fn an_output_fails_within_a_large_reply(rt: HostRuntime) {
     const ROWS: &[(usize, usize, bool)] = &[
         (7, 4_096, true),
         (7, 4_096, false),
@@ -114,9 +113,8 @@ fn an_output_fails_within_a_large_reply(rt: HostRuntime) -> Result<(), Fail> {
     ];
     for &(step, left, fails) in ROWS {
         let room = Room::new(rt.alloc(), step, left, fails);
-        check_large(&rt, rt.alloc(), room, Err(WriteFailed), left)?;
+        check_large(&rt, rt.alloc(), room, Err(WriteFailed), left);
     }
-    Ok(())
 }
 
 /// Writes a byte, which has to end so, and checks whether the output has failed then.
@@ -126,8 +124,8 @@ fn check_byte(
     byte: &[u8],
     wanted: Result<(), WriteFailed>,
 ) {
-    expect_same(rt, &output.write(byte), &wanted);
-    expect_same(rt, &output.has_failed(), &wanted.is_err());
+    let found = (output.write(byte), output.has_failed());
+    expect_same(rt, &found, &(wanted, wanted.is_err()));
 }
 
 #[test]
@@ -146,18 +144,16 @@ fn check_through<W: Write>(
     bytes: &[u8],
     wanted: Result<(), WriteFailed>,
 ) {
-    expect_same(rt, &output.write_through(bytes), &wanted);
-    expect_same(rt, &output.has_failed(), &wanted.is_err());
+    let found = (output.write_through(bytes), output.has_failed());
+    expect_same(rt, &found, &(wanted, wanted.is_err()));
 }
 
 /// A buffered writer holds bytes back until it is flushed.
 #[test]
-fn an_output_passes_on_what_it_writes_through(rt: HostRuntime) -> Result<(), Fail> {
-    let writer = BufWriter::new(rt.alloc(), Vec::new(rt.alloc()))?;
-    let mut output = Output::new(writer);
+fn an_output_passes_on_what_it_writes_through(rt: HostRuntime) {
+    let mut output = Output::new(buffered(&rt, rt.alloc()));
     check_through(&rt, &mut output, b"abc", Ok(()));
     expect_bytes(&rt, output.into_inner().get_ref().as_slice(), b"abc");
-    Ok(())
 }
 
 #[test]
@@ -169,7 +165,7 @@ fn an_output_fails_where_it_passes_nothing_on(rt: HostRuntime) {
 // ---- texts
 
 #[test]
-fn says_what_failed(rt: HostRuntime) -> Result<(), Fail> {
+fn says_what_failed(rt: HostRuntime) {
     const ROWS: &[(ServeFault, &str)] = &[
         (ServeFault::Read, "the input could not be read"),
         (ServeFault::TooLong, "the input is too long"),
@@ -177,9 +173,8 @@ fn says_what_failed(rt: HostRuntime) -> Result<(), Fail> {
         (ServeFault::Memory, "out of memory"),
     ];
     for &(fault, text) in ROWS {
-        expect_text(&rt, rt.alloc(), &fault, text)?;
+        expect_text(&rt, rt.alloc(), &fault, text);
     }
-    expect_text(&rt, rt.alloc(), &ReadFailed, "a read failed")?;
-    expect_text(&rt, rt.alloc(), &WriteFailed, "a write failed")?;
-    Ok(())
+    expect_text(&rt, rt.alloc(), &ReadFailed, "a read failed");
+    expect_text(&rt, rt.alloc(), &WriteFailed, "a write failed");
 }

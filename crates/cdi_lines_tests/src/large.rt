@@ -1,95 +1,91 @@
 //! Command lines and replies that are large.
 use crate::checks::{expect_bytes, expect_same};
-use crate::command::{Argument, Wanted, check_line};
+use crate::command::{call_of, check_line};
 use cdi_base::{Names, Reply, Seq, Text, Value};
 use cdi_text::write_reply;
-use std::alloc::{AllocError, Global};
-use std::test::Fail;
+use std::alloc::Global;
+use std::process::Abort;
 
 /// The numbers from 0 on as they are written, so many of them.
-fn written_numbers(alloc: Global, count: u32) -> Result<String, AllocError> {
-    let mut line = String::from_str(alloc, "0")?;
+fn written_numbers(rt: &impl Abort, alloc: Global, count: u32) -> String {
+    let mut line = String::from_str(alloc, "0").expect(rt, "memory");
     for number in 1..count {
-        let more = format!(in alloc; ",{number}")?;
-        line.push_str(more.as_str())?;
+        let more = format!(in alloc; ",{number}").expect(rt, "memory");
+        line.push_str(more.as_str()).expect(rt, "memory");
     }
-    Ok(line)
+    line
 }
 
 /// A call of `up` of `K` with these values.
-fn call_line(alloc: Global, count: u32) -> Result<String, AllocError> {
-    let values = written_numbers(alloc, count)?;
-    format!(in alloc; "[\"call\",null,\"K\",[],\"up\",[{values}]]")
+fn call_line(rt: &impl Abort, alloc: Global, count: u32) -> String {
+    let values = written_numbers(rt, alloc, count);
+    let line = format!(in alloc; "[\"call\",null,\"K\",[],\"up\",[{values}]]");
+    line.expect(rt, "memory")
 }
 
 /// The numbers from 0 on, so many of them.
-fn numbers(alloc: Global, count: u32) -> Result<Vec<Argument<'static>>, AllocError> {
-    let mut numbers = Vec::new(alloc);
+fn numbers(rt: &impl Abort, alloc: Global, count: u32) -> Seq<Value> {
+    let mut numbers = Seq::empty(alloc);
     for number in 0..count {
-        numbers.push(Argument::Int(i64::from(number)))?;
+        numbers
+            .push(Value::Int(i64::from(number)))
+            .expect(rt, "memory");
     }
-    Ok(numbers)
+    numbers
 }
 
 #[test]
-fn reads_a_thousand_values(rt: HostRuntime) -> Result<(), Fail> {
-    let line = call_line(rt.alloc(), 1_000)?;
-    let arguments = numbers(rt.alloc(), 1_000)?;
-    let wanted = Wanted::Up {
-        request: None,
-        arguments: arguments.as_slice(),
-    };
-    check_line(&rt, rt.alloc(), line.as_bytes(), wanted)?;
-    Ok(())
+fn reads_a_thousand_values(rt: HostRuntime) {
+    let line = call_line(&rt, rt.alloc(), 1_000);
+    let call = call_of(&rt, rt.alloc(), None, numbers(&rt, rt.alloc(), 1_000));
+    check_line(&rt, rt.alloc(), line.as_str(), Some(call));
+}
+
+/// The line of a reply.
+fn line_of(rt: &impl Abort, alloc: Global, reply: Reply) -> Vec<u8> {
+    write_reply(alloc, &Names::new(alloc), &reply).expect(rt, "memory")
 }
 
 /// So many letters.
-fn letters(alloc: Global, count: usize) -> Result<String, AllocError> {
-    "v".repeat(alloc, count)
+fn letters(rt: &impl Abort, alloc: Global, count: usize) -> String {
+    "v".repeat(alloc, count).expect(rt, "memory")
 }
 
 /// The line of a reply of so many letters.
-fn line_of_letters(alloc: Global, count: usize) -> Result<Vec<u8>, AllocError> {
-    let reply = Reply::Value(Value::Text(Text::new(letters(alloc, count)?)));
-    write_reply(alloc, &Names::new(alloc), &reply)
+fn line_of_letters(rt: &impl Abort, alloc: Global, count: usize) -> Vec<u8> {
+    let text = Text::new(letters(rt, alloc, count));
+    line_of(rt, alloc, Reply::Value(Value::Text(text)))
 }
 
 /// The same, by hand.
-fn written_letters(alloc: Global, count: usize) -> Result<String, AllocError> {
-    let text = letters(alloc, count)?;
-    format!(in alloc; "[\"value\",\"{text}\"]\n")
+fn written_letters(rt: &impl Abort, alloc: Global, count: usize) -> String {
+    let text = letters(rt, alloc, count);
+    format!(in alloc; "[\"value\",\"{text}\"]\n").expect(rt, "memory")
 }
 
 #[test]
-fn writes_a_long_text(rt: HostRuntime) -> Result<(), Fail> {
-    let line = line_of_letters(rt.alloc(), 99_987)?;
-    let wanted = written_letters(rt.alloc(), 99_987)?;
+fn writes_a_long_text(rt: HostRuntime) {
+    let line = line_of_letters(&rt, rt.alloc(), 99_987);
+    let wanted = written_letters(&rt, rt.alloc(), 99_987);
     expect_same(&rt, &line.len(), &100_000);
     expect_bytes(&rt, line.as_slice(), wanted.as_bytes());
-    Ok(())
 }
 
 /// The numbers from 1000 on, up to this one.
-fn thousands(alloc: Global, end: u32) -> Result<Seq<u32>, AllocError> {
+fn thousands(rt: &impl Abort, alloc: Global, end: u32) -> Seq<u32> {
     let mut numbers = Seq::empty(alloc);
     for number in 1_000..end {
-        numbers.push(number)?;
+        numbers.push(number).expect(rt, "memory");
     }
-    Ok(numbers)
-}
-
-/// The line of a reply of these numbers.
-fn line_of_thousands(alloc: Global, end: u32) -> Result<Vec<u8>, AllocError> {
-    let reply = Reply::Live(thousands(alloc, end)?);
-    write_reply(alloc, &Names::new(alloc), &reply)
+    numbers
 }
 
 /// The word with its brackets and line feed takes 12 bytes, and each of 9,000 numbers four and a comma but for the last.
 #[test]
-fn writes_many_numbers(rt: HostRuntime) -> Result<(), Fail> {
-    let line = line_of_thousands(rt.alloc(), 10_000)?;
+fn writes_many_numbers(rt: HostRuntime) {
+    let reply = Reply::Live(thousands(&rt, rt.alloc(), 10_000));
+    let line = line_of(&rt, rt.alloc(), reply);
     expect_same(&rt, &line.len(), &(12 + 9_000 * 5 - 1));
     expect_same(&rt, &line.starts_with(b"[\"live\",[1000,1001,1002,"), &true);
     expect_same(&rt, &line.ends_with(b",9998,9999]]\n"), &true);
-    Ok(())
 }

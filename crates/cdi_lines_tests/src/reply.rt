@@ -1,92 +1,52 @@
 //! Replies and places that were written by hand.
-use crate::checks::expect_same;
+use crate::checks::{expect_bytes, expect_same, text};
 use cdi_base::{
-    BuiltIn, Cause, InterceptorMethod, Name, Names, Place, Refusal, Reply, Seq, Text, Value,
-    is_name,
+    BuiltIn, Cause, InterceptorMethod, Names, Place, Refusal, Reply, Seq, Value, is_name,
 };
 use cdi_text::places::place_text;
 use cdi_text::write_reply;
-use std::alloc::{AllocError, Global};
+use std::alloc::Global;
 use std::process::Abort;
-use std::str;
-use std::test::Fail;
 
 /// The built-in names, a class, a member and an interceptor.
-fn table(rt: &impl Abort, alloc: Global) -> Result<Names, Fail> {
-    let mut names = Names::with_built_in(alloc)?;
-    add_names(rt, &mut names)?;
-    Ok(names)
+fn table(rt: &impl Abort, alloc: Global) -> Names {
+    let mut names = Names::with_built_in(alloc).expect(rt, "memory");
+    for text in ["K", "up", "Log_1.x$"] {
+        add_name(rt, &mut names, text);
+    }
+    names
 }
 
-fn add_names(rt: &impl Abort, names: &mut Names) -> Result<(), Fail> {
-    add_name(rt, names, "K")?;
-    add_name(rt, names, "up")?;
-    add_name(rt, names, "Log_1.x$")
-}
-
-fn add_name(rt: &impl Abort, names: &mut Names, text: &str) -> Result<(), Fail> {
+fn add_name(rt: &impl Abort, names: &mut Names, text: &str) {
     assert!(rt; is_name(text));
-    names.intern(text)?;
-    Ok(())
+    names.intern(text).expect(rt, "room for a name");
 }
 
 /// Checks that a reply is written as this line.
-fn check_reply(
-    rt: &impl Abort,
-    alloc: Global,
-    names: &Names,
-    reply: &Reply,
-    expected: &str,
-) -> Result<(), AllocError> {
-    let line = write_reply(alloc, names, reply)?;
-    expect_same(rt, &str::from_utf8(&line), &Ok(expected));
-    Ok(())
+fn check_reply(rt: &impl Abort, alloc: Global, names: &Names, reply: Reply, expected: &str) {
+    let line = write_reply(alloc, names, &reply).expect(rt, "memory");
+    expect_bytes(rt, line.as_slice(), expected.as_bytes());
 }
 
 /// Checks that a reply without names is written as this line.
-fn check_nameless(
-    rt: &impl Abort,
-    alloc: Global,
-    reply: &Reply,
-    expected: &str,
-) -> Result<(), AllocError> {
-    check_reply(rt, alloc, &Names::new(alloc), reply, expected)
-}
-
-/// Checks that a value is written as this line.
-fn check_value(
-    rt: &impl Abort,
-    alloc: Global,
-    value: Value,
-    expected: &str,
-) -> Result<(), AllocError> {
-    check_nameless(rt, alloc, &Reply::Value(value), expected)
+fn check_nameless(rt: &impl Abort, alloc: Global, reply: Reply, expected: &str) {
+    check_reply(rt, alloc, &Names::new(alloc), reply, expected);
 }
 
 /// Checks that a text is written as this line.
-fn check_text(
-    rt: &impl Abort,
-    alloc: Global,
-    text: &str,
-    expected: &str,
-) -> Result<(), AllocError> {
-    let text = Text::from_str(alloc, text)?;
-    check_value(rt, alloc, Value::Text(text), expected)
+fn check_text(rt: &impl Abort, alloc: Global, text_of: &str, expected: &str) {
+    let value = Value::Text(text(rt, alloc, text_of));
+    check_nameless(rt, alloc, Reply::Value(value), expected);
 }
 
 /// Checks that numbers of live instances are written as this line.
-fn check_live(
-    rt: &impl Abort,
-    alloc: Global,
-    numbers: &[u32],
-    expected: &str,
-) -> Result<(), AllocError> {
-    let live = Seq::new(Vec::from_slice(alloc, numbers)?);
-    check_nameless(rt, alloc, &Reply::Live(live), expected)
+fn check_live(rt: &impl Abort, alloc: Global, numbers: &[u32], expected: &str) {
+    let live = Vec::from_slice(alloc, numbers).expect(rt, "memory");
+    check_nameless(rt, alloc, Reply::Live(Seq::new(live)), expected);
 }
 
 #[test]
-fn writes_texts(rt: HostRuntime) -> Result<(), Fail> {
+fn writes_texts(rt: HostRuntime) {
     const ROWS: &[(&str, &str)] = &[
         ("", "[\"value\",\"\"]\n"),
         ("a b/c", "[\"value\",\"a b/c\"]\n"),
@@ -97,13 +57,12 @@ fn writes_texts(rt: HostRuntime) -> Result<(), Fail> {
         ("é中😀\u{7f}", "[\"value\",\"é中😀\u{7f}\"]\n"),
     ];
     for &(text, expected) in ROWS {
-        check_text(&rt, rt.alloc(), text, expected)?;
+        check_text(&rt, rt.alloc(), text, expected);
     }
-    Ok(())
 }
 
 #[test]
-fn writes_whole_numbers(rt: HostRuntime) -> Result<(), Fail> {
+fn writes_whole_numbers(rt: HostRuntime) {
     const ROWS: &[(i64, &str)] = &[
         (0, "[\"value\",0]\n"),
         (42, "[\"value\",42]\n"),
@@ -118,36 +77,24 @@ fn writes_whole_numbers(rt: HostRuntime) -> Result<(), Fail> {
         ),
     ];
     for &(number, expected) in ROWS {
-        check_value(&rt, rt.alloc(), Value::Int(number), expected)?;
+        let reply = Reply::Value(Value::Int(number));
+        check_nameless(&rt, rt.alloc(), reply, expected);
     }
-    Ok(())
 }
 
 #[test]
-fn writes_live_numbers(rt: HostRuntime) -> Result<(), Fail> {
+fn writes_live_numbers(rt: HostRuntime) {
     const ROWS: &[(&[u32], &str)] = &[
         (&[], "[\"live\",[]]\n"),
         (&[1], "[\"live\",[1]]\n"),
         (&[1, 20, 4_294_967_295], "[\"live\",[1,20,4294967295]]\n"),
     ];
     for &(numbers, expected) in ROWS {
-        check_live(&rt, rt.alloc(), numbers, expected)?;
+        check_live(&rt, rt.alloc(), numbers, expected);
     }
-    Ok(())
 }
 
-/// Checks that an exception is written as this line.
-fn check_exception(
-    rt: &impl Abort,
-    alloc: Global,
-    names: &Names,
-    class: Name,
-    expected: &str,
-) -> Result<(), AllocError> {
-    check_reply(rt, alloc, names, &Reply::Threw(class), expected)
-}
-
-fn check_exceptions(rt: &impl Abort, alloc: Global, names: &Names) -> Result<(), AllocError> {
+fn check_exceptions(rt: &impl Abort, alloc: Global, names: &Names) {
     const ROWS: &[(BuiltIn, &str)] = &[
         (
             BuiltIn::CreationException,
@@ -159,32 +106,35 @@ fn check_exceptions(rt: &impl Abort, alloc: Global, names: &Names) -> Result<(),
         ),
     ];
     for &(class, expected) in ROWS {
-        check_exception(rt, alloc, names, class.name(), expected)?;
+        check_reply(rt, alloc, names, Reply::Threw(class.name()), expected);
     }
-    let (in_table, in_none) = (names.name_for("Log_1.x$"), names.name_for("of no table"));
-    check_exception(rt, alloc, names, in_table, "[\"threw\",\"Log_1.x$\"]\n")?;
-    check_exception(rt, alloc, names, in_none, "[\"threw\",\"\"]\n")
+}
+
+fn check_exceptions_by_text(rt: &impl Abort, alloc: Global, names: &Names) {
+    const ROWS: &[(&str, &str)] = &[
+        ("Log_1.x$", "[\"threw\",\"Log_1.x$\"]\n"),
+        ("of no table", "[\"threw\",\"\"]\n"),
+    ];
+    for &(text, expected) in ROWS {
+        check_reply(
+            rt,
+            alloc,
+            names,
+            Reply::Threw(names.name_for(text)),
+            expected,
+        );
+    }
 }
 
 #[test]
-fn writes_exceptions(rt: HostRuntime) -> Result<(), Fail> {
-    let names = table(&rt, rt.alloc())?;
-    check_exceptions(&rt, rt.alloc(), &names)?;
-    Ok(())
-}
-
-/// Checks that a refusal is written as this line.
-fn check_refusal(
-    rt: &impl Abort,
-    alloc: Global,
-    refusal: Refusal,
-    expected: &str,
-) -> Result<(), AllocError> {
-    check_nameless(rt, alloc, &Reply::Refused(refusal), expected)
+fn writes_exceptions(rt: HostRuntime) {
+    let names = table(&rt, rt.alloc());
+    check_exceptions(&rt, rt.alloc(), &names);
+    check_exceptions_by_text(&rt, rt.alloc(), &names);
 }
 
 #[test]
-fn writes_refusals(rt: HostRuntime) -> Result<(), Fail> {
+fn writes_refusals(rt: HostRuntime) {
     const ROWS: &[(Refusal, &str)] = &[
         (Refusal::BadLine, "[\"refused\",\"BadLine\"]\n"),
         (Refusal::Halted, "[\"refused\",\"Halted\"]\n"),
@@ -207,30 +157,19 @@ fn writes_refusals(rt: HostRuntime) -> Result<(), Fail> {
         (Refusal::WrongCount, "[\"refused\",\"WrongCount\"]\n"),
     ];
     for &(refusal, expected) in ROWS {
-        check_refusal(&rt, rt.alloc(), refusal, expected)?;
+        check_nameless(&rt, rt.alloc(), Reply::Refused(refusal), expected);
     }
-    Ok(())
 }
 
 #[test]
-fn writes_null_and_done(rt: HostRuntime) -> Result<(), Fail> {
-    check_value(&rt, rt.alloc(), Value::Null, "[\"value\",null]\n")?;
-    check_nameless(&rt, rt.alloc(), &Reply::Done, "[\"done\"]\n")?;
-    Ok(())
-}
-
-/// Checks that a halt is written as this line.
-fn check_halt(
-    rt: &impl Abort,
-    alloc: Global,
-    cause: Cause,
-    expected: &str,
-) -> Result<(), AllocError> {
-    check_nameless(rt, alloc, &Reply::Halted(cause), expected)
+fn writes_null_and_done(rt: HostRuntime) {
+    let null = Reply::Value(Value::Null);
+    check_nameless(&rt, rt.alloc(), null, "[\"value\",null]\n");
+    check_nameless(&rt, rt.alloc(), Reply::Done, "[\"done\"]\n");
 }
 
 #[test]
-fn writes_halts(rt: HostRuntime) -> Result<(), Fail> {
+fn writes_halts(rt: HostRuntime) {
     const ROWS: &[(Cause, &str)] = &[
         (Cause::Ticks, "[\"halted\",\"ticks\"]\n"),
         (Cause::Depth, "[\"halted\",\"depth\"]\n"),
@@ -238,9 +177,8 @@ fn writes_halts(rt: HostRuntime) -> Result<(), Fail> {
         (Cause::Memory, "[\"halted\",\"memory\"]\n"),
     ];
     for &(cause, expected) in ROWS {
-        check_halt(&rt, rt.alloc(), cause, expected)?;
+        check_nameless(&rt, rt.alloc(), Reply::Halted(cause), expected);
     }
-    Ok(())
 }
 
 /// A method of the interceptor of the table.
@@ -279,28 +217,15 @@ fn places(names: &Names) -> [(Place, &'static str); 7] {
 }
 
 /// Checks that a place is written as this text.
-fn check_place(
-    rt: &impl Abort,
-    alloc: Global,
-    names: &Names,
-    place: Place,
-    expected: &str,
-) -> Result<(), AllocError> {
-    let text = place_text(alloc, names, place)?;
+fn check_place(rt: &impl Abort, alloc: Global, names: &Names, place: Place, expected: &str) {
+    let text = place_text(alloc, names, place).expect(rt, "memory");
     expect_same(rt, &text.as_str(), &expected);
-    Ok(())
-}
-
-fn check_places(rt: &impl Abort, alloc: Global, names: &Names) -> Result<(), AllocError> {
-    for (place, expected) in places(names) {
-        check_place(rt, alloc, names, place, expected)?;
-    }
-    Ok(())
 }
 
 #[test]
-fn writes_places(rt: HostRuntime) -> Result<(), Fail> {
-    let names = table(&rt, rt.alloc())?;
-    check_places(&rt, rt.alloc(), &names)?;
-    Ok(())
+fn writes_places(rt: HostRuntime) {
+    let names = table(&rt, rt.alloc());
+    for (place, expected) in places(&names) {
+        check_place(&rt, rt.alloc(), &names, place, expected);
+    }
 }

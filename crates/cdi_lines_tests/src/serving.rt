@@ -1,12 +1,11 @@
 use crate::checks::{expect_bytes, expect_same};
-use crate::test_ends::{Lengths, Mirror, Room, Steps, Stuck};
+use crate::test_ends::{Lengths, Mirror, Room, Steps, Stuck, buffered};
 use cdi_lines::serving::serve_up_to;
 use cdi_lines::{Input, Output, ServeFault, serve_lines};
 use std::alloc::Global;
 use std::io;
-use std::io::{BufWriter, Read};
+use std::io::{Read, Write};
 use std::process::Abort;
-use std::test::Fail;
 
 /// Bytes, and what is written for them behind the greeting, which is `hi`.
 const CASES: &[(&[u8], &[u8])] = &[
@@ -28,22 +27,49 @@ fn check_end<R, W>(
     ended: Result<(), ServeFault>,
     wanted: Result<(), ServeFault>,
 ) {
-    expect_same(rt, &ended, &wanted);
-    expect_same(rt, &input.has_failed(), &(wanted == Err(ServeFault::Read)));
-    expect_same(
-        rt,
-        &output.has_failed(),
-        &(wanted == Err(ServeFault::Write)),
+    let (by_input, by_output) = (
+        wanted == Err(ServeFault::Read),
+        wanted == Err(ServeFault::Write),
     );
+    let found = (ended, input.has_failed(), output.has_failed());
+    expect_same(rt, &found, &(wanted, by_input, by_output));
+}
+
+/// Serves an input behind a greeting, giving so many lines back reversed, and checks how that ends.
+fn check_served<R: Read, W: Write>(
+    rt: &impl Abort,
+    alloc: Global,
+    greeting: &[u8],
+    input: &mut Input<R>,
+    output: &mut Output<W>,
+    lines: u32,
+    wanted: Result<(), ServeFault>,
+) {
+    let mut mirror = Mirror { left: lines };
+    let ended = serve_lines(alloc, greeting, input, output, &mut mirror);
+    check_end(rt, input, output, ended, wanted);
+}
+
+/// Serves what a reader gives, of few lines, checks how that ends, and gives the writer back.
+fn serve<R: Read + Drop, W: Write>(
+    rt: &impl Abort,
+    alloc: Global,
+    greeting: &[u8],
+    reader: R,
+    writer: W,
+    wanted: Result<(), ServeFault>,
+) -> W {
+    let mut input = Input::new(reader);
+    let mut output = Output::new(writer);
+    check_served(rt, alloc, greeting, &mut input, &mut output, 9, wanted);
+    output.into_inner()
 }
 
 /// Serves bytes that come at once, to the end, and checks what is written.
 fn check_whole(rt: &impl Abort, alloc: Global, bytes: &[u8], written: &[u8]) {
     let mut input = Input::new(bytes);
     let mut output = Output::new(Vec::new(alloc));
-    let mut mirror = Mirror { left: 9 };
-    let result = serve_lines(alloc, b"hi\n", &mut input, &mut output, &mut mirror);
-    check_end(rt, &input, &output, result, Ok(()));
+    check_served(rt, alloc, b"hi\n", &mut input, &mut output, 9, Ok(()));
     expect_same(rt, &input.into_inner().len(), &0);
     expect_bytes(rt, output.into_inner().as_slice(), written);
 }
@@ -64,12 +90,8 @@ fn check_steps(
     wanted: Result<(), ServeFault>,
     written: &[u8],
 ) {
-    let mut input = Input::new(steps);
-    let mut output = Output::new(room);
-    let mut mirror = Mirror { left: 9 };
-    let result = serve_lines(alloc, b"hi\n", &mut input, &mut output, &mut mirror);
-    check_end(rt, &input, &output, result, wanted);
-    expect_bytes(rt, output.into_inner().taken.as_slice(), written);
+    let room = serve(rt, alloc, b"hi\n", steps, room, wanted);
+    expect_bytes(rt, room.taken.as_slice(), written);
 }
 
 #[test]
@@ -89,8 +111,7 @@ fn check_count(rt: &impl Abort, alloc: Global, bytes: &[u8], lines: u32) {
     let (mut input, mut output) = (Input::new(bytes), Output::new(Vec::new(alloc)));
     let mut mirror = Mirror { left: lines };
     let result = serve_lines(alloc, b"", &mut input, &mut output, &mut mirror);
-    expect_same(rt, &result, &Ok(()));
-    expect_same(rt, &mirror.left, &0);
+    expect_same(rt, &(result, mirror.left), &(Ok(()), 0));
 }
 
 #[test]
@@ -145,21 +166,24 @@ fn stops_where_the_writer_does(rt: HostRuntime) {
 
 #[test]
 fn stops_where_a_flush_fails(rt: HostRuntime) {
-    let mut input = Input::new(b"ab\n".as_slice());
-    let mut output = Output::new(Stuck::new(rt.alloc()));
-    let mut mirror = Mirror { left: 9 };
-    let result = serve_lines(rt.alloc(), b"hi\n", &mut input, &mut output, &mut mirror);
-    check_end(&rt, &input, &output, result, Err(ServeFault::Write));
-    expect_bytes(&rt, output.into_inner().taken.as_slice(), b"hi\n");
+    let (bytes, stuck) = (b"ab\n".as_slice(), Stuck::new(rt.alloc()));
+    let stuck = serve(
+        &rt,
+        rt.alloc(),
+        b"hi\n",
+        bytes,
+        stuck,
+        Err(ServeFault::Write),
+    );
+    expect_bytes(&rt, stuck.taken.as_slice(), b"hi\n");
 }
 
 #[test]
 fn stops_where_memory_does(rt: HostRuntime) {
     let mut input = Input::new(b"ab\ncd\ne".as_slice());
     let mut output = Output::new(Vec::new(rt.alloc()));
-    let mut mirror = Mirror { left: 1 };
-    let result = serve_lines(rt.alloc(), b"", &mut input, &mut output, &mut mirror);
-    check_end(&rt, &input, &output, result, Err(ServeFault::Memory));
+    let memory = Err(ServeFault::Memory);
+    check_served(&rt, rt.alloc(), b"", &mut input, &mut output, 1, memory);
     expect_bytes(&rt, output.into_inner().as_slice(), b"ba\n");
 }
 
@@ -207,8 +231,7 @@ fn check_length(
     let mut output = Output::new(Vec::new(alloc));
     let mut lengths = Lengths { last: 0 };
     let result = serve_lines(alloc, b"", &mut input, &mut output, &mut lengths);
-    expect_same(rt, &result, &wanted);
-    expect_same(rt, &lengths.last, &last);
+    expect_same(rt, &(result, lengths.last), &(wanted, last));
 }
 
 #[test]
@@ -226,19 +249,15 @@ fn check_passed_on(
     fails: bool,
     wanted: Result<(), ServeFault>,
     passed_on: &[u8],
-) -> Result<(), Fail> {
+) {
     let (bytes, step) = (b"ab\nc".as_slice(), 4);
-    let mut output = Output::new(BufWriter::new(alloc, Vec::new(alloc))?);
-    let mut input = Input::new(Steps { bytes, step, fails });
-    let mut mirror = Mirror { left: 9 };
-    let result = serve_lines(alloc, b"", &mut input, &mut output, &mut mirror);
-    check_end(rt, &input, &output, result, wanted);
-    expect_bytes(rt, output.into_inner().get_ref().as_slice(), passed_on);
-    Ok(())
+    let steps = Steps { bytes, step, fails };
+    let writer = serve(rt, alloc, b"", steps, buffered(rt, alloc), wanted);
+    expect_bytes(rt, writer.get_ref().as_slice(), passed_on);
 }
 
 #[test]
-fn passes_replies_on_before_it_reads(rt: HostRuntime) -> Result<(), Fail> {
-    check_passed_on(&rt, rt.alloc(), true, Err(ServeFault::Read), b"ba\n")?;
-    check_passed_on(&rt, rt.alloc(), false, Ok(()), b"ba\nc\n")
+fn passes_replies_on_before_it_reads(rt: HostRuntime) {
+    check_passed_on(&rt, rt.alloc(), true, Err(ServeFault::Read), b"ba\n");
+    check_passed_on(&rt, rt.alloc(), false, Ok(()), b"ba\nc\n");
 }

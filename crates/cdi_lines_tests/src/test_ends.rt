@@ -2,7 +2,8 @@
 use cdi_lines::{Responder, Sink, WriteFailed};
 use std::alloc::{AllocError, Global};
 use std::io;
-use std::io::{ErrorKind, Read, Write};
+use std::io::{BufWriter, ErrorKind, Read, Write};
+use std::process::Abort;
 
 /// Gives its bytes in steps, and then its end or a failure.
 #[derive(Drop)]
@@ -59,6 +60,11 @@ impl Write for Room {
     fn flush(&mut self) -> io::Result<()> {
         Ok(())
     }
+}
+
+/// A writer that holds bytes back until it is flushed.
+pub(crate) fn buffered(rt: &impl Abort, alloc: Global) -> BufWriter<Vec<u8>> {
+    BufWriter::new(alloc, Vec::new(alloc)).expect(rt, "memory")
 }
 
 /// Takes all, and can't pass it on.
@@ -121,7 +127,8 @@ impl Responder for Mirror {
         if self.left == 0 {
             return Err(AllocError);
         }
-        let mut reply: Vec<u8> = line.iter().rev().copied().collect(alloc)?;
+        let mut reply = Vec::from_slice(alloc, line)?;
+        reply.reverse();
         reply.push(b'\n')?;
         self.left -= 1;
         Ok(reply)

@@ -1,164 +1,134 @@
 //! Tests of reading every command, at the stage that serves it and before.
-use cdi_base::{Command, ReadError, Seq, Stage, Text, Value, WHOLE, WrittenMember, WrittenUse};
-use cdi_text::{BadLine, read_command_at};
-use std::alloc::{AllocError, Global};
+use crate::checks::{command_in, expect_command, text};
+use cdi_base::{Command, Seq, Stage, Value, WHOLE, WrittenMember, WrittenUse};
+use cdi_text::read_command_at;
+use std::alloc::Global;
 use std::process::Abort;
-use std::test::Fail;
 
 /// What a line is at a stage: nothing if it is no command there.
-fn command_at(alloc: Global, stage: Stage, line: &str) -> Result<Option<Command>, AllocError> {
-    match read_command_at(alloc, stage, line.as_bytes()) {
-        Ok(command) => Ok(Some(command)),
-        Err(ReadError::Fault(BadLine)) => Ok(None),
-        Err(ReadError::Memory) => Err(AllocError),
+fn command_at(rt: &impl Abort, alloc: Global, stage: Stage, line: &str) -> Option<Command> {
+    command_in(rt, read_command_at(alloc, stage, line.as_bytes()))
+}
+
+/// Checks what a line is at the stage of the whole form: nothing if it is no command, whatever is served.
+fn check_whole(rt: &impl Abort, alloc: Global, line: &str, wanted: Option<Command>) {
+    let read = command_at(rt, alloc, WHOLE, line);
+    expect_command(rt, line, read, wanted);
+}
+
+/// Checks which command a line is at the stage of the whole form.
+fn check_read(rt: &impl Abort, alloc: Global, line: &str, wanted: Command) {
+    check_whole(rt, alloc, line, Some(wanted));
+}
+
+/// Checks whether a line is a command at a stage.
+fn check_served(rt: &impl Abort, alloc: Global, line: &str, stage: Stage, wanted: bool) {
+    let is_served = command_at(rt, alloc, stage, line).is_some();
+    assert!(rt; is_served == wanted, "{line} is served: {is_served}");
+}
+
+/// A member of a use.
+fn member(rt: &impl Abort, alloc: Global, name: &str, value: Value) -> WrittenMember {
+    WrittenMember {
+        name: text(rt, alloc, name),
+        value,
     }
 }
 
-/// Checks what a line is at the stage of the whole form.
-fn check_read(
-    rt: &impl Abort,
-    alloc: Global,
-    line: &str,
-    wanted: &Command,
-) -> Result<(), AllocError> {
-    let read = command_at(alloc, WHOLE, line)?;
-    assert!(rt; read.as_ref() == Some(wanted), "{line} is {read:?}");
-    Ok(())
-}
-
-/// Checks that a line is no command, whatever is served.
-fn check_no_command(rt: &impl Abort, alloc: Global, line: &str) -> Result<(), AllocError> {
-    let read = command_at(alloc, WHOLE, line)?;
-    assert!(rt; read.is_none(), "{line} is {read:?}");
-    Ok(())
-}
-
-/// Checks that a line is a command at a stage, and none at the stage before.
-fn check_since(
-    rt: &impl Abort,
-    alloc: Global,
-    line: &str,
-    before: Stage,
-    since: Stage,
-) -> Result<(), AllocError> {
-    let refused = command_at(alloc, before, line)?;
-    assert!(rt; refused.is_none(), "{line} is served too early");
-    let read = command_at(alloc, since, line)?;
-    assert!(rt; read.is_some(), "{line} isn't served");
-    Ok(())
-}
-
-fn text(alloc: Global, text: &str) -> Result<Text, AllocError> {
-    Text::from_str(alloc, text)
+/// A use of `Q`.
+fn use_of(rt: &impl Abort, alloc: Global, members: Seq<WrittenMember>) -> WrittenUse {
+    WrittenUse {
+        name: text(rt, alloc, "Q"),
+        members,
+    }
 }
 
 /// The uses `Q`, and `Q` with 1 as its member `v` and null as its member `w`.
-fn two_uses(alloc: Global) -> Result<Seq<WrittenUse>, AllocError> {
-    let members = vec![in alloc;
-        WrittenMember {
-            name: text(alloc, "v")?,
-            value: Value::Int(1)
-        },
-        WrittenMember {
-            name: text(alloc, "w")?,
-            value: Value::Null
-        },
-    ]?;
-    let bare = WrittenUse {
-        name: text(alloc, "Q")?,
-        members: Seq::empty(alloc),
-    };
-    let full = WrittenUse {
-        name: text(alloc, "Q")?,
-        members: Seq::new(members),
-    };
-    Ok(Seq::new(vec![in alloc; bare, full]?))
+fn two_uses(rt: &impl Abort, alloc: Global) -> Seq<WrittenUse> {
+    let bare = use_of(rt, alloc, Seq::empty(alloc));
+    let first = member(rt, alloc, "v", Value::Int(1));
+    let second = member(rt, alloc, "w", Value::Null);
+    let members = Vec::from_array(alloc, [first, second]).expect(rt, "memory");
+    let full = use_of(rt, alloc, Seq::new(members));
+    Seq::new(Vec::from_array(alloc, [bare, full]).expect(rt, "memory"))
 }
 
 #[test]
-fn reads_a_begin(rt: HostRuntime) -> Result<(), Fail> {
+fn reads_a_begin(rt: HostRuntime) {
     let wanted = Command::Begin {
-        request: text(rt.alloc(), "r.1")?,
+        request: text(&rt, rt.alloc(), "r.1"),
         session: None,
     };
-    check_read(&rt, rt.alloc(), r#" ["begin", "r.1"] "#, &wanted)?;
-    Ok(())
+    check_read(&rt, rt.alloc(), r#" ["begin", "r.1"] "#, wanted);
 }
 
 #[test]
-fn reads_a_begin_in_a_session(rt: HostRuntime) -> Result<(), Fail> {
+fn reads_a_begin_in_a_session(rt: HostRuntime) {
     let wanted = Command::Begin {
-        request: text(rt.alloc(), "r")?,
-        session: Some(text(rt.alloc(), "S")?),
+        request: text(&rt, rt.alloc(), "r"),
+        session: Some(text(&rt, rt.alloc(), "S")),
     };
-    check_read(&rt, rt.alloc(), r#"["begin","r","S"]"#, &wanted)?;
-    Ok(())
+    check_read(&rt, rt.alloc(), r#"["begin","r","S"]"#, wanted);
 }
 
 #[test]
-fn reads_a_call_with_qualifiers(rt: HostRuntime) -> Result<(), Fail> {
+fn reads_a_call_with_qualifiers(rt: HostRuntime) {
     let wanted = Command::Call {
-        request: Some(text(rt.alloc(), "r")?),
-        bean_type: text(rt.alloc(), "K")?,
-        qualifiers: two_uses(rt.alloc())?,
-        method: text(rt.alloc(), "up")?,
+        request: Some(text(&rt, rt.alloc(), "r")),
+        bean_type: text(&rt, rt.alloc(), "K"),
+        qualifiers: two_uses(&rt, rt.alloc()),
+        method: text(&rt, rt.alloc(), "up"),
         args: Seq::empty(rt.alloc()),
     };
     let line = r#"["call","r","K",["Q",["Q",{"w":null,"v":1}]],"up",[]]"#;
-    check_read(&rt, rt.alloc(), line, &wanted)?;
-    Ok(())
+    check_read(&rt, rt.alloc(), line, wanted);
 }
 
 #[test]
-fn reads_a_read(rt: HostRuntime) -> Result<(), Fail> {
+fn reads_a_read(rt: HostRuntime) {
     let wanted = Command::Read {
         request: None,
-        bean_type: text(rt.alloc(), "T")?,
-        qualifiers: two_uses(rt.alloc())?,
+        bean_type: text(&rt, rt.alloc(), "T"),
+        qualifiers: two_uses(&rt, rt.alloc()),
     };
     let line = r#"["read",null,"T",["Q",["Q",{"v":1,"w":null}]]]"#;
-    check_read(&rt, rt.alloc(), line, &wanted)?;
-    Ok(())
+    check_read(&rt, rt.alloc(), line, wanted);
 }
 
 #[test]
-fn reads_a_fire(rt: HostRuntime) -> Result<(), Fail> {
+fn reads_a_fire(rt: HostRuntime) {
     let wanted = Command::Fire {
         request: None,
-        class: text(rt.alloc(), "E")?,
+        class: text(&rt, rt.alloc(), "E"),
         qualifiers: Seq::empty(rt.alloc()),
-        value: Value::Text(text(rt.alloc(), "a b")?),
+        value: Value::Text(text(&rt, rt.alloc(), "a b")),
     };
-    check_read(&rt, rt.alloc(), r#"["fire",null,"E",[],"a b"]"#, &wanted)?;
-    Ok(())
+    check_read(&rt, rt.alloc(), r#"["fire",null,"E",[],"a b"]"#, wanted);
 }
 
 #[test]
-fn reads_an_end(rt: HostRuntime) -> Result<(), Fail> {
+fn reads_an_end(rt: HostRuntime) {
     let wanted = Command::End {
-        request: text(rt.alloc(), "r")?,
+        request: text(&rt, rt.alloc(), "r"),
     };
-    check_read(&rt, rt.alloc(), r#"["end","r"]"#, &wanted)?;
-    Ok(())
+    check_read(&rt, rt.alloc(), r#"["end","r"]"#, wanted);
 }
 
 #[test]
-fn reads_an_invalidate(rt: HostRuntime) -> Result<(), Fail> {
+fn reads_an_invalidate(rt: HostRuntime) {
     let wanted = Command::Invalidate {
-        session: text(rt.alloc(), "S")?,
+        session: text(&rt, rt.alloc(), "S"),
     };
-    check_read(&rt, rt.alloc(), r#"["invalidate","S"]"#, &wanted)?;
-    Ok(())
+    check_read(&rt, rt.alloc(), r#"["invalidate","S"]"#, wanted);
 }
 
 #[test]
-fn reads_a_live(rt: HostRuntime) -> Result<(), Fail> {
-    check_read(&rt, rt.alloc(), r#"["live"]"#, &Command::Live)?;
-    Ok(())
+fn reads_a_live(rt: HostRuntime) {
+    check_read(&rt, rt.alloc(), r#"["live"]"#, Command::Live);
 }
 
 #[test]
-fn refuses_parts_of_another_form(rt: HostRuntime) -> Result<(), Fail> {
+fn refuses_parts_of_another_form(rt: HostRuntime) {
     const LINES: &[&str] = &[
         r#"["begin"]"#,
         r#"["begin",null]"#,
@@ -188,13 +158,18 @@ fn refuses_parts_of_another_form(rt: HostRuntime) -> Result<(), Fail> {
         r#"["destroy","r"]"#,
     ];
     for line in LINES {
-        check_no_command(&rt, rt.alloc(), line)?;
+        check_whole(&rt, rt.alloc(), line, None);
     }
-    Ok(())
+}
+
+/// Checks that a line with these qualifiers is no command.
+fn check_no_uses(rt: &impl Abort, alloc: Global, qualifiers: &str) {
+    let line = format!(in alloc; "[\"read\",null,\"T\",{qualifiers}]");
+    check_whole(rt, alloc, line.expect(rt, "memory").as_str(), None);
 }
 
 #[test]
-fn refuses_uses_of_another_form(rt: HostRuntime) -> Result<(), Fail> {
+fn refuses_uses_of_another_form(rt: HostRuntime) {
     const QUALIFIERS: &[&str] = &[
         "null",
         "{}",
@@ -218,14 +193,12 @@ fn refuses_uses_of_another_form(rt: HostRuntime) -> Result<(), Fail> {
         "[\"Q\",[\"Q \",{}]]",
     ];
     for qualifiers in QUALIFIERS {
-        let line = format!(in rt.alloc(); "[\"read\",null,\"T\",{qualifiers}]")?;
-        check_no_command(&rt, rt.alloc(), line.as_str())?;
+        check_no_uses(&rt, rt.alloc(), qualifiers);
     }
-    Ok(())
 }
 
 #[test]
-fn serves_each_command_since_its_stage(rt: HostRuntime) -> Result<(), Fail> {
+fn serves_each_command_since_its_stage(rt: HostRuntime) {
     const ROWS: &[(&str, Stage, Stage)] = &[
         (
             r#"["call",null,"K",["Q"],"up",[]]"#,
@@ -253,7 +226,7 @@ fn serves_each_command_since_its_stage(rt: HostRuntime) -> Result<(), Fail> {
         ),
     ];
     for &(line, before, since) in ROWS {
-        check_since(&rt, rt.alloc(), line, before, since)?;
+        check_served(&rt, rt.alloc(), line, before, false);
+        check_served(&rt, rt.alloc(), line, since, true);
     }
-    Ok(())
 }
