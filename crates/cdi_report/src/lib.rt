@@ -2,8 +2,8 @@
 #![tactic(auto)]
 
 pub mod problem_lines;
-pub mod report;
+pub mod reporting;
 pub mod verdict;
 
-pub use report::report;
+pub use reporting::report;
 pub use verdict::Verdict;

@@ -24,14 +24,15 @@ use Rattle.cdi_shell.specs.declared.ending.Ending.TheVariants as endings
 use Rattle.cdi_lines.specs.declared.fault.ServeFault.{ServeFault}
 use Rattle.cdi_lines.specs.declared.fault.ServeFault.TheVariants as faults
 use Rattle.cdi_lines.specs.declared.sink.WriteFailed.{WriteFailed}
-use Rattle.cdi_shell.specs.declared.scripts.NamedScript.{NamedScript}
-use Rattle.cdi_shell.specs.Drive.{Readied, Streams, Writes, Refuses, Lives, Plays, DrivesReadied, Drives, legal_by, readied}
+use Rattle.cdi_prepare.specs.declared.scripts.NamedScript.{NamedScript}
+use Rattle.cdi_prepare.specs.Ready.{Readied}
+use Rattle.cdi_prepare.specs.Scripts.{registered}
+use Rattle.cdi_shell.specs.Drive.{Streams, Writes, Refuses, Lives, Plays, DrivesReadied, Drives, legal_by, readied}
 use Rattle.cdi_lines.specs.Ends.{WritesAll}
 use Rattle.cdi_shell.specs.Endings.{after_serving, after_refusal}
 use Rattle.cdi_shell.specs.Laws.{IsSettled, SameOutput, OneOutput}
 use Rattle.cdi_lines.specs.Lines.{complete_lines, all_lines}
 use Rattle.cdi_text.specs.ReplyText.{reply_line}
-use Rattle.cdi_shell.specs.Scripts.{registered}
 use Rattle.cdi_lines.specs.Served.{Replies, Serves}
 use Rattle.cdi_shell.proofs.Determined.{IsFed, answers_one, replies_one, replies_halted}
 

@@ -11,8 +11,8 @@ use Rattle.cdi_script.proofs.Within.{lies}
 use Rattle.cdi_prepare.specs.declared.scripts.NamedScript.{NamedScript}
 use Rattle.cdi_prepare.specs.Scripts.{added, place_under, registered}
 use Rattle.cdi_prepare.proofs.Holding.{holds_add, same_length, same_place, add_known, add_new, holds_all, not_full, same_shape}
-use Rattle.cdi_report.proofs.report.findings_in.OwnLists.{own-1, at-1-1}
-use Rattle.cdi_report.proofs.report.findings_in.Goals as goal
+use Rattle.cdi_report.proofs.reporting.findings_in.OwnLists.{own-1, at-1-1}
+use Rattle.cdi_report.proofs.reporting.findings_in.Goals as goal
 
 pub loop-named-preserved-then-is_some : goal.loop-named-preserved-then-is_some
 loop-named-preserved-then-is_some c =
