@@ -22,6 +22,10 @@ found_none [] = refl
 found_none (a ∷ []) = refl
 found_none (a ∷ b ∷ bs) = many bs
 
+-- once there are many, those ahead change nothing
+pub many_already : (found : Resolution) (ahead all : List (ℕ × Bean)) → found ≡ Many → fold with_found found ahead ≡ fold with_found Nothing all → Many ≡ sole all
+many_already found ahead all is so_far = sym (many ahead) ∙ ap (λ f. fold with_found f ahead) (sym is) ∙ so_far ∙ found_none all
+
 -- the greatest priority with that of one bean more
 abbrev pub with_priority : Option ℤ → ℕ × Bean → Option ℤ
 with_priority found b = greater found b.1.priority

@@ -63,12 +63,12 @@ pub(crate) fn passes(bean: &Bean, wanted: &Wanted<'_>, left: Left) -> bool
 {
     match left {
         Left::Eligible => fits(bean, wanted),
-        Left::Alternatives => fits(bean, wanted) && bean.alternative,
+        Left::Alternatives => bean.alternative && fits(bean, wanted),
         Left::WithoutPriority => {
-            fits(bean, wanted) && bean.alternative && bean.priority.is_none()
+            bean.alternative && bean.priority.is_none() && fits(bean, wanted)
         }
         Left::WithPriority(priority) => {
-            fits(bean, wanted) && bean.alternative && has_priority(bean, priority)
+            bean.alternative && has_priority(bean, priority) && fits(bean, wanted)
         }
     }
 }

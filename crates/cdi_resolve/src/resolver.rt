@@ -16,7 +16,8 @@ use std::alloc::Global;
 use std::marker::Model;
 
 /// Typesafe resolution among the enabled ones of a list of beans (Jakarta CDI 4.0, *Typesafe resolution*). Contracts see the
-/// beans and the flags that tell which of them are enabled. A question goes through all beans, at most four times.
+/// beans and the flags that tell which of them are enabled. A question goes through the beans at most five times, and after the first
+/// time it looks at alternatives alone.
 #[derive(Drop)]
 pub struct Resolver {
     beans: Seq<Bean>,
@@ -62,6 +63,9 @@ fn sole(beans: &[Bean], enabled: &[bool], wanted: &Wanted<'_>, left: Left) -> Re
 {
     let mut found = Resolution::Nothing;
     for (index, bean) in beans.iter().enumerate() {
+        if matches!(found, Resolution::Many) {
+            return Resolution::Many;
+        }
         if is_wanted(enabled, index, bean, wanted, left) {
             found = found.with(index);
         }

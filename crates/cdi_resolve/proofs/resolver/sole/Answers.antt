@@ -1,9 +1,20 @@
-use Rattle.std.proofs.Common.{◌≡◌, ◌∙◌, ℕ, Bool, sym}
+use Rattle.std.proofs.Common.{◌≡◌, ◌∙◌, ℕ, Bool, drop, filter, true≢false, sym}
+use Rattle.std.specs.List.{enumerate_from}
 use Rattle.cdi_beanlist.specs.declared.bean.Bean.{Bean}
 use Rattle.cdi_resolve.specs.Filters.{required_of, is_wanted, those_left}
-use Rattle.cdi_resolve.proofs.Counting.{with_found, counted, passed_over, at_end, found_none}
+use Rattle.cdi_resolve.proofs.Counting.{with_found, counted, passed_over, at_end, found_none, many_already}
 use Rattle.cdi_resolve.proofs.resolver.sole.Goals as goal
-use Rattle.cdi_resolve.proofs.resolver.sole.Goals.{then-is_wanted, else-is_wanted}
+use Rattle.cdi_resolve.proofs.resolver.sole.Goals.{in-Many, in_default, then-is_wanted, else-is_wanted}
+
+pub returns-then-matches : goal.returns-then-matches
+returns-then-matches c =
+    let i = c.loop-index.index in
+    let beans = c.args.beans.now in
+    let wanted : ℕ × Bean → Bool = is_wanted c.args.wanted.now.ty (required_of c.args.wanted.now.required) c.args.left c.args.enabled.now in
+    elim c.match-matches.branch [
+      | in-Many w ↦ many_already c.loop-index.found (filter wanted (enumerate_from i (drop i beans))) (filter wanted (enumerate_from 0 beans)) w.in-Many.is c.loop-index.invariant
+      | in_default w ↦ absurd (true≢false (sym c.if-matches.true ∙ w.matches-is))
+    ]
 
 pub loop-index-preserved : goal.loop-index-preserved
 loop-index-preserved c =
