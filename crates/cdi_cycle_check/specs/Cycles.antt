@@ -56,9 +56,16 @@ pub record AreNeedy (s : Setting) (flags : NeedyFlags) : Type 0 where
   pub beans : (i : ℕ) → IsTrue (flag flags.beans i) ↔ BeanNeedsItself s i
   pub interceptors : (k : ℕ) → IsTrue (flag flags.interceptors k) ↔ InterceptorNeedsItself s k
 
+-- the product of a class's producer has a flag
+abbrev pub is_needy_product : NeedyFlags → ℕ → ℕ → ℕ × Bean → Bool
+is_needy_product flags class name b = is_product_of class name b && flag flags.beans b.0
+
+abbrev pub has_needy_product : NeedyFlags → List (ℕ × Bean) → ℕ → ℕ → Bool
+has_needy_product flags beans class name = list_any (is_needy_product flags class name) beans
+
 -- the same by flags
 abbrev pub HasFlaggedCycle : Enabled → NeedyFlags → Element → Type 0
 HasFlaggedCycle e flags (Element.AClass i c) = IsTrue (list_any (λ b. is_bean_of c.name b && flag flags.beans b.0) e.beans)
-HasFlaggedCycle e flags (Element.AMember i c m) = IsTrue (list_any (λ b. is_product_of c.name (member_name m) b && flag flags.beans b.0) e.beans)
+HasFlaggedCycle e flags (Element.AMember i c m) = IsTrue (has_needy_product flags e.beans c.name (member_name m))
 HasFlaggedCycle e flags (Element.AnInterceptor i j) = IsTrue (list_any (λ k. (k.1.name == j.name) && flag flags.interceptors k.0) (enumerate_from 0 e.interceptors))
 HasFlaggedCycle e flags _ = ⊥

@@ -1,9 +1,11 @@
 //! Where dependent beans and interceptors need themselves.
-ghost use Rattle.std.specs.Prelude.{◌≡◌, ◌&&◌, ◌==◌, IfOk};
+ghost use Rattle.std.specs.Prelude.{◌≡◌, ◌&&◌, ◌||◌, ◌==◌, ℕ, IfOk, OnOk};
+ghost use Rattle.std.specs.HashSet.{contains};
 ghost use Rattle.std.specs.List.{enumerate_from, list_any};
 ghost use Rattle.cdi_cycle_check.specs.Cycles as spec;
 ghost use Rattle.cdi_cycle_check.specs.Settings.{setting_of};
 ghost use Rattle.cdi_live.specs.Live.{is_bean_of};
+ghost use Rattle.cdi_name_check.specs.NameSets.{HasPairs, same_pair};
 ghost use Rattle.cdi_problems.specs.Elements.{shown};
 ghost use Rattle.cdi_problems.specs.Findings.{ArePlacesOf};
 
@@ -16,22 +18,16 @@ use cdi_live::{EnabledBean, LiveTables};
 use cdi_members::member_name;
 use cdi_problems::{Element, Rule, places_where};
 use std::alloc::{AllocError, Global};
+use std::collections::HashSet;
 
 /// An enabled dependent bean or interceptor needs itself. It stands at the class, the producer or the interceptor.
 #[derive(Clone, Copy)]
 struct FlaggedCycle<'a> {
     live: &'a LiveTables<'a>,
     flags: &'a NeedyFlags,
-}
-
-/// Whether a bean is the product of a class's producer.
-fn is_product_of(bean: &EnabledBean<'_>, class: Name, name: Name) -> bool
-    ensures { result ≡ spec.is_product_of class name bean.now }
-{
-    match product_name(bean.bean().kind) {
-        Some(own) => own == name && bean.bean().class == class,
-        None => false,
-    }
+    /// The producers whose products need themselves, by their classes and their names, so that a member's question takes constant time.
+    products: &'a HashSet<(Name, Name)>,
+    ghost products_are: { HasPairs (spec.has_needy_product flags.now live.now.beans) products.now },
 }
 
 /// What a list of flags says of an index.
@@ -51,12 +47,39 @@ fn is_needy_bean(flags: &NeedyFlags, class: Name, bean: &EnabledBean<'_>) -> boo
     bean.is_of(class) && has_flag(flags.beans.as_slice(), bean.index())
 }
 
-/// Whether a bean is the product of a class's producer, and needs itself.
-fn is_needy_product(flags: &NeedyFlags, class: Name, name: Name, bean: &EnabledBean<'_>) -> bool
-    ensures { result
-        ≡ (spec.is_product_of class name bean.now && spec.flag flags.now.beans bean.now.0) }
+/// Adds the producer of a bean, if the bean is a product and needs itself.
+fn add_needy_product(
+    flags: &NeedyFlags,
+    bean: &EnabledBean<'_>,
+    set: &mut HashSet<(Name, Name)>,
+) -> Result<(), AllocError>
+    ensures { OnOk result ((class name : ℕ) → contains same_pair set.new (class, name)
+        ≡ (contains same_pair set.old (class, name)
+        || spec.is_needy_product flags.now class name bean.now)) }
 {
-    is_product_of(bean, class, name) && has_flag(flags.beans.as_slice(), bean.index())
+    let Some(name) = product_name(bean.bean().kind) else {
+        return Ok(());
+    };
+    if !has_flag(flags.beans.as_slice(), bean.index()) {
+        return Ok(());
+    }
+    set.insert((bean.bean().class, name))?;
+    Ok(())
+}
+
+/// The producers of those beans that are products and need themselves, by their classes and their names.
+fn needy_products(
+    alloc: Global,
+    flags: &NeedyFlags,
+    beans: &[EnabledBean<'_>],
+) -> Result<HashSet<(Name, Name)>, AllocError>
+    ensures { IfOk result (HasPairs (spec.has_needy_product flags.now beans.now)) }
+{
+    let mut set = HashSet::new(alloc);
+    for bean in beans {
+        add_needy_product(flags, bean, &mut set)?;
+    }
+    Ok(set)
 }
 
 /// Whether an interceptor has a name, and needs itself.
@@ -78,16 +101,6 @@ fn has_needy_bean(flags: &NeedyFlags, beans: &[EnabledBean<'_>], class: Name) ->
         (λ b. is_bean_of class b && spec.flag flags.now.beans b.0) beans.now }
 {
     beans.iter().any(|bean| is_needy_bean(flags, class, bean))
-}
-
-/// Whether the enabled product of a class's producer needs itself.
-fn has_needy_product(flags: &NeedyFlags, beans: &[EnabledBean<'_>], class: Name, name: Name) -> bool
-    ensures { result ≡ list_any
-        (λ b. spec.is_product_of class name b && spec.flag flags.now.beans b.0) beans.now }
-{
-    beans
-        .iter()
-        .any(|bean| is_needy_product(flags, class, name, bean))
 }
 
 /// Whether an enabled interceptor with a name needs itself.
@@ -119,8 +132,7 @@ impl Rule for FlaggedCycle<'_> {
                 has_needy_bean(self.flags, self.live.beans(), class.name)
             }
             Element::Member { class, member, .. } => {
-                let name = member_name(member);
-                has_needy_product(self.flags, self.live.beans(), class.name, name)
+                self.products.contains(&(class.name, member_name(member)))
             }
             Element::Interceptor { interceptor, .. } => {
                 has_needy_interceptor(self.flags, self.live.interceptors(), interceptor.name)
@@ -141,9 +153,11 @@ pub fn dependent_cycles(
         (ArePlacesOf (spec.HasDependentCycle (setting_of tables.now)) (shown elements.now)) }
 {
     let flags = NeedyFlags::build(alloc, tables)?;
+    let products = needy_products(alloc, &flags, tables.points.live.beans())?;
     let rule = FlaggedCycle {
         live: tables.points.live,
         flags: &flags,
+        products: &products,
     };
     let places = places_where(alloc, &rule, elements)?;
     Ok(places)
