@@ -1,5 +1,5 @@
 //! Tests of the hints for refused deployments.
-use cdi_base::{SERVED, Stage};
+use cdi_base::{SERVED, Stage, WHOLE};
 use cdi_hints::hint_for;
 use std::alloc::{AllocError, Global};
 use std::process::Abort;
@@ -248,6 +248,138 @@ fn keeps_to_the_limits(rt: HostRuntime) -> Result<(), Fail> {
     for (front, item, count, back, expected) in REPEATED {
         let text = repeated(rt.alloc(), front, item, *count, back)?;
         check(&rt, rt.alloc(), SERVED, text.as_bytes(), expected)?;
+    }
+    Ok(())
+}
+
+// Texts, with the hint at the stage that is served and the one where the whole form is.
+const AT_STAGES: &[(&str, &str, &str)] = &[
+    ("{", "line 1, column 1", "line 1, column 1"),
+    // steps that came later, and what is none at any stage
+    (
+        r#"{"scripts":[{"name":"s","steps":[["throw","X"]]}]}"#,
+        "step 0 (counted from 0) of script s is none",
+        "none",
+    ),
+    (
+        r#"{"scripts":[{"name":"s","steps":[["give",1],["catch",["give",1]],["find","T",[]],["find","T"]]}]}"#,
+        "step 1 (counted from 0) of script s is none",
+        "step 3 (counted from 0) of script s is none",
+    ),
+    (
+        r#"{"scripts":[{"name":"r","steps":[["fire","E",[],1]]},{"name":"s","steps":[["proceed",null]]}]}"#,
+        "step 0 (counted from 0) of script r is none",
+        "step 0 (counted from 0) of script s is none",
+    ),
+    (
+        r#"{"scripts":[{"name":"s","steps":[["call",["local",0],"m",[]],["call",["global",0],"m",[]]]}]}"#,
+        "step 0 (counted from 0) of script s is none",
+        "step 1 (counted from 0) of script s is none",
+    ),
+    // names in lists that came later: where these aren't served the fault is Shape
+    (
+        r#"{"qualifiers":[{"name":"Q"},{"name":"q-"}]}"#,
+        "none",
+        r#"the text "q-" is no name"#,
+    ),
+    (
+        r#"{"selected":["s-"],"order":["S","o-"]}"#,
+        "none",
+        r#"the text "o-" is no name"#,
+    ),
+    // a use, whose name goes before the keys of its members
+    (
+        r#"{"classes":[{"name":"K","bean":{"quals":["Q",["q-",{"v-":"w-"}]]}}]}"#,
+        "none",
+        r#"the text "q-" is no name"#,
+    ),
+    (
+        r#"{"classes":[{"name":"K","bean":{"quals":["Q",["Q",{"v-":"w-"}]]}}]}"#,
+        "none",
+        r#"the text "v-" is no name"#,
+    ),
+    (
+        r#"{"classes":[{"name":"K","bean":{"quals":["Q",["Q",{"v":"w-"}]]}}]}"#,
+        "none",
+        "none",
+    ),
+    // a Shape at any stage goes before a bad name
+    (r#"{"selected":["s-",5]}"#, "none", "none"),
+];
+
+#[test]
+fn tells_what_is_wrong_at_a_stage(rt: HostRuntime) -> Result<(), Fail> {
+    for (text, served, whole) in AT_STAGES {
+        check(&rt, rt.alloc(), SERVED, text.as_bytes(), served)?;
+        check(&rt, rt.alloc(), WHOLE, text.as_bytes(), whole)?;
+    }
+    Ok(())
+}
+
+// Lists that came later, as `REPEATED` has those that are served, with the hint where the whole form is served.
+const REPEATED_LATER: &[(&str, &str, usize, &str, &str)] = &[
+    (r#"{"qualifiers":["#, r#"{"name":"Q"}"#, 1024, "]}", "none"),
+    (
+        r#"{"qualifiers":["#,
+        r#"{"name":"Q"}"#,
+        1025,
+        "]}",
+        "/qualifiers has more than 1024 items",
+    ),
+    // interfaces and interceptors count with the classes
+    (
+        r#"{"interfaces":["#,
+        r#"{"name":"I"}"#,
+        1023,
+        r#"],"classes":[{"name":"K"}],"interceptors":[{"name":"J","bindings":["B"]}]}"#,
+        "/classes has more than 1024 items",
+    ),
+    // injected fields count with the fields
+    (
+        r#"{"classes":[{"name":"K","fields":[{"name":"f"}],"inject":["#,
+        r#"{"name":"g","type":"T"}"#,
+        64,
+        "]}]}",
+        "/classes/0/fields has more than 64 items",
+    ),
+    (
+        r#"{"classes":[{"name":"K"},{"name":"L","implements":["#,
+        r#""I""#,
+        64,
+        "]}]}",
+        "none",
+    ),
+    (
+        r#"{"classes":[{"name":"K"},{"name":"L","implements":["#,
+        r#""I""#,
+        65,
+        "]}]}",
+        "/classes/1 has a list that is longer than its limit",
+    ),
+    (
+        r#"{"interceptors":[{"name":"J","bindings":["#,
+        r#""B""#,
+        17,
+        "]}]}",
+        "/interceptors/0 has a list that is longer than its limit",
+    ),
+    // a bad name goes before a long list
+    (
+        r#"{"bindings":[{"name":"b-"}],"qualifiers":["#,
+        r#"{"name":"Q"}"#,
+        1025,
+        "]}",
+        r#"the text "b-" is no name"#,
+    ),
+];
+
+#[test]
+fn keeps_to_the_limits_of_the_whole(rt: HostRuntime) -> Result<(), Fail> {
+    for (front, item, count, back, expected) in REPEATED_LATER {
+        let text = repeated(rt.alloc(), front, item, *count, back)?;
+        // where such a list isn't served the fault is Shape
+        check(&rt, rt.alloc(), SERVED, text.as_bytes(), "none")?;
+        check(&rt, rt.alloc(), WHOLE, text.as_bytes(), expected)?;
     }
     Ok(())
 }
