@@ -1,6 +1,7 @@
-//! What the tests share: small deployments, and one call that compares.
+//! What the tests share: small deployments, and calls that compare.
 use cdi_base::{MemberValue, Name, Names, Seq, Use, Value, is_name};
 use cdi_deployment::{AnnotationType, Class, Deployment, Interface};
+use cdi_quals::{QualSet, QualifierTypes};
 use std::alloc::Global;
 use std::process::Abort;
 
@@ -20,6 +21,14 @@ pub(crate) fn name(rt: &impl Abort, names: &mut Names, text: &str) -> Name {
         panic!(rt; "{text} is no name");
     }
     names.intern(text).expect(rt, "room for a name")
+}
+
+/// The name of a text, if there is one.
+pub(crate) fn name_if_any(rt: &impl Abort, names: &mut Names, text: &str) -> Option<Name> {
+    if text.is_empty() {
+        return None;
+    }
+    Some(name(rt, names, text))
 }
 
 /// The names of texts with blanks between them.
@@ -101,15 +110,10 @@ pub(crate) fn add_class(
     implements: &str,
 ) {
     let own = name(rt, &mut to.names, text);
-    let above = if extends.is_empty() {
-        None
-    } else {
-        Some(name(rt, &mut to.names, extends))
-    };
+    let above = name_if_any(rt, &mut to.names, extends);
     let implements = names_in(rt, alloc, &mut to.names, implements);
-    to.classes
-        .push(bare_class(alloc, own, above, implements))
-        .expect(rt, "memory");
+    let class = bare_class(alloc, own, above, implements);
+    to.classes.push(class).expect(rt, "memory");
 }
 
 /// The type of a qualifier or of an interceptor binding with these members.
@@ -162,27 +166,49 @@ fn member(rt: &impl Abort, names: &mut Names, text: &str, value: i64) -> MemberV
     }
 }
 
+/// Members with numbers as their values.
+fn members_in(
+    rt: &impl Abort,
+    alloc: Global,
+    names: &mut Names,
+    written: &[(&str, i64)],
+) -> Seq<MemberValue> {
+    let mut members = Seq::empty(alloc);
+    for &(text, value) in written {
+        let given = member(rt, names, text, value);
+        members.push(given).expect(rt, "memory");
+    }
+    members
+}
+
 /// Uses by the texts of their names, each with its members and their numbers.
+pub(crate) type Written<'a> = &'a [(&'a str, &'a [(&'a str, i64)])];
+
 pub(crate) fn uses_in(
     rt: &impl Abort,
     alloc: Global,
     names: &mut Names,
-    texts: &[(&str, &[(&str, i64)])],
+    written: Written,
 ) -> Seq<Use> {
     let mut uses = Seq::empty(alloc);
-    for (text, members) in texts {
-        let own = name(rt, names, text);
-        let mut given = Seq::empty(alloc);
-        for (of, value) in *members {
-            given
-                .push(member(rt, names, of, *value))
-                .expect(rt, "memory");
-        }
-        uses.push(Use {
-            name: own,
-            members: given,
-        })
-        .expect(rt, "memory");
+    for &(text, members) in written {
+        let given = Use {
+            name: name(rt, names, text),
+            members: members_in(rt, alloc, names, members),
+        };
+        uses.push(given).expect(rt, "memory");
     }
     uses
+}
+
+/// The set of these uses.
+pub(crate) fn set_of(
+    rt: &impl Abort,
+    alloc: Global,
+    names: &mut Names,
+    types: &QualifierTypes,
+    written: Written,
+) -> QualSet {
+    let uses = uses_in(rt, alloc, names, written);
+    QualSet::new(alloc, names, types, uses.as_slice()).expect(rt, "memory")
 }

@@ -1,5 +1,5 @@
 //! Classes with fields and members, for the tests of what is inherited.
-use crate::checks::{bare_class, name};
+use crate::checks::{bare_class, name, name_if_any, names_in};
 use cdi_base::{Name, Names, Scope, Seq, Value};
 use cdi_deployment::{
     Callback, Class, Deployment, Disposer, Field, Initializer, InjectedField, Member, Method,
@@ -124,37 +124,26 @@ fn members(
     found
 }
 
-/// Fields with null in them, by texts with blanks between them.
-fn fields(rt: &impl Abort, alloc: Global, names: &mut Names, texts: &str) -> Seq<Field> {
+/// Fields with null in them.
+fn fields(rt: &impl Abort, alloc: Global, names: &[Name]) -> Seq<Field> {
     let mut found = Seq::empty(alloc);
-    for text in texts.split(' ') {
-        if !text.is_empty() {
-            let own = name(rt, names, text);
-            found
-                .push(Field {
-                    name: own,
-                    value: Value::Null,
-                })
-                .expect(rt, "memory");
-        }
+    for &name in names {
+        let value = Value::Null;
+        found.push(Field { name, value }).expect(rt, "memory");
     }
     found
 }
 
 /// Injected fields whose types have their names.
-fn injected(rt: &impl Abort, alloc: Global, names: &mut Names, texts: &str) -> Seq<InjectedField> {
+fn injected(rt: &impl Abort, alloc: Global, names: &[Name]) -> Seq<InjectedField> {
     let mut found = Seq::empty(alloc);
-    for text in texts.split(' ') {
-        if !text.is_empty() {
-            let own = name(rt, names, text);
-            found
-                .push(InjectedField {
-                    name: own,
-                    ty: own,
-                    quals: Seq::empty(alloc),
-                })
-                .expect(rt, "memory");
-        }
+    for &name in names {
+        let field = InjectedField {
+            name,
+            ty: name,
+            quals: Seq::empty(alloc),
+        };
+        found.push(field).expect(rt, "memory");
     }
     found
 }
@@ -162,16 +151,15 @@ fn injected(rt: &impl Abort, alloc: Global, names: &mut Names, texts: &str) -> S
 /// The class that is written.
 fn class_of(rt: &impl Abort, alloc: Global, names: &mut Names, written: &Written) -> Class {
     let own = name(rt, names, written.class);
-    let extends = if written.extends.is_empty() {
-        None
-    } else {
-        Some(name(rt, names, written.extends))
-    };
-    let mut class = bare_class(alloc, own, extends, Seq::empty(alloc));
-    class.fields = fields(rt, alloc, names, written.fields);
-    class.inject = injected(rt, alloc, names, written.injected);
-    class.members = members(rt, alloc, names, written.members);
-    class
+    let extends = name_if_any(rt, names, written.extends);
+    let of_fields = names_in(rt, alloc, names, written.fields);
+    let of_injected = names_in(rt, alloc, names, written.injected);
+    Class {
+        fields: fields(rt, alloc, of_fields.as_slice()),
+        inject: injected(rt, alloc, of_injected.as_slice()),
+        members: members(rt, alloc, names, written.members),
+        ..bare_class(alloc, own, extends, Seq::empty(alloc))
+    }
 }
 
 /// Adds classes to a deployment.

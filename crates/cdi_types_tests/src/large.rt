@@ -8,7 +8,6 @@ use cdi_quals::{QualSet, QualifierTypes};
 use cdi_types::TypeTable;
 use std::alloc::Global;
 use std::process::Abort;
-use std::test::Fail;
 
 /// The name of a number.
 fn numbered(rt: &impl Abort, alloc: Global, names: &mut Names, number: usize) -> Name {
@@ -42,7 +41,7 @@ fn chain(rt: &impl Abort, alloc: Global, count: usize) -> Deployment {
 }
 
 #[test]
-fn a_chain_of_types(rt: HostRuntime) -> Result<(), Fail> {
+fn a_chain_of_types(rt: HostRuntime) {
     let alloc = rt.alloc();
     let mut types = chain(&rt, alloc, 1024);
     let table = TypeTable::build(alloc, &types).expect(&rt, "a table");
@@ -62,7 +61,6 @@ fn a_chain_of_types(rt: HostRuntime) -> Result<(), Fail> {
     );
     let above = table.types_of(alloc, last).expect(&rt, "memory");
     expect_count(&rt, above.len(), 1025, "the types above the last");
-    Ok(())
 }
 
 /// The class of a number: it extends that of the number below, and has a method with its own name, and one that each class has.
@@ -104,12 +102,11 @@ fn check_line(rt: &impl Abort, alloc: Global, of: &Deployment, last: Name) {
 }
 
 #[test]
-fn a_line_of_classes(rt: HostRuntime) -> Result<(), Fail> {
+fn a_line_of_classes(rt: HostRuntime) {
     let alloc = rt.alloc();
     let mut of = line(&rt, alloc, 1024);
     let last = numbered(&rt, alloc, &mut of.names, 1023);
     check_line(&rt, alloc, &of, last);
-    Ok(())
 }
 
 /// So many uses without members, each of them twice.
@@ -135,11 +132,10 @@ fn check_set(rt: &impl Abort, alloc: Global, of: &Deployment, written: &[Use]) {
 }
 
 #[test]
-fn a_large_set(rt: HostRuntime) -> Result<(), Fail> {
+fn a_large_set(rt: HostRuntime) {
     let alloc = rt.alloc();
     let mut of = empty(&rt, alloc);
     add_qualifier(&rt, alloc, &mut of, "Q", "", "");
     let written = uses(&rt, alloc, &mut of.names, 4000);
     check_set(&rt, alloc, &of, written.as_slice());
-    Ok(())
 }

@@ -2,12 +2,11 @@
 use crate::checks::{empty, expect, expect_count};
 use crate::declared::{Kind, Written, add_written};
 use cdi_base::{Name, Names};
-use cdi_deployment::{Class, Deployment};
-use cdi_members::{ClassIndex, ClassLine, member_name};
+use cdi_deployment::{Class, Deployment, Field, InjectedField, Member};
+use cdi_members::{ClassIndex, ClassLine, ClassPart, member_name};
 use cdi_types::TypeTable;
 use std::alloc::Global;
 use std::process::Abort;
-use std::test::Fail;
 
 /// Three classes in a line, each kind of members in the top one; and a class that overrides one kind by another.
 const CLASSES: &[Written] = &[
@@ -167,41 +166,61 @@ fn check_part(rt: &impl Abort, names: &Names, class: &Class, part: Name, wanted:
     expect(rt, names.get(part) == Some(of_part), true, of_part);
 }
 
-fn check_fields(rt: &impl Abort, alloc: Global, names: &Names, line: &ClassLine, row: &Has) {
+/// What has a name.
+trait Named {
+    fn name(&self) -> Name;
+}
+
+impl Named for Field {
+    fn name(&self) -> Name {
+        self.name
+    }
+}
+
+impl Named for InjectedField {
+    fn name(&self) -> Name {
+        self.name
+    }
+}
+
+impl Named for Member {
+    fn name(&self) -> Name {
+        member_name(self)
+    }
+}
+
+/// Checks the parts that a class has.
+fn check_parts<T: Named>(
+    rt: &impl Abort,
+    names: &Names,
+    class: &str,
+    found: &[ClassPart<T>],
+    wanted: &[(&str, &str)],
+) {
+    expect_count(rt, found.len(), wanted.len(), class);
+    for (found, wanted) in found.iter().zip(wanted) {
+        check_part(rt, names, found.class, found.part.name(), *wanted);
+    }
+}
+
+fn check_line(rt: &impl Abort, alloc: Global, names: &Names, line: &ClassLine, row: &Has) {
     let fields = line.fields(alloc).expect(rt, "memory");
-    expect_count(rt, fields.len(), row.fields.len(), row.class);
-    for (found, wanted) in fields.as_slice().iter().zip(row.fields) {
-        check_part(rt, names, found.class, found.part.name, *wanted);
-    }
-}
-
-fn check_injected(rt: &impl Abort, alloc: Global, names: &Names, line: &ClassLine, row: &Has) {
+    check_parts(rt, names, row.class, fields.as_slice(), row.fields);
     let injected = line.injected_fields(alloc).expect(rt, "memory");
-    expect_count(rt, injected.len(), row.injected.len(), row.class);
-    for (found, wanted) in injected.as_slice().iter().zip(row.injected) {
-        check_part(rt, names, found.class, found.part.name, *wanted);
-    }
-}
-
-fn check_members(rt: &impl Abort, alloc: Global, names: &Names, line: &ClassLine, row: &Has) {
+    check_parts(rt, names, row.class, injected.as_slice(), row.injected);
     let members = line.members(alloc).expect(rt, "memory");
-    expect_count(rt, members.len(), row.members.len(), row.class);
-    for (found, wanted) in members.as_slice().iter().zip(row.members) {
-        check_part(rt, names, found.class, member_name(found.part), *wanted);
-    }
+    check_parts(rt, names, row.class, members.as_slice(), row.members);
 }
 
 fn check_has(rt: &impl Abort, alloc: Global, of: &Deployment, types: &TypeTable, row: &Has) {
     let index = ClassIndex::build(alloc, of.classes.as_slice()).expect(rt, "memory");
     let name = of.names.find(row.class).expect(rt, "a name");
     let line = index.line(alloc, types, name).expect(rt, "memory");
-    check_fields(rt, alloc, &of.names, &line, row);
-    check_injected(rt, alloc, &of.names, &line, row);
-    check_members(rt, alloc, &of.names, &line, row);
+    check_line(rt, alloc, &of.names, &line, row);
 }
 
 #[test]
-fn what_a_class_has(rt: HostRuntime) -> Result<(), Fail> {
+fn what_a_class_has(rt: HostRuntime) {
     let alloc = rt.alloc();
     let mut of = empty(&rt, alloc);
     add_written(&rt, alloc, &mut of, CLASSES);
@@ -209,5 +228,4 @@ fn what_a_class_has(rt: HostRuntime) -> Result<(), Fail> {
     for row in HAS {
         check_has(&rt, alloc, &of, &types, row);
     }
-    Ok(())
 }

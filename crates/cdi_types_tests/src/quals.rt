@@ -1,13 +1,12 @@
 //! Sets of qualifiers.
-use crate::checks::{add_binding, add_qualifier, empty, expect, expect_count, uses_in};
-use cdi_base::{Names, Seq, Use};
+use crate::checks::{
+    Written, add_binding, add_qualifier, empty, expect, expect_count, set_of, uses_in,
+};
+use cdi_base::{Seq, Use};
 use cdi_deployment::Deployment;
-use cdi_quals::{QualSet, Qualifier, QualifierTypes};
+use cdi_quals::{Qualifier, QualifierTypes};
 use std::alloc::Global;
 use std::process::Abort;
-use std::test::Fail;
-
-type Written<'a> = &'a [(&'a str, &'a [(&'a str, i64)])];
 
 /// Whether a set of uses has all of another.
 struct Has<'a> {
@@ -73,16 +72,6 @@ const HAS: [Has; 10] = [
     },
 ];
 
-fn set_of(
-    rt: &impl Abort,
-    alloc: Global,
-    names: &Names,
-    types: &QualifierTypes,
-    uses: &Seq<Use>,
-) -> QualSet {
-    QualSet::new(alloc, names, types, uses.as_slice()).expect(rt, "memory")
-}
-
 fn check_has(
     rt: &impl Abort,
     alloc: Global,
@@ -90,16 +79,14 @@ fn check_has(
     types: &QualifierTypes,
     row: &Has,
 ) {
-    let uses = uses_in(rt, alloc, &mut of.names, row.set);
-    let required = uses_in(rt, alloc, &mut of.names, row.required);
-    let set = set_of(rt, alloc, &of.names, types, &uses);
-    let other = set_of(rt, alloc, &of.names, types, &required);
+    let set = set_of(rt, alloc, &mut of.names, types, row.set);
+    let other = set_of(rt, alloc, &mut of.names, types, row.required);
     expect(rt, set.has_all(&other), row.wanted, "has_all");
     expect(rt, other.subset(&set), row.wanted, "subset");
 }
 
 #[test]
-fn what_a_set_has(rt: HostRuntime) -> Result<(), Fail> {
+fn what_a_set_has(rt: HostRuntime) {
     let alloc = rt.alloc();
     let mut of = empty(&rt, alloc);
     add_qualifier(&rt, alloc, &mut of, "Q", "w v", "w");
@@ -108,12 +95,11 @@ fn what_a_set_has(rt: HostRuntime) -> Result<(), Fail> {
     for row in &HAS {
         check_has(&rt, alloc, &mut of, &types, row);
     }
-    Ok(())
 }
 
 /// Interceptor bindings are compared in the same way.
 #[test]
-fn what_a_set_of_bindings_has(rt: HostRuntime) -> Result<(), Fail> {
+fn what_a_set_of_bindings_has(rt: HostRuntime) {
     let alloc = rt.alloc();
     let mut of = empty(&rt, alloc);
     add_binding(&rt, alloc, &mut of, "Q", "w v", "w");
@@ -122,7 +108,6 @@ fn what_a_set_of_bindings_has(rt: HostRuntime) -> Result<(), Fail> {
     for row in &HAS {
         check_has(&rt, alloc, &mut of, &types, row);
     }
-    Ok(())
 }
 
 /// Whether two uses are the same but for nonbinding members.
@@ -160,6 +145,17 @@ const SAME: [Same; 6] = [
     },
 ];
 
+fn qualifier_at(
+    rt: &impl Abort,
+    alloc: Global,
+    types: &QualifierTypes,
+    uses: &Seq<Use>,
+    index: usize,
+) -> Qualifier {
+    let own = uses.get(index).expect(rt, "two uses");
+    Qualifier::new(alloc, types, own).expect(rt, "memory")
+}
+
 fn check_same(
     rt: &impl Abort,
     alloc: Global,
@@ -168,16 +164,14 @@ fn check_same(
     row: &Same,
 ) {
     let uses = uses_in(rt, alloc, &mut of.names, row.uses);
-    let own = uses.get(0).expect(rt, "two uses");
-    let other = uses.get(1).expect(rt, "two uses");
-    let own = Qualifier::new(alloc, types, own).expect(rt, "memory");
-    let other = Qualifier::new(alloc, types, other).expect(rt, "memory");
+    let own = qualifier_at(rt, alloc, types, &uses, 0);
+    let other = qualifier_at(rt, alloc, types, &uses, 1);
     expect(rt, own.same_binding(&other), row.wanted, "same_binding");
     expect(rt, other.same_binding(&own), row.wanted, "same_binding");
 }
 
 #[test]
-fn nonbinding_members(rt: HostRuntime) -> Result<(), Fail> {
+fn nonbinding_members(rt: HostRuntime) {
     let alloc = rt.alloc();
     let mut of = empty(&rt, alloc);
     add_qualifier(&rt, alloc, &mut of, "Q", "v w", "w");
@@ -186,7 +180,6 @@ fn nonbinding_members(rt: HostRuntime) -> Result<(), Fail> {
     for row in &SAME {
         check_same(&rt, alloc, &mut of, &types, row);
     }
-    Ok(())
 }
 
 /// Five uses, two of them repeats.
@@ -199,18 +192,16 @@ const REPEATS: Written = &[
 ];
 
 #[test]
-fn repeats_are_dropped(rt: HostRuntime) -> Result<(), Fail> {
+fn repeats_are_dropped(rt: HostRuntime) {
     let alloc = rt.alloc();
     let mut of = empty(&rt, alloc);
     add_qualifier(&rt, alloc, &mut of, "Q", "v w", "w");
     let types = QualifierTypes::qualifiers_of(alloc, &of).expect(&rt, "memory");
-    let uses = uses_in(&rt, alloc, &mut of.names, REPEATS);
-    let set = set_of(&rt, alloc, &of.names, &types, &uses);
+    let set = set_of(&rt, alloc, &mut of.names, &types, REPEATS);
     expect_count(
         &rt,
         set.as_slice().len(),
         3,
         "a set of five uses, two of them repeats",
     );
-    Ok(())
 }

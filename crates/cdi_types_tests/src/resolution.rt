@@ -1,5 +1,5 @@
 //! Typesafe resolution.
-use crate::checks::{add_qualifier, empty, name, names_in, uses_in};
+use crate::checks::{Written, add_qualifier, empty, name, names_in, set_of};
 use cdi_base::{Scope, Seq};
 use cdi_beanlist::{Bean, BeanKind};
 use cdi_deployment::Deployment;
@@ -7,19 +7,16 @@ use cdi_quals::{QualSet, QualifierTypes};
 use cdi_resolve::{Resolution, Resolver};
 use std::alloc::Global;
 use std::process::Abort;
-use std::test::Fail;
-
-type Written = &'static [(&'static str, &'static [(&'static str, i64)])];
 
 /// The qualifiers of a bean that declares none.
-const DEFAULT: Written = &[("Any", &[]), ("Default", &[])];
+const DEFAULT: Written<'static> = &[("Any", &[]), ("Default", &[])];
 
 /// A bean with these types.
 enum Given {
     /// Enabled, with the qualifiers `Any` and `Default`.
     Plain(&'static str),
     /// Enabled, with these qualifiers.
-    With(&'static str, Written),
+    With(&'static str, Written<'static>),
     /// A selected alternative, which may have a priority.
     Alternative(&'static str, Option<i64>),
     /// An alternative that isn't selected.
@@ -37,7 +34,7 @@ impl Given {
     }
 
     /// The qualifiers, where they are others than `Any` and `Default`.
-    fn qualifiers(&self) -> Option<Written> {
+    fn qualifiers(&self) -> Option<Written<'static>> {
         match self {
             Given::With(_, qualifiers) => Some(qualifiers),
             _ => None,
@@ -64,7 +61,7 @@ impl Given {
 struct Row {
     beans: &'static [Given],
     ty: &'static str,
-    required: Written,
+    required: Written<'static>,
     wanted: Resolution,
 }
 
@@ -250,17 +247,6 @@ const ROWS: &[Row] = &[
     },
 ];
 
-fn set_of(
-    rt: &impl Abort,
-    alloc: Global,
-    of: &mut Deployment,
-    types: &QualifierTypes,
-    written: Written,
-) -> QualSet {
-    let uses = uses_in(rt, alloc, &mut of.names, written);
-    QualSet::new(alloc, &of.names, types, uses.as_slice()).expect(rt, "memory")
-}
-
 fn bean_of(
     rt: &impl Abort,
     alloc: Global,
@@ -272,7 +258,13 @@ fn bean_of(
         kind: BeanKind::Managed,
         class: name(rt, &mut of.names, "K"),
         types: names_in(rt, alloc, &mut of.names, given.types()),
-        qualifiers: set_of(rt, alloc, of, types, given.qualifiers().unwrap_or(DEFAULT)),
+        qualifiers: set_of(
+            rt,
+            alloc,
+            &mut of.names,
+            types,
+            given.qualifiers().unwrap_or(DEFAULT),
+        ),
         scope: Scope::Dependent,
         alternative: given.is_alternative(),
         priority: given.priority(),
@@ -324,12 +316,12 @@ fn check_row(
     row: &Row,
 ) {
     let resolver = resolver_of(rt, alloc, of, types, row.beans);
-    let required = set_of(rt, alloc, of, types, row.required);
+    let required = set_of(rt, alloc, &mut of.names, types, row.required);
     expect_resolution(rt, &resolver, &required, of, row);
 }
 
 #[test]
-fn what_is_resolved(rt: HostRuntime) -> Result<(), Fail> {
+fn what_is_resolved(rt: HostRuntime) {
     let alloc = rt.alloc();
     let mut of = empty(&rt, alloc);
     add_qualifier(&rt, alloc, &mut of, "A", "", "");
@@ -339,5 +331,4 @@ fn what_is_resolved(rt: HostRuntime) -> Result<(), Fail> {
     for row in ROWS {
         check_row(&rt, alloc, &mut of, &types, row);
     }
-    Ok(())
 }

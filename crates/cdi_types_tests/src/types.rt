@@ -1,11 +1,10 @@
 //! Subtypes, cycles and superclasses.
-use crate::checks::{add_class, add_interface, empty, expect, expect_count, name};
-use cdi_base::BuiltIn;
+use crate::checks::{add_class, add_interface, empty, expect, expect_count, name, names_in};
+use cdi_base::{BuiltIn, Name, Seq};
 use cdi_deployment::Deployment;
 use cdi_types::{TypeGraph, TypeTable, TypesError};
 use std::alloc::Global;
 use std::process::Abort;
-use std::test::Fail;
 
 /// Whether one type of the table is a subtype of another.
 struct Below<'a> {
@@ -89,27 +88,25 @@ fn check_below(rt: &impl Abort, few: &mut Deployment, table: &TypeTable, row: &B
     expect(rt, table.is_subtype(own, above), row.wanted, row.name);
 }
 
+/// Checks how many types are above one, with itself.
+fn check_types(rt: &impl Abort, alloc: Global, table: &TypeTable, of: Name, count: usize) {
+    let types = table.types_of(alloc, of).expect(rt, "memory");
+    expect_count(rt, types.len(), count, "the types of C or of Startup");
+}
+
 #[test]
-fn subtypes(rt: HostRuntime) -> Result<(), Fail> {
+fn subtypes(rt: HostRuntime) {
     let alloc = rt.alloc();
     let mut few = few_types(&rt, alloc);
     let table = TypeTable::build(alloc, &few).expect(&rt, "a table");
     for row in &BELOW {
         check_below(&rt, &mut few, &table, row);
     }
-    let of_class = table
-        .types_of(alloc, name(&rt, &mut few.names, "C"))
-        .expect(&rt, "memory");
-    expect_count(&rt, of_class.len(), 5, "the types of C");
-    let lineage = table
-        .lineage(alloc, name(&rt, &mut few.names, "C"))
-        .expect(&rt, "memory");
+    let class = name(&rt, &mut few.names, "C");
+    check_types(&rt, alloc, &table, class, 5);
+    check_types(&rt, alloc, &table, BuiltIn::Startup.name(), 2);
+    let lineage = table.lineage(alloc, class).expect(&rt, "memory");
     expect_count(&rt, lineage.len(), 2, "C and its superclass");
-    let of_startup = table
-        .types_of(alloc, BuiltIn::Startup.name())
-        .expect(&rt, "memory");
-    expect_count(&rt, of_startup.len(), 2, "the types of Startup");
-    Ok(())
 }
 
 fn check_refused(
@@ -126,47 +123,31 @@ fn check_refused(
     expect(rt, refused, true, about);
 }
 
-fn check_cyclic(rt: &impl Abort, alloc: Global, types: &Deployment, count: usize, about: &str) {
+/// The types that are on a cycle.
+fn cyclic_in(rt: &impl Abort, alloc: Global, types: &Deployment) -> Seq<Name> {
     let graph = TypeGraph::build(alloc, types).expect(rt, "memory");
-    let cyclic = graph.cyclic(alloc).expect(rt, "memory");
-    expect_count(rt, cyclic.len(), count, about);
+    graph.cyclic(alloc).expect(rt, "memory")
 }
 
-/// Checks that these two types are on a cycle, in this order, and no others.
-fn check_both_cyclic(
-    rt: &impl Abort,
-    alloc: Global,
-    types: &mut Deployment,
-    first: &str,
-    second: &str,
-) {
-    let graph = TypeGraph::build(alloc, types).expect(rt, "memory");
-    let cyclic = graph.cyclic(alloc).expect(rt, "memory");
-    let first = name(rt, &mut types.names, first);
-    let second = name(rt, &mut types.names, second);
-    expect_count(rt, cyclic.len(), 2, "two types on a cycle");
-    expect(
-        rt,
-        cyclic.get(0) == Some(&first),
-        true,
-        "the first on a cycle",
-    );
-    expect(
-        rt,
-        cyclic.get(1) == Some(&second),
-        true,
-        "the second on a cycle",
-    );
+fn check_cyclic(rt: &impl Abort, alloc: Global, types: &Deployment, count: usize, about: &str) {
+    expect_count(rt, cyclic_in(rt, alloc, types).len(), count, about);
+}
+
+/// Checks that these types are on a cycle, in this order, and no others.
+fn check_all_cyclic(rt: &impl Abort, alloc: Global, types: &mut Deployment, wanted: &str) {
+    let cyclic = cyclic_in(rt, alloc, types);
+    let named = names_in(rt, alloc, &mut types.names, wanted);
+    expect(rt, cyclic == named, true, wanted);
 }
 
 #[test]
-fn a_cycle_of_two_interfaces(rt: HostRuntime) -> Result<(), Fail> {
+fn a_cycle_of_two_interfaces(rt: HostRuntime) {
     let alloc = rt.alloc();
     let mut two = empty(&rt, alloc);
     add_interface(&rt, alloc, &mut two, "I", "J");
     add_interface(&rt, alloc, &mut two, "J", "I");
     add_class(&rt, alloc, &mut two, "K", "", "I");
-    check_both_cyclic(&rt, alloc, &mut two, "I", "J");
+    check_all_cyclic(&rt, alloc, &mut two, "I J");
     check_refused(&rt, alloc, &two, TypesError::Cycle, "a cycle");
     add_class(&rt, alloc, &mut two, "L", "Missing", "");
     check_refused(
@@ -176,26 +157,23 @@ fn a_cycle_of_two_interfaces(rt: HostRuntime) -> Result<(), Fail> {
         TypesError::Cycle,
         "a cycle before an unknown name",
     );
-    Ok(())
 }
 
 #[test]
-fn an_unknown_name(rt: HostRuntime) -> Result<(), Fail> {
+fn an_unknown_name(rt: HostRuntime) {
     let alloc = rt.alloc();
     let mut unknown = empty(&rt, alloc);
     add_class(&rt, alloc, &mut unknown, "L", "Missing", "");
     check_refused(&rt, alloc, &unknown, TypesError::Unknown, "an unknown name");
     check_cyclic(&rt, alloc, &unknown, 0, "an unknown name");
-    Ok(())
 }
 
 #[test]
-fn a_name_that_is_declared_twice(rt: HostRuntime) -> Result<(), Fail> {
+fn a_name_that_is_declared_twice(rt: HostRuntime) {
     let alloc = rt.alloc();
     let mut twice = empty(&rt, alloc);
     add_class(&rt, alloc, &mut twice, "A", "", "");
     add_class(&rt, alloc, &mut twice, "A", "B", "");
     add_class(&rt, alloc, &mut twice, "B", "A", "");
     check_cyclic(&rt, alloc, &twice, 3, "a name that is declared twice");
-    Ok(())
 }
