@@ -68,7 +68,10 @@ fn register(
 ) {
     match registered {
         Registered::Nothing => {}
-        Registered::Counting => Counting::new(alloc, names, 1).register(rt, bodies),
+        Registered::Counting => {
+            let added = Counting::new(alloc, names, 1).register(bodies);
+            added.ok().expect(rt, "room for a body");
+        }
         Registered::Chained => {
             add_null(rt, alloc, bodies, names.name_for("up"), true);
         }

@@ -10,6 +10,7 @@ use cdi_machine::{Driver, Failure};
 use std::alloc::{AllocError, Global};
 use std::cell::Cell;
 use std::process::Abort;
+use std::test::Fail;
 
 /// A body that counts a field up so many times, then calls its own method with one less than it was called with, unless
 /// that was 0, and then gives the field.
@@ -105,17 +106,15 @@ impl Counting {
 
     /// Registers it under the name of its method.
     #[tactic(auto, using(crate::proofs::Shapes::plain_in_shape))]
-    pub(crate) fn register(self, rt: &impl Abort, bodies: &mut Bodies) {
-        let shape = self.shape().expect(rt, "memory");
+    pub(crate) fn register(self, bodies: &mut Bodies) -> Result<BodyId, Fail> {
+        let shape = self.shape()?;
         let body: Body = Box::new(
             self.alloc,
             move |fields: &Fields, view: &View| -> Result<Act, AllocError>
                 ensures { IfOk result (IsPlain self.field self.method) }
             { self.next(fields, view) },
-        )
-        .expect(rt, "memory");
-        let added = bodies.add(self.method, shape, body);
-        added.ok().expect(rt, "room for a body");
+        )?;
+        Ok(bodies.add(self.method, shape, body)?)
     }
 }
 

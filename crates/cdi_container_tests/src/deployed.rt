@@ -36,7 +36,8 @@ pub(crate) fn deploy(
     bodies: &mut Bodies,
 ) -> Deployment {
     let deployment = read(alloc, text.as_bytes()).expect(rt, "a deployment");
-    Counting::new(alloc, &deployment.names, sets).register(rt, bodies);
+    let added = Counting::new(alloc, &deployment.names, sets).register(bodies);
+    added.ok().expect(rt, "room for a body");
     deployment
 }
 
