@@ -1,5 +1,4 @@
-use Rattle.std.proofs.Common.{refl, sym, subst, List, ℕ}
-use Rattle.cdi_report.specs.Reports.{Writes}
+use Rattle.std.proofs.Common.{refl}
 use Rattle.cdi_report.specs.Reports.ReportsOn.{tells}
 use Rattle.cdi_report.proofs.reporting.report.Goals as goal
 
@@ -11,5 +10,6 @@ returns-in-Ok-findings_in-clause-reports g c =
 
 pub returns-in-Err-Refused-clause-reports : goal.returns-in-Err-Refused-clause-reports
 returns-in-Err-Refused-clause-reports g c =
+    let refused = rw c.in-Err-Refused.field-0-is at c.in-Err-Refused.ensures.err in
     let writes = rw c.deref-in-Err-Refused.ensures.value at c.write_findings-in-Err-Refused.ensures.writes in
-    tells c.in-Err-Refused.lines.items _ (rw c.in-Err-Refused.ensures.err (refl, refl)) writes
+    tells c.in-Err-Refused.lines.items _ (rw refused (refl, refl)) writes
