@@ -70,7 +70,7 @@ fn register(
         Registered::Nothing => {}
         Registered::Counting => {
             let added = Counting::new(alloc, names, 1).register(bodies);
-            added.ok().expect(rt, "room for a body");
+            added.expect(rt, "room for a body");
         }
         Registered::Chained => {
             add_null(rt, alloc, bodies, names.name_for("up"), true);

@@ -10,7 +10,6 @@ use cdi_machine::{Driver, Failure};
 use std::alloc::{AllocError, Global};
 use std::cell::Cell;
 use std::process::Abort;
-use std::test::Fail;
 
 /// A body that counts a field up so many times, then calls its own method with one less than it was called with, unless
 /// that was 0, and then gives the field.
@@ -104,17 +103,18 @@ impl Counting {
         Ok(shape)
     }
 
-    /// Registers it under the name of its method.
+    /// Registers it under the name of its method, if memory is there.
     #[tactic(auto, using(crate::proofs::Shapes::plain_in_shape))]
-    pub(crate) fn register(self, bodies: &mut Bodies) -> Result<BodyId, Fail> {
-        let shape = self.shape()?;
+    pub(crate) fn register(self, bodies: &mut Bodies) -> Option<BodyId> {
+        let shape = self.shape().ok()?;
         let body: Body = Box::new(
             self.alloc,
             move |fields: &Fields, view: &View| -> Result<Act, AllocError>
                 ensures { IfOk result (IsPlain self.field self.method) }
             { self.next(fields, view) },
-        )?;
-        Ok(bodies.add(self.method, shape, body)?)
+        )
+        .ok()?;
+        bodies.add(self.method, shape, body).ok()
     }
 }
 

@@ -37,7 +37,7 @@ pub(crate) fn deploy(
 ) -> Deployment {
     let deployment = read(alloc, text.as_bytes()).expect(rt, "a deployment");
     let added = Counting::new(alloc, &deployment.names, sets).register(bodies);
-    added.ok().expect(rt, "room for a body");
+    added.expect(rt, "room for a body");
     deployment
 }
 
