@@ -41,11 +41,6 @@ pub record Judges (r : Readied) (lines : List ℕ) (is_accepted : Bool) : Type 0
   pub are : AreProblemsWith (registered r.scripts) r.deployment problems
   pub are_findings : AreFindings r.deployment.names problems lines is_accepted
 
--- the line of a deployment or a script that can't be read is told, or the problems of the others
-abbrev pub Told : Result Readied (List ℕ) → List ℕ → Bool → Type 0
-Told (Err fault) lines is_accepted = (lines ≡ fault) × (is_accepted ≡ false)
-Told (Ok r) lines is_accepted = Judges r lines is_accepted
-
 -- the verdict if the lines were written so
 abbrev pub verdict_of : {T E : Type 0} → Result T E → Bool → Verdict
 verdict_of (Ok _) true = verdicts.Accepted
@@ -58,8 +53,19 @@ pub record Writes (lines : List ℕ) (is_accepted : Bool) (held held_after : Opt
   pub written : WritesAll held held_after result lines
   pub is_verdict : verdict ≡ verdict_of result is_accepted
 
+-- the problems of a deployment are told, and that is written
+pub record TellsProblems (r : Readied) (held held_after : Option (List ℕ)) (verdict : Verdict) : Type 0 where
+  pub lines : List ℕ
+  pub is_accepted : Bool
+  pub judges : Judges r lines is_accepted
+  pub writes : Writes lines is_accepted held held_after verdict
+
+-- the line of a deployment or a script that can't be read is written, or the problems of the others are told
+abbrev pub Told : Result Readied (List ℕ) → Option (List ℕ) → Option (List ℕ) → Verdict → Type 0
+Told (Err fault) held held_after verdict = Writes fault false held held_after verdict
+Told (Ok r) held held_after verdict = TellsProblems r held held_after verdict
+
 -- what is told of the bytes is written; or memory ran out, and nothing is
 pub data ReportsOn (bytes : List ℕ) (held held_after : Option (List ℕ)) (verdict : Verdict) : Type 0 where
   starves : held_after ≡ held → verdict ≡ verdicts.Fault faults.Memory → ReportsOn bytes held held_after verdict
-  tells : (lines : List ℕ) (is_accepted : Bool) → Told (readied_at whole bytes) lines is_accepted
-      → Writes lines is_accepted held held_after verdict → ReportsOn bytes held held_after verdict
+  tells : Told (readied_at whole bytes) held held_after verdict → ReportsOn bytes held held_after verdict
