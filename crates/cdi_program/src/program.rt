@@ -87,7 +87,17 @@ fn tell_outcome<W: Sink, E: Sink>(
 }
 
 /// Tells what is wrong with a refused deployment beyond what its line says, if there is more to say.
-fn tell_hint<E: Sink>(alloc: Global, stage: Stage, file: &str, bytes: &[u8], errors: &mut E) {
+fn tell_hint<E: Sink>(
+    alloc: Global,
+    is_refused: bool,
+    stage: Stage,
+    file: &str,
+    bytes: &[u8],
+    errors: &mut E,
+) {
+    if !is_refused {
+        return;
+    }
     if let Ok(Some(hint)) = hint_for(alloc, stage, bytes) {
         tell_of_file(alloc, errors, file, &hint);
     }
@@ -117,9 +127,8 @@ fn check_bytes<R: Source, W: Sink, E: Sink>(
 {
     let verdict = report(alloc, bytes, output);
     tell_outcome(alloc, verdict.outcome(), output, errors);
-    if verdict == Verdict::Refused {
-        tell_hint(alloc, WHOLE, file, bytes, errors);
-    }
+    let is_refused = verdict == Verdict::Refused;
+    tell_hint(alloc, is_refused, WHOLE, file, bytes, errors);
     verdict.status()
 }
 
@@ -148,9 +157,8 @@ fn run_bytes<R: Source, W: Sink, E: Sink>(
 {
     let ending = drive(alloc, bytes, options.limits, input, output);
     tell_outcome(alloc, ending.outcome(), output, errors);
-    if ending == Ending::Refused {
-        tell_hint(alloc, SERVED, options.file, bytes, errors);
-    }
+    let is_refused = ending == Ending::Refused;
+    tell_hint(alloc, is_refused, SERVED, options.file, bytes, errors);
     ending.status()
 }
 
