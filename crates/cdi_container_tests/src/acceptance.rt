@@ -11,22 +11,23 @@ use cdi_deploy::read;
 use cdi_deployment::Deployment;
 use std::alloc::Global;
 use std::process::Abort;
+use std::test::Fail;
 
 /// The classes and the beans that are accepted.
-fn count_accepted(rt: &impl Abort, alloc: Global, text: &str) -> (usize, usize) {
+fn count_accepted(alloc: Global, text: &str) -> Result<(usize, usize), Fail> {
     let mut bodies = Bodies::new(alloc);
-    let deployment = deploy(rt, alloc, text, 1, &mut bodies);
-    let accepted = accept_well(rt, alloc, deployment, &bodies);
-    (accepted.classes.len(), accepted.tables.beans.len())
+    let deployment = deploy(alloc, text, 1, &mut bodies)?;
+    let accepted = accept_well(alloc, deployment, &bodies)?;
+    Ok((accepted.classes.len(), accepted.tables.beans.len()))
 }
 
 #[test]
-fn accepts(rt: HostRuntime) {
+fn accepts(rt: HostRuntime) -> Result<(), Fail> {
     let rows = [("{}", (0, 0)), (SHARED, (1, 1)), (TWO, (3, 2))];
     for (text, wanted) in rows {
-        let counts = count_accepted(&rt, rt.alloc(), text);
-        expect_same_at(&rt, &text, &counts, &wanted);
+        expect_same_at(&rt, &text, &count_accepted(rt.alloc(), text)?, &wanted);
     }
+    Ok(())
 }
 
 /// How many names come back, and the kinds of the first two problems.
@@ -37,13 +38,13 @@ fn kind_at(problems: &[Problem], index: usize) -> Option<ProblemKind> {
 }
 
 /// What comes back of a deployment that isn't accepted.
-fn refusal_of(rt: &impl Abort, alloc: Global, deployment: Deployment, bodies: &Bodies) -> Refused {
+fn refusal_of(alloc: Global, deployment: Deployment, bodies: &Bodies) -> Result<Refused, Fail> {
     match accept(alloc, deployment, bodies) {
-        Ok(_) => panic!(rt; "no problem"),
-        Err(Unaccepted::Memory) => panic!(rt; "memory"),
+        Ok(_) => Err("a problem")?,
+        Err(Unaccepted::Memory) => Err("memory")?,
         Err(Unaccepted::Problems { names, problems }) => {
             let problems = problems.as_slice();
-            (names.len(), kind_at(problems, 0), kind_at(problems, 1))
+            Ok((names.len(), kind_at(problems, 0), kind_at(problems, 1)))
         }
     }
 }
@@ -60,35 +61,34 @@ enum Registered {
 }
 
 fn register(
-    rt: &impl Abort,
     alloc: Global,
     names: &Names,
     registered: Registered,
     bodies: &mut Bodies,
-) {
+) -> Result<(), Fail> {
     match registered {
         Registered::Nothing => {}
         Registered::Counting => {
-            let added = Counting::new(alloc, names, 1).register(bodies);
-            added.expect(rt, "room for a body");
+            Counting::new(alloc, names, 1).register(bodies)?;
         }
         Registered::Chained => {
-            add_null(rt, alloc, bodies, names.name_for("up"), true);
+            add_null(alloc, bodies, names.name_for("up"), true)?;
         }
     }
+    Ok(())
 }
 
 /// What comes back of a deployment as it is written.
-fn refusal_of_text(rt: &impl Abort, alloc: Global, text: &str, registered: Registered) -> Refused {
+fn refusal_of_text(alloc: Global, text: &str, registered: Registered) -> Result<Refused, Fail> {
     let mut bodies = Bodies::new(alloc);
-    let deployment = read(alloc, text.as_bytes()).expect(rt, "a deployment");
-    register(rt, alloc, &deployment.names, registered, &mut bodies);
-    refusal_of(rt, alloc, deployment, &bodies)
+    let deployment = read(alloc, text.as_bytes())?;
+    register(alloc, &deployment.names, registered, &mut bodies)?;
+    refusal_of(alloc, deployment, &bodies)
 }
 
 /// Besides the 19 built-in names a table has those of the deployment.
 #[test]
-fn tells_each_kind_of_problem(rt: HostRuntime) {
+fn tells_each_kind_of_problem(rt: HostRuntime) -> Result<(), Fail> {
     const METHOD: &str =
         r#"{"classes":[{"name":"K","bean":{},"members":[{"kind":"method","name":"up","args":1,"body":"up"}]}]}"#;
     let rows = [
@@ -118,19 +118,21 @@ fn tells_each_kind_of_problem(rt: HostRuntime) {
         ),
     ];
     for (text, registered, wanted) in rows {
-        let refused = refusal_of_text(&rt, rt.alloc(), text, registered);
+        let refused = refusal_of_text(rt.alloc(), text, registered)?;
         expect_same_at(&rt, &registered, &refused, &wanted);
     }
+    Ok(())
 }
 
 /// What comes back of so many beans.
-fn refusal_of_beans(rt: &impl Abort, alloc: Global, count: u32) -> Refused {
-    let deployment = beans(rt, alloc, count);
-    refusal_of(rt, alloc, deployment, &Bodies::new(alloc))
+fn refusal_of_beans(alloc: Global, count: u32) -> Result<Refused, Fail> {
+    let deployment = beans(alloc, count)?;
+    refusal_of(alloc, deployment, &Bodies::new(alloc))
 }
 
 #[test]
-fn tells_too_many_beans(rt: HostRuntime) {
+fn tells_too_many_beans(rt: HostRuntime) -> Result<(), Fail> {
     let wanted = (4_116, Some(ProblemKind::TooMany), None);
-    expect_same(&rt, &refusal_of_beans(&rt, rt.alloc(), 4_097), &wanted);
+    expect_same(&rt, &refusal_of_beans(rt.alloc(), 4_097)?, &wanted);
+    Ok(())
 }

@@ -9,7 +9,7 @@ use cdi_bodies::{Bodies, Body, BodyId, OwnCall, Shape, View};
 use cdi_machine::{Driver, Failure};
 use std::alloc::{AllocError, Global};
 use std::cell::Cell;
-use std::process::Abort;
+use std::test::Fail;
 
 /// A body that counts a field up so many times, then calls its own method with one less than it was called with, unless
 /// that was 0, and then gives the field.
@@ -103,29 +103,27 @@ impl Counting {
         Ok(shape)
     }
 
-    /// Registers it under the name of its method, if memory is there.
+    /// Registers it under the name of its method.
     #[tactic(auto, using(crate::proofs::Shapes::plain_in_shape))]
-    pub(crate) fn register(self, bodies: &mut Bodies) -> Option<BodyId> {
-        let shape = self.shape().ok()?;
+    pub(crate) fn register(self, bodies: &mut Bodies) -> Result<BodyId, Fail> {
+        let shape = self.shape()?;
         let body: Body = Box::new(
             self.alloc,
             move |fields: &Fields, view: &View| -> Result<Act, AllocError>
                 ensures { IfOk result (IsPlain self.field self.method) }
             { self.next(fields, view) },
-        )
-        .ok()?;
-        bodies.add(self.method, shape, body).ok()
+        )?;
+        Ok(bodies.add(self.method, shape, body)?)
     }
 }
 
 /// Registers a body that gives null, of a shape that goes on with an interceptor chain or not.
 pub(crate) fn add_null(
-    rt: &impl Abort,
     alloc: Global,
     bodies: &mut Bodies,
     name: Name,
     chain: bool,
-) -> BodyId {
+) -> Result<BodyId, Fail> {
     let mut shape = Shape::new(alloc);
     shape.chain = chain;
     let body: Body = Box::new(
@@ -133,10 +131,8 @@ pub(crate) fn add_null(
         |_fields: &Fields, _view: &View| -> Result<Act, AllocError>
             ensures { IfOk result (λ act. act ≡ Give Null) }
         { Ok(Act::Give { value: Value::Null }) },
-    )
-    .expect(rt, "memory");
-    let added = bodies.add(name, shape, body);
-    added.ok().expect(rt, "room for a body")
+    )?;
+    Ok(bodies.add(name, shape, body)?)
 }
 
 /// How often a driver was asked for an act, and how many entries it was told the last time.

@@ -12,6 +12,7 @@ use cdi_machine::Driver;
 use cdi_runtime::Runtime;
 use std::alloc::Global;
 use std::process::Abort;
+use std::test::Fail;
 
 /// A first call, of a body with so many sets and that many levels below it, under limits of depth and ticks.
 #[derive(Clone, Copy, Debug, Drop)]
@@ -34,49 +35,50 @@ struct Answered {
 
 /// Makes the call in a container that nothing has been done with.
 fn answer<D: Driver + Drop>(
-    rt: &impl Abort,
     alloc: Global,
     accepted: Accepted,
     driver: D,
     below: i64,
     limits: Limits,
-) -> Answered
+) -> Result<Answered, Fail>
     requires knows { KnowsEach (D.knows driver) accepted.tables.beans }
     requires serves { GivesServed accepted.tables (D.legal driver) }
 {
     let Accepted { tables, classes } = accepted;
-    let job = job_of(rt, alloc, &tables.names, Asks::Call("K", below));
+    let job = job_of(alloc, &tables.names, Asks::Call("K", below))?;
     let asked = Asked::new();
     let counted = Counted {
         driver,
         asked: &asked,
     };
     let mut runtime = Runtime::new(alloc, tables, classes, counted, limits);
-    let end = carry_out(rt, &mut runtime, job);
-    Answered {
+    let end = carry_out(&mut runtime, job)?;
+    let entries = runtime.world().entries();
+    Ok(Answered {
         end,
-        entries: runtime.world().entries(),
+        entries,
         asked: asked.times.get(),
         told: asked.entries.get(),
-    }
+    })
 }
 
 /// Makes the call of a bean of the application.
-fn ask(rt: &impl Abort, alloc: Global, asking: Asking) -> Answered {
-    let limits = Limits::new(asking.depth, asking.ticks).expect(rt, "limits in range");
+fn ask(alloc: Global, asking: Asking, limits: Limits) -> Result<Answered, Fail> {
     let mut bodies = Bodies::new(alloc);
-    let deployment = deploy(rt, alloc, SHARED, asking.sets, &mut bodies);
-    let accepted = accept_well(rt, alloc, deployment, &bodies);
-    answer(rt, alloc, accepted, bodies, asking.below, limits)
+    let deployment = deploy(alloc, SHARED, asking.sets, &mut bodies)?;
+    let accepted = accept_well(alloc, deployment, &bodies)?;
+    answer(alloc, accepted, bodies, asking.below, limits)
 }
 
 /// Checks calls one by one, each in a container of its own. That memory is there is part of what is checked: a budget that is
 /// spent may not be told as want of memory.
-fn check_askings(rt: &impl Abort, alloc: Global, rows: &[(Asking, Answered)]) {
-    for (asking, wanted) in rows {
-        let answered = ask(rt, alloc, *asking);
-        expect_same_at(rt, asking, &answered, wanted);
+fn check_askings(rt: &impl Abort, alloc: Global, rows: &[(Asking, Answered)]) -> Result<(), Fail> {
+    for &(asking, wanted) in rows {
+        let limits = Limits::new(asking.depth, asking.ticks).expect(rt, "limits in range");
+        let answered = ask(alloc, asking, limits)?;
+        expect_same_at(rt, &asking, &answered, &wanted);
     }
+    Ok(())
 }
 
 fn asking_of(sets: usize, below: i64, depth: u32, ticks: u32) -> Asking {
@@ -104,7 +106,7 @@ const DEPTH: End = End::Cut(Cause::Depth);
 /// A call gives two entries for the instance, one where its body starts, and one for each act. An act for which no entry is
 /// left has been asked for.
 #[test]
-fn spends_its_entries(rt: HostRuntime) {
+fn spends_its_entries(rt: HostRuntime) -> Result<(), Fail> {
     let rows = [
         (asking_of(2, 0, 1, 1), answer_of(TICKS, 1, 0, 0)),
         (asking_of(2, 0, 1, 2), answer_of(TICKS, 2, 0, 0)),
@@ -121,7 +123,7 @@ fn spends_its_entries(rt: HostRuntime) {
             answer_of(TICKS, 100_000, 99_998, 100_000),
         ),
     ];
-    check_askings(&rt, rt.alloc(), &rows);
+    check_askings(&rt, rt.alloc(), &rows)
 }
 
 /// On L levels with s sets each there are 2 + L * (1 + s + 1) + (L - 1) entries, and a body is asked L * (s + 1) + (L - 1)
@@ -129,7 +131,7 @@ fn spends_its_entries(rt: HostRuntime) {
 /// levels above it give 2 + D * (1 + s + 1) entries, and their bodies are asked D * (s + 1) times. The last act is asked for
 /// before its entry.
 #[test]
-fn spends_its_levels(rt: HostRuntime) {
+fn spends_its_levels(rt: HostRuntime) -> Result<(), Fail> {
     let rows = [
         (
             asking_of(0, 0, 1, 100_000),
@@ -159,5 +161,5 @@ fn spends_its_levels(rt: HostRuntime) {
             answer_of(DEPTH, 8_226, 8_192, 8_225),
         ),
     ];
-    check_askings(&rt, rt.alloc(), &rows);
+    check_askings(&rt, rt.alloc(), &rows)
 }

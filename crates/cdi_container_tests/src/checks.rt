@@ -1,5 +1,4 @@
-//! What the tests share: each compares by a call, since an assertion in a test makes its proof longer than a call does. What is
-//! refused for want of memory ends the test too: to hand it on by `?` would make the proofs longer.
+//! What the tests share: each compares by a call, since an assertion in a test makes its proof longer than a call does.
 use std::fmt::Debug;
 use std::process::Abort;
 

@@ -9,8 +9,9 @@ use cdi_bodies::Bodies;
 use cdi_container::{Accepted, Container};
 use cdi_machine::Driver;
 use cdi_text::read_command;
-use std::alloc::Global;
+use std::alloc::{AllocError, Global};
 use std::process::Abort;
+use std::test::Fail;
 
 /// What a command is replied.
 #[derive(Clone, Copy, Debug, PartialEq, Eq)]
@@ -36,13 +37,12 @@ fn plain_reply(reply: &Reply) -> Replied {
 
 /// The reply to a line.
 fn reply_to<D: Driver>(
-    rt: &impl Abort,
     alloc: Global,
     container: &mut Container<D>,
     line: &str,
-) -> Replied {
-    let command = read_command(alloc, line.as_bytes()).expect(rt, "a command");
-    plain_reply(&container.command(command))
+) -> Result<Replied, Fail> {
+    let command = read_command(alloc, line.as_bytes())?;
+    Ok(plain_reply(&container.command(command)))
 }
 
 /// The limits of a container, what its start is answered, and why it has halted in the end.
@@ -72,15 +72,16 @@ fn check_replies<D: Driver>(
     container: &mut Container<D>,
     life: Life,
     rows: &[Row],
-) {
+) -> Result<(), Fail> {
     expect_same(rt, &plain_reply(container.boot_reply()), &life.booted);
     let object = Some(BuiltIn::Object.name());
     expect_same(rt, &container.names().find("Object"), &object);
     for &(line, wanted) in rows {
-        let reply = reply_to(rt, alloc, container, line);
+        let reply = reply_to(alloc, container, line)?;
         expect_same_at(rt, &line, &reply, &wanted);
     }
     expect_same(rt, &container.halted(), &life.halted);
+    Ok(())
 }
 
 /// Starts a container, and checks its life.
@@ -91,21 +92,21 @@ fn check_life<D: Driver + Drop>(
     driver: D,
     life: Life,
     rows: &[Row],
-)
+) -> Result<(), Fail>
     requires knows { KnowsEach (D.knows driver) accepted.tables.beans }
     requires serves { GivesServed accepted.tables (D.legal driver) }
 {
     let limits = Limits::new(life.depth, life.ticks).expect(rt, "limits in range");
     let mut container = Container::start(alloc, accepted, driver, limits);
-    check_replies(rt, alloc, &mut container, life, rows);
+    check_replies(rt, alloc, &mut container, life, rows)
 }
 
 /// Checks the container of a deployment whose bodies count once.
-fn check(rt: &impl Abort, alloc: Global, text: &str, life: Life, rows: &[Row]) {
+fn check(rt: &impl Abort, alloc: Global, text: &str, life: Life, rows: &[Row]) -> Result<(), Fail> {
     let mut bodies = Bodies::new(alloc);
-    let deployment = deploy(rt, alloc, text, 1, &mut bodies);
-    let accepted = accept_well(rt, alloc, deployment, &bodies);
-    check_life(rt, alloc, accepted, bodies, life, rows);
+    let deployment = deploy(alloc, text, 1, &mut bodies)?;
+    let accepted = accept_well(alloc, deployment, &bodies)?;
+    check_life(rt, alloc, accepted, bodies, life, rows)
 }
 
 const UP: &str = r#"["call",null,"K",[],"up",[0]]"#;
@@ -120,7 +121,7 @@ const DOWN: Replied = Replied::Refused(Refusal::Down);
 const HALTED: Replied = Replied::Refused(Refusal::Halted);
 
 #[test]
-fn counts(rt: HostRuntime) {
+fn counts(rt: HostRuntime) -> Result<(), Fail> {
     let rows = [
         (UP, Replied::Gave(1)),
         (r#"["call",null,"Object",[],"up",[0]]"#, Replied::Gave(2)),
@@ -130,11 +131,11 @@ fn counts(rt: HostRuntime) {
         (IN_REQUEST, DOWN),
         (SHUTDOWN, DOWN),
     ];
-    check(&rt, rt.alloc(), SHARED, WELL, &rows);
+    check(&rt, rt.alloc(), SHARED, WELL, &rows)
 }
 
 #[test]
-fn counts_in_each_bean_by_itself(rt: HostRuntime) {
+fn counts_in_each_bean_by_itself(rt: HostRuntime) -> Result<(), Fail> {
     let rows = [
         (UP, Replied::Gave(1)),
         (UP, Replied::Gave(1)),
@@ -142,12 +143,12 @@ fn counts_in_each_bean_by_itself(rt: HostRuntime) {
         (UP, Replied::Gave(1)),
         (SHUTDOWN, Replied::Done),
     ];
-    check(&rt, rt.alloc(), DEPENDENT, WELL, &rows);
+    check(&rt, rt.alloc(), DEPENDENT, WELL, &rows)
 }
 
 /// A refused command changes nothing.
 #[test]
-fn refuses_in_order(rt: HostRuntime) {
+fn refuses_in_order(rt: HostRuntime) -> Result<(), Fail> {
     let unsatisfied = Replied::Threw(BuiltIn::UnsatisfiedResolutionException.name());
     let ambiguous = Replied::Threw(BuiltIn::AmbiguousResolutionException.name());
     let rows = [
@@ -169,7 +170,7 @@ fn refuses_in_order(rt: HostRuntime) {
         (r#"["call",null,"Object",[],"x",[]]"#, ambiguous),
         (r#"["call",null,"B",[],"up",[0]]"#, Replied::Gave(12)),
     ];
-    check(&rt, rt.alloc(), TWO, WELL, &rows);
+    check(&rt, rt.alloc(), TWO, WELL, &rows)
 }
 
 /// A container that halts for want of entries.
@@ -184,15 +185,15 @@ fn short_of_entries(ticks: u32, booted: Replied) -> Life {
 
 /// A boot gives 2 entries.
 #[test]
-fn halts_at_its_start(rt: HostRuntime) {
+fn halts_at_its_start(rt: HostRuntime) -> Result<(), Fail> {
     let rows = [(UP, HALTED), (IN_REQUEST, HALTED), (SHUTDOWN, HALTED)];
     let life = short_of_entries(1, Replied::Halted(Cause::Ticks));
-    check(&rt, rt.alloc(), SHARED, life, &rows);
+    check(&rt, rt.alloc(), SHARED, life, &rows)
 }
 
 /// A first call gives 5 entries.
 #[test]
-fn halts_once_its_entries_are_spent(rt: HostRuntime) {
+fn halts_once_its_entries_are_spent(rt: HostRuntime) -> Result<(), Fail> {
     let rows = [
         (UP, Replied::Halted(Cause::Ticks)),
         (UP, HALTED),
@@ -200,24 +201,25 @@ fn halts_once_its_entries_are_spent(rt: HostRuntime) {
     ];
     for ticks in [2, 4] {
         let life = short_of_entries(ticks, Replied::Done);
-        check(&rt, rt.alloc(), SHARED, life, &rows);
+        check(&rt, rt.alloc(), SHARED, life, &rows)?;
     }
+    Ok(())
 }
 
 #[test]
-fn spends_its_last_entry(rt: HostRuntime) {
+fn spends_its_last_entry(rt: HostRuntime) -> Result<(), Fail> {
     let rows = [
         (UP, Replied::Gave(1)),
         (UP, Replied::Gave(2)),
         (SHUTDOWN, Replied::Done),
     ];
     let life = Life { ticks: 5, ..WELL };
-    check(&rt, rt.alloc(), SHARED, life, &rows);
+    check(&rt, rt.alloc(), SHARED, life, &rows)
 }
 
 /// A body on the second level is one too many where there is one level.
 #[test]
-fn halts_below_its_last_level(rt: HostRuntime) {
+fn halts_below_its_last_level(rt: HostRuntime) -> Result<(), Fail> {
     const DEEPER: &str = r#"["call",null,"K",[],"up",[2]]"#;
     let rows = [
         (UP, Replied::Gave(1)),
@@ -232,27 +234,28 @@ fn halts_below_its_last_level(rt: HostRuntime) {
         halted: Some(Cause::Depth),
         ..WELL
     };
-    check(&rt, rt.alloc(), SHARED, life, &rows);
+    check(&rt, rt.alloc(), SHARED, life, &rows)
 }
 
 // ---- many beans
 
 /// Appends a class that is a bean of the application.
-fn append_class(rt: &impl Abort, alloc: Global, classes: &mut String, number: u32) {
+fn append_class(alloc: Global, classes: &mut String, number: u32) -> Result<(), AllocError> {
     let comma = if number == 0 { "" } else { "," };
     let class = format!(in alloc;
         r#"{comma}{{"name":"K{number}","bean":{{"scope":"ApplicationScoped"}},"fields":[{{"name":"n","value":{number}}}],"members":[{{"kind":"method","name":"up","args":1,"body":"up"}}]}}"#
-    ).expect(rt, "memory");
-    classes.push_str(class.as_str()).expect(rt, "memory");
+    )?;
+    classes.push_str(class.as_str())
 }
 
 /// The deployment of so many of these.
-fn many_classes(rt: &impl Abort, alloc: Global, count: u32) -> String {
+fn many_classes(alloc: Global, count: u32) -> Result<String, AllocError> {
     let mut classes = String::new(alloc);
     for number in 0..count {
-        append_class(rt, alloc, &mut classes, number);
+        append_class(alloc, &mut classes, number)?;
     }
-    format!(in alloc; r#"{{"classes":[{classes}]}}"#).expect(rt, "memory")
+    let classes = classes.as_str();
+    format!(in alloc; r#"{{"classes":[{classes}]}}"#)
 }
 
 /// Checks a call of the bean with a number, which counts on from it.
@@ -261,11 +264,12 @@ fn check_numbered<D: Driver>(
     alloc: Global,
     container: &mut Container<D>,
     number: u32,
-) {
-    let line = format!(in alloc; r#"["call",null,"K{number}",[],"up",[0]]"#).expect(rt, "memory");
-    let reply = reply_to(rt, alloc, container, line.as_str());
+) -> Result<(), Fail> {
+    let line = format!(in alloc; r#"["call",null,"K{number}",[],"up",[0]]"#)?;
+    let reply = reply_to(alloc, container, line.as_str())?;
     let wanted = Replied::Gave(i64::from(number).saturating_add(1));
     expect_same_at(rt, &number, &reply, &wanted);
+    Ok(())
 }
 
 /// Checks calls of all of so many beans, and then a shutdown.
@@ -274,12 +278,12 @@ fn check_numbers<D: Driver>(
     alloc: Global,
     container: &mut Container<D>,
     count: u32,
-) {
+) -> Result<(), Fail> {
     for number in 0..count {
-        check_numbered(rt, alloc, container, number);
+        check_numbered(rt, alloc, container, number)?;
     }
-    let reply = reply_to(rt, alloc, container, SHUTDOWN);
-    expect_same(rt, &reply, &Replied::Done);
+    expect_same(rt, &reply_to(alloc, container, SHUTDOWN)?, &Replied::Done);
+    Ok(())
 }
 
 /// Starts a container of so many beans, and checks calls of all of them.
@@ -289,20 +293,20 @@ fn check_all<D: Driver + Drop>(
     accepted: Accepted,
     driver: D,
     count: u32,
-)
+) -> Result<(), Fail>
     requires knows { KnowsEach (D.knows driver) accepted.tables.beans }
     requires serves { GivesServed accepted.tables (D.legal driver) }
 {
     let mut container = Container::start(alloc, accepted, driver, Limits::default());
-    check_numbers(rt, alloc, &mut container, count);
+    check_numbers(rt, alloc, &mut container, count)
 }
 
 #[test]
-fn serves_many_beans(rt: HostRuntime) {
+fn serves_many_beans(rt: HostRuntime) -> Result<(), Fail> {
     let alloc = rt.alloc();
-    let text = many_classes(&rt, alloc, 1_000);
+    let text = many_classes(alloc, 1_000)?;
     let mut bodies = Bodies::new(alloc);
-    let deployment = deploy(&rt, alloc, text.as_str(), 1, &mut bodies);
-    let accepted = accept_well(&rt, alloc, deployment, &bodies);
-    check_all(&rt, alloc, accepted, bodies, 1_000);
+    let deployment = deploy(alloc, text.as_str(), 1, &mut bodies)?;
+    let accepted = accept_well(alloc, deployment, &bodies)?;
+    check_all(&rt, alloc, accepted, bodies, 1_000)
 }

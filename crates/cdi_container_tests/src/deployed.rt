@@ -1,4 +1,5 @@
 //! Deployments for the tests of the engine and of the container, jobs, and how they end.
+ghost use Rattle.std.specs.Prelude.{IfOk};
 ghost use Rattle.cdi_bodies.specs.Table.{entries_of};
 ghost use Rattle.cdi_container.specs.Accepted.{IsAccepted};
 
@@ -9,11 +10,11 @@ use cdi_container::{Accepted, accept};
 use cdi_deploy::read;
 use cdi_deployment::Deployment;
 use cdi_engine::run::run;
-use cdi_machine::Driver;
+use cdi_machine::{Driver, Failure};
 use cdi_runtime::Runtime;
 use cdi_steps::{Completion, Given, Job, Outcome};
-use std::alloc::Global;
-use std::process::Abort;
+use std::alloc::{AllocError, Global};
+use std::test::Fail;
 
 /// A bean K of the application.
 pub(crate) const SHARED: &str =
@@ -29,30 +30,27 @@ pub(crate) const TWO: &str =
 
 /// Reads a deployment, and registers the body of its methods, which counts so many times.
 pub(crate) fn deploy(
-    rt: &impl Abort,
     alloc: Global,
     text: &str,
     sets: usize,
     bodies: &mut Bodies,
-) -> Deployment {
-    let deployment = read(alloc, text.as_bytes()).expect(rt, "a deployment");
-    let added = Counting::new(alloc, &deployment.names, sets).register(bodies);
-    added.expect(rt, "room for a body");
-    deployment
+) -> Result<Deployment, Fail> {
+    let deployment = read(alloc, text.as_bytes())?;
+    Counting::new(alloc, &deployment.names, sets).register(bodies)?;
+    Ok(deployment)
 }
 
 /// Accepts a deployment that has to have no problem.
 pub(crate) fn accept_well(
-    rt: &impl Abort,
     alloc: Global,
     deployment: Deployment,
     bodies: &Bodies,
-) -> Accepted
-    ensures { IsAccepted deployment (entries_of bodies.now) result }
+) -> Result<Accepted, Fail>
+    ensures { IfOk result (IsAccepted deployment (entries_of bodies.now)) }
 {
     match accept(alloc, deployment, bodies) {
-        Ok(accepted) => accepted,
-        Err(_) => panic!(rt; "a deployment with problems"),
+        Ok(accepted) => Ok(accepted),
+        Err(_) => Err("a deployment without problems")?,
     }
 }
 
@@ -67,16 +65,16 @@ pub(crate) enum Asks {
     Shutdown,
 }
 
-pub(crate) fn job_of(rt: &impl Abort, alloc: Global, names: &Names, asks: Asks) -> Job {
-    match asks {
+pub(crate) fn job_of(alloc: Global, names: &Names, asks: Asks) -> Result<Job, AllocError> {
+    Ok(match asks {
         Asks::Boot => Job::Boot,
         Asks::Call(bean_type, level) => Job::Call {
             bean_type: names.name_for(bean_type),
             method: names.name_for("up"),
-            args: level_args(alloc, level).expect(rt, "memory"),
+            args: level_args(alloc, level)?,
         },
         Asks::Shutdown => Job::Shutdown,
-    }
+    })
 }
 
 /// How a job ended.
@@ -100,7 +98,8 @@ fn end_of(outcome: &Outcome) -> End {
 }
 
 /// Carries a job out, with a trace of its own.
-pub(crate) fn carry_out<D: Driver>(rt: &impl Abort, runtime: &mut Runtime<D>, job: Job) -> End {
+pub(crate) fn carry_out<D: Driver>(runtime: &mut Runtime<D>, job: Job) -> Result<End, Failure> {
     runtime.begin();
-    end_of(&run(runtime, job).expect(rt, "an end"))
+    let outcome = run(runtime, job)?;
+    Ok(end_of(&outcome))
 }

@@ -7,12 +7,15 @@ use cdi_bodies::Bodies;
 use cdi_deployment::{Bean, Class, Deployment};
 use std::alloc::Global;
 use std::process::Abort;
+use std::test::Fail;
 
 /// The name of the class with this number.
-fn class_name(rt: &impl Abort, alloc: Global, names: &mut Names, number: u32) -> Name {
-    let text = format!(in alloc; "K{number}").expect(rt, "memory");
-    assert!(rt; is_name(text.as_str()));
-    names.intern(text.as_str()).expect(rt, "room for a name")
+fn class_name(alloc: Global, names: &mut Names, number: u32) -> Result<Name, Fail> {
+    let text = format!(in alloc; "K{number}")?;
+    if !is_name(text.as_str()) {
+        return Err("K and a number are a name")?;
+    }
+    Ok(names.intern(text.as_str())?)
 }
 
 /// A class that is a bean and has nothing else.
@@ -40,14 +43,14 @@ fn bean_class(alloc: Global, name: Name) -> Class {
 }
 
 /// A deployment of so many beans.
-pub(crate) fn beans(rt: &impl Abort, alloc: Global, count: u32) -> Deployment {
-    let mut names = Names::with_built_in(alloc).expect(rt, "memory");
+pub(crate) fn beans(alloc: Global, count: u32) -> Result<Deployment, Fail> {
+    let mut names = Names::with_built_in(alloc)?;
     let mut classes = Seq::empty(alloc);
     for number in 0..count {
-        let name = class_name(rt, alloc, &mut names, number);
-        classes.push(bean_class(alloc, name)).expect(rt, "memory");
+        let name = class_name(alloc, &mut names, number)?;
+        classes.push(bean_class(alloc, name))?;
     }
-    Deployment {
+    Ok(Deployment {
         names,
         interfaces: Seq::empty(alloc),
         qualifiers: Seq::empty(alloc),
@@ -58,30 +61,35 @@ pub(crate) fn beans(rt: &impl Abort, alloc: Global, count: u32) -> Deployment {
         selected: Seq::empty(alloc),
         order: Seq::empty(alloc),
         scripts: Seq::empty(alloc),
-    }
+    })
 }
 
 /// The kinds of the first two problems of so many beans.
 fn first_problems(
-    rt: &impl Abort,
     alloc: Global,
     count: u32,
-) -> (Option<ProblemKind>, Option<ProblemKind>) {
-    let deployment = beans(rt, alloc, count);
-    let found = problems(alloc, &deployment, &Bodies::new(alloc)).expect(rt, "memory");
+) -> Result<(Option<ProblemKind>, Option<ProblemKind>), Fail> {
+    let deployment = beans(alloc, count)?;
+    let found = problems(alloc, &deployment, &Bodies::new(alloc))?;
     let first = found.get(0).map(|problem| problem.kind);
     let second = found.get(1).map(|problem| problem.kind);
-    (first, second)
+    Ok((first, second))
 }
 
 /// Checks the kind of the only problem of so many beans, or that there is none.
-fn check_beans(rt: &impl Abort, alloc: Global, count: u32, wanted: Option<ProblemKind>) {
-    let found = first_problems(rt, alloc, count);
+fn check_beans(
+    rt: &impl Abort,
+    alloc: Global,
+    count: u32,
+    wanted: Option<ProblemKind>,
+) -> Result<(), Fail> {
+    let found = first_problems(alloc, count)?;
     expect_same(rt, &found, &(wanted, None));
+    Ok(())
 }
 
 #[test]
-fn counts_many_beans(rt: HostRuntime) {
-    check_beans(&rt, rt.alloc(), 4_096, None);
-    check_beans(&rt, rt.alloc(), 4_097, Some(ProblemKind::TooMany));
+fn counts_many_beans(rt: HostRuntime) -> Result<(), Fail> {
+    check_beans(&rt, rt.alloc(), 4_096, None)?;
+    check_beans(&rt, rt.alloc(), 4_097, Some(ProblemKind::TooMany))
 }

@@ -10,8 +10,9 @@ use cdi_container::Accepted;
 use cdi_machine::Driver;
 use cdi_runtime::Runtime;
 use cdi_steps::Job;
-use std::alloc::Global;
+use std::alloc::{AllocError, Global};
 use std::process::Abort;
+use std::test::Fail;
 
 /// What is asked for: a type, a method and how many values, or a job without these.
 #[derive(Clone, Copy, Debug)]
@@ -21,24 +22,24 @@ enum Wanted {
     Shutdown,
 }
 
-fn args_of(rt: &impl Abort, alloc: Global, count: u32) -> Seq<Value> {
+fn args_of(alloc: Global, count: u32) -> Result<Seq<Value>, AllocError> {
     let mut args = Seq::empty(alloc);
     for _ in 0..count {
-        args.push(Value::Null).expect(rt, "memory");
+        args.push(Value::Null)?;
     }
-    args
+    Ok(args)
 }
 
-fn job_for(rt: &impl Abort, alloc: Global, names: &Names, wanted: Wanted) -> Job {
-    match wanted {
+fn job_for(alloc: Global, names: &Names, wanted: Wanted) -> Result<Job, AllocError> {
+    Ok(match wanted {
         Wanted::Boot => Job::Boot,
         Wanted::Call(bean_type, method, count) => Job::Call {
             bean_type: names.name_for(bean_type),
             method: names.name_for(method),
-            args: args_of(rt, alloc, count),
+            args: args_of(alloc, count)?,
         },
         Wanted::Shutdown => Job::Shutdown,
-    }
+    })
 }
 
 /// Whether the container has halted, whether a request is named, what is asked for, and why it is refused.
@@ -46,16 +47,15 @@ type Row = (bool, bool, Wanted, Option<Refusal>);
 
 /// Why it is refused.
 fn refusal_in<D: Driver>(
-    rt: &impl Abort,
     alloc: Global,
     runtime: &Runtime<D>,
     row: &Row,
-) -> Option<Refusal> {
+) -> Result<Option<Refusal>, AllocError> {
     let &(halted, in_request, wanted, _) = row;
-    let request = Text::from_str(alloc, "R").expect(rt, "memory");
+    let request = Text::from_str(alloc, "R")?;
     let request = if in_request { Some(&request) } else { None };
-    let job = job_for(rt, alloc, &runtime.tables().names, wanted);
-    runtime.refusal(halted, request, &job)
+    let job = job_for(alloc, &runtime.tables().names, wanted)?;
+    Ok(runtime.refusal(halted, request, &job))
 }
 
 /// Carries a job out, and then checks why each is refused.
@@ -65,13 +65,14 @@ fn check_behind<D: Driver>(
     runtime: &mut Runtime<D>,
     first: Asks,
     rows: &[Row],
-) {
-    let job = job_of(rt, alloc, &runtime.tables().names, first);
-    carry_out(rt, runtime, job);
+) -> Result<(), Fail> {
+    let job = job_of(alloc, &runtime.tables().names, first)?;
+    carry_out(runtime, job)?;
     for row in rows {
-        let refusal = refusal_in(rt, alloc, runtime, row);
+        let refusal = refusal_in(alloc, runtime, row)?;
         expect_same_at(rt, &row.2, &refusal, &row.3);
     }
+    Ok(())
 }
 
 /// Checks why each is refused, before anything was done or after a shutdown.
@@ -82,25 +83,25 @@ fn check_each<D: Driver + Drop>(
     driver: D,
     first: Asks,
     rows: &[Row],
-)
+) -> Result<(), Fail>
     requires knows { KnowsEach (D.knows driver) accepted.tables.beans }
     requires serves { GivesServed accepted.tables (D.legal driver) }
 {
     let Accepted { tables, classes } = accepted;
     let mut runtime = Runtime::new(alloc, tables, classes, driver, Limits::default());
-    check_behind(rt, alloc, &mut runtime, first, rows);
+    check_behind(rt, alloc, &mut runtime, first, rows)
 }
 
 /// Checks why each is refused behind a job.
-fn check_refusals(rt: &impl Abort, alloc: Global, first: Asks, rows: &[Row]) {
+fn check_refusals(rt: &impl Abort, alloc: Global, first: Asks, rows: &[Row]) -> Result<(), Fail> {
     let mut bodies = Bodies::new(alloc);
-    let deployment = deploy(rt, alloc, TWO, 1, &mut bodies);
-    let accepted = accept_well(rt, alloc, deployment, &bodies);
-    check_each(rt, alloc, accepted, bodies, first, rows);
+    let deployment = deploy(alloc, TWO, 1, &mut bodies)?;
+    let accepted = accept_well(alloc, deployment, &bodies)?;
+    check_each(rt, alloc, accepted, bodies, first, rows)
 }
 
 #[test]
-fn refuses_in_order(rt: HostRuntime) {
+fn refuses_in_order(rt: HostRuntime) -> Result<(), Fail> {
     let rows = [
         (true, true, Wanted::Call("X", "x", 0), Some(Refusal::Halted)),
         (true, false, Wanted::Shutdown, Some(Refusal::Halted)),
@@ -143,12 +144,12 @@ fn refuses_in_order(rt: HostRuntime) {
         ),
         (false, false, Wanted::Call("A", "up", 1), None),
     ];
-    check_refusals(&rt, rt.alloc(), Asks::Boot, &rows);
+    check_refusals(&rt, rt.alloc(), Asks::Boot, &rows)
 }
 
 /// A call of a type that resolves to no bean, or to several, isn't refused: it throws.
 #[test]
-fn refuses_no_call_that_throws(rt: HostRuntime) {
+fn refuses_no_call_that_throws(rt: HostRuntime) -> Result<(), Fail> {
     let rows = [
         (false, false, Wanted::Call("P", "x", 0), None),
         (false, false, Wanted::Call("Startup", "x", 0), None),
@@ -157,11 +158,11 @@ fn refuses_no_call_that_throws(rt: HostRuntime) {
         (false, false, Wanted::Boot, None),
         (false, true, Wanted::Shutdown, None),
     ];
-    check_refusals(&rt, rt.alloc(), Asks::Call("A", 0), &rows);
+    check_refusals(&rt, rt.alloc(), Asks::Call("A", 0), &rows)
 }
 
 #[test]
-fn refuses_all_once_it_is_down(rt: HostRuntime) {
+fn refuses_all_once_it_is_down(rt: HostRuntime) -> Result<(), Fail> {
     let rows = [
         (true, false, Wanted::Shutdown, Some(Refusal::Halted)),
         (false, true, Wanted::Call("X", "x", 0), Some(Refusal::Down)),
@@ -173,5 +174,5 @@ fn refuses_all_once_it_is_down(rt: HostRuntime) {
         ),
         (false, false, Wanted::Shutdown, Some(Refusal::Down)),
     ];
-    check_refusals(&rt, rt.alloc(), Asks::Shutdown, &rows);
+    check_refusals(&rt, rt.alloc(), Asks::Shutdown, &rows)
 }

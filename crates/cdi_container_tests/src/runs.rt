@@ -10,21 +10,21 @@ use cdi_bodies::Bodies;
 use cdi_container::Accepted;
 use cdi_machine::Driver;
 use cdi_runtime::Runtime;
-use std::alloc::Global;
+use std::alloc::{AllocError, Global};
 use std::process::Abort;
+use std::test::Fail;
 
 /// A job, how it ends, its entries, and how many instances live then.
 type Row = (Asks, End, &'static str, usize);
 
 /// The entries of the job before.
-fn text_of<D: Driver>(rt: &impl Abort, alloc: Global, runtime: &Runtime<D>) -> String {
-    let (names, trace) = (&runtime.tables().names, runtime.world().trace());
-    trace_text(alloc, names, trace).expect(rt, "memory")
+fn text_of<D: Driver>(alloc: Global, runtime: &Runtime<D>) -> Result<String, AllocError> {
+    trace_text(alloc, &runtime.tables().names, runtime.world().trace())
 }
 
 /// How many instances live.
-fn live_in<D: Driver>(rt: &impl Abort, alloc: Global, runtime: &Runtime<D>) -> usize {
-    runtime.world().numbers(alloc).expect(rt, "memory").len()
+fn live_in<D: Driver>(alloc: Global, runtime: &Runtime<D>) -> Result<usize, AllocError> {
+    Ok(runtime.world().numbers(alloc)?.len())
 }
 
 /// Checks what stands behind a job.
@@ -34,21 +34,28 @@ fn check_behind<D: Driver>(
     runtime: &Runtime<D>,
     row: &Row,
     end: End,
-) {
-    let (asks, wanted, trace, live) = row;
-    let found = (end, live_in(rt, alloc, runtime));
-    expect_same_at(rt, asks, &found, &(*wanted, *live));
-    let text = text_of(rt, alloc, runtime);
-    expect_same_at(rt, asks, &text.as_str(), trace);
+) -> Result<(), AllocError> {
+    let &(asks, wanted, trace, live) = row;
+    expect_same_at(rt, &asks, &end, &wanted);
+    let text = text_of(alloc, runtime)?;
+    expect_same_at(rt, &asks, &text.as_str(), &trace);
+    expect_same_at(rt, &asks, &live_in(alloc, runtime)?, &live);
+    Ok(())
 }
 
 /// Carries jobs out one after the other, and checks each.
-fn check_rows<D: Driver>(rt: &impl Abort, alloc: Global, runtime: &mut Runtime<D>, rows: &[Row]) {
+fn check_rows<D: Driver>(
+    rt: &impl Abort,
+    alloc: Global,
+    runtime: &mut Runtime<D>,
+    rows: &[Row],
+) -> Result<(), Fail> {
     for row in rows {
-        let job = job_of(rt, alloc, &runtime.tables().names, row.0);
-        let end = carry_out(rt, runtime, job);
-        check_behind(rt, alloc, runtime, row, end);
+        let job = job_of(alloc, &runtime.tables().names, row.0)?;
+        let end = carry_out(runtime, job)?;
+        check_behind(rt, alloc, runtime, row, end)?;
     }
+    Ok(())
 }
 
 /// Checks jobs from before the boot on.
@@ -58,28 +65,28 @@ fn check_jobs<D: Driver + Drop>(
     accepted: Accepted,
     driver: D,
     rows: &[Row],
-)
+) -> Result<(), Fail>
     requires knows { KnowsEach (D.knows driver) accepted.tables.beans }
     requires serves { GivesServed accepted.tables (D.legal driver) }
 {
     let Accepted { tables, classes } = accepted;
     let mut runtime = Runtime::new(alloc, tables, classes, driver, Limits::default());
-    check_rows(rt, alloc, &mut runtime, rows);
+    check_rows(rt, alloc, &mut runtime, rows)
 }
 
 /// Checks the jobs of a deployment whose bodies count once.
-fn check_runs(rt: &impl Abort, alloc: Global, text: &str, rows: &[Row]) {
+fn check_runs(rt: &impl Abort, alloc: Global, text: &str, rows: &[Row]) -> Result<(), Fail> {
     let mut bodies = Bodies::new(alloc);
-    let deployment = deploy(rt, alloc, text, 1, &mut bodies);
-    let accepted = accept_well(rt, alloc, deployment, &bodies);
-    check_jobs(rt, alloc, accepted, bodies, rows);
+    let deployment = deploy(alloc, text, 1, &mut bodies)?;
+    let accepted = accept_well(alloc, deployment, &bodies)?;
+    check_jobs(rt, alloc, accepted, bodies, rows)
 }
 
 /// The entries of a boot.
 const BOOTED: &str = "event Object Initialized ApplicationScoped;event Startup;";
 
 #[test]
-fn counts(rt: HostRuntime) {
+fn counts(rt: HostRuntime) -> Result<(), Fail> {
     let rows = [
         (Asks::Boot, End::GaveNull, BOOTED, 0),
         (
@@ -107,11 +114,11 @@ fn counts(rt: HostRuntime) {
             0,
         ),
     ];
-    check_runs(&rt, rt.alloc(), SHARED, &rows);
+    check_runs(&rt, rt.alloc(), SHARED, &rows)
 }
 
 #[test]
-fn shuts_down_what_is_empty(rt: HostRuntime) {
+fn shuts_down_what_is_empty(rt: HostRuntime) -> Result<(), Fail> {
     let rows = [
         (Asks::Boot, End::GaveNull, BOOTED, 0),
         (
@@ -127,11 +134,11 @@ fn shuts_down_what_is_empty(rt: HostRuntime) {
             0,
         ),
     ];
-    check_runs(&rt, rt.alloc(), SHARED, &rows);
+    check_runs(&rt, rt.alloc(), SHARED, &rows)
 }
 
 #[test]
-fn destroys_what_a_call_borrowed(rt: HostRuntime) {
+fn destroys_what_a_call_borrowed(rt: HostRuntime) -> Result<(), Fail> {
     let rows = [
         (
             Asks::Call("K", 0),
@@ -146,11 +153,11 @@ fn destroys_what_a_call_borrowed(rt: HostRuntime) {
             0,
         ),
     ];
-    check_runs(&rt, rt.alloc(), DEPENDENT, &rows);
+    check_runs(&rt, rt.alloc(), DEPENDENT, &rows)
 }
 
 #[test]
-fn ends_the_latest_first(rt: HostRuntime) {
+fn ends_the_latest_first(rt: HostRuntime) -> Result<(), Fail> {
     let rows = [
         (
             Asks::Call("B", 0),
@@ -183,7 +190,7 @@ fn ends_the_latest_first(rt: HostRuntime) {
             0,
         ),
     ];
-    check_runs(&rt, rt.alloc(), TWO, &rows);
+    check_runs(&rt, rt.alloc(), TWO, &rows)
 }
 
 // ---- many
@@ -199,60 +206,66 @@ struct Behind {
 
 /// Makes a call so many times, and tells how the last ended.
 fn call_again<D: Driver>(
-    rt: &impl Abort,
     alloc: Global,
     runtime: &mut Runtime<D>,
     asks: Asks,
     times: u32,
-) -> End {
+) -> Result<End, Fail> {
     let mut end = End::Other;
     for _ in 0..times {
-        let job = job_of(rt, alloc, &runtime.tables().names, asks);
-        end = carry_out(rt, runtime, job);
+        let job = job_of(alloc, &runtime.tables().names, asks)?;
+        end = carry_out(runtime, job)?;
     }
-    end
+    Ok(end)
 }
 
 /// Makes a call so many times, and tells what stands behind the last.
 fn behind_calls<D: Driver>(
-    rt: &impl Abort,
     alloc: Global,
     runtime: &mut Runtime<D>,
     asks: Asks,
     times: u32,
-) -> Behind {
-    Behind {
-        end: call_again(rt, alloc, runtime, asks, times),
+) -> Result<Behind, Fail> {
+    let end = call_again(alloc, runtime, asks, times)?;
+    Ok(Behind {
+        end,
         entries: runtime.world().entries(),
-        live: live_in(rt, alloc, runtime),
+        live: live_in(alloc, runtime)?,
         next: runtime.world().next_number(),
-    }
+    })
 }
 
 /// The same under default limits, in a world in which nothing was done before.
 fn call_often<D: Driver + Drop>(
-    rt: &impl Abort,
     alloc: Global,
     accepted: Accepted,
     driver: D,
     asks: Asks,
     times: u32,
-) -> Behind
+) -> Result<Behind, Fail>
     requires knows { KnowsEach (D.knows driver) accepted.tables.beans }
     requires serves { GivesServed accepted.tables (D.legal driver) }
 {
     let Accepted { tables, classes } = accepted;
     let mut runtime = Runtime::new(alloc, tables, classes, driver, Limits::default());
-    behind_calls(rt, alloc, &mut runtime, asks, times)
+    behind_calls(alloc, &mut runtime, asks, times)
 }
 
 /// Checks what stands behind a call that was made so many times, of a deployment whose bodies count once.
-fn check_often(rt: &impl Abort, alloc: Global, text: &str, asks: Asks, times: u32, wanted: Behind) {
+fn check_often(
+    rt: &impl Abort,
+    alloc: Global,
+    text: &str,
+    asks: Asks,
+    times: u32,
+    wanted: Behind,
+) -> Result<(), Fail> {
     let mut bodies = Bodies::new(alloc);
-    let deployment = deploy(rt, alloc, text, 1, &mut bodies);
-    let accepted = accept_well(rt, alloc, deployment, &bodies);
-    let behind = call_often(rt, alloc, accepted, bodies, asks, times);
+    let deployment = deploy(alloc, text, 1, &mut bodies)?;
+    let accepted = accept_well(alloc, deployment, &bodies)?;
+    let behind = call_often(alloc, accepted, bodies, asks, times)?;
     expect_same(rt, &behind, &wanted);
+    Ok(())
 }
 
 fn left_behind(end: End, entries: u64, live: usize, next: u32) -> Behind {
@@ -266,21 +279,22 @@ fn left_behind(end: End, entries: u64, live: usize, next: u32) -> Behind {
 
 /// No instance of a dependent bean is left by a thousand calls, and of a shared one there is one.
 #[test]
-fn leaves_nothing_behind(rt: HostRuntime) {
+fn leaves_nothing_behind(rt: HostRuntime) -> Result<(), Fail> {
     let rows = [
         (DEPENDENT, left_behind(End::Gave(1), 7, 0, 1_001)),
         (SHARED, left_behind(End::Gave(1_000), 3, 1, 2)),
     ];
     for (text, wanted) in rows {
-        check_often(&rt, rt.alloc(), text, Asks::Call("K", 0), 1_000, wanted);
+        check_often(&rt, rt.alloc(), text, Asks::Call("K", 0), 1_000, wanted)?;
     }
+    Ok(())
 }
 
 /// A bean that calls itself for ever is cut below the 32nd level: 2 entries for the instance, and 3 for each level. One that
 /// does so 31 times comes to its end: 2 entries for the instance, 4 for each level but the last, 3 for that, and 2 for the
 /// end. What was made for a call that was cut stays.
 #[test]
-fn goes_down_to_the_last_level(rt: HostRuntime) {
+fn goes_down_to_the_last_level(rt: HostRuntime) -> Result<(), Fail> {
     let rows = [
         (
             Asks::Call("Object", i64::MAX),
@@ -289,6 +303,7 @@ fn goes_down_to_the_last_level(rt: HostRuntime) {
         (Asks::Call("K", 31), left_behind(End::Gave(32), 131, 0, 2)),
     ];
     for (asks, wanted) in rows {
-        check_often(&rt, rt.alloc(), DEPENDENT, asks, 1, wanted);
+        check_often(&rt, rt.alloc(), DEPENDENT, asks, 1, wanted)?;
     }
+    Ok(())
 }

@@ -7,6 +7,7 @@ use cdi_store::{Component, Context, Instance, Owner};
 use cdi_world::{Code, Invocation, World};
 use std::alloc::{AllocError, Global};
 use std::process::Abort;
+use std::test::Fail;
 
 // ---- changes
 
@@ -62,52 +63,57 @@ fn field() -> Name {
     BuiltIn::Value.name()
 }
 
-fn make(rt: &impl Abort, alloc: Global, world: &mut World, component: Component, owned: Owned) {
-    assert!(rt; world.next_number().is_some());
+fn make(
+    alloc: Global,
+    world: &mut World,
+    component: Component,
+    owned: Owned,
+) -> Result<(), AllocError> {
+    if world.next_number().is_none() {
+        return Ok(());
+    }
     let mut fields = Fields::new(alloc);
-    fields.put(field(), Value::Int(0)).expect(rt, "memory");
-    let made = world.make(component, owner_of(owned), fields);
-    made.expect(rt, "memory");
+    fields.put(field(), Value::Int(0))?;
+    world.make(component, owner_of(owned), fields)
 }
 
-fn enter(rt: &impl Abort, alloc: Global, world: &mut World, target: u32) {
-    let invocation = Invocation::new(
+fn enter(alloc: Global, world: &mut World, target: u32) -> Result<(), AllocError> {
+    world.enter(Invocation::new(
         target,
         InterceptorMethod::AroundInvoke,
         None,
         Seq::empty(alloc),
-    );
-    world.enter(invocation).expect(rt, "memory");
+    ))
 }
 
 /// Makes a change that begins or ends something in the running command.
-fn change_command(rt: &impl Abort, alloc: Global, world: &mut World, change: Change) {
+fn change_command(alloc: Global, world: &mut World, change: Change) -> Result<(), AllocError> {
     match change {
         Change::Begin => world.begin(),
-        Change::Write => world.write(Entry::Ready { number: 1 }).expect(rt, "memory"),
+        Change::Write => world.write(Entry::Ready { number: 1 })?,
         Change::StandAlone => world.stand_alone(),
-        Change::Enter(target) => enter(rt, alloc, world, target),
+        Change::Enter(target) => enter(alloc, world, target)?,
         Change::Reach => world.reach(),
         Change::Exit => world.exit(),
-        Change::Start(number) => world.start(number).expect(rt, "memory"),
+        Change::Start(number) => world.start(number)?,
         Change::Stop => world.stop(),
-        Change::Borrow => world.borrow().expect(rt, "memory"),
+        Change::Borrow => world.borrow()?,
         Change::GiveBack => world.give_back(),
         _ => {}
     }
+    Ok(())
 }
 
-fn make_change(rt: &impl Abort, alloc: Global, world: &mut World, change: Change) {
+fn make_change(alloc: Global, world: &mut World, change: Change) -> Result<(), AllocError> {
     match change {
-        Change::Make(bean, owned) => make(rt, alloc, world, Component::Bean(bean), owned),
+        Change::Make(bean, owned) => make(alloc, world, Component::Bean(bean), owned)?,
         Change::Intercept(index, owned) => make(
-            rt,
             alloc,
             world,
             Component::Interceptor(index),
             owned,
-        ),
-        Change::Settle(number) => world.settle(number).expect(rt, "memory"),
+        )?,
+        Change::Settle(number) => world.settle(number)?,
         Change::Discard(number) => world.discard(number),
         Change::Leave(number) => world.leave(number),
         Change::Remove(number) => world.remove(number),
@@ -116,8 +122,9 @@ fn make_change(rt: &impl Abort, alloc: Global, world: &mut World, change: Change
         Change::Finish => world.finish_application(),
         Change::Close => world.close_application(),
         Change::GoDown => world.bring_down(),
-        _ => change_command(rt, alloc, world, change),
+        _ => change_command(alloc, world, change)?,
     }
+    Ok(())
 }
 
 // ---- what is seen
@@ -196,24 +203,38 @@ fn text_of(alloc: Global, world: &World, view: View) -> Result<String, AllocErro
 }
 
 /// Checks what is seen after a change.
-fn check_seen(rt: &impl Abort, alloc: Global, world: &World, view: View, wanted: &str) {
-    let seen = text_of(alloc, world, view).expect(rt, "memory");
+fn check_seen(
+    rt: &impl Abort,
+    alloc: Global,
+    world: &World,
+    view: View,
+    wanted: &str,
+) -> Result<(), AllocError> {
+    let seen = text_of(alloc, world, view)?;
     expect_same(rt, &seen.as_str(), &wanted);
+    Ok(())
 }
 
 /// Makes changes, one after the other, and checks what is seen after each.
-fn check_each(rt: &impl Abort, alloc: Global, world: &mut World, view: View, rows: &[Row]) {
+fn check_each(
+    rt: &impl Abort,
+    alloc: Global,
+    world: &mut World,
+    view: View,
+    rows: &[Row],
+) -> Result<(), AllocError> {
     for &(change, wanted) in rows {
-        make_change(rt, alloc, world, change);
-        check_seen(rt, alloc, world, view, wanted);
+        make_change(alloc, world, change)?;
+        check_seen(rt, alloc, world, view, wanted)?;
     }
+    Ok(())
 }
 
 /// The same of a world whose commands may have two entries.
-fn check_changes(rt: &impl Abort, alloc: Global, view: View, rows: &[Row]) {
+fn check_changes(rt: &impl Abort, alloc: Global, view: View, rows: &[Row]) -> Result<(), Fail> {
     let limits = Limits::new(32, 2).expect(rt, "limits in range");
     let mut world = World::new(alloc, limits);
-    check_each(rt, alloc, &mut world, view, rows);
+    Ok(check_each(rt, alloc, &mut world, view, rows)?)
 }
 
 #[test]
@@ -226,7 +247,7 @@ fn begins_with_nothing(rt: HostRuntime) {
 }
 
 #[test]
-fn leaves_what_is_not_there(rt: HostRuntime) {
+fn leaves_what_is_not_there(rt: HostRuntime) -> Result<(), Fail> {
     const NOTHING: &str = "next Some(1), Some(Open) None None";
     const ROWS: &[Row] = &[
         (Change::Begin, NOTHING),
@@ -236,11 +257,11 @@ fn leaves_what_is_not_there(rt: HostRuntime) {
         (Change::Remove(1), NOTHING),
         (Change::Assign(1, 5), NOTHING),
     ];
-    check_changes(&rt, rt.alloc(), View::Held, ROWS);
+    check_changes(&rt, rt.alloc(), View::Held, ROWS)
 }
 
 #[test]
-fn holds_what_is_shared(rt: HostRuntime) {
+fn holds_what_is_shared(rt: HostRuntime) -> Result<(), Fail> {
     const ROWS: &[Row] = &[
         (
             Change::Make(3, Owned::Application),
@@ -283,11 +304,11 @@ fn holds_what_is_shared(rt: HostRuntime) {
             "2 Ready 0 [], next Some(4), Some(Open) None None",
         ),
     ];
-    check_changes(&rt, rt.alloc(), View::Held, ROWS);
+    check_changes(&rt, rt.alloc(), View::Held, ROWS)
 }
 
 #[test]
-fn keeps_dependents_in_order(rt: HostRuntime) {
+fn keeps_dependents_in_order(rt: HostRuntime) -> Result<(), Fail> {
     const ROWS: &[Row] = &[
         (
             Change::Make(3, Owned::Borrower),
@@ -330,11 +351,11 @@ fn keeps_dependents_in_order(rt: HostRuntime) {
             "1 Ready 0 [3], 3 Ready 0 [], 4 Ready 0 [], next Some(5), Some(Open) None None",
         ),
     ];
-    check_changes(&rt, rt.alloc(), View::Held, ROWS);
+    check_changes(&rt, rt.alloc(), View::Held, ROWS)
 }
 
 #[test]
-fn gives_back_what_is_borrowed(rt: HostRuntime) {
+fn gives_back_what_is_borrowed(rt: HostRuntime) -> Result<(), Fail> {
     const ROWS: &[Row] = &[
         (Change::Borrow, "None 0 Some(None) 0 true"),
         (Change::Make(3, Owned::Borrower), "None 0 Some(None) 0 true"),
@@ -348,11 +369,11 @@ fn gives_back_what_is_borrowed(rt: HostRuntime) {
         (Change::GiveBack, "None 0 None 0 true"),
         (Change::GiveBack, "None 0 None 0 true"),
     ];
-    check_changes(&rt, rt.alloc(), View::Running, ROWS);
+    check_changes(&rt, rt.alloc(), View::Running, ROWS)
 }
 
 #[test]
-fn knows_what_is_running(rt: HostRuntime) {
+fn knows_what_is_running(rt: HostRuntime) -> Result<(), Fail> {
     const ROWS: &[Row] = &[
         (Change::Enter(7), "Some((7, false)) 0 None 0 true"),
         (Change::Reach, "Some((7, true)) 0 None 0 true"),
@@ -367,11 +388,11 @@ fn knows_what_is_running(rt: HostRuntime) {
         (Change::Stop, "None 0 None 0 true"),
         (Change::Stop, "None 0 None 0 true"),
     ];
-    check_changes(&rt, rt.alloc(), View::Running, ROWS);
+    check_changes(&rt, rt.alloc(), View::Running, ROWS)
 }
 
 #[test]
-fn writes_entries(rt: HostRuntime) {
+fn writes_entries(rt: HostRuntime) -> Result<(), Fail> {
     const ROWS: &[Row] = &[
         (Change::Write, "None 0 None 1 true"),
         (Change::Write, "None 0 None 2 false"),
@@ -379,11 +400,11 @@ fn writes_entries(rt: HostRuntime) {
         (Change::StandAlone, "None 0 None 3 false"),
         (Change::Begin, "None 0 None 0 true"),
     ];
-    check_changes(&rt, rt.alloc(), View::Running, ROWS);
+    check_changes(&rt, rt.alloc(), View::Running, ROWS)
 }
 
 #[test]
-fn ends_the_application(rt: HostRuntime) {
+fn ends_the_application(rt: HostRuntime) -> Result<(), Fail> {
     const ROWS: &[Row] = &[
         (
             Change::Make(3, Owned::Application),
@@ -426,7 +447,7 @@ fn ends_the_application(rt: HostRuntime) {
             "1 Leaving 0 [], 2 Ready 0 [], next Some(3), None None None",
         ),
     ];
-    check_changes(&rt, rt.alloc(), View::Held, ROWS);
+    check_changes(&rt, rt.alloc(), View::Held, ROWS)
 }
 
 #[test]
@@ -439,9 +460,9 @@ fn goes_down(rt: HostRuntime) {
 // ---- an invocation as a whole
 
 /// The number of a body.
-fn body_of(rt: &impl Abort, alloc: Global) -> BodyId {
+fn body_of(alloc: Global) -> Result<BodyId, Fail> {
     let mut bodies = Bodies::new(alloc);
-    crate::bodies::add_null(rt, alloc, &mut bodies, BuiltIn::Any.name(), false)
+    crate::bodies::add_null(alloc, &mut bodies, BuiltIn::Any.name(), false)
 }
 
 /// A member.
@@ -451,14 +472,14 @@ fn place() -> Place {
 
 /// Checks what is known of the code of the member.
 fn check_code(rt: &impl Abort, code: Code, body: BodyId) {
-    expect_same(rt, &(code.place(), code.body()), &(place(), body));
+    expect_same(rt, &code.place(), &place());
+    expect_same(rt, &code.body(), &body);
 }
 
 /// Enters an invocation of a member, with the value 9.
-fn enter_member(rt: &impl Abort, alloc: Global, world: &mut World, code: Code) {
-    let parameters = crate::bodies::level_args(alloc, 9).expect(rt, "memory");
-    let invocation = Invocation::new(7, InterceptorMethod::PreDestroy, Some(code), parameters);
-    world.enter(invocation).expect(rt, "memory");
+fn enter_member(alloc: Global, world: &mut World, code: Code) -> Result<(), AllocError> {
+    let parameters = crate::bodies::level_args(alloc, 9)?;
+    world.enter(Invocation::new(7, InterceptorMethod::PreDestroy, Some(code), parameters))
 }
 
 /// Checks the innermost invocation.
@@ -472,40 +493,44 @@ fn check_invocation(rt: &impl Abort, invocation: Option<&Invocation>, code: Code
 }
 
 #[test]
-fn keeps_an_invocation(rt: HostRuntime) {
-    let body = body_of(&rt, rt.alloc());
+fn keeps_an_invocation(rt: HostRuntime) -> Result<(), Fail> {
+    let body = body_of(rt.alloc())?;
     let code = Code::new(place(), body);
     check_code(&rt, code, body);
     let mut world = World::new(rt.alloc(), Limits::default());
-    enter_member(&rt, rt.alloc(), &mut world, code);
+    enter_member(rt.alloc(), &mut world, code)?;
     check_invocation(&rt, world.invocation(), code);
+    Ok(())
 }
 
 // ---- many
 
 /// Makes a change so many times.
-fn repeat(rt: &impl Abort, alloc: Global, world: &mut World, times: u32, change: Change) {
+fn repeat(alloc: Global, world: &mut World, times: u32, change: Change) -> Result<(), AllocError> {
     for _ in 0..times {
-        make_change(rt, alloc, world, change);
+        make_change(alloc, world, change)?;
     }
+    Ok(())
 }
 
 /// Makes instances of the beans from 0 on, each with the number that is one greater, and settles each.
-fn make_many(rt: &impl Abort, alloc: Global, world: &mut World, count: u32, owned: Owned) {
+fn make_many(alloc: Global, world: &mut World, count: u32, owned: Owned) -> Result<(), AllocError> {
     for bean in 0..count {
-        make(rt, alloc, world, Component::Bean(bean), owned);
-        world.settle(bean.saturating_add(1)).expect(rt, "memory");
+        make(alloc, world, Component::Bean(bean), owned)?;
+        world.settle(bean.saturating_add(1))?;
     }
+    Ok(())
 }
 
 /// The numbers of the live instances count from 1.
-fn check_numbers(rt: &impl Abort, alloc: Global, world: &World) {
-    let numbers = world.numbers(alloc).expect(rt, "memory");
+fn check_numbers(rt: &impl Abort, alloc: Global, world: &World) -> Result<(), AllocError> {
+    let numbers = world.numbers(alloc)?;
     let mut next = 1u32;
     for number in &numbers {
         expect_same(rt, number, &next);
         next = next.saturating_add(1);
     }
+    Ok(())
 }
 
 /// Lets instances leave and go, that of the greatest number first, and checks which is the greatest then.
@@ -526,41 +551,44 @@ fn check_held(
     live: usize,
     held: [Option<Held>; 2],
     last: Option<u32>,
-) {
-    let numbers = world.numbers(alloc).expect(rt, "memory");
-    expect_same(
-        rt,
-        &(numbers.len(), world.last_in_application()),
-        &(live, last),
-    );
+) -> Result<(), AllocError> {
+    expect_same(rt, &world.numbers(alloc)?.len(), &live);
     let found = [3, 999].map(|bean| world.held(Scope::ApplicationScoped, bean));
     expect_same(rt, &found, &held);
+    expect_same(rt, &world.last_in_application(), &last);
+    Ok(())
 }
 
 /// Makes instances that are shared, and lets them go.
-fn check_shared(rt: &impl Abort, alloc: Global, world: &mut World) {
+fn check_shared(rt: &impl Abort, alloc: Global, world: &mut World) -> Result<(), AllocError> {
     let all = [Some(Held::Is(4)), Some(Held::Is(1_000))];
-    make_many(rt, alloc, world, 1_000, Owned::Application);
-    check_held(rt, alloc, world, 1_000, all, Some(1_000));
-    check_numbers(rt, alloc, world);
+    make_many(alloc, world, 1_000, Owned::Application)?;
+    check_held(rt, alloc, world, 1_000, all, Some(1_000))?;
+    check_numbers(rt, alloc, world)?;
     check_leaving(rt, world, 1_000);
-    check_held(rt, alloc, world, 0, [None, None], None);
+    check_held(rt, alloc, world, 0, [None, None], None)
 }
 
 #[test]
-fn holds_many_that_are_shared(rt: HostRuntime) {
+fn holds_many_that_are_shared(rt: HostRuntime) -> Result<(), Fail> {
     let mut world = World::new(rt.alloc(), Limits::default());
-    check_shared(&rt, rt.alloc(), &mut world);
+    Ok(check_shared(&rt, rt.alloc(), &mut world)?)
 }
 
 /// Makes a change a thousand times, and checks what is seen then.
-fn check_many(rt: &impl Abort, alloc: Global, world: &mut World, change: Change, wanted: &str) {
-    repeat(rt, alloc, world, 1_000, change);
-    check_seen(rt, alloc, world, View::Running, wanted);
+fn check_many(
+    rt: &impl Abort,
+    alloc: Global,
+    world: &mut World,
+    change: Change,
+    wanted: &str,
+) -> Result<(), AllocError> {
+    repeat(alloc, world, 1_000, change)?;
+    check_seen(rt, alloc, world, View::Running, wanted)
 }
 
 /// Makes many temporaries, and many of each change.
-fn check_under_way(rt: &impl Abort, alloc: Global, world: &mut World) {
+fn check_under_way(rt: &impl Abort, alloc: Global, world: &mut World) -> Result<(), AllocError> {
     const ROWS: &[Row] = &[
         (Change::Enter(7), "Some((7, false)) 0 None 0 true"),
         (Change::Exit, "None 0 None 0 true"),
@@ -572,25 +600,27 @@ fn check_under_way(rt: &impl Abort, alloc: Global, world: &mut World) {
         (Change::GiveBack, "None 0 None 0 true"),
         (Change::Write, "None 0 None 1000 true"),
     ];
-    make_many(rt, alloc, world, 1_000, Owned::Borrower);
+    make_many(alloc, world, 1_000, Owned::Borrower)?;
     for &(change, wanted) in ROWS {
-        check_many(rt, alloc, world, change, wanted);
+        check_many(rt, alloc, world, change, wanted)?;
     }
+    Ok(())
 }
 
 #[test]
-fn keeps_many_under_way(rt: HostRuntime) {
+fn keeps_many_under_way(rt: HostRuntime) -> Result<(), Fail> {
     let mut world = World::new(rt.alloc(), Limits::default());
-    check_under_way(&rt, rt.alloc(), &mut world);
+    Ok(check_under_way(&rt, rt.alloc(), &mut world)?)
 }
 
 /// Makes many dependents of the first instance.
-fn make_dependents(rt: &impl Abort, alloc: Global, world: &mut World, count: u32) {
-    make_change(rt, alloc, world, Change::Make(0, Owned::Borrower));
+fn make_dependents(alloc: Global, world: &mut World, count: u32) -> Result<(), AllocError> {
+    make_change(alloc, world, Change::Make(0, Owned::Borrower))?;
     for number in 0..count {
-        make_change(rt, alloc, world, Change::Make(1, Owned::Instance(1)));
-        world.settle(number.saturating_add(2)).expect(rt, "memory");
+        make_change(alloc, world, Change::Make(1, Owned::Instance(1)))?;
+        world.settle(number.saturating_add(2))?;
     }
+    Ok(())
 }
 
 /// How many dependents an instance has, and the last.
@@ -600,16 +630,18 @@ fn dependents_of(world: &World, number: u32) -> Option<(usize, u32)> {
 }
 
 #[test]
-fn keeps_many_dependents(rt: HostRuntime) {
+fn keeps_many_dependents(rt: HostRuntime) -> Result<(), Fail> {
     let mut world = World::new(rt.alloc(), Limits::default());
-    make_dependents(&rt, rt.alloc(), &mut world, 1_000);
+    make_dependents(rt.alloc(), &mut world, 1_000)?;
     expect_same(&rt, &dependents_of(&world, 1), &Some((1_000, 1_001)));
+    Ok(())
 }
 
 #[test]
-fn keeps_many_entries(rt: HostRuntime) {
+fn keeps_many_entries(rt: HostRuntime) -> Result<(), Fail> {
     let mut world = World::new(rt.alloc(), Limits::default());
-    repeat(&rt, rt.alloc(), &mut world, 100_000, Change::Write);
-    let found = (world.trace().len(), world.entries(), world.has_room());
-    expect_same(&rt, &found, &(100_000, 100_000, false));
+    repeat(rt.alloc(), &mut world, 100_000, Change::Write)?;
+    expect_same(&rt, &world.trace().len(), &100_000);
+    expect_same(&rt, &(world.entries(), world.has_room()), &(100_000, false));
+    Ok(())
 }
