@@ -1,8 +1,9 @@
 -- What the words of the command line ask for.
-use Rattle.std.specs.Prelude.{◌≡◌, ℕ, true, List, [], Option, Some, None, option_map, option_and_then, unwrap_or, codes, bytes_eq, if◌then◌else◌}
+use Rattle.std.specs.Prelude.{◌≡◌, ℕ, true, false, List, [], Option, Some, None, option_map, option_and_then, unwrap_or, codes, bytes_eq, if◌then◌else◌}
 use Rattle.clap.specs.Words.{App, Kinds, Row, Rule, Text, app_of, fault_of, first_of, new_app, new_rule, subcommand_of, with_rule, with_subcommand}
 use Rattle.clap.specs.declared.builder.action.ArgAction.TheVariants.{Set}
 use Rattle.clap.specs.declared.builder.command.Command.{Command}
+use Rattle.clap.specs.declared.builder.command.Command.TheViews.{out-Command as fields_of}
 use Rattle.cdi_program.specs.declared.options.Mode.{Mode}
 use Rattle.cdi_program.specs.declared.options.Mode.TheVariants as modes
 
@@ -17,6 +18,11 @@ mode_form name = with_rule (new_app name) file_rule
 -- `cdi`, of which one subcommand has to be given, and which tells its version
 abbrev pub bare_form : App
 bare_form = let app = new_app (codes "cdi") in record app { top = record app.top { subcommand_required = true; has_version = true } }
+
+-- a command is that mode, with no argument that other modes have too
+pub record IsMode (name : Text) (c : Command) : Type 0 where
+  pub form : app_of c ≡ mode_form name
+  pub none_global : (fields_of c).has_globals ≡ false
 
 abbrev pub check_form : App
 check_form = mode_form (codes "check")

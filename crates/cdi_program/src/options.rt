@@ -1,6 +1,6 @@
 //! The words of the command line.
 ghost use Rattle.std.specs.Prelude.{◌≡◌, map, option_map, IfOk, IfErr};
-ghost use Rattle.clap.specs.Words.{HasKind, app_of, subcommand_name_of, subcommand_rows_of};
+ghost use Rattle.clap.specs.Words.{HasKind, subcommand_name_of, subcommand_rows_of};
 ghost use Rattle.cdi_program.specs.Options as spec;
 
 use cdi_base::Limits;
@@ -56,7 +56,7 @@ docs/FORMS.md in the repository describes deployments, command lines and replies
 
 /// The words of a mode: its name, and the file of a deployment.
 fn mode_command<'a>(alloc: Global, name: &'a str, about: &'a str) -> Result<Command<'a>, AllocError>
-    ensures { IfOk result (λ c. app_of c ≡ spec.mode_form name.now) }
+    ensures { IfOk result (spec.IsMode name.now) }
 {
     let file = Arg::new(alloc, "FILE")
         .help("The deployment, as JSON")

@@ -1,4 +1,4 @@
-use Rattle.std.proofs.Common.{rules, ap, ap₂, codes, true, ◌≡◌, ◌∙◌}
+use Rattle.std.proofs.Common.{ap, ap₂, true, ◌≡◌, ◌∙◌}
 use Rattle.std.proofs.lemmas.Result.{IfOk-weaker}
 use Rattle.clap.specs.Simple.{app_of_fields}
 use Rattle.clap.specs.declared.builder.command.Command.{Command}
@@ -15,12 +15,12 @@ with_mode app mode = with_subcommand app mode.top
 
 pub returns : goal.returns
 returns c =
-    let check_is : app_of c.in_ok-check.check ≡ spec.check_form = c.in_ok-check.ensures in
-    let run_is : app_of c.in_ok-run.run' ≡ spec.run_form = c.in_ok-run.ensures in
+    let check_is : app_of c.in_ok-check.check ≡ spec.check_form = c.in_ok-check.ensures.form in
+    let run_is : app_of c.in_ok-run.run' ≡ spec.run_form = c.in_ok-run.ensures.form in
     let bare_is : app_of c.subcommand_required.result ≡ spec.bare_form =
     ap app_of_fields c.subcommand_required.ensures ∙ ap (λ (f : Command-F Command). app_of_fields (record f { subcommand_required = true })) (c.after_help.ensures)
     ∙ ap (λ (f : Command-F Command). app_of_fields (record f { subcommand_required = true })) c.version.ensures
     ∙ ap (λ (f : Command-F Command). told (app_of_fields f)) c.about.ensures ∙ ap told c.new.ensures.app in
     let checks_is : app_of c.in_ok-subcommand.field-0 ≡ with_mode spec.bare_form spec.check_form =
-    c.in_ok-subcommand.ensures.shape (search rules) ∙ ap₂ with_mode bare_is check_is in
-    IfOk-weaker c.subcommand-2.result _ _ (λ app added. added.shape (search rules) ∙ ap₂ with_mode checks_is run_is) c.subcommand-2.ensures
+    c.in_ok-subcommand.ensures.shape c.in_ok-check.ensures.none_global ∙ ap₂ with_mode bare_is check_is in
+    IfOk-weaker c.subcommand-2.result _ _ (λ app added. added.shape c.in_ok-run.ensures.none_global ∙ ap₂ with_mode checks_is run_is) c.subcommand-2.ensures

@@ -6,4 +6,4 @@ use Rattle.cdi_program.proofs.Found.{file_of_found}
 use Rattle.cdi_program.proofs.options.file_in.Goals as goal
 
 pub returns : goal.returns
-returns c = c.get_str.ensures ∙ file_of_found (found_of c.in_ok-_run.words.now) (subcommand_rows (out-ArgMatches c.args.matches.now).subcommand) c.in_ok-_run.ensures.rows
+returns c = c.get_str.ensures ∙ file_of_found (found_of c.in_ok-_mode.words.now) (subcommand_rows (out-ArgMatches c.args.matches.now).subcommand) c.in_ok-_mode.ensures.rows
