@@ -73,7 +73,7 @@ fn checks_the_file_that_the_words_name(rt: HostRuntime) {
 fn checks_more_than_a_run_serves(rt: HostRuntime) {
     let wanted = Wanted {
         status: 1,
-        output: "Shape /interfaces\n",
+        output: "Shape \n",
         errors: "",
     };
     let words = ["cdi", "run", "k.json"];
