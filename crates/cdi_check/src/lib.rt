@@ -3,9 +3,8 @@
 
 mod bean_rules;
 mod late;
-mod making;
 mod settings;
 mod tables;
 mod tiers;
 
-pub use tiers::check;
+pub use tiers::{check, late_problems};

@@ -6,7 +6,7 @@ ghost use Rattle.cdi_check.specs.Late.{AreProblemsIn};
 ghost use Rattle.cdi_check.specs.Tables.{setting_by};
 ghost use Rattle.cdi_types.specs.Declarations.{declarations_of};
 
-use crate::tables::{BeanTables, LateTables};
+use crate::tables::LateTables;
 use cdi_base::Seq;
 use cdi_bodies::Bodies;
 use cdi_cycle_check::CycleTables;
@@ -15,6 +15,7 @@ use cdi_live::LiveTables;
 use cdi_members::ClassIndex;
 use cdi_point_check::PointTables;
 use cdi_problems::Problem;
+use cdi_tables::BeanTables;
 use std::alloc::{AllocError, Global};
 
 /// The last tier of problems, by these tables and by what is live.

@@ -12,31 +12,6 @@ use cdi_quals::QualifierTypes;
 use cdi_resolve::Resolver;
 use cdi_types::TypeTable;
 
-/// The types that a deployment declares, whose names have no problem.
-#[derive(Drop)]
-pub(crate) struct DeclaredTables {
-    pub(crate) types: TypeTable,
-    pub(crate) qualifiers: QualifierTypes,
-    pub(crate) bindings: QualifierTypes,
-}
-
-/// Which beans of a list are enabled, as a set and as a flag for each.
-#[derive(Drop)]
-pub(crate) struct EnabledBeans {
-    pub(crate) set: EnabledSet,
-    pub(crate) flags: Seq<bool>,
-}
-
-/// What is made from a deployment and its bean list, for the last tier.
-#[derive(Drop)]
-pub(crate) struct BeanTables {
-    pub(crate) declared: DeclaredTables,
-    pub(crate) enabled: EnabledSet,
-    pub(crate) resolver: Resolver,
-    pub(crate) chains: Chains,
-    pub(crate) disposers: Seq<DisposerMethod>,
-}
-
 /// A deployment whose names and beans have no problem, and all its tables.
 #[derive(Clone, Copy)]
 pub(crate) struct LateTables<'a> {

@@ -5,32 +5,46 @@ ghost use Rattle.cdi_bodies.specs.Table.{entries_of};
 ghost use Rattle.cdi_body_check.specs.Shapes.{shape_of};
 ghost use Rattle.cdi_check.specs.Late.{AreLateProblems};
 ghost use Rattle.cdi_check.specs.Problems.{AreProblemsOf};
+ghost use Rattle.cdi_tables.specs.BeanTables.{AreTablesOf};
 
-use crate::making::{bean_tables, declared_tables, enabled_beans};
 use crate::settings::problems_by;
 use cdi_base::Seq;
 use cdi_beanlist::{BeanList, BeanListError};
 use cdi_bodies::Bodies;
 use cdi_deployment::Deployment;
 use cdi_problems::Problem;
+use cdi_tables::BeanTables;
 use std::alloc::{AllocError, Global};
 
-/// The last tier of problems, of a deployment with this bean list.
-fn late_problems(
+/// The last tier of problems of a deployment whose names and beans have none, by its tables: those that look at what is enabled. They
+/// stand by their numbers, and those of a number in the order of the places.
+pub fn late_problems(
     alloc: Global,
     deployment: &Deployment,
+    tables: &BeanTables,
     bodies: &Bodies,
+) -> Result<Seq<Problem>, AllocError>
+    requires { AreTablesOf deployment.now tables.now }
+    ensures { IfOk result
+        (AreLateProblems deployment.now (shape_of (entries_of bodies.now))) }
+{
+    let problems = problems_by(alloc, deployment, tables, bodies)?;
+    Ok(problems)
+}
+
+/// The problems of a deployment with this bean list.
+fn problems_with(
+    alloc: Global,
+    deployment: &Deployment,
     list: BeanList,
+    bodies: &Bodies,
 ) -> Result<Seq<Problem>, AllocError>
     requires { IsMadeOf deployment.now list }
     ensures { IfOk result
         (AreLateProblems deployment.now (shape_of (entries_of bodies.now))) }
 {
-    let declared = declared_tables(alloc, deployment)?;
-    let enabled = enabled_beans(alloc, deployment, &list)?;
-    let tables = bean_tables(alloc, deployment, list, declared, enabled)?;
-    let problems = problems_by(alloc, deployment, &tables, bodies)?;
-    Ok(problems)
+    let tables = BeanTables::build(alloc, deployment, list)?;
+    late_problems(alloc, deployment, &tables, bodies)
 }
 
 /// The problems of a deployment with its registered bodies (Jakarta CDI 4.0, *Problems detected automatically by the container*): those
@@ -45,7 +59,7 @@ pub fn check(
         (AreProblemsOf deployment.now (shape_of (entries_of bodies.now))) }
 {
     match BeanList::build(alloc, deployment) {
-        Ok(list) => late_problems(alloc, deployment, bodies, list),
+        Ok(list) => problems_with(alloc, deployment, list, bodies),
         Err(BeanListError::Problems(problems)) => Ok(problems),
         Err(BeanListError::Memory) => Err(AllocError),
     }

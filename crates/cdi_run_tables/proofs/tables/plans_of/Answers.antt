@@ -1,0 +1,16 @@
+use Rattle.std.proofs.Common.{List, ap, sym, subst}
+use Rattle.std.specs.List.{All}
+use Rattle.cdi_beanlist.specs.declared.bean.Bean.{Bean}
+use Rattle.cdi_deployment.specs.declared.deployment.Class.{Class}
+use Rattle.cdi_plans.specs.Plans.{IsDeclared}
+use Rattle.cdi_tables.specs.declared.bean_tables.BeanTables.{BeanTables}
+use Rattle.cdi_run_tables.proofs.tables.plans_of.Goals as goal
+
+pub planned_beans-requires : goal.planned_beans-requires
+planned_beans-requires c =
+    let d = c.args.deployment.now in
+    let t = c.args.tables.now in
+    let made = c.requires in
+    let P : BeanTables → Type 0 = λ s. All (IsDeclared d.classes) s.resolver.beans in
+    let at_list = subst P (sym made.are.are) (c.law_beans_are_declared.ensures d made.list made.made) in
+    rw c.beans.ensures (rw c.in_ok-planner.ensures at_list)

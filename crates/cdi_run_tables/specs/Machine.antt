@@ -1,0 +1,161 @@
+-- What the machine asks of a deployment, answered from its tables.
+use Rattle.std.specs.Prelude.{ℕ, ◌==◌, ◌&&◌, ◌||◌, List, [], map, filter, fold, Bool, true, false, not, ◌∷◌, Option, Some, None, option_map, option_and_then, position, slice_get}
+use Rattle.std.specs.List.{find}
+use Rattle.cdi_base.specs.Fields.{put}
+use Rattle.cdi_base.specs.declared.uses.Use.{Use}
+use Rattle.cdi_bean_check.specs.Qualifiers.{full_uses}
+use Rattle.cdi_beanlist.specs.declared.bean.Bean.{Bean}
+use Rattle.cdi_deployment.specs.declared.deployment.Deployment.{Deployment}
+use Rattle.cdi_deployment.specs.declared.deployment.Field.{Field}
+use Rattle.cdi_deployment.specs.declared.deployment.Point.{Point}
+use Rattle.cdi_enable.specs.Enablement.{is_managed}
+use Rattle.cdi_machine.specs.Words.{Name, Asked, Fields}
+use Rattle.cdi_machine.specs.Tables as machine
+use Rattle.cdi_name_check.specs.UnknownName.{is_type, are_qualifiers}
+use Rattle.cdi_plans.specs.declared.plan.BusinessMethod.{BusinessMethod}
+use Rattle.cdi_plans.specs.declared.plan.Code.{Code}
+use Rattle.cdi_plans.specs.declared.plan.InjectedMethod.{InjectedMethod}
+use Rattle.cdi_plans.specs.declared.plan.Lifecycle.{Lifecycle}
+use Rattle.cdi_plans.specs.declared.plan.ManagedPlan.{ManagedPlan}
+use Rattle.cdi_plans.specs.declared.plan.Plan.{Plan}
+use Rattle.cdi_plans.specs.declared.plan.Plan.TheVariants as plans
+use Rattle.cdi_plans.specs.declared.plan.ProductPlan.{ProductPlan}
+use Rattle.cdi_plans.specs.declared.plan.Source.{Source}
+use Rattle.cdi_plans.specs.declared.plan.Source.TheVariants as sources
+use Rattle.cdi_plans.specs.declared.plan.Step.{Step}
+use Rattle.cdi_plans.specs.declared.plan.Step.TheVariants as steps
+use Rattle.cdi_resolve.specs.Filters.{enabled_of}
+use Rattle.cdi_resolve.specs.Resolution.{resolution}
+use Rattle.cdi_resolve.specs.declared.resolution.Resolution.{Resolution}
+use Rattle.cdi_resolve.specs.declared.resolution.Resolution.TheVariants as resolutions
+use Rattle.cdi_run_tables.specs.declared.planned.PlannedBean.{PlannedBean}
+use Rattle.cdi_run_tables.specs.declared.tables.RunTables.{RunTables}
+
+-- ---- plans
+
+abbrev pub asked_by : Point → Asked
+asked_by p = record { type = p.ty; qualifiers = p.quals }
+
+-- a body is known by its name
+abbrev pub machine_code : Code → machine.Code
+machine_code c = record { place = c.place; body = c.body }
+
+abbrev pub machine_lifecycle : Lifecycle → machine.Lifecycle
+machine_lifecycle l = record { chain = l.chain; callbacks = map machine_code l.callbacks }
+
+abbrev pub machine_method : BusinessMethod → machine.Method
+machine_method m = record { code = machine_code m.code; count = m.count; chain = m.chain }
+
+abbrev pub machine_methods : List BusinessMethod → List (Name × machine.Method)
+machine_methods methods = map (λ m. (m.name, machine_method m)) methods
+
+abbrev pub machine_member : InjectedMethod → machine.Member
+machine_member m = record { code = machine_code m.code; points = map asked_by m.points; chain = m.chain }
+
+abbrev pub machine_step : Step → machine.Step
+machine_step (steps.Intercept i) = machine.Step.Intercept i
+machine_step (steps.Construct points l) = machine.Step.Construct (map asked_by points) (machine_lifecycle l)
+machine_step (steps.Inject field point) = machine.Step.Inject field (asked_by point)
+machine_step (steps.Initialize code points) = machine.Step.Initialize (machine_code code) (map asked_by points)
+machine_step (steps.Complete l) = machine.Step.Complete (machine_lifecycle l)
+
+abbrev pub has_none : {A : Type 0} → List A → Bool
+has_none [] = true
+has_none (x ∷ xs) = false
+
+-- nothing runs at this point
+abbrev pub is_idle : Lifecycle → Bool
+is_idle l = has_none l.chain && has_none l.callbacks
+
+-- A construction without a constructor and without interceptors round it makes nothing run, nor does such a completion.
+abbrev pub does_something : Step → Bool
+does_something (steps.Construct points l) = not (has_none points && is_idle l)
+does_something (steps.Complete l) = not (is_idle l)
+does_something step = true
+
+abbrev pub machine_steps : List Step → List machine.Step
+machine_steps all = map machine_step (filter does_something all)
+
+-- each with its first value, in their order
+abbrev pub first_fields : List Field → Fields
+first_fields fields = fold (λ all f. put all f.name f.value) [] fields
+
+abbrev pub machine_managed : ManagedPlan → machine.Managed
+machine_managed p =
+    record {
+      fields = first_fields p.fields;
+      plan = machine_steps p.steps;
+      methods = machine_methods p.methods;
+      pre_destroy = machine_lifecycle p.pre_destroy;
+    }
+
+abbrev pub machine_source : Source → machine.Source
+machine_source (sources.ProducerMethod m) = machine.Source.ProducerMethod (machine_member m)
+machine_source (sources.ProducerField field) = machine.Source.ProducerField field
+
+-- ---- beans
+
+-- the managed bean of a class, by its index
+abbrev pub managed_bean : List Bean → Name → Option ℕ
+managed_bean beans class = position (λ b. is_managed b.kind && (b.class == class)) beans
+
+abbrev pub product_with : ProductPlan → ℕ → machine.Kind
+product_with p declaring =
+    machine.Kind.Producer
+    (record { declaring = declaring; source = machine_source p.source; disposers = map machine_member p.disposers })
+
+-- a product is one of the managed bean of the class that declares its producer
+abbrev pub machine_kind : List Bean → Plan → Option machine.Kind
+machine_kind beans (plans.Managed p) = Some (machine.Kind.Class (machine_managed p))
+machine_kind beans (plans.Product p) = option_map (product_with p) (managed_bean beans p.declaring)
+
+abbrev pub bean_with : PlannedBean → machine.Kind → machine.Bean
+bean_with b kind = record { place = b.place; scope = b.scope; kind = kind }
+
+abbrev pub machine_bean : List Bean → PlannedBean → Option machine.Bean
+machine_bean beans b = option_map (bean_with b) (machine_kind beans b.plan)
+
+abbrev pub bean_at : RunTables → ℕ → Option machine.Bean
+bean_at t b = option_and_then (machine_bean t.tables.resolver.beans) (slice_get t.beans b)
+
+abbrev pub method_named : List BusinessMethod → Name → Option BusinessMethod
+method_named methods name = find (λ m. m.name == name) methods
+
+abbrev pub method_in : Plan → Name → Option BusinessMethod
+method_in (plans.Managed p) name = method_named p.methods name
+method_in (plans.Product p) name = None
+
+-- the method of a bean, as its plan has it
+abbrev pub method_of : RunTables → ℕ → Name → Option BusinessMethod
+method_of t b name = option_and_then (λ (bean : PlannedBean). method_in bean.plan name) (slice_get t.beans b)
+
+-- ---- names
+
+abbrev pub resolution_of : RunTables → Name → List Use → Resolution
+resolution_of t type qualifiers =
+    resolution type (full_uses t.tables.declared.qualifiers qualifiers) (enabled_of t.tables.resolver)
+
+abbrev pub machine_resolution : Resolution → machine.Resolution
+machine_resolution (resolutions.One bean) = machine.Resolution.One bean
+machine_resolution resolutions.Nothing = machine.Resolution.Nothing
+machine_resolution resolutions.Many = machine.Resolution.Many
+
+abbrev pub is_known : Deployment → Name → List Use → Bool
+is_known d type qualifiers = is_type d type && are_qualifiers d qualifiers
+
+-- What is served so far: there are no instances of interceptors, no observers, no lookups and no checked exceptions, and no event is
+-- fired by a command or has qualifiers to be written.
+abbrev pub machine_tables : RunTables → machine.Tables
+machine_tables t =
+    record {
+      bean = bean_at t;
+      interceptor = λ i. None;
+      resolve = λ asked. machine_resolution (resolution_of t asked.type asked.qualifiers);
+      written = λ qualifiers. qualifiers;
+      observers = λ class qualifiers. [];
+      lookup = λ body k. None;
+      is_checked = λ x. false;
+      text = slice_get t.deployment.names;
+      is_known = λ asked. is_known t.deployment asked.type asked.qualifiers;
+      is_event = λ class qualifiers. false;
+    }

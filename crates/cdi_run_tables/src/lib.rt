@@ -1,0 +1,10 @@
+//! What the machine asks of a deployment: its beans with the plans of their instances, and what types and qualifiers resolve to
+//! (Jakarta CDI 4.0, *Beans*, *Typesafe resolution*).
+#![tactic(auto)]
+
+mod known;
+pub mod planned;
+pub mod tables;
+
+pub use planned::PlannedBean;
+pub use tables::RunTables;
