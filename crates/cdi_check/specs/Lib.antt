@@ -1,3 +1,4 @@
+pub mod Accepted
 pub mod BeanRules
 pub mod Late
 pub mod Problems

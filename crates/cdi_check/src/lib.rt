@@ -3,6 +3,7 @@
 
 mod bean_rules;
 mod late;
+pub mod laws;
 mod settings;
 mod tables;
 mod tiers;
