@@ -1,0 +1,5 @@
+pub mod Lists
+pub mod Lines
+pub mod Types
+pub mod Beans
+pub mod BeanLists
