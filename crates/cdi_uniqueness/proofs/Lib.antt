@@ -3,3 +3,5 @@ pub mod Lines
 pub mod Types
 pub mod Beans
 pub mod BeanLists
+pub mod Findings
+pub mod Tables
