@@ -5,3 +5,5 @@ pub mod Beans
 pub mod BeanLists
 pub mod Findings
 pub mod Tables
+pub mod Plans
+pub mod Verdicts
