@@ -1,2 +1,3 @@
+pub mod OneReport
 pub mod Reports
 pub mod Verdicts
