@@ -1,0 +1,2 @@
+mod Safe
+mod Maps
