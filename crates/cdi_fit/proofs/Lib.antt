@@ -1,2 +1,9 @@
 mod Safe
 mod Maps
+mod Lists
+mod Contexts
+mod Whole
+mod Frames
+mod Turns
+mod Settling
+mod Presence

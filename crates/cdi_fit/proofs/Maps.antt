@@ -1,6 +1,6 @@
 -- Look-ups in maps that were changed, and what holds of each member of a list.
 use Rattle.std.proofs.Common.{ℕ, ◌≡◌, ◌≢◌, Bool, true, false, cond, List, [], ◌∷◌, ◌++◌, Option, Some, None, ◌⊎◌, inl, inr, refl, sym, ap, ◌∙◌, subst, nat_eq, zero, suc}
-use Rattle.std.specs.Prelude.{slice_get}
+use Rattle.std.specs.Prelude.{option_map, slice_get}
 use Rattle.std.specs.Bool.{nat_lt}
 use Rattle.std.specs.List.{AllByRecursion}
 use Rattle.cdi_base.specs.Maps.{Map, at, adjusted, without, put_in_order}
@@ -32,6 +32,21 @@ module _ {X : Type 0} where
     | inl s ↦ let t : Some p.1 ≡ None = rw s.0 at e in absurd (cc)
     | inr s ↦ rw s.0 (rw s.0 (at_absent more n f (rw s.0 at e)))
   ]
+
+  -- what is found afterwards, by what was there
+  pub at_adjusted : (m : Map X) (n : ℕ) (f : X → X) (k : ℕ) → at (adjusted n f m) k ≡ option_map (λ x. cond (nat_eq k n) (f x) x) (at m k)
+  at_adjusted m n f k = elim (equal_or_not k n) [
+    | inl s ↦ rw s.0 (subst (λ i. at (adjusted i f m) k ≡ option_map f (at m k)) s.1 (here (at m k) refl))
+    | inr s ↦ rw s.0 (at_other m n k f s.1 ∙ same (at m k))
+  ]
+    where
+      here : (o : Option X) → at m k ≡ o → at (adjusted k f m) k ≡ option_map f o
+      here None e = at_absent m k f e
+      here (Some x) e = at_changed m k f x e
+
+      same : (o : Option X) → o ≡ option_map (λ x. x) o
+      same None = refl
+      same (Some x) = refl
 
   -- what is found afterwards was there, and is changed or not
   pub found_before : (m : Map X) (k n : ℕ) (f : X → X) (y : X) → at (adjusted k f m) n ≡ Some y → (x : X) × (at m n ≡ Some x) × ((y ≡ f x) ⊎ (y ≡ x))
