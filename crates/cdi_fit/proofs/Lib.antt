@@ -6,4 +6,5 @@ mod Whole
 mod Frames
 mod Turns
 mod Settling
+mod Leaving
 mod Presence
