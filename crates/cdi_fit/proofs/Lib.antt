@@ -7,4 +7,6 @@ mod Frames
 mod Turns
 mod Settling
 mod Leaving
+mod Gone
+mod Begun
 mod Presence
