@@ -9,4 +9,5 @@ mod Settling
 mod Leaving
 mod Gone
 mod Begun
+mod Parts
 mod Presence

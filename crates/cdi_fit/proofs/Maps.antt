@@ -3,7 +3,7 @@ use Rattle.std.proofs.Common.{ℕ, ◌≡◌, ◌≢◌, Bool, true, false, cond
 use Rattle.std.specs.Prelude.{option_map, slice_get}
 use Rattle.std.specs.Bool.{nat_lt}
 use Rattle.std.specs.List.{AllByRecursion}
-use Rattle.cdi_base.specs.Maps.{Map, at, adjusted, without, put_in_order}
+use Rattle.cdi_base.specs.Maps.{Map, at, adjusted, put, without, put_in_order}
 use Rattle.cdi_store.proofs.Numbers.{equal_or_not}
 
 module _ {X : Type 0} where
@@ -129,6 +129,20 @@ module _ {X : Type 0} where
       by : (b : Bool) → at (put_in_order k x more) n ≡ at more n → at (cond b ((k, x) ∷ p ∷ more) (p ∷ put_in_order k x more)) n ≡ cond (nat_eq n p.0) (Some p.1) (at more n)
       by true e = elim (equal_or_not n k) [ inl s ↦ absurd (h s.1) | inr s ↦ rw s.0 refl ]
       by false e = ap (cond (nat_eq n p.0) (Some p.1)) e
+
+  pub put_at : (m : Map X) (k : ℕ) (x : X) (n : ℕ) → at (put k x m) n ≡ cond (nat_eq n k) (Some x) (at m n)
+  put_at [] k x n = refl
+  put_at (p ∷ more) k x n = elim (equal_or_not k p.0) [
+    | inl s ↦ rw s.0 (subst (λ i. cond (nat_eq n p.0) (Some x) (at more n) ≡ cond (nat_eq n i) (Some x) (cond (nat_eq n p.0) (Some p.1) (at more n))) (sym s.1) (twice (nat_eq n p.0)))
+    | inr s ↦ rw s.0 (ap (cond (nat_eq n p.0) (Some p.1)) (put_at more k x n) ∙ elim (equal_or_not n k) [
+      | inl t ↦ let f : nat_eq n p.0 ≡ false = subst (λ i. nat_eq i p.0 ≡ false) (sym t.1) s.0 in rw (t.0, f) refl
+      | inr t ↦ rw t.0 refl
+    ])
+  ]
+    where
+      twice : (b : Bool) → cond b (Some x) (at more n) ≡ cond b (Some x) (cond b (Some p.1) (at more n))
+      twice true = refl
+      twice false = refl
 
   -- of what is left, the key is another
   pub all_left : (P Q : ℕ × X → Type 0) (m : Map X) (k : ℕ) → ((p : ℕ × X) → k ≢ p.0 → P p → Q p) → AllByRecursion P m → AllByRecursion Q (without k m)
