@@ -10,4 +10,6 @@ mod Leaving
 mod Gone
 mod Begun
 mod Parts
+mod Terms
+mod Statements
 mod Presence
