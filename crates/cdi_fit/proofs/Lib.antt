@@ -12,4 +12,6 @@ mod Begun
 mod Parts
 mod Terms
 mod Statements
+mod References
+mod Creation
 mod Presence
