@@ -14,4 +14,5 @@ mod Terms
 mod Statements
 mod References
 mod Creation
+mod Bodies
 mod Presence
