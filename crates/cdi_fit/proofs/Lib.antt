@@ -15,4 +15,6 @@ mod Statements
 mod References
 mod Creation
 mod Bodies
+mod Destruction
+mod Tasks
 mod Presence
