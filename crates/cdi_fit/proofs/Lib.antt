@@ -17,4 +17,6 @@ mod Creation
 mod Bodies
 mod Destruction
 mod Tasks
+mod Commands
+mod Admitted
 mod Presence

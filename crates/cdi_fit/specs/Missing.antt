@@ -33,8 +33,8 @@ abbrev pub IsServedCommand : Command → Type 0
 IsServedCommand (Command.Begin r s) = ⊥
 IsServedCommand _ = Unit {0}
 
--- What a command may ask for: if it calls a method, the bean to which the type and the qualifiers resolve has it, and it
--- takes so many values; if it reads a product, they resolve to no bean.
+-- What a command may ask for, in no request: if it calls a method, the bean to which the type and the qualifiers resolve
+-- has it, and it takes so many values; if it reads a product, they resolve to no bean.
 abbrev pub IsAdmitted : Tables → Command → Type 0
 IsAdmitted tables Command.Boot = Unit {0}
 IsAdmitted tables (Command.Call None asked method args) =
@@ -42,6 +42,7 @@ IsAdmitted tables (Command.Call None asked method args) =
     → HasMethod c method (length args)
 IsAdmitted tables (Command.Read None asked) =
     (b : ℕ) (c : Managed) → tables.resolve asked ≡ One b → IsClassOf tables b c → ⊥
+IsAdmitted tables (Command.Fire None class qualifiers v) = Unit {0}
 IsAdmitted tables Command.Live = Unit {0}
 IsAdmitted tables Command.Shutdown = Unit {0}
 IsAdmitted tables _ = ⊥
