@@ -1,12 +1,12 @@
 -- A command that isn't refused asks for what there is.
-use Rattle.std.proofs.Common.{ℕ, ◌≡◌, List, [], ◌∷◌, ◌++◌, length, Bool, true, false, not, Option, Some, None, refl, sym, ap, ◌∙◌, subst, nat_eq}
+use Rattle.std.proofs.Common.{ℕ, ◌≡◌, List, [], ◌∷◌, ◌++◌, length, Bool, true, false, not, Option, Some, None, refl, ap, ◌∙◌, subst, nat_eq}
 use Rattle.std.specs.Prelude.{is_some}
 use Rattle.cdi_base.specs.declared.reply.Refusal.{Refusal}
 use Rattle.cdi_base.specs.declared.reply.Refusal.TheVariants as refusals
 use Rattle.cdi_base.specs.Maps.{at}
 use Rattle.cdi_contexts.specs.Contexts.{request_in, session_in}
 use Rattle.cdi_contexts.specs.Refusals.{is_open, is_new, is_marked, first_that_holds}
-use Rattle.cdi_machine.specs.Words.{Name, Asked}
+use Rattle.cdi_machine.specs.Words.{Asked}
 use Rattle.cdi_machine.specs.Tables.{Tables, Method, Managed, Kind, Bean, One}
 use Rattle.cdi_machine.specs.Commands.{Command}
 use Rattle.cdi_machine.specs.Container.{State, refusal, bean_of, call_refusals, read_refusals, refused_by_contexts, refused_by_tables, no_method, wrong_count}

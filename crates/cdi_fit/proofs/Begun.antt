@@ -1,5 +1,5 @@
 -- The creation of an instance begins: it gets the next number, and its context has it as one that is being made.
-use Rattle.std.proofs.Common.{ℕ, ◌+◌, ◌≡◌, ◌≢◌, ◌<◌, ◌⊎◌, inl, inr, List, [], ◌∷◌, ◌++◌, length, Option, Some, None, refl, sym, ap, ◌∙◌, subst, arith}
+use Rattle.std.proofs.Common.{ℕ, ◌+◌, ◌≡◌, ◌≢◌, ◌<◌, ◌⊎◌, inl, inr, [], ◌∷◌, ◌++◌, length, Option, Some, None, refl, sym, ap, ◌∙◌, subst, arith}
 use Rattle.cdi_base.specs.Fields.{has}
 use Rattle.cdi_base.specs.Maps.{at}
 use Rattle.cdi_store.specs.declared.instance.Component.{Component}
@@ -14,19 +14,19 @@ use Rattle.cdi_store.specs.declared.references.Reference.TheVariants.{Direct, Pr
 use Rattle.cdi_store.specs.Live.{Instances, newborn, with_newborn}
 use Rattle.cdi_store.proofs.Numbers.{equal_or_not}
 use Rattle.cdi_contexts.specs.declared.context.Held.TheVariants.{Making}
-use Rattle.cdi_contexts.specs.Contexts.{Active, Contexts, with_held}
+use Rattle.cdi_contexts.specs.Contexts.{Contexts, with_held}
 use Rattle.cdi_machine.specs.Words.{Name, Fields}
-use Rattle.cdi_machine.specs.Tables.{Tables, Managed, Kind}
+use Rattle.cdi_machine.specs.Tables.{Tables, Managed}
 use Rattle.cdi_machine.specs.World.{World, Change, after_change}
 use Rattle.cdi_machine.specs.Creation.{first_fields}
 use Rattle.cdi_machine.specs.Runs.{Legal}
 use Rattle.cdi_fit.specs.Fits.{IsIn, IsClassOf, IsServedBean}
-use Rattle.cdi_fit.specs.Left.{IsHeld, DependsOn}
+use Rattle.cdi_fit.specs.Left.{IsHeld}
 use Rattle.cdi_fit.proofs.Maps.{at_added, at_before}
 use Rattle.cdi_fit.proofs.Lists.{Tested, HasTop}
-use Rattle.cdi_fit.proofs.Contexts.{StillMaking, making_self, IsFree, free_none, put_making, held_put, making_put, AllHeld, all_held_map, all_held_put}
+use Rattle.cdi_fit.proofs.Contexts.{StillMaking, IsFree, free_none, put_making, held_put, making_put, AllHeld, all_held_map, all_held_put}
 use Rattle.cdi_fit.proofs.Whole.{IsServedOwner, IsWhole, AllWhole, Stands, IsOwned, Refers, HeldBy, Good, placed_map, IsPlaced}
-use Rattle.cdi_fit.proofs.Frames.{Any, Other, Keeps, Settles, keeps_less, owned_then, stands_then, AfterOf, Changed}
+use Rattle.cdi_fit.proofs.Frames.{Any, Other, Keeps, keeps_less, owned_then, stands_then, AfterOf, Changed, WasSo}
 use Rattle.cdi_fit.proofs.Settling.{HasPlace, Apart}
 
 abbrev pub IsThere : Instances → ℕ → Type 0
@@ -141,7 +141,7 @@ module _ (tables : Tables) (legal : Legal) (w : World) (bean : ℕ) (owner : Own
           placed_map w.instances more w.contexts.application contexts.application w.temporaries w.temporaries k y.component y.owner (f k y.component) (λ q. q)
           (λ m h. (h.0, old m (other m h.0 h.1) ∙ h.1, h.2)) (g.placed.placed k y s.1 r)
 
-      begun : (k : ℕ) (y : Instance) → k ≢ w.next → Found k y → (y.phase ≡ phases.Ready) ⊎ Rattle.cdi_fit.proofs.Frames.WasSo w.instances k y.phase
+      begun : (k : ℕ) (y : Instance) → k ≢ w.next → Found k y → (y.phase ≡ phases.Ready) ⊎ WasSo w.instances k y.phase
       begun k y d (inl s) = absurd (d s.0)
       begun k y d (inr s) = inr (y, s.1, refl)
 
@@ -161,10 +161,10 @@ pub begun : (tables : Tables) (legal : Legal) (w : World) (bean : ℕ) (owner : 
     → BegunIn tables legal bean owner w (after_change (Change.Make (components.Bean bean) owner (first_fields served.bean.kind)) w)
 begun tables legal w bean (owners.Context Application) served g h = (
   build tables legal w bean (owners.Context Application) g served tt (with_held bean Making Application w.contexts)
-  (all_held_put (HeldBy (more tables legal w bean (owners.Context Application) g served tt)) w.contexts.application bean Making tt
-  (all_held_map (HeldBy w.instances) _ w.contexts.application (held_still tables legal w bean (owners.Context Application) g served tt) g.held))
-  (λ k c q. held_put w.contexts.application bean Making c k (free_none w.contexts.application bean h) q)
-  g.requests g.sessions (record { stays = λ b d q. making_put w.contexts.application bean Making b d q }),
+      (all_held_put (HeldBy (more tables legal w bean (owners.Context Application) g served tt)) w.contexts.application bean Making tt
+      (all_held_map (HeldBy w.instances) _ w.contexts.application (held_still tables legal w bean (owners.Context Application) g served tt) g.held))
+      (λ k c q. held_put w.contexts.application bean Making c k (free_none w.contexts.application bean h) q)
+      g.requests g.sessions (record { stays = λ b d q. making_put w.contexts.application bean Making b d q }),
   now tables legal w bean (owners.Context Application) g served tt,
   put_making w.contexts.application bean h,
 )

@@ -1,12 +1,11 @@
 -- Bodies, their acts and the methods that they call miss nothing.
-use Rattle.std.proofs.Common.{ℕ, ◌≡◌, ◌⊎◌, inl, inr, List, [], ◌∷◌, length, Bool, true, false, cond, Option, Some, None, refl, sym, ap, ◌∙◌, subst, arith, nat_eq}
+use Rattle.std.proofs.Common.{ℕ, ◌≡◌, inl, inr, List, [], ◌∷◌, length, Bool, true, false, cond, Option, Some, None, refl, sym, ap, ◌∙◌, subst, arith, nat_eq}
 use Rattle.std.specs.Prelude.{◌||◌, nat_lt}
 use Rattle.std.specs.List.{AllByRecursion}
 use Rattle.cdi_base.specs.declared.value.Value.{Value}
 use Rattle.cdi_base.specs.declared.value.Value.TheVariants as values
 use Rattle.cdi_base.specs.declared.act.Act.{Act}
 use Rattle.cdi_base.specs.declared.act.Act.TheVariants as acts
-use Rattle.cdi_base.specs.declared.act.Via.{Via}
 use Rattle.cdi_base.specs.declared.act.Via.TheVariants as vias
 use Rattle.cdi_base.specs.declared.act.Answer.{Answer}
 use Rattle.cdi_base.specs.declared.act.Answer.TheVariants as answers
@@ -21,20 +20,19 @@ use Rattle.cdi_store.specs.declared.instance.Instance.{Instance}
 use Rattle.cdi_store.specs.declared.references.Reference.{Reference}
 use Rattle.cdi_store.specs.declared.references.Reference.TheVariants.{Direct, Proxy}
 use Rattle.cdi_store.specs.declared.references.Reference.TheVariants.{Empty as NoReference}
-use Rattle.cdi_store.specs.Live.{Instances}
 use Rattle.cdi_machine.specs.Words.{Name, Fields}
-use Rattle.cdi_machine.specs.Tables.{Tables, Code, Method, Managed, Kind, Bean}
+use Rattle.cdi_machine.specs.Tables.{Tables, Code, Method, Managed, Kind}
 use Rattle.cdi_machine.specs.World.{World, Change, Invocation, after_change, with_entry, instance_at}
 use Rattle.cdi_machine.specs.Programs.{Task, Given, Completion, Gave, Threw, Running, Prog, ret, throw, handle, attempt, alter, call, each, finally}
 use Rattle.cdi_machine.specs.Contexts.{reach_instance}
 use Rattle.cdi_machine.specs.Bodies.{invocation_at_start, body_at_start, given_by, run_rest, run_body, reference_at, bean_of, method_in, method_of, invoke_method, carry_out, answer_of, with_answer, perform, carry_on}
 use Rattle.cdi_machine.specs.Runs.{Legal}
-use Rattle.cdi_fit.specs.Fits.{HasMethod, IsClassOf, IsPointedTo, AnswersThrough, HasText, IsServedAct, IsServedBean, Fits}
+use Rattle.cdi_fit.specs.Fits.{HasMethod, IsClassOf, IsPointedTo, AnswersThrough, IsServedAct, IsServedBean, Fits}
 use Rattle.cdi_fit.proofs.Maps.{all_weaker, all_last}
-use Rattle.cdi_fit.proofs.Whole.{IsWhole, IsOnly, Refers, Good}
+use Rattle.cdi_fit.proofs.Whole.{IsWhole, Refers, Good}
 use Rattle.cdi_fit.proofs.Frames.{Any, After, after_self, after_trans}
 use Rattle.cdi_fit.proofs.Parts.{assigned}
-use Rattle.cdi_fit.proofs.Terms.{class_of, same_class, Lives, Serves, Invokes, IsAnswered, Told, Runs, Pre, Post, serves_then, thrown_text}
+use Rattle.cdi_fit.proofs.Terms.{class_of, same_class, Lives, Serves, Invokes, IsAnswered, Told, Runs, serves_then, thrown_text}
 use Rattle.cdi_fit.proofs.Statements.{Goes, then, loosen, found, found_two, found_last, expected, deeper, topped, called, calling}
 use Rattle.cdi_fit.proofs.References.{LeadsTo, Reaches, reach_safe}
 

@@ -1,5 +1,5 @@
 -- Each command misses nothing in a world whose parts fit one another, if it asks for what there is.
-use Rattle.std.proofs.Common.{ℕ, suc, ◌≡◌, List, [], ◌∷◌, length, Option, Some, None, refl, sym, ap, ◌∙◌, subst, arith}
+use Rattle.std.proofs.Common.{ℕ, suc, ◌≡◌, List, [], ◌∷◌, length, Some, None, sym, ap, subst, arith}
 use Rattle.std.specs.Prelude.{map}
 use Rattle.cdi_base.specs.declared.value.Value.TheVariants as values
 use Rattle.cdi_base.specs.declared.built_in.BuiltIn.{BuiltIn}
@@ -9,10 +9,10 @@ use Rattle.cdi_store.specs.declared.instance.Context.{Context}
 use Rattle.cdi_store.specs.declared.instance.Context.TheVariants.{Application}
 use Rattle.cdi_store.specs.declared.instance.Owner.TheVariants as owners
 use Rattle.cdi_contexts.specs.Contexts.{Contexts, OpenRequest, OpenSession}
-use Rattle.cdi_machine.specs.Words.{Name, Asked}
+use Rattle.cdi_machine.specs.Words.{Asked}
 use Rattle.cdi_machine.specs.Tables.{Tables, One}
 use Rattle.cdi_machine.specs.World.{World, Change, after_change, no_environment, below}
-use Rattle.cdi_machine.specs.Programs.{Task, Given, Completion, Gave, Threw, Prog, ret, throw, handle, each, resolve, instance}
+use Rattle.cdi_machine.specs.Programs.{Task, Given, Completion, Prog, ret, throw, handle, each, resolve, instance}
 use Rattle.cdi_machine.specs.Contexts.{refer_to, reach_instance}
 use Rattle.cdi_machine.specs.Destruction.{borrow_for, give_back}
 use Rattle.cdi_machine.specs.Bodies.{invoke_method}
@@ -26,7 +26,7 @@ use Rattle.cdi_fit.proofs.Contexts.{NoneHeld}
 use Rattle.cdi_fit.proofs.Whole.{Good}
 use Rattle.cdi_fit.proofs.Frames.{Any, After, Leaves, Settles, settles_trans, after_self, after_trans, leaves_trans, leaves_after}
 use Rattle.cdi_fit.proofs.Parts.{borrows, returns, finishes, closes}
-use Rattle.cdi_fit.proofs.Terms.{class_of, Lives, Told, Pre, Post, Gives}
+use Rattle.cdi_fit.proofs.Terms.{class_of, Lives, Told, Gives}
 use Rattle.cdi_fit.proofs.Statements.{Goes, then, loosen, called, calling}
 use Rattle.cdi_fit.proofs.References.{RefersTo, leads_to, Reaches, resolving, refer_safe, reach_safe}
 use Rattle.cdi_fit.proofs.Bodies.{invoke_safe}

@@ -1,8 +1,8 @@
 -- What the application context has for beans, and how that changes.
-use Rattle.std.proofs.Common.{ℕ, ◌≡◌, ◌≢◌, List, [], ◌∷◌, Option, Some, None, refl, sym, ap, ◌∙◌, subst}
+use Rattle.std.proofs.Common.{ℕ, ◌≡◌, ◌≢◌, Option, Some, None, sym, ap, ◌∙◌, subst}
 use Rattle.std.specs.Prelude.{option_map}
 use Rattle.std.specs.List.{AllByRecursion}
-use Rattle.cdi_base.specs.Maps.{at, without}
+use Rattle.cdi_base.specs.Maps.{at}
 use Rattle.cdi_store.specs.declared.instance.Component.{Component}
 use Rattle.cdi_store.specs.declared.instance.Component.TheVariants as components
 use Rattle.cdi_contexts.specs.declared.context.Held.{Held}

@@ -1,5 +1,5 @@
 -- Creation misses nothing: what is injected is there, and a creation that fails leaves what was there before it.
-use Rattle.std.proofs.Common.{ℕ, suc, ◌≡◌, ◌≢◌, ◌<◌, ◌⊎◌, inl, inr, List, [], ◌∷◌, Bool, true, false, Option, Some, None, refl, sym, ap, ◌∙◌, subst, arith}
+use Rattle.std.proofs.Common.{ℕ, suc, ◌≡◌, ◌<◌, ◌⊎◌, inl, inr, List, [], ◌∷◌, Some, None, refl, sym, ap, ◌∙◌, subst, arith}
 use Rattle.std.specs.Prelude.{nat_lt, ◌^◌}
 use Rattle.std.specs.List.{AllByRecursion}
 use Rattle.cdi_base.specs.declared.entry.Entry.TheVariants as entries
@@ -17,23 +17,23 @@ use Rattle.cdi_store.specs.declared.references.Reference.TheVariants.{Empty as N
 use Rattle.cdi_store.specs.Live.{Instances}
 use Rattle.cdi_store.proofs.Numbers.{equal_or_not}
 use Rattle.cdi_machine.specs.Words.{Name, Asked}
-use Rattle.cdi_machine.specs.Tables.{Tables, Step, Managed, Kind, Bean, One}
+use Rattle.cdi_machine.specs.Tables.{Tables, Step, Managed, One}
 use Rattle.cdi_machine.specs.World.{World, Change, after_change, with_entry}
-use Rattle.cdi_machine.specs.Programs.{Task, Given, Completion, Gave, Threw, Prog, ret, throw, handle, each, rethrow}
+use Rattle.cdi_machine.specs.Programs.{Task, Given, Completion, Gave, Threw, Prog, throw, handle, each, rethrow}
 use Rattle.cdi_machine.specs.Contexts.{refer_to, resolve_point}
-use Rattle.cdi_machine.specs.Creation.{first_fields, inject, take_step, make, create, create_by, end_creation, make_ready, discard}
+use Rattle.cdi_machine.specs.Creation.{first_fields, inject, take_step, make, create, end_creation, make_ready, discard}
 use Rattle.cdi_machine.specs.Runs.{Legal}
 use Rattle.cdi_fit.specs.Fits.{IsIn, IsInjection, IsClassOf, IsPointedTo, HasText, IsServedBean, Fits}
-use Rattle.cdi_fit.proofs.Lists.{Tested, HasTop, has_top}
+use Rattle.cdi_fit.proofs.Lists.{Tested, has_top}
 use Rattle.cdi_fit.proofs.Contexts.{IsMaking, free_apart}
 use Rattle.cdi_fit.proofs.Whole.{Stands, Refers, Good}
-use Rattle.cdi_fit.proofs.Frames.{Any, Other, Below, Keeps, stands_then, WasSo, Settles, AfterOf, AfterAt, AfterBut, After, Changed, after_self, after_trans, after_less}
+use Rattle.cdi_fit.proofs.Frames.{Any, Other, Below, stands_then, WasSo, AfterAt, AfterBut, After, Changed, after_self, after_trans, after_less}
 use Rattle.cdi_fit.proofs.Settling.{HasPlace, Apart, settled}
-use Rattle.cdi_fit.proofs.Gone.{NoDependents, IsGone, discarded}
-use Rattle.cdi_fit.proofs.Begun.{IsThere, CanHave, BegunIn, begun}
+use Rattle.cdi_fit.proofs.Gone.{NoDependents, discarded}
+use Rattle.cdi_fit.proofs.Begun.{CanHave, BegunIn, begun}
 use Rattle.cdi_fit.proofs.Parts.{referred}
-use Rattle.cdi_fit.proofs.Terms.{class_of, same_class, Lives, Told, Gets, Pre, Post, lives_then, there_then}
-use Rattle.cdi_fit.proofs.Statements.{Goes, then, loosen, found, numbered, called, calling, rethrown}
+use Rattle.cdi_fit.proofs.Terms.{class_of, same_class, Lives, Told, Gets, Post, lives_then, there_then}
+use Rattle.cdi_fit.proofs.Statements.{Goes, then, loosen, found, numbered, calling, rethrown}
 use Rattle.cdi_fit.proofs.References.{RefersTo, resolving, refer_safe}
 
 module _ (tables : Tables) (legal : Legal) (fits : Fits tables legal) where

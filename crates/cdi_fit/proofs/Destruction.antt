@@ -1,5 +1,5 @@
 -- Destruction misses nothing, and leaves what was made before.
-use Rattle.std.proofs.Common.{ℕ, suc, ◌≡◌, ◌≢◌, ◌<◌, ◌⊎◌, inl, inr, List, [], ◌∷◌, length, Bool, true, false, Option, Some, None, refl, sym, ap, ◌∙◌, subst, arith}
+use Rattle.std.proofs.Common.{ℕ, suc, ◌≡◌, ◌<◌, ◌⊎◌, inl, inr, List, [], ◌∷◌, length, Bool, true, false, Option, Some, None, refl, sym, ap, ◌∙◌, subst, arith, nat_eq, cond}
 use Rattle.std.specs.Prelude.{max, nat_lt, slice_get}
 use Rattle.std.specs.List.{AllByRecursion}
 use Rattle.cdi_base.specs.declared.value.Value.{Value}
@@ -19,25 +19,23 @@ use Rattle.cdi_store.proofs.Numbers.{equal_or_not}
 use Rattle.cdi_contexts.specs.declared.context.Held.{Held}
 use Rattle.cdi_contexts.specs.declared.context.Held.TheVariants.{Making, Is}
 use Rattle.cdi_contexts.specs.Contexts.{Active, greatest, greater}
-use Rattle.cdi_machine.specs.Words.{Name}
-use Rattle.cdi_machine.specs.Tables.{Tables, Kind, Lifecycle}
+use Rattle.cdi_machine.specs.Tables.{Tables}
 use Rattle.cdi_machine.specs.World.{World, Change, after_change, with_entry, instance_at}
-use Rattle.cdi_machine.specs.Programs.{Task, Given, Completion, Gave, Threw, Prog, ret, throw, handle, quietly, require_present, call, pick}
+use Rattle.cdi_machine.specs.Programs.{Task, Given, Completion, Gave, Threw, Prog, throw, handle, quietly, require_present, call}
 use Rattle.cdi_machine.specs.Bodies.{invocation_at_start, call_back}
 use Rattle.cdi_machine.specs.Destruction.{latest, dismiss_latest, dismiss, clean_up_bean, clean_up, only_ready, destroy, release_from, release, greatest_in, clear_from, clear}
 use Rattle.cdi_machine.specs.Runs.{Legal}
 use Rattle.cdi_fit.specs.Fits.{IsIn, IsServedBean, Fits}
-use Rattle.cdi_fit.specs.Left.{IsHeld}
 use Rattle.cdi_fit.proofs.Maps.{all_weaker}
 use Rattle.cdi_fit.proofs.Lists.{Tested, in_got, got, IsAmong, HasTop, TopEmpty, has_top}
 use Rattle.cdi_fit.proofs.Contexts.{NoneHeld, AllHeld, EachHeld}
-use Rattle.cdi_fit.proofs.Whole.{IsWhole, Stands, IsOwned, HeldBy, Good}
-use Rattle.cdi_fit.proofs.Frames.{Any, Other, Below, stands_then, Settles, WasSo, AfterAt, AfterBut, After, Leaves, Changed, after_self, after_trans, after_less, after_fewer, leaves_trans, leaves_after}
+use Rattle.cdi_fit.proofs.Whole.{IsWhole, Stands, IsOwned, HeldBy, Good, IsServedOwner}
+use Rattle.cdi_fit.proofs.Frames.{Any, Other, Below, stands_then, WasSo, AfterAt, AfterBut, After, Leaves, Changed, after_self, after_trans, after_less, after_fewer, leaves_trans, leaves_after}
 use Rattle.cdi_fit.proofs.Leaving.{leaves}
-use Rattle.cdi_fit.proofs.Gone.{NoDependents, removed}
+use Rattle.cdi_fit.proofs.Gone.{NoDependents, removed, IsGone}
 use Rattle.cdi_fit.proofs.Begun.{IsThere}
-use Rattle.cdi_fit.proofs.Terms.{IsReady, Told, Gives, Pre, Post, there_then}
-use Rattle.cdi_fit.proofs.Statements.{Goes, then, loosen, found, called, calling, topped}
+use Rattle.cdi_fit.proofs.Terms.{IsReady, Gives, there_then}
+use Rattle.cdi_fit.proofs.Statements.{Goes, then, found, called, calling, topped}
 
 -- ---- numbers
 
@@ -77,9 +75,9 @@ some_greatest k (p ∷ holds) e = by p.1 (λ j h. some_greatest j holds h) e
 
 not_there : (holds : Map Held) → greatest None holds ≡ None → (b n : ℕ) → at holds b ≡ Some (Is n) → ⊥
 not_there [] e b n h = cc
-not_there (p ∷ holds) e b n h = by p.1 (Rattle.std.proofs.Common.nat_eq b p.0) (not_there holds) e h
+not_there (p ∷ holds) e b n h = by p.1 (nat_eq b p.0) (not_there holds) e h
   where
-    by : (held : Held) (same : Bool) → (greatest None holds ≡ None → (b n : ℕ) → at holds b ≡ Some (Is n) → ⊥) → greatest (greater None held) holds ≡ None → Rattle.std.proofs.Common.cond same (Some held) (at holds b) ≡ Some (Is n) → ⊥
+    by : (held : Held) (same : Bool) → (greatest None holds ≡ None → (b n : ℕ) → at holds b ≡ Some (Is n) → ⊥) → greatest (greater None held) holds ≡ None → cond same (Some held) (at holds b) ≡ Some (Is n) → ⊥
     by Making true f q h = cc
     by Making false f q h = f q b n h
     by (Is m) same f q h = some_greatest m holds q
@@ -126,7 +124,7 @@ module _ (tables : Tables) (legal : Legal) (fits : Fits tables legal) where
       later : n < d
       later =
           let h = g.live.whole d owned.1.instance owned.1.there in
-          subst (Rattle.cdi_fit.proofs.Whole.IsServedOwner d) owned.1.owned h.owner
+          subst (IsServedOwner d) owned.1.owned h.owner
 
   -- one of those that are left
   one_of : (n i : ℕ) (ds : List ℕ) (w : World) → Good tables legal w → IsThere w.instances n → ((d : ℕ) → IsIn d ds → IsOwned w.instances d (owners.Instance n)) → i < length ds
@@ -151,8 +149,8 @@ module _ (tables : Tables) (legal : Legal) (fits : Fits tables legal) where
       subst (λ z. Does (clean_up n v z) w (λ c u. After tables legal w u)) (sym of)
       (found tables legal fits (tables.bean bean) served.bean _ w _ served.known
       (subst (λ kind. Does (clean_up_bean n v kind) w (λ c u. After tables legal w u)) (sym served.is)
-      (subst (λ callbacks. Does (call_back n roles.PreDestroy callbacks served.class.pre_destroy.chain) w (λ c u. After tables legal w u)) (sym served.serves.no_callbacks)
-      (subst (λ chain. Does (call_back n roles.PreDestroy [] chain) w (λ c u. After tables legal w u)) (sym served.serves.no_chain)
+      (subst (λ callbacks. Does (call_back n roles.PreDestroy callbacks served.class.pre_destroy.chain) w (λ c u. After tables legal w u)) (sym served.serves.silent.1)
+      (subst (λ chain. Does (call_back n roles.PreDestroy [] chain) w (λ c u. After tables legal w u)) (sym served.serves.silent.0)
       (calling tables legal fits (Task.Rest []) _ _ (after_change (Change.Enter (invocation_at_start n roles.PreDestroy [] [])) w) _ (g, tt) (λ a u p. p.0) (λ x u p. p.0))))))
 
   only_if_ready : (o : Instance) (p : Phase) → p ≡ phases.Ready → (elim p as (λ _. Option Instance) [ phases.New ↦ None | phases.Ready ↦ Some o | phases.Leaving ↦ None ]) ≡ Some o
@@ -189,7 +187,7 @@ module _ (tables : Tables) (legal : Legal) (fits : Fits tables legal) where
         there : Stands v.instances n (components.Bean whole.bean) ready.0.owner phases.Leaving
         there = stands_then q.keeps (omega arith) (stands_then p.keeps tt left.1)
 
-        r : Changed tables legal n Any v (after_change (Change.Remove n) (with_entry (entries.Gone n) v)) × Rattle.cdi_fit.proofs.Gone.IsGone (after_change (Change.Remove n) (with_entry (entries.Gone n) v)).instances n
+        r : Changed tables legal n Any v (after_change (Change.Remove n) (with_entry (entries.Gone n) v)) × IsGone (after_change (Change.Remove n) (with_entry (entries.Gone n) v)).instances n
         r = removed tables legal (with_entry (entries.Gone n) v) n (components.Bean whole.bean) ready.0.owner q.good there empty
 
         z : Around w (after_change (Change.Remove n) (with_entry (entries.Gone n) v))

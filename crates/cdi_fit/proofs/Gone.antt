@@ -1,5 +1,5 @@
 -- An instance that nothing has and that has no dependents is gone: its creation failed, or its destruction is at its end.
-use Rattle.std.proofs.Common.{ℕ, ◌≡◌, ◌≢◌, ◌⊎◌, inl, inr, List, [], length, Option, Some, None, refl, sym, ap, ◌∙◌, subst}
+use Rattle.std.proofs.Common.{ℕ, ◌≡◌, ◌≢◌, inl, inr, [], length, Some, None, refl, sym, ◌∙◌, subst}
 use Rattle.cdi_base.specs.Maps.{at, without}
 use Rattle.cdi_store.specs.declared.instance.Component.{Component}
 use Rattle.cdi_store.specs.declared.instance.Component.TheVariants as components
@@ -77,8 +77,10 @@ module _ (tables : Tables) (legal : Legal) (w : World) (n : ℕ) (g : Good table
       refer = record { refers = λ k y b c field r e of is q. (let l = left_before n w.instances k y e in refers_then tables c w.next field r were (g.refer.refers k y b c field r l.1 of is q)) };
       held = held;
       borrowed = record { borrowed = λ m q. owned_still m owners.Borrower (g.borrowed.borrowed m q) };
-      placed = record { placed = λ k y e r. (let b = left_before n w.instances k y e in
-          placed_map w.instances (without n w.instances) w.contexts.application contexts.application w.temporaries w.temporaries k y.component y.owner (f k y.component) (λ q. q) (λ m. depends m k) (g.placed.placed k y b.1 r)) };
+      placed = record {
+        placed = λ k y e r. (let b = left_before n w.instances k y e in
+            placed_map w.instances (without n w.instances) w.contexts.application contexts.application w.temporaries w.temporaries k y.component y.owner (f k y.component) (λ q. q) (λ m. depends m k) (g.placed.placed k y b.1 r));
+      };
       requests = requests;
       sessions = sessions;
     };

@@ -1,10 +1,9 @@
 -- The destruction of an instance that is ready begins, and nothing has it any more.
-use Rattle.std.proofs.Common.{ℕ, ◌≡◌, ◌≢◌, ◌⊎◌, inl, inr, List, [], ◌∷◌, length, Bool, true, false, cond, Option, Some, None, refl, sym, ap, ◌∙◌, subst, nat_eq}
+use Rattle.std.proofs.Common.{ℕ, ◌≡◌, ◌≢◌, inl, inr, List, [], length, Bool, true, false, cond, Some, refl, sym, ◌∙◌, subst, nat_eq}
 use Rattle.std.specs.Prelude.{map, option_map}
 use Rattle.cdi_base.specs.Maps.{at}
 use Rattle.cdi_store.specs.declared.instance.Component.{Component}
 use Rattle.cdi_store.specs.declared.instance.Component.TheVariants as components
-use Rattle.cdi_store.specs.declared.instance.Context.{Context}
 use Rattle.cdi_store.specs.declared.instance.Context.TheVariants.{Application, Request, Session}
 use Rattle.cdi_store.specs.declared.instance.Owner.{Owner}
 use Rattle.cdi_store.specs.declared.instance.Owner.TheVariants as owners
@@ -12,7 +11,7 @@ use Rattle.cdi_store.specs.declared.instance.Phase.TheVariants as phases
 use Rattle.cdi_store.specs.declared.instance.Instance.{Instance}
 use Rattle.cdi_store.specs.Live.{Instances, in_phase, without_dependent, for_owner, all_but}
 use Rattle.cdi_store.proofs.Numbers.{equal_or_not}
-use Rattle.cdi_contexts.specs.Contexts.{Active, Contexts, with_nothing}
+use Rattle.cdi_contexts.specs.Contexts.{Contexts, with_nothing}
 use Rattle.cdi_machine.specs.Tables.{Tables}
 use Rattle.cdi_machine.specs.World.{World, Change, after_change, instance_at, for_instance, without_owned, with_instances}
 use Rattle.cdi_machine.specs.Runs.{Legal}
@@ -20,7 +19,7 @@ use Rattle.cdi_fit.specs.Fits.{IsIn}
 use Rattle.cdi_fit.specs.Left.{IsHeld}
 use Rattle.cdi_fit.proofs.Lists.{Tested, in_others, in_left, IsAmong, among_others, among_left, map_length}
 use Rattle.cdi_fit.proofs.Contexts.{StillMaking, making_self, held_apart, held_left, held_once, making_left, AllHeld, all_held_map, all_held_left}
-use Rattle.cdi_fit.proofs.Whole.{Stands, IsOwned, HeldBy, AllBorrowed, IsServedOwner, IsPlaced, Good, same_component, same_owner, same_phase, placed_map}
+use Rattle.cdi_fit.proofs.Whole.{Stands, IsOwned, HeldBy, AllBorrowed, IsServedOwner, IsPlaced, Good, same_component, same_owner, same_phase, placed_map, IsWhole}
 use Rattle.cdi_fit.proofs.Frames.{Any, Other, owned_then, stands_then, AfterOf, Changed}
 use Rattle.cdi_fit.proofs.Turns.{in_stage, Passes, passes_by, passes_whole, passes_keeps, passes_settles, passes_refer, passes_owned, passes_depends, passes_one}
 use Rattle.cdi_fit.proofs.Settling.{staged, staged_both}
@@ -140,11 +139,11 @@ shared : (tables : Tables) (legal : Legal) (w : World) (n bean : ℕ) (g : Good 
     → LeftIn tables legal w n bean (owners.Context Application) g s (without_owned n (components.Bean bean) (owners.Context Application) (with_instances (λ live. left_among n (owners.Context Application) live) w))
 shared tables legal w n bean g s = (
   build tables legal w n bean (owners.Context Application) g s (with_nothing bean Application w.contexts) w.temporaries
-  (all_held_left (HeldBy w.instances) (HeldBy (left_among n (owners.Context Application) w.instances)) w.contexts.application bean (λ b m d q. held_still tables legal w n bean (owners.Context Application) g s b m (apart b m d q) q) g.held)
-  (record { borrowed = λ m q. borrowed_still tables legal w n bean (owners.Context Application) g s m (other m (g.borrowed.borrowed m q)) (g.borrowed.borrowed m q) })
-  (λ k c d q. held_left w.contexts.application bean c k (held_once w.contexts.application bean n k c (stood tables legal w n bean (owners.Context Application) g s) q d) q)
-  (λ k d q. q) g.requests g.sessions refl
-  (record { stays = λ b d q. making_left w.contexts.application bean b (held_apart w.contexts.application bean n b (stood tables legal w n bean (owners.Context Application) g s) q) q }),
+      (all_held_left (HeldBy w.instances) (HeldBy (left_among n (owners.Context Application) w.instances)) w.contexts.application bean (λ b m d q. held_still tables legal w n bean (owners.Context Application) g s b m (apart b m d q) q) g.held)
+      (record { borrowed = λ m q. borrowed_still tables legal w n bean (owners.Context Application) g s m (other m (g.borrowed.borrowed m q)) (g.borrowed.borrowed m q) })
+      (λ k c d q. held_left w.contexts.application bean c k (held_once w.contexts.application bean n k c (stood tables legal w n bean (owners.Context Application) g s) q d) q)
+      (λ k d q. q) g.requests g.sessions refl
+      (record { stays = λ b d q. making_left w.contexts.application bean b (held_apart w.contexts.application bean n b (stood tables legal w n bean (owners.Context Application) g s) q) q }),
   now tables legal w n bean (owners.Context Application) g s,
 )
   where
@@ -158,10 +157,10 @@ dependent : (tables : Tables) (legal : Legal) (w : World) (n bean m : ℕ) (g : 
     → LeftIn tables legal w n bean (owners.Instance m) g s (without_owned n (components.Bean bean) (owners.Instance m) (with_instances (λ live. left_among n (owners.Instance m) live) w))
 dependent tables legal w n bean m g s = (
   build tables legal w n bean (owners.Instance m) g s w.contexts w.temporaries
-  (all_held_map (HeldBy w.instances) _ w.contexts.application (λ b k q. held_still tables legal w n bean (owners.Instance m) g s b k (not_shared b k q) q) g.held)
-  (record { borrowed = λ k q. borrowed_still tables legal w n bean (owners.Instance m) g s k (other k (g.borrowed.borrowed k q)) (g.borrowed.borrowed k q) })
-  (λ k c d q. q) (λ k d q. q) g.requests g.sessions refl
-  (making_self Any w.contexts.application),
+      (all_held_map (HeldBy w.instances) _ w.contexts.application (λ b k q. held_still tables legal w n bean (owners.Instance m) g s b k (not_shared b k q) q) g.held)
+      (record { borrowed = λ k q. borrowed_still tables legal w n bean (owners.Instance m) g s k (other k (g.borrowed.borrowed k q)) (g.borrowed.borrowed k q) })
+      (λ k c d q. q) (λ k d q. q) g.requests g.sessions refl
+      (making_self Any w.contexts.application),
   now tables legal w n bean (owners.Instance m) g s,
 )
   where
@@ -175,10 +174,10 @@ borrowed : (tables : Tables) (legal : Legal) (w : World) (n bean : ℕ) (g : Goo
     → LeftIn tables legal w n bean owners.Borrower g s (without_owned n (components.Bean bean) owners.Borrower (with_instances (λ live. left_among n owners.Borrower live) w))
 borrowed tables legal w n bean g s = (
   build tables legal w n bean owners.Borrower g s w.contexts (map (all_but n) w.temporaries)
-  (all_held_map (HeldBy w.instances) _ w.contexts.application (λ b k q. held_still tables legal w n bean owners.Borrower g s b k (not_shared b k q) q) g.held)
-  (record { borrowed = λ k q. (let l = among_left k n w.temporaries q in borrowed_still tables legal w n bean owners.Borrower g s k l.0 (g.borrowed.borrowed k l.1)) })
-  (λ k c d q. q) (λ k d q. among_others k n w.temporaries d q) g.requests g.sessions (map_length (all_but n) w.temporaries)
-  (making_self Any w.contexts.application),
+      (all_held_map (HeldBy w.instances) _ w.contexts.application (λ b k q. held_still tables legal w n bean owners.Borrower g s b k (not_shared b k q) q) g.held)
+      (record { borrowed = λ k q. (let l = among_left k n w.temporaries q in borrowed_still tables legal w n bean owners.Borrower g s k l.0 (g.borrowed.borrowed k l.1)) })
+      (λ k c d q. q) (λ k d q. among_others k n w.temporaries d q) g.requests g.sessions (map_length (all_but n) w.temporaries)
+      (making_self Any w.contexts.application),
   now tables legal w n bean owners.Borrower g s,
 )
   where
@@ -194,7 +193,7 @@ leaves tables legal w n bean owner g s =
     (subst (λ x. LeftIn tables legal w n bean owner g s (without_owned n (components.Bean bean) x (with_instances (λ live. left_among n x live) w))) (sym s.owned)
     (by owner s (subst (IsServedOwner n) s.owned (whole.owner)))))
   where
-    whole : Rattle.cdi_fit.proofs.Whole.IsWhole tables legal n s.instance
+    whole : IsWhole tables legal n s.instance
     whole = g.live.whole n s.instance s.there
 
     by : (x : Owner) (s : Stands w.instances n (components.Bean bean) x phases.Ready) → IsServedOwner n x

@@ -4,7 +4,7 @@ use Rattle.std.specs.Prelude.{option_map, slice_get}
 use Rattle.std.specs.Bool.{nat_lt}
 use Rattle.std.specs.List.{AllByRecursion}
 use Rattle.cdi_base.specs.Maps.{Map, at, adjusted, put, without, put_in_order}
-use Rattle.cdi_store.proofs.Numbers.{equal_or_not}
+use Rattle.cdi_store.proofs.Numbers.{equal_or_not, All-at}
 
 module _ {X : Type 0} where
   -- ---- a value that changes
@@ -92,7 +92,7 @@ module _ {X : Type 0} where
   -- ---- what holds of each entry
 
   pub all_at : (P : ℕ × X → Type 0) (m : Map X) (n : ℕ) (x : X) → AllByRecursion P m → at m n ≡ Some x → P (n, x)
-  all_at P m n x h e = Rattle.cdi_store.proofs.Numbers.All-at P m n x h e
+  all_at P m n x h e = All-at P m n x h e
 
   pub all_put : (P : ℕ × X → Type 0) (m : Map X) (k : ℕ) (x : X) → P (k, x) → AllByRecursion P m → AllByRecursion P (put_in_order k x m)
   all_put P [] k x q h = (q, tt)

@@ -1,5 +1,5 @@
 -- Fields, references, temporaries and the context change, and worlds stay whole.
-use Rattle.std.proofs.Common.{ℕ, ◌≡◌, ◌≢◌, ◌⊎◌, inl, inr, List, [], ◌∷◌, length, Bool, true, false, cond, Option, Some, None, refl, sym, ap, ◌∙◌, subst, nat_eq}
+use Rattle.std.proofs.Common.{ℕ, ◌≡◌, ◌⊎◌, inl, inr, List, [], ◌∷◌, Bool, true, false, cond, Option, Some, None, refl, sym, ap, ◌∙◌, subst, nat_eq}
 use Rattle.std.specs.Prelude.{◌||◌, option_map}
 use Rattle.cdi_base.specs.declared.value.Value.{Value}
 use Rattle.cdi_base.specs.Fields.{has, set}
@@ -7,7 +7,6 @@ use Rattle.cdi_base.specs.Maps.{at, put}
 use Rattle.cdi_store.specs.declared.instance.Component.{Component}
 use Rattle.cdi_store.specs.declared.instance.Component.TheVariants as components
 use Rattle.cdi_store.specs.declared.instance.Context.TheVariants.{Application}
-use Rattle.cdi_store.specs.declared.instance.Phase.TheVariants as phases
 use Rattle.cdi_store.specs.declared.instance.Instance.{Instance}
 use Rattle.cdi_store.specs.declared.references.Reference.{Reference}
 use Rattle.cdi_store.specs.Live.{Instances, with_field, with_reference}
@@ -17,14 +16,15 @@ use Rattle.cdi_machine.specs.Words.{Name, Fields}
 use Rattle.cdi_machine.specs.Tables.{Tables, Managed}
 use Rattle.cdi_machine.specs.World.{World, Change, after_change}
 use Rattle.cdi_machine.specs.Runs.{Legal}
-use Rattle.cdi_fit.specs.Fits.{IsClassOf}
+use Rattle.cdi_fit.specs.Fits.{IsClassOf, IsIn}
 use Rattle.cdi_fit.specs.Left.{IsHeld, DependsOn}
 use Rattle.cdi_fit.proofs.Maps.{at_adjusted, put_at}
 use Rattle.cdi_fit.proofs.Lists.{IsAmong, TopEmpty, among_below, below_among}
 use Rattle.cdi_fit.proofs.Contexts.{NoneHeld, held_ending, making_self, all_held_map, all_held_ending}
-use Rattle.cdi_fit.proofs.Whole.{AllRefer, Refers, HeldBy, AllPlaced, Good, placed_map}
-use Rattle.cdi_fit.proofs.Frames.{Any, Keeps, Settles, owned_then, stands_then, After}
+use Rattle.cdi_fit.proofs.Whole.{AllRefer, Refers, HeldBy, AllPlaced, Good, placed_map, IsPlaced, IsOwned}
+use Rattle.cdi_fit.proofs.Frames.{Any, Keeps, owned_then, stands_then, After}
 use Rattle.cdi_fit.proofs.Turns.{Alike, alike_whole, AllWere, refers_then}
+use Rattle.cdi_store.specs.declared.instance.Owner.TheVariants.{Borrower}
 
 -- ---- an instance that stays what and where it is
 
@@ -62,7 +62,7 @@ module _ (tables : Tables) (legal : Legal) (w : World) (after : Instances) (f : 
   quiet_keeps = record { stay = λ k x a e. (let b = f.forth k x e in record { instance = b.0; there = b.1; of = b.2.alike.of; owned = b.2.alike.owned; stage = b.2.stage }) }
 
   depends : (m k : ℕ) → DependsOn w.instances m k → DependsOn after m k
-  depends m k h = let b = f.forth m h.0 h.1 in (b.0, b.1, subst (λ ds. Rattle.cdi_fit.specs.Fits.IsIn k ds) (sym b.2.dependents) h.2)
+  depends m k h = let b = f.forth m h.0 h.1 in (b.0, b.1, subst (IsIn k) (sym b.2.dependents) h.2)
 
   quiet_after : AllRefer tables after w.next → After tables legal w (record w { instances = after })
   quiet_after refer = record {
@@ -71,14 +71,16 @@ module _ (tables : Tables) (legal : Legal) (w : World) (after : Instances) (f : 
         below = λ k y e. (let b = f.back k y e in g.live.below k b.0 b.1);
         whole = λ k y e. (let b = f.back k y e in alike_whole tables legal k b.0 y b.2.alike (g.live.whole k b.0 b.1));
       };
-      owned = record { owned = λ m y d e q. (let b = f.back m y e in owned_then quiet_keeps tt (g.owned.owned m b.0 d b.1 (subst (λ ds. Rattle.cdi_fit.specs.Fits.IsIn d ds) b.2.dependents q))) };
+      owned = record { owned = λ m y d e q. (let b = f.back m y e in owned_then quiet_keeps tt (g.owned.owned m b.0 d b.1 (subst (IsIn d) b.2.dependents q))) };
       refer = refer;
       held = all_held_map (HeldBy w.instances) (HeldBy after) w.contexts.application (λ b m q. stands_then quiet_keeps tt q) g.held;
       borrowed = record { borrowed = λ m q. owned_then quiet_keeps tt (g.borrowed.borrowed m q) };
-      placed = record { placed = λ k y e r. (let b = f.back k y e in
-          subst (λ c. Rattle.cdi_fit.proofs.Whole.IsPlaced after w.contexts.application w.temporaries k c y.owner) (sym b.2.alike.of)
-          (subst (λ x. Rattle.cdi_fit.proofs.Whole.IsPlaced after w.contexts.application w.temporaries k b.0.component x) (sym b.2.alike.owned)
-          (placed_map w.instances after w.contexts.application w.contexts.application w.temporaries w.temporaries k b.0.component b.0.owner (λ q. q) (λ q. q) (λ m. depends m k) (g.placed.placed k b.0 b.1 (sym b.2.stage ∙ r))))) };
+      placed = record {
+        placed = λ k y e r. (let b = f.back k y e in
+            subst (λ c. IsPlaced after w.contexts.application w.temporaries k c y.owner) (sym b.2.alike.of)
+            (subst (λ x. IsPlaced after w.contexts.application w.temporaries k b.0.component x) (sym b.2.alike.owned)
+            (placed_map w.instances after w.contexts.application w.contexts.application w.temporaries w.temporaries k b.0.component b.0.owner (λ q. q) (λ q. q) (λ m. depends m k) (g.placed.placed k b.0 b.1 (sym b.2.stage ∙ r)))));
+      };
       requests = g.requests;
       sessions = g.sessions;
     };
@@ -98,79 +100,99 @@ has_set (p ∷ fields) field v name = by (nat_eq field p.0) (has_set fields fiel
     by true h = refl
     by false h = ap (λ x. nat_eq name p.0 || x) h
 
-pub assigned : (tables : Tables) (legal : Legal) (w : World) (n : ℕ) (field : Name) (v : Value) → Good tables legal w → After tables legal w (after_change (Change.Assign n field v) w)
-assigned tables legal w n field v g = quiet_after tables legal w (with_field n field v w.instances) quiets g (record { refers = refers })
+-- a field has another value
+abbrev set_at : ℕ → Name → Value → ℕ → Instance → Instance
+set_at n field v k x = cond (nat_eq k n) (record x { fields = set x.fields field v }) x
+
+set_quiet : (b : Bool) (field : Name) (v : Value) (x : Instance) → Quiet x (cond b (record x { fields = set x.fields field v }) x)
+set_quiet true field v x = record { alike = record { of = refl; owned = refl; fields = has_set x.fields field v }; stage = refl; dependents = refl }
+set_quiet false field v x = quiet_self x
+
+set_references : (b : Bool) (field : Name) (v : Value) (x : Instance) → (cond b (record x { fields = set x.fields field v }) x).references ≡ x.references
+set_references true field v x = refl
+set_references false field v x = refl
+
+field_quiets : (live : Instances) (n : ℕ) (field : Name) (v : Value) → Quiets live (with_field n field v live)
+field_quiets live n field v = quiets_by live (with_field n field v live) (set_at n field v) (λ k. at_adjusted live n (λ o. record o { fields = set o.fields field v }) k) (λ k x. set_quiet (nat_eq k n) field v x)
+
+-- what is found is what was there, but for its fields
+same_references : (live : Instances) (n : ℕ) (field : Name) (v : Value) (k : ℕ) (y : Instance) → at (with_field n field v live) k ≡ Some y → (x : Instance) × (at live k ≡ Some x) × (y.component ≡ x.component) × (y.references ≡ x.references)
+same_references live n field v k y e = by (at live k) refl
   where
-    quiet : (b : Bool) (x : Instance) → Quiet x (cond b (record x { fields = set x.fields field v }) x)
-    quiet true x = record { alike = record { of = refl; owned = refl; fields = has_set x.fields field v }; stage = refl; dependents = refl }
-    quiet false x = quiet_self x
+    found : at (with_field n field v live) k ≡ option_map (set_at n field v k) (at live k)
+    found = at_adjusted live n (λ o. record o { fields = set o.fields field v }) k
 
-    quiets : Quiets w.instances (with_field n field v w.instances)
-    quiets = quiets_by w.instances (with_field n field v w.instances) (λ k x. cond (nat_eq k n) (record x { fields = set x.fields field v }) x) (λ k. at_adjusted w.instances n _ k) (λ k x. quiet (nat_eq k n) x)
+    by : (o : Option Instance) → at live k ≡ o → (x : Instance) × (at live k ≡ Some x) × (y.component ≡ x.component) × (y.references ≡ x.references)
+    by None h = let z : at (with_field n field v live) k ≡ None = found ∙ ap (option_map (set_at n field v k)) h in absurd (cc)
+    by (Some x) h =
+        let z : at (with_field n field v live) k ≡ Some (set_at n field v k x) = found ∙ ap (option_map (set_at n field v k)) h in
+        let s : y ≡ set_at n field v k x = cc in
+        (x, h, ap (λ (i : Instance). i.component) s ∙ (set_quiet (nat_eq k n) field v x).alike.of, ap (λ (i : Instance). i.references) s ∙ set_references (nat_eq k n) field v x)
 
-    same : (b : Bool) (x : Instance) → (cond b (record x { fields = set x.fields field v }) x).references ≡ x.references
-    same true x = refl
-    same false x = refl
-
-    from : (k : ℕ) (y : Instance) (o : Option Instance) → at w.instances k ≡ o → option_map (λ x. cond (nat_eq k n) (record x { fields = set x.fields field v }) x) o ≡ Some y → (x : Instance) × (at w.instances k ≡ Some x) × (y.references ≡ x.references)
-    from k y None e q = absurd (cc)
-    from k y (Some x) e q = (x, e, (let s : cond (nat_eq k n) (record x { fields = set x.fields field v }) x ≡ y = cc in ap (λ (z : Instance). z.references) (sym s) ∙ same (nat_eq k n) x))
-
+pub assigned : (tables : Tables) (legal : Legal) (w : World) (n : ℕ) (field : Name) (v : Value) → Good tables legal w → After tables legal w (after_change (Change.Assign n field v) w)
+assigned tables legal w n field v g = quiet_after tables legal w (with_field n field v w.instances) (field_quiets w.instances n field v) g (record { refers = refers })
+  where
     refers : (k : ℕ) (y : Instance) (b : ℕ) (c : Managed) (name : Name) (r : Reference) → at (with_field n field v w.instances) k ≡ Some y → y.component ≡ components.Bean b → IsClassOf tables b c → at y.references name ≡ Some r → Refers tables c (with_field n field v w.instances) w.next name r
     refers k y b c name r e of is q =
-        let x = from k y (at w.instances k) refl (sym (at_adjusted w.instances n _ k) ∙ e) in
-        let z = quiets.back k y e in
-        let s : x.0 ≡ z.0 = (let t : Some x.0 ≡ Some z.0 = sym x.1 ∙ z.1 in cc) in
-        refers_then tables c w.next name r (quiet_were tables legal w (with_field n field v w.instances) quiets g)
-        (g.refer.refers k x.0 b c name r x.1 (ap (λ (i : Instance). i.component) s ∙ (sym z.2.alike.of ∙ of)) is (ap (λ rs. at rs name) (sym x.2) ∙ q))
+        let x = same_references w.instances n field v k y e in
+        refers_then tables c w.next name r (quiet_were tables legal w (with_field n field v w.instances) (field_quiets w.instances n field v) g)
+        (g.refer.refers k x.0 b c name r x.1 (sym x.2 ∙ of) is (ap (λ rs. at rs name) (sym x.3) ∙ q))
 
 -- ---- a reference
+
+-- a field has another reference
+abbrev refer_at : ℕ → Name → Reference → ℕ → Instance → Instance
+refer_at n field r k x = cond (nat_eq k n) (record x { references = put field r x.references }) x
+
+refer_quiet : (b : Bool) (field : Name) (r : Reference) (x : Instance) → Quiet x (cond b (record x { references = put field r x.references }) x)
+refer_quiet true field r x = record { alike = record { of = refl; owned = refl; fields = λ name. refl }; stage = refl; dependents = refl }
+refer_quiet false field r x = quiet_self x
+
+reference_quiets : (live : Instances) (n : ℕ) (field : Name) (r : Reference) → Quiets live (with_reference n field r live)
+reference_quiets live n field r = quiets_by live (with_reference n field r live) (refer_at n field r) (λ k. at_adjusted live n (λ o. record o { references = put field r o.references }) k) (λ k x. refer_quiet (nat_eq k n) field r x)
+
+-- what is found for a name is the new reference, if it is of that instance and field, or was there
+abbrev IsNewOr : Bool → Name → Reference → Instance → Name → Reference → Type 0
+IsNewOr b field r x name q = ((b ≡ true) × (name ≡ field) × (q ≡ r)) ⊎ (at x.references name ≡ Some q)
+
+new_or : (b : Bool) (field : Name) (r : Reference) (x : Instance) (name : Name) (q : Reference) → at (cond b (record x { references = put field r x.references }) x).references name ≡ Some q → IsNewOr b field r x name q
+new_or true field r x name q e = elim (equal_or_not name field) [
+  | inl s ↦ let z : Some r ≡ Some q = rw s.0 at (sym (put_at x.references field r name) ∙ e) in inl (refl, s.1, cc)
+  | inr s ↦ let z : at x.references name ≡ Some q = rw s.0 at (sym (put_at x.references field r name) ∙ e) in inr z
+]
+new_or false field r x name q e = inr e
+
+found_reference : (live : Instances) (n : ℕ) (field : Name) (r : Reference) (k : ℕ) (y : Instance) (name : Name) (q : Reference) → at (with_reference n field r live) k ≡ Some y → at y.references name ≡ Some q
+    → (x : Instance) × (at live k ≡ Some x) × (y.component ≡ x.component) × IsNewOr (nat_eq k n) field r x name q
+found_reference live n field r k y name q e h = by (at live k) refl
+  where
+    found : at (with_reference n field r live) k ≡ option_map (refer_at n field r k) (at live k)
+    found = at_adjusted live n (λ o. record o { references = put field r o.references }) k
+
+    by : (o : Option Instance) → at live k ≡ o → (x : Instance) × (at live k ≡ Some x) × (y.component ≡ x.component) × IsNewOr (nat_eq k n) field r x name q
+    by None s = let z : at (with_reference n field r live) k ≡ None = found ∙ ap (option_map (refer_at n field r k)) s in absurd (cc)
+    by (Some x) s =
+        let z : at (with_reference n field r live) k ≡ Some (refer_at n field r k x) = found ∙ ap (option_map (refer_at n field r k)) s in
+        let t : y ≡ refer_at n field r k x = cc in
+        (x, s, ap (λ (i : Instance). i.component) t ∙ (refer_quiet (nat_eq k n) field r x).alike.of, new_or (nat_eq k n) field r x name q (subst (λ (i : Instance). at i.references name ≡ Some q) t h))
 
 pub referred : (tables : Tables) (legal : Legal) (w : World) (n : ℕ) (field : Name) (r : Reference) → Good tables legal w
     → ((o : Instance) (b : ℕ) (c : Managed) → at w.instances n ≡ Some o → o.component ≡ components.Bean b → IsClassOf tables b c → Refers tables c w.instances w.next field r)
     → After tables legal w (after_change (Change.Refer n field r) w)
-referred tables legal w n field r g new = quiet_after tables legal w (with_reference n field r w.instances) quiets g (record { refers = refers })
+referred tables legal w n field r g new = quiet_after tables legal w (with_reference n field r w.instances) (reference_quiets w.instances n field r) g (record { refers = refers })
   where
-    quiet : (b : Bool) (x : Instance) → Quiet x (cond b (record x { references = put field r x.references }) x)
-    quiet true x = record { alike = record { of = refl; owned = refl; fields = λ name. refl }; stage = refl; dependents = refl }
-    quiet false x = quiet_self x
-
-    quiets : Quiets w.instances (with_reference n field r w.instances)
-    quiets = quiets_by w.instances (with_reference n field r w.instances) (λ k x. cond (nat_eq k n) (record x { references = put field r x.references }) x) (λ k. at_adjusted w.instances n _ k) (λ k x. quiet (nat_eq k n) x)
-
-    -- a reference that is found is the new one, or was there
-    in_put : (rs : List (ℕ × Reference)) (name : Name) (q : Reference) → at (put field r rs) name ≡ Some q → ((name ≡ field) × (q ≡ r)) ⊎ (at rs name ≡ Some q)
-    in_put rs name q e = elim (equal_or_not name field) [
-      | inl s ↦ let z : Some r ≡ Some q = rw s.0 at (sym (put_at rs field r name) ∙ e) in inl (s.1, cc)
-      | inr s ↦ let z : at rs name ≡ Some q = rw s.0 at (sym (put_at rs field r name) ∙ e) in inr z
+    before : (k : ℕ) (x : Instance) (b : ℕ) (c : Managed) (name : Name) (q : Reference) → at w.instances k ≡ Some x → x.component ≡ components.Bean b → IsClassOf tables b c → IsNewOr (nat_eq k n) field r x name q → Refers tables c w.instances w.next name q
+    before k x b c name q e of is (inl s) = elim (equal_or_not k n) [
+      | inl t ↦ subst (λ i. Refers tables c w.instances w.next i q) (sym s.1) (subst (Refers tables c w.instances w.next field) (sym s.2) (new x b c (subst (λ i. at w.instances i ≡ Some x) t.1 e) of is))
+      | inr t ↦ let z : true ≡ false = sym s.0 ∙ t.0 in absurd (cc)
     ]
-
-    by : (b : Bool) (x : Instance) (name : Name) (q : Reference) → at (cond b (record x { references = put field r x.references }) x).references name ≡ Some q → ((b ≡ true) × (name ≡ field) × (q ≡ r)) ⊎ (at x.references name ≡ Some q)
-    by true x name q e = elim (in_put x.references name q e) [ inl s ↦ inl (refl, s.0, s.1) | inr s ↦ inr s ]
-    by false x name q e = inr e
-
-    from : (k : ℕ) (y : Instance) (o : Option Instance) → at w.instances k ≡ o → option_map (λ x. cond (nat_eq k n) (record x { references = put field r x.references }) x) o ≡ Some y → (x : Instance) × (at w.instances k ≡ Some x) × (y ≡ cond (nat_eq k n) (record x { references = put field r x.references }) x)
-    from k y None e q = absurd (cc)
-    from k y (Some x) e q = (x, e, cc)
+    before k x b c name q e of is (inr s) = g.refer.refers k x b c name q e of is s
 
     refers : (k : ℕ) (y : Instance) (b : ℕ) (c : Managed) (name : Name) (q : Reference) → at (with_reference n field r w.instances) k ≡ Some y → y.component ≡ components.Bean b → IsClassOf tables b c → at y.references name ≡ Some q → Refers tables c (with_reference n field r w.instances) w.next name q
-    refers k y b c name q e of is h = elim (by (nat_eq k n) x.0 name q (subst (λ (i : Instance). at i.references name ≡ Some q) x.2 h)) [
-      | inl s ↦ elim (equal_or_not k n) [
-        | inl t ↦ refers_then tables c w.next name q (quiet_were tables legal w (with_reference n field r w.instances) quiets g)
-            (subst (λ i. Refers tables c w.instances w.next i q) (sym s.1) (subst (λ i. Refers tables c w.instances w.next field i) (sym s.2) (new x.0 b c (subst (λ i. at w.instances i ≡ Some x.0) t.1 x.1) component is)))
-        | inr t ↦ let z : true ≡ false = sym s.0 ∙ t.0 in absurd (cc)
-      ]
-      | inr s ↦ refers_then tables c w.next name q (quiet_were tables legal w (with_reference n field r w.instances) quiets g) (g.refer.refers k x.0 b c name q x.1 component is s)
-    ]
-      where
-        x : (x : Instance) × (at w.instances k ≡ Some x) × (y ≡ cond (nat_eq k n) (record x { references = put field r x.references }) x)
-        x = from k y (at w.instances k) refl (sym (at_adjusted w.instances n _ k) ∙ e)
-
-        component : x.0.component ≡ components.Bean b
-        component =
-            let z = quiets.back k y e in
-            let s : x.0 ≡ z.0 = (let t : Some x.0 ≡ Some z.0 = sym x.1 ∙ z.1 in cc) in
-            ap (λ (i : Instance). i.component) s ∙ (sym z.2.alike.of ∙ of)
+    refers k y b c name q e of is h =
+        let x = found_reference w.instances n field r k y name q e h in
+        refers_then tables c w.next name q (quiet_were tables legal w (with_reference n field r w.instances) (reference_quiets w.instances n field r) g)
+        (before k x.0 b c name q x.1 (sym x.2 ∙ of) is x.3)
 
 -- ---- temporaries and the context
 
@@ -182,7 +204,7 @@ moves {instances} {a} {temporaries} b us f g h = record { placed = λ m y e r. p
 pub borrows : (tables : Tables) (legal : Legal) (w : World) → Good tables legal w → Good tables legal (after_change Change.Borrow w)
 borrows tables legal w g = record { live = g.live; owned = g.owned; refer = g.refer; held = g.held; borrowed = record { borrowed = λ m q. by m q }; placed = moves w.contexts.application _ (λ m c h. h) (λ m h. inr h) g.placed; requests = g.requests; sessions = g.sessions }
   where
-    by : (m : ℕ) → IsAmong m ([] ∷ w.temporaries) → Rattle.cdi_fit.proofs.Whole.IsOwned w.instances m Rattle.cdi_store.specs.declared.instance.Owner.TheVariants.Borrower
+    by : (m : ℕ) → IsAmong m ([] ∷ w.temporaries) → IsOwned w.instances m Borrower
     by m (inl h) = absurd h
     by m (inr h) = g.borrowed.borrowed m h
 

@@ -1,7 +1,6 @@
 -- Resolution, contextual instances and references miss nothing.
 use Rattle.std.proofs.Common.{ℕ, ◌≡◌, Bool, true, false, Option, Some, None, refl, sym, subst}
 use Rattle.std.specs.Prelude.{option_map}
-use Rattle.std.specs.List.{AllByRecursion}
 use Rattle.cdi_base.specs.declared.built_in.BuiltIn.TheVariants as built_in
 use Rattle.cdi_base.specs.declared.scope.Scope.{Scope}
 use Rattle.cdi_base.specs.declared.scope.Scope.TheVariants as scopes
@@ -32,8 +31,8 @@ use Rattle.cdi_fit.proofs.Contexts.{IsFree, AllHeld, EachHeld}
 use Rattle.cdi_fit.proofs.Whole.{HeldBy, Good}
 use Rattle.cdi_fit.proofs.Frames.{Any, After, after_self}
 use Rattle.cdi_fit.proofs.Begun.{CanHave}
-use Rattle.cdi_fit.proofs.Terms.{Lives, Told, Gets, Pre, Post}
-use Rattle.cdi_fit.proofs.Statements.{Goes, then, found, called, calling}
+use Rattle.cdi_fit.proofs.Terms.{Lives, Told, Gets, Post}
+use Rattle.cdi_fit.proofs.Statements.{Goes, found, called, calling}
 
 -- a reference to a bean: its proxy, or an instance that lives
 abbrev pub RefersTo : Instances → ℕ → Completion Reference → Type 0

@@ -1,10 +1,9 @@
 -- An instance that was being made is ready, and its context, its owner or the temporaries have it.
-use Rattle.std.proofs.Common.{ℕ, ◌≡◌, ◌≢◌, ◌<◌, ◌⊎◌, inl, inr, List, [], ◌∷◌, ◌++◌, length, Bool, true, false, cond, Option, Some, None, refl, sym, ap, ◌∙◌, subst, nat_eq}
+use Rattle.std.proofs.Common.{ℕ, ◌≡◌, ◌≢◌, ◌⊎◌, inl, inr, List, [], ◌∷◌, ◌++◌, length, Bool, true, false, cond, Option, Some, None, refl, sym, ap, ◌∙◌, subst, nat_eq}
 use Rattle.std.specs.Prelude.{option_map}
 use Rattle.cdi_base.specs.Maps.{at, adjusted}
 use Rattle.cdi_store.specs.declared.instance.Component.{Component}
 use Rattle.cdi_store.specs.declared.instance.Component.TheVariants as components
-use Rattle.cdi_store.specs.declared.instance.Context.{Context}
 use Rattle.cdi_store.specs.declared.instance.Context.TheVariants.{Application, Request, Session}
 use Rattle.cdi_store.specs.declared.instance.Owner.{Owner}
 use Rattle.cdi_store.specs.declared.instance.Owner.TheVariants as owners
@@ -14,17 +13,17 @@ use Rattle.cdi_store.specs.declared.instance.Instance.{Instance}
 use Rattle.cdi_store.specs.Live.{Instances, in_phase, with_dependent, for_owner, all_but}
 use Rattle.cdi_store.proofs.Numbers.{equal_or_not}
 use Rattle.cdi_contexts.specs.declared.context.Held.TheVariants.{Is}
-use Rattle.cdi_contexts.specs.Contexts.{Active, Contexts, active_with, with_held}
+use Rattle.cdi_contexts.specs.Contexts.{Active, Contexts, with_held}
 use Rattle.cdi_machine.specs.Tables.{Tables}
 use Rattle.cdi_machine.specs.World.{World, Change, after_change, instance_at, for_instance, with_owned, with_instances, on_top}
 use Rattle.cdi_machine.specs.Runs.{Legal}
 use Rattle.cdi_fit.specs.Fits.{IsIn}
-use Rattle.cdi_fit.specs.Left.{IsHeld, DependsOn}
+use Rattle.cdi_fit.specs.Left.{IsHeld}
 use Rattle.cdi_fit.proofs.Maps.{at_adjusted}
 use Rattle.cdi_fit.proofs.Lists.{Tested, in_last, in_front, in_either, in_others, in_left, IsAmong, HasTop, among_new, among_old, among_either, top_length}
 use Rattle.cdi_fit.proofs.Contexts.{IsMaking, StillMaking, making_none, put_held, held_put, making_put, AllHeld, all_held_map, all_held_put}
-use Rattle.cdi_fit.proofs.Whole.{Stands, IsOwned, HeldBy, AllBorrowed, IsPlaced, Good, not_new, same_owner, placed_map}
-use Rattle.cdi_fit.proofs.Frames.{Any, Other, owned_then, stands_then, Settles, AfterOf, Changed}
+use Rattle.cdi_fit.proofs.Whole.{Stands, IsOwned, HeldBy, AllBorrowed, IsPlaced, Good, not_new, same_owner, placed_map, same_component}
+use Rattle.cdi_fit.proofs.Frames.{Other, owned_then, stands_then, AfterOf, Changed}
 use Rattle.cdi_fit.proofs.Turns.{in_stage, Passes, passes_by, passes_whole, passes_keeps, passes_settles, passes_refer, passes_owned, passes_depends, passes_one}
 
 -- the owner can have an instance of the bean that is being made
@@ -190,7 +189,7 @@ module _ (tables : Tables) (legal : Legal) (w : World) (n bean : ℕ) (owner : O
       by k y e r (inl t) =
           let z : Stands (ready_among n owner w.instances) k y.component y.owner y.phase = record { instance = y; there = e; of = refl; owned = refl; stage = refl } in
           subst (λ i. IsPlaced (ready_among n owner w.instances) contexts.application ts i y.component y.owner) (sym t.1)
-          (subst (λ c. IsPlaced (ready_among n owner w.instances) contexts.application ts n c y.owner) (sym (Rattle.cdi_fit.proofs.Whole.same_component now z t.1))
+          (subst (λ c. IsPlaced (ready_among n owner w.instances) contexts.application ts n c y.owner) (sym (same_component now z t.1))
           (subst (λ x. IsPlaced (ready_among n owner w.instances) contexts.application ts n (components.Bean bean) x) (sym (same_owner now z t.1)) placed))
       by k y e r (inr t) =
           let b = pass.back k y e in
@@ -203,13 +202,13 @@ shared : (tables : Tables) (legal : Legal) (w : World) (n bean : ℕ) (g : Good 
     → SettledIn tables legal w n bean (owners.Context Application) g s (with_owned n (components.Bean bean) (owners.Context Application) (with_instances (λ live. ready_among n (owners.Context Application) live) w))
 shared tables legal w n bean g s h = (
   build tables legal w n bean (owners.Context Application) g s (with_held bean (Is n) Application w.contexts) w.temporaries
-  (all_held_put (HeldBy (ready_among n (owners.Context Application) w.instances)) w.contexts.application bean (Is n) (now tables legal w n bean (owners.Context Application) g s)
-  (all_held_map (HeldBy w.instances) _ w.contexts.application (held_still tables legal w n bean (owners.Context Application) g s) g.held))
-  (record { borrowed = λ m q. borrowed_still tables legal w n bean (owners.Context Application) g s m (g.borrowed.borrowed m q) })
-  (put_held w.contexts.application bean n h)
-  (λ k c q. held_put w.contexts.application bean (Is n) c k (making_none w.contexts.application bean h) q)
-  (λ k q. q) g.requests g.sessions refl
-  (record { stays = λ b d q. making_put w.contexts.application bean (Is n) b d q }),
+      (all_held_put (HeldBy (ready_among n (owners.Context Application) w.instances)) w.contexts.application bean (Is n) (now tables legal w n bean (owners.Context Application) g s)
+      (all_held_map (HeldBy w.instances) _ w.contexts.application (held_still tables legal w n bean (owners.Context Application) g s) g.held))
+      (record { borrowed = λ m q. borrowed_still tables legal w n bean (owners.Context Application) g s m (g.borrowed.borrowed m q) })
+      (put_held w.contexts.application bean n h)
+      (λ k c q. held_put w.contexts.application bean (Is n) c k (making_none w.contexts.application bean h) q)
+      (λ k q. q) g.requests g.sessions refl
+      (record { stays = λ b d q. making_put w.contexts.application bean (Is n) b d q }),
   now tables legal w n bean (owners.Context Application) g s,
 )
 
@@ -217,11 +216,11 @@ dependent : (tables : Tables) (legal : Legal) (w : World) (n bean m : ℕ) (g : 
     → SettledIn tables legal w n bean (owners.Instance m) g s (with_owned n (components.Bean bean) (owners.Instance m) (with_instances (λ live. ready_among n (owners.Instance m) live) w))
 dependent tables legal w n bean m g s h = (
   build tables legal w n bean (owners.Instance m) g s w.contexts w.temporaries
-  (all_held_map (HeldBy w.instances) _ w.contexts.application (held_still tables legal w n bean (owners.Instance m) g s) g.held)
-  (record { borrowed = λ k q. borrowed_still tables legal w n bean (owners.Instance m) g s k (g.borrowed.borrowed k q) })
-  (let b = (pass tables legal w n bean (owners.Instance m) g s).forth m h.0 h.1 in (b.0, b.1, b.2.gains refl))
-  (λ k c q. q) (λ k q. q) g.requests g.sessions refl
-  (record { stays = λ b d q. q }),
+      (all_held_map (HeldBy w.instances) _ w.contexts.application (held_still tables legal w n bean (owners.Instance m) g s) g.held)
+      (record { borrowed = λ k q. borrowed_still tables legal w n bean (owners.Instance m) g s k (g.borrowed.borrowed k q) })
+      (let b = (pass tables legal w n bean (owners.Instance m) g s).forth m h.0 h.1 in (b.0, b.1, b.2.gains refl))
+      (λ k c q. q) (λ k q. q) g.requests g.sessions refl
+      (record { stays = λ b d q. q }),
   now tables legal w n bean (owners.Instance m) g s,
 )
 
@@ -229,11 +228,11 @@ borrowed : (tables : Tables) (legal : Legal) (w : World) (n bean : ℕ) (g : Goo
     → SettledIn tables legal w n bean owners.Borrower g s (with_owned n (components.Bean bean) owners.Borrower (with_instances (λ live. ready_among n owners.Borrower live) w))
 borrowed tables legal w n bean g s h = (
   build tables legal w n bean owners.Borrower g s w.contexts (on_top (λ ns. ns ++ n ∷ []) w.temporaries)
-  (all_held_map (HeldBy w.instances) _ w.contexts.application (held_still tables legal w n bean owners.Borrower g s) g.held)
-  (record { borrowed = λ k q. by k (among_either k n w.temporaries q) })
-  (among_new n w.temporaries h)
-  (λ k c q. q) (λ k q. among_old k n w.temporaries q) g.requests g.sessions (top_length (λ ns. ns ++ n ∷ []) w.temporaries)
-  (record { stays = λ b d q. q }),
+      (all_held_map (HeldBy w.instances) _ w.contexts.application (held_still tables legal w n bean owners.Borrower g s) g.held)
+      (record { borrowed = λ k q. by k (among_either k n w.temporaries q) })
+      (among_new n w.temporaries h)
+      (λ k c q. q) (λ k q. among_old k n w.temporaries q) g.requests g.sessions (top_length (λ ns. ns ++ n ∷ []) w.temporaries)
+      (record { stays = λ b d q. q }),
   now tables legal w n bean owners.Borrower g s,
 )
   where

@@ -1,12 +1,11 @@
 -- The statements of programs, over tables and bodies that fit one another.
-use Rattle.std.proofs.Common.{ℕ, ◌≡◌, ◌<◌, List, [], ◌∷◌, length, Bool, true, false, Option, Some, None, refl, sym, subst, suc}
-use Rattle.std.specs.Prelude.{slice_get}
+use Rattle.std.proofs.Common.{ℕ, ◌≡◌, List, [], ◌∷◌, Bool, true, false, Option, Some, refl, sym, subst}
 use Rattle.cdi_base.specs.declared.built_in.BuiltIn.{BuiltIn}
 use Rattle.cdi_base.specs.BuiltIn.{number_of}
 use Rattle.cdi_machine.specs.Words.{Name}
 use Rattle.cdi_machine.specs.Tables.{Tables}
-use Rattle.cdi_machine.specs.World.{World, after_change, with_entry}
-use Rattle.cdi_machine.specs.Programs.{Task, Given, Completion, Gave, Threw, Prog, ret, throw, handle, raise, require, require_present, expect, complete, call, top, give_number, require_depth, pick, rethrow}
+use Rattle.cdi_machine.specs.World.{World}
+use Rattle.cdi_machine.specs.Programs.{Task, Given, Completion, Gave, Threw, Prog, throw, handle, raise, require_present, expect, complete, call, top, give_number, require_depth, rethrow}
 use Rattle.cdi_machine.specs.Runs.{Legal}
 use Rattle.cdi_fit.specs.Fits.{HasText, Fits}
 use Rattle.cdi_fit.proofs.Safe.{Safe, bind, weaker}

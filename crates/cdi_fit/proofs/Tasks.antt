@@ -1,13 +1,13 @@
 -- Each task misses nothing if it has what it needs, and what is promised holds after it.
-use Rattle.std.proofs.Common.{◌≡◌, List, [], ◌∷◌, refl, sym, subst}
+use Rattle.std.proofs.Common.{List, [], ◌∷◌, refl, sym, subst}
 use Rattle.cdi_base.specs.declared.value.Value.{Value}
 use Rattle.cdi_base.specs.declared.entry.Entry.TheVariants as entries
 use Rattle.cdi_base.specs.declared.uses.Use.{Use}
 use Rattle.cdi_store.specs.declared.instance.Context.TheVariants.{Application, Request, Session}
 use Rattle.cdi_machine.specs.Words.{Name}
-use Rattle.cdi_machine.specs.Tables.{Tables, Observer}
+use Rattle.cdi_machine.specs.Tables.{Tables}
 use Rattle.cdi_machine.specs.World.{World, with_entry}
-use Rattle.cdi_machine.specs.Programs.{Task, Given, Completion, Prog, handle, throw, each, call, finish}
+use Rattle.cdi_machine.specs.Programs.{Task, handle, throw, each, call, finish}
 use Rattle.cdi_machine.specs.Machine.{machine}
 use Rattle.cdi_machine.specs.Events.{fire}
 use Rattle.cdi_machine.specs.Runs.{Legal}

@@ -6,14 +6,13 @@ use Rattle.cdi_base.specs.declared.act.Answer.TheVariants as answers
 use Rattle.cdi_base.specs.Maps.{at}
 use Rattle.cdi_store.specs.declared.instance.Component.TheVariants as components
 use Rattle.cdi_store.specs.declared.instance.Context.TheVariants.{Application, Request, Session}
-use Rattle.cdi_store.specs.declared.instance.Owner.{Owner}
 use Rattle.cdi_store.specs.declared.instance.Phase.TheVariants as phases
 use Rattle.cdi_store.specs.declared.instance.Instance.{Instance}
 use Rattle.cdi_store.specs.Live.{Instances}
 use Rattle.cdi_bodies.specs.declared.view.View.{View}
 use Rattle.cdi_bodies.specs.Shape.{is_thrown, last_answer}
 use Rattle.cdi_machine.specs.Words.{Name}
-use Rattle.cdi_machine.specs.Tables.{Tables, Managed, Method, Kind}
+use Rattle.cdi_machine.specs.Tables.{Tables, Managed, Method, Kind, Bean}
 use Rattle.cdi_machine.specs.World.{World, Invocation}
 use Rattle.cdi_machine.specs.Programs.{Task, Given, Completion, Gave, Threw, Running}
 use Rattle.cdi_machine.specs.Runs.{Legal}
@@ -36,7 +35,7 @@ pub same_class : {tables : Tables} {b : ℕ} {c d : Managed} → IsClassOf table
 same_class {tables} {b} {c} {d} p q =
     let r : Some p.bean ≡ Some q.bean = sym p.known ∙ q.known in
     let s : p.bean ≡ q.bean = cc in
-    let t : Kind.Class c ≡ Kind.Class d = sym p.is ∙ (ap (λ (x : Rattle.cdi_machine.specs.Tables.Bean). x.kind) s ∙ q.is) in
+    let t : Kind.Class c ≡ Kind.Class d = sym p.is ∙ (ap (λ (x : Bean). x.kind) s ∙ q.is) in
     cc
 
 -- ---- what is live

@@ -1,14 +1,10 @@
 -- Live instances when one of them passes to another phase and lists of dependents change by it alone.
-use Rattle.std.proofs.Common.{ℕ, ◌≡◌, ◌≢◌, ◌⊎◌, inl, inr, List, Bool, true, false, cond, Option, Some, None, refl, sym, ap, ◌∙◌, subst, nat_eq}
+use Rattle.std.proofs.Common.{ℕ, ◌≡◌, ◌≢◌, inl, inr, List, Bool, cond, Option, Some, None, refl, sym, ap, ◌∙◌, subst, nat_eq}
 use Rattle.std.specs.Prelude.{option_map}
 use Rattle.cdi_base.specs.Maps.{at}
 use Rattle.cdi_base.specs.Fields.{has}
-use Rattle.cdi_store.specs.declared.instance.Component.{Component}
-use Rattle.cdi_store.specs.declared.instance.Component.TheVariants as components
-use Rattle.cdi_store.specs.declared.instance.Owner.{Owner}
 use Rattle.cdi_store.specs.declared.instance.Owner.TheVariants as owners
 use Rattle.cdi_store.specs.declared.instance.Phase.{Phase}
-use Rattle.cdi_store.specs.declared.instance.Phase.TheVariants as phases
 use Rattle.cdi_store.specs.declared.instance.Instance.{Instance}
 use Rattle.cdi_store.specs.declared.references.Reference.{Reference}
 use Rattle.cdi_store.specs.declared.references.Reference.TheVariants.{Direct, Proxy, Empty}
@@ -17,11 +13,11 @@ use Rattle.cdi_store.proofs.Numbers.{equal_or_not}
 use Rattle.cdi_machine.specs.Words.{Name}
 use Rattle.cdi_machine.specs.Tables.{Tables, Managed}
 use Rattle.cdi_machine.specs.Runs.{Legal}
-use Rattle.cdi_fit.specs.Fits.{IsIn, IsClassOf}
+use Rattle.cdi_fit.specs.Fits.{IsIn}
 use Rattle.cdi_fit.specs.Left.{DependsOn}
 use Rattle.cdi_fit.proofs.Lists.{Tested}
-use Rattle.cdi_fit.proofs.Whole.{IsServedOwner, IsWhole, AllWhole, Stands, IsOwned, AllOwned, IsOnly, Refers, AllRefer}
-use Rattle.cdi_fit.proofs.Frames.{Other, Keeps, Settles, WasSo, owned_then}
+use Rattle.cdi_fit.proofs.Whole.{IsServedOwner, IsWhole, AllWhole, Stands, IsOwned, AllOwned, Refers, AllRefer}
+use Rattle.cdi_fit.proofs.Frames.{Other, Keeps, Settles, owned_then}
 
 -- what an instance is, whose it is and which fields it has stays
 pub record Alike (x y : Instance) : Type 0 where
@@ -125,8 +121,10 @@ module _ {n : ℕ} {p : Phase} {H : ℕ → Type 0} {before after : Instances} (
   passes_settles = record { begun = λ k y d e. (let b = f.back k y e in inr (b.0, b.1, sym (b.2.stage d))) }
 
   pub passes_refer : (t : Tables) (next : ℕ) → AllRefer t before next → AllRefer t after next
-  passes_refer t next h = record { refers = λ k y b c field r e of is q. (let w = f.back k y e in
-      refers_then t c next field r passes_were (h.refers k w.0 b c field r w.1 (sym w.2.alike.of ∙ of) is (ap (λ rs. at rs field) (sym w.2.references) ∙ q))) }
+  passes_refer t next h = record {
+    refers = λ k y b c field r e of is q. (let w = f.back k y e in
+        refers_then t c next field r passes_were (h.refers k w.0 b c field r w.1 (sym w.2.alike.of ∙ of) is (ap (λ rs. at rs field) (sym w.2.references) ∙ q)));
+  }
 
   pub passes_owned : ((k : ℕ) → H k → IsOwned after n (owners.Instance k)) → AllOwned before → AllOwned after
   passes_owned new h = record { owned = λ m y d e q. by m y d e q (equal_or_not d n) }

@@ -1,5 +1,5 @@
 -- Runs in which nothing is missing, as far as commands are served now.
-use Rattle.std.specs.Prelude.{ℕ, ◌≡◌, List, length, Some, None}
+use Rattle.std.specs.Prelude.{ℕ, ◌≡◌, length, None}
 use Rattle.cdi_base.specs.declared.reply.Reply.{Reply}
 use Rattle.cdi_machine.specs.Tables.{Tables, Managed, One}
 use Rattle.cdi_machine.specs.World.{World, at_begin}
