@@ -60,10 +60,6 @@ module _ (tables : Tables) (legal : Legal) (fits : Fits tables legal) where
       (λ _ u p. then tables legal fits (fire_container_event built_in.Startup) _ throw u (λ d v. Gives d (After tables legal u v × (v.contexts ≡ u.contexts))) _ (container_event_safe built_in.Startup u p.0.good) (λ _ v q. leaves_after (after_trans p.0 q.0)) (λ x v q. absurd q))
       (λ x u p. absurd p)
 
-  -- the application context is gone
-  abbrev Closed : World → Completion Given → World → Type 0
-  Closed w c u = Gives c (Leaves tables legal w u × (u.contexts.application ≡ None))
-
   finished : (w u : World) → After tables legal w u → Leaves tables legal w (after_change (Change.Finish Application) u)
   finished w u a = record { good = finishes tables legal u a.good; begun = a.begun; level = a.level }
 

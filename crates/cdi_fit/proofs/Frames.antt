@@ -124,7 +124,3 @@ module _ {tables : Tables} {legal : Legal} {before instances : Instances} {level
 
   pub after_fewer : {P : ℕ → Type 0} (Q : ℕ → Type 0) → ((n : ℕ) → Q n → P n) → AfterOf tables legal P Any Any before levels had instances next contexts temporaries → AfterOf tables legal Q Any Any before levels had instances next contexts temporaries
   after_fewer Q f a = after_less Q Any Any f (λ n h. h) (λ n h. h) a
-
-  -- what holds of a task holds of it as part of a change
-  pub after_part : (n : ℕ) (M : ℕ → Type 0) → AfterOf tables legal Any Any Any before levels had instances next contexts temporaries → AfterOf tables legal (Other n) (Other n) M before levels had instances next contexts temporaries
-  after_part n M a = after_less (Other n) (Other n) M (λ n h. tt) (λ n h. tt) (λ n h. tt) a

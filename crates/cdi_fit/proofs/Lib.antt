@@ -20,3 +20,5 @@ mod Tasks
 mod Commands
 mod Admitted
 mod Presence
+mod Scripts
+mod Worked

@@ -1,7 +1,6 @@
 -- Members of lists that change, and of lists of lists: what borrowers have.
-use Rattle.std.proofs.Common.{ℕ, ◌≡◌, ◌≢◌, ◌<◌, ◌⊎◌, inl, inr, List, [], ◌∷◌, ◌++◌, length, true, false, Some, refl, sym, ◌∙◌, subst, arith, nat_eq, zero, suc}
+use Rattle.std.proofs.Common.{ℕ, ◌≡◌, ◌≢◌, ◌<◌, ◌⊎◌, inl, inr, List, [], ◌∷◌, ◌++◌, length, true, false, Some, refl, sym, ◌∙◌, arith, nat_eq, zero, suc}
 use Rattle.std.specs.Prelude.{map, slice_get}
-use Rattle.std.specs.List.{AllByRecursion}
 use Rattle.cdi_store.specs.Live.{all_but}
 use Rattle.cdi_store.proofs.Numbers.{equal_or_not}
 use Rattle.cdi_machine.specs.World.{on_top, below}
@@ -12,11 +11,6 @@ abbrev pub Tested : ℕ → ℕ → Type 0
 Tested m n = ((nat_eq m n ≡ true) × (m ≡ n)) ⊎ ((nat_eq m n ≡ false) × (m ≢ n))
 
 -- ---- members
-
-pub all_in : {X : Type 0} (P : X → Type 0) (xs : List X) (x : X) → AllByRecursion P xs → IsIn x xs → P x
-all_in P [] x h q = absurd q
-all_in P (y ∷ ys) x h (inl e) = subst P e h.0
-all_in P (y ∷ ys) x h (inr q) = all_in P ys x h.1 q
 
 pub in_got : {X : Type 0} (xs : List X) (i : ℕ) (x : X) → slice_get xs i ≡ Some x → IsIn x xs
 in_got [] i x e = absurd (cc)

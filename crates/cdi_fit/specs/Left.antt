@@ -30,7 +30,7 @@ IsHeld (Some a) (components.Interceptor i) n = ⊥
 abbrev pub DependsOn : Instances → ℕ → ℕ → Type 0
 DependsOn instances m n = (o : Instance) × (at instances m ≡ Some o) × IsIn n o.dependents
 
--- it stands where its owner says: in the application context, or among the dependents of an instance that lives
+-- It stands where its owner says: in the application context, or among the dependents of an instance that lives.
 abbrev pub StandsAtHome : World → ℕ → Component → Owner → Type 0
 StandsAtHome w n component (owners.Context Application) = IsHeld w.contexts.application component n
 StandsAtHome w n component (owners.Instance m) = DependsOn w.instances m n
@@ -48,5 +48,6 @@ abbrev pub LeavesTidy : Tables → Legal → Type 0
 LeavesTidy tables legal =
     Fits tables legal → (s : State) → IsReachable tables legal s
     → (c : Command) → refusal tables s c ≡ None → IsServedCommand c
-    → (d : Completion Given) (v : World) → Runs tables legal ⊥ (task c) (at_begin s.world) (Ends d) v
+    → (d : Completion Given) (v : World)
+    → Runs tables legal ⊥ (task c) (at_begin s.world) (Ends d) v
     → IsTidy v × (c ≡ Command.Shutdown → v.instances ≡ [])

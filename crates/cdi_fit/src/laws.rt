@@ -2,6 +2,7 @@
 ghost use Rattle.cdi_machine.specs.Tables.{Tables};
 ghost use Rattle.cdi_fit.specs.Left.{LeavesTidy};
 ghost use Rattle.cdi_fit.specs.Missing.{AsksWhatIsThere, MissesNothing};
+ghost use Rattle.cdi_fit.specs.Worked.{AcceptsRightCalls, RefusesWrongCalls};
 
 use cdi_machine::Driver;
 
@@ -11,7 +12,8 @@ use cdi_machine::Driver;
 /// begins a request, and also if memory runs out on the way.
 pub fn law_nothing_missing<D: Driver>(driver: &D)
     ensures with_memory { (tables : Tables) → MissesNothing tables (D.legal driver.now) ⊥ }
-    ensures short_of_memory { (tables : Tables) → MissesNothing tables (D.legal driver.now) (Unit {0}) }
+    ensures short_of_memory { (tables : Tables) →
+        MissesNothing tables (D.legal driver.now) (Unit {0}) }
 {
     let _driver = driver;
 }
@@ -36,3 +38,11 @@ pub fn law_leaves_tidy<D: Driver>(driver: &D)
 {
     let _driver = driver;
 }
+
+/// Tables and bodies may fit one another: those of a small deployment do, in which a bean has an instance of a dependent
+/// bean and a proxy of itself injected, and calls methods through both. If it calls the dependent's method with too few
+/// values, they don't.
+pub fn law_some_fit()
+    ensures right { AcceptsRightCalls }
+    ensures wrong { RefusesWrongCalls }
+{}
