@@ -123,13 +123,13 @@ module _ (tables : Tables) (legal : Legal) (fits : Fits tables legal) where
     owner_before owners.Borrower h m e = absurd (cc)
 
     -- the owner still can have it
-    place_then : (P : ℕ → Type 0) (x : Owner) (instances : Instances) (levels : List (List ℕ)) (u v : World) → AfterBut tables legal P u v → ((m : ℕ) → x ≡ owners.Instance m → P m)
+    place_then : (P : ℕ → Type 0) (x : Owner) (u v : World) → AfterBut tables legal P u v → ((m : ℕ) → x ≡ owners.Instance m → P m)
         → HasPlace u.instances u.contexts.application u.temporaries bean x → HasPlace v.instances v.contexts.application v.temporaries bean x
-    place_then P (owners.Context Application) instances levels u v a f h = a.making.stays bean tt h
-    place_then P (owners.Context (Request name)) instances levels u v a f h = absurd h
-    place_then P (owners.Context (Session name)) instances levels u v a f h = absurd h
-    place_then P (owners.Instance m) instances levels u v a f h = there_then m a.keeps (f m refl) h
-    place_then P owners.Borrower instances levels u v a f h = has_top v.temporaries u.temporaries h a.level
+    place_then P (owners.Context Application) u v a f h = a.making.stays bean tt h
+    place_then P (owners.Context (Request name)) u v a f h = absurd h
+    place_then P (owners.Context (Session name)) u v a f h = absurd h
+    place_then P (owners.Instance m) u v a f h = there_then m a.keeps (f m refl) h
+    place_then P owners.Borrower u v a f h = has_top v.temporaries u.temporaries h a.level
 
     apart : (x : Owner) → CanHave w bean x → (b : ℕ) → IsMaking w.contexts.application b → Apart x bean b
     apart (owners.Context Application) h b q = free_apart w.contexts.application bean b h q
@@ -179,7 +179,7 @@ module _ (tables : Tables) (legal : Legal) (fits : Fits tables legal) where
 
     succeeds : (u : World) → After tables legal made u → Does (make_ready w.next) u Done
     succeeds u a =
-        let s = settled tables legal (with_entry (entries.Ready w.next) u) w.next bean owner a.good (still_new u a) (place_then Any owner u.instances u.temporaries made u a (λ m e. tt) is_made.2) in
+        let s = settled tables legal (with_entry (entries.Ready w.next) u) w.next bean owner a.good (still_new u a) (place_then Any owner made u a (λ m e. tt) is_made.2) in
         let v = after_change (Change.Settle w.next) (with_entry (entries.Ready w.next) u) in
         let z = after_trans (changed_around w made is_made.0) (after_trans (after_around made u a) (changed_around u v s.0)) in
         (ended v z (λ o e. (let q : Some o ≡ Some s.1.instance = sym e ∙ s.1.there in let r : o ≡ s.1.instance = cc in ap (λ (x : Instance). x.phase) r ∙ s.1.stage)), record { instance = s.1.instance; there = s.1.there; of = s.1.of }, tt)
@@ -199,8 +199,8 @@ module _ (tables : Tables) (legal : Legal) (fits : Fits tables legal) where
         undone : (u v : World) → After tables legal made u → AfterBut tables legal (Below (suc w.next)) u v → NoDependents v.instances w.next → After tables legal w (after_change (Change.Discard w.next) (with_entry (entries.Drop w.next) v))
         undone u v a p empty =
             let n = stands_then p.keeps (omega arith) (still_new u a) in
-            let place = place_then Any owner u.instances u.temporaries made u a (λ m e. tt) is_made.2 in
-            let d = discarded tables legal (with_entry (entries.Drop w.next) v) w.next bean owner p.good n empty (place_then (Below (suc w.next)) owner v.instances v.temporaries u v p (λ m e. (let l = owner_before owner can m e in omega arith)) place) in
+            let place = place_then Any owner made u a (λ m e. tt) is_made.2 in
+            let d = discarded tables legal (with_entry (entries.Drop w.next) v) w.next bean owner p.good n empty (place_then (Below (suc w.next)) owner u v p (λ m e. (let l = owner_before owner can m e in omega arith)) place) in
             let e = after_change (Change.Discard w.next) (with_entry (entries.Drop w.next) v) in
             let z = after_trans (changed_around w made is_made.0) (after_trans (after_around made u a) (after_trans (released_around u v p) (changed_around v e d.0))) in
             ended e z (λ o q. (let r : Some o ≡ None = sym q ∙ d.1 in absurd (cc)))
