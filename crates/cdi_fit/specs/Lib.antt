@@ -1,0 +1,4 @@
+pub mod Fits
+pub mod Missing
+pub mod Left
+pub mod Worked
