@@ -104,6 +104,7 @@ impl<D: Driver> Host for Runtime<D> {
       tables = machine_tables r.classes r.tables;
       legal = D.legal r.driver;
       knows = IsMethodBody r.tables;
+      may_end = D.may_end r.driver;
     } };
 
     ghost world = { λ r. r.world };

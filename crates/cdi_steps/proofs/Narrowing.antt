@@ -27,7 +27,7 @@ use Rattle.cdi_steps.specs.declared.task.Next.{Next}
 use Rattle.cdi_steps.specs.declared.task.Next.TheVariants as nexts
 
 pub narrows_self : (s : Setting) → Narrows s s
-narrows_self s = record { tables = refl; legal = record { act = λ b n f v a h. h; pick = λ n m i h. h }; knows = λ b h. h }
+narrows_self s = record { tables = refl; legal = record { act = λ b n f v a h. h; pick = λ n m i h. h }; knows = λ b h. h; may_end = λ h. h }
 
 pub narrows_trans : {r s t : Setting} → Narrows r s → Narrows s t → Narrows r t
 narrows_trans m n =
@@ -39,6 +39,7 @@ narrows_trans m n =
             pick = λ c e i h. m.legal.pick c e i (n.legal.pick c e i h);
           };
       knows = λ b h. n.knows b (m.knows b h);
+      may_end = λ h. m.may_end (n.may_end h);
     }
 
 pub narrows_same : {r s t : Setting} → Narrows r s → t ≡ s → Narrows r t

@@ -11,7 +11,7 @@ use std::alloc::{AllocError, Global};
 /// All that the engine asks and changes. Each change of the world is one of the machine's definition. Asking the driver
 /// may end what was legal; nothing becomes legal by it.
 pub trait Host {
-    ghost use Rattle.std.specs.Prelude.{ℕ, ◌≡◌, ◌<◌, ◌^◌, ◌↔◌, List, [], length, option_map, IfOk, OnOk, OnErr, IfSome, IsSome, IsTrue};
+    ghost use Rattle.std.specs.Prelude.{ℕ, ◌≡◌, ◌<◌, ◌^◌, ◌↔◌, List, [], length, option_map, IfOk, IfErr, OnOk, OnErr, IfSome, IsSome, IsTrue};
     ghost use Rattle.cdi_base.specs.declared.uses.Use.{Use};
     ghost use Rattle.cdi_base.specs.declared.scope.Scope.TheVariants.{ApplicationScoped};
     ghost use Rattle.cdi_store.specs.declared.instance.Context.TheVariants.{Application};
@@ -19,12 +19,13 @@ pub trait Host {
     ghost use Rattle.cdi_machine.specs.World.{World, after_change, with_entry, instance_at, no_environment};
     ghost use Rattle.cdi_machine.specs.World.Change.{Make, Settle, Leave, Remove, Assign, Finish, Close, Stand, Enter, Reach, Exit, Start, Stop, Borrow, Return, Down};
     ghost use Rattle.cdi_machine.specs.Destruction.{greatest_in};
+    ghost use Rattle.cdi_machine.specs.Failures.{IsFailureOf};
     ghost use Rattle.cdi_steps.specs.Setting.{Setting, Narrows, GivesTo, is_served, knows_member};
     ghost use Rattle.cdi_beans.specs.Served.{machine_bean, machine_method, machine_resolution};
     ghost use Rattle.cdi_store.specs.Owned.{dependents_in};
     ghost use Rattle.cdi_steps.specs.Asked.{of_type, method_at, status_in, held_in, number_left, latest_in, top_of};
 
-    /// The tables, what is legal, and which bodies there are.
+    /// The tables, what is legal, which bodies there are, and whether the driver may have nothing to give.
     ghost setting: { Self → Setting };
     /// What the container holds.
     ghost world: { Self → World };
@@ -64,6 +65,7 @@ pub trait Host {
         requires lives { IsSome (instance_at (world self.old) running.now.instance) }
         ensures legal { IfOk result (GivesTo (setting self.old) (world self.old) running.now) }
         ensures served { IfOk result (λ act. IsTrue (is_served act)) }
+        ensures failed { IfErr result (IsFailureOf (setting self.old).may_end) }
         ensures world { world self.new ≡ world self.old }
         ensures narrows { Narrows (setting self.old) (setting self.new) };
 
@@ -73,6 +75,7 @@ pub trait Host {
         ensures below { IfOk result (λ choice. choice < count) }
         ensures legal { IfOk result (λ choice.
             (setting self.old).legal.picks count (length (world self.old).trace) choice) }
+        ensures failed { IfErr result (IsFailureOf (setting self.old).may_end) }
         ensures world { world self.new ≡ world self.old }
         ensures narrows { Narrows (setting self.old) (setting self.new) };
 
