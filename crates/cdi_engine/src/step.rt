@@ -33,9 +33,10 @@ pub(crate) fn step<H: Host>(host: &mut H, task: Task) -> Result<Next, Failure>
         Task::Begin(job) => Ok(commands::begin(host, job)?),
         Task::Using {
             bean_type,
+            qualifiers,
             method,
             args,
-        } => Ok(obtaining::using(host, bean_type, method, args)?),
+        } => Ok(obtaining::using(host, bean_type, qualifiers, method, args)?),
     }
 }
 
