@@ -15,11 +15,11 @@ ghost use Rattle.cdi_base.specs.declared.reply.Reply.TheVariants.{Refused};
 
 use crate::acceptance::Accepted;
 use crate::reply::{cause, has_value, reply_of};
-use cdi_base::{Cause, Command, Limits, Names, Refusal, Reply, Text};
+use cdi_base::{Cause, Command, Limits, Names, Refusal, Reply, Seq, Text};
 use cdi_engine::run::run;
 use cdi_machine::Driver;
 use cdi_runtime::Runtime;
-use cdi_steps::{Job, Outcome};
+use cdi_steps::{Host, Job, Outcome};
 use std::alloc::Global;
 use std::marker::Model;
 
@@ -160,10 +160,12 @@ impl<D: Driver> Container<D> {
             } => {
                 let bean_type = self.names().name_for(bean_type.as_str());
                 let method = self.names().name_for(method.as_str());
+                let qualifiers = Seq::empty(self.runtime.alloc());
                 self.ask(
                     request.as_ref(),
                     Job::Call {
                         bean_type,
+                        qualifiers,
                         method,
                         args,
                     },

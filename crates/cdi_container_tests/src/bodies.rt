@@ -168,6 +168,8 @@ impl<D: Driver> Driver for Counted<'_, D> {
 
     ghost legal = { λ c. D.legal c.driver };
 
+    ghost may_end = { λ c. D.may_end c.driver };
+
     fn act(
         &mut self,
         body: BodyId,

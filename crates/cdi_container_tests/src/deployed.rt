@@ -4,7 +4,7 @@ ghost use Rattle.cdi_bodies.specs.Table.{entries_of};
 ghost use Rattle.cdi_container.specs.Accepted.{IsAccepted};
 
 use crate::bodies::{Counting, level_args};
-use cdi_base::{Cause, Name, Names, Value};
+use cdi_base::{Cause, Name, Names, Seq, Value};
 use cdi_bodies::Bodies;
 use cdi_container::{Accepted, accept};
 use cdi_deploy::read;
@@ -70,6 +70,7 @@ pub(crate) fn job_of(alloc: Global, names: &Names, asks: Asks) -> Result<Job, Al
         Asks::Boot => Job::Boot,
         Asks::Call(bean_type, level) => Job::Call {
             bean_type: names.name_for(bean_type),
+            qualifiers: Seq::empty(alloc),
             method: names.name_for("up"),
             args: level_args(alloc, level)?,
         },

@@ -35,6 +35,7 @@ fn job_for(alloc: Global, names: &Names, wanted: Wanted) -> Result<Job, AllocErr
         Wanted::Boot => Job::Boot,
         Wanted::Call(bean_type, method, count) => Job::Call {
             bean_type: names.name_for(bean_type),
+            qualifiers: Seq::empty(alloc),
             method: names.name_for(method),
             args: args_of(alloc, count)?,
         },

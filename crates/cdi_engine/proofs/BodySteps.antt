@@ -18,8 +18,7 @@ use Rattle.cdi_base.specs.Fields.{has}
 use Rattle.cdi_store.specs.declared.instance.Component.{Component}
 use Rattle.cdi_store.specs.declared.instance.Component.TheVariants as components
 use Rattle.cdi_store.specs.declared.instance.Instance.{Instance}
-use Rattle.cdi_beans.specs.declared.bean.Method.{Method as CodeMethod}
-use Rattle.cdi_beans.specs.Served.{machine_method}
+use Rattle.cdi_steps.specs.declared.beans.Method.{Method as CodeMethod}
 use Rattle.cdi_machine.specs.Words.{Name, Fields}
 use Rattle.cdi_machine.specs.Tables.{Tables, Bean, Method, Kind}
 use Rattle.cdi_machine.specs.World.{World, Change, after_change, instance_at}
@@ -27,7 +26,7 @@ use Rattle.cdi_machine.specs.Programs as machine
 use Rattle.cdi_machine.specs.Programs.{Given, Number, Completion, Gave, Threw, Prog, ret, throw, see, nested, tick, change, choose, act, handle, finally, quietly, do_nothing, tell_missing, require_present, require, require_one, expect, complete, call, finish, note, alter, each, raise, require_number, give_number, next_number, require_depth, go_deeper, top, instance, bean_at, resolve, attempt, ◌>>=◌, ◌>>◌}
 use Rattle.cdi_steps.specs.Setting.{Setting, Narrows, GivesTo}
 use Rattle.cdi_steps.proofs.Narrowing.{comes_before}
-use Rattle.cdi_steps.specs.Asked.{method_in, method_of_component, method_of_instance, has_field_in}
+use Rattle.cdi_steps.specs.Asked.{method_in, method_of_component, method_of_instance, machine_method, has_field_in}
 use Rattle.cdi_steps.specs.Words.{given_of, running_of}
 use Rattle.cdi_steps.specs.Meanings.{start_body, end_with, go_on_with, told}
 use Rattle.cdi_steps.specs.Leads.{next_stop, Comes, ComesTo, MovesTo, Settles, IsOnWay, Written, Spent}

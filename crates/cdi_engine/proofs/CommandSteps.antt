@@ -78,10 +78,10 @@ module _ (s : Setting) where
 
   -- ---- a call
 
-  pub call_leads : (type method : Name) (args : List Value) (w : World)
-      → MovesTo s (tasks.Begin (jobs.Call type method args)) w (nexts.Needs (tasks.Using type method args) frames.Using)
+  pub call_leads : (type : Name) (uses : List Use) (method : Name) (args : List Value) (w : World)
+      → MovesTo s (tasks.Begin (jobs.Call type uses method args)) w (nexts.Needs (tasks.Using type uses method args) frames.Using)
       (after_change (Change.Stand no_environment) (after_change Change.Borrow w))
-  call_leads type method args w = Comes.within 3 refl
+  call_leads type uses method args w = Comes.within 3 refl
 
   pub returning_leads : (c : CodeCompletion) (w : World)
       → GoesOn s frames.Using c w (nexts.Needs (tasks.Start calls.Dismiss) (frames.Returning c)) w

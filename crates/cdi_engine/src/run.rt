@@ -1,6 +1,7 @@
 //! The engine: a loop over its steps, which calls itself only for what a step needs.
-ghost use Rattle.std.specs.Prelude.{◌≡◌};
+ghost use Rattle.std.specs.Prelude.{◌≡◌, IfErr};
 ghost use Rattle.cdi_machine.specs.Commands.{task};
+ghost use Rattle.cdi_machine.specs.Failures.{IsFailureOf};
 ghost use Rattle.cdi_steps.specs.Setting.{Narrows};
 ghost use Rattle.cdi_steps.specs.Words.{command_of};
 ghost use Rattle.cdi_steps.specs.Meanings.{first};
@@ -18,6 +19,7 @@ fn run_task<H: Host>(host: &mut H, task: Task) -> Result<Outcome, Failure>
     requires { Known (H.setting host.old) task }
     ensures ran { Ran (H.setting host.old) (first task)
         (H.world host.old) result (H.world host.new) }
+    ensures failed { IfErr result (IsFailureOf (H.setting host.old).may_end) }
     ensures narrows { Narrows (H.setting host.old) (H.setting host.new) }
 {
     let mut next = step(host, task)?;
@@ -39,6 +41,7 @@ fn run_task<H: Host>(host: &mut H, task: Task) -> Result<Outcome, Failure>
 pub fn run<H: Host>(host: &mut H, job: Job) -> Result<Outcome, Failure>
     ensures ran { Ran (H.setting host.old) (task (command_of job))
         (H.world host.old) result (H.world host.new) }
+    ensures failed { IfErr result (IsFailureOf (H.setting host.old).may_end) }
     ensures narrows { Narrows (H.setting host.old) (H.setting host.new) }
 {
     run_task(host, Task::Begin(job))

@@ -1,5 +1,6 @@
 //! One step: what a task does first, up to what it needs.
-ghost use Rattle.std.specs.Prelude.{◌≡◌, IfOk, OnErr};
+ghost use Rattle.std.specs.Prelude.{◌≡◌, IfOk, IfErr, OnErr};
+ghost use Rattle.cdi_machine.specs.Failures.{IsFailureOf};
 ghost use Rattle.cdi_steps.specs.Setting.{Narrows};
 ghost use Rattle.cdi_steps.specs.Meanings.{first};
 ghost use Rattle.cdi_steps.specs.Leads.{MovesTo, IsOnWay};
@@ -25,15 +26,17 @@ pub(crate) fn step<H: Host>(host: &mut H, task: Task) -> Result<Next, Failure>
     ensures narrows { Narrows (H.setting host.old) (H.setting host.new) }
     ensures on_way { OnErr result (IsOnWay (H.setting host.old) (first task)
         (H.world host.old) (H.world host.new)) }
+    ensures failed { IfErr result (IsFailureOf (H.setting host.old).may_end) }
 {
     match task {
         Task::Start(call) => start(host, call),
         Task::Begin(job) => Ok(commands::begin(host, job)?),
         Task::Using {
             bean_type,
+            qualifiers,
             method,
             args,
-        } => Ok(obtaining::using(host, bean_type, method, args)?),
+        } => Ok(obtaining::using(host, bean_type, qualifiers, method, args)?),
     }
 }
 
@@ -49,6 +52,7 @@ fn start<H: Host>(host: &mut H, call: Call) -> Result<Next, Failure>
     ensures narrows { Narrows (H.setting host.old) (H.setting host.new) }
     ensures on_way { OnErr result (IsOnWay (H.setting host.old) (first (Task.Start call))
         (H.world host.old) (H.world host.new)) }
+    ensures failed { IfErr result (IsFailureOf (H.setting host.old).may_end) }
 {
     match call {
         Call::Obtain { bean } => Ok(obtaining::obtain(host, bean)),

@@ -27,16 +27,20 @@ impl From<AllocError> for Failure {
 }
 
 /// The acts of bodies, and the picks among candidates whose order is free. It is told each time how many entries the
-/// command has so far, so that one driver can follow a recording. Nothing becomes legal by asking.
+/// command has so far, so that one driver can follow a recording. Nothing becomes legal by asking, and a driver that
+/// can't end still can't.
 pub trait Driver {
-    ghost use Rattle.std.specs.Prelude.{ℕ, ◌<◌, IfOk};
+    ghost use Rattle.std.specs.Prelude.{ℕ, ◌<◌, IfOk, IfErr};
     ghost use Rattle.cdi_machine.specs.Runs.{Legal};
+    ghost use Rattle.cdi_machine.specs.Failures.{IsFailureOf};
     ghost use Rattle.cdi_machine.specs.Laws.{IsWithin};
 
     /// There is a body under this number.
     ghost knows: { Self → ℕ → Type 0 };
     /// What the bodies may give, and which candidates may be picked.
     ghost legal: { Self → Legal };
+    /// It may have nothing to give, now or later.
+    ghost may_end: { Self → Type 0 };
 
     /// The next act of a body, in its written form.
     fn act(
@@ -49,7 +53,9 @@ pub trait Driver {
         requires { knows self.old body }
         ensures legal { IfOk result (λ act.
             (legal self.old).gives body entries fields.now view.now act) }
+        ensures failed { IfErr result (IsFailureOf (may_end self.old)) }
         ensures stays { IsWithin (legal self.new) (legal self.old) }
+        ensures goes_on { may_end self.new → may_end self.old }
         ensures still_known { (other : ℕ) → knows self.old other → knows self.new other };
 
     /// One of two or more candidates.
@@ -57,7 +63,9 @@ pub trait Driver {
         requires { 1 < count }
         ensures below { IfOk result (λ choice. choice < count) }
         ensures legal { IfOk result (λ choice. (legal self.old).picks count entries choice) }
+        ensures failed { IfErr result (IsFailureOf (may_end self.old)) }
         ensures stays { IsWithin (legal self.new) (legal self.old) }
+        ensures goes_on { may_end self.new → may_end self.old }
         ensures still_known { (other : ℕ) → knows self.old other → knows self.new other };
 }
 
@@ -66,6 +74,8 @@ impl Driver for Bodies {
     ghost knows = { λ bodies body. body < length (entries_of bodies) };
 
     ghost legal = { λ bodies. legal_of (entries_of bodies) };
+
+    ghost may_end = { λ bodies. ⊥ };
 
     fn act(
         &mut self,

@@ -14,7 +14,8 @@ use Rattle.cdi_beans.proofs.Served.{at_method, resolved_is_there}
 use Rattle.cdi_machine.specs.World.{World}
 use Rattle.cdi_machine.specs.Commands.{Command}
 use Rattle.cdi_machine.specs.Container.{refusal, call_refusals, bean_of}
-use Rattle.cdi_steps.specs.Asked.{of_type}
+use Rattle.cdi_base.specs.declared.uses.Use.{Use}
+use Rattle.cdi_steps.specs.Asked.{asked_for}
 use Rattle.cdi_runtime.specs.Refusals.{method_refusal, bean_refusal, call_refusal}
 
 module _ (classes : List ℕ) (t : Tables) (type name count : ℕ) where
@@ -34,7 +35,7 @@ module _ (classes : List ℕ) (t : Tables) (type name count : ℕ) where
   by_type true = bean_refused (resolve t type) refl
   by_type false = refl
 
-pub call_refused : (classes : List ℕ) (t : Tables) (type name : ℕ) (args : List Value) (w : World) (halted : Bool) → halted ≡ false → w.down ≡ false
-    → refusal (machine_tables classes t) (record { world = w; halted = halted }) (Command.Call None (of_type type) name args)
+pub call_refused : (classes : List ℕ) (t : Tables) (type : ℕ) (uses : List Use) (name : ℕ) (args : List Value) (w : World) (halted : Bool) → halted ≡ false → w.down ≡ false
+    → refusal (machine_tables classes t) (record { world = w; halted = halted }) (Command.Call None (asked_for type uses) name args)
     ≡ call_refusal classes t type name (length args)
-call_refused classes t type name args w halted h d = rw (h, d) (by_type classes t type name (length args) (is_type classes type))
+call_refused classes t type uses name args w halted h d = rw (h, d) (by_type classes t type name (length args) (is_type classes type))

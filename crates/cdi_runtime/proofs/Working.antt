@@ -22,10 +22,6 @@ use Rattle.cdi_runtime.specs.Standing.{IsMethodBody, IsWorking}
 
 -- ---- methods
 
-pub twice : {A B C : Type 0} (f : B → C) (g : A → B) (x : Option A) → option_map f (option_map g x) ≡ option_map (λ a. f (g a)) x
-twice f g None = refl
-twice f g (Some a) = refl
-
 found_in : (t : Tables) (classes : List ℕ) (name : ℕ) (x : Option Bean)
     → option_and_then (λ bean. method_in bean.kind name) (option_map machine_bean x)
     ≡ option_map machine_method (option_and_then (λ (b : Bean). find_method b.methods name) x)

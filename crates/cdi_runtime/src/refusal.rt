@@ -72,6 +72,7 @@ impl<D: Driver> Runtime<D> {
             Job::Boot | Job::Shutdown => None,
             Job::Call {
                 bean_type,
+                qualifiers: _qualifiers,
                 method,
                 args,
             } => {

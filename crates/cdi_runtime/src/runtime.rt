@@ -1,16 +1,18 @@
 //! What a container works with at run time.
 ghost use Rattle.std.specs.Prelude.{◌≡◌};
 ghost use Rattle.cdi_beans.specs.Beans.{KnowsEach};
+ghost use Rattle.cdi_beans.specs.Served.{machine_scope};
 ghost use Rattle.cdi_machine.specs.World.{before_boot, at_begin};
 ghost use Rattle.cdi_presence.specs.Missing.{GivesServed};
 ghost use Rattle.cdi_runtime.specs.Standing as spec;
 
-use cdi_base::{Act, Entry, Fields, Limits, Name, Scope, Seq, Value};
-use cdi_beans::bean::{Bean, Code, Method, Resolution};
+use cdi_base::{Act, Entry, Fields, Limits, Name, Place, Scope, Seq, Use, Value};
+use cdi_beans::bean::{Code, Resolution as Resolved, ServedScope};
 use cdi_beans::tables::Tables;
 use cdi_contexts::{Held, Status};
 use cdi_machine::{Driver, Failure};
 use cdi_steps::Host;
+use cdi_steps::beans::{BeanHead, Method, Resolution};
 use cdi_steps::task::Running;
 use cdi_store::{Component, Instance, Owner};
 use cdi_world::{Invocation, World};
@@ -96,6 +98,16 @@ impl<D: Driver> Runtime<D> {
     }
 }
 
+/// The scope as contexts know it.
+fn scope_of(scope: ServedScope) -> Scope
+    ensures { result ≡ machine_scope scope }
+{
+    match scope {
+        ServedScope::ApplicationScoped => Scope::ApplicationScoped,
+        ServedScope::Dependent => Scope::Dependent,
+    }
+}
+
 impl<D: Driver> Host for Runtime<D> {
     ghost use Rattle.cdi_beans.specs.Served.{machine_tables};
     ghost use Rattle.cdi_runtime.specs.Standing.{IsMethodBody};
@@ -104,6 +116,7 @@ impl<D: Driver> Host for Runtime<D> {
       tables = machine_tables r.classes r.tables;
       legal = D.legal r.driver;
       knows = IsMethodBody r.tables;
+      may_end = D.may_end r.driver;
     } };
 
     ghost world = { λ r. r.world };
@@ -112,16 +125,39 @@ impl<D: Driver> Host for Runtime<D> {
         self.alloc
     }
 
-    fn bean(&self, bean: u32) -> Option<&Bean> {
-        self.tables.bean(bean)
+    fn bean(&self, bean: u32) -> Option<BeanHead> {
+        let bean = self.tables.bean(bean)?;
+        Some(BeanHead {
+            place: Place::Class(bean.class),
+            scope: scope_of(bean.scope),
+        })
     }
 
-    fn method(&self, bean: u32, name: Name) -> Option<&Method> {
-        self.tables.method(&Code::Method { bean, method: name })
+    fn first_fields(&self, bean: u32) -> Result<Fields, AllocError> {
+        match self.tables.bean(bean) {
+            Some(bean) => bean.first_fields(self.alloc),
+            None => Ok(Fields::new(self.alloc)),
+        }
     }
 
-    fn resolve(&self, bean_type: Name) -> Resolution {
-        self.tables.resolve(bean_type)
+    fn method(&self, bean: u32, name: Name) -> Option<Method> {
+        match self.tables.method(&Code::Method { bean, method: name }) {
+            Some(method) => Some(Method {
+                place: method.place,
+                count: method.count,
+                body: method.body,
+            }),
+            None => None,
+        }
+    }
+
+    // What is asked for has no qualifiers yet.
+    fn resolve(&self, bean_type: Name, _qualifiers: &[Use]) -> Resolution {
+        match self.tables.resolve(bean_type) {
+            Resolved::One(bean) => Resolution::One(bean),
+            Resolved::Nothing => Resolution::Nothing,
+            Resolved::Many => Resolution::Many,
+        }
     }
 
     fn text(&self, exception: Name) -> Option<&str> {

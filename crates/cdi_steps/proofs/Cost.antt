@@ -62,7 +62,7 @@ gave_below (tasks.Start (calls.Fire event)) k = frame_below k
 gave_below (tasks.Start calls.Dismiss) k = frame_below k
 gave_below (tasks.Start calls.Clear) k = frame_below k
 gave_below (tasks.Begin job) k = frame_below k
-gave_below (tasks.Using type method args) k = frame_below k
+gave_below (tasks.Using type uses method args) k = frame_below k
 
 weight_below : (x : Next) → weight x < 6
 weight_below (nexts.Finished o) = omega arith
@@ -138,7 +138,7 @@ module _ (tables : Tables) (legal : Legal) where
       by (tasks.Start calls.Dismiss) r = let g = goes_left (goes tables legal ⊥ r) in omega arith
       by (tasks.Start calls.Clear) r = let g = goes_left (goes tables legal ⊥ r) in omega arith
       by (tasks.Begin job) r = let g = goes_left (goes tables legal ⊥ r) in omega arith
-      by (tasks.Using type method args) r = let g = goes_left (goes tables legal ⊥ r) in omega arith
+      by (tasks.Using type uses method args) r = let g = goes_left (goes tables legal ⊥ r) in omega arith
 
   pub back_falls : (d : Task) (k : Frame) (o : Outcome) (next : Next) (v x y : World) → Runs tables legal ⊥ (first d) v (outcome_of o) x
       → Falls (back_rank k o) x next y → cost (weight next) y < cost (weight (nexts.Needs d k)) v

@@ -1,22 +1,21 @@
 -- The steps of creation are those of the machine.
-use Rattle.std.proofs.Common.{ℕ, ◌≡◌, arith, refl, ◌∙◌, ap, Option, Some, None, Bool, true, false}
-use Rattle.std.specs.Prelude.{◌^◌, ◌<◌, nat_lt}
+use Rattle.std.proofs.Common.{ℕ, ◌≡◌, arith, refl, sym, ◌∙◌, ap, Option, Some, None, Bool, true, false}
+use Rattle.std.specs.Prelude.{◌^◌, ◌<◌, nat_lt, option_map}
 use Rattle.cdi_base.specs.declared.entry.Entry.TheVariants as entries
 use Rattle.cdi_base.specs.declared.reply.Cause.TheVariants as causes
-use Rattle.cdi_base.specs.declared.place.Place.TheVariants as places
 use Rattle.cdi_base.specs.declared.built_in.BuiltIn.TheVariants as built_in
 use Rattle.cdi_base.specs.BuiltIn.{number_of}
 use Rattle.cdi_store.specs.declared.instance.Component.TheVariants as components
 use Rattle.cdi_store.specs.declared.instance.Owner.{Owner}
-use Rattle.cdi_beans.specs.declared.bean.Bean.{Bean as CodeBean}
-use Rattle.cdi_beans.specs.Served.{machine_bean}
 use Rattle.cdi_machine.specs.Words.{Fields}
 use Rattle.cdi_machine.specs.Tables.{Tables, Bean}
 use Rattle.cdi_machine.specs.World.{World, Change, after_change}
 use Rattle.cdi_machine.specs.Programs as machine
 use Rattle.cdi_machine.specs.Programs.{Given, Number, Completion, Gave, Threw, Prog, ret, throw, see, nested, tick, change, choose, act, handle, finally, quietly, do_nothing, tell_missing, require_present, require, require_one, expect, complete, call, finish, note, alter, each, raise, require_number, give_number, next_number, require_depth, go_deeper, top, instance, bean_at, resolve, attempt, ◌>>=◌, ◌>>◌}
 use Rattle.cdi_steps.specs.Setting.{Setting, Narrows}
-use Rattle.cdi_steps.specs.Asked.{number_left}
+use Rattle.cdi_steps.specs.Asked.{number_left, head_of, fields_of, IsServedBean}
+use Rattle.cdi_steps.specs.declared.beans.BeanHead.{BeanHead}
+use Rattle.cdi_steps.proofs.Heads.{IsThere, is_absent}
 use Rattle.cdi_steps.specs.Meanings.{make_instance}
 use Rattle.cdi_steps.specs.Leads.{next_stop, Comes, ComesTo, MovesTo, IsOnWay, Written, Spent}
 use Rattle.cdi_steps.proofs.Narrowing.{comes_before}
@@ -28,7 +27,7 @@ use Rattle.cdi_steps.specs.declared.task.Given.TheVariants as givens
 use Rattle.cdi_steps.specs.declared.task.Outcome.TheVariants as outcomes
 use Rattle.cdi_steps.specs.declared.task.Task.TheVariants as tasks
 use Rattle.cdi_steps.specs.declared.task.Next.TheVariants as nexts
-use Rattle.cdi_machine.specs.Creation.{create, create_by, begin_creation, make, make_ready, first_fields}
+use Rattle.cdi_machine.specs.Creation.{create, create_by, begin_creation, make, make_ready, take_step, first_fields}
 
 abbrev create_with : ℕ → Owner → Option Bean → Prog Given
 create_with b owner x =
@@ -44,9 +43,9 @@ numbered b owner bean x m =
     >>= λ n. create_by n (make n bean bean.kind)
 
 module _ (t : Tables) where
-  pub create_missing : (b : ℕ) (owner : Owner) (w : World) → t.bean b ≡ None
+  pub create_missing : (b : ℕ) (owner : Owner) (w : World) → option_map head_of (t.bean b) ≡ None
       → next_stop t (create b owner) w ≡ (raise built_in.IllegalStateException, w)
-  create_missing b owner w e = ap (λ x. next_stop t (create_with b owner x) w) e
+  create_missing b owner w e = ap (λ x. next_stop t (create_with b owner x) w) (is_absent (t.bean b) e)
 
   create_at : (b : ℕ) (owner : Owner) {a : Bean} (x : Bool) (w : World) → t.bean b ≡ Some a
       → nat_lt w.next (2 ^ 32) ≡ x
@@ -54,29 +53,41 @@ module _ (t : Tables) where
   create_at b owner {a = a} x w e h =
       ap (λ y. next_stop t (create_with b owner y) w) e ∙ ap (λ y. next_stop t (numbered b owner a y w.next) w) h
 
-  pub create_last : (b : ℕ) (owner : Owner) (p : CodeBean) (w : World)
-      → t.bean b ≡ Some (machine_bean p) → number_left w ≡ None
+  pub create_last : (b : ℕ) (owner : Owner) (p : BeanHead) (w : World)
+      → IsThere (t.bean b) p → number_left w ≡ None
       → next_stop t (create b owner) w ≡ (machine.cut causes.Numbers, w)
   create_last b owner p w e q =
       let h : nat_lt w.next (2 ^ 32) ≡ false = flag (nat_lt w.next (2 ^ 32)) q in
-      create_at b owner false w e h
+      create_at b owner false w e.there h
     where
       flag : (x : Bool) → elim x as (λ _. Option ℕ) [ true ↦ Some w.next | false ↦ None ] ≡ None → x ≡ false
       flag true z = absurd (cc)
       flag false z = refl
 
-  pub create_first : (b : ℕ) (owner : Owner) (p : CodeBean) (n : ℕ) (w : World)
-      → t.bean b ≡ Some (machine_bean p) → number_left w ≡ Some n
-      → next_stop t (create b owner) w ≡ (tick (entries.New n (places.Class p.class)) (make_instance n b owner (first_fields (machine_bean p).kind)), w)
+  -- what a creation is behind its first entry
+  abbrev made_by : ℕ → ℕ → Owner → Bean → Prog Given
+  made_by n b owner a = change (Change.Make (components.Bean b) owner (first_fields a.kind)) (create_by n (make n a a.kind))
+
+  make_kind : (n b : ℕ) (owner : Owner) (a : Bean) → IsServedBean a → made_by n b owner a ≡ make_instance n b owner (first_fields a.kind)
+  make_kind n b owner a s =
+      ap (λ k. change (Change.Make (components.Bean b) owner (first_fields a.kind)) (create_by n (make n a k))) s.is_class
+      ∙ ap (λ steps. change (Change.Make (components.Bean b) owner (first_fields a.kind)) (create_by n (each steps (take_step n) >>= λ _. ret (Number n)))) s.plan
+
+  pub create_first : (b : ℕ) (owner : Owner) (p : BeanHead) (n : ℕ) (w : World)
+      → IsThere (t.bean b) p → number_left w ≡ Some n
+      → next_stop t (create b owner) w ≡ (tick (entries.New n p.place) (make_instance n b owner (fields_of (t.bean b))), w)
   create_first b owner p n w e q = by_flag (nat_lt w.next (2 ^ 32)) refl q
     where
       by_flag : (x : Bool) → nat_lt w.next (2 ^ 32) ≡ x
           → elim x as (λ _. Option ℕ) [ true ↦ Some w.next | false ↦ None ] ≡ Some n
-          → next_stop t (create b owner) w ≡ (tick (entries.New n (places.Class p.class)) (make_instance n b owner (first_fields (machine_bean p).kind)), w)
+          → next_stop t (create b owner) w ≡ (tick (entries.New n p.place) (make_instance n b owner (fields_of (t.bean b))), w)
       by_flag true h z =
           let m : w.next ≡ n = cc in
-          create_at b owner true w e h
-          ∙ ap (λ k. (tick (entries.New k (places.Class p.class)) (change (Change.Make (components.Bean b) owner (first_fields (machine_bean p).kind)) (make_ready k)), w)) m
+          create_at b owner true w e.there h
+          ∙ ap (λ k. (tick (entries.New k e.bean.place) (made_by k b owner e.bean), w)) m
+          ∙ ap (λ q. (tick (entries.New n e.bean.place) q, w)) (make_kind n b owner e.bean e.served)
+          ∙ ap (λ x. (tick (entries.New n e.bean.place) (make_instance n b owner (fields_of x)), w)) (sym e.there)
+          ∙ ap (λ (h : BeanHead). (tick (entries.New n h.place) (make_instance n b owner (fields_of (t.bean b))), w)) e.headed
       by_flag false h z = absurd (cc)
 
 -- a number that is left is below the limit
@@ -89,27 +100,27 @@ number_below n w q = by (nat_lt w.next (2 ^ 32)) refl q
     by false h z = absurd (cc)
 
 module _ (s : Setting) where
-  pub create_missing_leads : (b : ℕ) (owner : Owner) (w : World) → s.tables.bean b ≡ None
+  pub create_missing_leads : (b : ℕ) (owner : Owner) (w : World) → option_map head_of (s.tables.bean b) ≡ None
       → MovesTo s (tasks.Start (calls.Create b owner)) w (nexts.Finished (outcomes.Ends (completions.Threw (number_of built_in.IllegalStateException)))) w
   create_missing_leads b owner w e = Comes.same (create_missing s.tables b owner w e)
 
-  pub create_last_leads : (b : ℕ) (owner : Owner) (p : CodeBean) (w : World)
-      → s.tables.bean b ≡ Some (machine_bean p) → number_left w ≡ None
+  pub create_last_leads : (b : ℕ) (owner : Owner) (p : BeanHead) (w : World)
+      → IsThere (s.tables.bean b) p → number_left w ≡ None
       → MovesTo s (tasks.Start (calls.Create b owner)) w (nexts.Finished (outcomes.Cut causes.Numbers)) w
   create_last_leads b owner p w e q = Comes.same (create_last s.tables b owner p w e q)
 
-  module _ (b : ℕ) (owner : Owner) (p : CodeBean) (n : ℕ) (w v : World) (e : s.tables.bean b ≡ Some (machine_bean p)) (q : number_left w ≡ Some n) where
+  module _ (b : ℕ) (owner : Owner) (p : BeanHead) (n : ℕ) (w v : World) (e : IsThere (s.tables.bean b) p) (q : number_left w ≡ Some n) where
     pub create_cut : Spent w v → MovesTo s (tasks.Start (calls.Create b owner)) w (nexts.Finished (outcomes.Cut causes.Ticks)) v
     create_cut f = cut_before s (create_first s.tables b owner p n w e q) f
 
-    pub create_leads : {z : Setting} (fields : Fields) (next : Next) (x : World) → fields ≡ first_fields (machine_bean p).kind → Narrows s z
-        → Written (entries.New n (places.Class p.class)) w v
+    pub create_leads : {z : Setting} (fields : Fields) (next : Next) (x : World) → fields ≡ fields_of (s.tables.bean b) → Narrows s z
+        → Written (entries.New n p.place) w v
         → ComesTo z (make_instance n b owner fields) v next x
         → MovesTo s (tasks.Start (calls.Create b owner)) w next x
     create_leads fields next x h m k c = comes_after s (create_first s.tables b owner p n w e q) k (comes_before m (rw h at c))
 
-    pub create_on_way : {z : Setting} (fields : Fields) (x : World) → fields ≡ first_fields (machine_bean p).kind → Narrows s z
-        → Written (entries.New n (places.Class p.class)) w v
+    pub create_on_way : {z : Setting} (fields : Fields) (x : World) → fields ≡ fields_of (s.tables.bean b) → Narrows s z
+        → Written (entries.New n p.place) w v
         → IsOnWay z (make_instance n b owner fields) v x
         → IsOnWay s (create b owner) w x
     create_on_way fields x h m k c =

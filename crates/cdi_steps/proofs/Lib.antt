@@ -2,6 +2,7 @@ pub mod Results
 pub mod Narrowing
 pub mod Cost
 pub mod AfterEntries
+pub mod Heads
 pub mod CreationSteps
 pub mod InvocationSteps
 pub mod ObtainingSteps

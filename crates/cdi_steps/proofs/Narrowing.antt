@@ -1,33 +1,15 @@
 -- From one asking of the driver to the next: what was legal may end, and what was a way of a program stays one.
-use Rattle.std.proofs.Common.{ℕ, zero, suc, ◌≡◌, ◌≤◌, length, refl, sym, ◌∙◌, subst, true≢false}
-use Rattle.std.specs.Prelude.{Ok, Err, IsErr, IfOk, OnErr}
-use Rattle.std.specs.Prelude.{Result as Either}
-use Rattle.cdi_base.specs.declared.entry.Entry.{Entry}
-use Rattle.cdi_base.specs.declared.reply.Cause.TheVariants as causes
-use Rattle.cdi_machine.specs.declared.driver.Failure.{Failure}
+use Rattle.std.proofs.Common.{◌≡◌, length, refl, sym, ◌∙◌, subst}
 use Rattle.cdi_machine.specs.Tables.{Tables}
 use Rattle.cdi_machine.specs.World.{World}
-use Rattle.cdi_machine.specs.Programs.{Given, Completion, Gave, Threw, Prog, ret, throw, cut, miss, see, change, tick, mark, act, choose, nested, complete, candidates}
-use Rattle.cdi_machine.specs.Machine.{machine}
-use Rattle.cdi_machine.specs.Runs as runs
-use Rattle.cdi_machine.specs.Runs.{Legal, Runs, rest_after}
+use Rattle.cdi_machine.specs.Programs.{Given, Prog, candidates}
+use Rattle.cdi_machine.specs.Runs.{Legal}
 use Rattle.cdi_machine.specs.Laws.{IsWithin}
 use Rattle.cdi_steps.specs.Setting.{Setting, Narrows}
-use Rattle.cdi_steps.specs.Words.{outcome_of, task_of}
-use Rattle.cdi_steps.specs.Meanings.{over, around, node, first, rest, waits, after}
-use Rattle.cdi_steps.specs.Leads.{next_stop, after_steps, Comes, ComesTo, IsOnWay, Ran}
-use Rattle.cdi_steps.specs.declared.task.Call.{Call}
-use Rattle.cdi_steps.specs.declared.task.Completion.TheVariants as completions
-use Rattle.cdi_steps.specs.declared.task.Outcome.{Outcome}
-use Rattle.cdi_steps.specs.declared.task.Outcome.TheVariants as outcomes
-use Rattle.cdi_steps.specs.declared.task.Task.{Task}
-use Rattle.cdi_steps.specs.declared.task.Task.TheVariants as tasks
-use Rattle.cdi_steps.specs.declared.task.Frame.{Frame}
-use Rattle.cdi_steps.specs.declared.task.Next.{Next}
-use Rattle.cdi_steps.specs.declared.task.Next.TheVariants as nexts
+use Rattle.cdi_steps.specs.Leads.{Comes}
 
 pub narrows_self : (s : Setting) → Narrows s s
-narrows_self s = record { tables = refl; legal = record { act = λ b n f v a h. h; pick = λ n m i h. h }; knows = λ b h. h }
+narrows_self s = record { tables = refl; legal = record { act = λ b n f v a h. h; pick = λ n m i h. h }; knows = λ b h. h; may_end = λ h. h }
 
 pub narrows_trans : {r s t : Setting} → Narrows r s → Narrows s t → Narrows r t
 narrows_trans m n =
@@ -39,6 +21,7 @@ narrows_trans m n =
             pick = λ c e i h. m.legal.pick c e i (n.legal.pick c e i h);
           };
       knows = λ b h. n.knows b (m.knows b h);
+      may_end = λ h. m.may_end (n.may_end h);
     }
 
 pub narrows_same : {r s t : Setting} → Narrows r s → t ≡ s → Narrows r t

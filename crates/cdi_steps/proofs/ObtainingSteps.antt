@@ -7,15 +7,18 @@ use Rattle.cdi_base.specs.BuiltIn.{number_of}
 use Rattle.cdi_base.specs.Maps.{at}
 use Rattle.cdi_store.specs.declared.instance.Context.TheVariants.{Application}
 use Rattle.cdi_store.specs.declared.instance.Owner.TheVariants as owners
-use Rattle.cdi_beans.specs.declared.bean.Bean.{Bean as CodeBean}
-use Rattle.cdi_beans.specs.Served.{machine_bean, machine_resolution, machine_scope}
 use Rattle.cdi_machine.specs.Words.{Name}
 use Rattle.cdi_machine.specs.Tables.{Tables, Bean, Resolution, One}
 use Rattle.cdi_machine.specs.World.{World, instance_at}
 use Rattle.cdi_machine.specs.Programs as machine
 use Rattle.cdi_machine.specs.Programs.{Given, Number, Completion, Gave, Threw, Prog, ret, throw, see, nested, tick, change, choose, act, handle, finally, quietly, do_nothing, tell_missing, require_present, require, require_one, expect, complete, call, finish, note, alter, each, raise, require_number, give_number, next_number, require_depth, go_deeper, top, instance, bean_at, resolve, attempt, ◌>>=◌, ◌>>◌}
 use Rattle.cdi_steps.specs.Setting.{Setting}
-use Rattle.cdi_steps.specs.Asked.{of_type}
+use Rattle.cdi_steps.specs.Asked.{asked_for, machine_resolution, head_of, is_served_scope}
+use Rattle.cdi_steps.specs.declared.beans.BeanHead.{BeanHead}
+use Rattle.cdi_steps.proofs.Heads.{IsThere, is_absent}
+use Rattle.cdi_base.specs.declared.scope.Scope.{Scope}
+use Rattle.cdi_base.specs.declared.scope.Scope.TheVariants as scopes
+use Rattle.cdi_base.specs.declared.uses.Use.{Use}
 use Rattle.cdi_steps.specs.Meanings.{node, use_for, use_lent}
 use Rattle.cdi_steps.specs.Leads.{next_stop, Comes, MovesTo, GoesOn, Settles}
 use Rattle.cdi_steps.proofs.AfterEntries.{on_way_at_start, stays_falls, lowers_falls}
@@ -32,10 +35,8 @@ use Rattle.cdi_contexts.specs.declared.context.Held.{Held}
 use Rattle.cdi_contexts.specs.declared.context.Held.TheVariants.{Is, Making}
 use Rattle.cdi_contexts.specs.declared.context.Status.{Status}
 use Rattle.cdi_contexts.specs.declared.context.Status.TheVariants.{Open, Ending}
-use Rattle.cdi_contexts.specs.Contexts.{Active, entry_in}
-use Rattle.cdi_beans.specs.declared.bean.ServedScope.{ServedScope as DeclaredScope}
-use Rattle.cdi_beans.specs.declared.bean.ServedScope.TheVariants as declared_scopes
-use Rattle.cdi_beans.specs.declared.bean.Resolution.TheVariants as resolutions
+use Rattle.cdi_contexts.specs.Contexts.{Active, entry_in, active_context}
+use Rattle.cdi_steps.specs.declared.beans.Resolution.TheVariants as resolutions
 use Rattle.cdi_machine.specs.Programs.{ActiveContext, active_or_raise, active_in, context}
 use Rattle.cdi_machine.specs.Contexts.{obtain, find_or_create, is_normal, refer_to, reach_instance, direct_reference, stays}
 use Rattle.cdi_machine.specs.Bodies.{invoke_method}
@@ -65,9 +66,9 @@ module _ (t : Tables) where
       → next_stop t (obtain b) w ≡ next_stop t (with_bean b x) w
   obtain_at b w e = ap (λ x. next_stop t (with_bean b x) w) e
 
-  pub obtain_missing : (b : ℕ) (w : World) → t.bean b ≡ None
+  pub obtain_missing : (b : ℕ) (w : World) → option_map head_of (t.bean b) ≡ None
       → next_stop t (obtain b) w ≡ (raise built_in.IllegalStateException, w)
-  obtain_missing b w e = obtain_at b w e
+  obtain_missing b w e = obtain_at b w (is_absent (t.bean b) e)
 
   by_status : (b : ℕ) (x : Status) (w : World)
       → next_stop t (elim x [ Open ↦ call (machine.Create b (owners.Context Application)) | Ending ↦ raise built_in.ContextNotActiveException ]) w
@@ -87,18 +88,23 @@ module _ (t : Tables) where
   find_active b None w = refl
   find_active b (Some a) w = find_held b a (at a.holds b) w
 
-  obtain_by : (b : ℕ) (scope : DeclaredScope) (w : World)
-      → next_stop t (context (machine_scope scope) >>= λ c. find_or_create b c (at c.has.holds b)) w
-      ≡ (obtained b (status_in w (machine_scope scope)) (held_in w (machine_scope scope) b), w)
-  obtain_by b declared_scopes.ApplicationScoped w = find_active b w.contexts.application w
-  obtain_by b declared_scopes.Dependent w = refl
+  obtain_by : (b : ℕ) (scope : Scope) (w : World) → is_served_scope scope ≡ true
+      → next_stop t (context scope >>= λ c. find_or_create b c (at c.has.holds b)) w
+      ≡ (obtained b (status_in w scope) (held_in w scope b), w)
+  obtain_by b scopes.ApplicationScoped w h = find_active b w.contexts.application w
+  obtain_by b scopes.Dependent w h = refl
+  obtain_by b scopes.SessionScoped w h = absurd (cc)
+  obtain_by b scopes.RequestScoped w h = absurd (cc)
 
-  pub obtain_settled : (b : ℕ) (p : CodeBean) {status : Option Status} {held : Option Held} (w : World)
-      → t.bean b ≡ Some (machine_bean p)
-      → status_in w (machine_bean p).scope ≡ status
-      → held_in w (machine_bean p).scope b ≡ held
+  pub obtain_settled : (b : ℕ) (p : BeanHead) {status : Option Status} {held : Option Held} (w : World)
+      → IsThere (t.bean b) p
+      → status_in w p.scope ≡ status
+      → held_in w p.scope b ≡ held
       → next_stop t (obtain b) w ≡ (obtained b status held, w)
-  obtain_settled b p {status = status} w e s h = obtain_at b w e ∙ obtain_by b p.scope w ∙ ap (λ x. (obtained b x (held_in w (machine_bean p).scope b), w)) s ∙ ap (λ x. (obtained b status x, w)) h
+  obtain_settled b p {status = status} w e s h =
+      obtain_at b w e.there ∙ obtain_by b e.bean.scope w e.served.scope
+      ∙ ap (λ (x : BeanHead). (obtained b (status_in w x.scope) (held_in w x.scope b), w)) e.headed
+      ∙ ap (λ x. (obtained b x (held_in w p.scope b), w)) s ∙ ap (λ x. (obtained b status x, w)) h
 
 -- ---- using a bean for a command
 
@@ -122,81 +128,68 @@ module _ (s : Setting) where
   abbrev ts : Tables
   ts = s.tables
 
-  using_one : (type method : Name) (args : List Value) (b : ℕ) {x : Option Bean} (w : World)
-      → ts.resolve (of_type type) ≡ One b → ts.bean b ≡ x
-      → next_stop ts (use_for (of_type type) method args) w ≡ next_stop ts (referred b x method args) w
-  using_one type method args b w e h =
-      ap (λ x. next_stop ts (resolved x method args) w) e ∙ ap (λ x. next_stop ts (referred b x method args) w) h
+  module _ (type : Name) (uses : List Use) (method : Name) (args : List Value) where
+    using_one : (b : ℕ) {x : Option Bean} (w : World)
+        → ts.resolve (asked_for type uses) ≡ One b → ts.bean b ≡ x
+        → next_stop ts (use_for (asked_for type uses) method args) w ≡ next_stop ts (referred b x method args) w
+    using_one b w e h =
+        ap (λ x. next_stop ts (resolved x method args) w) e ∙ ap (λ x. next_stop ts (referred b x method args) w) h
 
-  pub using_nothing : (type method : Name) (args : List Value) (w : World)
-      → ts.resolve (of_type type) ≡ machine_resolution resolutions.Nothing
-      → MovesTo s (tasks.Using type method args) w (nexts.Finished (outcomes.Ends (completions.Threw (number_of built_in.UnsatisfiedResolutionException)))) w
-  using_nothing type method args w e = Comes.same (ap (λ x. next_stop ts (resolved x method args) w) e)
+    pub using_nothing : (w : World) → ts.resolve (asked_for type uses) ≡ machine_resolution resolutions.Nothing
+        → MovesTo s (tasks.Using type uses method args) w (nexts.Finished (outcomes.Ends (completions.Threw (number_of built_in.UnsatisfiedResolutionException)))) w
+    using_nothing w e = Comes.same (ap (λ x. next_stop ts (resolved x method args) w) e)
 
-  pub using_many : (type method : Name) (args : List Value) (w : World)
-      → ts.resolve (of_type type) ≡ machine_resolution resolutions.Many
-      → MovesTo s (tasks.Using type method args) w (nexts.Finished (outcomes.Ends (completions.Threw (number_of built_in.AmbiguousResolutionException)))) w
-  using_many type method args w e = Comes.same (ap (λ x. next_stop ts (resolved x method args) w) e)
+    pub using_many : (w : World) → ts.resolve (asked_for type uses) ≡ machine_resolution resolutions.Many
+        → MovesTo s (tasks.Using type uses method args) w (nexts.Finished (outcomes.Ends (completions.Threw (number_of built_in.AmbiguousResolutionException)))) w
+    using_many w e = Comes.same (ap (λ x. next_stop ts (resolved x method args) w) e)
 
-  pub using_missing : (type method : Name) (args : List Value) (b : ℕ) (w : World)
-      → ts.resolve (of_type type) ≡ machine_resolution (resolutions.One b) → ts.bean b ≡ None
-      → MovesTo s (tasks.Using type method args) w (nexts.Finished (outcomes.Ends (completions.Threw (number_of built_in.IllegalStateException)))) w
-  using_missing type method args b w e h = Comes.same (using_one type method args b w e h)
+    module _ (b : ℕ) (w : World) (e : ts.resolve (asked_for type uses) ≡ machine_resolution (resolutions.One b)) where
+      pub using_missing : option_map head_of (ts.bean b) ≡ None
+          → MovesTo s (tasks.Using type uses method args) w (nexts.Finished (outcomes.Ends (completions.Threw (number_of built_in.IllegalStateException)))) w
+      using_missing h = Comes.same (using_one b w e (is_absent (ts.bean b) h))
 
-  shared_settled : (type method : Name) (args : List Value) (b : ℕ) (p : CodeBean) (w : World)
-      → ts.resolve (of_type type) ≡ machine_resolution (resolutions.One b) → ts.bean b ≡ Some (machine_bean p)
-      → p.scope ≡ declared_scopes.ApplicationScoped
-      → next_stop ts (use_for (of_type type) method args) w ≡ (node (nexts.Needs (tasks.Start (calls.Obtain b)) (frames.Reaching method args)), w)
-  shared_settled type method args b p w e h q = using_one type method args b w e h ∙ by p.scope q
-    where
-      by : (x : DeclaredScope) → x ≡ declared_scopes.ApplicationScoped
-          → next_stop ts ((elim (is_normal (machine_scope x)) [
+      -- a bean by whether its scope is normal
+      abbrev by_scope : Bool → Prog Given
+      by_scope x =
+          (elim x [
             | true ↦ ret (Proxy b)
             | false ↦ call (machine.Create b owners.Borrower) >>= λ made. ret (direct_reference made)
-          ]) >>= λ r. reach_instance r >>= λ n. invoke_method n method args) w
-          ≡ (node (nexts.Needs (tasks.Start (calls.Obtain b)) (frames.Reaching method args)), w)
-      by declared_scopes.ApplicationScoped z = refl
-      by declared_scopes.Dependent z = absurd (cc)
+          ]) >>= λ r. reach_instance r >>= λ n. invoke_method n method args
 
-  pub using_shared : (type method : Name) (args : List Value) (b : ℕ) (p : CodeBean) (w : World)
-      → ts.resolve (of_type type) ≡ machine_resolution (resolutions.One b) → ts.bean b ≡ Some (machine_bean p)
-      → p.scope ≡ declared_scopes.ApplicationScoped
-      → MovesTo s (tasks.Using type method args) w (nexts.Needs (tasks.Start (calls.Obtain b)) (frames.Reaching method args)) w
-  using_shared type method args b p w e h q = Comes.same (shared_settled type method args b p w e h q)
+      using_by_scope : (p : BeanHead) (x : Bool) → IsThere (ts.bean b) p → is_normal p.scope ≡ x
+          → next_stop ts (use_for (asked_for type uses) method args) w ≡ next_stop ts (by_scope x) w
+      using_by_scope p x h q =
+          using_one b w e h.there
+          ∙ ap (λ (y : BeanHead). next_stop ts (by_scope (is_normal y.scope)) w) h.headed
+          ∙ ap (λ y. next_stop ts (by_scope y) w) q
 
-  -- what a context has for a bean is in an active context
-  active_of : (b : ℕ) (x : Option Active) (h : Held) → entry_in x b ≡ Some h → (status : Status) × (option_map (λ a. a.status) x ≡ Some status)
-  active_of b None h e = absurd (cc)
-  active_of b (Some a) h e = (a.status, refl)
+      shared_settled : (p : BeanHead) → IsThere (ts.bean b) p → is_normal p.scope ≡ true
+          → next_stop ts (use_for (asked_for type uses) method args) w ≡ (node (nexts.Needs (tasks.Start (calls.Obtain b)) (frames.Reaching method args)), w)
+      shared_settled p h q = using_by_scope p true h q
 
-  -- the contextual instance is there
-  pub using_held : (type method : Name) (args : List Value) (b n : ℕ) (p : CodeBean) (next : Next) (w u : World)
-      → ts.resolve (of_type type) ≡ machine_resolution (resolutions.One b) → ts.bean b ≡ Some (machine_bean p)
-      → p.scope ≡ declared_scopes.ApplicationScoped
-      → held_in w (machine_scope declared_scopes.ApplicationScoped) b ≡ Some (Is n)
-      → Settles s (invoke_method n method args) w next u
-      → MovesTo s (tasks.Using type method args) w next u
-  using_held type method args b n p next w u e h q i k =
-      let active = active_of b w.contexts.application (Is n) i in
-      let there : next_stop ts (obtain b) w ≡ (ret (Number n), w) =
-      obtain_settled ts b p {status = Some active.0} {held = Some (Is n)} w h (rw q active.1) (rw q i) in
-      Comes.calls (machine.Gave (Number n)) (shared_settled type method args b p w e h q) there (Comes.same k)
+      pub using_shared : (p : BeanHead) → IsThere (ts.bean b) p → is_normal p.scope ≡ true
+          → MovesTo s (tasks.Using type uses method args) w (nexts.Needs (tasks.Start (calls.Obtain b)) (frames.Reaching method args)) w
+      using_shared p h q = Comes.same (shared_settled p h q)
 
-  pub using_dependent : (type method : Name) (args : List Value) (b : ℕ) (p : CodeBean) (w : World)
-      → ts.resolve (of_type type) ≡ machine_resolution (resolutions.One b) → ts.bean b ≡ Some (machine_bean p)
-      → p.scope ≡ declared_scopes.Dependent
-      → MovesTo s (tasks.Using type method args) w (nexts.Needs (tasks.Start (calls.Create b owners.Borrower)) (frames.Borrowing method args)) w
-  using_dependent type method args b p w e h q =
-      Comes.same (using_one type method args b w e h ∙ by p.scope q)
-    where
-      by : (x : DeclaredScope) → x ≡ declared_scopes.Dependent
-          → next_stop ts ((elim (is_normal (machine_scope x)) [
-            | true ↦ ret (Proxy b)
-            | false ↦ call (machine.Create b owners.Borrower) >>= λ made. ret (direct_reference made)
-          ]) >>= λ r. reach_instance r >>= λ n. invoke_method n method args) w
-          ≡ (node (nexts.Needs (tasks.Start (calls.Create b owners.Borrower)) (frames.Borrowing method args)), w)
-      by declared_scopes.ApplicationScoped z = absurd (cc)
-      by declared_scopes.Dependent z = refl
+      -- what a context has for a bean is in an active context
+      active_of : (x : Option Active) (h : Held) → entry_in x b ≡ Some h → (status : Status) × (option_map (λ a. a.status) x ≡ Some status)
+      active_of None h e = absurd (cc)
+      active_of (Some a) h e = (a.status, refl)
+
+      -- the contextual instance is there
+      pub using_held : (n : ℕ) (p : BeanHead) (next : Next) (u : World) → IsThere (ts.bean b) p → is_normal p.scope ≡ true
+          → held_in w p.scope b ≡ Some (Is n)
+          → Settles s (invoke_method n method args) w next u
+          → MovesTo s (tasks.Using type uses method args) w next u
+      using_held n p next u h q i k =
+          let active = active_of (active_context w.contexts w.environment p.scope) (Is n) i in
+          let there : next_stop ts (obtain b) w ≡ (ret (Number n), w) =
+          obtain_settled ts b p {status = Some active.0} {held = Some (Is n)} w h active.1 i in
+          Comes.calls (machine.Gave (Number n)) (shared_settled p h q) there (Comes.same k)
+
+      pub using_dependent : (p : BeanHead) → IsThere (ts.bean b) p → is_normal p.scope ≡ false
+          → MovesTo s (tasks.Using type uses method args) w (nexts.Needs (tasks.Start (calls.Create b owners.Borrower)) (frames.Borrowing method args)) w
+      using_dependent p h q = Comes.same (using_by_scope p false h q)
 
   -- ---- an instance that was made for the command
 
@@ -243,33 +236,29 @@ module _ (s : Setting) where
 -- ---- the same for steps
 
 module _ (s : Setting) where
-  pub obtain_absent : (b : ℕ) (w : World) → s.tables.bean b ≡ None
+  pub obtain_absent : (b : ℕ) (w : World) → option_map head_of (s.tables.bean b) ≡ None
       → MovesTo s (tasks.Start (calls.Obtain b)) w (nexts.Finished (outcomes.Ends (completions.Threw (number_of built_in.IllegalStateException)))) w
   obtain_absent b w e = Comes.same (obtain_missing s.tables b w e)
 
-  pub obtain_inactive : (b : ℕ) (p : CodeBean) (w : World) → s.tables.bean b ≡ Some (machine_bean p)
-      → status_in w (machine_bean p).scope ≡ None
-      → MovesTo s (tasks.Start (calls.Obtain b)) w (nexts.Finished (outcomes.Ends (completions.Threw (number_of built_in.ContextNotActiveException)))) w
-  obtain_inactive b p w e a = Comes.same (obtain_settled s.tables b p w e a refl)
+  module _ (b : ℕ) (p : BeanHead) (w : World) (e : IsThere (s.tables.bean b) p) where
+    pub obtain_inactive : status_in w p.scope ≡ None
+        → MovesTo s (tasks.Start (calls.Obtain b)) w (nexts.Finished (outcomes.Ends (completions.Threw (number_of built_in.ContextNotActiveException)))) w
+    obtain_inactive a = Comes.same (obtain_settled s.tables b p w e a refl)
 
-  pub obtain_is : (b n : ℕ) (p : CodeBean) {status : Status} (w : World) → s.tables.bean b ≡ Some (machine_bean p)
-      → status_in w (machine_bean p).scope ≡ Some status → held_in w (machine_bean p).scope b ≡ Some (Is n)
-      → MovesTo s (tasks.Start (calls.Obtain b)) w (nexts.Finished (outcomes.Ends (completions.Gave (givens.Number n)))) w
-  obtain_is b n p w e a h = Comes.same (obtain_settled s.tables b p w e a h)
+    pub obtain_is : (n : ℕ) {status : Status} → status_in w p.scope ≡ Some status → held_in w p.scope b ≡ Some (Is n)
+        → MovesTo s (tasks.Start (calls.Obtain b)) w (nexts.Finished (outcomes.Ends (completions.Gave (givens.Number n)))) w
+    obtain_is n a h = Comes.same (obtain_settled s.tables b p w e a h)
 
-  pub obtain_making : (b : ℕ) (p : CodeBean) {status : Status} (w : World) → s.tables.bean b ≡ Some (machine_bean p)
-      → status_in w (machine_bean p).scope ≡ Some status → held_in w (machine_bean p).scope b ≡ Some Making
-      → MovesTo s (tasks.Start (calls.Obtain b)) w (nexts.Finished (outcomes.Ends (completions.Threw (number_of built_in.CreationException)))) w
-  obtain_making b p w e a h = Comes.same (obtain_settled s.tables b p w e a h)
+    pub obtain_making : {status : Status} → status_in w p.scope ≡ Some status → held_in w p.scope b ≡ Some Making
+        → MovesTo s (tasks.Start (calls.Obtain b)) w (nexts.Finished (outcomes.Ends (completions.Threw (number_of built_in.CreationException)))) w
+    obtain_making a h = Comes.same (obtain_settled s.tables b p w e a h)
 
-  pub obtain_open : (b : ℕ) (p : CodeBean) (w : World) → s.tables.bean b ≡ Some (machine_bean p)
-      → status_in w (machine_bean p).scope ≡ Some Open → held_in w (machine_bean p).scope b ≡ None
-      → MovesTo s (tasks.Start (calls.Obtain b)) w (nexts.Goes (tasks.Start (calls.Create b (owners.Context Application)))) w
-  obtain_open b p w e a h = Comes.same (obtain_settled s.tables b p w e a h)
+    pub obtain_open : status_in w p.scope ≡ Some Open → held_in w p.scope b ≡ None
+        → MovesTo s (tasks.Start (calls.Obtain b)) w (nexts.Goes (tasks.Start (calls.Create b (owners.Context Application)))) w
+    obtain_open a h = Comes.same (obtain_settled s.tables b p w e a h)
 
-  pub obtain_ending : (b : ℕ) (p : CodeBean) (w : World) → s.tables.bean b ≡ Some (machine_bean p)
-      → status_in w (machine_bean p).scope ≡ Some Ending → held_in w (machine_bean p).scope b ≡ None
-      → MovesTo s (tasks.Start (calls.Obtain b)) w (nexts.Finished (outcomes.Ends (completions.Threw (number_of built_in.ContextNotActiveException)))) w
-  obtain_ending b p w e a h = Comes.same (obtain_settled s.tables b p w e a h)
+    pub obtain_ending : status_in w p.scope ≡ Some Ending → held_in w p.scope b ≡ None
+        → MovesTo s (tasks.Start (calls.Obtain b)) w (nexts.Finished (outcomes.Ends (completions.Threw (number_of built_in.ContextNotActiveException)))) w
+    obtain_ending a h = Comes.same (obtain_settled s.tables b p w e a h)
 
-pub ruleset leads = (obtain_absent, obtain_inactive, obtain_is, obtain_making, obtain_open, obtain_ending, using_nothing, using_many, using_missing, using_shared, using_held, using_dependent, lent_gone, lent_leads, reach_leads, reach_value, reach_empty, borrow_leads, borrow_value, borrow_empty, on_way_at_start, stays_falls, lowers_falls)
+pub ruleset leads = (lent_gone, lent_leads, reach_leads, reach_value, reach_empty, borrow_leads, borrow_value, borrow_empty, on_way_at_start, stays_falls, lowers_falls)

@@ -1,6 +1,8 @@
 -- What is asked of the tables and of the world, as the definition has it.
-use Rattle.std.specs.Prelude.{ℕ, ◌^◌, ◌<◌, List, [], ◌∷◌, length, Bool, true, false, Option, Some, None, nat_lt, option_map, option_and_then}
+use Rattle.std.specs.Prelude.{ℕ, ◌^◌, ◌<◌, List, [], ◌∷◌, ◌≡◌, length, Bool, true, false, Option, Some, None, nat_lt, option_map, option_and_then}
 use Rattle.cdi_base.specs.declared.scope.Scope.{Scope}
+use Rattle.cdi_base.specs.declared.scope.Scope.TheVariants as scopes
+use Rattle.cdi_base.specs.declared.uses.Use.{Use}
 use Rattle.cdi_base.specs.Fields.{has}
 use Rattle.cdi_base.specs.Maps.{at}
 use Rattle.cdi_store.specs.declared.instance.Component.{Component}
@@ -10,16 +12,60 @@ use Rattle.cdi_store.specs.Owned.{dependents_in}
 use Rattle.cdi_contexts.specs.declared.context.Held.{Held}
 use Rattle.cdi_contexts.specs.declared.context.Status.{Status}
 use Rattle.cdi_contexts.specs.Contexts.{active_context, entry_in}
-use Rattle.cdi_machine.specs.Words.{Name, Asked}
-use Rattle.cdi_machine.specs.Tables.{Tables, Bean, Method, Kind}
+use Rattle.cdi_machine.specs.Words.{Name, Fields, Asked}
+use Rattle.cdi_machine.specs.Tables as machine
+use Rattle.cdi_machine.specs.Tables.{Tables, Bean, Managed, Lifecycle, Method, Kind}
+use Rattle.cdi_machine.specs.Creation.{first_fields}
 use Rattle.cdi_machine.specs.World.{World}
 use Rattle.cdi_machine.specs.Destruction.{latest}
+use Rattle.cdi_steps.specs.declared.beans.BeanHead.{BeanHead}
+use Rattle.cdi_steps.specs.declared.beans.Method.{Method as CodeMethod}
+use Rattle.cdi_steps.specs.declared.beans.Resolution.{Resolution}
+use Rattle.cdi_steps.specs.declared.beans.Resolution.TheVariants.{One, Nothing, Many}
 
 -- ---- the deployment
 
+-- a type with qualifiers as they are written
+abbrev pub asked_for : Name → List Use → Asked
+asked_for type qualifiers = record { type = type; qualifiers = qualifiers }
+
 -- with the qualifier Default
 abbrev pub of_type : Name → Asked
-of_type type = record { type = type; qualifiers = [] }
+of_type type = asked_for type []
+
+abbrev pub machine_resolution : Resolution → machine.Resolution
+machine_resolution (One b) = machine.Resolution.One b
+machine_resolution Nothing = machine.Resolution.Nothing
+machine_resolution Many = machine.Resolution.Many
+
+abbrev pub head_of : Bean → BeanHead
+head_of bean = record { place = bean.place; scope = bean.scope }
+
+abbrev pub is_served_scope : Scope → Bool
+is_served_scope scopes.ApplicationScoped = true
+is_served_scope scopes.Dependent = true
+is_served_scope _ = false
+
+abbrev pub no_lifecycle : Lifecycle
+no_lifecycle = record { chain = []; callbacks = [] }
+
+-- a managed bean of one of these scopes, whose creation has no steps, and whose destruction calls nothing
+pub record IsServedBean (bean : Bean) : Type 0 where
+  pub class : Managed
+  pub is_class : bean.kind ≡ Kind.Class class
+  pub scope : is_served_scope bean.scope ≡ true
+  pub plan : class.plan ≡ []
+  pub pre_destroy : class.pre_destroy ≡ no_lifecycle
+
+-- the fields of a new instance
+abbrev pub fields_of : Option Bean → Fields
+fields_of None = []
+fields_of (Some bean) = first_fields bean.kind
+
+-- no interceptor stands round a method
+abbrev pub machine_method : CodeMethod → Method
+machine_method m =
+    record { code = record { place = m.place; body = m.body }; count = m.count; chain = [] }
 
 abbrev pub method_in : Kind → Name → Option Method
 method_in (Kind.Class c) name = at c.methods name

@@ -28,7 +28,7 @@ call_rank calls.Clear = 2
 abbrev pub rank : Task → ℕ
 rank (tasks.Start c) = call_rank c
 rank (tasks.Begin job) = 5
-rank (tasks.Using type method args) = 4
+rank (tasks.Using type uses method args) = 4
 
 -- what comes after the frame's call, if that gave something
 abbrev pub frame_rank : Frame → ℕ

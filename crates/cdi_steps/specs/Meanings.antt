@@ -23,7 +23,7 @@ use Rattle.cdi_machine.specs.Bodies.{given_by, invoke_method, answer_of, with_an
 use Rattle.cdi_machine.specs.Destruction.{give_back, clean_up}
 use Rattle.cdi_machine.specs.Events.{fire_context_event, fire_container_event}
 use Rattle.cdi_machine.specs.Commands.{task, close}
-use Rattle.cdi_steps.specs.Asked.{of_type}
+use Rattle.cdi_steps.specs.Asked.{asked_for}
 use Rattle.cdi_steps.specs.Words.{completion_of, running_of, task_of, command_of}
 use Rattle.cdi_steps.specs.declared.task.Given.{Given as CodeGiven}
 use Rattle.cdi_steps.specs.declared.task.Given.TheVariants as givens
@@ -154,7 +154,7 @@ empty_application = close_context Application >> bring_down
 abbrev pub rest : Task → Prog Given
 rest (tasks.Start c) = call (task_of c)
 rest (tasks.Begin job) = task (command_of job)
-rest (tasks.Using type method args) = use_for (of_type type) method args
+rest (tasks.Using type uses method args) = use_for (asked_for type uses) method args
 
 -- what a frame does once the call or the part has ended
 abbrev pub waits : Frame → machine.Completion Given → Prog Given

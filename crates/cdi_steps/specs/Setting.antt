@@ -15,12 +15,15 @@ pub record Setting : Type 1 where
   pub legal : Legal
   -- there is a body under this number
   pub knows : ℕ → Type 0
+  -- the driver may have nothing to give
+  pub may_end : Type 0
 
--- the driver was asked: nothing more is legal than before, and all bodies are still there
+-- the driver was asked: nothing more is legal than before, all bodies are still there, and it ends only if it might have
 pub record Narrows (s t : Setting) : Type 0 where
   pub tables : t.tables ≡ s.tables
   pub legal : IsWithin t.legal s.legal
   pub knows : (body : ℕ) → s.knows body → t.knows body
+  pub may_end : t.may_end → s.may_end
 
 -- the act is one that the body may give, at the fields of its instance
 pub record GivesTo (s : Setting) (w : World) (r : Running) (a : Act) : Type 0 where

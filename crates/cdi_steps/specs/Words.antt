@@ -12,7 +12,7 @@ use Rattle.cdi_machine.specs.Programs as machine
 use Rattle.cdi_machine.specs.Runs as runs
 use Rattle.cdi_machine.specs.Events.{qualifier}
 use Rattle.cdi_machine.specs.Commands.{Command}
-use Rattle.cdi_steps.specs.Asked.{of_type}
+use Rattle.cdi_steps.specs.Asked.{asked_for}
 use Rattle.cdi_steps.specs.declared.task.Given.{Given}
 use Rattle.cdi_steps.specs.declared.task.Given.TheVariants as givens
 use Rattle.cdi_steps.specs.declared.task.Completion.{Completion}
@@ -85,5 +85,5 @@ task_of calls.Clear = machine.Clear Application
 
 abbrev pub command_of : Job → Command
 command_of jobs.Boot = Command.Boot
-command_of (jobs.Call type method args) = Command.Call None (of_type type) method args
+command_of (jobs.Call type uses method args) = Command.Call None (asked_for type uses) method args
 command_of jobs.Shutdown = Command.Shutdown

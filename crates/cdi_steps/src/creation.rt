@@ -10,7 +10,7 @@ use crate::ends::{cut, given, missing};
 use crate::entries::write;
 use crate::host::Host;
 use crate::task::{Call, Given, Next, Task};
-use cdi_base::{Cause, Entry, Fields, Place};
+use cdi_base::{Cause, Entry, Fields};
 use cdi_store::{Component, Owner};
 use std::alloc::AllocError;
 
@@ -26,17 +26,16 @@ pub fn create<H: Host>(host: &mut H, bean: u32, owner: Owner) -> Result<Next, Al
     ensures on_way { OnErr result (IsOnWay (H.setting host.old)
         (first (Task.Start (Call.Create bean owner))) (H.world host.old) (H.world host.new)) }
 {
-    let Some(plan) = host.bean(bean) else {
+    let Some(head) = host.bean(bean) else {
         return Ok(missing());
     };
     let Some(number) = host.next_number() else {
         return Ok(cut(Cause::Numbers));
     };
-    let place = Place::Class(plan.class);
-    let fields = plan.first_fields(host.alloc())?;
+    let fields = host.first_fields(bean)?;
     let entry = Entry::New {
         number,
-        bean: place,
+        bean: head.place,
     };
     if !write(host, entry)? {
         return Ok(cut(Cause::Ticks));

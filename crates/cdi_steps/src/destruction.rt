@@ -1,9 +1,10 @@
 //! The steps of destruction.
-ghost use Rattle.std.specs.Prelude.{◌≡◌, length, slice_get, option_map, IfOk, OnErr};
+ghost use Rattle.std.specs.Prelude.{◌≡◌, length, slice_get, option_map, IfOk, IfErr, OnErr};
 ghost use Rattle.cdi_base.specs.declared.value.Value.{Value};
 ghost use Rattle.cdi_machine.specs.World.{after_change, instance_at};
 ghost use Rattle.cdi_machine.specs.World.Change.{Exit};
 ghost use Rattle.cdi_machine.specs.Destruction.{only_ready};
+ghost use Rattle.cdi_machine.specs.Failures.{IsFailureOf};
 ghost use Rattle.cdi_steps.specs.Setting.{Narrows};
 ghost use Rattle.cdi_store.specs.Owned.{dependents_in};
 ghost use Rattle.cdi_steps.specs.Asked.{HasSeveral};
@@ -133,6 +134,7 @@ pub fn release<H: Host>(host: &mut H, number: u32) -> Result<Next, Failure>
     ensures known { IfOk result (KnownNext (H.setting host.new)) }
     ensures narrows { Narrows (H.setting host.old) (H.setting host.new) }
     ensures kept { OnErr result (H.world host.new ≡ H.world host.old) }
+    ensures failed { IfErr result (IsFailureOf (H.setting host.old).may_end) }
 {
     let Some(dependents) = dependents_of(host, number) else {
         return Ok(missing());
@@ -163,6 +165,7 @@ fn pick<H: Host>(host: &mut H, number: u32) -> Result<Next, Failure>
     ensures known { IfOk result (KnownNext (H.setting host.new)) }
     ensures narrows { Narrows (H.setting host.old) (H.setting host.new) }
     ensures kept { OnErr result (H.world host.new ≡ H.world host.old) }
+    ensures failed { IfErr result (IsFailureOf (H.setting host.old).may_end) }
 {
     let count = count_of_dependents(host, number);
     let choice = host.pick(count)?;

@@ -1,7 +1,7 @@
 //! What the engine works upon: the tables of a deployment, a driver, and a world.
+use crate::beans::{BeanHead, Method, Resolution};
 use crate::task::Running;
-use cdi_base::{Act, Entry, Fields, Name, Scope, Value};
-use cdi_beans::bean::{Bean, Method, Resolution};
+use cdi_base::{Act, Entry, Fields, Name, Scope, Use, Value};
 use cdi_contexts::{Held, Status};
 use cdi_machine::Failure;
 use cdi_store::{Component, Instance, Owner};
@@ -11,20 +11,21 @@ use std::alloc::{AllocError, Global};
 /// All that the engine asks and changes. Each change of the world is one of the machine's definition. Asking the driver
 /// may end what was legal; nothing becomes legal by it.
 pub trait Host {
-    ghost use Rattle.std.specs.Prelude.{ℕ, ◌≡◌, ◌<◌, ◌^◌, ◌↔◌, List, [], length, option_map, IfOk, OnOk, OnErr, IfSome, IsSome, IsTrue};
-    ghost use Rattle.cdi_base.specs.declared.uses.Use.{Use};
+    ghost use Rattle.std.specs.Prelude.{ℕ, ◌≡◌, ◌<◌, ◌^◌, ◌↔◌, List, [], length, option_map, IfOk, IfErr, OnOk, OnErr, IfSome, IsSome, IsTrue};
+    ghost use Rattle.cdi_base.specs.declared.uses.Use.{Use as AnyUse};
     ghost use Rattle.cdi_base.specs.declared.scope.Scope.TheVariants.{ApplicationScoped};
     ghost use Rattle.cdi_store.specs.declared.instance.Context.TheVariants.{Application};
     ghost use Rattle.cdi_contexts.specs.Contexts.{context_at};
     ghost use Rattle.cdi_machine.specs.World.{World, after_change, with_entry, instance_at, no_environment};
     ghost use Rattle.cdi_machine.specs.World.Change.{Make, Settle, Leave, Remove, Assign, Finish, Close, Stand, Enter, Reach, Exit, Start, Stop, Borrow, Return, Down};
     ghost use Rattle.cdi_machine.specs.Destruction.{greatest_in};
+    ghost use Rattle.cdi_machine.specs.Failures.{IsFailureOf};
     ghost use Rattle.cdi_steps.specs.Setting.{Setting, Narrows, GivesTo, is_served, knows_member};
-    ghost use Rattle.cdi_beans.specs.Served.{machine_bean, machine_method, machine_resolution};
     ghost use Rattle.cdi_store.specs.Owned.{dependents_in};
-    ghost use Rattle.cdi_steps.specs.Asked.{of_type, method_at, status_in, held_in, number_left, latest_in, top_of};
+    ghost use Rattle.cdi_steps.specs.Asked.{asked_for, machine_resolution, head_of, IsServedBean, fields_of, machine_method};
+    ghost use Rattle.cdi_steps.specs.Asked.{method_at, status_in, held_in, number_left, latest_in, top_of};
 
-    /// The tables, what is legal, and which bodies there are.
+    /// The tables, what is legal, which bodies there are, and whether the driver may have nothing to give.
     ghost setting: { Self → Setting };
     /// What the container holds.
     ghost world: { Self → World };
@@ -34,18 +35,24 @@ pub trait Host {
     // ---- the deployment
 
     /// The bean with an index.
-    fn bean(&self, bean: u32) -> Option<&Bean>
-        ensures { (setting self.now).tables.bean bean ≡ option_map (λ b. machine_bean b.now) result };
+    fn bean(&self, bean: u32) -> Option<BeanHead>
+        ensures found { option_map head_of ((setting self.now).tables.bean bean) ≡ result }
+        ensures served { IfSome ((setting self.now).tables.bean bean) IsServedBean };
+
+    /// The fields of a new instance of the bean with an index.
+    fn first_fields(&self, bean: u32) -> Result<Fields, AllocError>
+        ensures { IfOk result (λ fields. fields ≡ fields_of ((setting self.now).tables.bean bean)) };
 
     /// A business method of the bean with an index; its body is one that there is.
-    fn method(&self, bean: u32, name: Name) -> Option<&Method>
+    fn method(&self, bean: u32, name: Name) -> Option<Method>
         ensures found { method_at (setting self.now).tables bean name
-            ≡ option_map (λ m. machine_method m.now) result }
-        ensures known { IfSome result (λ m. (setting self.now).knows m.now.body) };
+            ≡ option_map machine_method result }
+        ensures known { IfSome result (λ m. (setting self.now).knows m.body) };
 
-    /// What a type resolves to, with the qualifier `Default`.
-    fn resolve(&self, bean_type: Name) -> Resolution
-        ensures { (setting self.now).tables.resolve (of_type bean_type) ≡ machine_resolution result };
+    /// What a type resolves to, with qualifiers as they are written (Jakarta CDI 4.0, *Typesafe resolution*).
+    fn resolve(&self, bean_type: Name, qualifiers: &[Use]) -> Resolution
+        ensures { (setting self.now).tables.resolve (asked_for bean_type qualifiers.now)
+            ≡ machine_resolution result };
 
     /// The text of an exception's class.
     fn text(&self, exception: Name) -> Option<&str>
@@ -53,7 +60,7 @@ pub trait Host {
 
     /// No event has an observer.
     fn law_unobserved(&self)
-        ensures { (class : ℕ) (uses : List Use) → (setting self.now).tables.observers class uses ≡ [] };
+        ensures { (class : ℕ) (uses : List AnyUse) → (setting self.now).tables.observers class uses ≡ [] };
 
     // ---- the driver
 
@@ -64,6 +71,7 @@ pub trait Host {
         requires lives { IsSome (instance_at (world self.old) running.now.instance) }
         ensures legal { IfOk result (GivesTo (setting self.old) (world self.old) running.now) }
         ensures served { IfOk result (λ act. IsTrue (is_served act)) }
+        ensures failed { IfErr result (IsFailureOf (setting self.old).may_end) }
         ensures world { world self.new ≡ world self.old }
         ensures narrows { Narrows (setting self.old) (setting self.new) };
 
@@ -73,6 +81,7 @@ pub trait Host {
         ensures below { IfOk result (λ choice. choice < count) }
         ensures legal { IfOk result (λ choice.
             (setting self.old).legal.picks count (length (world self.old).trace) choice) }
+        ensures failed { IfErr result (IsFailureOf (setting self.old).may_end) }
         ensures world { world self.new ≡ world self.old }
         ensures narrows { Narrows (setting self.old) (setting self.new) };
 

@@ -1,10 +1,9 @@
 //! The steps of invocations.
 ghost use Rattle.std.specs.Prelude.{◌≡◌, IfOk, OnErr, IfSome, option_map};
-ghost use Rattle.cdi_beans.specs.Served.{machine_method};
 ghost use Rattle.cdi_machine.specs.World.{after_change, instance_at};
 ghost use Rattle.cdi_machine.specs.World.Change.{Reach, Exit};
 ghost use Rattle.cdi_machine.specs.Bodies.{invoke_method};
-ghost use Rattle.cdi_steps.specs.Asked.{method_of_instance};
+ghost use Rattle.cdi_steps.specs.Asked.{method_of_instance, machine_method};
 ghost use Rattle.cdi_steps.specs.Setting.{Narrows};
 ghost use Rattle.cdi_steps.specs.Words.{given_at_end};
 ghost use Rattle.cdi_steps.specs.Leads.{MovesTo, Settles};
@@ -12,21 +11,21 @@ ghost use Rattle.cdi_steps.specs.Falls.{Falls, call_rank, frame_rank};
 ghost use Rattle.cdi_steps.specs.Known.{KnownNext};
 ghost use Rattle.cdi_steps.specs.declared.task.Outcome.{Outcome};
 
+use crate::beans::Method;
 use crate::ends::{ended, missing, null};
 use crate::host::Host;
 use crate::task::{Call, Completion, Frame, Given, Next, Running, Task};
 use cdi_base::{InterceptorMethod, Name, Seq, Value};
-use cdi_beans::bean::Method;
 use cdi_bodies::View;
 use cdi_store::Component;
 use cdi_world::{Code, Invocation};
 use std::alloc::AllocError;
 
 /// A business method of an instance.
-pub fn method_of<H: Host>(host: &H, number: u32, name: Name) -> Option<&Method>
+pub fn method_of<H: Host>(host: &H, number: u32, name: Name) -> Option<Method>
     ensures found { method_of_instance (H.setting host.now).tables
-        (instance_at (H.world host.now) number) name ≡ option_map (λ m. machine_method m.now) result }
-    ensures known { IfSome result (λ m. (H.setting host.now).knows m.now.body) }
+        (instance_at (H.world host.now) number) name ≡ option_map machine_method result }
+    ensures known { IfSome result (λ m. (H.setting host.now).knows m.body) }
 {
     match host.instance(number)?.component {
         Component::Bean(bean) => host.method(bean, name),

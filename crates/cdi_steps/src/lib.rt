@@ -2,6 +2,7 @@
 //! those that obtain, make, call and destroy instances.
 #![tactic(auto)]
 
+pub mod beans;
 pub mod creation;
 pub mod destruction;
 pub mod ends;

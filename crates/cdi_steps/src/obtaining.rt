@@ -1,8 +1,7 @@
 //! The steps of obtaining contextual instances, and instances for the time of a command.
 ghost use Rattle.std.specs.Prelude.{◌≡◌, IfOk, OnErr};
 ghost use Rattle.cdi_machine.specs.World.{instance_at};
-ghost use Rattle.cdi_beans.specs.Served.{machine_scope};
-ghost use Rattle.cdi_machine.specs.Contexts.{stays};
+ghost use Rattle.cdi_machine.specs.Contexts.{is_normal, stays};
 ghost use Rattle.cdi_steps.specs.Setting.{Narrows};
 ghost use Rattle.cdi_steps.specs.Meanings.{use_lent};
 ghost use Rattle.cdi_steps.specs.Leads.{MovesTo, Settles, GoesOn};
@@ -10,24 +9,21 @@ ghost use Rattle.cdi_steps.specs.Falls.{Falls, rank, call_rank, frame_rank};
 ghost use Rattle.cdi_steps.specs.declared.task.Completion.{Completion};
 ghost use Rattle.cdi_steps.specs.Known.{KnownNext};
 
+use crate::beans::Resolution;
 use crate::ends::{given, missing, raised};
 use crate::host::Host;
 use crate::invocations::invoke;
 use crate::task::{Call, Frame, Given, Next, Task};
-use cdi_base::{BuiltIn, Name, Scope, Seq, Value};
-use cdi_beans::bean::{Resolution, ServedScope};
+use cdi_base::{BuiltIn, Name, Scope, Seq, Use, Value};
 use cdi_contexts::{Held, Status};
 use cdi_store::{Context, Owner, Phase};
 use std::alloc::AllocError;
 
-/// The scope as contexts know it.
-fn scope_of(scope: ServedScope) -> Scope
-    ensures { result ≡ machine_scope scope }
+/// Whether a scope is a normal one (Jakarta CDI 4.0, *Normal scopes and pseudo-scopes*).
+fn is_normal(scope: Scope) -> bool
+    ensures { is_normal scope ≡ result }
 {
-    match scope {
-        ServedScope::ApplicationScoped => Scope::ApplicationScoped,
-        ServedScope::Dependent => Scope::Dependent,
-    }
+    !matches!(scope, Scope::Dependent)
 }
 
 /// Obtains the contextual instance of a bean (Jakarta CDI 4.0, *Contextual instance of a bean*).
@@ -39,14 +35,13 @@ pub fn obtain<H: Host>(host: &H, bean: u32) -> Next
         (H.world host.now) result (H.world host.now) }
     ensures known { KnownNext (H.setting host.now) result }
 {
-    let Some(plan) = host.bean(bean) else {
+    let Some(head) = host.bean(bean) else {
         return missing();
     };
-    let scope = scope_of(plan.scope);
-    let Some(status) = host.status(scope) else {
+    let Some(status) = host.status(head.scope) else {
         return raised(BuiltIn::ContextNotActiveException);
     };
-    match host.held(scope, bean) {
+    match host.held(head.scope, bean) {
         Some(Held::Is(number)) => given(Given::Number(number)),
         Some(Held::Making) => raised(BuiltIn::CreationException),
         None => match status {
@@ -59,48 +54,42 @@ pub fn obtain<H: Host>(host: &H, bean: u32) -> Next
     }
 }
 
-/// Uses the bean to which a type resolves (Jakarta CDI 4.0, *Typesafe resolution*) for a command: its contextual
+/// Uses the bean to which a type with qualifiers resolves (Jakarta CDI 4.0, *Typesafe resolution*) for a command: its contextual
 /// instance, or one that lasts as long as the command. What its context has for it is invoked at once.
 #[tactic(auto, using(crate::proofs::ObtainingSteps::leads))]
 pub fn using<H: Host>(
     host: &mut H,
     bean_type: Name,
+    qualifiers: Seq<Use>,
     method: Name,
     args: Seq<Value>,
 ) -> Result<Next, AllocError>
     ensures leads { IfOk result (λ next. MovesTo (H.setting host.old)
-        (Task.Using bean_type method args) (H.world host.old) next (H.world host.new)) }
-    ensures falls { IfOk result (λ next. Falls (rank (Task.Using bean_type method args))
+        (Task.Using bean_type qualifiers method args) (H.world host.old) next (H.world host.new)) }
+    ensures falls { IfOk result (λ next. Falls (rank (Task.Using bean_type qualifiers method args))
         (H.world host.old) next (H.world host.new)) }
     ensures known { IfOk result (KnownNext (H.setting host.new)) }
     ensures narrows { Narrows (H.setting host.old) (H.setting host.new) }
     ensures kept { OnErr result (H.world host.new ≡ H.world host.old) }
 {
-    let bean = match host.resolve(bean_type) {
+    let bean = match host.resolve(bean_type, qualifiers.as_slice()) {
         Resolution::One(bean) => bean,
         Resolution::Nothing => return Ok(raised(BuiltIn::UnsatisfiedResolutionException)),
         Resolution::Many => return Ok(raised(BuiltIn::AmbiguousResolutionException)),
     };
-    let Some(plan) = host.bean(bean) else {
+    let Some(head) = host.bean(bean) else {
         return Ok(missing());
     };
-    match plan.scope {
-        ServedScope::ApplicationScoped => match host.held(
-            scope_of(ServedScope::ApplicationScoped),
-            bean,
-        ) {
-            Some(Held::Is(number)) => invoke(host, number, method, args),
-            _ => {
-                let call = Task::Start(Call::Obtain { bean });
-                Ok(Next::Needs(call, Frame::Reaching { method, args }))
-            }
-        },
-        ServedScope::Dependent => {
-            let owner = Owner::Borrower;
-            let call = Task::Start(Call::Create { bean, owner });
-            Ok(Next::Needs(call, Frame::Borrowing { method, args }))
-        }
+    if !is_normal(head.scope) {
+        let owner = Owner::Borrower;
+        let call = Task::Start(Call::Create { bean, owner });
+        return Ok(Next::Needs(call, Frame::Borrowing { method, args }));
     }
+    if let Some(Held::Is(number)) = host.held(head.scope, bean) {
+        return invoke(host, number, method, args);
+    }
+    let call = Task::Start(Call::Obtain { bean });
+    Ok(Next::Needs(call, Frame::Reaching { method, args }))
 }
 
 /// Invokes a method of the contextual instance that was obtained.

@@ -1,5 +1,5 @@
 //! What the engine carries out, and what waits for the outcome.
-use cdi_base::{Cause, InterceptorMethod, Name, Place, Seq, Value};
+use cdi_base::{Cause, InterceptorMethod, Name, Place, Seq, Use, Value};
 use cdi_bodies::{BodyId, View};
 use cdi_store::Owner;
 
@@ -70,9 +70,10 @@ pub enum Call {
 pub enum Job {
     /// The application begins.
     Boot,
-    /// A business method of the bean with this type is called.
+    /// A business method of the bean with this type and these qualifiers is called.
     Call {
         bean_type: Name,
+        qualifiers: Seq<Use>,
         method: Name,
         args: Seq<Value>,
     },
@@ -103,9 +104,10 @@ pub enum Task {
     Start(Call),
     /// What a command asks for.
     Begin(Job),
-    /// The use of the bean with this type by a command.
+    /// The use of the bean with this type and these qualifiers by a command.
     Using {
         bean_type: Name,
+        qualifiers: Seq<Use>,
         method: Name,
         args: Seq<Value>,
     },

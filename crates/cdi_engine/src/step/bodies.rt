@@ -1,10 +1,11 @@
 //! The steps of bodies.
-ghost use Rattle.std.specs.Prelude.{◌≡◌, IfOk, OnErr, IsTrue};
+ghost use Rattle.std.specs.Prelude.{◌≡◌, IfOk, IfErr, OnErr, IsTrue};
 ghost use Rattle.cdi_base.specs.BuiltIn.{number_of};
 ghost use Rattle.cdi_base.specs.declared.act.Act.TheVariants.{Set, Own};
 ghost use Rattle.cdi_machine.specs.World.{after_change, instance_at};
 ghost use Rattle.cdi_machine.specs.World.Change.{Stop};
 ghost use Rattle.cdi_machine.specs.Bodies.{perform, with_answer};
+ghost use Rattle.cdi_machine.specs.Failures.{IsFailureOf};
 ghost use Rattle.cdi_steps.specs.Setting.{Narrows, is_served};
 ghost use Rattle.cdi_steps.specs.Asked.{has_field_in};
 ghost use Rattle.cdi_steps.specs.Words.{running_of, completion_of};
@@ -80,6 +81,7 @@ pub(super) fn acts<H: Host>(host: &mut H, running: Box<Running>) -> Result<Next,
     ensures narrows { Narrows (H.setting host.old) (H.setting host.new) }
     ensures on_way { OnErr result (IsOnWay (H.setting host.old)
         (first (Task.Start (Call.Acts running))) (H.world host.old) (H.world host.new)) }
+    ensures failed { IfErr result (IsFailureOf (H.setting host.old).may_end) }
 {
     if host.instance(running.instance).is_none() {
         return Ok(missing());

@@ -11,7 +11,7 @@ ghost use Rattle.cdi_steps.specs.declared.task.Given.{Given};
 ghost use Rattle.cdi_steps.specs.Known.{KnownNext};
 
 use crate::events::entry_of;
-use cdi_base::{Cause, Name, Seq, Value};
+use cdi_base::{Cause, Name, Seq, Use, Value};
 use cdi_steps::Host;
 use cdi_steps::ends::{cut, ended, null};
 use cdi_steps::entries::write;
@@ -37,9 +37,10 @@ pub(super) fn begin<H: Host>(host: &mut H, job: Job) -> Result<Next, AllocError>
         }
         Job::Call {
             bean_type,
+            qualifiers,
             method,
             args,
-        } => call_bean(host, bean_type, method, args),
+        } => call_bean(host, bean_type, qualifiers, method, args),
         Job::Shutdown => {
             host.law_alone();
             host.stand_alone();
@@ -61,17 +62,20 @@ pub(crate) fn starting() -> Next
 
 // ---- a call
 
-/// Calls a method of the bean with a type, with what is borrowed for the time of the command.
+/// Calls a method of the bean with a type and qualifiers, with what is borrowed for the time of the command.
 #[tactic(auto, using(crate::proofs::CommandSteps::leads))]
 fn call_bean<H: Host>(
     host: &mut H,
     bean_type: Name,
+    qualifiers: Seq<Use>,
     method: Name,
     args: Seq<Value>,
 ) -> Result<Next, AllocError>
     ensures leads { IfOk result (λ next. MovesTo (H.setting host.old)
-        (Task.Begin (Job.Call bean_type method args)) (H.world host.old) next (H.world host.new)) }
-    ensures falls { IfOk result (λ next. Falls (rank (Task.Begin (Job.Call bean_type method args)))
+        (Task.Begin (Job.Call bean_type qualifiers method args))
+        (H.world host.old) next (H.world host.new)) }
+    ensures falls { IfOk result (λ next. Falls
+        (rank (Task.Begin (Job.Call bean_type qualifiers method args)))
         (H.world host.old) next (H.world host.new)) }
     ensures known { IfOk result (KnownNext (H.setting host.new)) }
     ensures narrows { Narrows (H.setting host.old) (H.setting host.new) }
@@ -81,6 +85,7 @@ fn call_bean<H: Host>(
     host.stand_alone();
     let part = Task::Using {
         bean_type,
+        qualifiers,
         method,
         args,
     };

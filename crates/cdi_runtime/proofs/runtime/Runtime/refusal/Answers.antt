@@ -14,4 +14,4 @@ returns-else-is_some-clause-refusal g c =
     let alone = none_if c.args.request (sym c.is_some.ensures ∙ c.if-is_some.false) in
     rw (c.in-Call.is, alone)
     ((rw c.len.ensures at c.refuses_call.ensures)
-    ∙ sym (call_refused self.classes self.tables c.in-Call.bean_type c.in-Call.method c.in-Call.args self.world c.args.halted c.if-halted.false down))
+    ∙ sym (call_refused self.classes self.tables c.in-Call.bean_type c.in-Call._qualifiers c.in-Call.method c.in-Call.args self.world c.args.halted c.if-halted.false down))
