@@ -1,0 +1,2 @@
+//! What the tables of an accepted deployment have for the bodies of its beans.
+#![tactic(auto)]
