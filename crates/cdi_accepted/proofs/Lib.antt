@@ -8,3 +8,6 @@ pub mod Beans
 pub mod Registered
 pub mod Methods
 pub mod Acts
+pub mod Calls
+pub mod Texts
+pub mod Fitting
