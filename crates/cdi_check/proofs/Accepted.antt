@@ -31,11 +31,11 @@ use Rattle.cdi_check.specs.Problems.{AreProblemsOf}
 
 -- ---- lists of what was found that are empty
 
-append_none : {X : Type 0} (xs ys : List X) → [] ≡ xs ++ ys → ([] ≡ xs) × ([] ≡ ys)
+pub append_none : {X : Type 0} (xs ys : List X) → [] ≡ xs ++ ys → ([] ≡ xs) × ([] ≡ ys)
 append_none [] ys e = (refl, e)
 append_none (x ∷ xs) ys e = absurd cc
 
-map_none : {X Y : Type 0} (f : X → Y) (xs : List X) → [] ≡ map f xs → xs ≡ []
+pub map_none : {X Y : Type 0} (f : X → Y) (xs : List X) → [] ≡ map f xs → xs ≡ []
 map_none f [] e = refl
 map_none f (x ∷ xs) e = absurd cc
 
@@ -48,7 +48,7 @@ kept_none : (listed places : List Place) → fold with_place listed places ≡ [
 kept_none listed [] e = e
 kept_none listed (p ∷ ps) e = one_behind listed p _ (kept_none (with_place listed p) ps e)
 
-no_places : {X : Type 0} (place : X → Place) (those : List X) → [] ≡ once (map place those) → those ≡ []
+pub no_places : {X : Type 0} (place : X → Place) (those : List X) → [] ≡ once (map place those) → those ≡ []
 no_places place [] e = refl
 no_places place (x ∷ xs) e = absurd (full (kept_none (place x ∷ []) (map place xs) (sym e)))
   where
@@ -65,7 +65,7 @@ module _ {X : Type 0} (P : X → Type 0) where
       let Q : List X → Type 0 = λ those. ListsThose P items those in
       of_none items (subst Q (no_places place w.those (sym e ∙ w.are)) w.listed)
 
-  none_told : (place : X → Place) (items : List X) (kind : ProblemKind) (found : List Place) → [] ≡ problems_at kind found → ArePlacesWhere P place items found → HoldsOfNone P items
+  pub none_told : (place : X → Place) (items : List X) (kind : ProblemKind) (found : List Place) → [] ≡ problems_at kind found → ArePlacesWhere P place items found → HoldsOfNone P items
   none_told place items kind found e = none_found place items found (map_none _ found e)
 
 -- ---- bodies, points and beans
@@ -95,7 +95,7 @@ points_resolve qualifiers e x satisfied unambiguous live = λ k d lt. at k (get_
         by Nothing h = absurd (satisfied (record { live = live; point = (k, p, lt, is, h) }))
         by Many h = absurd (unambiguous (record { live = live; point = (k, p, lt, is, h) }))
 
-bodies_sound : (d : Deployment) (shape_of : ℕ → Option Shape) (s : Setting) (problems : List _) → [] ≡ problems → AreBodyProblems d shape_of s problems → AreBodiesSound d shape_of s
+pub bodies_sound : (d : Deployment) (shape_of : ℕ → Option Shape) (s : Setting) (problems : List _) → [] ≡ problems → AreBodyProblems d shape_of s problems → AreBodiesSound d shape_of s
 bodies_sound d shape_of s problems e h =
     let all = append_none _ _ (e ∙ h.are) in
     let three = append_none _ _ all.0 in

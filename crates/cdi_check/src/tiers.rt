@@ -3,8 +3,9 @@ ghost use Rattle.std.specs.Prelude.{IfOk};
 ghost use Rattle.cdi_beanlist.specs.Problems.{IsMadeOf};
 ghost use Rattle.cdi_bodies.specs.Table.{entries_of};
 ghost use Rattle.cdi_body_check.specs.Shapes.{shape_of};
-ghost use Rattle.cdi_check.specs.Late.{AreLateProblems};
+ghost use Rattle.cdi_check.specs.Late.{AreLateProblems, AreProblemsIn};
 ghost use Rattle.cdi_check.specs.Problems.{AreProblemsOf};
+ghost use Rattle.cdi_check.specs.Tables.{setting_by};
 ghost use Rattle.cdi_tables.specs.BeanTables.{AreTablesOf};
 
 use crate::settings::problems_by;
@@ -25,8 +26,11 @@ pub fn late_problems(
     bodies: &Bodies,
 ) -> Result<Seq<Problem>, AllocError>
     requires { AreTablesOf deployment.now tables.now }
-    ensures { IfOk result
+    ensures late { IfOk result
         (AreLateProblems deployment.now (shape_of (entries_of bodies.now))) }
+    ensures by_tables { IfOk result (AreProblemsIn deployment.now
+        (shape_of (entries_of bodies.now)) tables.now.enabled
+        (setting_by deployment.now tables.now)) }
 {
     let problems = problems_by(alloc, deployment, tables, bodies)?;
     Ok(problems)

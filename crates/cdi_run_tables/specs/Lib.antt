@@ -1,2 +1,4 @@
+pub mod Ids
 pub mod Machine
 pub mod Planned
+pub mod Served

@@ -1,10 +1,12 @@
 -- What the machine asks of a deployment, answered from its tables.
-use Rattle.std.specs.Prelude.{ℕ, ◌==◌, ◌&&◌, ◌||◌, List, [], map, filter, fold, Bool, true, false, not, ◌∷◌, Option, Some, None, option_map, option_and_then, position, slice_get}
-use Rattle.std.specs.List.{find}
+use Rattle.std.specs.Prelude.{ℕ, ◌==◌, ◌&&◌, List, [], map, filter, fold, Bool, true, false, not, ◌∷◌, Option, Some, None, option_map, option_and_then, position, slice_get, unwrap_or}
+use Rattle.std.specs.List.{filter_map}
 use Rattle.cdi_base.specs.Fields.{put}
+use Rattle.cdi_base.specs.Maps.{at}
 use Rattle.cdi_base.specs.declared.uses.Use.{Use}
 use Rattle.cdi_bean_check.specs.Qualifiers.{full_uses}
 use Rattle.cdi_beanlist.specs.declared.bean.Bean.{Bean}
+use Rattle.cdi_bodies.specs.declared.entry.Entry.{Entry}
 use Rattle.cdi_deployment.specs.declared.deployment.Deployment.{Deployment}
 use Rattle.cdi_deployment.specs.declared.deployment.Field.{Field}
 use Rattle.cdi_deployment.specs.declared.deployment.Point.{Point}
@@ -28,7 +30,9 @@ use Rattle.cdi_resolve.specs.Filters.{enabled_of}
 use Rattle.cdi_resolve.specs.Resolution.{resolution}
 use Rattle.cdi_resolve.specs.declared.resolution.Resolution.{Resolution}
 use Rattle.cdi_resolve.specs.declared.resolution.Resolution.TheVariants as resolutions
+use Rattle.cdi_run_tables.specs.Ids.{id_in, AreIdsIn}
 use Rattle.cdi_run_tables.specs.declared.planned.PlannedBean.{PlannedBean}
+use Rattle.cdi_run_tables.specs.declared.tables.Method.{Method}
 use Rattle.cdi_run_tables.specs.declared.tables.RunTables.{RunTables}
 
 -- ---- plans
@@ -36,28 +40,41 @@ use Rattle.cdi_run_tables.specs.declared.tables.RunTables.{RunTables}
 abbrev pub asked_by : Point → Asked
 asked_by p = record { type = p.ty; qualifiers = p.quals }
 
--- a body is known by its name
-abbrev pub machine_code : Code → machine.Code
-machine_code c = record { place = c.place; body = c.body }
+-- A body is known by its number; ids tells the numbers of names. Where none is registered, this is the number of no body.
+abbrev pub body_number : (ℕ → Option ℕ) → ℕ → ℕ
+body_number ids name = unwrap_or (ids name) 4096
 
-abbrev pub machine_lifecycle : Lifecycle → machine.Lifecycle
-machine_lifecycle l = record { chain = l.chain; callbacks = map machine_code l.callbacks }
+abbrev pub code_with : Code → ℕ → machine.Code
+code_with c body = record { place = c.place; body = body }
 
-abbrev pub machine_method : BusinessMethod → machine.Method
-machine_method m = record { code = machine_code m.code; count = m.count; chain = m.chain }
+abbrev pub machine_code : (ℕ → Option ℕ) → Code → machine.Code
+machine_code ids c = code_with c (body_number ids c.body)
 
-abbrev pub machine_methods : List BusinessMethod → List (Name × machine.Method)
-machine_methods methods = map (λ m. (m.name, machine_method m)) methods
+abbrev pub machine_lifecycle : (ℕ → Option ℕ) → Lifecycle → machine.Lifecycle
+machine_lifecycle ids l = record { chain = l.chain; callbacks = map (machine_code ids) l.callbacks }
 
-abbrev pub machine_member : InjectedMethod → machine.Member
-machine_member m = record { code = machine_code m.code; points = map asked_by m.points; chain = m.chain }
+abbrev pub method_with : BusinessMethod → ℕ → Name × machine.Method
+method_with m body = (m.name, record { code = code_with m.code body; count = m.count; chain = m.chain })
 
-abbrev pub machine_step : Step → machine.Step
-machine_step (steps.Intercept i) = machine.Step.Intercept i
-machine_step (steps.Construct points l) = machine.Step.Construct (map asked_by points) (machine_lifecycle l)
-machine_step (steps.Inject field point) = machine.Step.Inject field (asked_by point)
-machine_step (steps.Initialize code points) = machine.Step.Initialize (machine_code code) (map asked_by points)
-machine_step (steps.Complete l) = machine.Step.Complete (machine_lifecycle l)
+-- a business method by its name; one whose body isn't registered is left out
+abbrev pub machine_method : (ℕ → Option ℕ) → BusinessMethod → Option (Name × machine.Method)
+machine_method ids m = option_map (method_with m) (ids m.code.body)
+
+abbrev pub machine_methods : (ℕ → Option ℕ) → List BusinessMethod → List (Name × machine.Method)
+machine_methods ids methods = filter_map (machine_method ids) methods
+
+abbrev pub machine_member : (ℕ → Option ℕ) → InjectedMethod → machine.Member
+machine_member ids m =
+    record { code = machine_code ids m.code; points = map asked_by m.points; chain = m.chain }
+
+abbrev pub machine_step : (ℕ → Option ℕ) → Step → machine.Step
+machine_step ids (steps.Intercept i) = machine.Step.Intercept i
+machine_step ids (steps.Construct points l) =
+    machine.Step.Construct (map asked_by points) (machine_lifecycle ids l)
+machine_step ids (steps.Inject field point) = machine.Step.Inject field (asked_by point)
+machine_step ids (steps.Initialize code points) =
+    machine.Step.Initialize (machine_code ids code) (map asked_by points)
+machine_step ids (steps.Complete l) = machine.Step.Complete (machine_lifecycle ids l)
 
 abbrev pub has_none : {A : Type 0} → List A → Bool
 has_none [] = true
@@ -73,25 +90,26 @@ does_something (steps.Construct points l) = not (has_none points && is_idle l)
 does_something (steps.Complete l) = not (is_idle l)
 does_something step = true
 
-abbrev pub machine_steps : List Step → List machine.Step
-machine_steps all = map machine_step (filter does_something all)
+abbrev pub machine_steps : (ℕ → Option ℕ) → List Step → List machine.Step
+machine_steps ids all = map (machine_step ids) (filter does_something all)
 
 -- each with its first value, in their order
 abbrev pub first_fields : List Field → Fields
 first_fields fields = fold (λ all f. put all f.name f.value) [] fields
 
-abbrev pub machine_managed : ManagedPlan → machine.Managed
-machine_managed p =
+abbrev pub machine_managed : (ℕ → Option ℕ) → ManagedPlan → machine.Managed
+machine_managed ids p =
     record {
       fields = first_fields p.fields;
-      plan = machine_steps p.steps;
-      methods = machine_methods p.methods;
-      pre_destroy = machine_lifecycle p.pre_destroy;
+      plan = machine_steps ids p.steps;
+      methods = machine_methods ids p.methods;
+      pre_destroy = machine_lifecycle ids p.pre_destroy;
     }
 
-abbrev pub machine_source : Source → machine.Source
-machine_source (sources.ProducerMethod m) = machine.Source.ProducerMethod (machine_member m)
-machine_source (sources.ProducerField field) = machine.Source.ProducerField field
+abbrev pub machine_source : (ℕ → Option ℕ) → Source → machine.Source
+machine_source ids (sources.ProducerMethod m) =
+    machine.Source.ProducerMethod (machine_member ids m)
+machine_source ids (sources.ProducerField field) = machine.Source.ProducerField field
 
 -- ---- beans
 
@@ -99,35 +117,52 @@ machine_source (sources.ProducerField field) = machine.Source.ProducerField fiel
 abbrev pub managed_bean : List Bean → Name → Option ℕ
 managed_bean beans class = position (λ b. is_managed b.kind && (b.class == class)) beans
 
-abbrev pub product_with : ProductPlan → ℕ → machine.Kind
-product_with p declaring =
+abbrev pub product_with : (ℕ → Option ℕ) → ProductPlan → ℕ → machine.Kind
+product_with ids p declaring =
     machine.Kind.Producer
-    (record { declaring = declaring; source = machine_source p.source; disposers = map machine_member p.disposers })
+    (record {
+      declaring = declaring;
+      source = machine_source ids p.source;
+      disposers = map (machine_member ids) p.disposers;
+    })
 
 -- a product is one of the managed bean of the class that declares its producer
-abbrev pub machine_kind : List Bean → Plan → Option machine.Kind
-machine_kind beans (plans.Managed p) = Some (machine.Kind.Class (machine_managed p))
-machine_kind beans (plans.Product p) = option_map (product_with p) (managed_bean beans p.declaring)
+abbrev pub machine_kind : (ℕ → Option ℕ) → List Bean → Plan → Option machine.Kind
+machine_kind ids beans (plans.Managed p) = Some (machine.Kind.Class (machine_managed ids p))
+machine_kind ids beans (plans.Product p) =
+    option_map (product_with ids p) (managed_bean beans p.declaring)
 
 abbrev pub bean_with : PlannedBean → machine.Kind → machine.Bean
 bean_with b kind = record { place = b.place; scope = b.scope; kind = kind }
 
-abbrev pub machine_bean : List Bean → PlannedBean → Option machine.Bean
-machine_bean beans b = option_map (bean_with b) (machine_kind beans b.plan)
+abbrev pub machine_bean : (ℕ → Option ℕ) → List Bean → PlannedBean → Option machine.Bean
+machine_bean ids beans b = option_map (bean_with b) (machine_kind ids beans b.plan)
+
+-- the number of the body of a name
+abbrev pub id_of : RunTables → ℕ → Option ℕ
+id_of t = id_in t.ids
+
+-- the names of bodies in a deployment have the numbers under which these entries are registered
+abbrev pub AreIdsOf : {X : Type 0} {F : X → Type 0} {g : _} → List (Entry X F g) → RunTables → Type 0
+AreIdsOf entries t = AreIdsIn entries t.deployment t.ids
 
 abbrev pub bean_at : RunTables → ℕ → Option machine.Bean
-bean_at t b = option_and_then (machine_bean t.tables.resolver.beans) (slice_get t.beans b)
+bean_at t b =
+    option_and_then (machine_bean (id_of t) t.tables.resolver.beans) (slice_get t.beans b)
 
-abbrev pub method_named : List BusinessMethod → Name → Option BusinessMethod
-method_named methods name = find (λ m. m.name == name) methods
-
-abbrev pub method_in : Plan → Name → Option BusinessMethod
-method_in (plans.Managed p) name = method_named p.methods name
-method_in (plans.Product p) name = None
+-- the method of a name that a plan has
+abbrev pub method_in : (ℕ → Option ℕ) → Plan → Name → Option machine.Method
+method_in ids (plans.Managed p) name = at (machine_methods ids p.methods) name
+method_in ids (plans.Product p) name = None
 
 -- the method of a bean, as its plan has it
-abbrev pub method_of : RunTables → ℕ → Name → Option BusinessMethod
-method_of t b name = option_and_then (λ (bean : PlannedBean). method_in bean.plan name) (slice_get t.beans b)
+abbrev pub method_of : RunTables → ℕ → Name → Option machine.Method
+method_of t b name =
+    option_and_then (λ (bean : PlannedBean). method_in (id_of t) bean.plan name) (slice_get t.beans b)
+
+-- what the code hands out of a method
+abbrev pub without_chain : machine.Method → Method
+without_chain m = record { place = m.code.place; count = m.count; body = m.code.body }
 
 -- ---- names
 

@@ -2,9 +2,11 @@
 //! (Jakarta CDI 4.0, *Beans*, *Typesafe resolution*).
 #![tactic(auto)]
 
+pub mod ids;
 mod known;
 pub mod planned;
+mod served;
 pub mod tables;
 
 pub use planned::PlannedBean;
-pub use tables::RunTables;
+pub use tables::{Method, RunTables};

@@ -1,13 +1,18 @@
 //! All that the machine asks of a deployment.
 ghost use Rattle.std.specs.Prelude.{◌≡◌, slice_get, option_map, IfOk};
 ghost use Rattle.std.specs.List.{AllZip};
+ghost use Rattle.cdi_base.specs.Maps.{at};
+ghost use Rattle.cdi_bodies.specs.Table.{entries_of};
 ghost use Rattle.cdi_tables.specs.BeanTables.{AreTablesOf};
+ghost use Rattle.cdi_run_tables.specs.Ids.{id_in};
 ghost use Rattle.cdi_run_tables.specs.Machine as spec;
 ghost use Rattle.cdi_run_tables.specs.Planned.{IsPlanned, IsTabled, plan_tables};
 
+use crate::ids::BodyIds;
 use crate::known::{are_qualifiers, is_type};
 use crate::planned::{PlannedBean, planned_beans};
-use cdi_base::{Name, Seq, Use};
+use cdi_base::{Name, Place, Seq, Use};
+use cdi_bodies::{Bodies, BodyId};
 use cdi_deployment::Deployment;
 use cdi_plans::laws::law_beans_are_declared;
 use cdi_plans::{BusinessMethod, Plan, Planner};
@@ -21,6 +26,17 @@ pub struct RunTables {
     pub(crate) deployment: Deployment,
     pub(crate) tables: BeanTables,
     pub(crate) beans: Seq<PlannedBean>,
+    pub(crate) ids: BodyIds,
+}
+
+/// A business method of a bean, with its registered body.
+#[derive(Clone, Copy)]
+pub struct Method {
+    /// The method with the class that declares it.
+    pub place: Place,
+    /// How many values a call passes: 0 to 8.
+    pub count: u32,
+    pub body: BodyId,
 }
 
 /// The plans of the beans of a deployment, in their order.
@@ -44,30 +60,48 @@ fn plans_of(
     planned_beans(alloc, &planner, tables.resolver.beans())
 }
 
-/// The method of a name among some methods.
-fn method_named(methods: &[BusinessMethod], name: Name) -> Option<&BusinessMethod>
-    ensures { option_map (λ m. m.now) result ≡ spec.method_named methods.now name }
+/// The method of a name among some methods. Those whose bodies aren't registered are passed over.
+fn method_named(methods: &[BusinessMethod], ids: &BodyIds, name: Name) -> Option<Method>
+    ensures { result ≡ option_map spec.without_chain
+        (at (spec.machine_methods (id_in ids.now) methods.now) name) }
 {
-    methods.iter().find(|method| method.name == name)
+    for method in methods {
+        let Some(body) = ids.id(method.code.body) else {
+            continue;
+        };
+        if name == method.name {
+            return Some(Method {
+                place: method.code.place,
+                count: method.count,
+                body,
+            });
+        }
+    }
+    None
 }
 
 impl RunTables {
-    /// The tables of a deployment whose names and beans have no problem, with the tables of its bean list.
+    /// The tables of a deployment whose names and beans have no problem, with the tables of its bean list. Its members have the bodies
+    /// that are registered under their names.
     pub fn build(
         alloc: Global,
         deployment: Deployment,
         tables: BeanTables,
+        bodies: &Bodies,
     ) -> Result<RunTables, AllocError>
         requires { AreTablesOf deployment tables }
         ensures deployment { IfOk result (λ t. t.deployment ≡ deployment) }
         ensures tables { IfOk result (λ t. t.tables ≡ tables) }
         ensures tabled { IfOk result IsTabled }
+        ensures ids { IfOk result (spec.AreIdsOf (entries_of bodies.now)) }
     {
         let beans = plans_of(alloc, &deployment, &tables)?;
+        let ids = BodyIds::build(alloc, &deployment, bodies)?;
         Ok(RunTables {
             deployment,
             tables,
             beans,
+            ids,
         })
     }
 
@@ -85,13 +119,13 @@ impl RunTables {
         self.beans.as_slice().get(bean)
     }
 
-    /// A business method of the bean with an index; a product has none.
-    pub fn method(&self, bean: usize, name: Name) -> Option<&BusinessMethod>
-        ensures { option_map (λ m. m.now) result ≡ spec.method_of self.now bean name }
+    /// A business method of the bean with an index, if its body is registered; a product has none.
+    pub fn method(&self, bean: usize, name: Name) -> Option<Method>
+        ensures { result ≡ option_map spec.without_chain (spec.method_of self.now bean name) }
     {
         match self.bean(bean) {
             Some(bean) => match &bean.plan {
-                Plan::Managed(plan) => method_named(plan.methods.as_slice(), name),
+                Plan::Managed(plan) => method_named(plan.methods.as_slice(), &self.ids, name),
                 Plan::Product(_plan) => None,
             },
             None => None,

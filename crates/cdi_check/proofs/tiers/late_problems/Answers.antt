@@ -6,8 +6,8 @@ use Rattle.cdi_check.specs.Tables.{setting_by}
 use Rattle.cdi_tables.specs.declared.bean_tables.BeanTables.{BeanTables}
 use Rattle.cdi_check.proofs.tiers.late_problems.Goals as goal
 
-pub returns : goal.returns
-returns g c =
+pub returns-clause-late : goal.returns-clause-late
+returns-clause-late g c =
     let d = c.args.deployment.now in
     let t = c.args.tables.now in
     let shapes = shape_of (entries_of c.args.bodies.now) in

@@ -1,7 +1,5 @@
-use Rattle.std.proofs.Common.{List, ap, sym, subst}
+use Rattle.std.proofs.Common.{sym, subst}
 use Rattle.std.specs.List.{All}
-use Rattle.cdi_beanlist.specs.declared.bean.Bean.{Bean}
-use Rattle.cdi_deployment.specs.declared.deployment.Class.{Class}
 use Rattle.cdi_plans.specs.Plans.{IsDeclared}
 use Rattle.cdi_tables.specs.declared.bean_tables.BeanTables.{BeanTables}
 use Rattle.cdi_run_tables.proofs.tables.plans_of.Goals as goal

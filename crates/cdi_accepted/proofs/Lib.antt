@@ -1,0 +1,13 @@
+pub mod Lists
+pub mod Duplicates
+pub mod Lines
+pub mod Repeats
+pub mod Members
+pub mod Fields
+pub mod Beans
+pub mod Registered
+pub mod Methods
+pub mod Acts
+pub mod Calls
+pub mod Texts
+pub mod Fitting
