@@ -98,25 +98,28 @@ module _ (s : Setting) where
       → (k ≡ frames.Closing → ⊥)
       → (k ≡ frames.Finishing → ⊥)
       → (k ≡ frames.GoingDown → ⊥)
+      → ((n b left : ℕ) (field : Name) → k ≡ frames.Injecting n b left field → ⊥)
       → GoesOn s k (completions.Threw x) w (nexts.Finished (outcomes.Ends (completions.Threw x))) w
-  threw_leads x (frames.AtEnd role) w h1 h2 h3 h4 h5 h6 h7 h8 h9 h10 h11 = Comes.same refl
-  threw_leads x (frames.Releasing n) w h1 h2 h3 h4 h5 h6 h7 h8 h9 h10 h11 = Comes.same refl
-  threw_leads x (frames.Freeing n) w h1 h2 h3 h4 h5 h6 h7 h8 h9 h10 h11 = Comes.same refl
-  threw_leads x frames.Dismissing w h1 h2 h3 h4 h5 h6 h7 h8 h9 h10 h11 = Comes.same refl
-  threw_leads x frames.Clearing w h1 h2 h3 h4 h5 h6 h7 h8 h9 h10 h11 = Comes.same refl
-  threw_leads x (frames.Reaching method args) w h1 h2 h3 h4 h5 h6 h7 h8 h9 h10 h11 = Comes.same refl
-  threw_leads x (frames.Borrowing method args) w h1 h2 h3 h4 h5 h6 h7 h8 h9 h10 h11 = Comes.same refl
-  threw_leads x frames.Emptying w h1 h2 h3 h4 h5 h6 h7 h8 h9 h10 h11 = Comes.same refl
-  threw_leads x frames.Stopping w h1 h2 h3 h4 h5 h6 h7 h8 h9 h10 h11 = absurd (h1 refl)
-  threw_leads x (frames.Answering r) w h1 h2 h3 h4 h5 h6 h7 h8 h9 h10 h11 = absurd (h2 r refl)
-  threw_leads x (frames.CleaningUp n) w h1 h2 h3 h4 h5 h6 h7 h8 h9 h10 h11 = absurd (h3 n refl)
-  threw_leads x frames.Exiting w h1 h2 h3 h4 h5 h6 h7 h8 h9 h10 h11 = absurd (h4 refl)
-  threw_leads x frames.Using w h1 h2 h3 h4 h5 h6 h7 h8 h9 h10 h11 = absurd (h5 refl)
-  threw_leads x (frames.Returning told) w h1 h2 h3 h4 h5 h6 h7 h8 h9 h10 h11 = absurd (h6 told refl)
-  threw_leads x frames.Initializing w h1 h2 h3 h4 h5 h6 h7 h8 h9 h10 h11 = absurd (h7 refl)
-  threw_leads x frames.Starting w h1 h2 h3 h4 h5 h6 h7 h8 h9 h10 h11 = absurd (h8 refl)
-  threw_leads x frames.Closing w h1 h2 h3 h4 h5 h6 h7 h8 h9 h10 h11 = absurd (h9 refl)
-  threw_leads x frames.Finishing w h1 h2 h3 h4 h5 h6 h7 h8 h9 h10 h11 = absurd (h10 refl)
-  threw_leads x frames.GoingDown w h1 h2 h3 h4 h5 h6 h7 h8 h9 h10 h11 = absurd (h11 refl)
+  threw_leads x (frames.AtEnd role) w h1 h2 h3 h4 h5 h6 h7 h8 h9 h10 h11 h12 = Comes.same refl
+  threw_leads x (frames.Releasing n) w h1 h2 h3 h4 h5 h6 h7 h8 h9 h10 h11 h12 = Comes.same refl
+  threw_leads x (frames.Freeing n) w h1 h2 h3 h4 h5 h6 h7 h8 h9 h10 h11 h12 = Comes.same refl
+  threw_leads x frames.Dismissing w h1 h2 h3 h4 h5 h6 h7 h8 h9 h10 h11 h12 = Comes.same refl
+  threw_leads x frames.Clearing w h1 h2 h3 h4 h5 h6 h7 h8 h9 h10 h11 h12 = Comes.same refl
+  threw_leads x (frames.Reaching method args) w h1 h2 h3 h4 h5 h6 h7 h8 h9 h10 h11 h12 = Comes.same refl
+  threw_leads x (frames.Borrowing method args) w h1 h2 h3 h4 h5 h6 h7 h8 h9 h10 h11 h12 = Comes.same refl
+  threw_leads x frames.Emptying w h1 h2 h3 h4 h5 h6 h7 h8 h9 h10 h11 h12 = Comes.same refl
+  threw_leads x (frames.Discarding n y) w h1 h2 h3 h4 h5 h6 h7 h8 h9 h10 h11 h12 = Comes.same refl
+  threw_leads x (frames.Injecting n b left field) w h1 h2 h3 h4 h5 h6 h7 h8 h9 h10 h11 h12 = absurd (h12 n b left field refl)
+  threw_leads x frames.Stopping w h1 h2 h3 h4 h5 h6 h7 h8 h9 h10 h11 h12 = absurd (h1 refl)
+  threw_leads x (frames.Answering r) w h1 h2 h3 h4 h5 h6 h7 h8 h9 h10 h11 h12 = absurd (h2 r refl)
+  threw_leads x (frames.CleaningUp n) w h1 h2 h3 h4 h5 h6 h7 h8 h9 h10 h11 h12 = absurd (h3 n refl)
+  threw_leads x frames.Exiting w h1 h2 h3 h4 h5 h6 h7 h8 h9 h10 h11 h12 = absurd (h4 refl)
+  threw_leads x frames.Using w h1 h2 h3 h4 h5 h6 h7 h8 h9 h10 h11 h12 = absurd (h5 refl)
+  threw_leads x (frames.Returning told) w h1 h2 h3 h4 h5 h6 h7 h8 h9 h10 h11 h12 = absurd (h6 told refl)
+  threw_leads x frames.Initializing w h1 h2 h3 h4 h5 h6 h7 h8 h9 h10 h11 h12 = absurd (h7 refl)
+  threw_leads x frames.Starting w h1 h2 h3 h4 h5 h6 h7 h8 h9 h10 h11 h12 = absurd (h8 refl)
+  threw_leads x frames.Closing w h1 h2 h3 h4 h5 h6 h7 h8 h9 h10 h11 h12 = absurd (h9 refl)
+  threw_leads x frames.Finishing w h1 h2 h3 h4 h5 h6 h7 h8 h9 h10 h11 h12 = absurd (h10 refl)
+  threw_leads x frames.GoingDown w h1 h2 h3 h4 h5 h6 h7 h8 h9 h10 h11 h12 = absurd (h11 refl)
 
 pub ruleset leads = (cut_leads, reached_leads, stopped_leads, exited_leads, cleaned_up_leads, freeing_leads, dismissing_leads, clearing_leads, returned_leads, threw_at_return, started_leads, gone_down_leads, starting_leads, closing_leads, finishing_leads, emptied_leads, stays_falls, lowers_falls)

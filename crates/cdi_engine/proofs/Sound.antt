@@ -75,6 +75,14 @@ module _ (tables : Tables) (legal : Legal) (Starved : Type 0) where
   from_comes {p = p} {v = v} {o = o} (Comes.calls {x = y} {c = c} n e d k) r =
       let ended : R (machine c) _ (runs.Ends n) y = from_next_stop (machine c) (subst (λ s. R s.0 s.1 (runs.Ends n) y) (sym d) (complete_runs n)) in
       from_next_stop p (subst (λ s. R s.0 s.1 o v) (sym e) (Runs.calls ended (from_comes k r)))
+  from_comes (Comes.looks c) (Runs.sees r) = from_comes c r
+  from_comes (Comes.looks c) (Runs.starves s) = from_comes c (Runs.starves s)
+  from_comes {p = p} {v = v} {o = o} (Comes.awaits e f) (Runs.calls {u = y} {o1 = runs.Ends n} a b) =
+      from_next_stop p (subst (λ s. R s.0 s.1 o v) (sym e) (Runs.calls a (from_comes (f n y) b)))
+  from_comes {p = p} {v = v} {o = o} (Comes.awaits e f) (Runs.calls {o1 = runs.Cut cause} a b) =
+      from_next_stop p (subst (λ s. R s.0 s.1 o v) (sym e) (Runs.calls a b))
+  from_comes {p = p} {v = v} (Comes.awaits e f) (Runs.starves h) =
+      from_next_stop p (subst (λ s. R s.0 s.1 (runs.Cut causes.Memory) v) (sym e) (Runs.starves h))
   from_comes {p = p} {v = v} {o = o} (Comes.picks i e l h c) r = from_next_stop p (subst (λ s. R s.0 s.1 o v) (sym e) (Runs.picks i l h (from_comes c r)))
 
   starved_in : {p : Prog Given} {w v : World} {o : runs.Outcome} → Starved → R (cut causes.Memory) w o v → R p w o v

@@ -10,7 +10,7 @@ use crate::step::{bodies, commands};
 use cdi_base::Name;
 use cdi_steps::ends::{cut, ended, null};
 use cdi_steps::task::{Call, Completion, Frame, Given, Next, Outcome, Task};
-use cdi_steps::{Host, destruction, invocations, obtaining};
+use cdi_steps::{Host, creation, destruction, invocations, obtaining};
 use std::alloc::AllocError;
 
 /// Goes on once what a frame waits for has ended.
@@ -54,6 +54,13 @@ fn go_on<H: Host>(host: &mut H, frame: Frame, given: Given) -> Result<Next, Allo
         Frame::AtEnd { role } => Ok(invocations::reached(host, role, given)),
         Frame::Stopping => Ok(bodies::stopped(host, Completion::Gave(given))),
         Frame::Answering(running) => bodies::answer(host, running, Completion::Gave(given)),
+        Frame::Injecting {
+            number,
+            bean,
+            left,
+            field,
+        } => creation::injected(host, number, bean, left, field, given),
+        Frame::Discarding { number, exception } => creation::discarded(host, number, exception),
         Frame::CleaningUp { number } => Ok(destruction::cleaned_up(host, number)),
         Frame::Releasing { number } => destruction::released(host, number),
         Frame::Freeing { number } => Ok(Next::Goes(Task::Start(Call::Release { number }))),
@@ -89,6 +96,12 @@ fn go_on_after<H: Host>(host: &mut H, frame: Frame, exception: Name) -> Result<N
     match frame {
         Frame::Stopping => Ok(bodies::stopped(host, threw)),
         Frame::Answering(running) => bodies::answer(host, running, threw),
+        Frame::Injecting {
+            number,
+            bean: _bean,
+            left: _left,
+            field: _field,
+        } => Ok(creation::fails(number, exception)),
         Frame::CleaningUp { number } => Ok(destruction::cleaned_up(host, number)),
         Frame::Exiting => Ok(invocations::exited(host, threw)),
         Frame::Using => Ok(commands::returning(host, threw)),

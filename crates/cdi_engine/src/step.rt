@@ -37,6 +37,9 @@ pub(crate) fn step<H: Host>(host: &mut H, task: Task) -> Result<Next, Failure>
             method,
             args,
         } => Ok(obtaining::using(host, bean_type, qualifiers, method, args)?),
+        Task::Creating { number, bean, left } => {
+            Ok(creation::creating(host, number, bean, left)?)
+        }
     }
 }
 

@@ -12,9 +12,9 @@ use cdi_beans::tables::Tables;
 use cdi_contexts::{Held, Status};
 use cdi_machine::{Driver, Failure};
 use cdi_steps::Host;
-use cdi_steps::beans::{BeanHead, Method, Resolution};
+use cdi_steps::beans::{BeanHead, Injection, Method, Resolution};
 use cdi_steps::task::Running;
-use cdi_store::{Component, Instance, Owner};
+use cdi_store::{Component, Instance, Owner, Reference};
 use cdi_world::{Invocation, World};
 use std::alloc::{AllocError, Global};
 use std::marker::Model;
@@ -140,6 +140,15 @@ impl<D: Driver> Host for Runtime<D> {
         }
     }
 
+    // No bean has injected fields yet.
+    fn injections(&self, _bean: u32) -> u32 {
+        0
+    }
+
+    fn injection(&self, _bean: u32, _at: u32) -> Option<Injection<'_>> {
+        None
+    }
+
     fn method(&self, bean: u32, name: Name) -> Option<Method> {
         match self.tables.method(&Code::Method { bean, method: name }) {
             Some(method) => Some(Method {
@@ -158,6 +167,11 @@ impl<D: Driver> Host for Runtime<D> {
             Resolved::Nothing => Resolution::Nothing,
             Resolved::Many => Resolution::Many,
         }
+    }
+
+    // Nor is an exception checked.
+    fn is_checked(&self, _exception: Name) -> bool {
+        false
     }
 
     fn text(&self, exception: Name) -> Option<&str> {
@@ -240,6 +254,14 @@ impl<D: Driver> Host for Runtime<D> {
 
     fn settle(&mut self, number: u32) -> Result<(), AllocError> {
         self.world.settle(number)
+    }
+
+    fn refer(&mut self, number: u32, field: Name, reference: Reference) -> Result<(), AllocError> {
+        self.world.refer(number, field, reference)
+    }
+
+    fn discard(&mut self, number: u32) {
+        self.world.discard(number);
     }
 
     fn leave(&mut self, number: u32) {

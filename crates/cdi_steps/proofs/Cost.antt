@@ -1,5 +1,5 @@
 -- Every run ends.
-use Rattle.std.proofs.Common.{ℕ, ◌≡◌, ◌<◌, ◌≤◌, ◌++◌, inl, inr, length, length-append, refl, ap, arith}
+use Rattle.std.proofs.Common.{ℕ, ◌≡◌, ◌^◌, ◌<◌, ◌≤◌, ◌++◌, inl, inr, length, length-append, refl, ap, arith}
 use Rattle.cdi_base.specs.declared.entry.Entry.{Entry}
 use Rattle.cdi_base.specs.declared.entry.Entry.TheVariants as entries
 use Rattle.cdi_machine.specs.Tables.{Tables}
@@ -30,15 +30,15 @@ use Rattle.cdi_steps.specs.declared.task.Frame.TheVariants as frames
 use Rattle.cdi_steps.specs.declared.task.Next.{Next}
 use Rattle.cdi_steps.specs.declared.task.Next.TheVariants as nexts
 
-call_below : (c : Call) → call_rank c < 6
+call_below : (c : Call) → call_rank c < 2 ^ 40
 call_below (calls.Obtain b) = omega arith
 call_below _ = omega arith
 
-rank_below : (t : Task) → rank t < 6
+rank_below : (t : Task) → rank t < 2 ^ 40
 rank_below (tasks.Start c) = call_below c
 rank_below _ = omega arith
 
-frame_below : (k : Frame) → frame_rank k < 6
+frame_below : (k : Frame) → frame_rank k < 2 ^ 40
 frame_below (frames.AtEnd role) = omega arith
 frame_below _ = omega arith
 
@@ -50,7 +50,7 @@ thrown_above : (k : Frame) → 0 < thrown_rank k
 thrown_above (frames.Freeing n) = omega arith
 thrown_above _ = omega arith
 
-gave_below : (p : Task) (k : Frame) → gave_rank p k < 6
+gave_below : (p : Task) (k : Frame) → gave_rank p k < 2 ^ 40
 gave_below (tasks.Start (calls.Destroy n)) k = omega arith
 gave_below (tasks.Start (calls.Obtain b)) k = frame_below k
 gave_below (tasks.Start (calls.Create b owner)) k = frame_below k
@@ -63,8 +63,9 @@ gave_below (tasks.Start calls.Dismiss) k = frame_below k
 gave_below (tasks.Start calls.Clear) k = frame_below k
 gave_below (tasks.Begin job) k = frame_below k
 gave_below (tasks.Using type uses method args) k = frame_below k
+gave_below (tasks.Creating n b left) k = frame_below k
 
-weight_below : (x : Next) → weight x < 6
+weight_below : (x : Next) → weight x < 2 ^ 40
 weight_below (nexts.Finished o) = omega arith
 weight_below (nexts.Goes p) = rank_below p
 weight_below (nexts.Needs p k) =
@@ -139,6 +140,7 @@ module _ (tables : Tables) (legal : Legal) where
       by (tasks.Start calls.Clear) r = let g = goes_left (goes tables legal ⊥ r) in omega arith
       by (tasks.Begin job) r = let g = goes_left (goes tables legal ⊥ r) in omega arith
       by (tasks.Using type uses method args) r = let g = goes_left (goes tables legal ⊥ r) in omega arith
+      by (tasks.Creating m b left) r = let g = goes_left (goes tables legal ⊥ r) in omega arith
 
   pub back_falls : (d : Task) (k : Frame) (o : Outcome) (next : Next) (v x y : World) → Runs tables legal ⊥ (first d) v (outcome_of o) x
       → Falls (back_rank k o) x next y → cost (weight next) y < cost (weight (nexts.Needs d k)) v

@@ -3,7 +3,10 @@ pub mod Narrowing
 pub mod Cost
 pub mod AfterEntries
 pub mod Heads
+pub mod LastSteps
+pub mod Looks
 pub mod CreationSteps
+pub mod InjectionSteps
 pub mod InvocationSteps
 pub mod ObtainingSteps
 pub mod DestructionSteps

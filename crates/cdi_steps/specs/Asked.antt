@@ -1,5 +1,5 @@
 -- What is asked of the tables and of the world, as the definition has it.
-use Rattle.std.specs.Prelude.{ℕ, ◌^◌, ◌<◌, List, [], ◌∷◌, ◌≡◌, length, Bool, true, false, Option, Some, None, nat_lt, option_map, option_and_then}
+use Rattle.std.specs.Prelude.{ℕ, ◌^◌, ◌<◌, List, [], ◌∷◌, ◌≡◌, ◌-◌, length, drop, Bool, true, false, Option, Some, None, nat_lt, option_map, option_and_then}
 use Rattle.cdi_base.specs.declared.scope.Scope.{Scope}
 use Rattle.cdi_base.specs.declared.scope.Scope.TheVariants as scopes
 use Rattle.cdi_base.specs.declared.uses.Use.{Use}
@@ -14,7 +14,7 @@ use Rattle.cdi_contexts.specs.declared.context.Status.{Status}
 use Rattle.cdi_contexts.specs.Contexts.{active_context, entry_in}
 use Rattle.cdi_machine.specs.Words.{Name, Fields, Asked}
 use Rattle.cdi_machine.specs.Tables as machine
-use Rattle.cdi_machine.specs.Tables.{Tables, Bean, Managed, Lifecycle, Method, Kind}
+use Rattle.cdi_machine.specs.Tables.{Tables, Bean, Managed, Lifecycle, Method, Kind, Step}
 use Rattle.cdi_machine.specs.Creation.{first_fields}
 use Rattle.cdi_machine.specs.World.{World}
 use Rattle.cdi_machine.specs.Destruction.{latest}
@@ -49,18 +49,30 @@ is_served_scope _ = false
 abbrev pub no_lifecycle : Lifecycle
 no_lifecycle = record { chain = []; callbacks = [] }
 
--- a managed bean of one of these scopes, whose creation has no steps, and whose destruction calls nothing
+-- a managed bean of one of these scopes, whose destruction calls nothing
 pub record IsServedBean (bean : Bean) : Type 0 where
   pub class : Managed
   pub is_class : bean.kind ≡ Kind.Class class
   pub scope : is_served_scope bean.scope ≡ true
-  pub plan : class.plan ≡ []
   pub pre_destroy : class.pre_destroy ≡ no_lifecycle
 
 -- the fields of a new instance
 abbrev pub fields_of : Option Bean → Fields
 fields_of None = []
 fields_of (Some bean) = first_fields bean.kind
+
+-- the steps by which an instance is created
+abbrev pub plan_in : Kind → List Step
+plan_in (Kind.Class c) = c.plan
+plan_in (Kind.Producer p) = []
+
+abbrev pub plan_of : Option Bean → List Step
+plan_of None = []
+plan_of (Some bean) = plan_in bean.kind
+
+-- so many steps, the last ones
+abbrev pub last_of : {X : Type 0} → ℕ → List X → List X
+last_of left xs = drop (length xs - left) xs
 
 -- no interceptor stands round a method
 abbrev pub machine_method : CodeMethod → Method

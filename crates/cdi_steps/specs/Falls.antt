@@ -1,5 +1,5 @@
 -- What each step lowers, so that every run ends: the entries that are left, and then a rank.
-use Rattle.std.specs.Prelude.{ℕ, ◌≡◌, ◌+◌, ◌-◌, ◌*◌, ◌^◌, ◌<◌, ◌⊎◌, max, length}
+use Rattle.std.specs.Prelude.{ℕ, ◌≡◌, ◌+◌, ◌-◌, ◌*◌, ◌^◌, ◌<◌, ◌⊎◌, min, max, length}
 use Rattle.cdi_machine.specs.World.{World}
 use Rattle.cdi_steps.specs.declared.task.Call.{Call}
 use Rattle.cdi_steps.specs.declared.task.Call.TheVariants as calls
@@ -25,16 +25,23 @@ call_rank (calls.Fire event) = 1
 call_rank calls.Dismiss = 2
 call_rank calls.Clear = 2
 
+-- of a creation by the steps that are left, of which no plan has more
+abbrev pub creation_rank : ℕ → ℕ
+creation_rank left = 2 * min left (2 ^ 32) + 2
+
 abbrev pub rank : Task → ℕ
 rank (tasks.Start c) = call_rank c
 rank (tasks.Begin job) = 5
 rank (tasks.Using type uses method args) = 4
+rank (tasks.Creating n b left) = creation_rank left
 
 -- what comes after the frame's call, if that gave something
 abbrev pub frame_rank : Frame → ℕ
 frame_rank (frames.AtEnd role) = 1
 frame_rank frames.Stopping = 1
 frame_rank (frames.Answering r) = 2
+frame_rank (frames.Injecting n b left field) = creation_rank left + 1
+frame_rank (frames.Discarding n x) = 1
 frame_rank (frames.CleaningUp n) = 3
 frame_rank (frames.Releasing n) = 1
 frame_rank (frames.Freeing n) = 3
@@ -79,7 +86,7 @@ abbrev pub entries_left : World → ℕ
 entries_left w = w.ticks - length w.trace
 
 abbrev pub cost : ℕ → World → ℕ
-cost n w = entries_left w * 2 ^ 40 + n * 2 ^ 34
+cost n w = entries_left w * 2 ^ 40 + n
 
 pub record SameTrace (w v : World) : Type 0 where
   pub trace : v.trace ≡ w.trace

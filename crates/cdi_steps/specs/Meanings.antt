@@ -15,15 +15,16 @@ use Rattle.cdi_store.specs.declared.instance.Owner.TheVariants as owners
 use Rattle.cdi_machine.specs.Words.{Name, Fields, Asked}
 use Rattle.cdi_machine.specs.World.{Change}
 use Rattle.cdi_machine.specs.Programs as machine
-use Rattle.cdi_machine.specs.Programs.{Given, Number, Prog, ret, throw, cut, miss, see, change, tick, mark, act, choose, nested, handle, finally, quietly, do_nothing, tell_missing, complete, call, finish, note, alter, each, require_number, resolve, groups_of, ◌>>=◌, ◌>>◌}
+use Rattle.cdi_machine.specs.Programs.{Given, Number, Prog, ret, throw, cut, miss, see, change, tick, mark, act, choose, nested, handle, finally, quietly, do_nothing, tell_missing, complete, call, finish, note, alter, each, require_number, resolve, groups_of, rethrow, ◌>>=◌, ◌>>◌}
 use Rattle.cdi_machine.specs.Machine as definition
 use Rattle.cdi_machine.specs.Contexts.{direct_reference, refer_to, reach_instance, require_living}
-use Rattle.cdi_machine.specs.Creation.{make_ready}
+use Rattle.cdi_machine.specs.Tables.{Step}
+use Rattle.cdi_machine.specs.Creation.{create_by, take_step}
 use Rattle.cdi_machine.specs.Bodies.{given_by, invoke_method, answer_of, with_answer}
 use Rattle.cdi_machine.specs.Destruction.{give_back, clean_up}
 use Rattle.cdi_machine.specs.Events.{fire_context_event, fire_container_event}
 use Rattle.cdi_machine.specs.Commands.{task, close}
-use Rattle.cdi_steps.specs.Asked.{asked_for}
+use Rattle.cdi_steps.specs.Asked.{asked_for, plan_of, last_of}
 use Rattle.cdi_steps.specs.Words.{completion_of, running_of, task_of, command_of}
 use Rattle.cdi_steps.specs.declared.task.Given.{Given as CodeGiven}
 use Rattle.cdi_steps.specs.declared.task.Given.TheVariants as givens
@@ -47,10 +48,38 @@ told _ = answers.Done values.Null
 
 -- ---- ends of the definition's programs
 
-abbrev pub make_instance : ℕ → ℕ → Owner → Fields → Prog Given
-make_instance n b owner fields = do
+-- a creation, with the steps that are left of it
+abbrev pub create_on : ℕ → List Step → Prog Given
+create_on n steps = create_by n do
+  each steps (take_step n)
+  ret (Number n)
+
+abbrev pub make_instance : ℕ → ℕ → Owner → Fields → List Step → Prog Given
+make_instance n b owner fields steps = do
   alter (Change.Make (components.Bean b) owner fields)
-  make_ready n
+  create_on n steps
+
+-- the last steps of a bean's plan, so many
+abbrev pub carry_on_creating : ℕ → ℕ → ℕ → Prog Given
+carry_on_creating n b left = see λ t w. create_on n (last_of left (plan_of (t.bean b)))
+
+-- an injected field has what was made for it, and the creation goes on
+abbrev pub inject_made : ℕ → Name → List Step → machine.Completion Given → Prog Given
+inject_made n field steps c = create_by n do
+  made ← complete c
+  alter (Change.Refer n field (direct_reference made))
+  each steps (take_step n)
+  ret (Number n)
+
+abbrev pub carry_on_injecting : ℕ → ℕ → ℕ → Name → machine.Completion Given → Prog Given
+carry_on_injecting n b left field c = see λ t w. inject_made n field (last_of left (plan_of (t.bean b))) c
+
+-- the end of a creation that failed
+abbrev pub drop_instance : ℕ → Name → Prog Given
+drop_instance n x = do
+  note (entries.Drop n)
+  alter (Change.Discard n)
+  rethrow x built_in.CreationException
 
 abbrev pub start_body : machine.Running → Prog Given
 start_body r = do
@@ -155,12 +184,15 @@ abbrev pub rest : Task → Prog Given
 rest (tasks.Start c) = call (task_of c)
 rest (tasks.Begin job) = task (command_of job)
 rest (tasks.Using type uses method args) = use_for (asked_for type uses) method args
+rest (tasks.Creating n b left) = carry_on_creating n b left
 
 -- what a frame does once the call or the part has ended
 abbrev pub waits : Frame → machine.Completion Given → Prog Given
 waits (frames.AtEnd role) c = complete c >>= λ g. reach_end (given_by role g)
 waits frames.Stopping c = end_with Change.Stop c
 waits (frames.Answering r) c = go_on_with (running_of r.value) c
+waits (frames.Injecting n b left field) c = carry_on_injecting n b left field c
+waits (frames.Discarding n x) c = complete c >> drop_instance n x
 waits (frames.CleaningUp n) c = end_clean_up n
 waits (frames.Releasing n) c = complete c >> let_go n
 waits (frames.Freeing n) c = complete c >> call (machine.Release n)

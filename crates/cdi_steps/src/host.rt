@@ -1,28 +1,29 @@
 //! What the engine works upon: the tables of a deployment, a driver, and a world.
-use crate::beans::{BeanHead, Method, Resolution};
+use crate::beans::{BeanHead, Injection, Method, Resolution};
 use crate::task::Running;
 use cdi_base::{Act, Entry, Fields, Name, Scope, Use, Value};
 use cdi_contexts::{Held, Status};
 use cdi_machine::Failure;
-use cdi_store::{Component, Instance, Owner};
+use cdi_store::{Component, Instance, Owner, Reference};
 use cdi_world::Invocation;
 use std::alloc::{AllocError, Global};
 
 /// All that the engine asks and changes. Each change of the world is one of the machine's definition. Asking the driver
 /// may end what was legal; nothing becomes legal by it.
 pub trait Host {
-    ghost use Rattle.std.specs.Prelude.{ℕ, ◌≡◌, ◌<◌, ◌^◌, ◌↔◌, List, [], length, option_map, IfOk, IfErr, OnOk, OnErr, IfSome, IsSome, IsTrue};
+    ghost use Rattle.std.specs.Prelude.{ℕ, ◌≡◌, ◌<◌, ◌^◌, ◌↔◌, List, [], length, slice_get, option_map, IfOk, IfErr, OnOk, OnErr, IfSome, IsSome, IsTrue};
     ghost use Rattle.cdi_base.specs.declared.uses.Use.{Use as AnyUse};
     ghost use Rattle.cdi_base.specs.declared.scope.Scope.TheVariants.{ApplicationScoped};
     ghost use Rattle.cdi_store.specs.declared.instance.Context.TheVariants.{Application};
     ghost use Rattle.cdi_contexts.specs.Contexts.{context_at};
     ghost use Rattle.cdi_machine.specs.World.{World, after_change, with_entry, instance_at, no_environment};
-    ghost use Rattle.cdi_machine.specs.World.Change.{Make, Settle, Leave, Remove, Assign, Finish, Close, Stand, Enter, Reach, Exit, Start, Stop, Borrow, Return, Down};
+    ghost use Rattle.cdi_machine.specs.World.Change.{Make, Settle, Refer, Discard, Leave, Remove, Assign, Finish, Close, Stand, Enter, Reach, Exit, Start, Stop, Borrow, Return, Down};
     ghost use Rattle.cdi_machine.specs.Destruction.{greatest_in};
     ghost use Rattle.cdi_machine.specs.Failures.{IsFailureOf};
+    ghost use Rattle.cdi_machine.specs.Tables.Step.{Inject};
     ghost use Rattle.cdi_steps.specs.Setting.{Setting, Narrows, GivesTo, is_served, knows_member};
     ghost use Rattle.cdi_store.specs.Owned.{dependents_in};
-    ghost use Rattle.cdi_steps.specs.Asked.{asked_for, machine_resolution, head_of, IsServedBean, fields_of, machine_method};
+    ghost use Rattle.cdi_steps.specs.Asked.{asked_for, machine_resolution, head_of, IsServedBean, fields_of, plan_of, machine_method};
     ghost use Rattle.cdi_steps.specs.Asked.{method_at, status_in, held_in, number_left, latest_in, top_of};
 
     /// The tables, what is legal, which bodies there are, and whether the driver may have nothing to give.
@@ -43,6 +44,15 @@ pub trait Host {
     fn first_fields(&self, bean: u32) -> Result<Fields, AllocError>
         ensures { IfOk result (λ fields. fields ≡ fields_of ((setting self.now).tables.bean bean)) };
 
+    /// How many steps the creation of an instance of the bean with an index has.
+    fn injections(&self, bean: u32) -> u32
+        ensures { length (plan_of ((setting self.now).tables.bean bean)) ≡ result };
+
+    /// A step of this creation: each injects a field (Jakarta CDI 4.0, *Injected fields*).
+    fn injection(&self, bean: u32, at: u32) -> Option<Injection<'_>>
+        ensures { slice_get (plan_of ((setting self.now).tables.bean bean)) at
+            ≡ option_map (λ i. Inject i.field (asked_for i.bean_type i.qualifiers.now)) result };
+
     /// A business method of the bean with an index; its body is one that there is.
     fn method(&self, bean: u32, name: Name) -> Option<Method>
         ensures found { method_at (setting self.now).tables bean name
@@ -53,6 +63,10 @@ pub trait Host {
     fn resolve(&self, bean_type: Name, qualifiers: &[Use]) -> Resolution
         ensures { (setting self.now).tables.resolve (asked_for bean_type qualifiers.now)
             ≡ machine_resolution result };
+
+    /// Whether an exception's class is checked.
+    fn is_checked(&self, exception: Name) -> bool
+        ensures { (setting self.now).tables.is_checked exception ≡ result };
 
     /// The text of an exception's class.
     fn text(&self, exception: Name) -> Option<&str>
@@ -156,6 +170,18 @@ pub trait Host {
         ensures ok { OnOk result (world self.new
             ≡ after_change (Settle number) (world self.old)) }
         ensures err { OnErr result (world self.new ≡ world self.old) }
+        ensures narrows { Narrows (setting self.old) (setting self.new) };
+
+    /// An injected field of the instance has a reference. Memory can be wanting; on an error nothing changes.
+    fn refer(&mut self, number: u32, field: Name, reference: Reference) -> Result<(), AllocError>
+        ensures ok { OnOk result (world self.new
+            ≡ after_change (Refer number field reference) (world self.old)) }
+        ensures err { OnErr result (world self.new ≡ world self.old) }
+        ensures narrows { Narrows (setting self.old) (setting self.new) };
+
+    /// The creation of the instance has failed: it is gone, and its context has it no longer.
+    fn discard(&mut self, number: u32)
+        ensures world { world self.new ≡ after_change (Discard number) (world self.old) }
         ensures narrows { Narrows (setting self.old) (setting self.new) };
 
     /// The destruction of the instance begins: nothing has it any more.

@@ -20,7 +20,7 @@ use cdi_store::{Context, Owner, Phase};
 use std::alloc::AllocError;
 
 /// Whether a scope is a normal one (Jakarta CDI 4.0, *Normal scopes and pseudo-scopes*).
-fn is_normal(scope: Scope) -> bool
+pub(crate) fn is_normal(scope: Scope) -> bool
     ensures { is_normal scope ≡ result }
 {
     !matches!(scope, Scope::Dependent)

@@ -111,31 +111,63 @@ pub enum Task {
         method: Name,
         args: Seq<Value>,
     },
+    /// The rest of an instance's creation, of which so many steps are left.
+    Creating {
+        number: u32,
+        bean: u32,
+        left: u32,
+    },
 }
 
 /// What waits for the outcome of a call, or of a part.
 #[derive(Drop)]
 pub enum Frame {
     /// The end of a chain waits for its body.
-    AtEnd { role: InterceptorMethod },
+    AtEnd {
+        role: InterceptorMethod,
+    },
     /// A body waits for the end of its acts.
     Stopping,
     /// A body waits for what it asked for.
     Answering(Box<Running>),
+    /// A creation, with so many steps left, waits for what an injected field is to have.
+    Injecting {
+        number: u32,
+        bean: u32,
+        left: u32,
+        field: Name,
+    },
+    /// A creation that failed waits for the dependents.
+    Discarding {
+        number: u32,
+        exception: Name,
+    },
     /// A destruction waits for its callbacks, whatever they throw.
-    CleaningUp { number: u32 },
+    CleaningUp {
+        number: u32,
+    },
     /// A destruction waits for the dependents.
-    Releasing { number: u32 },
+    Releasing {
+        number: u32,
+    },
     /// The dependents that are left wait for the destruction of one.
-    Freeing { number: u32 },
+    Freeing {
+        number: u32,
+    },
     /// The temporaries that are left wait for the destruction of one.
     Dismissing,
     /// What is left in the application context waits for the destruction of one.
     Clearing,
     /// A command waits for the contextual instance.
-    Reaching { method: Name, args: Seq<Value> },
+    Reaching {
+        method: Name,
+        args: Seq<Value>,
+    },
     /// A command waits for an instance of its own.
-    Borrowing { method: Name, args: Seq<Value> },
+    Borrowing {
+        method: Name,
+        args: Seq<Value>,
+    },
     /// An invocation waits for its chain.
     Exiting,
     /// A command waits for its use of the bean.

@@ -2,11 +2,11 @@
 ghost use Rattle.std.specs.Prelude.{◌≡◌, IsErr, IsSome, OnOk, OnErr};
 ghost use Rattle.std.specs.Option.{option_copied};
 ghost use Rattle.cdi_base.specs.Maps.{at};
-ghost use Rattle.cdi_store.specs.Live.{owner_at, with_field, with_leaving, with_ready};
+ghost use Rattle.cdi_store.specs.Live.{owner_at, with_field, with_leaving, with_ready, with_reference};
 ghost use Rattle.cdi_store.specs.Live.{without_instance};
 
 use cdi_base::{Name, Value};
-use cdi_store::{Instance, Store};
+use cdi_store::{Instance, Reference, Store};
 use std::alloc::AllocError;
 
 /// The live instance with a number.
@@ -27,6 +27,28 @@ pub(crate) fn set_in(store: &mut Store, number: u32, field: Name, value: Value)
 {
     if let Some(key) = store.key(number) {
         let _ = store.set(key, field, value);
+    }
+}
+
+/// Gives an injected field of the instance a reference, if the instance is there. Memory can be wanting only where
+/// the field has none yet. On an error nothing changes.
+pub(crate) fn refer_in(
+    store: &mut Store,
+    number: u32,
+    field: Name,
+    reference: Reference,
+) -> Result<(), AllocError>
+    ensures ok { OnOk result (store.new ≡ record store.old {
+      instances = with_reference number field reference store.old.instances;
+    }) }
+    ensures err { OnErr result (store.new ≡ store.old) }
+{
+    let Some(key) = store.key(number) else {
+        return Ok(());
+    };
+    match store.refer(key, field, reference) {
+        Ok(()) => Ok(()),
+        Err(_) => Err(AllocError),
     }
 }
 

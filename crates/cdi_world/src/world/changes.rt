@@ -3,12 +3,13 @@ ghost use Rattle.std.specs.Prelude.{◌≡◌, OnOk, OnErr};
 ghost use Rattle.cdi_store.specs.declared.instance.Context.TheVariants.{Application};
 ghost use Rattle.cdi_machine.specs.World.{after_change};
 ghost use Rattle.cdi_machine.specs.World.Change.{Assign, Close, Discard, Down, Finish, Leave};
-ghost use Rattle.cdi_machine.specs.World.Change.{Remove, Settle};
+ghost use Rattle.cdi_machine.specs.World.Change.{Refer, Remove, Settle};
 
 use super::World;
 use crate::home::Home;
-use crate::numbered::{free_in, set_in};
+use crate::numbered::{free_in, refer_in, set_in};
 use cdi_base::{Name, Value};
+use cdi_store::Reference;
 use std::alloc::AllocError;
 
 impl World {
@@ -66,6 +67,20 @@ impl World {
         ensures { self.new ≡ after_change (Assign number field value) self.old }
     {
         set_in(&mut self.store, number, field, value);
+    }
+
+    /// Gives an injected field of the instance a reference (Jakarta CDI 4.0, *Injected fields*). A number
+    /// that no live instance has changes nothing; nor does an error.
+    pub fn refer(
+        &mut self,
+        number: u32,
+        field: Name,
+        reference: Reference,
+    ) -> Result<(), AllocError>
+        ensures ok { OnOk result (self.new ≡ after_change (Refer number field reference) self.old) }
+        ensures err { OnErr result (self.new ≡ self.old) }
+    {
+        refer_in(&mut self.store, number, field, reference)
     }
 
     /// The application is being destroyed: no more instances are made in it (Jakarta CDI 4.0, *The

@@ -82,3 +82,11 @@ returns-in-Emptying-clause-leads g c =
 pub returns-in-GoingDown-clause-leads : goal.returns-in-GoingDown-clause-leads
 returns-in-GoingDown-clause-leads g c =
     rw (c.in-GoingDown.is, c.gone_down.ensures.next, c.gone_down.ensures.world) (gone_down_leads (g.H.Host.setting c.args.host.now) (completions.Gave c.args.given) (g.H.Host.world c.args.host.now))
+
+pub returns-in-Injecting-clause-leads : goal.returns-in-Injecting-clause-leads
+returns-in-Injecting-clause-leads g c =
+    rw c.in-Injecting.is c.injected.ensures.leads
+
+pub returns-in-Discarding-clause-leads : goal.returns-in-Discarding-clause-leads
+returns-in-Discarding-clause-leads g c =
+    rw c.in-Discarding.is c.discarded.ensures.leads

@@ -21,4 +21,4 @@ returns-clause-leads g c =
 
 pub returns-clause-on_way : goal.returns-clause-on_way
 returns-clause-on_way g c =
-    map_err c.make.result (λ h. create_on_way (g.H.Host.setting c.args.host.now) c.args.bean c.args.owner c.in-Some.head c.in-Some-next_number.number (g.H.Host.world c.args.host.now) (g.H.Host.world c.write.new.host) (is_there ((g.H.Host.setting c.args.host.now).tables.bean c.args.bean) c.in-Some.head c.in-Some.ensures.found c.in-Some.ensures.served) c.in-Some-next_number.ensures c.in_ok-fields.fields (g.H.Host.world c.make.new.host) c.in_ok-fields.ensures c.in_ok-write.ensures.narrows (rw c.if-not-branch.false at c.in_ok-write.ensures.noted) h) c.make.ensures.on_way
+    map_err c.make.result (λ h. create_on_way (g.H.Host.setting c.args.host.now) c.args.bean c.args.owner c.in-Some.head c.in-Some-next_number.number (g.H.Host.world c.args.host.now) (g.H.Host.world c.write.new.host) (is_there ((g.H.Host.setting c.args.host.now).tables.bean c.args.bean) c.in-Some.head c.in-Some.ensures.found c.in-Some.ensures.served) c.in-Some-next_number.ensures (g.H.Host.world c.make.new.host) (rw c.if-not-branch.false at c.in_ok-write.ensures.noted) h) c.make.ensures.kept
