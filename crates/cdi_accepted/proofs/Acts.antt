@@ -1,35 +1,23 @@
 -- The methods of an enabled bean give only acts that are served.
-use Rattle.std.proofs.Common.{ℕ, ◌≡◌, ◌∙◌, ◌+◌, ◌<◌, ◌≤◌, ◌||◌, ◌&&◌, ◌⊎◌, inl, inr, Bool, true, false, not, cond, nat_eq, List, [], ◌∷◌, ◌++◌, length, map, Option, Some, None, refl, sym, ap, subst, arith}
-use Rattle.std.specs.Prelude.{nat_lt, option_and_then, option_map, MatchOption, IfSome, slice_get}
-use Rattle.std.proofs.lemmas.Bool.{and_parts, both_ways, eqb-true, ltb-true, not-false, not-true, or_cases, true≢false}
-use Rattle.std.proofs.lemmas.List.Folds.{list_any-append}
-use Rattle.std.proofs.lemmas.Option.{same_Some}
-use Rattle.std.specs.List.{filter_map, find, flat_map, list_all, list_any}
-use Rattle.cdi_base.specs.Fields.{has}
-use Rattle.cdi_base.specs.Maps.{at}
+use Rattle.std.proofs.Common.{ℕ, ◌≡◌, ◌∙◌, ◌||◌, ◌&&◌, ◌⊎◌, inl, inr, Bool, true, false, not, nat_eq, List, [], ◌∷◌, length, sym, ap, subst, arith}
+use Rattle.std.specs.Prelude.{nat_lt}
+use Rattle.std.proofs.lemmas.Bool.{and_parts, eqb-true, ltb-true, not-false, not-true, or_cases, true≢false}
+use Rattle.std.specs.List.{list_all, list_any}
 use Rattle.cdi_base.specs.declared.act.Act.{Act}
 use Rattle.cdi_base.specs.declared.act.Act.TheVariants as acts
 use Rattle.cdi_base.specs.declared.act.Via.{Via}
 use Rattle.cdi_base.specs.declared.act.Via.TheVariants as vias
-use Rattle.cdi_bean_check.specs.Qualifiers.{full_uses}
-use Rattle.cdi_beanlist.specs.Beans.{bean_member}
-use Rattle.cdi_beanlist.specs.declared.bean.Bean.{Bean}
-use Rattle.cdi_beanlist.specs.declared.bean.BeanMember.{BeanMember}
-use Rattle.cdi_bodies.specs.Gives.{Promises, gives, shape_at, LieInShape}
 use Rattle.cdi_bodies.specs.Shape.{in_shape, is_thrown, last_answer, via_eq}
-use Rattle.cdi_bodies.specs.declared.entry.Entry.{Entry}
-use Rattle.cdi_bodies.specs.declared.shape.Lookup.{Lookup}
 use Rattle.cdi_bodies.specs.declared.shape.MethodCall.{MethodCall}
 use Rattle.cdi_bodies.specs.declared.shape.OwnCall.{OwnCall}
 use Rattle.cdi_bodies.specs.declared.shape.Shape.{Shape}
 use Rattle.cdi_bodies.specs.declared.view.View.{View}
 use Rattle.cdi_deployment.specs.declared.deployment.Class.{Class}
-use Rattle.cdi_deployment.specs.declared.deployment.Deployment.{Deployment}
 use Rattle.cdi_run_tables.specs.Machine.{has_none}
 use Rattle.cdi_run_tables.specs.Served.{is_field, is_served_shape}
 use Rattle.cdi_shape_check.specs.Application.{Application}
 use Rattle.cdi_shape_check.specs.BodyOutsideShape.{lacks_call, lacks_cell, lacks_field, lacks_method, names_missing, names_unknown}
-use Rattle.cdi_shape_check.specs.OwnParts.{OwnParts, declares_method, has_field, injected_field, parts_of_line}
+use Rattle.cdi_shape_check.specs.OwnParts.{declares_method, has_field, parts_of_line}
 use Rattle.cdi_shape_check.specs.References.{is_call_missing, point_at}
 use Rattle.cdi_shape_check.specs.WrittenNames.{is_event, is_exception, is_lookup}
 use Rattle.cdi_accepted.proofs.Lists.{Among, all_pass, neither, none_passes, passing}

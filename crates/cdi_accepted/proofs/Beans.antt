@@ -1,19 +1,15 @@
 -- An enabled bean of a container that is served, with its plan and the line of its class.
-use Rattle.std.proofs.Common.{ℕ, zero, suc, ◌≡◌, ◌∙◌, ◌+◌, ◌&&◌, ◌⊎◌, inl, inr, Bool, true, false, cond, nat_eq, List, [], ◌∷◌, ◌++◌, filter, map, Option, Some, None, refl, sym, ap, subst, arith}
+use Rattle.std.proofs.Common.{ℕ, zero, suc, ◌≡◌, ◌∙◌, ◌+◌, inl, inr, Bool, true, false, cond, nat_eq, List, [], ◌∷◌, map, Option, Some, refl, sym, ap, subst, arith}
 use Rattle.std.proofs.lemmas.Bool.{and_parts, eq-eqb, eqb-true, true≢false}
 use Rattle.std.proofs.lemmas.Option.{same_Some}
 use Rattle.std.specs.List.{AllZip, enumerate_from, flat_map, list_all, slice_get}
 use Rattle.cdi_base.specs.Maps.{at}
-use Rattle.cdi_bean_check.specs.Inherited.{AreMembersOf}
 use Rattle.cdi_beanlist.specs.Beans.{IsBeanOf, Source, bean_member, sources_in}
-use Rattle.cdi_beanlist.specs.Problems.{IsMadeOf}
 use Rattle.cdi_beanlist.specs.declared.bean.Bean.{Bean}
-use Rattle.cdi_beanlist.specs.declared.bean.BeanKind.{BeanKind}
 use Rattle.cdi_beanlist.specs.declared.bean.BeanKind.TheVariants as kinds
 use Rattle.cdi_deployment.specs.declared.deployment.Class.{Class}
 use Rattle.cdi_deployment.specs.declared.deployment.Constructor.{Constructor}
 use Rattle.cdi_deployment.specs.declared.deployment.Deployment.{Deployment}
-use Rattle.cdi_deployment.specs.declared.deployment.Member.{Member}
 use Rattle.cdi_members.proofs.Lines.{one_line}
 use Rattle.cdi_members.specs.Line.{IsLineOf}
 use Rattle.cdi_members.specs.Members.{members_of}
@@ -175,7 +171,7 @@ has_plan t tabled e b listed stands =
     let planning = plan_tables d t.tables in
     let found = beside (IsPlanned planning) t.tables.resolver.beans t.beans b listed tabled.planned stands in
     let served : is_served_bean found.item ≡ true =
-        all_pass is_served_bean t.beans found.item (and_parts (list_all is_served_bean t.beans) (has_texts d) e).0 (at_among t.beans b found.item found.stands) in
+    all_pass is_served_bean t.beans found.item (and_parts (list_all is_served_bean t.beans) (has_texts d) e).0 (at_among t.beans b found.item found.stands) in
     let plan = served_plan planning listed found.item.plan (and_parts _ (is_served_plan found.item.plan) served).1 found.related.plan in
     let Q : List TypeDeclaration → Type 0 = λ types. IsLineOf types d.classes listed.class plan.by.line in
     let is_line : IsLineOf (declarations_of d) d.classes listed.class plan.by.line = subst Q tabled.tables.are.declared.types plan.by.is_line in

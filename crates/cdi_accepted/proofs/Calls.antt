@@ -1,13 +1,10 @@
 -- What is injected into an enabled bean answers the calls of its bodies.
-use Rattle.std.proofs.Common.{ℕ, ◌≡◌, ◌∙◌, ◌||◌, ◌&&◌, ◌⊎◌, inl, inr, Bool, true, false, not, cond, nat_eq, List, [], ◌∷◌, ◌++◌, map, Option, Some, None, refl, sym, ap, subst}
+use Rattle.std.proofs.Common.{ℕ, ◌≡◌, ◌∙◌, inl, inr, true, false, nat_eq, List, [], ◌∷◌, ◌++◌, Option, Some, None, refl, sym, ap, subst}
 use Rattle.std.specs.Prelude.{option_map}
 use Rattle.std.proofs.lemmas.Bool.{and_parts, eqb-true, not-false, true≢false}
-use Rattle.std.proofs.lemmas.List.Folds.{list_any-append}
 use Rattle.std.proofs.lemmas.Option.{same_Some}
-use Rattle.std.specs.List.{find, flat_map, list_any}
+use Rattle.std.specs.List.{flat_map, list_any}
 use Rattle.cdi_base.specs.Maps.{at}
-use Rattle.cdi_base.specs.declared.act.Via.{Via}
-use Rattle.cdi_base.specs.declared.act.Via.TheVariants as vias
 use Rattle.cdi_bean_check.specs.Qualifiers.{full_uses}
 use Rattle.cdi_beanlist.specs.Beans.{bean_member}
 use Rattle.cdi_beanlist.specs.declared.bean.Bean.{Bean}
@@ -21,8 +18,6 @@ use Rattle.cdi_check.specs.Tables.{setting_by}
 use Rattle.cdi_deployment.specs.declared.deployment.Class.{Class}
 use Rattle.cdi_deployment.specs.declared.deployment.Deployment.{Deployment}
 use Rattle.cdi_deployment.specs.declared.deployment.InjectedField.{InjectedField}
-use Rattle.cdi_deployment.specs.declared.deployment.Member.{Member}
-use Rattle.cdi_deployment.specs.declared.deployment.Point.{Point}
 use Rattle.cdi_live.specs.Live.{is_managed}
 use Rattle.cdi_machine.specs.Tables as machine
 use Rattle.cdi_machine.specs.Words.{Asked}
@@ -36,17 +31,17 @@ use Rattle.cdi_resolve.specs.Filters.{enabled_of}
 use Rattle.cdi_resolve.specs.Resolution.{resolution}
 use Rattle.cdi_resolve.specs.declared.resolution.Resolution.{Resolution}
 use Rattle.cdi_resolve.specs.declared.resolution.Resolution.TheVariants as resolutions
-use Rattle.cdi_run_tables.specs.Machine.{AreIdsOf, asked_by, id_of, machine_resolution, machine_steps, machine_tables, resolution_of}
+use Rattle.cdi_run_tables.specs.Machine.{AreIdsOf, asked_by, id_of, machine_resolution, machine_tables, resolution_of}
 use Rattle.cdi_run_tables.specs.Planned.{IsTabled}
 use Rattle.cdi_run_tables.specs.Served.{is_served}
 use Rattle.cdi_run_tables.specs.declared.tables.RunTables.{RunTables}
-use Rattle.cdi_shape_check.specs.OwnParts.{declares_method, injected_field, parts_of_line}
+use Rattle.cdi_shape_check.specs.OwnParts.{declares_method, parts_of_line}
 use Rattle.cdi_shape_check.specs.References.{answers_call, bean_told, declares_called, is_call_missing, is_called, point_at, point_of_field, refuses_call}
-use Rattle.cdi_accepted.specs.Fits.{AnswersThrough, HasMethod, IsClassOf, IsIn, IsPointedTo}
+use Rattle.cdi_accepted.specs.Fits.{AnswersThrough, HasMethod, IsClassOf, IsIn}
 use Rattle.cdi_accepted.proofs.Acts.{IsListedCall}
 use Rattle.cdi_accepted.proofs.Beans.{HasPlan, has_plan, is_kept, stands_listed}
 use Rattle.cdi_accepted.proofs.Fields.{IsInjected, of_machine, of_steps, one_injected}
-use Rattle.cdi_accepted.proofs.Lists.{Among, contains_among, found_among, mapped, part_of, passing}
+use Rattle.cdi_accepted.proofs.Lists.{Among, among_left, any_passes, contains_among, found_among, mapped, part_of, passing}
 use Rattle.cdi_accepted.proofs.Members.{of_line}
 use Rattle.cdi_accepted.proofs.Methods.{apart, front, has_method, known, managed, pairs}
 use Rattle.cdi_accepted.proofs.Registered.{app_of}
@@ -119,9 +114,9 @@ module _ {X : Type 0} {F : X → Type 0} {g : _} (entries : List (Entry X F g)) 
       let class = found.item.0 in
       let of = of_line plan.line class found.item.1 found.stands in
       let named : class_named d.classes member.item.class ≡ Some class =
-          ap (λ (m : BeanMember). class_named d.classes m.class) found.is ∙ (front entries t tabled ids sound b listed enabled plan class of.class).named in
+      ap (λ (m : BeanMember). class_named d.classes m.class) found.is ∙ (front entries t tabled ids sound b listed enabled plan class of.class).named in
       has_method entries t tabled ids sound b listed enabled plan call.method call.count
-      (Rattle.cdi_accepted.proofs.Lists.any_passes (declares_method call.method call.count) plan.line class of.class (called_class d.classes call member.item class named member.passes))
+      (any_passes (declares_method call.method call.count) plan.line class of.class (called_class d.classes call member.item class named member.passes))
 
   -- a class that the machine has of a bean is that of its plan
   same_class : (b : ℕ) (listed : Bean) (enabled : Among (b, listed) (enabled_of t.tables.resolver)) (plan : HasPlan t b listed) (c : machine.Managed)
@@ -145,7 +140,7 @@ module _ {X : Type 0} {F : X → Type 0} {g : _} (entries : List (Entry X F g)) 
         let P : List Step → Type 0 = λ all. Among (steps.Inject field step.point) all in
         let from = of_steps t.tables.chains plan.constructor listed plan.line field step.point (subst P (ap (λ (p : ManagedPlan). p.steps) plan.is) step.stands) in
         let one : from.injected ≡ f =
-            one_injected plan.line (pairs entries t tabled ids sound b listed enabled plan) (apart entries t tabled ids sound b listed enabled plan) from.injected f from.is stands (sym from.name ∙ sym name) in
+        one_injected plan.line (pairs entries t tabled ids sound b listed enabled plan) (apart entries t tabled ids sound b listed enabled plan) from.injected f from.is stands (sym from.name ∙ sym name) in
         step.is ∙ ap asked_by from.point_is ∙ ap (λ k. asked_by (point_of_field k)) one
 
     -- whatever is injected into the field answers a call that the shape of a body lists
@@ -154,17 +149,17 @@ module _ {X : Type 0} {F : X → Type 0} {g : _} (entries : List (Entry X F g)) 
     answers_through front rest are s field name count listed_call other class pointed of =
         let call = listed_call.call in
         let there : is_call_missing (app_of t) call (option_map point_of_field ((parts_of_line front).injected field)) ≡ false =
-            ap (λ via. is_call_missing (app_of t) call (point_at (parts_of_line front) [] s.lookups via)) (sym listed_call.via) ∙ listed_call.there in
+        ap (λ via. is_call_missing (app_of t) call (point_at (parts_of_line front) [] s.lookups via)) (sym listed_call.via) ∙ listed_call.there in
         let found = referred t front call field there in
         let part = part_of (λ (c : Class). c.inject) front found.injected found.stands in
         let P : List Class → Type 0 = λ l. Among part.item l in
         let stands : IsInjected plan.line found.injected =
-            record { class = part.item; stands = subst P (sym are) (Rattle.cdi_accepted.proofs.Lists.among_left front rest part.item part.stands); declared = part.part } in
+        record { class = part.item; stands = subst P (sym are) (among_left front rest part.item part.stands); declared = part.part } in
         let point = point_of field found.injected stands found.name pointed.point pointed.injects in
         let it = target t (asked_by (point_of_field found.injected)) other (ap (λ a. (machine_tables t).resolve a) (sym point) ∙ pointed.resolves) in
         let its = has_plan t tabled served other it.bean (stands_listed t other it.bean it.enabled) in
         let answered : refuses_call d.classes call (Some it.bean) ≡ false =
-            ap (refuses_call d.classes call) (sym it.has) ∙ ap (λ r. refuses_call d.classes call (bean_told (enabled_of t.tables.resolver) r)) (sym it.resolves) ∙ found.answered in
+        ap (refuses_call d.classes call) (sym it.has) ∙ ap (λ r. refuses_call d.classes call (bean_told (enabled_of t.tables.resolver) r)) (sym it.resolves) ∙ found.answered in
         let has = answers other it.bean it.enabled its call (not-false (answers_call d.classes call it.bean) answered) in
         let same = same_class other it.bean it.enabled its class of in
         let Q : ℕ → Type 0 = λ n. HasMethod class n call.count in

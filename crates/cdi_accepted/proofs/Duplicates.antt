@@ -1,10 +1,9 @@
 -- In a deployment without duplicate names the members of a class are named apart, so are its injected fields, and no interface or
 -- built-in class has the name of a class.
-use Rattle.std.proofs.Common.{ℕ, zero, ◌≡◌, ◌≢◌, ◌∙◌, ◌+◌, ◌<◌, ◌⊎◌, inl, inr, List, [], ◌∷◌, ◌++◌, length, map, fold, option_to_list, Option, Some, None, refl, sym, ap, subst, append_assoc, append-nil, arith}
+use Rattle.std.proofs.Common.{ℕ, ◌≡◌, ◌∙◌, ◌+◌, inl, inr, List, [], ◌∷◌, ◌++◌, map, option_to_list, refl, sym, ap, subst, append_assoc, append-nil, arith}
 use Rattle.std.proofs.lemmas.Grind.{flat_map-append}
 use Rattle.std.proofs.lemmas.List.Elements.{Contains-append_left, Contains-append_right}
 use Rattle.std.specs.List.{Contains, flat_map, enumerate_from}
-use Rattle.cdi_base.specs.declared.place.Place.{Place}
 use Rattle.cdi_deployment.specs.declared.deployment.Class.{Class}
 use Rattle.cdi_deployment.specs.declared.deployment.Deployment.{Deployment}
 use Rattle.cdi_deployment.specs.declared.deployment.InjectedField.{InjectedField}
@@ -12,13 +11,12 @@ use Rattle.cdi_deployment.specs.declared.deployment.Interface.{Interface}
 use Rattle.cdi_deployment.specs.declared.deployment.Member.{Member}
 use Rattle.cdi_deployment.specs.declared.deployment.Member.TheVariants as members
 use Rattle.cdi_members.specs.Members.{member_name}
-use Rattle.cdi_name_check.specs.DuplicateName.{HasDuplicateName, claims_of, claims_after, member_claims, built_in_claims}
+use Rattle.cdi_name_check.specs.DuplicateName.{HasDuplicateName, claims_of, claims_after, built_in_claims}
 use Rattle.cdi_name_check.specs.NameProblems.{AreNameProblems}
 use Rattle.cdi_name_check.specs.declared.claim.Claim.{Claim}
 use Rattle.cdi_name_check.specs.declared.claim.Claim.TheVariants as claims
 use Rattle.cdi_problems.specs.Elements.{Element, elements_of, class_elements, interceptor_elements, place_of}
 use Rattle.cdi_problems.specs.Findings.{Placed, placed_after, placed}
-use Rattle.cdi_problems.specs.Places.{once}
 use Rattle.cdi_problems.specs.Words.{problems_at}
 use Rattle.cdi_problems.specs.declared.problem.ProblemKind.TheVariants as kinds
 use Rattle.cdi_reach.specs.ListsThose.{ListsThose}
@@ -171,8 +169,8 @@ module _ (d : Deployment) (well : AreNameProblems d []) (c : Class) (listed : Am
       let constructor = map (Element.AConstructor i c) (option_to_list c.constructor) in
       let ms = map (Element.AMember i c) c.members in
       let to_inject : HaveNone (before ++ fields) inject =
-          back_has_none before fields inject
-          (front_has_none before (fields ++ inject) constructor (front_has_none before (fields ++ inject ++ constructor) ms is_free.free)) in
+      back_has_none before fields inject
+      (front_has_none before (fields ++ inject) constructor (front_has_none before (fields ++ inject ++ constructor) ms is_free.free)) in
       let to_members : HaveNone (before ++ (fields ++ inject ++ constructor)) ms = back_has_none before (fields ++ inject ++ constructor) ms is_free.free in
       record {
         members = λ m n a b e.
@@ -196,8 +194,8 @@ module _ (d : Deployment) (well : AreNameProblems d []) (c : Class) (listed : Am
       let exceptions = map Element.AnException d.exceptions in
       let e = Element.AnInterface i in
       let here : Among e (above d) =
-          among_left (interfaces ++ qualifiers ++ bindings) exceptions e
-          (among_left (interfaces ++ qualifiers) bindings e (among_left interfaces qualifiers e (among_map Element.AnInterface d.interfaces i a))) in
+      among_left (interfaces ++ qualifiers ++ bindings) exceptions e
+      (among_left (interfaces ++ qualifiers) bindings e (among_left interfaces qualifiers e (among_map Element.AnInterface d.interfaces i a))) in
       let claimed : Among (claims.Type i.name) (flat_map claims_of (above d)) = among_flat_map claims_of (above d) e (claims.Type i.name) here (inl refl) in
       unclaimed i.name (Contains-append_right built_in_claims (flat_map claims_of (above d)) (claims.Type i.name) (among_contains _ _ claimed)) same
 

@@ -1,5 +1,5 @@
 -- The fields of a new instance, and what is injected into it.
-use Rattle.std.proofs.Common.{ℕ, ◌≡◌, ◌∙◌, ◌||◌, ◌&&◌, ◌⊎◌, inl, inr, Bool, true, false, cond, nat_eq, List, [], ◌∷◌, ◌++◌, filter, map, fold, Option, Some, None, refl, sym, ap, subst}
+use Rattle.std.proofs.Common.{ℕ, ◌≡◌, ◌∙◌, ◌||◌, ◌⊎◌, inl, inr, Bool, true, false, cond, nat_eq, List, [], ◌∷◌, ◌++◌, filter, map, fold, Option, Some, None, refl, sym, ap, subst}
 use Rattle.std.proofs.lemmas.Bool.{eqb-true, true≢false}
 use Rattle.std.specs.List.{filter_map, list_any}
 use Rattle.cdi_base.specs.Fields.{has, put}
@@ -28,7 +28,7 @@ use Rattle.cdi_shape_check.specs.OwnParts.{has_field}
 use Rattle.cdi_shape_check.specs.References.{point_of_field}
 use Rattle.cdi_accepted.proofs.Duplicates.{IsNamedApart}
 use Rattle.cdi_accepted.proofs.Lines.{ArePairs}
-use Rattle.cdi_accepted.proofs.Lists.{Among, among_flat_map, among_map, among_parts, any_passes, given, mapped, neither, of_filter, passing}
+use Rattle.cdi_accepted.proofs.Lists.{Among, among_flat_map, among_map, among_parts, any_passes, given, mapped, of_filter, passing}
 use Rattle.cdi_accepted.proofs.Repeats.{Fits}
 
 -- ---- fields with values
@@ -73,8 +73,8 @@ has_first line name e =
     let class = passing (λ (c : Class). has_field name c.fields) line e in
     let field = passing (λ (f : Field). nat_eq f.name name) class.item.fields class.passes in
     let part : Among (class.item, field.item) (fields_of line) =
-        among_flat_map (λ (c : Class). parts_of c c.fields) line class.item (class.item, field.item) class.stands
-        (among_map (λ part. (class.item, part)) class.item.fields field.item field.stands) in
+    among_flat_map (λ (c : Class). parts_of c c.fields) line class.item (class.item, field.item) class.stands
+    (among_map (λ part. (class.item, part)) class.item.fields field.item field.stands) in
     let listed : Among field.item (fields_first line) = among_map (λ (f : Class × Field). f.1) (fields_of line) (class.item, field.item) part in
     subst (λ n. has (first_fields (fields_first line)) n ≡ true) (eqb-true field.item.name name field.passes) (fold_has [] (fields_first line) field.item listed)
 

@@ -1,5 +1,5 @@
 -- The tables of an accepted deployment that is served fit its bodies.
-use Rattle.std.proofs.Common.{ℕ, ◌≡◌, ◌∙◌, ◌||◌, ◌&&◌, ◌⊎◌, inl, inr, Bool, true, false, not, cond, List, [], ◌∷◌, ◌++◌, length, filter, map, Option, Some, None, refl, sym, ap, subst}
+use Rattle.std.proofs.Common.{ℕ, ◌≡◌, ◌∙◌, ◌||◌, ◌&&◌, inl, inr, Bool, true, false, not, cond, List, [], ◌∷◌, ◌++◌, length, filter, map, Option, Some, None, refl, sym, ap, subst}
 use Rattle.std.specs.Prelude.{option_map, MatchOption, IfSome, slice_get}
 use Rattle.std.proofs.lemmas.Bool.{and_parts, true≢false}
 use Rattle.std.proofs.lemmas.List.Folds.{list_any-append}
@@ -14,7 +14,7 @@ use Rattle.cdi_base.specs.declared.scope.Scope.{Scope}
 use Rattle.cdi_base.specs.declared.scope.Scope.TheVariants as scopes
 use Rattle.cdi_beanlist.specs.declared.bean.Bean.{Bean}
 use Rattle.cdi_bodies.specs.Gives.{Promises, gives, shape_at, LieInShape}
-use Rattle.cdi_bodies.specs.Shape.{in_shape, is_thrown, last_answer}
+use Rattle.cdi_bodies.specs.Shape.{in_shape}
 use Rattle.cdi_bodies.specs.declared.entry.Entry.{Entry}
 use Rattle.cdi_bodies.specs.declared.shape.Shape.{Shape}
 use Rattle.cdi_bodies.specs.declared.view.View.{View}
@@ -24,16 +24,13 @@ use Rattle.cdi_check.specs.Accepted.{AreBodiesSound}
 use Rattle.cdi_check.specs.Late.{AreProblemsIn}
 use Rattle.cdi_check.specs.Tables.{setting_by}
 use Rattle.cdi_deployment.specs.declared.deployment.Class.{Class}
-use Rattle.cdi_deployment.specs.declared.deployment.Field.{Field}
 use Rattle.cdi_deployment.specs.declared.deployment.Member.TheVariants as members
 use Rattle.cdi_machine.specs.Registered.{legal_of}
 use Rattle.cdi_machine.specs.Tables as machine
 use Rattle.cdi_machine.specs.Words.{Fields}
 use Rattle.cdi_members.specs.Members.{members_of}
 use Rattle.cdi_plans.specs.Codes.{business_method}
-use Rattle.cdi_plans.specs.Plans.{first_fields as fields_first}
 use Rattle.cdi_plans.specs.declared.plan.BusinessMethod.{BusinessMethod}
-use Rattle.cdi_plans.specs.declared.plan.Lifecycle.{Lifecycle}
 use Rattle.cdi_plans.specs.declared.plan.ManagedPlan.{ManagedPlan}
 use Rattle.cdi_plans.specs.declared.plan.Plan.TheVariants as plans
 use Rattle.cdi_plans.specs.declared.plan.Step.{Step}
@@ -44,15 +41,15 @@ use Rattle.cdi_run_tables.specs.Planned.{IsTabled}
 use Rattle.cdi_run_tables.specs.Served.{has_texts, is_served, is_served_bean, is_served_body, is_served_plan, is_served_scope, is_served_shape, is_served_step, serves_methods, serves_shapes}
 use Rattle.cdi_run_tables.specs.declared.tables.RunTables.{RunTables}
 use Rattle.cdi_shape_check.specs.OwnParts.{declares_method, has_field}
-use Rattle.cdi_accepted.specs.Fits.{Fits, GivesServed, HasText, IsInjection, IsServedAct, IsServedBean, IsServedClass, IsServedScope}
+use Rattle.cdi_accepted.specs.Fits.{Fits, GivesServed, IsInjection, IsServedAct, IsServedBean, IsServedClass, IsServedScope}
 use Rattle.cdi_accepted.proofs.Acts.{Needs, needs, plain}
 use Rattle.cdi_accepted.proofs.Beans.{HasPlan, has_plan, stands_listed}
 use Rattle.cdi_accepted.proofs.Calls.{answers_through, target}
 use Rattle.cdi_accepted.proofs.Fields.{has_first}
 use Rattle.cdi_accepted.proofs.Lists.{Among, all_pass, at_among}
 use Rattle.cdi_accepted.proofs.Members.{of_line}
-use Rattle.cdi_accepted.proofs.Methods.{IsOfPlan, declared_class, front, has_method, known, managed, method_of_plan}
-use Rattle.cdi_accepted.proofs.Registered.{HasBody, app_of, has_shape, inside, numbered, registered}
+use Rattle.cdi_accepted.proofs.Methods.{declared_class, front, has_method, known, managed, method_of_plan}
+use Rattle.cdi_accepted.proofs.Registered.{app_of, has_shape, inside, numbered, registered}
 use Rattle.cdi_accepted.proofs.Texts.{built_in_text, exception_text}
 
 none_is : {A : Type 0} (xs : List A) → has_none xs ≡ true → xs ≡ []
@@ -65,10 +62,6 @@ only_injections ids [] e = tt
 only_injections ids (s ∷ rest) e =
     by s (and_parts (is_served_step s) (list_all is_served_step rest) e).0 (only_injections ids rest (and_parts (is_served_step s) (list_all is_served_step rest) e).1)
   where
-    idle : (b : Bool) (step : machine.Step) → not b ≡ true → AllByRecursion IsInjection (machine_steps ids rest) → AllByRecursion IsInjection (map (machine_step ids) (cond b (s ∷ filter does_something rest) (filter does_something rest)))
-    idle false step h more = more
-    idle true step h more = absurd (true≢false (sym h))
-
     at_step : (x : Step) (b : Bool) → not b ≡ true → AllByRecursion IsInjection (machine_steps ids rest) → AllByRecursion IsInjection (map (machine_step ids) (cond b (x ∷ filter does_something rest) (filter does_something rest)))
     at_step x false h more = more
     at_step x true h more = absurd (true≢false (sym h))
@@ -175,8 +168,7 @@ module _ {X : Type 0} {F : X → Type 0} {g : _} (entries : List (Entry X F g)) 
         record {
           steps = only_injections (id_of t) plan.plan.steps plan_parts.0;
           unchained = unchained;
-          no_chain = none_is plan.plan.pre_destroy.chain idle.0;
-          no_callbacks = ap (map (machine_code (id_of t))) (none_is plan.plan.pre_destroy.callbacks idle.1);
+          silent = (none_is plan.plan.pre_destroy.chain idle.0, ap (map (machine_code (id_of t))) (none_is plan.plan.pre_destroy.callbacks idle.1));
         }
       where
         unchained : (name : ℕ) (m : machine.Method) → at own.methods name ≡ Some m → m.chain ≡ []

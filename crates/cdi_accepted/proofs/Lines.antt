@@ -1,25 +1,19 @@
 -- The classes of a line: each has its own line at the front of it, and directly extends the one whose line stands before it.
-use Rattle.std.proofs.Common.{ℕ, zero, ◌≡◌, ◌≢◌, ◌∙◌, ◌+◌, ◌<◌, ◌⊎◌, inl, inr, Bool, true, false, cond, nat_eq, List, [], ◌∷◌, ◌++◌, map, Option, Some, None, refl, sym, ap, subst, append_assoc, append-nil, arith}
+use Rattle.std.proofs.Common.{ℕ, ◌≡◌, ◌∙◌, ◌⊎◌, inl, inr, Bool, true, false, cond, nat_eq, List, [], ◌∷◌, ◌++◌, map, Option, Some, None, refl, sym, ap, subst, append_assoc, append-nil, arith}
 use Rattle.std.specs.Prelude.{option_and_then, option_map}
 use Rattle.std.specs.Option.{option_or}
 use Rattle.std.proofs.lemmas.Bool.{eqb-true}
 use Rattle.std.proofs.lemmas.List.Elements.{filter_map-append}
 use Rattle.std.proofs.lemmas.List.Folds.{find-append}
-use Rattle.std.proofs.lemmas.Option.{same_Some}
-use Rattle.std.specs.List.{Contains, cons_option, filter_map, find}
-use Rattle.cdi_base.specs.BuiltIn.{number_of}
-use Rattle.cdi_base.specs.declared.built_in.BuiltIn.{BuiltIn}
+use Rattle.std.specs.List.{cons_option, filter_map, find}
 use Rattle.cdi_base.specs.declared.built_in.BuiltIn.TheVariants as names
 use Rattle.cdi_deployment.specs.declared.deployment.Class.{Class}
 use Rattle.cdi_deployment.specs.declared.deployment.Deployment.{Deployment}
 use Rattle.cdi_deployment.specs.declared.deployment.Interface.{Interface}
 use Rattle.cdi_members.specs.Line.{IsLineOf, class_named}
-use Rattle.cdi_name_check.specs.DuplicateName.{built_in_claims}
 use Rattle.cdi_name_check.specs.NameProblems.{AreNameProblems}
-use Rattle.cdi_name_check.specs.declared.claim.Claim.TheVariants as claims
 use Rattle.cdi_types.specs.Declarations.{declarations_of, of_built_in, of_class, of_interface}
 use Rattle.cdi_types.specs.Lineage.{IsLineage, superclass_of}
-use Rattle.cdi_types.specs.Subtype.{object}
 use Rattle.cdi_types.specs.declared.declaration.TypeDeclaration.{TypeDeclaration}
 use Rattle.cdi_accepted.proofs.Lists.{Among, among_parts, found_among}
 use Rattle.cdi_accepted.proofs.Duplicates.{no_built_in, no_interface}

@@ -1,18 +1,16 @@
 -- What a bean has of the methods that the classes of its line declare, where members of one name are alike.
-use Rattle.std.proofs.Common.{ℕ, ◌≡◌, ◌∙◌, ◌||◌, ◌&&◌, ◌⊎◌, inl, inr, Bool, true, false, not, nat_eq, List, [], ◌∷◌, ◌++◌, filter, map, refl, sym, ap, subst}
+use Rattle.std.proofs.Common.{ℕ, ◌≡◌, ◌∙◌, ◌||◌, ◌&&◌, ◌⊎◌, inl, inr, Bool, true, false, not, nat_eq, List, [], ◌∷◌, filter, refl, sym, ap, subst}
 use Rattle.std.proofs.lemmas.Bool.{and_from, and_parts, eqb-true, or_cases, true≢false}
 use Rattle.std.specs.List.{list_any}
-use Rattle.cdi_bean_check.specs.Repeated.{has_other_member, is_alike}
+use Rattle.cdi_bean_check.specs.Repeated.{is_alike}
 use Rattle.cdi_deployment.specs.declared.deployment.Class.{Class}
-use Rattle.cdi_deployment.specs.declared.deployment.Deployment.{Deployment}
 use Rattle.cdi_deployment.specs.declared.deployment.Member.{Member}
 use Rattle.cdi_deployment.specs.declared.deployment.Member.TheVariants as members
 use Rattle.cdi_deployment.specs.declared.deployment.Method.{Method}
 use Rattle.cdi_members.specs.Members.{member_name, is_inherited, declares, comes_down, parts_of, members_of}
-use Rattle.cdi_name_check.specs.NameProblems.{AreNameProblems}
 use Rattle.cdi_plans.proofs.Fronts.{same}
 use Rattle.cdi_shape_check.specs.OwnParts.{declares_method, is_method}
-use Rattle.cdi_accepted.proofs.Lists.{Among, Mapped, Passing, among_filter, among_left, among_map, among_parts, among_right, any_passes, mapped, none_passes, of_filter, passing}
+use Rattle.cdi_accepted.proofs.Lists.{Among, among_filter, among_left, among_map, among_parts, among_right, any_passes, mapped, none_passes, of_filter, passing}
 use Rattle.cdi_accepted.proofs.Duplicates.{IsNamedApart}
 use Rattle.cdi_accepted.proofs.Lines.{ArePairs}
 use Rattle.cdi_accepted.proofs.Repeats.{Fits}
@@ -50,7 +48,7 @@ below_method name count above c m n fits there e here named = alike_method name 
     by true t = t
     by false t =
         let other : (nat_eq (member_name m) (member_name n) && not (is_alike m n)) ≡ true =
-            and_from (nat_eq (member_name m) (member_name n)) (not (is_alike m n)) test (ap not t) in
+        and_from (nat_eq (member_name m) (member_name n)) (not (is_alike m n)) test (ap not t) in
         absurd (true≢false (sym other ∙ none_passes (λ k. nat_eq (member_name k) (member_name n) && not (is_alike k n)) above.members m (fits.members n here) there))
 
 -- ---- lines
@@ -115,7 +113,7 @@ module _ (name count : ℕ) where
               let class = passing (declares (member_name m)) below g in
               let member = passing (λ n. nat_eq (member_name n) (member_name m)) class.item.members class.passes in
               let named : nat_eq (member_name member.item) name ≡ true =
-                  ap (λ k. nat_eq k name) (eqb-true (member_name member.item) (member_name m) member.passes) ∙ is_named_method name count m t in
+              ap (λ k. nat_eq k name) (eqb-true (member_name member.item) (member_name m) member.passes) ∙ is_named_method name count m t in
               let method = below_method name count c class.item m member.item (pairs.0 class.item class.stands) there t member.stands named in
               let declared = any_passes (is_method name count) class.item.members member.item member.stands method in
               absurd (true≢false (sym (any_passes (declares_method name count) below class.item class.stands declared) ∙ f))
@@ -132,8 +130,8 @@ module _ (name count : ℕ) where
           let P : Member → Type 0 = λ m. Among m (filter (comes_down below) c.members) in
           let Q : Member → Type 0 = λ m. is_method name count m ≡ true in
           let kept : Among found.item (filter (comes_down below) c.members) =
-              among_filter (comes_down below) c.members found.item found.stands
-              (down below found.item (inherits_method name count found.item found.passes) (undeclared f found.item found.stands found.passes)) in
+          among_filter (comes_down below) c.members found.item found.stands
+          (down below found.item (inherits_method name count found.item found.passes) (undeclared f found.item found.stands found.passes)) in
           record {
             class = c;
             method = it.method;
@@ -158,8 +156,8 @@ module _ (name count : ℕ) where
           let class = passing (declares_method name count) below t in
           let member = passing (is_method name count) class.item.members class.passes in
           let one : nat_eq (member_name member.item) (member_name m) ≡ true =
-              ap (λ n. nat_eq n (member_name m)) (eqb-true (member_name member.item) name (is_named_method name count member.item member.passes) ∙ sym (eqb-true (member_name m) name named))
-              ∙ same (member_name m) in
+          ap (λ n. nat_eq n (member_name m)) (eqb-true (member_name member.item) name (is_named_method name count member.item member.passes) ∙ sym (eqb-true (member_name m) name named))
+          ∙ same (member_name m) in
           let declared = any_passes (λ n. nat_eq (member_name n) (member_name m)) class.item.members member.item member.stands one in
           at below (any_passes (declares (member_name m)) below class.item class.stands declared) t down
         where
@@ -185,7 +183,7 @@ module _ (name count : ℕ) where
           let method = passing (is_method name count) k.members t in
           let member : found.item ≡ m = sym (ap (λ (p : Class × Member). p.1) found.is) in
           let one : member_name method.item ≡ member_name found.item =
-              eqb-true (member_name method.item) name (is_named_method name count method.item method.passes)
-              ∙ sym (eqb-true (member_name m) name named) ∙ sym (ap member_name member) in
+          eqb-true (member_name method.item) name (is_named_method name count method.item method.passes)
+          ∙ sym (eqb-true (member_name m) name named) ∙ sym (ap member_name member) in
           let is : method.item ≡ m = (apart k (inl refl)).members method.item found.item method.stands kept.0 one ∙ member in
           ap (is_method name count) (sym is) ∙ method.passes

@@ -1,11 +1,10 @@
 -- The methods that the machine has of an enabled bean are those that the classes of its line declare.
-use Rattle.std.proofs.Common.{ℕ, ◌≡◌, ◌∙◌, ◌||◌, ◌&&◌, ◌⊎◌, inl, inr, Bool, true, false, cond, nat_eq, List, [], ◌∷◌, ◌++◌, map, Option, Some, None, refl, sym, ap, subst}
+use Rattle.std.proofs.Common.{ℕ, ◌≡◌, ◌∙◌, true, nat_eq, List, Option, Some, None, refl, sym, ap, subst}
 use Rattle.std.specs.Prelude.{option_and_then, option_map}
 use Rattle.std.proofs.lemmas.Bool.{and_parts, eqb-true}
 use Rattle.std.proofs.lemmas.Option.{same_Some}
-use Rattle.std.specs.List.{filter_map, list_any, slice_get}
+use Rattle.std.specs.List.{filter_map, list_any}
 use Rattle.cdi_base.specs.Maps.{at}
-use Rattle.cdi_beanlist.specs.Beans.{bean_member}
 use Rattle.cdi_beanlist.specs.declared.bean.Bean.{Bean}
 use Rattle.cdi_bodies.specs.declared.entry.Entry.{Entry}
 use Rattle.cdi_body_check.specs.Shapes.{shape_of}
@@ -18,26 +17,23 @@ use Rattle.cdi_deployment.specs.declared.deployment.Member.{Member}
 use Rattle.cdi_deployment.specs.declared.deployment.Member.TheVariants as members
 use Rattle.cdi_deployment.specs.declared.deployment.Method.{Method}
 use Rattle.cdi_machine.specs.Tables as machine
-use Rattle.cdi_members.specs.Line.{IsLineOf}
 use Rattle.cdi_members.specs.Members.{members_of}
 use Rattle.cdi_plans.proofs.Fronts.{same}
 use Rattle.cdi_plans.specs.Codes.{business_method, member_chain, member_code}
 use Rattle.cdi_plans.specs.declared.plan.BusinessMethod.{BusinessMethod}
 use Rattle.cdi_plans.specs.declared.plan.ManagedPlan.{ManagedPlan}
 use Rattle.cdi_resolve.specs.Filters.{enabled_of}
-use Rattle.cdi_run_tables.specs.Machine.{AreIdsOf, bean_at, bean_with, id_of, machine_bean, machine_kind, machine_managed, machine_method, machine_methods, machine_tables, method_with}
+use Rattle.cdi_run_tables.specs.Machine.{AreIdsOf, bean_at, bean_with, id_of, machine_bean, machine_kind, machine_managed, machine_method, machine_methods, method_with}
 use Rattle.cdi_run_tables.specs.Planned.{IsTabled}
-use Rattle.cdi_run_tables.specs.Served.{is_served}
 use Rattle.cdi_run_tables.specs.declared.tables.RunTables.{RunTables}
 use Rattle.cdi_shape_check.specs.OwnParts.{declares_method, is_method}
-use Rattle.cdi_types.specs.Declarations.{declarations_of}
 use Rattle.cdi_accepted.specs.Fits.{HasMethod}
 use Rattle.cdi_accepted.proofs.Beans.{HasPlan, is_kept, kept_at}
 use Rattle.cdi_accepted.proofs.Duplicates.{IsNamedApart, named_apart}
 use Rattle.cdi_accepted.proofs.Lines.{ArePairs, HasFront, front_of, is_listed, pairs_of}
 use Rattle.cdi_accepted.proofs.Lists.{Among, among_filter_map, given}
-use Rattle.cdi_accepted.proofs.Members.{HasMethodIn, all_declared, has_declared, of_line}
-use Rattle.cdi_accepted.proofs.Registered.{HasBody, numbered, registered}
+use Rattle.cdi_accepted.proofs.Members.{all_declared, has_declared, of_line}
+use Rattle.cdi_accepted.proofs.Registered.{numbered, registered}
 use Rattle.cdi_accepted.proofs.Repeats.{Fits, fits}
 
 -- ---- methods of a plan
@@ -178,18 +174,18 @@ module _ {X : Type 0} {F : X → Type 0} {g : _} (entries : List (Entry X F g)) 
       by c m stands is id numbered =
           let planned = planned_method t.tables.chains listed.class c m in
           let listed_method : Among planned (filter_map (business_method t.tables.chains listed.class) (members_of plan.line)) =
-              among_filter_map (business_method t.tables.chains listed.class) (members_of plan.line) (c, members.Method m) planned stands refl in
+          among_filter_map (business_method t.tables.chains listed.class) (members_of plan.line) (c, members.Method m) planned stands refl in
           let entry = method_with planned id in
           let P : List (ℕ × machine.Method) → Type 0 = λ ms. Among entry ms in
           let Q : ℕ → Type 0 = λ n. Among (n, entry.1) managed.methods in
           let one : m.name ≡ name = eqb-true m.name name (and_parts (nat_eq m.name name) (nat_eq m.args count) is).0 in
           let stands_in : Among entry managed.methods =
-              subst P (sym methods_are)
-              (among_filter_map (machine_method (id_of t)) _ planned entry listed_method (ap (option_map (method_with planned)) numbered)) in
+          subst P (sym methods_are)
+          (among_filter_map (machine_method (id_of t)) _ planned entry listed_method (ap (option_map (method_with planned)) numbered)) in
           let kept = is_kept managed.methods name entry.1 (subst Q one stands_in) in
           let from = method_of_plan name kept.value kept.has in
           let method = all_declared name count plan.line e pairs apart from.class (members.Method from.method) from.declared
-              (ap (λ n. nat_eq n name) from.named ∙ same name) in
+          (ap (λ n. nat_eq n name) from.named ∙ same name) in
           record {
             method = kept.value;
             has = kept.has;

@@ -1,9 +1,9 @@
 -- The bodies of what an enabled bean has are registered, and lie in shapes that name what is there.
-use Rattle.std.proofs.Common.{ℕ, ◌≡◌, ◌∙◌, ◌||◌, ◌&&◌, ◌⊎◌, inl, inr, Bool, true, false, cond, nat_eq, List, [], ◌∷◌, ◌++◌, map, Option, Some, None, IsTrue, IsSome, refl, sym, ap, subst, if◌then◌else◌}
-use Rattle.std.specs.Prelude.{option_and_then, option_map}
-use Rattle.std.proofs.lemmas.Bool.{and_from, true≢false}
-use Rattle.std.specs.HashMap.{get}
-use Rattle.std.specs.List.{All, flat_map, list_any}
+use Rattle.std.proofs.Common.{ℕ, ◌≡◌, ◌∙◌, ◌&&◌, Bool, true, false, nat_eq, List, [], map, Option, Some, None, IsTrue, IsSome, refl, sym, ap, subst, if◌then◌else◌}
+use Rattle.std.specs.Prelude.{option_and_then}
+use Rattle.std.proofs.lemmas.Bool.{and_from}
+use Rattle.std.proofs.lemmas.Option.{same_Some}
+use Rattle.std.specs.List.{flat_map}
 use Rattle.cdi_beanlist.specs.Beans.{bean_member}
 use Rattle.cdi_beanlist.specs.declared.bean.Bean.{Bean}
 use Rattle.cdi_beanlist.specs.declared.bean.BeanMember.{BeanMember}
@@ -11,24 +11,23 @@ use Rattle.cdi_bodies.specs.Gives.{place_of, shape_at}
 use Rattle.cdi_bodies.specs.declared.entry.Entry.{Entry}
 use Rattle.cdi_bodies.specs.declared.shape.Shape.{Shape}
 use Rattle.cdi_body_check.specs.Shapes.{shape_of}
-use Rattle.cdi_body_check.specs.Sites.{Site, body_of, class_sites, constructor_sites, interceptor_sites, is_live, member_body, member_site, member_sites, params_of, sites_of}
+use Rattle.cdi_body_check.specs.Sites.{Site, body_of, class_sites, constructor_sites, interceptor_sites, is_live, member_site, member_sites, sites_of}
 use Rattle.cdi_check.specs.Accepted.{AreBodiesSound, IsRegistered}
 use Rattle.cdi_check.specs.Tables.{setting_by}
 use Rattle.cdi_deployment.specs.declared.deployment.Class.{Class}
 use Rattle.cdi_deployment.specs.declared.deployment.Deployment.{Deployment}
-use Rattle.cdi_deployment.specs.declared.deployment.Member.{Member}
 use Rattle.cdi_deployment.specs.declared.deployment.Member.TheVariants as members
 use Rattle.cdi_deployment.specs.declared.deployment.Method.{Method}
 use Rattle.cdi_live.specs.Live.{has_member}
 use Rattle.cdi_members.specs.Line.{IsLineOf}
-use Rattle.cdi_members.specs.Members.{member_name, members_of}
+use Rattle.cdi_members.specs.Members.{members_of}
 use Rattle.cdi_plans.proofs.Fronts.{same}
 use Rattle.cdi_resolve.specs.Filters.{enabled_of}
-use Rattle.cdi_run_tables.specs.Ids.{is_named, told_of}
+use Rattle.cdi_run_tables.specs.Ids.{is_named}
 use Rattle.cdi_run_tables.specs.Machine.{AreIdsOf, id_of}
 use Rattle.cdi_run_tables.specs.declared.tables.RunTables.{RunTables}
 use Rattle.cdi_shape_check.specs.Application.{Application}
-use Rattle.cdi_shape_check.specs.BodyOutsideShape.{HasBodyOutsideShape, names_missing}
+use Rattle.cdi_shape_check.specs.BodyOutsideShape.{HasBodyOutsideShape, is_outside, names_missing}
 use Rattle.cdi_shape_check.specs.OwnParts.{parts_of_line}
 use Rattle.cdi_types.specs.Declarations.{declarations_of}
 use Rattle.cdi_accepted.proofs.Lists.{Among, among_filter_map, among_flat_map, among_left, among_map, among_right, any_passes, holds_among}
@@ -103,9 +102,6 @@ module _ {X : Type 0} {F : X → Type 0} {g : _} (entries : List (Entry X F g)) 
       pub inside : (front : List Class) → IsLineOf (declarations_of d) d.classes c.name front → names_missing (app_of t) (parts_of_line front) [] registered.shape ≡ false
       inside front is = by (names_missing (app_of t) (parts_of_line front) [] registered.shape) refl
         where
-          outside : Site → Type 0
-          outside s = HasBodyOutsideShape (app_of t) (setting_by d t.tables).enabled (shape_of entries) s → ⊥
-
           by : (k : Bool) → names_missing (app_of t) (parts_of_line front) [] registered.shape ≡ k → k ≡ false
           by false e = refl
           by true e =
@@ -118,8 +114,8 @@ module _ {X : Type 0} {F : X → Type 0} {g : _} (entries : List (Entry X F g)) 
               }))
             where
               by_shape : (o : Option Shape) → o ≡ Some registered.shape → names_missing (app_of t) (parts_of_line front) [] registered.shape ≡ true
-                  → IsTrue (Rattle.cdi_shape_check.specs.BodyOutsideShape.is_outside (app_of t) (parts_of_line front) [] o)
+                  → IsTrue (is_outside (app_of t) (parts_of_line front) [] o)
               by_shape None h n = absurd cc
               by_shape (Some s) h n =
-                  let one : s ≡ registered.shape = Rattle.std.proofs.lemmas.Option.same_Some s registered.shape h in
+                  let one : s ≡ registered.shape = same_Some s registered.shape h in
                   ap (names_missing (app_of t) (parts_of_line front) []) one ∙ n

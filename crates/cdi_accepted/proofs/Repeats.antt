@@ -1,7 +1,6 @@
 -- In a deployment without problems of beans a class repeats no name of a class above it, unless by a member that is alike.
-use Rattle.std.proofs.Common.{ℕ, ◌≡◌, ◌∙◌, ◌||◌, ◌&&◌, ◌⊎◌, inl, inr, Bool, true, false, nat_eq, List, [], ◌∷◌, ◌++◌, map, filter, option_to_list, Option, Some, None, IsTrue, refl, sym, ap, subst}
-use Rattle.std.proofs.lemmas.Bool.{true≢false}
-use Rattle.std.specs.List.{enumerate_from, flat_map, list_any}
+use Rattle.std.proofs.Common.{ℕ, ◌≡◌, ◌∙◌, ◌&&◌, Bool, true, false, nat_eq, List, [], ◌∷◌, ◌++◌, map, filter, option_to_list, Some, refl, ap}
+use Rattle.std.specs.List.{enumerate_from, flat_map}
 use Rattle.cdi_bean_check.specs.MemberPlaces.{same_place}
 use Rattle.cdi_bean_check.specs.Repeated.{RepeatsAt, RepeatsSuperclass, has_field, has_other_member, repeated_names, repeats_at}
 use Rattle.cdi_bean_check.specs.Tiers.{AreBeanProblems}
@@ -9,13 +8,11 @@ use Rattle.cdi_deployment.specs.declared.deployment.Class.{Class}
 use Rattle.cdi_deployment.specs.declared.deployment.Deployment.{Deployment}
 use Rattle.cdi_deployment.specs.declared.deployment.Field.{Field}
 use Rattle.cdi_deployment.specs.declared.deployment.InjectedField.{InjectedField}
-use Rattle.cdi_deployment.specs.declared.deployment.Interceptor.{Interceptor}
 use Rattle.cdi_deployment.specs.declared.deployment.Member.{Member}
 use Rattle.cdi_members.specs.Line.{IsLineOf}
 use Rattle.cdi_members.specs.Members.{member_name}
 use Rattle.cdi_plans.proofs.Fronts.{same}
 use Rattle.cdi_problems.specs.Elements.{Element, elements_of, class_elements, interceptor_elements}
-use Rattle.cdi_problems.specs.Words.{problems_at}
 use Rattle.cdi_problems.specs.declared.problem.ProblemKind.TheVariants as kinds
 use Rattle.cdi_quals.specs.declared.types.QualifierType.{QualifierType}
 use Rattle.cdi_types.specs.Declarations.{declarations_of}
@@ -86,7 +83,7 @@ module _ (d : Deployment) (qualifiers : List QualifierType) (well : AreBeanProbl
     repeats name a =
         let here : same_place (c.name, name) (c.name, name) ≡ true = ap (λ b. b && nat_eq name name) (same c.name) ∙ same name in
         let at : repeats_at c (c.name, name) above ≡ true =
-            any_passes (λ n. same_place (c.name, n) (c.name, name)) (repeated_names above c) name a here in
+        any_passes (λ n. same_place (c.name, n) (c.name, name)) (repeated_names above c) name a here in
         record {
           direct = direct;
           extends = extends;
@@ -115,7 +112,7 @@ module _ (d : Deployment) (qualifiers : List QualifierType) (well : AreBeanProbl
         by_member m a false e = refl
         by_member m a true e =
             let name : Among (member_name m) others =
-                among_map member_name _ m (among_filter (λ k. has_other_member k above) c.members m a e) in
+            among_map member_name _ m (among_filter (λ k. has_other_member k above) c.members m a e) in
             absurd (none_repeats (Element.AMember (index d c listed) c m) (is_member_element d c listed m a)
             (record { item = c; listed = among_contains d.classes c listed; has = repeats (member_name m) (among_right (fields ++ injected) others (member_name m) name) }))
 
@@ -123,6 +120,6 @@ module _ (d : Deployment) (qualifiers : List QualifierType) (well : AreBeanProbl
         by_field f a false e = refl
         by_field f a true e =
             let name : Among f.name injected =
-                among_map (λ (k : InjectedField). k.name) _ f (among_filter (λ k. has_field k.name above) c.inject f a e) in
+            among_map (λ (k : InjectedField). k.name) _ f (among_filter (λ k. has_field k.name above) c.inject f a e) in
             absurd (none_repeats (Element.AnInjectedField (index d c listed) c f) (is_injected_element d c listed f a)
             (record { item = c; listed = among_contains d.classes c listed; has = repeats f.name (among_left (fields ++ injected) others f.name (among_right fields injected f.name name)) }))

@@ -33,8 +33,7 @@ IsInjection _ = ⊥
 pub record IsServedClass (c : Managed) : Type 0 where
   pub steps : AllByRecursion IsInjection c.plan
   pub unchained : (name : Name) (m : Method) → at c.methods name ≡ Some m → m.chain ≡ []
-  pub no_chain : c.pre_destroy.chain ≡ []
-  pub no_callbacks : c.pre_destroy.callbacks ≡ []
+  pub silent : (c.pre_destroy.chain ≡ []) × (c.pre_destroy.callbacks ≡ [])
 
 -- a method of this name, which takes so many values
 pub record HasMethod (c : Managed) (name : Name) (count : ℕ) : Type 0 where

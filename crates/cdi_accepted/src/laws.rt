@@ -20,7 +20,7 @@ pub fn law_fits(bodies: &Bodies)
     ensures { (t : RunTables) → IsTabled t → AreIdsOf (entries_of bodies.now) t
         → IsTrue (is_served t) → IsTrue (serves_shapes (shape_of (entries_of bodies.now)) t)
         → AreProblemsIn t.deployment (shape_of (entries_of bodies.now)) t.tables.enabled
-            (setting_by t.deployment t.tables) []
+        (setting_by t.deployment t.tables) []
         → Fits (machine_tables t) (legal_of (entries_of bodies.now)) }
 {
     Bodies::gives_in_shape(bodies);

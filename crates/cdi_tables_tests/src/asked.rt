@@ -8,9 +8,10 @@ use std::alloc::Global;
 use std::process::Abort;
 use std::test::Fail;
 
-/// Three beans, of which two have the interface `I`, one with `Q`, and a class that asks for them.
+/// Three beans, of which two have the interface `I`, one with `Q`, and a class that asks for them. The body of the method `n` isn't
+/// registered.
 const BEANS: &str =
-    r#"{"name":"P","implements":["I"],"bean":{},"members":[{"kind":"method","name":"m","args":1,"body":"b"}]},{"name":"R","implements":["I"],"bean":{"quals":[["Q",{"v":1,"w":2}]]},"members":[{"kind":"producer","name":"p","type":"T","quals":["A"],"body":"b"}]},{"name":"T","bean":{"alternative":true}},{"name":"Ask","inject":[{"name":"a","type":"I"},{"name":"b","type":"I","quals":["Any"]},{"name":"c","type":"I","quals":[["Q",{"v":1,"w":3}]]},{"name":"d","type":"I","quals":[["Q",{"v":2}]]},{"name":"e","type":"T","quals":["A"]},{"name":"f","type":"T"},{"name":"g","type":"Object","quals":["Default"]}]}"#;
+    r#"{"name":"P","implements":["I"],"bean":{},"members":[{"kind":"method","name":"m","args":1,"body":"b"},{"kind":"method","name":"n","body":"c"}]},{"name":"R","implements":["I"],"bean":{"quals":[["Q",{"v":1,"w":2}]]},"members":[{"kind":"producer","name":"p","type":"T","quals":["A"],"body":"b"}]},{"name":"T","bean":{"alternative":true}},{"name":"Ask","inject":[{"name":"a","type":"I"},{"name":"b","type":"I","quals":["Any"]},{"name":"c","type":"I","quals":[["Q",{"v":1,"w":3}]]},{"name":"d","type":"I","quals":[["Q",{"v":2}]]},{"name":"e","type":"T","quals":["A"]},{"name":"f","type":"T"},{"name":"g","type":"Object","quals":["Default"]}]}"#;
 
 /// What is asked for: the injected fields of the last class.
 fn points_of(tables: &RunTables) -> &[InjectedField] {
@@ -156,7 +157,7 @@ fn add_method(
 ) {
     let names = &tables.deployment().names;
     match tables.method(bean, names.name_for(name)) {
-        Some(method) => add_place(rt, alloc, names, &method.code.place, text),
+        Some(method) => add_place(rt, alloc, names, &method.place, text),
         None => add(rt, "none", text),
     }
     add(rt, " ", text);
@@ -170,8 +171,9 @@ fn finds_methods(rt: HostRuntime) -> Result<(), Fail> {
     for bean in 0..5usize {
         add_method(&rt, alloc, &tables, bean, "m", &mut text);
     }
+    add_method(&rt, alloc, &tables, 0, "n", &mut text);
     add_method(&rt, alloc, &tables, 0, "P", &mut text);
-    expect_text(&rt, text.as_str(), "P#m none none none none none ");
+    expect_text(&rt, text.as_str(), "P#m none none none none none none ");
     Ok(())
 }
 

@@ -8,4 +8,6 @@ mod plan_text;
 #[cfg(test)]
 mod plans;
 #[cfg(test)]
+mod served;
+#[cfg(test)]
 mod written;

@@ -1,13 +1,18 @@
 //! Deployments as they are written, with their tables.
+ghost use Rattle.std.specs.Prelude.{◌≡◌, IfOk};
+ghost use Rattle.cdi_base.specs.declared.act.Act.TheVariants.{Give};
+ghost use Rattle.cdi_base.specs.declared.value.Value.TheVariants.{Null};
+
 use cdi_base::stage::WHOLE;
-use cdi_base::{Name, Names, Place};
+use cdi_base::{Act, Fields, Name, Names, Place, Value};
 use cdi_beanlist::BeanList;
+use cdi_bodies::{Bodies, Body, Shape, View};
 use cdi_deploy::read_at;
 use cdi_deployment::Deployment;
 use cdi_problems::PlaceText;
 use cdi_run_tables::RunTables;
 use cdi_tables::BeanTables;
-use std::alloc::Global;
+use std::alloc::{AllocError, Global};
 use std::process::Abort;
 
 /// A deployment of these classes and other lists, with the qualifiers `A` and `Q`, of which `Q` has a nonbinding member `w`, and the
@@ -22,6 +27,24 @@ fn deployment_of(rt: &impl Abort, alloc: Global, classes: &str, more: &str) -> D
     }
 }
 
+/// Bodies of which one, with the name `b`, gives null. Its shape says whether it may go on with a chain.
+pub(crate) fn bodies_of(rt: &impl Abort, alloc: Global, names: &Names, chain: bool) -> Bodies {
+    let mut shape = Shape::new(alloc);
+    shape.chain = chain;
+    let body: Body = Box::new(
+        alloc,
+        |_fields: &Fields, _view: &View| -> Result<Act, AllocError>
+            ensures { IfOk result (λ act. act ≡ Give Null) }
+        { Ok(Act::Give { value: Value::Null }) },
+    )
+    .expect(rt, "memory");
+    let mut bodies = Bodies::new(alloc);
+    if bodies.add(names.name_for("b"), shape, body).is_err() {
+        panic!(rt; "a body isn't added");
+    }
+    bodies
+}
+
 /// The tables of such a deployment, which has no problems of names or beans.
 pub(crate) fn tables_of(rt: &impl Abort, alloc: Global, classes: &str, more: &str) -> RunTables {
     let deployment = deployment_of(rt, alloc, classes, more);
@@ -30,7 +53,8 @@ pub(crate) fn tables_of(rt: &impl Abort, alloc: Global, classes: &str, more: &st
         Err(_) => panic!(rt; "{classes} has problems"),
     };
     let tables = BeanTables::build(alloc, &deployment, list).expect(rt, "memory");
-    RunTables::build(alloc, deployment, tables).expect(rt, "memory")
+    let bodies = bodies_of(rt, alloc, &deployment.names, false);
+    RunTables::build(alloc, deployment, tables, &bodies).expect(rt, "memory")
 }
 
 pub(crate) fn add(rt: &impl Abort, part: &str, text: &mut String) {
