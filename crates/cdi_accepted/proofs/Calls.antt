@@ -37,7 +37,7 @@ use Rattle.cdi_run_tables.specs.Served.{is_served}
 use Rattle.cdi_run_tables.specs.declared.tables.RunTables.{RunTables}
 use Rattle.cdi_shape_check.specs.OwnParts.{declares_method, parts_of_line}
 use Rattle.cdi_shape_check.specs.References.{answers_call, bean_told, declares_called, is_call_missing, is_called, point_at, point_of_field, refuses_call}
-use Rattle.cdi_accepted.specs.Fits.{AnswersThrough, HasMethod, IsClassOf, IsIn}
+use Rattle.cdi_fit.specs.Fits.{AnswersThrough, HasMethod, IsClassOf, IsIn}
 use Rattle.cdi_accepted.proofs.Acts.{IsListedCall}
 use Rattle.cdi_accepted.proofs.Beans.{HasPlan, has_plan, is_kept, stands_listed}
 use Rattle.cdi_accepted.proofs.Fields.{IsInjected, of_machine, of_steps, one_injected}

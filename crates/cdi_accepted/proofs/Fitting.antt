@@ -41,7 +41,7 @@ use Rattle.cdi_run_tables.specs.Planned.{IsTabled}
 use Rattle.cdi_run_tables.specs.Served.{has_texts, is_served, is_served_bean, is_served_body, is_served_plan, is_served_scope, is_served_shape, is_served_step, serves_methods, serves_shapes}
 use Rattle.cdi_run_tables.specs.declared.tables.RunTables.{RunTables}
 use Rattle.cdi_shape_check.specs.OwnParts.{declares_method, has_field}
-use Rattle.cdi_accepted.specs.Fits.{Fits, GivesServed, IsInjection, IsServedAct, IsServedBean, IsServedClass, IsServedScope}
+use Rattle.cdi_fit.specs.Fits.{Fits, GivesServed, IsInjection, IsServedAct, IsServedBean, IsServedClass, IsServedScope}
 use Rattle.cdi_accepted.proofs.Acts.{Needs, needs, plain}
 use Rattle.cdi_accepted.proofs.Beans.{HasPlan, has_plan, stands_listed}
 use Rattle.cdi_accepted.proofs.Calls.{answers_through, target}

@@ -27,7 +27,7 @@ use Rattle.cdi_run_tables.specs.Machine.{AreIdsOf, bean_at, bean_with, id_of, ma
 use Rattle.cdi_run_tables.specs.Planned.{IsTabled}
 use Rattle.cdi_run_tables.specs.declared.tables.RunTables.{RunTables}
 use Rattle.cdi_shape_check.specs.OwnParts.{declares_method, is_method}
-use Rattle.cdi_accepted.specs.Fits.{HasMethod}
+use Rattle.cdi_fit.specs.Fits.{HasMethod}
 use Rattle.cdi_accepted.proofs.Beans.{HasPlan, is_kept, kept_at}
 use Rattle.cdi_accepted.proofs.Duplicates.{IsNamedApart, named_apart}
 use Rattle.cdi_accepted.proofs.Lines.{ArePairs, HasFront, front_of, is_listed, pairs_of}

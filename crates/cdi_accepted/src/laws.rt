@@ -1,6 +1,6 @@
 //! The law that the tables of an accepted deployment fit its bodies. A call of it does nothing: its contract is the law.
 ghost use Rattle.std.specs.Prelude.{[], IsTrue};
-ghost use Rattle.cdi_accepted.specs.Fits.{Fits};
+ghost use Rattle.cdi_fit.specs.Fits.{Fits};
 ghost use Rattle.cdi_bodies.specs.Table.{entries_of};
 ghost use Rattle.cdi_body_check.specs.Shapes.{shape_of};
 ghost use Rattle.cdi_check.specs.Late.{AreProblemsIn};
