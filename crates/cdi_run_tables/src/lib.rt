@@ -4,9 +4,11 @@
 
 pub mod ids;
 mod known;
+mod managed;
 pub mod planned;
 mod served;
 pub mod tables;
 
+pub use managed::Injection;
 pub use planned::PlannedBean;
 pub use tables::{Method, RunTables};

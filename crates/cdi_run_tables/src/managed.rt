@@ -1,0 +1,120 @@
+//! What is asked of a managed bean, by its plan.
+ghost use Rattle.std.specs.Prelude.{◌≡◌, ◌<◌, ◌^◌, length, slice_get, option_map, option_and_then, IfOk};
+ghost use Rattle.std.specs.List.{filter_map};
+ghost use Rattle.cdi_run_tables.specs.Machine.{first_fields};
+ghost use Rattle.cdi_run_tables.specs.Managed as spec;
+
+use crate::planned::PlannedBean;
+use crate::tables::RunTables;
+use cdi_base::{Fields, Name};
+use cdi_deployment::{Field, Point};
+use cdi_plans::{ManagedPlan, Plan, Step};
+use std::alloc::{AllocError, Global};
+
+/// An injected field, and what is asked for at its injection point (Jakarta CDI 4.0, *Injected fields*).
+#[derive(Clone, Copy)]
+pub struct Injection<'a> {
+    pub field: Name,
+    pub point: &'a Point,
+}
+
+fn managed_plan(bean: &PlannedBean) -> Option<&ManagedPlan>
+    ensures { option_map (λ p. p.now) result ≡ spec.managed_plan bean.now }
+{
+    match &bean.plan {
+        Plan::Managed(plan) => Some(plan),
+        Plan::Product(_plan) => None,
+    }
+}
+
+/// The fields, each with its first value.
+fn fields_of(alloc: Global, fields: &[Field]) -> Result<Fields, AllocError>
+    ensures { IfOk result (λ all. all ≡ first_fields fields.now) }
+{
+    let mut all = Fields::new(alloc);
+    for field in fields {
+        all.put(field.name, field.value.clone()?)?;
+    }
+    Ok(all)
+}
+
+/// The injected field that stands at a place among those of some steps.
+fn injection_at(steps: &[Step], at: usize) -> Option<Injection<'_>>
+    ensures { option_map (λ i. (i.field, i.point.now)) result
+        ≡ slice_get (filter_map spec.injected steps.now) at }
+{
+    let mut left = at;
+    for step in steps {
+        if let Step::Inject { field, point } = step {
+            if left == 0 {
+                return Some(Injection {
+                    field: *field,
+                    point,
+                });
+            }
+            left -= 1;
+        }
+    }
+    None
+}
+
+/// How many injected fields some steps have.
+fn count_of(steps: &[Step]) -> usize
+    ensures { result ≡ length (filter_map spec.injected steps.now) }
+{
+    let mut count = 0;
+    for step in steps {
+        if matches!(step, Step::Inject { .. }) {
+            count += 1;
+        }
+    }
+    count
+}
+
+impl RunTables {
+    /// The plan of the managed bean with an index.
+    fn managed(&self, bean: usize) -> Option<&ManagedPlan>
+        ensures { option_map (λ p. p.now) result
+            ≡ option_and_then spec.managed_plan (slice_get self.now.beans bean) }
+    {
+        match self.bean(bean) {
+            Some(bean) => managed_plan(bean),
+            None => None,
+        }
+    }
+
+    /// The fields of a new instance of the bean with an index, each with its first value; those of a product are none.
+    pub fn first_fields(&self, alloc: Global, bean: usize) -> Result<Fields, AllocError>
+        ensures { IfOk result (λ fields. fields ≡ spec.fields_of
+            (option_and_then spec.managed_plan (slice_get self.now.beans bean))) }
+    {
+        match self.managed(bean) {
+            Some(plan) => fields_of(alloc, plan.fields.as_slice()),
+            None => Ok(Fields::new(alloc)),
+        }
+    }
+
+    /// How many injected fields the bean with an index has.
+    pub fn injections(&self, bean: usize) -> usize
+        ensures { result ≡ length (spec.injections_of
+            (option_and_then spec.managed_plan (slice_get self.now.beans bean))) }
+    {
+        match self.managed(bean) {
+            Some(plan) => count_of(plan.steps.as_slice()),
+            None => 0,
+        }
+    }
+
+    /// The injected field at a place among those of the bean with an index: class by class, the topmost superclass first (Jakarta CDI
+    /// 4.0, *Lifecycle of managed beans*).
+    pub fn injection(&self, bean: usize, at: usize) -> Option<Injection<'_>>
+        ensures { option_map (λ i. (i.field, i.point.now)) result
+            ≡ slice_get (spec.injections_of
+            (option_and_then spec.managed_plan (slice_get self.now.beans bean))) at }
+    {
+        match self.managed(bean) {
+            Some(plan) => injection_at(plan.steps.as_slice(), at),
+            None => None,
+        }
+    }
+}
