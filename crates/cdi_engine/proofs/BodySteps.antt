@@ -7,6 +7,7 @@ use Rattle.cdi_base.specs.declared.value.Value.{Value}
 use Rattle.cdi_base.specs.declared.value.Value.TheVariants as values
 use Rattle.cdi_base.specs.declared.act.Act.{Act}
 use Rattle.cdi_base.specs.declared.act.Act.TheVariants as acts
+use Rattle.cdi_base.specs.declared.act.Via.TheVariants as vias
 use Rattle.cdi_base.specs.declared.act.Answer.{Answer}
 use Rattle.cdi_base.specs.declared.act.Answer.TheVariants as answers
 use Rattle.cdi_base.specs.declared.entry.Entry.TheVariants as entries
@@ -61,6 +62,21 @@ no_field (f ∷ fs) name e =
       | true ↦ λ h. absurd (let r = rw h at e in cc)
       | false ↦ λ h. rw h (no_field fs name (rw h at e))
     ] refl
+
+-- what an attempt comes to goes on at its ends
+attempt_then : {A B : Type 0} (p : Prog A) (f : Completion A → Prog B)
+    → (attempt p >>= f) ≡ handle p (λ a. f (Gave a)) (λ x. f (Threw x))
+attempt_then (ret a) f = refl
+attempt_then (throw x) f = refl
+attempt_then (machine.cut cause) f = refl
+attempt_then (machine.miss p) f = ap machine.miss (attempt_then p f)
+attempt_then (see k) f = ap see (fun_ext (λ t. fun_ext (λ w. attempt_then (k t w) f)))
+attempt_then (change g p) f = ap (change g) (attempt_then p f)
+attempt_then (tick e p) f = ap (tick e) (attempt_then p f)
+attempt_then (machine.mark n p) f = ap (machine.mark n) (attempt_then p f)
+attempt_then (act b fields view k) f = ap (act b fields view) (fun_ext (λ a. attempt_then (k a) f))
+attempt_then (choose n k) f = ap (choose n) (fun_ext (λ i. attempt_then (k i) f))
+attempt_then (nested c k) f = ap (nested c) (fun_ext (λ r. attempt_then (k r) f))
 
 module _ (s : Setting) where
   abbrev t : Tables
@@ -144,24 +160,24 @@ module _ (s : Setting) where
     acts_cut v f = Comes.does a asked g.gives (cut_before s refl f)
 
     pub acts_leads : {z : Setting} (copy : Act) (next : Next) (v x : World) → copy ≡ a → Narrows s z → Written (entries.Did copy) w v
-        → Settles z (perform (running_of r) a) v next x
+        → ComesTo z (perform (running_of r) a) v next x
         → ComesTo s (carry_on (running_of r)) w next x
     acts_leads copy next v x c n k e =
-        Comes.does a asked g.gives (comes_after s refl (rw c at k) (comes_before n (Comes.same e)))
+        Comes.does a asked g.gives (comes_after s refl (rw c at k) (comes_before n e))
 
     pub acts_on_way : (copy : Act) (v x : World) → copy ≡ a → Written (entries.Did copy) w v → x ≡ v
         → IsOnWay s (carry_on (running_of r)) w x
     acts_on_way copy v x c k q =
         let y = on_way_after s refl (rw c at k) (on_way_at_start {s = s} {p = perform (running_of r) a} q) in
-        record { left = y.left; comes = Comes.does a asked g.gives y.comes }
+        record { left = y.left; comes = Comes.does {q = y.left} a asked g.gives y.comes }
 
   pub give_leads : (r : Running) (v : Value) (w : World)
-      → Settles s (perform (running_of r) (acts.Give v)) w (nexts.Finished (outcomes.Ends (completions.Gave (givens.Result v)))) w
-  give_leads r v w = refl
+      → ComesTo s (perform (running_of r) (acts.Give v)) w (nexts.Finished (outcomes.Ends (completions.Gave (givens.Result v)))) w
+  give_leads r v w = Comes.same refl
 
   pub throw_leads : (r : Running) (x : Name) (w : World)
-      → Settles s (perform (running_of r) (acts.Throw x)) w (nexts.Finished (outcomes.Ends (completions.Threw x))) w
-  throw_leads r x w = refl
+      → ComesTo s (perform (running_of r) (acts.Throw x)) w (nexts.Finished (outcomes.Ends (completions.Threw x))) w
+  throw_leads r x w = Comes.same refl
 
   -- ---- answers
 
@@ -223,6 +239,13 @@ module _ (s : Setting) where
       by (Some o) q z =
           ap (λ x. next_stop t (instance_set (running_of r) field v x) w) q
           ∙ ap (λ x. next_stop t (field_set (running_of r) field v x) w) (at_field o.fields field z).1
+
+  -- ---- a method is called through a field
+
+  pub through_leads : (b : Box Running) (field name : Name) (args : List Value) (w : World)
+      → ComesTo s (perform (running_of b.value) (acts.Call (vias.Field field) name args)) w (nexts.Needs (tasks.Through b.value.instance field name args) (frames.Answering b)) w
+  through_leads b field name args w =
+      Comes.within 0 (ap (λ p. (p, w)) (attempt_then (carry_out (running_of b.value) (acts.Call (vias.Field field) name args)) (go_on_with (running_of b.value))))
 
   -- ---- a method of its own is called
 

@@ -1,6 +1,6 @@
 -- A step and the runs after it are a run.
-use Rattle.std.proofs.Common.{ℕ, zero, suc, ◌≡◌, ◌≤◌, length, refl, sym, ◌∙◌, subst, true≢false}
-use Rattle.std.specs.Prelude.{Ok, Err, IsErr, IfOk, OnErr}
+use Rattle.std.proofs.Common.{ℕ, zero, suc, ◌≡◌, ◌≤◌, length, sym, subst, true≢false}
+use Rattle.std.specs.Prelude.{Ok, Err, IsErr}
 use Rattle.std.specs.Prelude.{Result as Either}
 use Rattle.cdi_base.specs.declared.entry.Entry.{Entry}
 use Rattle.cdi_base.specs.declared.reply.Cause.TheVariants as causes

@@ -12,7 +12,7 @@ pub(crate) mod commands;
 
 use cdi_machine::Failure;
 use cdi_steps::task::{Call, Next, Task};
-use cdi_steps::{Host, creation, destruction, invocations, obtaining};
+use cdi_steps::{Host, creation, destruction, invocations, obtaining, references};
 
 /// What a task does first.
 #[tactic(auto, using(cdi_steps::proofs::AfterEntries::starts))]
@@ -37,6 +37,12 @@ pub(crate) fn step<H: Host>(host: &mut H, task: Task) -> Result<Next, Failure>
             method,
             args,
         } => Ok(obtaining::using(host, bean_type, qualifiers, method, args)?),
+        Task::Through {
+            instance,
+            field,
+            method,
+            args,
+        } => Ok(references::through(host, instance, field, method, args)?),
         Task::Creating { number, bean, left } => {
             Ok(creation::creating(host, number, bean, left)?)
         }

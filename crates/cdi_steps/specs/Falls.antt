@@ -33,6 +33,7 @@ abbrev pub rank : Task → ℕ
 rank (tasks.Start c) = call_rank c
 rank (tasks.Begin job) = 5
 rank (tasks.Using type uses method args) = 4
+rank (tasks.Through n field method args) = 4
 rank (tasks.Creating n b left) = creation_rank left
 
 -- what comes after the frame's call, if that gave something

@@ -15,12 +15,14 @@ use Rattle.cdi_store.specs.declared.instance.Owner.TheVariants as owners
 use Rattle.cdi_machine.specs.Words.{Name, Fields, Asked}
 use Rattle.cdi_machine.specs.World.{Change}
 use Rattle.cdi_machine.specs.Programs as machine
-use Rattle.cdi_machine.specs.Programs.{Given, Number, Prog, ret, throw, cut, miss, see, change, tick, mark, act, choose, nested, handle, finally, quietly, do_nothing, tell_missing, complete, call, finish, note, alter, each, require_number, resolve, groups_of, rethrow, ◌>>=◌, ◌>>◌}
+use Rattle.cdi_machine.specs.Programs.{Given, Number, Prog, ret, throw, cut, miss, see, change, tick, mark, act, choose, nested, handle, finally, quietly, do_nothing, tell_missing, complete, call, finish, note, alter, each, require_number, resolve, groups_of, instance, rethrow, ◌>>=◌, ◌>>◌}
 use Rattle.cdi_machine.specs.Machine as definition
 use Rattle.cdi_machine.specs.Contexts.{direct_reference, refer_to, reach_instance, require_living}
 use Rattle.cdi_machine.specs.Tables.{Step}
 use Rattle.cdi_machine.specs.Creation.{create_by, take_step}
-use Rattle.cdi_machine.specs.Bodies.{given_by, invoke_method, answer_of, with_answer}
+use Rattle.cdi_base.specs.Maps.{at}
+use Rattle.cdi_store.specs.declared.references.Reference.{Reference}
+use Rattle.cdi_machine.specs.Bodies.{given_by, invoke_method, answer_of, with_answer, reference_at}
 use Rattle.cdi_machine.specs.Destruction.{give_back, clean_up}
 use Rattle.cdi_machine.specs.Events.{fire_context_event, fire_container_event}
 use Rattle.cdi_machine.specs.Commands.{task, close}
@@ -141,6 +143,17 @@ use_lent n method args = do
   m ← require_living n
   invoke_method m method args
 
+abbrev pub reference_of : ℕ → Name → Prog Reference
+reference_of n field = do
+  o ← instance n
+  ret (reference_at (at o.references field))
+
+abbrev pub call_through : ℕ → Name → Name → List Value → Prog Given
+call_through n field method args = do
+  r ← reference_of n field
+  m ← reach_instance r
+  invoke_method m method args
+
 abbrev pub give_back_with : machine.Completion Given → Prog Given
 give_back_with c = do
   give_back
@@ -184,6 +197,7 @@ abbrev pub rest : Task → Prog Given
 rest (tasks.Start c) = call (task_of c)
 rest (tasks.Begin job) = task (command_of job)
 rest (tasks.Using type uses method args) = use_for (asked_for type uses) method args
+rest (tasks.Through n field method args) = call_through n field method args
 rest (tasks.Creating n b left) = carry_on_creating n b left
 
 -- what a frame does once the call or the part has ended

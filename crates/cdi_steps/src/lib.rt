@@ -10,6 +10,7 @@ pub mod entries;
 pub mod host;
 pub mod invocations;
 pub mod obtaining;
+pub mod references;
 pub mod task;
 
 pub use host::Host;

@@ -138,9 +138,9 @@ pub fn borrow<H: Host>(
     }
 }
 
-/// Invokes a method of an instance that was made for the command.
+/// Invokes a method of the instance of a dependent bean, unless its destruction has begun.
 #[tactic(auto, using(crate::proofs::ObtainingSteps::leads))]
-fn lent<H: Host>(
+pub(crate) fn lent<H: Host>(
     host: &mut H,
     number: u32,
     method: Name,

@@ -111,6 +111,13 @@ pub enum Task {
         method: Name,
         args: Seq<Value>,
     },
+    /// The call of a business method through an injected field of an instance.
+    Through {
+        instance: u32,
+        field: Name,
+        method: Name,
+        args: Seq<Value>,
+    },
     /// The rest of an instance's creation, of which so many steps are left.
     Creating {
         number: u32,

@@ -10,12 +10,12 @@ ghost use Rattle.cdi_steps.specs.Setting.{Narrows, is_served};
 ghost use Rattle.cdi_steps.specs.Asked.{has_field_in};
 ghost use Rattle.cdi_steps.specs.Words.{running_of, completion_of};
 ghost use Rattle.cdi_steps.specs.Meanings.{first, go_on_with, told};
-ghost use Rattle.cdi_steps.specs.Leads.{MovesTo, Settles, IsOnWay};
+ghost use Rattle.cdi_steps.specs.Leads.{MovesTo, ComesTo, Settles, IsOnWay};
 ghost use Rattle.cdi_steps.specs.Falls.{Falls, SameTrace, call_rank, frame_rank};
 ghost use Rattle.cdi_steps.specs.Known.{KnownNext};
 ghost use Rattle.cdi_steps.specs.declared.task.Outcome.{Outcome};
 
-use cdi_base::{Act, Answer, BuiltIn, Cause, Entry, Name, Seq, Text, Value};
+use cdi_base::{Act, Answer, BuiltIn, Cause, Entry, Name, Seq, Text, Value, Via};
 use cdi_bodies::View;
 use cdi_machine::Failure;
 use cdi_steps::Host;
@@ -99,7 +99,7 @@ pub(super) fn acts<H: Host>(host: &mut H, running: Box<Running>) -> Result<Next,
 fn perform<H: Host>(host: &mut H, running: Box<Running>, act: Act) -> Result<Next, AllocError>
     requires known { (H.setting host.old).knows running.value.body }
     requires served { IsTrue (is_served act) }
-    ensures leads { IfOk result (λ next. Settles (H.setting host.old)
+    ensures leads { IfOk result (λ next. ComesTo (H.setting host.old)
         (perform (running_of running.value) act) (H.world host.old) next (H.world host.new)) }
     ensures same { IfOk result (λ next. SameTrace (H.world host.old) (H.world host.new)) }
     ensures known { IfOk result (KnownNext (H.setting host.new)) }
@@ -111,6 +111,10 @@ fn perform<H: Host>(host: &mut H, running: Box<Running>, act: Act) -> Result<Nex
         Act::Throw { exception } => Ok(ended(Completion::Threw(exception))),
         Act::Set { field, value } => set_field(host, running, field, value),
         Act::Own { method, args } => call_own(host, running, method, args),
+        Act::Call { via, method, args } => match via {
+            Via::Field(field) => Ok(call_through(running, field, method, args)),
+            _ => unreachable!(),
+        },
         _ => unreachable!(),
     }
 }
@@ -190,6 +194,21 @@ fn call_own<H: Host>(
     };
     let body = Task::Start(Call::Body(Box::new(host.alloc(), own)?));
     Ok(Next::Needs(body, Frame::Answering(running)))
+}
+
+/// Calls a business method through an injected field of a body's own instance (Jakarta CDI 4.0, *Container invocations
+/// and interception*).
+fn call_through(running: Box<Running>, field: Name, method: Name, args: Seq<Value>) -> Next
+    ensures { result ≡ Next.Needs (Task.Through running.value.instance field method args)
+        (Frame.Answering running) }
+{
+    let part = Task::Through {
+        instance: running.instance,
+        field,
+        method,
+        args,
+    };
+    Next::Needs(part, Frame::Answering(running))
 }
 
 // ---- answers
