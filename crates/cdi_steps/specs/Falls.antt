@@ -25,7 +25,7 @@ call_rank (calls.Fire event) = 1
 call_rank calls.Dismiss = 2
 call_rank calls.Clear = 2
 
--- of a creation by the steps that are left, of which no plan has more
+-- of a creation by the steps that are left, which are fewer than this
 abbrev pub creation_rank : ℕ → ℕ
 creation_rank left = 2 * min left (2 ^ 32) + 2
 

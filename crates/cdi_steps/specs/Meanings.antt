@@ -74,7 +74,8 @@ inject_made n field steps c = create_by n do
   ret (Number n)
 
 abbrev pub carry_on_injecting : ℕ → ℕ → ℕ → Name → machine.Completion Given → Prog Given
-carry_on_injecting n b left field c = see λ t w. inject_made n field (last_of left (plan_of (t.bean b))) c
+carry_on_injecting n b left field c =
+    see λ t w. inject_made n field (last_of left (plan_of (t.bean b))) c
 
 -- the end of a creation that failed
 abbrev pub drop_instance : ℕ → Name → Prog Given

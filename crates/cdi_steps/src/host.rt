@@ -42,7 +42,8 @@ pub trait Host {
 
     /// The fields of a new instance of the bean with an index.
     fn first_fields(&self, bean: u32) -> Result<Fields, AllocError>
-        ensures { IfOk result (λ fields. fields ≡ fields_of ((setting self.now).tables.bean bean)) };
+        ensures { IfOk result (λ fields.
+            fields ≡ fields_of ((setting self.now).tables.bean bean)) };
 
     /// How many steps the creation of an instance of the bean with an index has.
     fn injections(&self, bean: u32) -> u32
