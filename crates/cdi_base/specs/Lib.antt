@@ -6,5 +6,4 @@ pub mod Words
 pub mod Limits
 pub mod Plain
 pub mod Maps
-pub mod Stage
 pub mod Uses

@@ -3,7 +3,6 @@ ghost use Rattle.std.specs.Prelude.{◌≡◌, IfOk};
 ghost use Rattle.cdi_base.specs.declared.act.Act.TheVariants.{Give};
 ghost use Rattle.cdi_base.specs.declared.value.Value.TheVariants.{Null};
 
-use cdi_base::stage::WHOLE;
 use cdi_base::{Act, Fields, Name, Names, Value};
 use cdi_bodies::{Bodies, Body, Shape, View};
 use cdi_check::check;
@@ -11,6 +10,7 @@ use cdi_deploy::read_at;
 use cdi_deployment::{Deployment, Script as Written};
 use cdi_problems::{Problem, ProblemText};
 use cdi_script::Script;
+use cdi_stage::WHOLE;
 use std::alloc::{AllocError, Global};
 use std::process::Abort;
 

@@ -7,12 +7,12 @@ use Rattle.std.specs.Cmp.Lexicographic.{slice_cmp}
 use Rattle.std.specs.List.{All, list_all, list_any, position_or_len}
 use Rattle.std.specs.Option.{is_some, unwrap_or}
 use Rattle.std.specs.Ordering.{match_ordering}
-use Rattle.cdi_base.specs.declared.stage.Stage.{Stage}
+use Rattle.cdi_stage.specs.declared.stage.Stage.{Stage}
 use Rattle.cdi_base.specs.declared.uses.WrittenMember.{WrittenMember}
 use Rattle.cdi_base.specs.declared.uses.WrittenUse.{WrittenUse}
 use Rattle.cdi_base.specs.declared.value.Value.{Value}
 use Rattle.cdi_base.specs.Name.{is_known, number_of}
-use Rattle.cdi_base.specs.Stage.{is_included}
+use Rattle.cdi_stage.specs.Stage.{is_included}
 use Rattle.cdi_form.specs.declared.form.Kind.{Kind}
 use Rattle.cdi_form.specs.declared.form.Part.{Part}
 use Rattle.cdi_form.specs.declared.form.Part.TheVariants as parts

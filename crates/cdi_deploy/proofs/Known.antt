@@ -1,9 +1,9 @@
 -- What each kind of object stands for has only names of the table that covers it.
 use Rattle.std.proofs.Common.{◌≡◌, ◌∙◌, ℕ, ◌<◌, Bool, true, false, bytes_eq, List, [], length, codes, Option, Some, None, option_and_then, if◌then◌else◌, IfSome, refl, sym, ap}
 use Rattle.std.specs.List.{All}
-use Rattle.cdi_base.specs.declared.stage.Stage.{Stage}
-use Rattle.cdi_base.specs.declared.stage.Stage.TheVariants as stages
-use Rattle.cdi_base.specs.Stage.{is_included, whole}
+use Rattle.cdi_stage.specs.declared.stage.Stage.{Stage}
+use Rattle.cdi_stage.specs.declared.stage.Stage.TheVariants as stages
+use Rattle.cdi_stage.specs.Stage.{is_included, whole}
 use Rattle.cdi_form.specs.declared.form.Kind.{Kind}
 use Rattle.cdi_form.specs.declared.form.Kind.TheVariants as kinds
 use Rattle.cdi_form.specs.declared.form.Part.{Part}

@@ -1,7 +1,7 @@
 -- What is read is readable, is within its limits and knows its names, and what is readable is read.
 use Rattle.std.proofs.Common.{◌≡◌, ◌∙◌, ℕ, ◌≤◌, Bool, true, false, not, List, [], length, Option, Some, None, Result, Ok, Err, IfOk, IsOk, if◌then◌else◌, refl, sym, ap, subst, arith}
 use Rattle.std.specs.Result.{is_ok}
-use Rattle.cdi_base.specs.declared.stage.Stage.{Stage}
+use Rattle.cdi_stage.specs.declared.stage.Stage.{Stage}
 use Rattle.cdi_base.specs.BuiltIn.{built_in_names}
 use Rattle.cdi_base.specs.Reading.{◌>>=◌}
 use Rattle.cdi_form.specs.Names.{names_fit}

@@ -6,7 +6,7 @@ use Rattle.cdi_base.specs.declared.uses.Use.{Use}
 use Rattle.cdi_base.specs.declared.uses.WrittenMember.{WrittenMember}
 use Rattle.cdi_base.specs.declared.uses.WrittenUse.{WrittenUse}
 use Rattle.cdi_base.specs.Name.{number_of}
-use Rattle.cdi_base.specs.Stage.{whole}
+use Rattle.cdi_stage.specs.Stage.{whole}
 use Rattle.cdi_form.specs.declared.form.Kind.{Kind}
 use Rattle.cdi_form.specs.declared.form.Kind.TheVariants as kinds
 use Rattle.cdi_form.specs.Words.{member_kind}

@@ -1,7 +1,7 @@
 -- The table of the names of a deployment: the texts in the places of names are added one after the other, as they stand. Members of an
 -- object go by their keys in the order of bytes, items by their index, and in a use its name comes before the keys of its members.
 use Rattle.std.specs.Prelude.{ℕ, List, Option, Some, None, Result, Ok, Err, if◌then◌else◌}
-use Rattle.cdi_base.specs.declared.stage.Stage.{Stage}
+use Rattle.cdi_stage.specs.declared.stage.Stage.{Stage}
 use Rattle.cdi_base.specs.Name.{is_name, has_room, with_name}
 use Rattle.cdi_base.specs.Reading.{◌>>=◌}
 use Rattle.cdi_form.specs.declared.form.Kind.{Kind}

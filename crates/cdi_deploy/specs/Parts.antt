@@ -5,7 +5,7 @@ use Rattle.cdi_base.specs.declared.scope.Scope.{Scope}
 use Rattle.cdi_base.specs.declared.scope.Scope.TheVariants as scopes
 use Rattle.cdi_base.specs.declared.value.Value.{Value}
 use Rattle.cdi_base.specs.declared.value.Value.TheVariants as values
-use Rattle.cdi_base.specs.Stage.{whole}
+use Rattle.cdi_stage.specs.Stage.{whole}
 use Rattle.cdi_form.specs.Words.{scope_named}
 use Rattle.cdi_json.specs.Forms.{value_in}
 use Rattle.serde_json.specs.Data.{Num, unsigned, Data, null, boolean, number, string, array, Items, no_items}

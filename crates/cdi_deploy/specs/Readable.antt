@@ -1,6 +1,6 @@
 -- Which bytes are a deployment, said apart from the order in which their faults are looked for.
 use Rattle.std.specs.Prelude.{◌≡◌, ℕ, List, Some, Ok, length, ◌≤◌, IsTrue}
-use Rattle.cdi_base.specs.declared.stage.Stage.{Stage}
+use Rattle.cdi_stage.specs.declared.stage.Stage.{Stage}
 use Rattle.cdi_base.specs.Name.{is_name}
 use Rattle.cdi_form.specs.HasForm.{HasForm}
 use Rattle.cdi_form.specs.NamePlaces.{StandsAsName}

@@ -1,10 +1,10 @@
 -- Bytes to the deployment that they are, or to their first fault.
 use Rattle.std.specs.Prelude.{ℕ, Bool, not, ◌&&◌, List, length, Option, Some, None, Result, Ok, Err, nat_lt, if◌then◌else◌}
 use Rattle.std.specs.Str.{is_utf8}
-use Rattle.cdi_base.specs.declared.stage.Stage.{Stage}
+use Rattle.cdi_stage.specs.declared.stage.Stage.{Stage}
 use Rattle.cdi_base.specs.BuiltIn.{built_in_names}
 use Rattle.cdi_base.specs.Reading.{◌>>=◌}
-use Rattle.cdi_base.specs.Stage.{served}
+use Rattle.cdi_stage.specs.Stage.{served}
 use Rattle.cdi_form.specs.declared.form.Kind.TheVariants as kinds
 use Rattle.cdi_form.specs.declared.form.Part.{Part}
 use Rattle.cdi_form.specs.declared.form.Part.TheVariants as parts

@@ -1,6 +1,6 @@
 //! Laws of the definitions that the contracts cite.
 ghost use Rattle.std.specs.Prelude.{◌↔◌, ℕ, List, IfOk, IsOk, IsTrue};
-ghost use Rattle.cdi_base.specs.declared.stage.Stage.{Stage as AnyStage};
+ghost use Rattle.cdi_stage.specs.declared.stage.Stage.{Stage as AnyStage};
 ghost use Rattle.cdi_deployment.specs.KnownNames.{KnowsNames};
 ghost use Rattle.cdi_deployment.specs.Limits.{is_within};
 ghost use Rattle.cdi_deploy.specs.Readable.{IsReadable};

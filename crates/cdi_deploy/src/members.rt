@@ -6,12 +6,13 @@ ghost use Rattle.cdi_deploy.specs.Items.{method_in, initializer_in, callback_in,
 
 use crate::items::{Item, each_at, maybe_at, name_at};
 use crate::parts::{count_at, mark_at, scope_at, text_at, whole_number_at};
-use cdi_base::{Name, Names, Seq, Use, WHOLE};
+use cdi_base::{Name, Names, Seq, Use};
 use cdi_deployment::{
     Callback, Disposer, Initializer, Member, Method, Observer, Point, ProducerField, ProducerMethod,
 };
 use cdi_form::Kind;
 use cdi_form::words::member_kind;
+use cdi_stage::WHOLE;
 use serde_json::Value as Json;
 use std::alloc::{AllocError, Global};
 

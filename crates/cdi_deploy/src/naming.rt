@@ -5,9 +5,10 @@ ghost use Rattle.serde_json.specs.View.{view, items_view, members_view};
 ghost use Rattle.cdi_deploy.specs.Naming as spec;
 
 use crate::fault::ReadFault;
-use cdi_base::{InternError, Names, ReadError, Stage, is_name};
+use cdi_base::{InternError, Names, ReadError, is_name};
 use cdi_form::form::{Kind, Part, named_part, part_at};
 use cdi_form::keys::kind_of;
+use cdi_stage::Stage;
 use serde_json::{Map, Value};
 
 /// Adds a name. What isn't one was refused before, so the test only tells [`Names::intern`] so.

@@ -5,11 +5,12 @@ ghost use Rattle.serde_json.specs.Find.{get};
 ghost use Rattle.serde_json.specs.View.{view, items_view};
 ghost use Rattle.cdi_deploy.specs.Parts as spec;
 
-use cdi_base::{Scope, Value, WHOLE};
+use cdi_base::{Scope, Value};
 use cdi_deployment::Steps;
 use cdi_form::shape::MAX_ARGUMENTS;
 use cdi_form::words::scope_named;
 use cdi_json::Form;
+use cdi_stage::WHOLE;
 use serde_json::Value as Json;
 use std::alloc::{AllocError, Global};
 

@@ -7,11 +7,12 @@ ghost use Rattle.cdi_deploy.specs.Reading as spec;
 use crate::fault::ReadFault;
 use crate::naming::add_names;
 use crate::objects::lists_in;
-use cdi_base::{Names, ReadError, SERVED, Stage};
+use cdi_base::{Names, ReadError};
 use cdi_deployment::Deployment;
 use cdi_deployment::limits::is_within;
 use cdi_form::{Kind, Part, first_bad_name, numbers_fit, wrong};
 use cdi_json::read_json;
+use cdi_stage::{SERVED, Stage};
 use serde_json::Value as Json;
 use std::alloc::Global;
 

@@ -1,7 +1,8 @@
 //! What the tests share: each compares by a call, since an assertion in a test makes its proof longer than a call does.
-use cdi_base::{ReadError, Stage};
+use cdi_base::ReadError;
 use cdi_deploy::{ReadFault, read_at};
 use cdi_deployment::Deployment;
+use cdi_stage::Stage;
 use std::alloc::Global;
 use std::process::Abort;
 

@@ -1,6 +1,6 @@
 //! Tests of the limits of the whole form, each on both sides.
 use crate::checks::check_text;
-use cdi_base::WHOLE;
+use cdi_stage::WHOLE;
 use std::alloc::Global;
 use std::process::Abort;
 

@@ -1,6 +1,6 @@
 //! Tests of what is served: what came with a later stage is refused as what isn't listed.
 use crate::checks::compare;
-use cdi_base::{SERVED, Stage};
+use cdi_stage::{SERVED, Stage};
 
 // A key, a kind of member and a scope that aren't served yet.
 const NOT_SERVED: &[(&str, &str)] = &[

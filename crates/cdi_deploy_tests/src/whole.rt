@@ -1,6 +1,6 @@
 //! Tests of the whole form: each key, each kind of member, and each fault at its place.
 use crate::checks::compare;
-use cdi_base::WHOLE;
+use cdi_stage::WHOLE;
 
 // Each key of the deployment and of the objects in its lists, but for classes.
 const DECLARED: &[(&str, &str)] = &[

@@ -1,7 +1,7 @@
 -- The names of a value fit exactly where each text in the place of a name is one, and a bad name that is found stands in such a place.
 use Rattle.std.proofs.Common.{◌≡◌, ◌∙◌, ℕ, Bool, true, false, cond, ◌⊎◌, inl, inr, List, Option, Some, None, option_and_then, refl, sym, ap, subst, true≢false}
 use Rattle.std.specs.Option.{is_none, option_or}
-use Rattle.cdi_base.specs.declared.stage.Stage.{Stage}
+use Rattle.cdi_stage.specs.declared.stage.Stage.{Stage}
 use Rattle.cdi_base.specs.Name.{is_name}
 use Rattle.serde_json.specs.Data.{Data, null, boolean, number, string, array, object, Items, no_items, item, Members, no_members, member}
 use Rattle.cdi_form.specs.declared.form.Kind.{Kind}

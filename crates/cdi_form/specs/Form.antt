@@ -1,7 +1,7 @@
 -- What stands at a key of an object at a stage, and in an array.
 use Rattle.std.specs.Prelude.{ℕ, List, bytes_eq, Option, Some, None, option_and_then, find, if◌then◌else◌}
-use Rattle.cdi_base.specs.declared.stage.Stage.{Stage}
-use Rattle.cdi_base.specs.Stage.{is_included}
+use Rattle.cdi_stage.specs.declared.stage.Stage.{Stage}
+use Rattle.cdi_stage.specs.Stage.{is_included}
 use Rattle.cdi_form.specs.declared.form.Kind.{Kind}
 use Rattle.cdi_form.specs.declared.form.Part.{Part}
 use Rattle.cdi_form.specs.declared.form.Part.TheVariants.{Names, Uses, SomeUses, Name, Use, Object, Objects, Member, Members}

@@ -2,9 +2,9 @@
 use Rattle.std.specs.Prelude.{ℕ, List, [], ◌∷◌, codes, bytes_eq, Option, Some, None, option_and_then, find, if◌then◌else◌}
 use Rattle.cdi_base.specs.declared.scope.Scope.{Scope}
 use Rattle.cdi_base.specs.declared.scope.Scope.TheVariants as scopes
-use Rattle.cdi_base.specs.declared.stage.Stage.{Stage}
-use Rattle.cdi_base.specs.declared.stage.Stage.TheVariants as stages
-use Rattle.cdi_base.specs.Stage.{is_included}
+use Rattle.cdi_stage.specs.declared.stage.Stage.{Stage}
+use Rattle.cdi_stage.specs.declared.stage.Stage.TheVariants as stages
+use Rattle.cdi_stage.specs.Stage.{is_included}
 use Rattle.cdi_form.specs.declared.form.Kind.{Kind}
 use Rattle.cdi_form.specs.declared.form.Kind.TheVariants as kinds
 use Rattle.cdi_form.specs.declared.words.Word.{Word as DeclaredWord}

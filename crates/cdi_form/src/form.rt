@@ -5,7 +5,7 @@ ghost use Rattle.cdi_form.specs.Form as spec;
 ghost use Rattle.cdi_form.specs.Table.{row_of, rows};
 
 use crate::table::{Row, rows};
-use cdi_base::Stage;
+use cdi_stage::Stage;
 
 /// The kinds of objects. A member of a class is of the kind that its key `kind` names.
 #[derive(Clone, Copy, Debug, PartialEq, Eq)]

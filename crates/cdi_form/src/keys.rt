@@ -10,7 +10,7 @@ ghost use Rattle.cdi_form.specs.Table.{row_of};
 use crate::form::{Kind, Part, part_at};
 use crate::table::{Row, rows};
 use crate::words::member_kind;
-use cdi_base::Stage;
+use cdi_stage::Stage;
 use serde_json::{Map, Value as Json};
 
 /// The member of an object at a key.

@@ -1,7 +1,7 @@
 //! Laws of the definitions that the contracts cite.
 ghost use Rattle.std.specs.Prelude.{◌≡◌, ◌↔◌, ℕ, List, None, Some, IsTrue, false};
 ghost use Rattle.cdi_base.specs.Name.{is_name};
-ghost use Rattle.cdi_base.specs.declared.stage.Stage.{Stage as AnyStage};
+ghost use Rattle.cdi_stage.specs.declared.stage.Stage.{Stage as AnyStage};
 ghost use Rattle.serde_json.specs.Data.{Data};
 ghost use Rattle.cdi_form.specs.HasForm.{HasForm};
 ghost use Rattle.cdi_form.specs.NamePlaces.{StandsAsName};

@@ -5,7 +5,8 @@ ghost use Rattle.cdi_form.specs.Names as spec;
 
 use crate::form::{Kind, Part, named_part, part_at};
 use crate::keys::kind_of;
-use cdi_base::{Stage, is_name};
+use cdi_base::is_name;
+use cdi_stage::Stage;
 use serde_json::{Map, Value};
 
 /// A text, if it is no name.

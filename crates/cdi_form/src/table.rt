@@ -4,7 +4,7 @@ ghost use Rattle.cdi_form.specs.Table as spec;
 ghost use Rattle.cdi_form.specs.Table.{row_of};
 
 use crate::form::{Kind, Part};
-use cdi_base::Stage;
+use cdi_stage::Stage;
 
 /// A key of an object.
 #[derive(Clone, Copy)]

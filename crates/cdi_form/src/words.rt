@@ -5,7 +5,8 @@ ghost use Rattle.cdi_form.specs.Words as spec;
 ghost use Rattle.cdi_form.specs.Words.{word_of, served_meaning};
 
 use crate::form::Kind;
-use cdi_base::{Scope, Stage};
+use cdi_base::Scope;
+use cdi_stage::Stage;
 
 /// A text that stands for something, since a stage.
 #[derive(Clone, Copy)]

@@ -1,7 +1,7 @@
 -- The lists of a value are read at a stage unless the table of names is full.
 use Rattle.std.proofs.Common.{Bool, true, false, ℕ, List, Option, Some, None, Result, Ok, Err, if◌then◌else◌}
 use Rattle.cdi_base.specs.BuiltIn.{built_in_names}
-use Rattle.cdi_base.specs.declared.stage.Stage.{Stage}
+use Rattle.cdi_stage.specs.declared.stage.Stage.{Stage}
 use Rattle.cdi_base.specs.Name.{is_name, has_room, with_name}
 use Rattle.cdi_base.specs.Reading.{◌>>=◌}
 use Rattle.serde_json.specs.Data.{Data, null, boolean, number, string, array, object, Items, no_items, item, Members, no_members, member}

@@ -2,7 +2,7 @@
 use Rattle.std.proofs.Common.{◌≡◌, ℕ, ◌+◌, Bool, true, false, not, ◌&&◌, List, [], ◌∷◌, length, Option, Some, cond, nat_le, refl}
 use Rattle.std.specs.List.{position_from}
 use Rattle.std.specs.Option.{is_none}
-use Rattle.cdi_base.specs.declared.stage.Stage.{Stage}
+use Rattle.cdi_stage.specs.declared.stage.Stage.{Stage}
 use Rattle.serde_json.specs.Data.{array, Items, no_items, item}
 use Rattle.serde_json.specs.View.{view, items_view}
 use Rattle.serde_json.proofs.Views.{items_len-items_view}

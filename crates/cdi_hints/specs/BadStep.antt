@@ -1,6 +1,6 @@
 -- The first step that is none at a stage, of the first script that isn't one there.
 use Rattle.std.specs.Prelude.{ℕ, ◌+◌, List, not, find, Option, Some, None, option_map, option_and_then, if◌then◌else◌}
-use Rattle.cdi_base.specs.declared.stage.Stage.{Stage}
+use Rattle.cdi_stage.specs.declared.stage.Stage.{Stage}
 use Rattle.serde_json.specs.Data.{Data, array, Items, no_items, item}
 use Rattle.cdi_deployment.specs.declared.deployment.Deployment.{Deployment}
 use Rattle.cdi_deployment.specs.declared.deployment.Script.{Script}

@@ -1,7 +1,7 @@
 -- Which hint there is for the bytes of a deployment at a stage.
 use Rattle.std.specs.Prelude.{◌≡◌, ℕ, List, Option, Some, None, Result, Ok, Err, IsSomeAnd, option_map}
 use Rattle.std.specs.Bool.{MatchBool}
-use Rattle.cdi_base.specs.declared.stage.Stage.{Stage}
+use Rattle.cdi_stage.specs.declared.stage.Stage.{Stage}
 use Rattle.cdi_base.specs.declared.reading.ReadError.{ReadError}
 use Rattle.cdi_base.specs.declared.reading.ReadError.TheVariants as errors
 use Rattle.cdi_json.specs.Json.{json_in}

@@ -1,6 +1,6 @@
 -- Which kind of hint there is, by what reading the bytes gives.
 use Rattle.std.specs.Prelude.{◌≡◌, ℕ, List, Option, None, Result, Ok, Err, IfSome, IsSomeAnd}
-use Rattle.cdi_base.specs.declared.stage.Stage.{Stage}
+use Rattle.cdi_stage.specs.declared.stage.Stage.{Stage}
 use Rattle.cdi_base.specs.Reading.{◌>>=◌}
 use Rattle.cdi_json.specs.Json.{json_in}
 use Rattle.cdi_deploy.specs.Reading.{lists_at, or_not_json}

@@ -1,7 +1,7 @@
 //! Laws of the definitions that the contracts cite.
 ghost use Rattle.std.specs.Prelude.{◌≡◌, ◌↔◌, ℕ, List, Option, None, Some, IsTrue, false};
 ghost use Rattle.cdi_base.specs.Name.{is_name};
-ghost use Rattle.cdi_base.specs.declared.stage.Stage.{Stage as AnyStage};
+ghost use Rattle.cdi_stage.specs.declared.stage.Stage.{Stage as AnyStage};
 ghost use Rattle.serde_json.specs.Data.{Data, Items};
 ghost use Rattle.cdi_deployment.specs.declared.deployment.Deployment.{Deployment as AnyDeployment};
 ghost use Rattle.cdi_form.specs.declared.form.Part.{Part as AnyPart};

@@ -10,10 +10,11 @@ use crate::hint::Hint;
 use crate::lists::first_long_list;
 use crate::position::place_after;
 use crate::steps::first_bad_step;
-use cdi_base::{ReadError, Stage, Text};
+use cdi_base::{ReadError, Text};
 use cdi_deploy::reading::MAX_BYTES;
 use cdi_deploy::{ReadFault, deployment_at, lists_at};
 use cdi_form::{Kind, Part, first_bad_name};
+use cdi_stage::Stage;
 use serde_json::Value as Json;
 use std::alloc::{AllocError, Global};
 

@@ -6,9 +6,10 @@ ghost use Rattle.cdi_script.specs.Form.{is_script_at, is_step_at};
 ghost use Rattle.cdi_hints.specs.BadStep as spec;
 
 use crate::hint::Hint;
-use cdi_base::{Stage, Text};
+use cdi_base::Text;
 use cdi_deployment::{Deployment, Script};
 use cdi_script::{MAX_STEPS, are_steps_at, is_step_at};
+use cdi_stage::Stage;
 use cdi_text::places::name_text;
 use serde_json::Value as Json;
 use std::alloc::{AllocError, Global};

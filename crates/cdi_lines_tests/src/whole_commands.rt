@@ -1,6 +1,7 @@
 //! Tests of reading every command, at the stage that serves it and before.
 use crate::checks::{command_in, expect_command, text};
-use cdi_base::{Command, Seq, Stage, Value, WHOLE, WrittenMember, WrittenUse};
+use cdi_base::{Command, Seq, Value, WrittenMember, WrittenUse};
+use cdi_stage::{Stage, WHOLE};
 use cdi_text::read_command_at;
 use std::alloc::Global;
 use std::process::Abort;

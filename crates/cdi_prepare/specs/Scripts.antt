@@ -1,7 +1,7 @@
 -- The scripts of a deployment.
 use Rattle.std.specs.Prelude.{ℕ, ◌==◌, List, [], ◌∷◌, ◌++◌, Bool, Option, Result, Ok, Err, fold, if◌then◌else◌, slice_get, position, option_map, option_and_then}
 use Rattle.std.specs.List.{list_any}
-use Rattle.cdi_base.specs.declared.stage.Stage.{Stage}
+use Rattle.cdi_stage.specs.declared.stage.Stage.{Stage}
 use Rattle.cdi_base.specs.Reading.{◌>>=◌}
 use Rattle.cdi_bodies.specs.declared.shape.Shape.{Shape}
 use Rattle.cdi_deployment.specs.declared.deployment.Script.{Script as Declared}

@@ -6,10 +6,11 @@ ghost use Rattle.cdi_prepare.specs.Ready.{IsRefusal, ready_of};
 
 use crate::fault_text::{write_fault, write_script_fault};
 use crate::scripts::{NamedScript, read_scripts};
-use cdi_base::{ReadError, Stage};
+use cdi_base::ReadError;
 use cdi_bodies::MAX_BODIES;
 use cdi_deploy::read_at;
 use cdi_deployment::Deployment;
+use cdi_stage::Stage;
 use std::alloc::{AllocError, Global};
 
 /// A deployment with its scripts, whose names are in its table.

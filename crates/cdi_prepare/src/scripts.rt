@@ -3,9 +3,10 @@ ghost use Rattle.cdi_base.specs.Name.{Extends};
 ghost use Rattle.cdi_base.specs.Reading.{Gives};
 ghost use Rattle.cdi_prepare.specs.Scripts as spec;
 
-use cdi_base::{Name, Names, ReadError, Stage, Text};
+use cdi_base::{Name, Names, ReadError, Text};
 use cdi_deployment::deployment::Script as Declared;
 use cdi_script::{Script, ScriptFault};
+use cdi_stage::Stage;
 use cdi_text::places::name_text;
 use std::alloc::Global;
 

@@ -1,11 +1,11 @@
 //! The problems of beans, of deployments as they are written.
 use cdi_base::Names;
-use cdi_base::stage::WHOLE;
 use cdi_bean_check::bean_problems;
 use cdi_deploy::read_at;
 use cdi_deployment::Deployment;
 use cdi_problems::{Problem, ProblemText};
 use cdi_quals::QualifierTypes;
+use cdi_stage::WHOLE;
 use cdi_types::TypeTable;
 use std::alloc::Global;
 use std::process::Abort;

@@ -1,6 +1,6 @@
 //! Tests of the hints for refused deployments.
-use cdi_base::{SERVED, Stage, WHOLE};
 use cdi_hints::hint_for;
+use cdi_stage::{SERVED, Stage, WHOLE};
 use std::alloc::{AllocError, Global};
 use std::process::Abort;
 use std::test::Fail;

@@ -1,11 +1,9 @@
 //! Tests of each step of scripts: how it is written, since when it is served, its act, what it names, and when it is reached.
 use crate::checks::{expect_same, expect_text};
-use cdi_base::{
-    Act, Answer, BuiltIn, Fields, Name, Names, ReadError, SERVED, Seq, Stage, Text, Use, Value,
-    Via, WHOLE,
-};
+use cdi_base::{Act, Answer, BuiltIn, Fields, Name, Names, ReadError, Seq, Text, Use, Value, Via};
 use cdi_bodies::View;
 use cdi_script::{Script, ScriptFault, is_step_at};
+use cdi_stage::{SERVED, Stage, WHOLE};
 use serde_json::Value as Json;
 use std::alloc::Global;
 use std::process::Abort;

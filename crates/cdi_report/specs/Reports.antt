@@ -1,7 +1,7 @@
 -- What is told of the bytes of a deployment.
 use Rattle.std.specs.Prelude.{◌≡◌, ℕ, Bool, true, false, List, [], ◌∷◌, codes, Option, Result, Ok, Err}
 use Rattle.std.specs.List.{flat_map}
-use Rattle.cdi_base.specs.Stage.{whole}
+use Rattle.cdi_stage.specs.Stage.{whole}
 use Rattle.cdi_bodies.specs.declared.shape.Shape.{Shape}
 use Rattle.cdi_check.specs.Problems.{AreProblemsOf}
 use Rattle.cdi_deployment.specs.declared.deployment.Deployment.{Deployment}

@@ -8,13 +8,13 @@ ghost use Rattle.cdi_script.specs.Next.{next_of};
 
 use crate::problem_lines::write_problems;
 use crate::verdict::Verdict;
-use cdi_base::stage::WHOLE;
 use cdi_base::{Act, Fields, Names};
 use cdi_bodies::{AddError, Bodies, Body, MAX_BODIES, View};
 use cdi_check::check;
 use cdi_lines::{ServeFault, Sink};
 use cdi_prepare::{NamedScript, PrepareError, Prepared, prepare};
 use cdi_problems::Problem;
+use cdi_stage::WHOLE;
 use std::alloc::{AllocError, Global};
 
 /// What is told of a deployment, and whether it is accepted.

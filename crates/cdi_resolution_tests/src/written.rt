@@ -1,11 +1,11 @@
 //! Deployments as they are written, their bean lists, and texts of what is in these.
-use cdi_base::stage::WHOLE;
 use cdi_base::{Name, Names};
 use cdi_beanlist::{Bean, BeanKind, BeanList};
 use cdi_deploy::read_at;
 use cdi_deployment::{Deployment, InjectedField};
 use cdi_enable::laws::law_forest;
 use cdi_enable::{EnabledSet, enabled};
+use cdi_stage::WHOLE;
 use std::alloc::Global;
 use std::process::Abort;
 

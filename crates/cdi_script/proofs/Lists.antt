@@ -4,7 +4,7 @@ use Rattle.std.specs.List.{list_all}
 use Rattle.serde_json.specs.Data.{Data}
 use Rattle.serde_json.specs.View.{view, items_view}
 use Rattle.serde_json.specs.declared.value.Value.{Value}
-use Rattle.cdi_base.specs.declared.stage.Stage.{Stage}
+use Rattle.cdi_stage.specs.declared.stage.Stage.{Stage}
 use Rattle.cdi_script.specs.declared.part.PartKind.{PartKind}
 use Rattle.cdi_script.specs.Part.{are_parts}
 use Rattle.cdi_script.specs.Reading.{all_items}

@@ -1,7 +1,7 @@
 -- Arrays by the number of their items: of one, of three and more, of four and more.
 use Rattle.std.proofs.Common.{◌≡◌, ℕ, suc, ap, ◌≤◌, List, [], ◌∷◌, length, false, None, Err, refl, arith}
 use Rattle.std.proofs.lemmas.Bool.{and_right, le-ltb}
-use Rattle.cdi_base.specs.declared.stage.Stage.{Stage}
+use Rattle.cdi_stage.specs.declared.stage.Stage.{Stage}
 use Rattle.serde_json.specs.Data.{Data, array, Items, no_items, item}
 use Rattle.serde_json.specs.Events.{items_len}
 use Rattle.serde_json.specs.View.{view, items_view}

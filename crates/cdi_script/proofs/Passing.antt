@@ -6,11 +6,11 @@ use Rattle.std.specs.Option.{option_map_or}
 use Rattle.cdi_base.specs.Name.{is_name, has_room}
 use Rattle.cdi_base.specs.Reading.{◌>>=◌, Gives, IsFault}
 use Rattle.cdi_base.specs.declared.reading.ReadError.{ReadError}
-use Rattle.cdi_base.specs.Stage.{is_included}
+use Rattle.cdi_stage.specs.Stage.{is_included}
 use Rattle.cdi_base.specs.Uses.{has_names, numbered_use}
 use Rattle.cdi_base.specs.declared.act.Via.TheVariants as vias
-use Rattle.cdi_base.specs.declared.stage.Stage.{Stage}
-use Rattle.cdi_base.specs.declared.stage.Stage.TheVariants.{Injection, Lifecycle, Lookups}
+use Rattle.cdi_stage.specs.declared.stage.Stage.{Stage}
+use Rattle.cdi_stage.specs.declared.stage.Stage.TheVariants.{Injection, Lifecycle, Lookups}
 use Rattle.cdi_base.specs.declared.uses.WrittenUse.{WrittenUse}
 use Rattle.cdi_json.specs.Forms.{use_in}
 use Rattle.cdi_json.specs.Json.{is_word}

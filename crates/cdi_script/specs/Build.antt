@@ -1,8 +1,8 @@
 -- The script that a value is, with the table of names that it is read into. Where no stage is named, it is the one that is served.
 use Rattle.std.specs.Prelude.{ℕ, List, nat_le, is_some, Option, Some, None, Ok, Err, if◌then◌else◌}
 use Rattle.cdi_base.specs.Reading.{◌>>=◌}
-use Rattle.cdi_base.specs.Stage.{served}
-use Rattle.cdi_base.specs.declared.stage.Stage.{Stage}
+use Rattle.cdi_stage.specs.Stage.{served}
+use Rattle.cdi_stage.specs.declared.stage.Stage.{Stage}
 use Rattle.serde_json.specs.Data.{Data, array, Items, no_items, item}
 use Rattle.serde_json.specs.Events.{items_len}
 use Rattle.cdi_script.specs.declared.fault.ScriptFault.TheVariants.{BadStep, TooLong}

@@ -1,8 +1,8 @@
 -- Which values are scripts. Where no stage is named, it is the one that is served.
 use Rattle.std.specs.Prelude.{Bool, false, ◌&&◌, codes, nat_le, nat_lt, is_some, find, unwrap_or, Option, Some, None, if◌then◌else◌}
-use Rattle.cdi_base.specs.Stage.{is_included, served}
-use Rattle.cdi_base.specs.declared.stage.Stage.{Stage}
-use Rattle.cdi_base.specs.declared.stage.Stage.TheVariants.{Injection}
+use Rattle.cdi_stage.specs.Stage.{is_included, served}
+use Rattle.cdi_stage.specs.declared.stage.Stage.{Stage}
+use Rattle.cdi_stage.specs.declared.stage.Stage.TheVariants.{Injection}
 use Rattle.cdi_json.specs.Json.{is_word}
 use Rattle.serde_json.specs.Data.{Data, array, Items, no_items, item}
 use Rattle.serde_json.specs.Events.{items_len}

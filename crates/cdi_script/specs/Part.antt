@@ -2,7 +2,7 @@
 use Rattle.std.specs.Prelude.{◌≡◌, ℕ, List, [], ◌∷◌, Bool, true, false, ◌&&◌, Ok}
 use Rattle.cdi_base.specs.Reading.{◌>>=◌}
 use Rattle.cdi_base.specs.declared.act.Via.TheVariants as vias
-use Rattle.cdi_base.specs.declared.stage.Stage.{Stage}
+use Rattle.cdi_stage.specs.declared.stage.Stage.{Stage}
 use Rattle.serde_json.specs.Data.{Data, Items, no_items, item}
 use Rattle.cdi_script.specs.declared.part.PartKind.{PartKind}
 use Rattle.cdi_script.specs.declared.part.PartKind.TheVariants.{Name, Via, Qualifiers, Value, Values}

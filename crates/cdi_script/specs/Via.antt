@@ -1,11 +1,11 @@
 -- How the references are written by which a body reaches another instance.
 use Rattle.std.specs.Prelude.{ℕ, List, Bool, false, ◌&&◌, codes, Ok, Err, if◌then◌else◌}
 use Rattle.cdi_base.specs.Reading.{◌>>=◌}
-use Rattle.cdi_base.specs.Stage.{is_included}
+use Rattle.cdi_stage.specs.Stage.{is_included}
 use Rattle.cdi_base.specs.declared.act.Via.{Via}
 use Rattle.cdi_base.specs.declared.act.Via.TheVariants.{Field, Param, Local}
-use Rattle.cdi_base.specs.declared.stage.Stage.{Stage}
-use Rattle.cdi_base.specs.declared.stage.Stage.TheVariants.{Injection, Lifecycle, Lookups}
+use Rattle.cdi_stage.specs.declared.stage.Stage.{Stage}
+use Rattle.cdi_stage.specs.declared.stage.Stage.TheVariants.{Injection, Lifecycle, Lookups}
 use Rattle.cdi_json.specs.Json.{is_word}
 use Rattle.serde_json.specs.Data.{Data, array, no_items, item}
 use Rattle.cdi_script.specs.declared.fault.ScriptFault.TheVariants.{BadStep}

@@ -8,8 +8,9 @@ ghost use Rattle.cdi_script.specs.Expression as spec;
 use crate::expression::{Expression, Node};
 use crate::fault::ScriptFault;
 use crate::reading::{Item, bad, count_of, is_count, is_named, name_of};
-use cdi_base::{Names, ReadError, Stage, Text};
+use cdi_base::{Names, ReadError, Text};
 use cdi_json::is_word;
+use cdi_stage::Stage;
 use serde_json::Value as Json;
 use std::alloc::Global;
 

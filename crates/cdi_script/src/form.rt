@@ -11,8 +11,9 @@ use crate::fault::ScriptFault;
 use crate::part::{Parts, are_parts};
 use crate::reading::{Item, are_all, bad};
 use crate::step::{Action, Step, StepKind};
-use cdi_base::{Names, ReadError, SERVED, Stage};
+use cdi_base::{Names, ReadError};
 use cdi_json::is_word;
+use cdi_stage::{SERVED, Stage};
 use serde_json::Value as Json;
 use std::alloc::Global;
 

@@ -9,7 +9,8 @@ use crate::expression::{Expression, Node};
 use crate::fault::ScriptFault;
 use crate::reading::{Item, array_of, is_array_of, is_named, name_of};
 use crate::via::{is_via, via_of};
-use cdi_base::{BuiltIn, Name, Names, ReadError, Seq, Stage, Use, Via};
+use cdi_base::{BuiltIn, Name, Names, ReadError, Seq, Use, Via};
+use cdi_stage::Stage;
 use serde_json::Value as Json;
 use std::alloc::Global;
 

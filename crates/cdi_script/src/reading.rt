@@ -2,13 +2,14 @@
 ghost use Rattle.std.specs.Prelude.{◌≡◌, ℕ, List, length, Bool, Err, IfOk};
 ghost use Rattle.cdi_base.specs.Name.{Extends};
 ghost use Rattle.cdi_base.specs.Reading.{Gives};
-ghost use Rattle.cdi_base.specs.declared.stage.Stage.{Stage as AnyStage};
+ghost use Rattle.cdi_stage.specs.declared.stage.Stage.{Stage as AnyStage};
 ghost use Rattle.serde_json.specs.Data.{Data};
 ghost use Rattle.serde_json.specs.View.{view, items_view};
 ghost use Rattle.cdi_script.specs.Reading as spec;
 
 use crate::fault::ScriptFault;
-use cdi_base::{InternError, Name, Names, ReadError, Seq, Stage, is_name};
+use cdi_base::{InternError, Name, Names, ReadError, Seq, is_name};
+use cdi_stage::Stage;
 use serde_json::Value as Json;
 use std::alloc::Global;
 

@@ -10,7 +10,8 @@ ghost use Rattle.cdi_script.specs.declared.fault.ScriptFault.TheVariants.{BadSte
 use crate::fault::ScriptFault;
 use crate::reading::{Item, are_all, bad, each};
 use crate::step::Step;
-use cdi_base::{Names, ReadError, SERVED, Seq, Stage};
+use cdi_base::{Names, ReadError, Seq};
+use cdi_stage::{SERVED, Stage};
 use serde_json::Value as Json;
 use std::alloc::Global;
 use std::marker::Model;

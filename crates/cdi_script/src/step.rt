@@ -7,8 +7,9 @@ ghost use Rattle.cdi_script.specs.Step as spec;
 use crate::expression::Expression;
 use crate::part::{PartKind, Parts};
 use crate::value::values_of;
-use cdi_base::{Act, Fields, Name, Seq, Stage, Use, Via};
+use cdi_base::{Act, Fields, Name, Seq, Use, Via};
 use cdi_bodies::{FiredEvent, Lookup, MethodCall, OwnCall, Shape, View};
+use cdi_stage::Stage;
 use std::alloc::{AllocError, Global};
 
 /// One step of a script.

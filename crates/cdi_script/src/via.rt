@@ -7,8 +7,9 @@ ghost use Rattle.cdi_script.specs.Via as spec;
 
 use crate::fault::ScriptFault;
 use crate::reading::{bad, count_of, is_count, is_named, name_of};
-use cdi_base::{Names, ReadError, Stage, Via};
+use cdi_base::{Names, ReadError, Via};
 use cdi_json::is_word;
+use cdi_stage::Stage;
 use serde_json::Value as Json;
 
 #[tactic(auto, unfolding(crate::specs::Via::is_via_pair))]

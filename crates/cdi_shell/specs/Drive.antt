@@ -1,7 +1,7 @@
 -- A run of the program, from the bytes of a deployment and of its input to the bytes of its output.
 use Rattle.std.specs.Prelude.{◌≡◌, ◌≢◌, ℕ, List, [], map, Option, Result, Ok, Err, slice_get, MatchOption}
 use Rattle.cdi_base.specs.declared.reply.Reply.{Reply}
-use Rattle.cdi_base.specs.Stage.{served}
+use Rattle.cdi_stage.specs.Stage.{served}
 use Rattle.cdi_deployment.specs.declared.deployment.Deployment.{Deployment}
 use Rattle.cdi_beans.specs.declared.bean.Bean.{Bean}
 use Rattle.cdi_beans.specs.declared.problem.Problem.{Problem}

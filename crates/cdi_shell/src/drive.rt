@@ -12,13 +12,14 @@ ghost use Rattle.cdi_shell.specs.RefusalText.{problem_lines};
 
 use crate::ending::{Ending, after_serving};
 use crate::refusal_text::write_problems;
-use cdi_base::{Act, Fields, Limits, Names, SERVED};
+use cdi_base::{Act, Fields, Limits, Names};
 use cdi_beans::problem::Problem;
 use cdi_bodies::{AddError, Bodies, Body, MAX_BODIES, View};
 use cdi_container::{Accepted, Container, Unaccepted, accept, serve};
 use cdi_lines::{ServeFault, Sink, Source};
 use cdi_machine::Driver;
 use cdi_prepare::{NamedScript, PrepareError, Prepared, prepare};
+use cdi_stage::SERVED;
 use std::alloc::{AllocError, Global};
 
 /// Memory ran out where no container was served.

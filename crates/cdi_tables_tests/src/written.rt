@@ -3,7 +3,6 @@ ghost use Rattle.std.specs.Prelude.{◌≡◌, IfOk};
 ghost use Rattle.cdi_base.specs.declared.act.Act.TheVariants.{Give};
 ghost use Rattle.cdi_base.specs.declared.value.Value.TheVariants.{Null};
 
-use cdi_base::stage::WHOLE;
 use cdi_base::{Act, Fields, Name, Names, Place, Value};
 use cdi_beanlist::BeanList;
 use cdi_bodies::{Bodies, Body, Shape, View};
@@ -11,6 +10,7 @@ use cdi_deploy::read_at;
 use cdi_deployment::Deployment;
 use cdi_problems::PlaceText;
 use cdi_run_tables::RunTables;
+use cdi_stage::WHOLE;
 use cdi_tables::BeanTables;
 use std::alloc::{AllocError, Global};
 use std::process::Abort;

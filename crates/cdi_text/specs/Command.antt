@@ -3,12 +3,12 @@ use Rattle.std.specs.Prelude.{ℕ, Bool, List, [], ◌∷◌, codes, Option, Som
 use Rattle.std.specs.List.{list_all}
 use Rattle.cdi_base.specs.Name.{is_name}
 use Rattle.cdi_base.specs.Reading.{◌>>=◌}
-use Rattle.cdi_base.specs.Stage.{is_included, served}
+use Rattle.cdi_stage.specs.Stage.{is_included, served}
 use Rattle.cdi_base.specs.Uses.{has_names}
 use Rattle.cdi_base.specs.declared.command.Command.{Command}
 use Rattle.cdi_base.specs.declared.command.Command.TheVariants.{Begin, Call, Read, Fire, End, Invalidate, Live, Shutdown}
-use Rattle.cdi_base.specs.declared.stage.Stage.{Stage}
-use Rattle.cdi_base.specs.declared.stage.Stage.TheVariants as stages
+use Rattle.cdi_stage.specs.declared.stage.Stage.{Stage}
+use Rattle.cdi_stage.specs.declared.stage.Stage.TheVariants as stages
 use Rattle.cdi_base.specs.declared.uses.WrittenUse.{WrittenUse}
 use Rattle.cdi_base.specs.declared.value.Value.{Value}
 use Rattle.cdi_json.specs.Forms.{value_in, use_in, list_in}

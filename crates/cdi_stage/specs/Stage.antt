@@ -1,7 +1,7 @@
 -- Which part of the forms is served.
 use Rattle.std.specs.Prelude.{ℕ, Bool, nat_le}
-use Rattle.cdi_base.specs.declared.stage.Stage.{Stage}
-use Rattle.cdi_base.specs.declared.stage.Stage.TheVariants as stages
+use Rattle.cdi_stage.specs.declared.stage.Stage.{Stage}
+use Rattle.cdi_stage.specs.declared.stage.Stage.TheVariants as stages
 
 -- the stages in their order
 abbrev pub number_of : Stage → ℕ

@@ -1,6 +1,6 @@
 //! Which part of the forms is served.
 ghost use Rattle.std.specs.Prelude.{◌≡◌};
-ghost use Rattle.cdi_base.specs.Stage as spec;
+ghost use Rattle.cdi_stage.specs.Stage as spec;
 
 /// A part of the forms of deployments, scripts and commands that comes to be served as one. A stage serves its own part
 /// and those before it. What isn't served is refused exactly as what isn't listed.
