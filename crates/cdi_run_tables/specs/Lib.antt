@@ -3,3 +3,4 @@ pub mod Machine
 pub mod Managed
 pub mod Planned
 pub mod Served
+pub mod Sizes

@@ -7,8 +7,10 @@ mod known;
 mod managed;
 pub mod planned;
 mod served;
+mod sizes;
 pub mod tables;
 
 pub use managed::Injection;
 pub use planned::PlannedBean;
+pub use sizes::MAX_BEANS;
 pub use tables::{Method, RunTables};

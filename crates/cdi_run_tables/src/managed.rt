@@ -59,7 +59,7 @@ fn injection_at(steps: &[Step], at: usize) -> Option<Injection<'_>>
 }
 
 /// How many injected fields some steps have.
-fn count_of(steps: &[Step]) -> usize
+pub(crate) fn count_of(steps: &[Step]) -> usize
     ensures { result ≡ length (filter_map spec.injected steps.now) }
 {
     let mut count = 0;

@@ -21,7 +21,7 @@ is_included stage since = nat_le (number_of since) (number_of stage)
 
 -- the stage that is served now
 abbrev pub served : Stage
-served = stages.Counter
+served = stages.Alternatives
 
 -- the stage at which the whole form is served
 abbrev pub whole : Stage

@@ -29,7 +29,7 @@ pub enum Stage {
 }
 
 /// The stage that is served now.
-pub const SERVED: Stage = Stage::Counter;
+pub const SERVED: Stage = Stage::Alternatives;
 
 /// The stage at which the whole form is served.
 pub const WHOLE: Stage = Stage::Lookups;
