@@ -18,11 +18,10 @@ use Rattle.cdi_machine.specs.Container.{State as Machine, refusal, refused_by_co
 use Rattle.cdi_machine.specs.Container as container
 use Rattle.cdi_machine.specs.Runs.{Legal, Outcome, Ends, Cut, Runs}
 use Rattle.cdi_machine.specs.Registered.{legal_of}
-use Rattle.cdi_beans.specs.declared.tables.Tables.{Tables}
-use Rattle.cdi_beans.specs.Served.{machine_tables}
-use Rattle.cdi_presence.specs.Missing as presence
-use Rattle.cdi_presence.specs.Missing.{NothingMissing, IsServedCommand, IsReachable}
-use Rattle.cdi_presence.specs.Accepted as whole
+use Rattle.cdi_run_tables.specs.Machine.{machine_tables}
+use Rattle.cdi_fit.specs.Fits.{Fits}
+use Rattle.cdi_fit.specs.Missing as fit
+use Rattle.cdi_fit.specs.Missing.{NothingMissing, IsServedCommand, IsReachable}
 use Rattle.cdi_container.specs.Commands.{machine_command}
 use Rattle.cdi_container.specs.States.{State, Answers, CarriesOut, machine_state, before_start, cause_of}
 use Rattle.cdi_container.specs.Missing.{Works, MissesNone, NoneMissed}
@@ -106,17 +105,17 @@ module _ (names : List (List ℕ)) (tables : machine.Tables) (legal : Legal) whe
       let from = reached_as s works none in
       record { between = from.between; reached = from.reached; alike = from.alike; working = from.working }
 
-module _ (classes : List ℕ) (tables : Tables) (legal : Legal) (Starved : Type 0) (none : presence.MissesNone tables legal Starved) where
-  pub misses_none : (names : List (List ℕ)) → MissesNone names (machine_tables classes tables) legal Starved
+module _ (tables : machine.Tables) (legal : Legal) (Starved : Type 0) (fits : Fits tables legal) (none : fit.MissesNothing tables legal Starved) where
+  pub misses_none : (names : List (List ℕ)) → MissesNone names tables legal Starved
   misses_none names s works command q e o v =
       let c = machine_command names command in
-      let on = works_on (machine_tables classes tables) s c e in
-      let from = reached_as names (machine_tables classes tables) legal s works on in
-      let admitted = sym (refused_alike names (machine_tables classes tables) legal s from.between c on from.alike from.working) ∙ e in
-      subst (λ w. (r : Runs (machine_tables classes tables) legal Starved (task c) w o v) → NothingMissing r) (sym from.alike)
-      (none classes from.between from.reached c admitted (served names command q) o v)
+      let on = works_on tables s c e in
+      let from = reached_as names tables legal s works on in
+      let admitted = sym (refused_alike names tables legal s from.between c on from.alike from.working) ∙ e in
+      subst (λ w. (r : Runs tables legal Starved (task c) w o v) → NothingMissing r) (sym from.alike)
+      (none fits from.between from.reached c admitted (served names command q) o v)
 
 pub none_missed : {X : Type 0} {F : X → Type 0} {g : _} (deployment : Deployment) (entries : List (Entry X F g)) (Starved : Type 0)
-    → whole.NoneMissed deployment entries Starved → NoneMissed deployment entries Starved
-none_missed deployment entries Starved none accepted is =
-    misses_none accepted.classes accepted.tables (legal_of entries) Starved (none accepted.tables is.beans) deployment.names
+    → ((tables : machine.Tables) → fit.MissesNothing tables (legal_of entries) Starved) → NoneMissed deployment entries Starved
+none_missed deployment entries Starved none t is =
+    misses_none (machine_tables t) (legal_of entries) Starved is.fits (none (machine_tables t)) deployment.names

@@ -1,30 +1,54 @@
--- Which deployments are accepted.
-use Rattle.std.specs.Prelude.{◌≡◌, ◌≢◌, ◌<◌, List, [], map, length}
+-- Which deployments are accepted, and served.
+use Rattle.std.specs.Prelude.{ℕ, ◌≡◌, ◌≢◌, ◌<◌, ◌&&◌, List, [], length, Bool, true, false, Option}
 use Rattle.cdi_bodies.specs.declared.entry.Entry.{Entry}
+use Rattle.cdi_bodies.specs.declared.shape.Shape.{Shape}
+use Rattle.cdi_body_check.specs.Shapes.{shape_of}
+use Rattle.cdi_check.specs.Problems.{AreProblemsOf}
 use Rattle.cdi_deployment.specs.declared.deployment.Deployment.{Deployment}
+use Rattle.cdi_fit.specs.Fits.{Fits}
 use Rattle.cdi_machine.specs.Registered.{legal_of}
-use Rattle.cdi_beans.specs.Beans.{KnowsEach}
-use Rattle.cdi_beans.specs.Build.{beans_of}
-use Rattle.cdi_beans.specs.Check.{problems_of}
-use Rattle.cdi_presence.specs.Missing.{GivesServed}
-use Rattle.cdi_container.specs.declared.acceptance.Accepted.{Accepted}
+use Rattle.cdi_run_tables.specs.Machine.{AreIdsOf, machine_tables}
+use Rattle.cdi_run_tables.specs.Planned.{IsTabled}
+use Rattle.cdi_run_tables.specs.Served.{is_served, serves_shapes}
+use Rattle.cdi_run_tables.specs.Sizes.{is_small}
+use Rattle.cdi_run_tables.specs.declared.tables.RunTables.{RunTables}
+use Rattle.cdi_runtime.specs.Standing.{IsServable, KnowsMethods}
 use Rattle.cdi_container.specs.declared.acceptance.Unaccepted.{Unaccepted}
 use Rattle.cdi_container.specs.declared.acceptance.Unaccepted.TheVariants as errors
 
--- the deployment has no problem with these bodies, and this is what a container needs of it
-pub record IsAccepted {X : Type 0} {F : X → Type 0} {g : _}
-    (deployment : Deployment) (entries : List (Entry X F g)) (accepted : Accepted) : Type 0 where
-  pub faultless : problems_of deployment entries ≡ []
-  pub names : accepted.tables.names ≡ deployment.names
-  pub beans : accepted.tables.beans ≡ beans_of deployment.classes entries
-  pub classes : accepted.classes ≡ map (λ class. class.name) deployment.classes
-  -- each method has a body, and the bodies give only acts that are served
-  pub knows : KnowsEach (λ body. body < length entries) accepted.tables.beans
-  pub serves : GivesServed accepted.tables (legal_of entries)
+-- what the deployment declares is served, and so are the bodies with these shapes
+abbrev pub serves : (ℕ → Option Shape) → RunTables → Bool
+serves shapes t = is_served t && serves_shapes shapes t && is_small t
 
--- there are problems, or memory ran out
+-- the deployment has no problem with these bodies, and these are its tables
+pub record AreTablesWith {X : Type 0} {F : X → Type 0} {g : _}
+    (deployment : Deployment) (entries : List (Entry X F g)) (t : RunTables) : Type 0 where
+  pub faultless : AreProblemsOf deployment (shape_of entries) []
+  pub deployment_is : t.deployment ≡ deployment
+  pub tabled : IsTabled t
+  pub ids : AreIdsOf entries t
+
+-- it is served with these bodies, and this is what a container needs of it
+pub record IsAccepted {X : Type 0} {F : X → Type 0} {g : _}
+    (deployment : Deployment) (entries : List (Entry X F g)) (t : RunTables) : Type 0 where
+  pub are : AreTablesWith deployment entries t
+  pub served : serves (shape_of entries) t ≡ true
+  pub servable : IsServable t
+  -- each method has a body, the bodies give only acts that are served, and what they name is there
+  pub knows : KnowsMethods (λ body. body < length entries) (legal_of entries) (machine_tables t)
+  pub fits : Fits (machine_tables t) (legal_of entries)
+
+-- it has no problem with these bodies, and isn't served yet
+pub record IsUnserved {X : Type 0} {F : X → Type 0} {g : _}
+    (deployment : Deployment) (entries : List (Entry X F g)) : Type 0 where
+  pub tables : RunTables
+  pub are : AreTablesWith deployment entries tables
+  pub unserved : serves (shape_of entries) tables ≡ false
+
+-- there are problems, it isn't served yet, or memory ran out
 abbrev pub IsUnaccepted : {X : Type 0} {F : X → Type 0} {g : _}
     → Deployment → List (Entry X F g) → Unaccepted → Type 0
 IsUnaccepted deployment entries (errors.Problems names problems) =
-    (names ≡ deployment.names) × (problems ≡ problems_of deployment entries) × (problems ≢ [])
+    (names ≡ deployment.names) × AreProblemsOf deployment (shape_of entries) problems × (problems ≢ [])
+IsUnaccepted deployment entries errors.Unserved = IsUnserved deployment entries
 IsUnaccepted deployment entries errors.Memory = Unit {0}

@@ -11,9 +11,9 @@ use Rattle.cdi_machine.specs.Commands.{task}
 use Rattle.cdi_machine.specs.Container.{refusal}
 use Rattle.cdi_machine.specs.Runs.{Legal, Outcome, Runs}
 use Rattle.cdi_machine.specs.Registered.{legal_of}
-use Rattle.cdi_beans.specs.Served.{machine_tables}
-use Rattle.cdi_presence.specs.Missing.{NothingMissing}
-use Rattle.cdi_container.specs.declared.acceptance.Accepted.{Accepted}
+use Rattle.cdi_fit.specs.Missing.{NothingMissing}
+use Rattle.cdi_run_tables.specs.Machine.{machine_tables}
+use Rattle.cdi_run_tables.specs.declared.tables.RunTables.{RunTables}
 use Rattle.cdi_container.specs.Accepted.{IsAccepted}
 use Rattle.cdi_container.specs.Commands.{machine_command}
 use Rattle.cdi_container.specs.States.{State, Answers, Boots, machine_state, after_refusal}
@@ -42,5 +42,5 @@ MissesNone names tables legal Starved =
 abbrev pub NoneMissed : {X : Type 0} {F : X → Type 0} {g : _}
     → Deployment → List (Entry X F g) → Type 0 → Type 0
 NoneMissed deployment entries Starved =
-    (accepted : Accepted) → IsAccepted deployment entries accepted
-    → MissesNone deployment.names (machine_tables accepted.classes accepted.tables) (legal_of entries) Starved
+    (t : RunTables) → IsAccepted deployment entries t
+    → MissesNone deployment.names (machine_tables t) (legal_of entries) Starved

@@ -5,9 +5,9 @@ use Rattle.cdi_base.specs.declared.reply.Reply.{Reply}
 use Rattle.cdi_machine.specs.Tables as machine
 use Rattle.cdi_machine.specs.Runs.{Legal}
 use Rattle.cdi_machine.specs.Laws.{IsWithin}
-use Rattle.cdi_beans.specs.Served.{machine_tables}
+use Rattle.cdi_run_tables.specs.Machine.{machine_tables}
+use Rattle.cdi_run_tables.specs.declared.tables.RunTables.{RunTables}
 use Rattle.cdi_runtime.specs.Standing.{Standing as Working}
-use Rattle.cdi_container.specs.declared.acceptance.Accepted.{Accepted}
 use Rattle.cdi_container.specs.States.{State, Boots}
 
 pub record Standing (Driving : Type 0) : Type 0 where
@@ -19,20 +19,20 @@ pub record Standing (Driving : Type 0) : Type 0 where
 
 module _ {Driving : Type 0} where
   abbrev pub tables_in : Working Driving → machine.Tables
-  tables_in r = machine_tables r.classes r.tables
+  tables_in r = machine_tables r.tables
 
   abbrev pub tables_of : Standing Driving → machine.Tables
   tables_of c = tables_in c.runtime
 
   abbrev pub names_of : Standing Driving → List (List ℕ)
-  names_of c = c.runtime.tables.names
+  names_of c = c.runtime.tables.deployment.names
 
   abbrev pub state_of : Standing Driving → State
   state_of c = record { world = c.runtime.world; halted = c.halted }
 
 -- The names and the tables stay, and nothing becomes legal.
 pub record KeepsParts {Driving : Type 0} (before after : Legal) (r s : Working Driving) : Type 0 where
-  pub names : s.tables.names ≡ r.tables.names
+  pub names : s.tables.deployment.names ≡ r.tables.deployment.names
   pub tables : tables_in s ≡ tables_in r
   pub legal : IsWithin after before
 
@@ -41,11 +41,10 @@ pub record SameParts {Driving : Type 0} (before after : Legal) (c d : Standing D
   pub parts : KeepsParts before after c.runtime d.runtime
   pub booted : d.booted ≡ c.booted
 
--- a container of this deployment, whose start has been carried out
-pub record IsStarted {Driving : Type 0} (before after : Legal) (accepted : Accepted) (ticks depth : ℕ)
+-- a container of the deployment with these tables, whose start has been carried out
+pub record IsStarted {Driving : Type 0} (before after : Legal) (t : RunTables) (ticks depth : ℕ)
     (c : Standing Driving) : Type 0 where
-  pub names : names_of c ≡ accepted.tables.names
-  pub tables : tables_of c ≡ machine_tables accepted.classes accepted.tables
+  pub names : names_of c ≡ t.deployment.names
+  pub tables : tables_of c ≡ machine_tables t
   pub legal : IsWithin after before
-  pub boots : Boots (machine_tables accepted.classes accepted.tables) before (Unit {0}) ticks depth
-      c.booted (state_of c)
+  pub boots : Boots (machine_tables t) before (Unit {0}) ticks depth c.booted (state_of c)

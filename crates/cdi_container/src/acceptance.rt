@@ -1,26 +1,24 @@
 //! Which deployments a container is started for.
-ghost use Rattle.std.specs.Prelude.{◌≡◌, [], map, IfOk, IfErr};
+ghost use Rattle.std.specs.Prelude.{◌≡◌, [], true, IfOk, IfErr};
+ghost use Rattle.cdi_beanlist.specs.Problems.{IsMadeOf};
 ghost use Rattle.cdi_bodies.specs.Table.{entries_of};
-ghost use Rattle.cdi_container.specs.Accepted.{IsAccepted, IsUnaccepted};
-ghost use Rattle.cdi_container.specs.declared.acceptance.Unaccepted.TheVariants.{Memory};
+ghost use Rattle.cdi_body_check.specs.Shapes.{shape_of};
+ghost use Rattle.cdi_check.specs.Late.{AreProblemsIn};
+ghost use Rattle.cdi_check.specs.Tables.{setting_by};
+ghost use Rattle.cdi_container.specs.Accepted as spec;
+ghost use Rattle.cdi_container.specs.declared.acceptance.Unaccepted.TheVariants.{Memory, Problems};
 
-use cdi_base::{Name, Names, Seq};
-use cdi_beans::build::build;
-use cdi_beans::check::{accepted_fits, problems};
-use cdi_beans::problem::Problem;
-use cdi_beans::tables::Tables;
+use cdi_accepted::laws::law_fits;
+use cdi_base::{Names, Seq};
+use cdi_beanlist::{BeanList, BeanListError};
 use cdi_bodies::Bodies;
-use cdi_deployment::{Class, Deployment};
-use cdi_presence::laws::law_accepted_serves;
+use cdi_check::late_problems;
+use cdi_deployment::Deployment;
+use cdi_problems::Problem;
+use cdi_run_tables::RunTables;
+use cdi_runtime::laws::law_knows_methods;
+use cdi_tables::BeanTables;
 use std::alloc::{AllocError, Global};
-
-/// What a container needs of a deployment that has no problem.
-#[derive(Drop)]
-pub struct Accepted {
-    pub tables: Tables,
-    /// The classes of the deployment: with the built-in ones, all types.
-    pub classes: Seq<Name>,
-}
 
 /// Why a deployment isn't accepted.
 #[derive(Drop)]
@@ -30,6 +28,8 @@ pub enum Unaccepted {
         names: Names,
         problems: Seq<Problem>,
     },
+    /// It has no problem, but something that a container doesn't serve yet.
+    Unserved,
     /// A growth was refused.
     Memory,
 }
@@ -42,35 +42,72 @@ impl From<AllocError> for Unaccepted {
     }
 }
 
-fn class_names(alloc: Global, classes: &[Class]) -> Result<Seq<Name>, AllocError>
-    ensures { IfOk result (λ names. names ≡ map (λ class. class.name) classes.now) }
+/// A deployment has these problems.
+fn refused(deployment: Deployment, problems: Seq<Problem>) -> Unaccepted
+    ensures { result ≡ Problems deployment.names problems }
 {
-    let mut names = Seq::empty(alloc);
-    for class in classes {
-        names.push(class.name)?;
-    }
-    Ok(names)
+    let Deployment { names, .. } = deployment;
+    Unaccepted::Problems { names, problems }
 }
 
-/// Accepts a deployment with these bodies if it has no problem: each method has a body then, and the bodies give only
-/// acts that are served. Otherwise its problems come back, with its names (Jakarta CDI 4.0, *Problems detected
-/// automatically by the container*); or memory ran out.
+/// Whether a container serves a deployment with these bodies.
+fn serves(tables: &RunTables, bodies: &Bodies) -> bool
+    ensures { result ≡ spec.serves (shape_of (entries_of bodies.now)) tables.now }
+{
+    tables.is_served() && tables.serves_shapes(bodies) && tables.is_small()
+}
+
+/// The tables of a deployment that has no problem, if it is served with these bodies.
+fn served_tables(tables: RunTables, bodies: &Bodies) -> Result<RunTables, Unaccepted>
+    requires are { spec.AreTablesWith tables.deployment (entries_of bodies.now) tables }
+    requires faultless { AreProblemsIn tables.deployment (shape_of (entries_of bodies.now))
+        tables.tables.enabled (setting_by tables.deployment tables.tables) [] }
+    ensures ok { IfOk result (spec.IsAccepted tables.deployment (entries_of bodies.now)) }
+    ensures err { IfErr result (spec.IsUnaccepted tables.deployment (entries_of bodies.now)) }
+{
+    law_fits(bodies);
+    law_knows_methods(bodies);
+    if serves(&tables, bodies) {
+        Ok(tables)
+    } else {
+        Err(Unaccepted::Unserved)
+    }
+}
+
+/// Accepts a deployment with this bean list.
+fn accept_listed(
+    alloc: Global,
+    deployment: Deployment,
+    list: BeanList,
+    bodies: &Bodies,
+) -> Result<RunTables, Unaccepted>
+    requires { IsMadeOf deployment list }
+    ensures ok { IfOk result (spec.IsAccepted deployment (entries_of bodies.now)) }
+    ensures err { IfErr result (spec.IsUnaccepted deployment (entries_of bodies.now)) }
+{
+    let tables = BeanTables::build(alloc, &deployment, list)?;
+    let problems = late_problems(alloc, &deployment, &tables, bodies)?;
+    if !problems.is_empty() {
+        return Err(refused(deployment, problems));
+    }
+    let tables = RunTables::build(alloc, deployment, tables, bodies)?;
+    served_tables(tables, bodies)
+}
+
+/// Accepts a deployment with these bodies if it has no problem (Jakarta CDI 4.0, *Problems detected automatically by the
+/// container*) and is served: each method has a body then, the bodies give only acts that are served, and what they name
+/// is there. Its tables come back. Otherwise its problems do, with its names; or it isn't served yet; or memory ran out.
 pub fn accept(
     alloc: Global,
     deployment: Deployment,
     bodies: &Bodies,
-) -> Result<Accepted, Unaccepted>
-    ensures ok { IfOk result (IsAccepted deployment (entries_of bodies.now)) }
-    ensures err { IfErr result (IsUnaccepted deployment (entries_of bodies.now)) }
+) -> Result<RunTables, Unaccepted>
+    ensures ok { IfOk result (spec.IsAccepted deployment (entries_of bodies.now)) }
+    ensures err { IfErr result (spec.IsUnaccepted deployment (entries_of bodies.now)) }
 {
-    let problems = problems(alloc, &deployment, bodies)?;
-    if !problems.is_empty() {
-        let Deployment { names, .. } = deployment;
-        return Err(Unaccepted::Problems { names, problems });
+    match BeanList::build(alloc, &deployment) {
+        Ok(list) => accept_listed(alloc, deployment, list, bodies),
+        Err(BeanListError::Problems(problems)) => Err(refused(deployment, problems)),
+        Err(BeanListError::Memory) => Err(Unaccepted::Memory),
     }
-    accepted_fits(&deployment, bodies);
-    law_accepted_serves(&deployment, bodies);
-    let classes = class_names(alloc, deployment.classes.as_slice())?;
-    let tables = build(alloc, deployment, bodies)?;
-    Ok(Accepted { tables, classes })
 }

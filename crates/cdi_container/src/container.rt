@@ -1,11 +1,10 @@
 //! The container: it carries out commands, one after the other.
-ghost use Rattle.std.specs.Prelude.{◌≡◌, None, IsTrue, option_map};
-ghost use Rattle.cdi_beans.specs.Beans.{KnowsEach};
-ghost use Rattle.cdi_beans.specs.Served.{machine_tables};
+ghost use Rattle.std.specs.Prelude.{◌≡◌, None, IsTrue, IfOk, OnErr, option_map};
 ghost use Rattle.cdi_machine.specs.Commands.{task};
 ghost use Rattle.cdi_machine.specs.Container.{refusal as machine_refusal};
 ghost use Rattle.cdi_machine.specs.World.{at_begin};
-ghost use Rattle.cdi_presence.specs.Missing.{GivesServed};
+ghost use Rattle.cdi_run_tables.specs.Machine.{machine_tables};
+ghost use Rattle.cdi_runtime.specs.Standing.{IsServable, KnowsMethods};
 ghost use Rattle.cdi_steps.specs.Words.{command_of, outcome_of};
 ghost use Rattle.cdi_runtime.specs.Refusals.{in_request};
 ghost use Rattle.cdi_text.specs.Command.{is_served};
@@ -13,14 +12,15 @@ ghost use Rattle.cdi_container.specs.Standing as spec;
 ghost use Rattle.cdi_container.specs.States.{Answers, CarriesOut, after_refusal, machine_state};
 ghost use Rattle.cdi_base.specs.declared.reply.Reply.TheVariants.{Refused};
 
-use crate::acceptance::Accepted;
 use crate::reply::{cause, has_value, reply_of};
-use cdi_base::{Cause, Command, Limits, Names, Refusal, Reply, Seq, Text};
+use crate::uses::uses_for;
+use cdi_base::{Cause, Command, Limits, Names, Refusal, Reply, Text};
 use cdi_engine::run::run;
 use cdi_machine::Driver;
+use cdi_run_tables::RunTables;
 use cdi_runtime::Runtime;
 use cdi_steps::{Host, Job, Outcome};
-use std::alloc::Global;
+use std::alloc::{AllocError, Global};
 use std::marker::Model;
 
 /// A container: a deployment with what drives its bodies, and what the commands so far have left.
@@ -59,16 +59,15 @@ impl<D: Driver> Container<D> {
     ghost use Rattle.cdi_container.specs.Commands.{machine_command};
 
     /// Starts a container (Jakarta CDI 4.0, *Container lifecycle events*). A start that is cut gives a container that has
-    /// halted. The driver has to have a body for each method of the deployment, and these have to give only acts that are
-    /// served, as the bodies that a deployment was accepted with do.
-    pub fn start(alloc: Global, accepted: Accepted, driver: D, limits: Limits) -> Container<D>
-        requires knows { KnowsEach (D.knows driver) accepted.tables.beans }
-        requires serves { GivesServed accepted.tables (D.legal driver) }
+    /// halted. The deployment has to be served, and the driver has to have a body for each of its methods, which gives only
+    /// acts that are served: so it is with the tables and the bodies of a deployment that was [accepted](crate::accept).
+    pub fn start(alloc: Global, tables: RunTables, driver: D, limits: Limits) -> Container<D>
+        requires knows { KnowsMethods (D.knows driver) (D.legal driver) (machine_tables tables) }
+        requires servable { IsServable tables }
         ensures { spec.IsStarted (D.legal driver) (D.legal result.runtime.driver)
-            accepted limits.ticks limits.depth result }
+            tables limits.ticks limits.depth result }
     {
-        let Accepted { tables, classes } = accepted;
-        let mut runtime = Runtime::new(alloc, tables, classes, driver, limits);
+        let mut runtime = Runtime::new(alloc, tables, driver, limits);
         let outcome = carry_out(&mut runtime, Job::Boot);
         Container {
             runtime,
@@ -81,7 +80,7 @@ impl<D: Driver> Container<D> {
     pub fn names(&self) -> &Names
         ensures { result.now ≡ spec.names_of self.now }
     {
-        &self.runtime.tables().names
+        &self.runtime.tables().deployment().names
     }
 
     /// What the start was answered.
@@ -142,36 +141,42 @@ impl<D: Driver> Container<D> {
     /// command leaves all as it was, but for the trace, which is empty. A command that is cut, for want of memory
     /// too, is answered as halted with the cause, and every later one is refused. The command has to be one that is
     /// served, as what [`read_command`](cdi_text::read_command) gives is.
-    pub fn command(&mut self, command: Command) -> Reply
+    ///
+    /// The one error is [`AllocError`], if memory ran out for its qualifiers: nothing has changed then.
+    pub fn command(&mut self, command: Command) -> Result<Reply, AllocError>
         requires { IsTrue (is_served command) }
-        ensures answers { Answers (spec.tables_of self.old) (D.legal self.old.runtime.driver) (Unit {0})
+        ensures answers { IfOk result (λ reply.
+            Answers (spec.tables_of self.old) (D.legal self.old.runtime.driver) (Unit {0})
             (spec.state_of self.old) (machine_command (spec.names_of self.old) command)
-            result (spec.state_of self.new) }
+            reply (spec.state_of self.new)) }
         ensures same { spec.SameParts
             (D.legal self.old.runtime.driver) (D.legal self.new.runtime.driver) self.old self.new }
+        ensures err { OnErr result (self.new ≡ self.old) }
     {
         match command {
             Command::Call {
                 request,
                 bean_type,
+                qualifiers,
                 method,
                 args,
-                ..
             } => {
                 let bean_type = self.names().name_for(bean_type.as_str());
                 let method = self.names().name_for(method.as_str());
-                let qualifiers = Seq::empty(self.runtime.alloc());
-                self.ask(
-                    request.as_ref(),
-                    Job::Call {
-                        bean_type,
-                        qualifiers,
-                        method,
-                        args,
-                    },
-                )
+                let qualifiers = uses_for(
+                    self.runtime.alloc(),
+                    self.names(),
+                    qualifiers.as_slice(),
+                )?;
+                let job = Job::Call {
+                    bean_type,
+                    qualifiers,
+                    method,
+                    args,
+                };
+                Ok(self.ask(request.as_ref(), job))
             }
-            Command::Shutdown => self.ask(None, Job::Shutdown),
+            Command::Shutdown => Ok(self.ask(None, Job::Shutdown)),
             _ => unreachable!(),
         }
     }

@@ -1,27 +1,24 @@
 //! The laws of a container. A call of one of these does nothing: its contract is the law.
-ghost use Rattle.std.specs.Prelude.{◌≡◌, []};
 ghost use Rattle.cdi_bodies.specs.Table.{entries_of};
-ghost use Rattle.cdi_beans.specs.Check.{problems_of};
+ghost use Rattle.cdi_deployment.specs.declared.deployment.Deployment.{Deployment};
 ghost use Rattle.cdi_machine.specs.Tables.{Tables};
 ghost use Rattle.cdi_container.specs.History.{KeepsOrder};
 ghost use Rattle.cdi_container.specs.Missing.{NoneMissed};
 
 use cdi_bodies::Bodies;
-use cdi_deployment::Deployment;
+use cdi_fit::laws as fit;
 use cdi_ledger::laws as ledger;
 use cdi_machine::Driver;
-use cdi_presence::laws as presence;
 
 /// In a container of an accepted deployment no look-up fails: a command that isn't refused never comes to a point at
 /// which a bean, a method, a field, an instance, an invocation or the text of an exception isn't there. That holds from
 /// the start on until the container halts, and also if memory runs out on the way.
-#[tactic(auto, using(crate::proofs::Missing::none_missed))]
-pub fn law_nothing_missing(deployment: &Deployment, bodies: &Bodies)
-    requires { problems_of deployment.now (entries_of bodies.now) ≡ [] }
-    ensures with_memory { NoneMissed deployment.now (entries_of bodies.now) ⊥ }
-    ensures short_of_memory { NoneMissed deployment.now (entries_of bodies.now) (Unit {0}) }
+pub fn law_nothing_missing(bodies: &Bodies)
+    ensures with_memory { (d : Deployment) → NoneMissed d (entries_of bodies.now) ⊥ }
+    ensures short_of_memory { (d : Deployment) →
+        NoneMissed d (entries_of bodies.now) (Unit {0}) }
 {
-    presence::law_none_missed(deployment, bodies);
+    fit::law_nothing_missing(bodies);
 }
 
 /// What a container has written since its start is in order, also if a command was cut or memory ran out in one: the

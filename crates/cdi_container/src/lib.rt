@@ -6,7 +6,8 @@ mod container;
 pub mod laws;
 mod reply;
 mod session;
+mod uses;
 
-pub use acceptance::{Accepted, Unaccepted, accept};
+pub use acceptance::{Unaccepted, accept};
 pub use container::Container;
 pub use session::serve;

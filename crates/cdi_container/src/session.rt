@@ -26,7 +26,7 @@ impl<D: Driver> Container<D> {
         ensures err { OnErr result (self.new ≡ self.old) }
     {
         match read_command(alloc, line) {
-            Ok(command) => Ok(self.command(command)),
+            Ok(command) => self.command(command),
             Err(ReadError::Fault(_)) => Ok(self.refuse(Refusal::BadLine)),
             Err(ReadError::Memory) => Err(AllocError),
         }

@@ -1,41 +1,50 @@
 -- A call is refused as the machine's definition has it.
-use Rattle.std.proofs.Common.{ℕ, ◌≡◌, ◌∷◌, List, Some, None, Bool, true, false, length, refl, ap, sym, ◌∙◌}
-use Rattle.std.specs.Prelude.{option_map, option_and_then, not, if◌then◌else◌}
+use Rattle.std.proofs.Common.{ℕ, ◌≡◌, ◌∙◌, ◌∷◌, List, Option, Some, None, IsSome, Bool, true, false, length, refl, ap, sym, subst}
+use Rattle.std.specs.Prelude.{option_map, option_and_then, not, slice_get, if◌then◌else◌}
 use Rattle.cdi_base.specs.declared.value.Value.{Value}
+use Rattle.cdi_base.specs.declared.uses.Use.{Use}
+use Rattle.cdi_base.specs.declared.reply.Refusal.{Refusal}
 use Rattle.cdi_base.specs.declared.reply.Refusal.TheVariants as refusals
 use Rattle.cdi_contexts.specs.Refusals.{first_that_holds}
-use Rattle.cdi_beans.specs.declared.bean.Bean.{Bean}
-use Rattle.cdi_beans.specs.declared.bean.Resolution.{Resolution}
-use Rattle.cdi_beans.specs.declared.bean.Resolution.TheVariants.{One, Nothing, Many}
-use Rattle.cdi_beans.specs.declared.tables.Tables.{Tables}
-use Rattle.cdi_beans.specs.Beans.{find_method, resolve}
-use Rattle.cdi_beans.specs.Served.{is_type, machine_bean, machine_method, machine_resolution, machine_tables}
-use Rattle.cdi_beans.proofs.Served.{at_method, resolved_is_there}
+use Rattle.cdi_machine.specs.Tables as machine
 use Rattle.cdi_machine.specs.World.{World}
 use Rattle.cdi_machine.specs.Commands.{Command}
 use Rattle.cdi_machine.specs.Container.{refusal, call_refusals, bean_of}
-use Rattle.cdi_base.specs.declared.uses.Use.{Use}
+use Rattle.cdi_plans.specs.declared.plan.Plan.{Plan}
+use Rattle.cdi_resolve.specs.declared.resolution.Resolution.{Resolution}
+use Rattle.cdi_resolve.specs.declared.resolution.Resolution.TheVariants.{One, Nothing, Many}
+use Rattle.cdi_run_tables.specs.Machine as tables
+use Rattle.cdi_run_tables.specs.Machine.{bean_at, id_of, is_known, machine_resolution, machine_tables, method_of, resolution_of, without_chain}
+use Rattle.cdi_run_tables.specs.Served.{is_served}
+use Rattle.cdi_run_tables.specs.declared.planned.PlannedBean.{PlannedBean}
+use Rattle.cdi_run_tables.specs.declared.tables.RunTables.{RunTables}
 use Rattle.cdi_steps.specs.Asked.{asked_for}
-use Rattle.cdi_runtime.specs.Refusals.{method_refusal, bean_refusal, call_refusal}
+use Rattle.cdi_runtime.specs.Refusals.{method_refusal, bean_refusal, call_refusal, with_no_chain}
+use Rattle.cdi_runtime.specs.Standing.{IsServable}
+use Rattle.cdi_runtime.proofs.Served.{at_index}
 
-module _ (classes : List ℕ) (t : Tables) (type name count : ℕ) where
-  bean_refused : (r : Resolution) → resolve t type ≡ r
-      → first_that_holds (call_refusals (bean_of (machine_tables classes t) (machine_resolution r)) name count) ≡ bean_refusal t r name count
+-- what a method refuses doesn't look at its chain
+pub method_refused : (o : Option machine.Method) (count : ℕ) → method_refusal (option_map with_no_chain (option_map without_chain o)) count ≡ method_refusal o count
+method_refused None count = refl
+method_refused (Some m) count = refl
+
+module _ (t : RunTables) (h : IsServable t) (type : ℕ) (uses : List Use) (name count : ℕ) where
+  bean_refused : (r : Resolution) → resolution_of t type uses ≡ r
+      → first_that_holds (call_refusals (bean_of (machine_tables t) (machine_resolution r)) name count) ≡ bean_refusal t r name count
   bean_refused Nothing e = refl
   bean_refused Many e = refl
   bean_refused (One b) e =
-      let there = resolved_is_there t type b e in
-      ap (λ x. first_that_holds (call_refusals (option_map machine_bean x) name count)) there.1
-      ∙ ap (λ m. method_refusal m count) (at_method there.0.methods name)
-      ∙ sym (ap (λ x. method_refusal (option_map machine_method (option_and_then (λ (p : Bean). find_method p.methods name) x)) count) there.1)
+      at_index t h.served
+      (λ x y z. IsSome y → first_that_holds (call_refusals y name count) ≡ method_refusal (option_and_then (λ (bean : PlannedBean). tables.method_in (id_of t) bean.plan name) x) count) b
+      (λ some. absurd cc) (λ bean s some. ap (λ (plan : Plan). method_refusal (tables.method_in (id_of t) plan name) count) (sym s.is))
+      (h.there (asked_for type uses) b (ap machine_resolution e))
 
-  by_type : (known : Bool)
-      → first_that_holds ((not known, refusals.UnknownName) ∷ call_refusals (bean_of (machine_tables classes t) (machine_resolution (resolve t type))) name count)
-      ≡ (if known then bean_refusal t (resolve t type) name count else Some refusals.UnknownName)
-  by_type true = bean_refused (resolve t type) refl
-  by_type false = refl
+  by_name : (known : Bool)
+      → first_that_holds ((not known, refusals.UnknownName) ∷ call_refusals (bean_of (machine_tables t) (machine_resolution (resolution_of t type uses))) name count)
+      ≡ (if known then bean_refusal t (resolution_of t type uses) name count else Some refusals.UnknownName)
+  by_name true = bean_refused (resolution_of t type uses) refl
+  by_name false = refl
 
-pub call_refused : (classes : List ℕ) (t : Tables) (type : ℕ) (uses : List Use) (name : ℕ) (args : List Value) (w : World) (halted : Bool) → halted ≡ false → w.down ≡ false
-    → refusal (machine_tables classes t) (record { world = w; halted = halted }) (Command.Call None (asked_for type uses) name args)
-    ≡ call_refusal classes t type name (length args)
-call_refused classes t type uses name args w halted h d = rw (h, d) (by_type classes t type name (length args) (is_type classes type))
+pub call_refused : (t : RunTables) → IsServable t → (type : ℕ) (uses : List Use) (name : ℕ) (args : List Value) (w : World) (halted : Bool) → halted ≡ false → w.down ≡ false
+    → refusal (machine_tables t) (record { world = w; halted = halted }) (Command.Call None (asked_for type uses) name args) ≡ call_refusal t type uses name (length args)
+call_refused t h type uses name args w halted e d = rw (e, d) (by_name t h type uses name (length args) (is_known t.deployment type uses))

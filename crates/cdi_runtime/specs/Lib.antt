@@ -1,2 +1,3 @@
 pub mod Standing
 pub mod Refusals
+pub mod Knowing

@@ -1,16 +1,14 @@
 //! What a container works with at run time.
 ghost use Rattle.std.specs.Prelude.{◌≡◌};
-ghost use Rattle.cdi_beans.specs.Beans.{KnowsEach};
-ghost use Rattle.cdi_beans.specs.Served.{machine_scope};
 ghost use Rattle.cdi_machine.specs.World.{before_boot, at_begin};
-ghost use Rattle.cdi_presence.specs.Missing.{GivesServed};
 ghost use Rattle.cdi_runtime.specs.Standing as spec;
+ghost use Rattle.cdi_run_tables.specs.Machine.{machine_tables};
 
-use cdi_base::{Act, Entry, Fields, Limits, Name, Place, Scope, Seq, Use, Value};
-use cdi_beans::bean::{Code, Resolution as Resolved, ServedScope};
-use cdi_beans::tables::Tables;
+use cdi_base::{Act, Entry, Fields, Limits, Name, Scope, Use, Value};
 use cdi_contexts::{Held, Status};
 use cdi_machine::{Driver, Failure};
+use cdi_resolve::Resolution as Resolved;
+use cdi_run_tables::RunTables;
 use cdi_steps::Host;
 use cdi_steps::beans::{BeanHead, Injection, Method, Resolution};
 use cdi_steps::task::Running;
@@ -19,14 +17,11 @@ use cdi_world::{Invocation, World};
 use std::alloc::{AllocError, Global};
 use std::marker::Model;
 
-/// The tables of a deployment whose bodies give only acts that are served, what drives the bodies and picks, and the
-/// world of the container.
+/// The tables of a deployment that is served, what drives the bodies and picks, and the world of the container.
 #[derive(Drop)]
 pub struct Runtime<D: Driver> {
     alloc: Global,
-    tables: Tables,
-    /// The classes of the deployment: with the built-in ones, all types.
-    classes: Seq<Name>,
+    tables: RunTables,
     driver: D,
     world: World,
 }
@@ -36,26 +31,19 @@ impl<D: Driver> Model for Runtime<D> {
 
     ghost Value = { Standing D };
 
-    ghost view = { λ r. record { tables = r.tables; classes = r.classes; driver = r.driver; world = r.world } };
+    ghost view = { λ r. record { tables = r.tables; driver = r.driver; world = r.world } };
 
     ghost invariant = { λ r. IsWorking (D.knows r.driver) (D.legal r.driver) r.tables r.world };
 }
 
 impl<D: Driver> Runtime<D> {
-    /// A deployment that nothing has been done with. The driver has to have a body for each method of the tables, and
-    /// these have to give only acts that are served.
-    pub fn new(
-        alloc: Global,
-        tables: Tables,
-        classes: Seq<Name>,
-        driver: D,
-        limits: Limits,
-    ) -> Runtime<D>
-        requires knows { KnowsEach (D.knows driver) tables.beans }
-        requires serves { GivesServed tables (D.legal driver) }
+    /// A deployment that nothing has been done with. It has to be one that is served, and the driver has to have a body for each
+    /// method, which gives only acts that are served.
+    pub fn new(alloc: Global, tables: RunTables, driver: D, limits: Limits) -> Runtime<D>
+        requires knows { spec.KnowsMethods (D.knows driver) (D.legal driver) (machine_tables tables) }
+        requires servable { spec.IsServable tables }
         ensures { result ≡ record {
           tables = tables;
-          classes = classes;
           driver = driver;
           world = before_boot limits.ticks limits.depth;
         } }
@@ -63,24 +51,16 @@ impl<D: Driver> Runtime<D> {
         Runtime {
             alloc,
             tables,
-            classes,
             driver,
             world: World::new(alloc, limits),
         }
     }
 
     /// The tables of the deployment.
-    pub fn tables(&self) -> &Tables
+    pub fn tables(&self) -> &RunTables
         ensures { result.now ≡ self.now.tables }
     {
         &self.tables
-    }
-
-    /// The classes of the deployment.
-    pub fn classes(&self) -> &Seq<Name>
-        ensures { result.now ≡ self.now.classes }
-    {
-        &self.classes
     }
 
     /// What the container holds.
@@ -98,24 +78,13 @@ impl<D: Driver> Runtime<D> {
     }
 }
 
-/// The scope as contexts know it.
-fn scope_of(scope: ServedScope) -> Scope
-    ensures { result ≡ machine_scope scope }
-{
-    match scope {
-        ServedScope::ApplicationScoped => Scope::ApplicationScoped,
-        ServedScope::Dependent => Scope::Dependent,
-    }
-}
-
 impl<D: Driver> Host for Runtime<D> {
-    ghost use Rattle.cdi_beans.specs.Served.{machine_tables};
-    ghost use Rattle.cdi_runtime.specs.Standing.{IsMethodBody};
+    ghost use Rattle.cdi_runtime.specs.Standing.{IsServedBody};
 
     ghost setting = { λ r. record {
-      tables = machine_tables r.classes r.tables;
+      tables = machine_tables r.tables;
       legal = D.legal r.driver;
-      knows = IsMethodBody r.tables;
+      knows = IsServedBody (D.knows r.driver) (D.legal r.driver);
       may_end = D.may_end r.driver;
     } };
 
@@ -126,31 +95,36 @@ impl<D: Driver> Host for Runtime<D> {
     }
 
     fn bean(&self, bean: u32) -> Option<BeanHead> {
-        let bean = self.tables.bean(bean)?;
-        Some(BeanHead {
-            place: Place::Class(bean.class),
-            scope: scope_of(bean.scope),
-        })
-    }
-
-    fn first_fields(&self, bean: u32) -> Result<Fields, AllocError> {
-        match self.tables.bean(bean) {
-            Some(bean) => bean.first_fields(self.alloc),
-            None => Ok(Fields::new(self.alloc)),
+        match self.tables.bean(bean as usize) {
+            Some(bean) => Some(BeanHead {
+                place: bean.place,
+                scope: bean.scope,
+            }),
+            None => None,
         }
     }
 
-    // No bean has injected fields yet.
-    fn injections(&self, _bean: u32) -> u32 {
-        0
+    fn first_fields(&self, bean: u32) -> Result<Fields, AllocError> {
+        self.tables.first_fields(self.alloc, bean as usize)
     }
 
-    fn injection(&self, _bean: u32, _at: u32) -> Option<Injection<'_>> {
-        None
+    fn injections(&self, bean: u32) -> u32 {
+        self.tables.injections(bean as usize) as u32
+    }
+
+    fn injection(&self, bean: u32, at: u32) -> Option<Injection<'_>> {
+        match self.tables.injection(bean as usize, at as usize) {
+            Some(injection) => Some(Injection {
+                field: injection.field,
+                bean_type: injection.point.ty,
+                qualifiers: injection.point.quals.as_slice(),
+            }),
+            None => None,
+        }
     }
 
     fn method(&self, bean: u32, name: Name) -> Option<Method> {
-        match self.tables.method(&Code::Method { bean, method: name }) {
+        match self.tables.method(bean as usize, name) {
             Some(method) => Some(Method {
                 place: method.place,
                 count: method.count,
@@ -160,22 +134,21 @@ impl<D: Driver> Host for Runtime<D> {
         }
     }
 
-    // What is asked for has no qualifiers yet.
-    fn resolve(&self, bean_type: Name, _qualifiers: &[Use]) -> Resolution {
-        match self.tables.resolve(bean_type) {
-            Resolved::One(bean) => Resolution::One(bean),
+    fn resolve(&self, bean_type: Name, qualifiers: &[Use]) -> Resolution {
+        match self.tables.resolve(bean_type, qualifiers) {
+            Resolved::One(bean) => Resolution::One(bean as u32),
             Resolved::Nothing => Resolution::Nothing,
             Resolved::Many => Resolution::Many,
         }
     }
 
-    // Nor is an exception checked.
+    // No exception is checked yet.
     fn is_checked(&self, _exception: Name) -> bool {
         false
     }
 
     fn text(&self, exception: Name) -> Option<&str> {
-        self.tables.names.get(exception)
+        self.tables.text(exception)
     }
 
     fn law_unobserved(&self) {}

@@ -1,18 +1,20 @@
 -- A run of the program, from the bytes of a deployment and of its input to the bytes of its output.
-use Rattle.std.specs.Prelude.{◌≡◌, ◌≢◌, ℕ, List, [], map, Option, Result, Ok, Err, slice_get, MatchOption}
+use Rattle.std.specs.Prelude.{◌≡◌, ◌≢◌, ℕ, List, [], codes, nat_eq, true, false, Option, Result, Ok, Err, slice_get, MatchOption}
+use Rattle.std.specs.HashMap.{get}
 use Rattle.cdi_base.specs.declared.reply.Reply.{Reply}
 use Rattle.cdi_stage.specs.Stage.{served}
+use Rattle.cdi_body_check.specs.Sites.{sites_of}
 use Rattle.cdi_deployment.specs.declared.deployment.Deployment.{Deployment}
-use Rattle.cdi_beans.specs.declared.bean.Bean.{Bean}
-use Rattle.cdi_beans.specs.declared.problem.Problem.{Problem}
-use Rattle.cdi_beans.specs.declared.tables.Tables.{Tables}
-use Rattle.cdi_beans.specs.Build.{beans_in}
-use Rattle.cdi_beans.specs.Check.{problems_with}
-use Rattle.cdi_beans.specs.Served.{machine_tables}
 use Rattle.cdi_machine.specs.Runs.{Legal}
+use Rattle.cdi_problems.specs.declared.problem.Problem.{Problem}
+use Rattle.cdi_run_tables.specs.Ids.{told_of}
+use Rattle.cdi_run_tables.specs.Machine.{machine_tables}
+use Rattle.cdi_run_tables.specs.Planned.{IsTabled}
+use Rattle.cdi_run_tables.specs.declared.tables.RunTables.{RunTables}
 use Rattle.cdi_script.specs.Next.{next_of}
 use Rattle.cdi_container.specs.declared.acceptance.Unaccepted.{Unaccepted}
 use Rattle.cdi_container.specs.declared.acceptance.Unaccepted.TheVariants as errors
+use Rattle.cdi_container.specs.Accepted.{serves}
 use Rattle.cdi_container.specs.Sessions.{AnswersLine, Served}
 use Rattle.cdi_container.specs.States.{State, Boots}
 use Rattle.cdi_shell.specs.declared.ending.Ending.{Ending}
@@ -21,9 +23,9 @@ use Rattle.cdi_lines.specs.declared.sink.WriteFailed.{WriteFailed}
 use Rattle.cdi_prepare.specs.declared.scripts.NamedScript.{NamedScript}
 use Rattle.cdi_prepare.specs.Ready.{Readied, readied_at}
 use Rattle.cdi_prepare.specs.Scripts.{registered, place_under, shape_under}
+use Rattle.cdi_report.specs.Reports.{AreProblemsWith, problem_lines}
 use Rattle.cdi_shell.specs.Endings.{after_serving, after_refusal, starved}
 use Rattle.cdi_lines.specs.Ends.{WritesAll}
-use Rattle.cdi_shell.specs.RefusalText.{problem_lines}
 use Rattle.cdi_text.specs.ReplyText.{reply_line}
 
 -- the deployment that bytes are with its scripts, as it is served now, or the line of its first fault
@@ -66,30 +68,43 @@ pub record IsSilent (streams : Streams) (ending : Ending) : Type 0 where
 
 -- The container of these tables, which takes so many levels and entries, is started and served: the lines written are
 -- those of a run of the machine for the lines read, in which all that happens is legal.
-pub record Lives (depth ticks : ℕ) (names : List (List ℕ)) (beans : List Bean) (classes : List ℕ) (legal : Legal) (streams : Streams) (ending : Ending) : Type 0 where
-  pub tables : Tables
-  pub is_names : tables.names ≡ names
-  pub is_beans : tables.beans ≡ beans
+pub record Lives (depth ticks : ℕ) (t : RunTables) (legal : Legal) (streams : Streams)
+    (ending : Ending) : Type 0 where
   pub reply : Reply
   pub started : State
   pub ended : State
   pub result : Result (Unit {0}) ServeFault
-  pub boots : Boots (machine_tables classes tables) legal (Unit {0}) ticks depth reply started
-  pub served : Served 16777216 (AnswersLine tables.names (machine_tables classes tables) legal (Unit {0}))
-      (reply_line tables.names reply) started ended
+  pub boots : Boots (machine_tables t) legal (Unit {0}) ticks depth reply started
+  pub served : Served 16777216 (AnswersLine t.deployment.names (machine_tables t) legal (Unit {0}))
+      (reply_line t.deployment.names reply) started ended
       streams.unread streams.unread_after streams.held streams.held_after result
   pub is_ending : ending ≡ after_serving result ended.halted
 
--- a deployment is run: its problems are written, or, if it has none, its container lives
-pub data Plays (depth ticks : ℕ) (names : List (List ℕ)) (problems : List Problem) (beans : List Bean) (classes : List ℕ) (legal : Legal) (streams : Streams) (ending : Ending) : Type 0 where
-  starves : IsSilent streams ending → Plays depth ticks names problems beans classes legal streams ending
-  refuses : problems ≢ [] → Writes (problem_lines names problems) streams ending → Plays depth ticks names problems beans classes legal streams ending
-  runs : problems ≡ [] → Lives depth ticks names beans classes legal streams ending → Plays depth ticks names problems beans classes legal streams ending
+-- these are the tables of a deployment whose bodies are scripts
+pub record AreTablesWith (scripts : List NamedScript) (d : Deployment) (t : RunTables) : Type 0 where
+  pub deployment_is : t.deployment ≡ d
+  pub tabled : IsTabled t
+  pub ids :
+      (name : ℕ) → get nat_eq t.ids.ids name ≡ told_of (place_under scripts) (sites_of d) name
 
--- a deployment whose bodies are these scripts is run
-abbrev pub PlaysScripts : ℕ → ℕ → Deployment → List NamedScript → Streams → Ending → Type 0
-PlaysScripts depth ticks d scripts streams ending =
-    Plays depth ticks d.names (problems_with (shape_under scripts) d) (beans_in (place_under scripts) d.classes) (map (λ class. class.name) d.classes) (legal_by scripts) streams ending
+-- the line for a deployment that has no problem and isn't served yet
+abbrev pub unserved_line : List ℕ
+unserved_line = codes "Unserved\n"
+
+-- A deployment whose bodies are these scripts is run: its problems are written or, if it has none and is served, its
+-- container lives.
+pub data PlaysScripts (depth ticks : ℕ) (d : Deployment) (scripts : List NamedScript)
+    (streams : Streams) (ending : Ending) : Type 0 where
+  starves : IsSilent streams ending → PlaysScripts depth ticks d scripts streams ending
+  refuses : {problems : List Problem} → AreProblemsWith scripts d problems → problems ≢ []
+      → Writes (problem_lines d.names problems) streams ending
+      → PlaysScripts depth ticks d scripts streams ending
+  unserved : {t : RunTables} → AreProblemsWith scripts d [] → AreTablesWith scripts d t
+      → serves (shape_under scripts) t ≡ false → Writes unserved_line streams ending
+      → PlaysScripts depth ticks d scripts streams ending
+  runs : {t : RunTables} → AreProblemsWith scripts d [] → AreTablesWith scripts d t
+      → serves (shape_under scripts) t ≡ true → Lives depth ticks t (legal_by scripts) streams ending
+      → PlaysScripts depth ticks d scripts streams ending
 
 -- what was made ready is run
 abbrev pub DrivesReadied : ℕ → ℕ → Result Readied (List ℕ) → Streams → Ending → Type 0
@@ -112,4 +127,5 @@ pub data RefusesOr (lines : List ℕ) (held held_after : Option (List ℕ)) (end
 abbrev pub RefusesUnaccepted : Unaccepted → Option (List ℕ) → Option (List ℕ) → Ending → Type 0
 RefusesUnaccepted (errors.Problems names problems) held held_after ending =
     RefusesOr (problem_lines names problems) held held_after ending
+RefusesUnaccepted errors.Unserved held held_after ending = Refuses unserved_line held held_after ending
 RefusesUnaccepted errors.Memory held held_after ending = (held_after ≡ held) × (ending ≡ starved)

@@ -1,5 +1,4 @@
 pub mod Drive
 pub mod Endings
 pub mod Laws
-pub mod RefusalText
 pub mod WorkedLines

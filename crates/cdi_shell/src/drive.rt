@@ -1,24 +1,25 @@
 //! A run of the program, from the bytes of a deployment and of its input to the bytes of its output.
 ghost use Rattle.std.specs.Prelude.{◌≡◌, ◌≤◌, length, Bool, IfOk, OnOk, OnErr, IsTrue};
-ghost use Rattle.cdi_beans.specs.Beans.{KnowsEach};
-ghost use Rattle.cdi_presence.specs.Missing.{GivesServed};
 ghost use Rattle.cdi_prepare.specs.Scripts.{registered};
+ghost use Rattle.cdi_report.specs.Reports.{problem_lines};
+ghost use Rattle.cdi_run_tables.specs.Machine.{machine_tables};
+ghost use Rattle.cdi_runtime.specs.Standing.{IsServable, KnowsMethods};
 ghost use Rattle.cdi_script.specs.Next.{next_of};
 ghost use Rattle.cdi_shell.specs.Drive as spec;
 ghost use Rattle.cdi_lines.specs.Served.{Blames};
 ghost use Rattle.cdi_shell.specs.Endings.{outcome_of};
 ghost use Rattle.cdi_shell.specs.Laws.{DrivesOnce};
-ghost use Rattle.cdi_shell.specs.RefusalText.{problem_lines};
 
 use crate::ending::{Ending, after_serving};
-use crate::refusal_text::write_problems;
 use cdi_base::{Act, Fields, Limits, Names};
-use cdi_beans::problem::Problem;
 use cdi_bodies::{AddError, Bodies, Body, MAX_BODIES, View};
-use cdi_container::{Accepted, Container, Unaccepted, accept, serve};
+use cdi_container::{Container, Unaccepted, accept, serve};
 use cdi_lines::{ServeFault, Sink, Source};
 use cdi_machine::Driver;
 use cdi_prepare::{NamedScript, PrepareError, Prepared, prepare};
+use cdi_problems::Problem;
+use cdi_report::problem_lines::write_problems;
+use cdi_run_tables::RunTables;
 use cdi_stage::SERVED;
 use std::alloc::{AllocError, Global};
 
@@ -27,6 +28,9 @@ const STARVED: Ending = Ending::Fault {
     fault: ServeFault::Memory,
     halted: None,
 };
+
+/// What is written of a deployment that isn't served yet.
+const UNSERVED: &str = "Unserved\n";
 
 /// The lines of a refusal could not be written.
 const UNWRITTEN: Ending = Ending::Fault {
@@ -65,7 +69,7 @@ fn refuse_problems<W: Sink>(
     }
 }
 
-/// Tells why a deployment isn't accepted: its problems, if memory didn't run out.
+/// Tells why a deployment isn't accepted: its problems, or that it isn't served yet, if memory didn't run out.
 fn refuse_unaccepted<W: Sink>(alloc: Global, unaccepted: Unaccepted, output: &mut W) -> Ending
     ensures refuses { spec.RefusesUnaccepted
         unaccepted (W.written output.old) (W.written output.new) result }
@@ -77,6 +81,7 @@ fn refuse_unaccepted<W: Sink>(alloc: Global, unaccepted: Unaccepted, output: &mu
         Unaccepted::Problems { names, problems } => {
             refuse_problems(alloc, &names, problems.as_slice(), output)
         }
+        Unaccepted::Unserved => refuse(UNSERVED.as_bytes(), output),
         Unaccepted::Memory => STARVED,
     }
 }
@@ -84,16 +89,15 @@ fn refuse_unaccepted<W: Sink>(alloc: Global, unaccepted: Unaccepted, output: &mu
 /// Starts a container and serves it up to the end of the input.
 fn live<R: Source, W: Sink, D: Driver + Drop>(
     alloc: Global,
-    accepted: Accepted,
+    tables: RunTables,
     driver: D,
     limits: Limits,
     input: &mut R,
     output: &mut W,
 ) -> Ending
-    requires knows { KnowsEach (D.knows driver) accepted.tables.beans }
-    requires serves { GivesServed accepted.tables (D.legal driver) }
-    ensures lives { spec.Lives limits.depth limits.ticks
-        accepted.tables.names accepted.tables.beans accepted.classes (D.legal driver)
+    requires knows { KnowsMethods (D.knows driver) (D.legal driver) (machine_tables tables) }
+    requires servable { IsServable tables }
+    ensures lives { spec.Lives limits.depth limits.ticks tables (D.legal driver)
         (record {
           unread = R.unread input.old;
           unread_after = R.unread input.new;
@@ -105,7 +109,7 @@ fn live<R: Source, W: Sink, D: Driver + Drop>(
         (R.has_failed input.old) (R.has_failed input.new)
         (W.has_failed output.old) (W.has_failed output.new) }
 {
-    let mut container = Container::start(alloc, accepted, driver, limits);
+    let mut container = Container::start(alloc, tables, driver, limits);
     let served = serve(alloc, input, output, &mut container);
     after_serving(served, container.halted())
 }
@@ -158,7 +162,7 @@ fn play_scripts<R: Source, W: Sink>(
         }
     }
     match accept(alloc, deployment, &bodies) {
-        Ok(accepted) => Ok(live(alloc, accepted, bodies, limits, input, output)),
+        Ok(tables) => Ok(live(alloc, tables, bodies, limits, input, output)),
         Err(unaccepted) => Ok(refuse_unaccepted(alloc, unaccepted, output)),
     }
 }
@@ -196,7 +200,7 @@ fn run<R: Source, W: Sink>(
 /// Runs the program from the bytes of a deployment on, and gives how it ended.
 ///
 /// A refused deployment is told by its first fault, by the first of its scripts that is bad, or by its problems, each on
-/// a line. Otherwise the scripts are the bodies, the container is started and its command lines are answered, as
+/// a line; one that has none and isn't served yet by the line `Unserved`. Otherwise the scripts are the bodies, the container is started and its command lines are answered, as
 /// [`serve`] does: the lines that stand written are those of a run of the machine for the lines that were read, in which
 /// each body does what its script does next. Where no read or write fails and memory does not run out, they are a
 /// function of the limits, the deployment and the input, also where that is too long. All is passed on before each read,

@@ -4,6 +4,5 @@
 pub mod drive;
 pub mod ending;
 pub mod laws;
-pub mod refusal_text;
 
 pub use ending::Ending;

@@ -11,7 +11,7 @@ returns-in-Ok-clause-keeps g c =
     let after = c.run.new.host in
     let tables = rw c.begin.ensures at c.in-Ok.ensures.narrows.tables in
     record {
-      names = same_names before.classes after.classes before.tables after.tables tables;
+      names = same_names before.tables after.tables tables;
       tables = tables;
       legal = rw c.begin.ensures at c.in-Ok.ensures.narrows.legal;
     }
@@ -25,7 +25,7 @@ returns-in-Err-clause-keeps g c =
     let after = c.run.new.host in
     let tables = rw c.begin.ensures at c.in-Err.ensures.narrows.tables in
     record {
-      names = same_names before.classes after.classes before.tables after.tables tables;
+      names = same_names before.tables after.tables tables;
       tables = tables;
       legal = rw c.begin.ensures at c.in-Err.ensures.narrows.legal;
     }

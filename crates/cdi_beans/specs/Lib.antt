@@ -1,8 +1,0 @@
-pub mod Beans
-pub mod Build
-pub mod Problem
-pub mod Duplicates
-pub mod WrongBodies
-pub mod Check
-pub mod Accepted
-pub mod Served

@@ -1,0 +1,53 @@
+//! The qualifiers of a command, with the names of a deployment.
+ghost use Rattle.std.specs.Prelude.{◌≡◌, map, IfOk};
+ghost use Rattle.cdi_container.specs.Commands as spec;
+
+use cdi_base::{MemberValue, Names, Seq, Use, WrittenMember, WrittenUse};
+use std::alloc::{AllocError, Global};
+
+fn member_for(names: &Names, written: &WrittenMember) -> Result<MemberValue, AllocError>
+    ensures { IfOk result (λ member. member ≡ spec.member_for names.now written.now) }
+{
+    Ok(MemberValue {
+        name: names.name_for(written.name.as_str()),
+        value: written.value.clone()?,
+    })
+}
+
+fn members_for(
+    alloc: Global,
+    names: &Names,
+    written: &[WrittenMember],
+) -> Result<Seq<MemberValue>, AllocError>
+    ensures { IfOk result (λ members. members ≡ map (spec.member_for names.now) written.now) }
+{
+    let mut members = Seq::empty(alloc);
+    for member in written {
+        members.push(member_for(names, member)?)?;
+    }
+    Ok(members)
+}
+
+fn use_for(alloc: Global, names: &Names, written: &WrittenUse) -> Result<Use, AllocError>
+    ensures { IfOk result (λ u. u ≡ spec.use_for names.now written.now) }
+{
+    Ok(Use {
+        name: names.name_for(written.name.as_str()),
+        members: members_for(alloc, names, written.members.as_slice())?,
+    })
+}
+
+/// The uses with the numbers of their names. A name that the table doesn't hold gets a number that no name has.
+pub(crate) fn uses_for(
+    alloc: Global,
+    names: &Names,
+    written: &[WrittenUse],
+) -> Result<Seq<Use>, AllocError>
+    ensures { IfOk result (λ uses. uses ≡ spec.uses_for names.now written.now) }
+{
+    let mut uses = Seq::empty(alloc);
+    for qualifier in written {
+        uses.push(use_for(alloc, names, qualifier)?)?;
+    }
+    Ok(uses)
+}

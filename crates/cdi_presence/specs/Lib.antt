@@ -1,3 +1,0 @@
-pub mod Missing
-pub mod Accepted
-pub mod Left

@@ -1,4 +1,0 @@
-//! What the machine looks up is present: in an accepted deployment no look-up of a run misses.
-#![tactic(auto)]
-
-pub mod laws;

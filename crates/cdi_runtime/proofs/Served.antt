@@ -1,0 +1,216 @@
+-- What the engine is told of beans that are served.
+use Rattle.std.proofs.Common.{ℕ, zero, suc, ◌≡◌, ◌∙◌, ◌<◌, ◌^◌, ◌&&◌, Bool, true, false, not, cond, nat_eq, nat_le, nat_lt, List, [], ◌∷◌, length, map, filter, Option, Some, None, IsSome, refl, sym, ap, subst, arith}
+use Rattle.std.specs.Prelude.{option_map, option_and_then, slice_get, IfSome}
+use Rattle.std.specs.List.{filter_map, list_all}
+use Rattle.std.proofs.lemmas.Bool.{and_parts, true≢false}
+use Rattle.std.proofs.lemmas.Option.{same_Some}
+use Rattle.cdi_base.specs.Maps.{at}
+use Rattle.cdi_base.specs.declared.uses.Use.{Use}
+use Rattle.cdi_deployment.specs.declared.deployment.Point.{Point}
+use Rattle.cdi_machine.specs.Words.{Name}
+use Rattle.cdi_machine.specs.Tables as machine
+use Rattle.cdi_plans.specs.declared.plan.BusinessMethod.{BusinessMethod}
+use Rattle.cdi_plans.specs.declared.plan.ManagedPlan.{ManagedPlan}
+use Rattle.cdi_plans.specs.declared.plan.Plan.{Plan}
+use Rattle.cdi_plans.specs.declared.plan.Plan.TheVariants as plans
+use Rattle.cdi_plans.specs.declared.plan.Step.{Step}
+use Rattle.cdi_plans.specs.declared.plan.Step.TheVariants as steps
+use Rattle.cdi_resolve.specs.declared.resolution.Resolution.{Resolution}
+use Rattle.cdi_resolve.specs.declared.resolution.Resolution.TheVariants as resolutions
+use Rattle.cdi_run_tables.specs.Machine as tables
+use Rattle.cdi_run_tables.specs.Machine.{asked_by, bean_at, bean_with, does_something, has_none, id_of, is_idle, machine_code, machine_lifecycle, machine_managed, machine_method, machine_methods, machine_step, machine_steps, machine_tables, method_of, method_with, resolution_of, without_chain}
+use Rattle.cdi_run_tables.specs.Managed as managed
+use Rattle.cdi_run_tables.specs.Managed.{injected, injections_of, managed_plan}
+use Rattle.cdi_run_tables.specs.Served.{has_texts, is_served, is_served_bean, is_served_plan, is_served_scope, is_served_step}
+use Rattle.cdi_run_tables.specs.Sizes.{has_few_injections, is_small}
+use Rattle.cdi_run_tables.specs.declared.planned.PlannedBean.{PlannedBean}
+use Rattle.cdi_run_tables.specs.declared.tables.Method.{Method as Found}
+use Rattle.cdi_run_tables.specs.declared.tables.RunTables.{RunTables}
+use Rattle.cdi_steps.specs.Asked as steps_asked
+use Rattle.cdi_steps.specs.Asked.{asked_for, fields_of, head_of, method_at, method_in, no_lifecycle, plan_of, IsServedBean}
+use Rattle.cdi_steps.specs.declared.beans.BeanHead.{BeanHead}
+use Rattle.cdi_runtime.specs.Refusals.{with_no_chain}
+use Rattle.cdi_runtime.specs.Standing.{IsServable}
+use Rattle.cdi_runtime.proofs.Lists.{mapped_at, passes_at, within}
+
+none_is : {A : Type 0} (xs : List A) → has_none xs ≡ true → xs ≡ []
+none_is [] e = refl
+none_is (x ∷ xs) e = absurd (true≢false (sym e))
+
+-- what is true of the plan of a bean that is served
+record ServedPlan (b : PlannedBean) : Type 0 where
+  plan : ManagedPlan
+  is : b.plan ≡ plans.Managed plan
+  scope : is_served_scope b.scope ≡ true
+  served : list_all is_served_step plan.steps ≡ true
+  unchained : list_all (λ (m : BusinessMethod). has_none m.chain) plan.methods ≡ true
+  idle : is_idle plan.pre_destroy ≡ true
+
+served_plan : (b : PlannedBean) → is_served_bean b ≡ true → ServedPlan b
+served_plan b h = by b.plan refl (and_parts (is_served_scope b.scope) (is_served_plan b.plan) h).1
+  where
+    by : (plan : Plan) → b.plan ≡ plan → is_served_plan plan ≡ true → ServedPlan b
+    by (plans.Product p) e k = absurd (true≢false (sym k))
+    by (plans.Managed p) e k =
+        let some = list_all is_served_step p.steps in
+        let free = list_all (λ (m : BusinessMethod). has_none m.chain) p.methods in
+        let two = and_parts (some && free) (is_idle p.pre_destroy) k in
+        let one = and_parts some free two.0 in
+        record { plan = p; is = e; scope = (and_parts (is_served_scope b.scope) (is_served_plan b.plan) h).0; served = one.0; unchained = one.1; idle = two.1 }
+
+-- the head of a bean, and the injected fields as steps
+abbrev pub head : PlannedBean → BeanHead
+head b = record { place = b.place; scope = b.scope }
+
+abbrev pub step_of : Name × Point → machine.Step
+step_of p = machine.Step.Inject p.0 (asked_by p.1)
+
+-- steps that are served are those that inject
+only_injected : (ids : ℕ → Option ℕ) (all : List Step) → list_all is_served_step all ≡ true → machine_steps ids all ≡ map step_of (filter_map injected all)
+only_injected ids [] h = refl
+only_injected ids (s ∷ rest) h = by s (and_parts (is_served_step s) (list_all is_served_step rest) h).0 (only_injected ids rest (and_parts (is_served_step s) (list_all is_served_step rest) h).1)
+  where
+    skipped : (x : Step) (b : Bool) → not b ≡ true → map (machine_step ids) (cond b (x ∷ filter does_something rest) (filter does_something rest)) ≡ machine_steps ids rest
+    skipped x false k = refl
+    skipped x true k = absurd (true≢false (sym k))
+
+    by : (x : Step) → is_served_step x ≡ true → machine_steps ids rest ≡ map step_of (filter_map injected rest) → machine_steps ids (x ∷ rest) ≡ map step_of (filter_map injected (x ∷ rest))
+    by (steps.Inject field point) k more = ap (λ z. step_of (field, point) ∷ z) more
+    by (steps.Intercept i) k more = absurd (true≢false (sym k))
+    by (steps.Initialize code points) k more = absurd (true≢false (sym k))
+    by (steps.Construct points l) k more = skipped (steps.Construct points l) (does_something (steps.Construct points l)) k ∙ more
+    by (steps.Complete l) k more = skipped (steps.Complete l) (does_something (steps.Complete l)) k ∙ more
+
+-- no interceptor stands round a method
+unchained_at : (ids : ℕ → Option ℕ) (ms : List BusinessMethod) (name : ℕ) (m : machine.Method) → list_all (λ (k : BusinessMethod). has_none k.chain) ms ≡ true → at (machine_methods ids ms) name ≡ Some m → m.chain ≡ []
+unchained_at ids [] name m h e = absurd cc
+unchained_at ids (k ∷ ks) name m h e = by (ids k.code.body) e
+  where
+    parts : (has_none k.chain ≡ true) × (list_all (λ (x : BusinessMethod). has_none x.chain) ks ≡ true)
+    parts = and_parts (has_none k.chain) (list_all (λ (x : BusinessMethod). has_none x.chain) ks) h
+
+    here : (body : ℕ) (b : Bool) → cond b (Some (method_with k body).1) (at (machine_methods ids ks) name) ≡ Some m → m.chain ≡ []
+    here body true f = ap (λ (x : machine.Method). x.chain) (sym (same_Some (method_with k body).1 m f)) ∙ none_is k.chain parts.0
+    here body false f = unchained_at ids ks name m parts.1 f
+
+    by : (o : Option ℕ) → at (elim (option_map (method_with k) o) [ Some y ↦ y ∷ machine_methods ids ks | None ↦ machine_methods ids ks ]) name ≡ Some m → m.chain ≡ []
+    by None f = unchained_at ids ks name m parts.1 f
+    by (Some body) f = here body (nat_eq name k.name) f
+
+-- handed out without its chain, it is as it was
+whole_method : (o : Option machine.Method) → ((m : machine.Method) → o ≡ Some m → m.chain ≡ []) → option_map with_no_chain (option_map without_chain o) ≡ o
+whole_method None free = refl
+whole_method (Some m) free =
+    let none : m.chain ≡ [] = free m refl in
+    λ i. Some (record { code = m.code; count = m.count; chain = sym none i })
+
+module _ (t : RunTables) (served : is_served t ≡ true) where
+  all_served : list_all is_served_bean t.beans ≡ true
+  all_served = (and_parts (list_all is_served_bean t.beans) (has_texts t.deployment) served).0
+
+  served_at : (n : ℕ) (b : PlannedBean) → slice_get t.beans n ≡ Some b → ServedPlan b
+  served_at n b e = served_plan b (passes_at is_served_bean t.beans n b all_served e)
+
+  abbrev as_bean : (b : PlannedBean) → ServedPlan b → machine.Bean
+  as_bean b s = bean_with b (machine.Kind.Class (machine_managed (id_of t) s.plan))
+
+  bean_is : (n : ℕ) (b : PlannedBean) → slice_get t.beans n ≡ Some b → (s : ServedPlan b) → bean_at t n ≡ Some (as_bean b s)
+  bean_is n b e s =
+      ap (option_and_then (tables.machine_bean (id_of t) t.tables.resolver.beans)) e
+      ∙ ap (λ (plan : Plan). option_map (bean_with b) (tables.machine_kind (id_of t) t.tables.resolver.beans plan)) s.is
+
+  bean_none : (n : ℕ) → slice_get t.beans n ≡ None → bean_at t n ≡ None
+  bean_none n e = ap (option_and_then (tables.machine_bean (id_of t) t.tables.resolver.beans)) e
+
+  plan_managed : (b : PlannedBean) (s : ServedPlan b) → managed_plan b ≡ Some s.plan
+  plan_managed b s = ap managed.managed_of s.is
+
+  abbrev managed_at : ℕ → Option ManagedPlan
+  managed_at n = option_and_then managed_plan (slice_get t.beans n)
+
+  managed_is : (n : ℕ) (b : PlannedBean) → slice_get t.beans n ≡ Some b → (s : ServedPlan b) → managed_at n ≡ Some s.plan
+  managed_is n b e s = ap (option_and_then managed_plan) e ∙ plan_managed b s
+
+  managed_none : (n : ℕ) → slice_get t.beans n ≡ None → managed_at n ≡ None
+  managed_none n e = ap (option_and_then managed_plan) e
+
+  -- a statement on what stands at an index holds if it does of a bean that is served, and where there is none
+  module _ (P : Option PlannedBean → Option machine.Bean → Option ManagedPlan → Type 0) where
+    at_index : (n : ℕ) → P None None None → ((b : PlannedBean) (s : ServedPlan b) → P (Some b) (Some (as_bean b s)) (Some s.plan)) → P (slice_get t.beans n) (bean_at t n) (managed_at n)
+    at_index n none some = by (slice_get t.beans n) refl
+      where
+        by : (o : Option PlannedBean) → slice_get t.beans n ≡ o → P (slice_get t.beans n) (bean_at t n) (managed_at n)
+        by None e = subst (λ x. P x (bean_at t n) (managed_at n)) (sym e) (subst (λ x. P None x (managed_at n)) (sym (bean_none n e)) (subst (λ x. P None None x) (sym (managed_none n e)) none))
+        by (Some b) e =
+            let s = served_at n b e in
+            subst (λ x. P x (bean_at t n) (managed_at n)) (sym e)
+            (subst (λ x. P (Some b) x (managed_at n)) (sym (bean_is n b e s)) (subst (λ x. P (Some b) (Some (as_bean b s)) x) (sym (managed_is n b e s)) (some b s)))
+
+  pub head_at : (n : ℕ) → option_map head_of (bean_at t n) ≡ option_map head (slice_get t.beans n)
+  head_at n = at_index (λ x y z. option_map head_of y ≡ option_map head x) n refl (λ b s. refl)
+
+  scope_as : (b : PlannedBean) (s : ServedPlan b) → steps_asked.is_served_scope b.scope ≡ true
+  scope_as b s = s.scope
+
+  silent : (b : PlannedBean) (s : ServedPlan b) → machine_lifecycle (id_of t) s.plan.pre_destroy ≡ no_lifecycle
+  silent b s =
+      let idle = and_parts (has_none s.plan.pre_destroy.chain) (has_none s.plan.pre_destroy.callbacks) s.idle in
+      let chain : s.plan.pre_destroy.chain ≡ [] = none_is s.plan.pre_destroy.chain idle.0 in
+      let callbacks : map (machine_code (id_of t)) s.plan.pre_destroy.callbacks ≡ [] = ap (map (machine_code (id_of t))) (none_is s.plan.pre_destroy.callbacks idle.1) in
+      λ i. record { chain = chain i; callbacks = callbacks i }
+
+  pub served_bean_at : (n : ℕ) → IfSome (bean_at t n) IsServedBean
+  served_bean_at n =
+      at_index (λ x y z. IfSome y IsServedBean) n tt
+      (λ b s. record { class = machine_managed (id_of t) s.plan; is_class = refl; scope = scope_as b s; pre_destroy = silent b s })
+
+  pub fields_at : (n : ℕ) → fields_of (bean_at t n) ≡ managed.fields_of (managed_at n)
+  fields_at n = at_index (λ x y z. fields_of y ≡ managed.fields_of z) n refl (λ b s. refl)
+
+  pub plan_at : (n : ℕ) → plan_of (bean_at t n) ≡ map step_of (injections_of (managed_at n))
+  plan_at n = at_index (λ x y z. plan_of y ≡ map step_of (injections_of z)) n refl (λ b s. only_injected (id_of t) s.plan.steps s.served)
+
+  pub step_at : (n i : ℕ) → slice_get (plan_of (bean_at t n)) i ≡ option_map step_of (slice_get (injections_of (managed_at n)) i)
+  step_at n i = ap (λ xs. slice_get xs i) (plan_at n) ∙ mapped_at step_of (injections_of (managed_at n)) i
+
+  method_found : (n name : ℕ) → method_at (machine_tables t) n name ≡ method_of t n name
+  method_found n name =
+      at_index (λ x y z. option_and_then (λ (bean : machine.Bean). method_in bean.kind name) y ≡ option_and_then (λ (bean : PlannedBean). tables.method_in (id_of t) bean.plan name) x) n refl
+      (λ b s. sym (ap (λ (plan : Plan). tables.method_in (id_of t) plan name) s.is))
+
+  free : (n name : ℕ) (m : machine.Method) → method_of t n name ≡ Some m → m.chain ≡ []
+  free n name m =
+      at_index (λ x y z. option_and_then (λ (bean : PlannedBean). tables.method_in (id_of t) bean.plan name) x ≡ Some m → m.chain ≡ []) n (λ e. absurd cc)
+      (λ b s e. unchained_at (id_of t) s.plan.methods name m s.unchained (sym (ap (λ (plan : Plan). tables.method_in (id_of t) plan name) s.is) ∙ e))
+
+  pub method_is : (n name : ℕ) → method_at (machine_tables t) n name ≡ option_map with_no_chain (option_map without_chain (method_of t n name))
+  method_is n name = method_found n name ∙ sym (whole_method (method_of t n name) (free n name))
+
+module _ (t : RunTables) (small : is_small t ≡ true) where
+  sizes : (nat_le (length t.beans) 4096 ≡ true) × (list_all has_few_injections t.beans ≡ true)
+  sizes = and_parts (nat_le (length t.beans) 4096) (list_all has_few_injections t.beans) small
+
+  pub few_injections : (n : ℕ) → length (injections_of (option_and_then managed_plan (slice_get t.beans n))) < 2 ^ 32
+  few_injections n = by (slice_get t.beans n) refl
+    where
+      by : (o : Option PlannedBean) → slice_get t.beans n ≡ o → length (injections_of (option_and_then managed_plan o)) < 2 ^ 32
+      by None e = omega arith
+      by (Some b) e = let few : nat_lt (length (injections_of (managed_plan b))) (2 ^ 32) ≡ true = passes_at has_few_injections t.beans n b sizes.1 e in omega (arith, few)
+
+  there_at : (n : ℕ) (o : Option PlannedBean) → slice_get t.beans n ≡ o → IsSome (option_and_then (tables.machine_bean (id_of t) t.tables.resolver.beans) o) → IsSome (slice_get t.beans n)
+  there_at n None e some = absurd cc
+  there_at n (Some b) e some = subst IsSome (sym e) (some_is b)
+    where
+      some_is : (x : PlannedBean) → IsSome (Some x)
+      some_is x = tt
+
+  -- the index of a bean is small
+  pub small_index : (n : ℕ) → IsSome (bean_at t n) → n < 2 ^ 32
+  small_index n some =
+      let less = within t.beans n (there_at n (slice_get t.beans n) refl some) in
+      let few = sizes.0 in
+      omega (arith, less, few)
+
+-- so is what resolves
+pub small_resolved : (t : RunTables) → IsServable t → (type : ℕ) (uses : List Use) (b : ℕ) → resolution_of t type uses ≡ resolutions.One b → b < 2 ^ 32
+small_resolved t h type uses b e = small_index t h.small b (h.there (record { type = type; qualifiers = uses }) b (ap tables.machine_resolution e))
