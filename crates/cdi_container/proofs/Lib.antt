@@ -1,3 +1,4 @@
+pub mod Accepting
 pub mod Keeping
 pub mod Replying
 pub mod Missing

@@ -6,8 +6,6 @@ use Rattle.cdi_base.specs.declared.command.Command.TheVariants as commands
 use Rattle.cdi_base.specs.declared.reply.Cause.{Cause}
 use Rattle.cdi_base.specs.declared.reply.Refusal.{Refusal}
 use Rattle.cdi_base.specs.declared.reply.Refusal.TheVariants as refusals
-use Rattle.cdi_bodies.specs.declared.entry.Entry.{Entry}
-use Rattle.cdi_deployment.specs.declared.deployment.Deployment.{Deployment}
 use Rattle.cdi_contexts.specs.Refusals.{first_that_holds}
 use Rattle.cdi_text.specs.Command.{is_served}
 use Rattle.cdi_machine.specs.Tables as machine
@@ -17,8 +15,6 @@ use Rattle.cdi_machine.specs.Commands.{task}
 use Rattle.cdi_machine.specs.Container.{State as Machine, refusal, refused_by_contexts, refused_by_tables, is_cut, state_after}
 use Rattle.cdi_machine.specs.Container as container
 use Rattle.cdi_machine.specs.Runs.{Legal, Outcome, Ends, Cut, Runs}
-use Rattle.cdi_machine.specs.Registered.{legal_of}
-use Rattle.cdi_run_tables.specs.Machine.{machine_tables}
 use Rattle.cdi_fit.specs.Fits.{Fits}
 use Rattle.cdi_fit.specs.Missing as fit
 use Rattle.cdi_fit.specs.Missing.{NothingMissing, IsServedCommand, IsReachable}
@@ -105,17 +101,12 @@ module _ (names : List (List ℕ)) (tables : machine.Tables) (legal : Legal) whe
       let from = reached_as s works none in
       record { between = from.between; reached = from.reached; alike = from.alike; working = from.working }
 
-module _ (tables : machine.Tables) (legal : Legal) (Starved : Type 0) (fits : Fits tables legal) (none : fit.MissesNothing tables legal Starved) where
-  pub misses_none : (names : List (List ℕ)) → MissesNone names tables legal Starved
-  misses_none names s works command q e o v =
+module _ (tables : machine.Tables) (legal : Legal) (Starved : Type 0) (none : fit.MissesNothing tables legal Starved) where
+  pub none_missed : NoneMissed tables legal Starved
+  none_missed fits names s works command q e o v =
       let c = machine_command names command in
       let on = works_on tables s c e in
       let from = reached_as names tables legal s works on in
       let admitted = sym (refused_alike names tables legal s from.between c on from.alike from.working) ∙ e in
       subst (λ w. (r : Runs tables legal Starved (task c) w o v) → NothingMissing r) (sym from.alike)
       (none fits from.between from.reached c admitted (served names command q) o v)
-
-pub none_missed : {X : Type 0} {F : X → Type 0} {g : _} (deployment : Deployment) (entries : List (Entry X F g)) (Starved : Type 0)
-    → ((tables : machine.Tables) → fit.MissesNothing tables (legal_of entries) Starved) → NoneMissed deployment entries Starved
-none_missed deployment entries Starved none t is =
-    misses_none (machine_tables t) (legal_of entries) Starved is.fits (none (machine_tables t)) deployment.names

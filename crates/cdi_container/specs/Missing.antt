@@ -2,19 +2,14 @@
 use Rattle.std.specs.Prelude.{ℕ, ◌≡◌, List, None, IsTrue}
 use Rattle.cdi_base.specs.declared.command.Command.{Command}
 use Rattle.cdi_base.specs.declared.reply.Reply.{Reply}
-use Rattle.cdi_bodies.specs.declared.entry.Entry.{Entry}
-use Rattle.cdi_deployment.specs.declared.deployment.Deployment.{Deployment}
 use Rattle.cdi_text.specs.Command.{is_served}
 use Rattle.cdi_machine.specs.Tables as machine
 use Rattle.cdi_machine.specs.World.{World, at_begin}
 use Rattle.cdi_machine.specs.Commands.{task}
 use Rattle.cdi_machine.specs.Container.{refusal}
 use Rattle.cdi_machine.specs.Runs.{Legal, Outcome, Runs}
-use Rattle.cdi_machine.specs.Registered.{legal_of}
+use Rattle.cdi_fit.specs.Fits.{Fits}
 use Rattle.cdi_fit.specs.Missing.{NothingMissing}
-use Rattle.cdi_run_tables.specs.Machine.{machine_tables}
-use Rattle.cdi_run_tables.specs.declared.tables.RunTables.{RunTables}
-use Rattle.cdi_container.specs.Accepted.{IsAccepted}
 use Rattle.cdi_container.specs.Commands.{machine_command}
 use Rattle.cdi_container.specs.States.{State, Answers, Boots, machine_state, after_refusal}
 
@@ -38,9 +33,7 @@ MissesNone names tables legal Starved =
     → (r : Runs tables legal Starved (task (machine_command names command)) (at_begin s.world) o v)
     → NothingMissing r
 
--- so in every container of the deployment with these bodies
-abbrev pub NoneMissed : {X : Type 0} {F : X → Type 0} {g : _}
-    → Deployment → List (Entry X F g) → Type 0 → Type 0
-NoneMissed deployment entries Starved =
-    (t : RunTables) → IsAccepted deployment entries t
-    → MissesNone deployment.names (machine_tables t) (legal_of entries) Starved
+-- so in every container whose tables and bodies fit one another, as those of an accepted deployment do
+abbrev pub NoneMissed : machine.Tables → Legal → Type 0 → Type 0
+NoneMissed tables legal Starved =
+    Fits tables legal → (names : List (List ℕ)) → MissesNone names tables legal Starved

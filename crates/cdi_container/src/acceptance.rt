@@ -85,12 +85,12 @@ fn accept_listed(
     ensures ok { IfOk result (spec.IsAccepted deployment (entries_of bodies.now)) }
     ensures err { IfErr result (spec.IsUnaccepted deployment (entries_of bodies.now)) }
 {
-    let tables = BeanTables::build(alloc, &deployment, list)?;
-    let problems = late_problems(alloc, &deployment, &tables, bodies)?;
+    let listed = BeanTables::build(alloc, &deployment, list)?;
+    let problems = late_problems(alloc, &deployment, &listed, bodies)?;
     if !problems.is_empty() {
         return Err(refused(deployment, problems));
     }
-    let tables = RunTables::build(alloc, deployment, tables, bodies)?;
+    let tables = RunTables::build(alloc, deployment, listed, bodies)?;
     served_tables(tables, bodies)
 }
 

@@ -1,24 +1,22 @@
 //! The laws of a container. A call of one of these does nothing: its contract is the law.
-ghost use Rattle.cdi_bodies.specs.Table.{entries_of};
-ghost use Rattle.cdi_deployment.specs.declared.deployment.Deployment.{Deployment};
 ghost use Rattle.cdi_machine.specs.Tables.{Tables};
 ghost use Rattle.cdi_container.specs.History.{KeepsOrder};
 ghost use Rattle.cdi_container.specs.Missing.{NoneMissed};
 
-use cdi_bodies::Bodies;
 use cdi_fit::laws as fit;
 use cdi_ledger::laws as ledger;
 use cdi_machine::Driver;
 
-/// In a container of an accepted deployment no look-up fails: a command that isn't refused never comes to a point at
-/// which a bean, a method, a field, an instance, an invocation or the text of an exception isn't there. That holds from
-/// the start on until the container halts, and also if memory runs out on the way.
-pub fn law_nothing_missing(bodies: &Bodies)
-    ensures with_memory { (d : Deployment) → NoneMissed d (entries_of bodies.now) ⊥ }
-    ensures short_of_memory { (d : Deployment) →
-        NoneMissed d (entries_of bodies.now) (Unit {0}) }
+/// In a container whose tables and bodies fit one another, as those of every deployment that is [accepted](crate::accept)
+/// do, no look-up fails: a command that isn't refused never comes to a point at which a bean, a method, a field, an
+/// instance, an invocation or the text of an exception isn't there. That holds from the start on until the container
+/// halts, and also if memory runs out on the way.
+pub fn law_nothing_missing<D: Driver>(driver: &D)
+    ensures with_memory { (tables : Tables) → NoneMissed tables (D.legal driver.now) ⊥ }
+    ensures short_of_memory { (tables : Tables) →
+        NoneMissed tables (D.legal driver.now) (Unit {0}) }
 {
-    fit::law_nothing_missing(bodies);
+    fit::law_nothing_missing(driver);
 }
 
 /// What a container has written since its start is in order, also if a command was cut or memory ran out in one: the

@@ -1,0 +1,71 @@
+-- A deployment without problems that is served is accepted.
+use Rattle.std.proofs.Common.{ℕ, ◌≡◌, ◌≢◌, ◌∙◌, ◌<◌, ◌&&◌, List, [], length, Bool, true, Option, Some, IsTrue, IsSome, is_some, refl, sym, ap, subst}
+use Rattle.std.proofs.lemmas.Bool.{and_parts}
+use Rattle.cdi_beanlist.specs.Problems.{AreAllProblemsOf}
+use Rattle.cdi_bodies.specs.declared.entry.Entry.{Entry}
+use Rattle.cdi_body_check.specs.Shapes.{shape_of}
+use Rattle.cdi_check.specs.Late.{AreLateProblems, AreProblemsIn}
+use Rattle.cdi_check.specs.Problems.{AreProblemsOf}
+use Rattle.cdi_check.specs.Tables.{setting_by}
+use Rattle.cdi_deployment.specs.declared.deployment.Deployment.{Deployment}
+use Rattle.cdi_fit.specs.Fits.{Fits}
+use Rattle.cdi_machine.specs.Registered.{legal_of}
+use Rattle.cdi_machine.specs.Tables as machine
+use Rattle.cdi_machine.specs.Words.{Asked}
+use Rattle.cdi_problems.specs.declared.problem.Problem.{Problem}
+use Rattle.cdi_run_tables.specs.Machine.{AreIdsOf, bean_at, machine_tables}
+use Rattle.cdi_run_tables.specs.Planned.{IsTabled}
+use Rattle.cdi_run_tables.specs.Served.{is_served, serves_shapes}
+use Rattle.cdi_run_tables.specs.Sizes.{is_small}
+use Rattle.cdi_run_tables.specs.declared.tables.RunTables.{RunTables}
+use Rattle.cdi_runtime.specs.Knowing.{KnowsServed}
+use Rattle.cdi_runtime.specs.Standing.{IsServable}
+use Rattle.cdi_tables.specs.declared.bean_tables.BeanTables.{BeanTables}
+use Rattle.cdi_container.specs.Accepted.{AreTablesWith, IsAccepted, serves}
+
+module _ {X : Type 0} {F : X → Type 0} {g : _} (entries : List (Entry X F g)) where
+  -- the tables of accepted deployments that are served fit these bodies
+  abbrev pub FitServed : Type 0
+  FitServed =
+      (t : RunTables) → IsTabled t → AreIdsOf entries t → IsTrue (is_served t) → IsTrue (serves_shapes (shape_of entries) t)
+      → AreProblemsIn t.deployment (shape_of entries) t.tables.enabled (setting_by t.deployment t.tables) [] → Fits (machine_tables t) (legal_of entries)
+
+  pub accepted : (t : RunTables) → AreTablesWith t.deployment entries t → serves (shape_of entries) t ≡ true
+      → AreProblemsIn t.deployment (shape_of entries) t.tables.enabled (setting_by t.deployment t.tables) []
+      → FitServed → KnowsServed entries → IsAccepted t.deployment entries t
+  accepted t are served faultless fit knows =
+      let one = and_parts (is_served t && serves_shapes (shape_of entries) t) (is_small t) served in
+      let two = and_parts (is_served t) (serves_shapes (shape_of entries) t) one.0 in
+      let fits = fit t are.tabled are.ids two.0 two.1 faultless in
+      record {
+        are = are;
+        served = served;
+        servable = record {
+          served = two.0;
+          small = one.1;
+          there = λ asked b e. ap is_some (fits.resolved asked b e).known;
+        };
+        knows = knows t are.ids two.1;
+        fits = fits;
+      }
+
+  module _ (d : Deployment) (tables : BeanTables) (problems : List Problem) (none : problems ≡ []) (t : RunTables) (deployment : t.deployment ≡ d) (has : t.tables ≡ tables) where
+    -- what is told of the deployment with its tables is told of these
+    pub tables_with : AreLateProblems d (shape_of entries) problems → IsTabled t → AreIdsOf entries t → AreTablesWith t.deployment entries t
+    tables_with late tabled ids =
+        let P : List Problem → Type 0 = λ ps. AreLateProblems d (shape_of entries) ps in
+        let Q : Deployment → Type 0 = λ k. AreProblemsOf k (shape_of entries) [] in
+        record {
+          faultless = subst Q (sym deployment) (AreProblemsOf.late (subst P none late));
+          deployment_is = refl;
+          tabled = tabled;
+          ids = ids;
+        }
+
+    pub faultless_by : AreProblemsIn d (shape_of entries) tables.enabled (setting_by d tables) problems
+        → AreProblemsIn t.deployment (shape_of entries) t.tables.enabled (setting_by t.deployment t.tables) []
+    faultless_by h =
+        let P : List Problem → Type 0 = λ ps. AreProblemsIn d (shape_of entries) tables.enabled (setting_by d tables) ps in
+        let Q : BeanTables → Type 0 = λ k. AreProblemsIn d (shape_of entries) k.enabled (setting_by d k) [] in
+        let R : Deployment → Type 0 = λ k. AreProblemsIn k (shape_of entries) t.tables.enabled (setting_by k t.tables) [] in
+        subst R (sym deployment) (subst Q (sym has) (subst P none h))

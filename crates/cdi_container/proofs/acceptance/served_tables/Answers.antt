@@ -1,0 +1,8 @@
+use Rattle.std.proofs.Common.{◌∙◌, sym}
+use Rattle.cdi_bodies.specs.Table.{entries_of}
+use Rattle.cdi_container.proofs.Accepting.{accepted}
+use Rattle.cdi_container.proofs.acceptance.served_tables.Goals as goal
+
+pub returns-then-serves-clause-ok : goal.returns-then-serves-clause-ok
+returns-then-serves-clause-ok g c =
+    accepted (entries_of c.args.bodies.now) c.args.tables c.requires.are (sym c.serves.ensures ∙ c.if-serves.true) c.requires.faultless c.law_fits.ensures c.law_knows_methods.ensures
