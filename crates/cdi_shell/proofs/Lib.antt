@@ -4,5 +4,6 @@ pub mod Holding
 pub mod OneOutput
 pub mod Playing
 pub mod Scripted
+pub mod Tabled
 pub mod Wider
 pub mod WorkedLines

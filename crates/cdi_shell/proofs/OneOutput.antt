@@ -1,5 +1,4 @@
 -- The program's output is a function of its limits, its deployment and its input.
-use denote.Struct.Props as logic
 use Rattle.std.proofs.Common.{ℕ, ◌≤◌, length, take, ◌≡◌, ◌∙◌, ◌++◌, ◌∷◌, [], List, refl, sym, ap, subst, Option, Some, None, Ok, Err, append-nil, append_assoc, length-append, slice_get, arith}
 use lib.Seq.{take-append_seam}
 use Rattle.std.specs.Prelude.{Result, MatchOption}
@@ -8,11 +7,14 @@ use Rattle.cdi_base.specs.declared.act.Act.{Act}
 use Rattle.cdi_base.specs.declared.reply.Cause.{Cause}
 use Rattle.cdi_base.specs.declared.reply.Reply.{Reply}
 use Rattle.cdi_bodies.specs.declared.view.View.{View}
-use Rattle.cdi_beans.specs.declared.bean.Bean.{Bean}
-use Rattle.cdi_beans.specs.declared.problem.Problem.{Problem}
-use Rattle.cdi_beans.specs.declared.tables.Tables.{Tables}
-use Rattle.cdi_beans.specs.Served.{machine_tables}
+use Rattle.cdi_bodies.specs.declared.shape.Shape.{Shape}
+use Rattle.cdi_check.specs.Problems.{AreProblemsOf}
+use Rattle.cdi_deployment.specs.declared.deployment.Deployment.{Deployment}
 use Rattle.cdi_machine.specs.Tables as machine
+use Rattle.cdi_problems.specs.declared.problem.Problem.{Problem}
+use Rattle.cdi_run_tables.specs.Machine.{machine_tables}
+use Rattle.cdi_run_tables.specs.declared.tables.RunTables.{RunTables}
+use Rattle.cdi_container.specs.Accepted.{serves}
 use Rattle.cdi_machine.specs.Commands.{Command}
 use Rattle.cdi_machine.specs.Laws.{IsOne}
 use Rattle.cdi_machine.specs.Runs.{Legal}
@@ -26,15 +28,18 @@ use Rattle.cdi_lines.specs.declared.fault.ServeFault.TheVariants as faults
 use Rattle.cdi_lines.specs.declared.sink.WriteFailed.{WriteFailed}
 use Rattle.cdi_prepare.specs.declared.scripts.NamedScript.{NamedScript}
 use Rattle.cdi_prepare.specs.Ready.{Readied}
-use Rattle.cdi_prepare.specs.Scripts.{registered}
-use Rattle.cdi_shell.specs.Drive.{Streams, Writes, Refuses, Lives, Plays, DrivesReadied, Drives, legal_by, readied}
+use Rattle.cdi_prepare.specs.Scripts.{registered, shape_under}
+use Rattle.cdi_report.specs.Reports.{AreProblemsWith, problem_lines}
+use Rattle.cdi_shell.specs.Drive.{Streams, Writes, Refuses, AreTablesWith, Lives, PlaysScripts, DrivesReadied, Drives, legal_by, readied, unserved_line}
 use Rattle.cdi_lines.specs.Ends.{WritesAll}
 use Rattle.cdi_shell.specs.Endings.{after_serving, after_refusal}
 use Rattle.cdi_shell.specs.Laws.{IsSettled, SameOutput, OneOutput}
 use Rattle.cdi_lines.specs.Lines.{complete_lines, all_lines}
 use Rattle.cdi_text.specs.ReplyText.{reply_line}
 use Rattle.cdi_lines.specs.Served.{Replies, Serves}
+use Rattle.cdi_uniqueness.proofs.Verdicts.{one_verdict}
 use Rattle.cdi_shell.proofs.Determined.{IsFed, answers_one, replies_one, replies_halted}
+use Rattle.cdi_shell.proofs.Tabled.{same_machine, same_verdict}
 
 -- scripts leave open neither an act nor a pick
 pub one_by : (scripts : List NamedScript) → IsOne (legal_by scripts)
@@ -46,18 +51,6 @@ one_by scripts = record {
     at : (o : Option NamedScript) (fields : List (ℕ × _)) (view : View) (a b : Act) → MatchOption o ⊥ (λ s. a ≡ next_of s.script fields view) → MatchOption o ⊥ (λ s. b ≡ next_of s.script fields view) → a ≡ b
     at None fields view a b p q = absurd p
     at (Some s) fields view a b p q = p ∙ sym q
-
-few_prop : (beans : List Bean) → IsProp (length beans ≤ 4096)
-few_prop beans = Prim.hlevel logic.props
-
-abbrev tables_of : (names : List (List ℕ)) (beans : List Bean) → length beans ≤ 4096 → Tables
-tables_of names beans few = record { names = names; beans = beans; few = few }
-
-tables_are : (t t' : Tables) → t.names ≡ t'.names → t.beans ≡ t'.beans → t ≡ t'
-tables_are t t' p q =
-    subst (λ (bs : List Bean). (f : length bs ≤ 4096) → t ≡ tables_of t'.names bs f) q
-    (λ f. subst (λ (ns : List (List ℕ)). t ≡ tables_of ns t.beans f) p (ap (tables_of t.names t.beans) (few_prop t.beans t.few f)))
-    t'.few
 
 -- ---- what was appended
 
@@ -133,11 +126,11 @@ record Whole (depth ticks : ℕ) (names : List (List ℕ)) (tables : machine.Tab
   pub is_ending : ending ≡ after_serving result ended.halted
   pub fed : IsFed ended
 
-whole_of : (depth ticks : ℕ) (names : List (List ℕ)) (beans : List Bean) (classes : List ℕ) (legal : Legal) (input : List ℕ) (streams : Streams) (e : Ending) → IsSettled e → streams.unread ≡ Some input
-    → (l : Lives depth ticks names beans classes legal streams e) → Whole depth ticks l.tables.names (machine_tables classes l.tables) legal input streams e
-whole_of depth ticks names beans classes legal input streams e settled u l = by l.result l.served l.is_ending
+whole_of : (depth ticks : ℕ) (t : RunTables) (legal : Legal) (input : List ℕ) (streams : Streams) (e : Ending) → IsSettled e → streams.unread ≡ Some input
+    → (l : Lives depth ticks t legal streams e) → Whole depth ticks t.deployment.names (machine_tables t) legal input streams e
+whole_of depth ticks t legal input streams e settled u l = by l.result l.served l.is_ending
   where
-    to_end : (h : Serves 16777216 (AnswersLine l.tables.names (machine_tables classes l.tables) legal (Unit {0})) (reply_line l.tables.names l.reply) l.started l.ended (Ok tt) streams.unread streams.unread_after streams.held streams.held_after) → e ≡ after_serving {T = Unit {0}} (Ok tt) l.ended.halted → Whole depth ticks l.tables.names (machine_tables classes l.tables) legal input streams e
+    to_end : (h : Serves 16777216 (AnswersLine t.deployment.names (machine_tables t) legal (Unit {0})) (reply_line t.deployment.names l.reply) l.started l.ended (Ok tt) streams.unread streams.unread_after streams.held streams.held_after) → e ≡ after_serving {T = Unit {0}} (Ok tt) l.ended.halted → Whole depth ticks t.deployment.names (machine_tables t) legal input streams e
     to_end h is =
         let (rest, split, none) = consumed_of input streams.unread streams.unread_after h.read u h.consumed.0 in
         let all : input ≡ h.read = split ∙ ap (λ (x : List ℕ). h.read ++ x) (none h.consumed.1) ∙ append-nil h.read in
@@ -151,13 +144,13 @@ whole_of depth ticks names beans classes legal input streams e settled u l = by 
           out = h.stands.0;
           reaches = Reaches.to_end (subst (λ (b : List ℕ). length b ≤ 16777216) (sym all) few);
           boots = l.boots;
-          replies = subst (λ (b : List ℕ). Replies (AnswersLine l.tables.names (machine_tables classes l.tables) legal (Unit {0})) (all_lines b) l.started h.stands.0 l.ended) (sym all) h.stands.1;
+          replies = subst (λ (b : List ℕ). Replies (AnswersLine t.deployment.names (machine_tables t) legal (Unit {0})) (all_lines b) l.started h.stands.0 l.ended) (sym all) h.stands.1;
           written = subst (λ (b : List ℕ). Appends streams.held streams.held_after b) h.stands.2 h.written;
           is_ending = is;
           fed = λ q. subst IsSettled (is ∙ ap (λ (o : Option Cause). after_serving {T = Unit {0}} (Ok tt) o) q) settled;
         }
 
-    too_long : (h : Serves 16777216 (AnswersLine l.tables.names (machine_tables classes l.tables) legal (Unit {0})) (reply_line l.tables.names l.reply) l.started l.ended (Err faults.TooLong) streams.unread streams.unread_after streams.held streams.held_after) → e ≡ after_serving {T = Unit {0}} (Err faults.TooLong) l.ended.halted → Whole depth ticks l.tables.names (machine_tables classes l.tables) legal input streams e
+    too_long : (h : Serves 16777216 (AnswersLine t.deployment.names (machine_tables t) legal (Unit {0})) (reply_line t.deployment.names l.reply) l.started l.ended (Err faults.TooLong) streams.unread streams.unread_after streams.held streams.held_after) → e ≡ after_serving {T = Unit {0}} (Err faults.TooLong) l.ended.halted → Whole depth ticks t.deployment.names (machine_tables t) legal input streams e
     too_long h is =
         let (byte, consumed) = h.consumed in
         let (rest, split, none) = consumed_of input streams.unread streams.unread_after (h.read ++ byte ∷ []) u consumed in
@@ -176,14 +169,14 @@ whole_of depth ticks names beans classes legal input streams e settled u l = by 
           fed = λ q. subst IsSettled (is ∙ ap (λ (o : Option Cause). after_serving {T = Unit {0}} (Err faults.TooLong) o) q) settled;
         }
 
-    served : (r : Result (Unit {0}) ServeFault) → Serves 16777216 (AnswersLine l.tables.names (machine_tables classes l.tables) legal (Unit {0})) (reply_line l.tables.names l.reply) l.started l.ended r streams.unread streams.unread_after streams.held streams.held_after → e ≡ after_serving r l.ended.halted → Whole depth ticks l.tables.names (machine_tables classes l.tables) legal input streams e
+    served : (r : Result (Unit {0}) ServeFault) → Serves 16777216 (AnswersLine t.deployment.names (machine_tables t) legal (Unit {0})) (reply_line t.deployment.names l.reply) l.started l.ended r streams.unread streams.unread_after streams.held streams.held_after → e ≡ after_serving r l.ended.halted → Whole depth ticks t.deployment.names (machine_tables t) legal input streams e
     served (Ok tt) h is = to_end h is
     served (Err faults.TooLong) h is = too_long h is
     served (Err faults.Read) h is = absurd (subst IsSettled is settled)
     served (Err faults.Write) h is = absurd (subst IsSettled is settled)
     served (Err faults.Memory) h is = absurd (subst IsSettled is settled)
 
-    by : (r : Result (Unit {0}) ServeFault) → Served 16777216 (AnswersLine l.tables.names (machine_tables classes l.tables) legal (Unit {0})) (reply_line l.tables.names l.reply) l.started l.ended streams.unread streams.unread_after streams.held streams.held_after r → e ≡ after_serving r l.ended.halted → Whole depth ticks l.tables.names (machine_tables classes l.tables) legal input streams e
+    by : (r : Result (Unit {0}) ServeFault) → Served 16777216 (AnswersLine t.deployment.names (machine_tables t) legal (Unit {0})) (reply_line t.deployment.names l.reply) l.started l.ended streams.unread streams.unread_after streams.held streams.held_after r → e ≡ after_serving r l.ended.halted → Whole depth ticks t.deployment.names (machine_tables t) legal input streams e
     by _ (Served.silent same unread held) is = absurd (subst IsSettled is settled)
     by r (Served.serves h) is = served r h is
 
@@ -204,25 +197,46 @@ whole_one depth ticks names tables legal one input held s s' e e' h h' w w' =
 
 module _ (depth ticks : ℕ) (input held : List ℕ) (s s' : Streams) (e e' : Ending) (settled : IsSettled e) (settled' : IsSettled e')
     (u : s.unread ≡ Some input) (u' : s'.unread ≡ Some input) (h : s.held ≡ Some held) (h' : s'.held ≡ Some held) where
-  lives_one : (names : List (List ℕ)) (beans : List Bean) (classes : List ℕ) (legal : Legal) → IsOne legal → Lives depth ticks names beans classes legal s e → Lives depth ticks names beans classes legal s' e' → SameOutput s s' e e'
-  lives_one names beans classes legal one l l' =
-      let here : l'.tables ≡ l.tables = tables_are l'.tables l.tables (l'.is_names ∙ sym l.is_names) (l'.is_beans ∙ sym l.is_beans) in
-      let w = whole_of depth ticks names beans classes legal input s e settled u l in
-      let w' = subst (λ (t : Tables). Whole depth ticks t.names (machine_tables classes t) legal input s' e') here (whole_of depth ticks names beans classes legal input s' e' settled' u' l') in
-      whole_one depth ticks l.tables.names (machine_tables classes l.tables) legal one input held s s' e e' h h' w w'
+  lives_one : (t t' : RunTables) (legal : Legal) → IsOne legal → t.deployment.names ≡ t'.deployment.names → machine_tables t ≡ machine_tables t'
+      → Lives depth ticks t legal s e → Lives depth ticks t' legal s' e' → SameOutput s s' e e'
+  lives_one t t' legal one names tables l l' =
+      let w = whole_of depth ticks t legal input s e settled u l in
+      let w' = whole_of depth ticks t' legal input s' e' settled' u' l' in
+      let named = subst (λ (ns : List (List ℕ)). Whole depth ticks ns (machine_tables t') legal input s' e') (sym names) w' in
+      let there = subst (λ (m : machine.Tables). Whole depth ticks t.deployment.names m legal input s' e') (sym tables) named in
+      whole_one depth ticks t.deployment.names (machine_tables t) legal one input held s s' e e' h h' w there
 
-  plays_one : (names : List (List ℕ)) (problems : List Problem) (beans : List Bean) (classes : List ℕ) (legal : Legal) → IsOne legal
-      → Plays depth ticks names problems beans classes legal s e → Plays depth ticks names problems beans classes legal s' e' → SameOutput s s' e e'
-  plays_one names problems beans classes legal one (Plays.starves q) p' = absurd (subst IsSettled q.is_ending settled)
-  plays_one names problems beans classes legal one p (Plays.starves q) = absurd (subst IsSettled q.is_ending settled')
-  plays_one names problems beans classes legal one (Plays.refuses some w) (Plays.refuses some' w') = writes_one _ held s s' e e' settled settled' h h' w w'
-  plays_one names problems beans classes legal one (Plays.refuses some w) (Plays.runs none l') = absurd (some none)
-  plays_one names problems beans classes legal one (Plays.runs none l) (Plays.refuses some w') = absurd (some none)
-  plays_one names problems beans classes legal one (Plays.runs none l) (Plays.runs none' l') = lives_one names beans classes legal one l l'
+  problems_one : (ss : List NamedScript) (d : Deployment) (these those : List Problem) → AreProblemsWith ss d these → AreProblemsWith ss d those → these ≡ those
+  problems_one ss d these those a b =
+      let same : b.shape_of ≡ a.shape_of = λ i name. (b.shapes name ∙ sym (a.shapes name)) i in
+      one_verdict d a.shape_of these those a.are (subst (λ (f : ℕ → Option Shape). AreProblemsOf d f those) same b.are)
+
+  refused_one : (ss : List NamedScript) (d : Deployment) (these those : List Problem) → AreProblemsWith ss d these → AreProblemsWith ss d those
+      → Writes (problem_lines d.names these) s e → Writes (problem_lines d.names those) s' e' → SameOutput s s' e e'
+  refused_one ss d these those a b w w' =
+      let same = problems_one ss d those these b a in
+      writes_one (problem_lines d.names these) held s s' e e' settled settled' h h' w (subst (λ ps. Writes (problem_lines d.names ps) s' e') same w')
+
+  unlike : (ss : List NamedScript) (d : Deployment) (t t' : RunTables) → AreTablesWith ss d t → AreTablesWith ss d t' → serves (shape_under ss) t ≡ true → serves (shape_under ss) t' ≡ false → ⊥
+  unlike ss d t t' a b yes no = let same = same_verdict ss d t t' a b in cc (same, yes, no)
+
+  plays_one : (ss : List NamedScript) (d : Deployment) → PlaysScripts depth ticks d ss s e → PlaysScripts depth ticks d ss s' e' → SameOutput s s' e e'
+  plays_one ss d (PlaysScripts.starves q) p' = absurd (subst IsSettled q.is_ending settled)
+  plays_one ss d p (PlaysScripts.starves q) = absurd (subst IsSettled q.is_ending settled')
+  plays_one ss d (PlaysScripts.refuses {problems = these} a some w) (PlaysScripts.refuses {problems = those} b some' w') = refused_one ss d these those a b w w'
+  plays_one ss d (PlaysScripts.refuses {problems = these} a some w) (PlaysScripts.unserved b t no w') = absurd (some (problems_one ss d these [] a b))
+  plays_one ss d (PlaysScripts.refuses {problems = these} a some w) (PlaysScripts.runs b t yes l) = absurd (some (problems_one ss d these [] a b))
+  plays_one ss d (PlaysScripts.unserved a t no w) (PlaysScripts.refuses {problems = those} b some w') = absurd (some (problems_one ss d those [] b a))
+  plays_one ss d (PlaysScripts.unserved a t no w) (PlaysScripts.unserved b t' no' w') = writes_one unserved_line held s s' e e' settled settled' h h' w w'
+  plays_one ss d (PlaysScripts.unserved {t = x} a t no w) (PlaysScripts.runs {t = y} b t' yes l) = absurd (unlike ss d y x t' t yes no)
+  plays_one ss d (PlaysScripts.runs a t yes l) (PlaysScripts.refuses {problems = those} b some w') = absurd (some (problems_one ss d those [] b a))
+  plays_one ss d (PlaysScripts.runs {t = x} a t yes l) (PlaysScripts.unserved {t = y} b t' no w') = absurd (unlike ss d x y t t' yes no)
+  plays_one ss d (PlaysScripts.runs {t = x} a t yes l) (PlaysScripts.runs {t = y} b t' yes' l') =
+      lives_one x y (legal_by ss) (one_by ss) (ap (λ (k : Deployment). k.names) (t.deployment_is ∙ sym t'.deployment_is)) (same_machine ss d x y t t') l l'
 
   readied_one : (r : Result Readied (List ℕ)) → DrivesReadied depth ticks r s e → DrivesReadied depth ticks r s' e' → SameOutput s s' e e'
   readied_one (Err lines) w w' = writes_one lines held s s' e e' settled settled' h h' w w'
-  readied_one (Ok r) p p' = plays_one _ _ _ _ _ (one_by (registered r.scripts)) p p'
+  readied_one (Ok r) p p' = plays_one (registered r.scripts) r.deployment p p'
 
   drives_one : (bytes : List ℕ) → Drives depth ticks bytes s e → Drives depth ticks bytes s' e' → SameOutput s s' e e'
   drives_one bytes (Drives.starves q) d' = absurd (subst IsSettled q.is_ending settled)

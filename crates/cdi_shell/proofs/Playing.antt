@@ -1,31 +1,20 @@
--- A deployment that is accepted is started and served, and another is refused: so it plays.
-use Rattle.std.proofs.Common.{ℕ, ◌≡◌, ◌∙◌, List, map, ap, subst, refl, Option, Some, None}
+-- A container that is started and served lives.
+use Rattle.std.proofs.Common.{ℕ, ◌≡◌, ◌∙◌, List, ap, subst, refl, Option, Some, None}
 use Rattle.std.specs.Prelude.{Result, Ok, Err}
 use Rattle.cdi_base.specs.declared.reply.Cause.{Cause}
-use Rattle.cdi_bodies.specs.declared.entry.Entry.{Entry}
-use Rattle.cdi_deployment.specs.declared.deployment.Deployment.{Deployment}
-use Rattle.cdi_beans.specs.declared.bean.Bean.{Bean}
-use Rattle.cdi_beans.specs.declared.problem.Problem.{Problem}
-use Rattle.cdi_beans.specs.Build.{beans_of}
-use Rattle.cdi_beans.specs.Check.{problems_of}
-use Rattle.cdi_beans.specs.Served.{machine_tables}
 use Rattle.cdi_machine.specs.Tables.{Tables}
 use Rattle.cdi_machine.specs.Runs.{Legal}
 use Rattle.cdi_machine.specs.Laws.{IsWithin}
-use Rattle.cdi_machine.specs.Registered.{legal_of}
-use Rattle.cdi_container.specs.declared.acceptance.Accepted.{Accepted}
-use Rattle.cdi_container.specs.declared.acceptance.Unaccepted.{Unaccepted}
-use Rattle.cdi_container.specs.declared.acceptance.Unaccepted.TheVariants as errors
-use Rattle.cdi_container.specs.Accepted.{IsAccepted, IsUnaccepted}
+use Rattle.cdi_run_tables.specs.Machine.{machine_tables}
+use Rattle.cdi_run_tables.specs.declared.tables.RunTables.{RunTables}
 use Rattle.cdi_container.specs.Sessions.{AnswersLine, AnswersSo, Served, ServedBy}
 use Rattle.cdi_container.specs.Standing.{Standing, IsStarted, names_of, tables_of, state_of}
 use Rattle.cdi_container.specs.States.{State}
 use Rattle.cdi_lines.specs.declared.fault.ServeFault.{ServeFault}
 use Rattle.cdi_text.specs.ReplyText.{reply_line}
 use Rattle.cdi_shell.specs.declared.ending.Ending.{Ending}
-use Rattle.cdi_shell.specs.Drive.{Streams, Lives, Plays, RefusesOr, RefusesUnaccepted, Refuses}
+use Rattle.cdi_shell.specs.Drive.{Streams, Lives}
 use Rattle.cdi_shell.specs.Endings.{after_serving, outcome_of}
-use Rattle.cdi_shell.specs.RefusalText.{problem_lines}
 use Rattle.cdi_shell.proofs.Attended.{attended}
 use Rattle.cdi_shell.proofs.Wider.{within_both, line_more}
 
@@ -66,21 +55,18 @@ outcome_after (Err fault) halted = refl
 pub outcome_is : (ending : Ending) (r : Result (Unit {0}) ServeFault) (halted : Option Cause) → ending ≡ after_serving r halted → outcome_of ending ≡ r
 outcome_is ending r halted is = ap outcome_of is ∙ outcome_after r halted
 
-module _ {Driving : Type 0} (legal : Driving → Legal) (first : Legal) (accepted : Accepted) (depth ticks : ℕ) (c d : Standing Driving) (streams : Streams) where
-  pub lives : (result : Result (Unit {0}) ServeFault) (halted : Option Cause) (ending : Ending) → IsStarted first (legal c.runtime.driver) accepted ticks depth c
+module _ {Driving : Type 0} (legal : Driving → Legal) (first : Legal) (t : RunTables) (depth ticks : ℕ) (c d : Standing Driving) (streams : Streams) where
+  pub lives : (result : Result (Unit {0}) ServeFault) (halted : Option Cause) (ending : Ending) → IsStarted first (legal c.runtime.driver) t ticks depth c
       → ServedBy 16777216 legal c d streams.unread streams.unread_after streams.held streams.held_after result
       → halted ≡ d.halted → ending ≡ after_serving result halted
-      → Lives depth ticks accepted.tables.names accepted.tables.beans accepted.classes first streams ending
+      → Lives depth ticks t first streams ending
   lives result halted ending b s told is =
-      let names = accepted.tables.names in
-      let tables = machine_tables accepted.classes accepted.tables in
+      let names = t.deployment.names in
+      let tables = machine_tables t in
       let kept : Keeps legal first names tables c = record { is_names = b.names; is_tables = b.tables; within = b.legal } in
       let lines = attended (So legal first names tables) (Line legal first names tables) state_of (Keeps legal first names tables) (keeps legal first names tables) (maps legal first names tables)
       16777216 (reply_line (names_of c) c.booted) c d streams.unread streams.unread_after streams.held streams.held_after kept result s in
       record {
-        tables = accepted.tables;
-        is_names = refl;
-        is_beans = refl;
         reply = c.booted;
         started = state_of c;
         ended = state_of d;
@@ -90,22 +76,3 @@ module _ {Driving : Type 0} (legal : Driving → Legal) (first : Legal) (accepte
             streams.unread streams.unread_after streams.held streams.held_after result) b.names lines;
         is_ending = is ∙ ap (after_serving result) told;
       }
-
-module _ {X : Type 0} {F : X → Type 0} {g : _} (deployment : Deployment) (entries : List (Entry X F g)) (depth ticks : ℕ) (streams : Streams) (ending : Ending) where
-  abbrev PlaysSo : Type 0
-  PlaysSo =
-      Plays depth ticks deployment.names (problems_of deployment entries) (beans_of deployment.classes entries) (map (λ class. class.name) deployment.classes) (legal_of entries) streams ending
-
-  pub plays : (accepted : Accepted) → IsAccepted deployment entries accepted
-      → Lives depth ticks accepted.tables.names accepted.tables.beans accepted.classes (legal_of entries) streams ending → PlaysSo
-  plays accepted a l =
-      let named = subst (λ (ns : List (List ℕ)). Lives depth ticks ns accepted.tables.beans accepted.classes (legal_of entries) streams ending) a.names l in
-      let built = subst (λ (bs : List Bean). Lives depth ticks deployment.names bs accepted.classes (legal_of entries) streams ending) a.beans named in
-      Plays.runs a.faultless (subst (λ (cs : List ℕ). Lives depth ticks deployment.names (beans_of deployment.classes entries) cs (legal_of entries) streams ending) a.classes built)
-
-  pub refused : (u : Unaccepted) → IsUnaccepted deployment entries u → streams.unread_after ≡ streams.unread → RefusesUnaccepted u streams.held streams.held_after ending → PlaysSo
-  refused (errors.Problems names problems) (named, are, some) unread (RefusesOr.starves held is) = Plays.starves (record { unread = unread; held = held; is_ending = is })
-  refused (errors.Problems names problems) (named, are, some) unread (RefusesOr.refuses w) =
-      let told = subst (λ (ns : List (List ℕ)). Refuses (problem_lines ns problems) streams.held streams.held_after ending) named w in
-      Plays.refuses (λ none. some (are ∙ none)) (record { unread = unread; refuses = subst (λ (ps : List Problem). Refuses (problem_lines deployment.names ps) streams.held streams.held_after ending) are told })
-  refused errors.Memory told unread (held, is) = Plays.starves (record { unread = unread; held = held; is_ending = is })

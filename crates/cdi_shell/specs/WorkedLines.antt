@@ -1,6 +1,5 @@
 -- Worked lines: what is read and written for the counter.
 use Rattle.std.specs.Prelude.{ℕ, pos, ◌≡◌, List, [], ◌∷◌, codes, Option, Some, None}
-use Rattle.std.proofs.Common.{lit≤}
 use Rattle.cdi_base.specs.declared.place.Place.TheVariants as places
 use Rattle.cdi_base.specs.declared.reply.Cause.TheVariants as causes
 use Rattle.cdi_base.specs.declared.reply.Refusal.{Refusal}
@@ -9,18 +8,17 @@ use Rattle.cdi_base.specs.declared.reply.Reply.TheVariants as replies
 use Rattle.cdi_base.specs.declared.value.Value.{Value}
 use Rattle.cdi_base.specs.declared.value.Value.TheVariants as values
 use Rattle.cdi_deploy.specs.declared.fault.ReadFault.TheVariants as faults
-use Rattle.cdi_beans.specs.declared.problem.ProblemKind.TheVariants as kinds
-use Rattle.cdi_beans.specs.declared.bean.Bean.{Bean}
-use Rattle.cdi_beans.specs.declared.tables.Tables.{Tables}
-use Rattle.cdi_beans.specs.Served.{machine_tables}
-use Rattle.cdi_beans.specs.declared.bean.ServedScope.TheVariants as scopes
+use Rattle.cdi_base.specs.declared.scope.Scope.TheVariants as scopes
+use Rattle.cdi_problems.specs.declared.problem.ProblemKind.TheVariants as kinds
 use Rattle.cdi_machine.specs.Commands.{Command}
 use Rattle.cdi_machine.specs.Container.{before_commands, refusal}
+use Rattle.cdi_machine.specs.Deployments.{Deployment, managed_bean, method, no_chain, tables_of}
+use Rattle.cdi_machine.specs.Tables.{Nothing, One, Resolution}
 use Rattle.cdi_steps.specs.Asked.{of_type}
 use Rattle.cdi_script.specs.declared.fault.ScriptFault.TheVariants as script_faults
 use Rattle.cdi_lines.specs.Lines.{complete_lines, all_lines}
 use Rattle.cdi_prepare.specs.FaultText.{fault_line, script_line}
-use Rattle.cdi_shell.specs.RefusalText.{problem_line}
+use Rattle.cdi_report.specs.Reports.{problem_line}
 use Rattle.cdi_text.specs.ReplyText.{reply_line}
 
 -- the names of the counter at 0, 1 and 2
@@ -66,32 +64,46 @@ n = 20
 abbrev pub up : ℕ
 up = 21
 
-abbrev pub counter : Bean
+-- a class that is no bean
+abbrev pub L : ℕ
+L = 22
+
+abbrev pub counter : Deployment
 counter =
     record {
-      class = K;
-      scope = scopes.ApplicationScoped;
-      fields = record { name = n; value = values.Int (pos 0) } ∷ [];
-      methods = record { name = up; place = places.Member K up; count = 0; body = 0 } ∷ [];
+      beans =
+          managed_bean K scopes.ApplicationScoped
+          (record {
+            fields = (n, values.Int (pos 0)) ∷ [];
+            plan = [];
+            methods = (up, method K up 0 0 []) ∷ [];
+            pre_destroy = no_chain;
+          }) ∷
+          [];
+      interceptors = [];
+      types = (K, One 0) ∷ (L, Nothing) ∷ [];
+      written = [];
+      observed = [];
+      events = [];
+      scripts = [];
+      checked = [];
+      texts = [];
     }
 
-abbrev pub tables : Tables
-tables = record { names = []; beans = counter ∷ []; few = lit≤ tt }
-
--- why a container of the counter, with these classes, refuses a call, if it does
-abbrev pub refusal_of_call : List ℕ → ℕ → ℕ → List Value → Option Refusal
-refusal_of_call classes type method args =
-    refusal (machine_tables classes tables) (before_commands 100 32)
+-- why a container of the counter refuses a call, if it does
+abbrev pub refusal_of_call : ℕ → ℕ → List Value → Option Refusal
+refusal_of_call type method args =
+    refusal (tables_of counter) (before_commands 100 32)
     (Command.Call None (of_type type) method args)
 
 -- why it is refused: an unknown name before an unknown method, and that before a wrong count
 pub record Asked : Type 0 where
-  pub served : refusal_of_call (K ∷ []) K up [] ≡ None
-  pub type : refusal_of_call (K ∷ []) 30 up (values.Null ∷ []) ≡ Some refusals.UnknownName
-  pub method : refusal_of_call (K ∷ []) K n (values.Null ∷ []) ≡ Some refusals.NoMethod
-  pub count : refusal_of_call (K ∷ []) K up (values.Null ∷ []) ≡ Some refusals.WrongCount
+  pub served : refusal_of_call K up [] ≡ None
+  pub type : refusal_of_call 30 up (values.Null ∷ []) ≡ Some refusals.UnknownName
+  pub method : refusal_of_call K n (values.Null ∷ []) ≡ Some refusals.NoMethod
+  pub count : refusal_of_call K up (values.Null ∷ []) ≡ Some refusals.WrongCount
   -- a class that is no bean resolves to nothing, which the call itself tells
-  pub no_bean : refusal_of_call (K ∷ 30 ∷ []) 30 up [] ≡ None
+  pub no_bean : refusal_of_call L up [] ≡ None
 
 pub record WorkedLines : Type 0 where
   pub replied : Replied

@@ -8,7 +8,7 @@ use Rattle.cdi_shell.proofs.drive.live.Goals as goal
 pub returns-clause-lives : goal.returns-clause-lives
 returns-clause-lives g c =
     let streams : Streams = record { unread = g.R.Source.unread c.args.input.now; unread_after = g.R.Source.unread c.serve-served.new.input; held = g.W.Sink.written c.args.output.now; held_after = g.W.Sink.written c.serve-served.new.output } in
-    lives (λ driver. g.D.Driver.legal driver) (g.D.Driver.legal c.args.driver) c.args.accepted c.args.limits.depth c.args.limits.ticks c.start-container.result c.serve-served.new.container streams
+    lives (λ driver. g.D.Driver.legal driver) (g.D.Driver.legal c.args.driver) c.args.tables c.args.limits.depth c.args.limits.ticks c.start-container.result c.serve-served.new.container streams
     c.serve-served.result c.halted.result c.after_serving.result c.start-container.ensures c.serve-served.ensures.served
     c.halted.ensures c.after_serving.ensures
 

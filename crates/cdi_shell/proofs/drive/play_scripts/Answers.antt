@@ -10,8 +10,7 @@ use Rattle.cdi_prepare.specs.declared.scripts.NamedScript.{NamedScript}
 use Rattle.cdi_prepare.specs.Scripts.{added, place_under, registered}
 use Rattle.cdi_shell.specs.Drive.{Streams}
 use Rattle.cdi_prepare.proofs.Holding.{holds_add, same_length, same_place, add_known, add_new, holds_all, not_full}
-use Rattle.cdi_shell.proofs.Playing.{plays, refused}
-use Rattle.cdi_shell.proofs.Scripted.{scripts_play}
+use Rattle.cdi_shell.proofs.Scripted.{accepted_plays, refused_plays}
 use Rattle.cdi_shell.proofs.drive.play_scripts.OwnLists.{own-1, at-1-1}
 use Rattle.cdi_shell.proofs.drive.play_scripts.Goals as goal
 
@@ -57,9 +56,9 @@ returns-in-Ok-accept-clause-plays g c =
     let scripts = c.args.prepared.scripts.items in
     let all : c.loop-named.named-iterator.rest.items ≡ [] = nil_of c.loop-named.named-iterator.rest.items (let z : c.loop-named.named-iterator.rest.len ≡ 0 = c.in-None.ensures.steps.0 in omega arith) in
     let streams : Streams = record { unread = g.R.Source.unread c.args.input.now; unread_after = g.R.Source.unread c.live.new.input; held = g.W.Sink.written c.args.output.now; held_after = g.W.Sink.written c.live.new.output } in
-    scripts_play c.args.limits.depth c.args.limits.ticks c.args.prepared.deployment entries (registered scripts) streams c.live.result
+    accepted_plays c.args.limits.depth c.args.limits.ticks c.args.prepared.deployment entries (registered scripts) streams c.live.result
     (holds_all entries inv.0 c.loop-named.named-iterator.rest.items scripts inv.1 inv.2 all)
-    (plays c.args.prepared.deployment entries c.args.limits.depth c.args.limits.ticks streams c.live.result c.in-Ok-accept.accepted c.in-Ok-accept.ensures.ok c.live.ensures.lives)
+    c.in-Ok-accept.tables c.in-Ok-accept.ensures.ok c.live.ensures.lives
 
 pub returns-in-Err-clause-plays : goal.returns-in-Err-clause-plays
 returns-in-Err-clause-plays g c =
@@ -68,6 +67,6 @@ returns-in-Err-clause-plays g c =
     let scripts = c.args.prepared.scripts.items in
     let all : c.loop-named.named-iterator.rest.items ≡ [] = nil_of c.loop-named.named-iterator.rest.items (let z : c.loop-named.named-iterator.rest.len ≡ 0 = c.in-None.ensures.steps.0 in omega arith) in
     let streams : Streams = record { unread = g.R.Source.unread c.args.input.now; unread_after = g.R.Source.unread c.args.input.now; held = g.W.Sink.written c.args.output.now; held_after = g.W.Sink.written c.refuse_unaccepted.new.output } in
-    scripts_play c.args.limits.depth c.args.limits.ticks c.args.prepared.deployment entries (registered scripts) streams c.refuse_unaccepted.result
+    refused_plays c.args.limits.depth c.args.limits.ticks c.args.prepared.deployment entries (registered scripts) streams c.refuse_unaccepted.result
     (holds_all entries inv.0 c.loop-named.named-iterator.rest.items scripts inv.1 inv.2 all)
-    (refused c.args.prepared.deployment entries c.args.limits.depth c.args.limits.ticks streams c.refuse_unaccepted.result c.in-Err.unaccepted c.in-Err.ensures.err refl c.refuse_unaccepted.ensures.refuses)
+    c.in-Err.unaccepted c.in-Err.ensures.err refl c.refuse_unaccepted.ensures.refuses
