@@ -1,8 +1,9 @@
 -- Bodies whose shapes are served are known, and give only acts that are served.
-use Rattle.std.proofs.Common.{ℕ, zero, suc, ◌≡◌, ◌∙◌, ◌<◌, ◌&&◌, ◌==◌, Bool, true, false, cond, nat_eq, List, [], ◌∷◌, length, Option, Some, None, IsTrue, refl, sym, ap, subst, arith, if◌then◌else◌}
+use Rattle.std.proofs.Common.{ℕ, suc, ◌≡◌, ◌∙◌, ◌<◌, ◌&&◌, ◌==◌, Bool, true, false, cond, nat_eq, List, [], ◌∷◌, length, Option, Some, None, refl, sym, ap, subst, arith, if◌then◌else◌}
 use Rattle.std.specs.Prelude.{option_map, option_and_then, nat_lt, not, position, slice_get, IfSome, MatchOption}
-use Rattle.std.specs.List.{list_all, list_any}
+use Rattle.std.specs.List.{cons_option, list_all, list_any}
 use Rattle.std.proofs.lemmas.Bool.{and_parts, ltb-true, true≢false}
+use Rattle.std.proofs.lemmas.List.Quantifiers.{position-Some}
 use Rattle.std.proofs.lemmas.Option.{same_Some}
 use Rattle.cdi_base.specs.Maps.{at}
 use Rattle.cdi_base.specs.declared.act.Act.{Act}
@@ -10,20 +11,22 @@ use Rattle.cdi_base.specs.declared.act.Act.TheVariants as acts
 use Rattle.cdi_base.specs.declared.act.Via.{Via}
 use Rattle.cdi_base.specs.declared.act.Via.TheVariants as vias
 use Rattle.cdi_bodies.specs.Gives.{Promises, gives, place_of, shape_at, LieInShape}
-use Rattle.cdi_bodies.specs.Shape.{in_shape, via_eq}
+use Rattle.std.specs.Cmp.Lexicographic.{pointwise}
+use Rattle.cdi_bodies.specs.Shape.{in_shape, use_eq, via_eq}
 use Rattle.cdi_bodies.specs.declared.entry.Entry.{Entry}
+use Rattle.cdi_bodies.specs.declared.shape.FiredEvent.{FiredEvent}
 use Rattle.cdi_bodies.specs.declared.shape.MethodCall.{MethodCall}
 use Rattle.cdi_bodies.specs.declared.shape.Shape.{Shape}
 use Rattle.cdi_bodies.specs.declared.view.View.{View}
 use Rattle.cdi_body_check.specs.Shapes.{shape_of}
-use Rattle.cdi_body_check.specs.Sites.{Site, sites_of}
+use Rattle.cdi_body_check.specs.Sites.{sites_of}
 use Rattle.cdi_machine.specs.Registered.{legal_of}
 use Rattle.cdi_machine.specs.Tables as machine
 use Rattle.cdi_machine.specs.Words.{Fields}
 use Rattle.cdi_plans.specs.declared.plan.BusinessMethod.{BusinessMethod}
 use Rattle.cdi_plans.specs.declared.plan.Plan.{Plan}
 use Rattle.cdi_plans.specs.declared.plan.Plan.TheVariants as plans
-use Rattle.cdi_run_tables.specs.Ids.{is_named, told_of}
+use Rattle.cdi_run_tables.specs.Ids.{is_named}
 use Rattle.cdi_run_tables.specs.Machine as tables
 use Rattle.cdi_run_tables.specs.Machine.{AreIdsOf, bean_with, has_none, id_of, machine_methods, machine_tables, managed_bean, method_with, product_with}
 use Rattle.cdi_run_tables.specs.Served.{is_field, is_served_body, is_served_shape, serves_methods, serves_shapes}
@@ -57,37 +60,51 @@ none_below : {A : Type 0} (xs : List A) (k : ℕ) → has_none xs ≡ true → n
 none_below [] k e h = let lt = ltb-true k 0 h in absurd (omega arith)
 none_below (x ∷ xs) k e h = true≢false (sym e)
 
+-- what is true of a shape that is served
+record IsPlain (s : Shape) : Type 0 where
+  fields : list_all (λ (call : MethodCall). is_field call.via) s.calls ≡ true
+  cells : has_none s.cells ≡ true
+  fires : has_none s.fires ≡ true
+  lookups : has_none s.lookups ≡ true
+  chain : s.chain ≡ true → ⊥
+
+parts_of : (s : Shape) → is_served_shape s ≡ true → IsPlain s
+parts_of s h =
+    let calls = list_all (λ (call : MethodCall). is_field call.via) s.calls in
+    let first = and_parts (calls && has_none s.cells && has_none s.fires && has_none s.lookups) (not s.chain) h in
+    let second = and_parts (calls && has_none s.cells && has_none s.fires) (has_none s.lookups) first.0 in
+    let third = and_parts (calls && has_none s.cells) (has_none s.fires) second.0 in
+    let fourth = and_parts calls (has_none s.cells) third.0 in
+    record {
+      fields = fourth.0;
+      cells = fourth.1;
+      fires = third.1;
+      lookups = second.1;
+      chain = λ e. true≢false (sym first.1 ∙ ap not e);
+    }
+
 -- an act in a shape that is served is one that the engine carries out
 act_served : (s : Shape) (view : View) (a : Act) → is_served_shape s ≡ true → in_shape s view a ≡ true → is_served a ≡ true
-act_served s view a h lies = by a lies
+act_served s view a h lies = by (parts_of s h) a lies
   where
-    calls = list_all (λ (call : MethodCall). is_field call.via) s.calls
-    first = and_parts (calls && has_none s.cells && has_none s.fires && has_none s.lookups) (not s.chain) h
-    second = and_parts (calls && has_none s.cells && has_none s.fires) (has_none s.lookups) first.0
-    third = and_parts (calls && has_none s.cells) (has_none s.fires) second.0
-    fourth = and_parts calls (has_none s.cells) third.0
-
-    chain : s.chain ≡ true → ⊥
-    chain e = true≢false (sym (ap not e) ∙ first.1)
-
-    by : (x : Act) → in_shape s view x ≡ true → is_served x ≡ true
-    by (acts.Set field v) l = refl
-    by (acts.Own name args) l = refl
-    by (acts.Give v) l = refl
-    by (acts.Throw x) l = refl
-    by (acts.Call (vias.Field field) name args) l = refl
-    by (acts.Call (vias.Param k) name args) l =
-        absurd (none_passes (λ (c : MethodCall). via_eq c.via (vias.Param k) && nat_eq c.method name && nat_eq c.count (length args)) (λ (c : MethodCall). is_field c.via) s.calls (not_listed (vias.Param k) refl name (length args)) fourth.0 l)
-    by (acts.Call (vias.Local k) name args) l =
-        absurd (none_passes (λ (c : MethodCall). via_eq c.via (vias.Local k) && nat_eq c.method name && nat_eq c.count (length args)) (λ (c : MethodCall). is_field c.via) s.calls (not_listed (vias.Local k) refl name (length args)) fourth.0 l)
-    by (acts.Read via) l = absurd (none_in (λ v. via_eq v via) s.cells fourth.1 l)
-    by (acts.Write via v) l = absurd (none_in (λ v. via_eq v via) s.cells fourth.1 l)
-    by (acts.Fire class uses v) l = absurd (none_in _ s.fires third.1 l)
-    by (acts.Proceed args) l = absurd (chain l)
-    by (acts.Find k) l = absurd (none_below s.lookups k second.1 l)
-    by (acts.Keep key v) l = absurd (chain l)
-    by (acts.Peek key) l = absurd (chain l)
-    by (acts.Destroy k) l = absurd (none_below s.lookups k second.1 l)
+    by : IsPlain s → (x : Act) → in_shape s view x ≡ true → is_served x ≡ true
+    by p (acts.Set field v) l = refl
+    by p (acts.Own name args) l = refl
+    by p (acts.Give v) l = refl
+    by p (acts.Throw x) l = refl
+    by p (acts.Call (vias.Field field) name args) l = refl
+    by p (acts.Call (vias.Param k) name args) l =
+        absurd (none_passes (λ (c : MethodCall). via_eq c.via (vias.Param k) && nat_eq c.method name && nat_eq c.count (length args)) (λ (c : MethodCall). is_field c.via) s.calls (not_listed (vias.Param k) refl name (length args)) p.fields l)
+    by p (acts.Call (vias.Local k) name args) l =
+        absurd (none_passes (λ (c : MethodCall). via_eq c.via (vias.Local k) && nat_eq c.method name && nat_eq c.count (length args)) (λ (c : MethodCall). is_field c.via) s.calls (not_listed (vias.Local k) refl name (length args)) p.fields l)
+    by p (acts.Read via) l = absurd (none_in (λ v. via_eq v via) s.cells p.cells l)
+    by p (acts.Write via v) l = absurd (none_in (λ v. via_eq v via) s.cells p.cells l)
+    by p (acts.Fire class uses v) l = absurd (none_in (λ (f : FiredEvent). (f.class == class) && pointwise use_eq f.qualifiers uses) s.fires p.fires l)
+    by p (acts.Proceed args) l = absurd (p.chain l)
+    by p (acts.Find k) l = absurd (none_below s.lookups k p.lookups l)
+    by p (acts.Keep key v) l = absurd (p.chain l)
+    by p (acts.Peek key) l = absurd (p.chain l)
+    by p (acts.Destroy k) l = absurd (none_below s.lookups k p.lookups l)
 
 -- ---- methods
 
@@ -100,38 +117,27 @@ record Comes (ids : ℕ → Option ℕ) (ms : List BusinessMethod) (m : machine.
 
 comes_of : (ids : ℕ → Option ℕ) (ms : List BusinessMethod) (name : ℕ) (m : machine.Method) → at (machine_methods ids ms) name ≡ Some m → Comes ids ms m
 comes_of ids [] name m e = absurd cc
-comes_of ids (k ∷ ks) name m e = by (ids k.code.body) refl e
+comes_of ids (k ∷ ks) name m e = by (λ f. comes_of ids ks name m f) (ids k.code.body) refl e
   where
-    later : at (machine_methods ids ks) name ≡ Some m → Comes ids (k ∷ ks) m
-    later f = let more = comes_of ids ks name m f in record { index = suc more.index; method = more.method; stands = more.stands; id = more.id }
+    later : Comes ids ks m → Comes ids (k ∷ ks) m
+    later more = record { index = suc more.index; method = more.method; stands = more.stands; id = more.id }
 
-    here : (body : ℕ) → ids k.code.body ≡ Some body → (b : Bool) → cond b (Some (method_with k body).1) (at (machine_methods ids ks) name) ≡ Some m → Comes ids (k ∷ ks) m
-    here body is true f =
+    here : (at (machine_methods ids ks) name ≡ Some m → Comes ids ks m) → (body : ℕ) → ids k.code.body ≡ Some body → (b : Bool) → cond b (Some (method_with k body).1) (at (machine_methods ids ks) name) ≡ Some m → Comes ids (k ∷ ks) m
+    here rest body is true f =
         let same : body ≡ m.code.body = ap (λ (x : machine.Method). x.code.body) (same_Some (method_with k body).1 m f) in
         record { index = 0; method = k; stands = refl; id = is ∙ ap (λ z. Some z) same }
-    here body is false f = later f
+    here rest body is false f = later (rest f)
 
-    by : (o : Option ℕ) → ids k.code.body ≡ o → at (elim (option_map (method_with k) o) [ Some y ↦ y ∷ machine_methods ids ks | None ↦ machine_methods ids ks ]) name ≡ Some m → Comes ids (k ∷ ks) m
-    by None is f = later f
-    by (Some body) is f = here body is (nat_eq name k.name) f
+    by : (at (machine_methods ids ks) name ≡ Some m → Comes ids ks m) → (o : Option ℕ) → ids k.code.body ≡ o → at (cons_option (option_map (method_with k) o) (machine_methods ids ks)) name ≡ Some m → Comes ids (k ∷ ks) m
+    by rest None is f = later (rest f)
+    by rest (Some body) is f = here rest body is (nat_eq name k.name) f
 
 -- ---- registered bodies
 
 -- the number of an item stands in its list
-found_within : {X : Type 0} (test : X → Bool) (xs : List X) (i : ℕ) → position test xs ≡ Some i → i < length xs
-found_within test [] i e = absurd cc
-found_within test (x ∷ xs) i e = by (test x) e
-  where
-    by : (b : Bool) → cond b (Some 0) (option_map suc (position test xs)) ≡ Some i → i < length (x ∷ xs)
-    by true f = let same : zero ≡ i = same_Some zero i f in omega (arith, same)
-    by false f = more (position test xs) refl f
-      where
-        more : (o : Option ℕ) → position test xs ≡ o → option_map suc o ≡ Some i → i < length (x ∷ xs)
-        more None is g = absurd cc
-        more (Some j) is g =
-            let less = found_within test xs j is in
-            let same : suc j ≡ i = same_Some (suc j) i g in
-            omega (arith, less, same)
+position_within : {X : Type 0} (test : X → Bool) (xs : List X) (i : ℕ) → position test xs ≡ Some i → i < length xs
+position_within test [] i e = absurd cc
+position_within test (x ∷ xs) i e = (position-Some test (x ∷ xs) i x e).0
 
 module _ {X : Type 0} {F : X → Type 0} {g : _} (entries : List (Entry X F g)) (lie : LieInShape entries) (t : RunTables) (ids : AreIdsOf entries t)
     (serves : serves_shapes (shape_of entries) t ≡ true) where
@@ -156,7 +162,7 @@ module _ {X : Type 0} {F : X → Type 0} {g : _} (entries : List (Entry X F g)) 
   body_served m id e h =
       let place = registered m.code.body id e in
       let shape : is_served_body (shape_at entries id) ≡ true = ap (λ o. is_served_body (option_and_then (shape_at entries) o)) (sym place) ∙ h in
-      record { known = found_within _ entries id place; served = λ count fields view a given. shape_at_id id (shape_at entries id) refl shape fields view a given }
+      record { known = position_within (λ (k : Entry X F g). nat_eq k.name m.code.body) entries id place; served = λ count fields view a given. shape_at_id id (shape_at entries id) refl shape fields view a given }
 
   of_plan : (plan : Plan) (b : PlannedBean) (name : ℕ) (m : machine.Method) → serves_methods (shape_of entries) plan ≡ true
       → option_and_then (λ (bean : machine.Bean). method_in bean.kind name) (option_map (bean_with b) (tables.machine_kind (id_of t) t.tables.resolver.beans plan)) ≡ Some m

@@ -1,5 +1,5 @@
 -- Lists, their items and tests of these.
-use Rattle.std.proofs.Common.{ℕ, zero, suc, ◌≡◌, ◌<◌, ◌&&◌, ◌⊎◌, inl, inr, Bool, true, false, List, [], ◌∷◌, length, map, Option, Some, None, IsSome, refl, sym, ap, subst, arith}
+use Rattle.std.proofs.Common.{ℕ, zero, suc, ◌≡◌, ◌<◌, ◌||◌, Bool, true, false, List, [], ◌∷◌, length, map, Some, IsSome, refl, sym, ap, subst, arith}
 use Rattle.std.specs.Prelude.{option_map, slice_get}
 use Rattle.std.proofs.lemmas.Bool.{and_parts, true≢false}
 use Rattle.std.proofs.lemmas.Option.{same_Some}
@@ -21,17 +21,18 @@ module _ {X : Type 0} where
   -- what passes one test and fails the other isn't there
   pub none_passes : (test other : X → Bool) (xs : List X) → ((x : X) → test x ≡ true → other x ≡ true → ⊥) → list_all other xs ≡ true → list_any test xs ≡ true → ⊥
   none_passes test other [] apart h e = absurd (true≢false (sym e))
-  none_passes test other (y ∷ ys) apart h e = by (test y) refl e
+  none_passes test other (y ∷ ys) apart h e = by (and_parts (other y) (list_all other ys) h) (λ k f. none_passes test other ys apart k f) (test y) refl e
     where
-      parts : (other y ≡ true) × (list_all other ys ≡ true)
-      parts = and_parts (other y) (list_all other ys) h
-
-      by : (b : Bool) → test y ≡ b → list_any test (y ∷ ys) ≡ true → ⊥
-      by true is f = apart y is parts.0
-      by false is f = none_passes test other ys apart parts.1 (subst (λ (k : Bool). (if k then true else list_any test ys) ≡ true) is f)
+      by : (other y ≡ true) × (list_all other ys ≡ true) → (list_all other ys ≡ true → list_any test ys ≡ true → ⊥) → (b : Bool) → test y ≡ b → (b || list_any test ys) ≡ true → ⊥
+      by parts later true is f = apart y is parts.0
+      by parts later false is f = later parts.1 f
 
 module _ {X Y : Type 0} (f : X → Y) where
   pub mapped_at : (xs : List X) (i : ℕ) → slice_get (map f xs) i ≡ option_map f (slice_get xs i)
   mapped_at [] i = refl
   mapped_at (x ∷ xs) zero = refl
   mapped_at (x ∷ xs) (suc i) = mapped_at xs i
+
+  pub mapped_length : (xs : List X) → length (map f xs) ≡ length xs
+  mapped_length [] = refl
+  mapped_length (x ∷ xs) = ap suc (mapped_length xs)

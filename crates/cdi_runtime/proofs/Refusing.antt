@@ -1,9 +1,8 @@
 -- A call is refused as the machine's definition has it.
-use Rattle.std.proofs.Common.{ℕ, ◌≡◌, ◌∙◌, ◌∷◌, List, Option, Some, None, IsSome, Bool, true, false, length, refl, ap, sym, subst}
-use Rattle.std.specs.Prelude.{option_map, option_and_then, not, slice_get, if◌then◌else◌}
+use Rattle.std.proofs.Common.{ℕ, ◌≡◌, ◌∷◌, List, Option, Some, None, IsSome, Bool, true, false, length, refl, ap, sym}
+use Rattle.std.specs.Prelude.{option_map, option_and_then, not, if◌then◌else◌}
 use Rattle.cdi_base.specs.declared.value.Value.{Value}
 use Rattle.cdi_base.specs.declared.uses.Use.{Use}
-use Rattle.cdi_base.specs.declared.reply.Refusal.{Refusal}
 use Rattle.cdi_base.specs.declared.reply.Refusal.TheVariants as refusals
 use Rattle.cdi_contexts.specs.Refusals.{first_that_holds}
 use Rattle.cdi_machine.specs.Tables as machine
@@ -15,7 +14,6 @@ use Rattle.cdi_resolve.specs.declared.resolution.Resolution.{Resolution}
 use Rattle.cdi_resolve.specs.declared.resolution.Resolution.TheVariants.{One, Nothing, Many}
 use Rattle.cdi_run_tables.specs.Machine as tables
 use Rattle.cdi_run_tables.specs.Machine.{bean_at, id_of, is_known, machine_resolution, machine_tables, method_of, resolution_of, without_chain}
-use Rattle.cdi_run_tables.specs.Served.{is_served}
 use Rattle.cdi_run_tables.specs.declared.planned.PlannedBean.{PlannedBean}
 use Rattle.cdi_run_tables.specs.declared.tables.RunTables.{RunTables}
 use Rattle.cdi_steps.specs.Asked.{asked_for}

@@ -1,8 +1,8 @@
 -- What the engine is told of beans that are served.
-use Rattle.std.proofs.Common.{ℕ, zero, suc, ◌≡◌, ◌∙◌, ◌<◌, ◌^◌, ◌&&◌, Bool, true, false, not, cond, nat_eq, nat_le, nat_lt, List, [], ◌∷◌, length, map, filter, Option, Some, None, IsSome, refl, sym, ap, subst, arith}
+use Rattle.std.proofs.Common.{ℕ, ◌≡◌, ◌∙◌, ◌<◌, ◌^◌, ◌&&◌, Bool, true, false, not, cond, nat_eq, nat_le, nat_lt, List, [], ◌∷◌, length, map, filter, Option, Some, None, IsSome, is_some, refl, sym, ap, subst, arith}
 use Rattle.std.specs.Prelude.{option_map, option_and_then, slice_get, IfSome}
-use Rattle.std.specs.List.{filter_map, list_all}
-use Rattle.std.proofs.lemmas.Bool.{and_parts, true≢false}
+use Rattle.std.specs.List.{cons_option, filter_map, list_all}
+use Rattle.std.proofs.lemmas.Bool.{and_parts, leb-true, ltb-true, true≢false}
 use Rattle.std.proofs.lemmas.Option.{same_Some}
 use Rattle.cdi_base.specs.Maps.{at}
 use Rattle.cdi_base.specs.declared.uses.Use.{Use}
@@ -15,7 +15,6 @@ use Rattle.cdi_plans.specs.declared.plan.Plan.{Plan}
 use Rattle.cdi_plans.specs.declared.plan.Plan.TheVariants as plans
 use Rattle.cdi_plans.specs.declared.plan.Step.{Step}
 use Rattle.cdi_plans.specs.declared.plan.Step.TheVariants as steps
-use Rattle.cdi_resolve.specs.declared.resolution.Resolution.{Resolution}
 use Rattle.cdi_resolve.specs.declared.resolution.Resolution.TheVariants as resolutions
 use Rattle.cdi_run_tables.specs.Machine as tables
 use Rattle.cdi_run_tables.specs.Machine.{asked_by, bean_at, bean_with, does_something, has_none, id_of, is_idle, machine_code, machine_lifecycle, machine_managed, machine_method, machine_methods, machine_step, machine_steps, machine_tables, method_of, method_with, resolution_of, without_chain}
@@ -24,7 +23,6 @@ use Rattle.cdi_run_tables.specs.Managed.{injected, injections_of, managed_plan}
 use Rattle.cdi_run_tables.specs.Served.{has_texts, is_served, is_served_bean, is_served_plan, is_served_scope, is_served_step}
 use Rattle.cdi_run_tables.specs.Sizes.{has_few_injections, is_small}
 use Rattle.cdi_run_tables.specs.declared.planned.PlannedBean.{PlannedBean}
-use Rattle.cdi_run_tables.specs.declared.tables.Method.{Method as Found}
 use Rattle.cdi_run_tables.specs.declared.tables.RunTables.{RunTables}
 use Rattle.cdi_steps.specs.Asked as steps_asked
 use Rattle.cdi_steps.specs.Asked.{asked_for, fields_of, head_of, method_at, method_in, no_lifecycle, plan_of, IsServedBean}
@@ -38,13 +36,13 @@ none_is [] e = refl
 none_is (x ∷ xs) e = absurd (true≢false (sym e))
 
 -- what is true of the plan of a bean that is served
-record ServedPlan (b : PlannedBean) : Type 0 where
-  plan : ManagedPlan
-  is : b.plan ≡ plans.Managed plan
-  scope : is_served_scope b.scope ≡ true
-  served : list_all is_served_step plan.steps ≡ true
-  unchained : list_all (λ (m : BusinessMethod). has_none m.chain) plan.methods ≡ true
-  idle : is_idle plan.pre_destroy ≡ true
+pub record ServedPlan (b : PlannedBean) : Type 0 where
+  pub plan : ManagedPlan
+  pub is : b.plan ≡ plans.Managed plan
+  pub scope : is_served_scope b.scope ≡ true
+  pub served : list_all is_served_step plan.steps ≡ true
+  pub unchained : list_all (λ (m : BusinessMethod). has_none m.chain) plan.methods ≡ true
+  pub idle : is_idle plan.pre_destroy ≡ true
 
 served_plan : (b : PlannedBean) → is_served_bean b ≡ true → ServedPlan b
 served_plan b h = by b.plan refl (and_parts (is_served_scope b.scope) (is_served_plan b.plan) h).1
@@ -84,18 +82,16 @@ only_injected ids (s ∷ rest) h = by s (and_parts (is_served_step s) (list_all 
 -- no interceptor stands round a method
 unchained_at : (ids : ℕ → Option ℕ) (ms : List BusinessMethod) (name : ℕ) (m : machine.Method) → list_all (λ (k : BusinessMethod). has_none k.chain) ms ≡ true → at (machine_methods ids ms) name ≡ Some m → m.chain ≡ []
 unchained_at ids [] name m h e = absurd cc
-unchained_at ids (k ∷ ks) name m h e = by (ids k.code.body) e
+unchained_at ids (k ∷ ks) name m h e = by (and_parts (has_none k.chain) (list_all (λ (x : BusinessMethod). has_none x.chain) ks) h) (λ g f. unchained_at ids ks name m g f) (ids k.code.body) e
   where
-    parts : (has_none k.chain ≡ true) × (list_all (λ (x : BusinessMethod). has_none x.chain) ks ≡ true)
-    parts = and_parts (has_none k.chain) (list_all (λ (x : BusinessMethod). has_none x.chain) ks) h
+    here : (has_none k.chain ≡ true) → (at (machine_methods ids ks) name ≡ Some m → m.chain ≡ []) → (body : ℕ) (b : Bool) → cond b (Some (method_with k body).1) (at (machine_methods ids ks) name) ≡ Some m → m.chain ≡ []
+    here free later body true f = ap (λ (x : machine.Method). x.chain) (sym (same_Some (method_with k body).1 m f)) ∙ none_is k.chain free
+    here free later body false f = later f
 
-    here : (body : ℕ) (b : Bool) → cond b (Some (method_with k body).1) (at (machine_methods ids ks) name) ≡ Some m → m.chain ≡ []
-    here body true f = ap (λ (x : machine.Method). x.chain) (sym (same_Some (method_with k body).1 m f)) ∙ none_is k.chain parts.0
-    here body false f = unchained_at ids ks name m parts.1 f
-
-    by : (o : Option ℕ) → at (elim (option_map (method_with k) o) [ Some y ↦ y ∷ machine_methods ids ks | None ↦ machine_methods ids ks ]) name ≡ Some m → m.chain ≡ []
-    by None f = unchained_at ids ks name m parts.1 f
-    by (Some body) f = here body (nat_eq name k.name) f
+    by : (has_none k.chain ≡ true) × (list_all (λ (x : BusinessMethod). has_none x.chain) ks ≡ true) → (list_all (λ (x : BusinessMethod). has_none x.chain) ks ≡ true → at (machine_methods ids ks) name ≡ Some m → m.chain ≡ [])
+        → (o : Option ℕ) → at (cons_option (option_map (method_with k) o) (machine_methods ids ks)) name ≡ Some m → m.chain ≡ []
+    by parts later None f = later parts.1 f
+    by parts later (Some body) f = here parts.0 (later parts.1) body (nat_eq name k.name) f
 
 -- handed out without its chain, it is as it was
 whole_method : (o : Option machine.Method) → ((m : machine.Method) → o ≡ Some m → m.chain ≡ []) → option_map with_no_chain (option_map without_chain o) ≡ o
@@ -111,7 +107,7 @@ module _ (t : RunTables) (served : is_served t ≡ true) where
   served_at : (n : ℕ) (b : PlannedBean) → slice_get t.beans n ≡ Some b → ServedPlan b
   served_at n b e = served_plan b (passes_at is_served_bean t.beans n b all_served e)
 
-  abbrev as_bean : (b : PlannedBean) → ServedPlan b → machine.Bean
+  abbrev pub as_bean : (b : PlannedBean) → ServedPlan b → machine.Bean
   as_bean b s = bean_with b (machine.Kind.Class (machine_managed (id_of t) s.plan))
 
   bean_is : (n : ℕ) (b : PlannedBean) → slice_get t.beans n ≡ Some b → (s : ServedPlan b) → bean_at t n ≡ Some (as_bean b s)
@@ -125,7 +121,7 @@ module _ (t : RunTables) (served : is_served t ≡ true) where
   plan_managed : (b : PlannedBean) (s : ServedPlan b) → managed_plan b ≡ Some s.plan
   plan_managed b s = ap managed.managed_of s.is
 
-  abbrev managed_at : ℕ → Option ManagedPlan
+  abbrev pub managed_at : ℕ → Option ManagedPlan
   managed_at n = option_and_then managed_plan (slice_get t.beans n)
 
   managed_is : (n : ℕ) (b : PlannedBean) → slice_get t.beans n ≡ Some b → (s : ServedPlan b) → managed_at n ≡ Some s.plan
@@ -136,7 +132,7 @@ module _ (t : RunTables) (served : is_served t ≡ true) where
 
   -- a statement on what stands at an index holds if it does of a bean that is served, and where there is none
   module _ (P : Option PlannedBean → Option machine.Bean → Option ManagedPlan → Type 0) where
-    at_index : (n : ℕ) → P None None None → ((b : PlannedBean) (s : ServedPlan b) → P (Some b) (Some (as_bean b s)) (Some s.plan)) → P (slice_get t.beans n) (bean_at t n) (managed_at n)
+    pub at_index : (n : ℕ) → P None None None → ((b : PlannedBean) (s : ServedPlan b) → P (Some b) (Some (as_bean b s)) (Some s.plan)) → P (slice_get t.beans n) (bean_at t n) (managed_at n)
     at_index n none some = by (slice_get t.beans n) refl
       where
         by : (o : Option PlannedBean) → slice_get t.beans n ≡ o → P (slice_get t.beans n) (bean_at t n) (managed_at n)
@@ -195,20 +191,17 @@ module _ (t : RunTables) (small : is_small t ≡ true) where
     where
       by : (o : Option PlannedBean) → slice_get t.beans n ≡ o → length (injections_of (option_and_then managed_plan o)) < 2 ^ 32
       by None e = omega arith
-      by (Some b) e = let few : nat_lt (length (injections_of (managed_plan b))) (2 ^ 32) ≡ true = passes_at has_few_injections t.beans n b sizes.1 e in omega (arith, few)
+      by (Some b) e = let few : nat_lt (length (injections_of (managed_plan b))) (2 ^ 32) ≡ true = passes_at has_few_injections t.beans n b sizes.1 e in ltb-true (length (injections_of (managed_plan b))) (2 ^ 32) few
 
   there_at : (n : ℕ) (o : Option PlannedBean) → slice_get t.beans n ≡ o → IsSome (option_and_then (tables.machine_bean (id_of t) t.tables.resolver.beans) o) → IsSome (slice_get t.beans n)
   there_at n None e some = absurd cc
-  there_at n (Some b) e some = subst IsSome (sym e) (some_is b)
-    where
-      some_is : (x : PlannedBean) → IsSome (Some x)
-      some_is x = tt
+  there_at n (Some b) e some = ap is_some e
 
   -- the index of a bean is small
   pub small_index : (n : ℕ) → IsSome (bean_at t n) → n < 2 ^ 32
   small_index n some =
       let less = within t.beans n (there_at n (slice_get t.beans n) refl some) in
-      let few = sizes.0 in
+      let few = leb-true (length t.beans) 4096 sizes.0 in
       omega (arith, less, few)
 
 -- so is what resolves

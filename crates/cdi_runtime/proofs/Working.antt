@@ -1,5 +1,5 @@
 -- What is true of what a container works with stays so, and what follows of it.
-use Rattle.std.proofs.Common.{ℕ, ◌≡◌, List, [], ◌∷◌, Option, Some, None, subst}
+use Rattle.std.proofs.Common.{ℕ, ◌≡◌, List, [], ◌∷◌, Option, Some, None}
 use Rattle.std.specs.Prelude.{option_map, IfSome}
 use Rattle.std.specs.List.{AllByRecursion}
 use Rattle.cdi_machine.specs.Tables as machine
@@ -19,13 +19,13 @@ module _ {IsBody Other : ℕ → Type 0} {small large : Legal} (f : (body : ℕ)
   still_knows : (t : machine.Tables) → KnowsMethods IsBody large t → KnowsMethods Other small t
   still_knows t h bean name m e = still_served m.code.body (h bean name m e)
 
+  still_members : {X : Type 0} (body_of : X → ℕ) (ms : List X) → AllByRecursion (λ m. IsServedBody IsBody large (body_of m)) ms → AllByRecursion (λ m. IsServedBody Other small (body_of m)) ms
+  still_members body_of [] k = tt
+  still_members body_of (m ∷ ms) k = (still_served (body_of m) k.0, still_members body_of ms k.1)
+
   still_invoked : (vs : List Invocation) → AllInvoked IsBody large vs → AllInvoked Other small vs
   still_invoked [] h = tt
-  still_invoked (v ∷ vs) h = (members v.members h.0, still_invoked vs h.1)
-    where
-      members : {X : Type 0} {body_of : X → ℕ} (ms : List X) → AllByRecursion (λ m. IsServedBody IsBody large (body_of m)) ms → AllByRecursion (λ m. IsServedBody Other small (body_of m)) ms
-      members [] k = tt
-      members {body_of = body_of} (m ∷ ms) k = (still_served (body_of m) k.0, members ms k.1)
+  still_invoked (v ∷ vs) h = (still_members (λ m. m.body) v.members h.0, still_invoked vs h.1)
 
   pub still_working : (t : RunTables) (w : World) → IsWorking IsBody large t w → IsWorking Other small t w
   still_working t w h = record { knows = still_knows (machine_tables t) h.knows; servable = h.servable; invoked = still_invoked w.invocations h.invoked }

@@ -1,5 +1,5 @@
 -- Registered bodies that a container can drive.
-use Rattle.std.specs.Prelude.{ℕ, ◌<◌, List, length, IsTrue}
+use Rattle.std.specs.Prelude.{◌<◌, List, length, IsTrue}
 use Rattle.cdi_bodies.specs.declared.entry.Entry.{Entry}
 use Rattle.cdi_body_check.specs.Shapes.{shape_of}
 use Rattle.cdi_machine.specs.Registered.{legal_of}

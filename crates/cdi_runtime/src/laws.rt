@@ -6,7 +6,6 @@ use cdi_bodies::Bodies;
 
 /// If the shapes of the registered bodies are served, each business method of each bean, enabled or not, has its body, and that gives
 /// only acts that are served: it sets fields, calls its own methods, calls through injected fields, gives a value or throws.
-#[tactic(auto, using(crate::proofs::Knowing::knows_served))]
 pub fn law_knows_methods(bodies: &Bodies)
     ensures { KnowsServed (entries_of bodies.now) }
 {

@@ -72,7 +72,7 @@ impl<D: Driver> Runtime<D> {
         if halted {
             return Some(Refusal::Halted);
         }
-        if self.world().is_down() {
+        if self.world.is_down() {
             return Some(Refusal::Down);
         }
         match job {
@@ -83,12 +83,12 @@ impl<D: Driver> Runtime<D> {
                 method,
                 args,
             } => {
-                self.world().law_alone();
+                self.world.law_alone();
                 if request.is_some() {
                     return Some(Refusal::NoRequest);
                 }
                 refuses_call(
-                    self.tables(),
+                    &self.tables,
                     *bean_type,
                     qualifiers.as_slice(),
                     *method,

@@ -21,15 +21,19 @@ use std::marker::Model;
 #[derive(Drop)]
 pub struct Runtime<D: Driver> {
     alloc: Global,
-    tables: RunTables,
+    pub(crate) tables: RunTables,
     driver: D,
-    world: World,
+    pub(crate) world: World,
 }
 
 impl<D: Driver> Model for Runtime<D> {
+    ghost use Rattle.std.specs.Coded.{codes};
+    ghost use Rattle.cdi_run_tables.specs.contracts.tables.RunTables as run_tables;
     ghost use Rattle.cdi_runtime.specs.Standing.{Standing, IsWorking};
 
     ghost Value = { Standing D };
+
+    ghost coded = { Prim.hlevel (codes, run_tables.the_row.coded) };
 
     ghost view = { λ r. record { tables = r.tables; driver = r.driver; world = r.world } };
 
