@@ -19,7 +19,11 @@ type Row = (Asks, End, &'static str, usize);
 
 /// The entries of the job before.
 fn text_of<D: Driver>(alloc: Global, runtime: &Runtime<D>) -> Result<String, AllocError> {
-    trace_text(alloc, &runtime.tables().deployment().names, runtime.world().trace())
+    trace_text(
+        alloc,
+        &runtime.tables().deployment().names,
+        runtime.world().trace(),
+    )
 }
 
 /// How many instances live.

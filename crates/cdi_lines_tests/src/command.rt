@@ -249,12 +249,7 @@ fn reads_a_call_with_a_qualifier(rt: HostRuntime) {
         "[\"call\",null,\"K\",[[\"Q\",{}]],\"up\",[]]",
     ];
     for line in ROWS {
-        check_line(
-            &rt,
-            rt.alloc(),
-            line,
-            Some(qualified_call(&rt, rt.alloc())),
-        );
+        check_line(&rt, rt.alloc(), line, Some(qualified_call(&rt, rt.alloc())));
     }
 }
 

@@ -58,10 +58,7 @@ fn accepts_what_has_no_part(rt: HostRuntime) {
             ("{}", "ok"),
             (r#" { "form" : 1 } "#, "ok"),
             (r#"{"classes":[],"scripts":[]}"#, "ok"),
-            (
-                r#"{"interfaces":[],"qualifiers":[],"selected":[]}"#,
-                "ok",
-            ),
+            (r#"{"interfaces":[],"qualifiers":[],"selected":[]}"#, "ok"),
         ],
     );
 }

@@ -318,7 +318,13 @@ fn destroys_the_dependents_of_dependents(rt: HostRuntime) -> Result<(), Fail> {
             [SEVEN, SHUT_DOWN],
             0,
         ),
-        (OWNERS, (32, 13), [ASK_OF_D, ASK_OF_D], [NO_TICKS, HALTED], 4),
+        (
+            OWNERS,
+            (32, 13),
+            [ASK_OF_D, ASK_OF_D],
+            [NO_TICKS, HALTED],
+            4,
+        ),
         (OWNERS, (32, 14), [ASK_OF_D, ASK_OF_D], [ONE, ONE], 0),
     ];
     for row in ROWS {
@@ -331,13 +337,7 @@ fn destroys_the_dependents_of_dependents(rt: HostRuntime) -> Result<(), Fail> {
 #[test]
 fn counts_entries_and_levels_of_calls_through_fields(rt: HostRuntime) -> Result<(), Fail> {
     const ROWS: &[Limited] = &[
-        (
-            CYCLE,
-            (32, 9),
-            [ASK_OF_A, ASK_OF_A],
-            [NO_TICKS, HALTED],
-            4,
-        ),
+        (CYCLE, (32, 9), [ASK_OF_A, ASK_OF_A], [NO_TICKS, HALTED], 4),
         (
             CYCLE,
             (32, 10),

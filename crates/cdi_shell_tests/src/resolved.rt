@@ -140,10 +140,7 @@ fn refuses_unknown_qualifiers(rt: HostRuntime) -> Result<(), Fail> {
 #[test]
 fn refuses_calls_by_qualifiers_in_order(rt: HostRuntime) -> Result<(), Fail> {
     const TALK: &[(&str, &str)] = &[
-        (
-            r#"["call",null,"I",["Any","Y"],"none",[1]]"#,
-            UNKNOWN_NAME,
-        ),
+        (r#"["call",null,"I",["Any","Y"],"none",[1]]"#, UNKNOWN_NAME),
         (r#"["call",null,"I",["Any"],"none",[1]]"#, AMBIGUOUS),
         (r#"["call",null,"I",[],"none",[1]]"#, UNSATISFIED),
         (r#"["call",null,"I",["Z"],"none",[1]]"#, NO_METHOD),
@@ -166,7 +163,7 @@ fn injects_by_qualifiers(rt: HostRuntime) -> Result<(), Fail> {
 
 // ---- alternatives
 
-/// Two beans of one type, each with more of its declaration, the selected alternatives, and a class more.
+/// What is declared of two beans of the type I, P and Q, the selected alternatives, and the text of a class more.
 #[derive(Clone, Copy, Drop)]
 struct Rivals<'a> {
     p: &'a str,
@@ -178,11 +175,17 @@ struct Rivals<'a> {
 const SCRIPTS: &str =
     r#"{"name":"p","steps":[["give","P"]]},{"name":"q","steps":[["give","Q"]]},{"name":"ask","steps":[["call",["field","i"],"who",[]],["give",["last"]]]}"#;
 
-/// A class that asks what it has injected for the type of both.
+/// A class that asks what is injected for the type I.
 const USER: &str =
     r#",{"name":"U","bean":{"scope":"ApplicationScoped"},"inject":[{"name":"i","type":"I"}],"members":[{"kind":"method","name":"who","body":"ask"}]}"#;
 
-/// A class that is a bean of the type of both.
+const ALTERNATIVE: &str = r#""alternative":true"#;
+
+const AT_10: &str = r#""alternative":true,"priority":10"#;
+
+const AT_20: &str = r#""alternative":true,"priority":20"#;
+
+/// A bean of the type I.
 fn rival(alloc: Global, name: &str, bean: &str, body: &str) -> Result<String, AllocError> {
     format!(in alloc;
         r#"{{"name":"{name}","implements":["I"],"bean":{{{bean}}},"members":[{{"kind":"method","name":"who","body":"{body}"}}]}}"#
@@ -198,8 +201,12 @@ fn deployment_of(alloc: Global, rivals: &Rivals) -> Result<String, AllocError> {
     )
 }
 
-/// Two beans of one type, without a user of them.
-fn rivals_of<'a>(p: &'a str, q: &'a str, selected: &'a str) -> Rivals<'a> {
+/// What is declared of P and of Q, and the selected alternatives.
+type Declared = (&'static str, &'static str, &'static str);
+
+/// Both beans alone.
+fn without_user(declared: &Declared) -> Rivals<'static> {
+    let &(p, q, selected) = declared;
     Rivals {
         p,
         q,
@@ -220,26 +227,19 @@ fn check_rivals(
     check_who(rt, alloc, deployment.as_str(), (bean_type, ""), reply)
 }
 
-/// Two beans of one type, the selected alternatives, the type that is called, and the reply.
-type Replaced = (
-    (&'static str, &'static str, &'static str),
-    &'static str,
-    &'static str,
-);
+/// What is declared, the type that is called, and the reply.
+type Replaced = (Declared, &'static str, &'static str);
 
-/// Checks a call of a type, of two beans without a user of them.
+/// Checks a call of a type, if both beans are alone.
 fn check_replaced(rt: &impl Abort, alloc: Global, replaced: &Replaced) -> Result<(), AllocError> {
-    let &((p, q, selected), bean_type, reply) = replaced;
-    check_rivals(rt, alloc, &rivals_of(p, q, selected), bean_type, reply)
+    let (declared, bean_type, reply) = replaced;
+    check_rivals(rt, alloc, &without_user(declared), bean_type, reply)
 }
 
 /// The alternative that isn't selected is no bean for any type; one that is selected replaces the other bean where both are eligible,
 /// and nowhere else. Of several the one of the highest priority does, if all have one.
 #[test]
 fn replaces_by_alternatives(rt: HostRuntime) -> Result<(), Fail> {
-    const ALTERNATIVE: &str = r#""alternative":true"#;
-    const AT_10: &str = r#""alternative":true,"priority":10"#;
-    const AT_20: &str = r#""alternative":true,"priority":20"#;
     const ROWS: &[Replaced] = &[
         (("", "", ""), "I", AMBIGUOUS),
         (("", r#""priority":10"#, ""), "I", AMBIGUOUS),
@@ -263,59 +263,58 @@ fn replaces_by_alternatives(rt: HostRuntime) -> Result<(), Fail> {
     Ok(())
 }
 
-/// Checks what a user of both beans is answered.
-fn check_user(
-    rt: &impl Abort,
-    alloc: Global,
-    rivals: Rivals,
-    reply: &str,
-) -> Result<(), AllocError> {
-    let rivals = Rivals {
+/// Both beans, and the class that asks what is injected.
+fn with_user(declared: &Declared) -> Rivals<'static> {
+    let &(p, q, selected) = declared;
+    Rivals {
+        p,
+        q,
+        selected,
         user: USER,
-        ..rivals
-    };
-    check_rivals(rt, alloc, &rivals, "U", reply)
+    }
 }
 
-/// Checks that a user of both beans is refused.
-fn check_ambiguous(rt: &impl Abort, alloc: Global, rivals: Rivals) -> Result<(), AllocError> {
-    let rivals = Rivals {
-        user: USER,
-        ..rivals
-    };
-    let deployment = deployment_of(alloc, &rivals)?;
-    check_refused(
-        rt,
-        alloc,
-        deployment.as_bytes(),
-        "P17 Ambiguous U#i\n",
-    );
+const APPLICATION: &str = r#""scope":"ApplicationScoped""#;
+
+#[test]
+fn injects_alternatives(rt: HostRuntime) -> Result<(), Fail> {
+    const ROWS: &[(Declared, &str)] = &[
+        ((APPLICATION, ALTERNATIVE, ""), P),
+        ((APPLICATION, ALTERNATIVE, r#""Q""#), Q),
+        ((AT_10, APPLICATION, ""), P),
+        ((AT_10, AT_20, ""), Q),
+    ];
+    for (declared, reply) in ROWS {
+        check_rivals(&rt, rt.alloc(), &with_user(declared), "U", reply)?;
+    }
+    Ok(())
+}
+
+/// Checks that the injection point of the class that asks is ambiguous.
+fn check_ambiguous(rt: &impl Abort, alloc: Global, declared: &Declared) -> Result<(), AllocError> {
+    let deployment = deployment_of(alloc, &with_user(declared))?;
+    check_refused(rt, alloc, deployment.as_bytes(), "P17 Ambiguous U#i\n");
     Ok(())
 }
 
 #[test]
-fn injects_alternatives(rt: HostRuntime) -> Result<(), Fail> {
-    const APPLICATION: &str = r#""scope":"ApplicationScoped""#;
-    const ALTERNATIVE: &str = r#""alternative":true"#;
-    const AT_10: &str = r#""alternative":true,"priority":10"#;
-    let alloc = rt.alloc();
-    check_user(&rt, alloc, rivals_of(APPLICATION, ALTERNATIVE, ""), P)?;
-    check_user(
-        &rt,
-        alloc,
-        rivals_of(APPLICATION, ALTERNATIVE, r#""Q""#),
-        Q,
-    )?;
-    check_user(&rt, alloc, rivals_of(AT_10, APPLICATION, ""), P)?;
-    check_ambiguous(&rt, alloc, rivals_of(APPLICATION, "", ""))?;
-    check_ambiguous(&rt, alloc, rivals_of(AT_10, AT_10, ""))?;
+fn refuses_ambiguous_points(rt: HostRuntime) -> Result<(), Fail> {
+    const ROWS: &[Declared] = &[
+        ("", "", ""),
+        (APPLICATION, r#""priority":10"#, ""),
+        (AT_10, AT_10, ""),
+        (AT_10, ALTERNATIVE, r#""Q""#),
+    ];
+    for declared in ROWS {
+        check_ambiguous(&rt, rt.alloc(), declared)?;
+    }
     Ok(())
 }
 
 // ---- inheritance and specialization
 
-/// Y, with a qualifier; Z that specializes it, with another; X that specializes Z, with none; and a bean that specializes one
-/// without qualifiers and has only a name.
+/// Y, with a qualifier; Z that specializes it, with another; X that specializes Z, with none; and N, which has a name and specializes
+/// M, which has the first qualifier.
 const SPECIALIZED: &str = r#"{
     "qualifiers": [{"name": "A"}, {"name": "B"}],
     "classes": [
