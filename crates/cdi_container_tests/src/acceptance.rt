@@ -161,19 +161,6 @@ fn tells_too_many_beans(rt: HostRuntime) -> Result<(), Fail> {
     Ok(())
 }
 
-/// Whether so many beans are accepted.
-fn accepts_beans(alloc: Global, count: u32) -> Result<bool, Fail> {
-    let deployment = beans(alloc, count)?;
-    Ok(accept(alloc, deployment, &Bodies::new(alloc)).is_ok())
-}
-
-/// A deployment that is read has at most 1,024 classes.
-#[test]
-fn accepts_many_beans(rt: HostRuntime) -> Result<(), Fail> {
-    expect_same(&rt, &accepts_beans(rt.alloc(), 1_024)?, &true);
-    Ok(())
-}
-
 // ---- what isn't served
 
 /// Whether a deployment of the whole form has no problem and isn't served, with bodies that give null.
