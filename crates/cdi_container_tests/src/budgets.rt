@@ -1,14 +1,14 @@
 //! Runs of the engine up to the ends of its budgets, with memory to spare, under a driver that counts how often it is asked.
-ghost use Rattle.cdi_beans.specs.Beans.{KnowsEach};
-ghost use Rattle.cdi_presence.specs.Missing.{GivesServed};
+ghost use Rattle.cdi_run_tables.specs.Machine.{machine_tables};
+ghost use Rattle.cdi_runtime.specs.Standing.{IsServable, KnowsMethods};
 
 use crate::bodies::{Asked, Counted};
 use crate::checks::expect_same_at;
 use crate::deployed::{Asks, End, SHARED, accept_well, carry_out, deploy, job_of};
 use cdi_base::{Cause, Limits};
 use cdi_bodies::Bodies;
-use cdi_container::Accepted;
 use cdi_machine::Driver;
+use cdi_run_tables::RunTables;
 use cdi_runtime::Runtime;
 use std::alloc::Global;
 use std::process::Abort;
@@ -36,22 +36,21 @@ struct Answered {
 /// Makes the call in a container that nothing has been done with.
 fn answer<D: Driver + Drop>(
     alloc: Global,
-    accepted: Accepted,
+    tables: RunTables,
     driver: D,
     below: i64,
     limits: Limits,
 ) -> Result<Answered, Fail>
-    requires knows { KnowsEach (D.knows driver) accepted.tables.beans }
-    requires serves { GivesServed accepted.tables (D.legal driver) }
+    requires knows { KnowsMethods (D.knows driver) (D.legal driver) (machine_tables tables) }
+    requires servable { IsServable tables }
 {
-    let Accepted { tables, classes } = accepted;
-    let job = job_of(alloc, &tables.names, Asks::Call("K", below))?;
+    let job = job_of(alloc, &tables.deployment().names, Asks::Call("K", below))?;
     let asked = Asked::new();
     let counted = Counted {
         driver,
         asked: &asked,
     };
-    let mut runtime = Runtime::new(alloc, tables, classes, counted, limits);
+    let mut runtime = Runtime::new(alloc, tables, counted, limits);
     let end = carry_out(&mut runtime, job)?;
     let entries = runtime.world().entries();
     Ok(Answered {
@@ -66,8 +65,8 @@ fn answer<D: Driver + Drop>(
 fn ask(alloc: Global, asking: Asking, limits: Limits) -> Result<Answered, Fail> {
     let mut bodies = Bodies::new(alloc);
     let deployment = deploy(alloc, SHARED, asking.sets, &mut bodies)?;
-    let accepted = accept_well(alloc, deployment, &bodies)?;
-    answer(alloc, accepted, bodies, asking.below, limits)
+    let tables = accept_well(alloc, deployment, &bodies)?;
+    answer(alloc, tables, bodies, asking.below, limits)
 }
 
 /// Checks calls one by one, each in a container of its own. That memory is there is part of what is checked: a budget that is

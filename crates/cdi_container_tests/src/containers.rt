@@ -1,13 +1,14 @@
 //! Containers that are started and answer commands, which are read from lines.
-ghost use Rattle.cdi_beans.specs.Beans.{KnowsEach};
-ghost use Rattle.cdi_presence.specs.Missing.{GivesServed};
+ghost use Rattle.cdi_run_tables.specs.Machine.{machine_tables};
+ghost use Rattle.cdi_runtime.specs.Standing.{IsServable, KnowsMethods};
 
 use crate::checks::{expect_same, expect_same_at};
 use crate::deployed::{DEPENDENT, SHARED, TWO, accept_well, deploy};
 use cdi_base::{BuiltIn, Cause, Limits, Name, Refusal, Reply, Value};
 use cdi_bodies::Bodies;
-use cdi_container::{Accepted, Container};
+use cdi_container::Container;
 use cdi_machine::Driver;
+use cdi_run_tables::RunTables;
 use cdi_text::read_command;
 use std::alloc::{AllocError, Global};
 use std::process::Abort;
@@ -42,7 +43,7 @@ fn reply_to<D: Driver>(
     line: &str,
 ) -> Result<Replied, Fail> {
     let command = read_command(alloc, line.as_bytes())?;
-    Ok(plain_reply(&container.command(command)))
+    Ok(plain_reply(&container.command(command)?))
 }
 
 /// The limits of a container, what its start is answered, and why it has halted in the end.
@@ -88,16 +89,16 @@ fn check_replies<D: Driver>(
 fn check_life<D: Driver + Drop>(
     rt: &impl Abort,
     alloc: Global,
-    accepted: Accepted,
+    tables: RunTables,
     driver: D,
     life: Life,
     rows: &[Row],
 ) -> Result<(), Fail>
-    requires knows { KnowsEach (D.knows driver) accepted.tables.beans }
-    requires serves { GivesServed accepted.tables (D.legal driver) }
+    requires knows { KnowsMethods (D.knows driver) (D.legal driver) (machine_tables tables) }
+    requires servable { IsServable tables }
 {
     let limits = Limits::new(life.depth, life.ticks).expect(rt, "limits in range");
-    let mut container = Container::start(alloc, accepted, driver, limits);
+    let mut container = Container::start(alloc, tables, driver, limits);
     check_replies(rt, alloc, &mut container, life, rows)
 }
 
@@ -105,8 +106,8 @@ fn check_life<D: Driver + Drop>(
 fn check(rt: &impl Abort, alloc: Global, text: &str, life: Life, rows: &[Row]) -> Result<(), Fail> {
     let mut bodies = Bodies::new(alloc);
     let deployment = deploy(alloc, text, 1, &mut bodies)?;
-    let accepted = accept_well(alloc, deployment, &bodies)?;
-    check_life(rt, alloc, accepted, bodies, life, rows)
+    let tables = accept_well(alloc, deployment, &bodies)?;
+    check_life(rt, alloc, tables, bodies, life, rows)
 }
 
 const UP: &str = r#"["call",null,"K",[],"up",[0]]"#;
@@ -290,14 +291,14 @@ fn check_numbers<D: Driver>(
 fn check_all<D: Driver + Drop>(
     rt: &impl Abort,
     alloc: Global,
-    accepted: Accepted,
+    tables: RunTables,
     driver: D,
     count: u32,
 ) -> Result<(), Fail>
-    requires knows { KnowsEach (D.knows driver) accepted.tables.beans }
-    requires serves { GivesServed accepted.tables (D.legal driver) }
+    requires knows { KnowsMethods (D.knows driver) (D.legal driver) (machine_tables tables) }
+    requires servable { IsServable tables }
 {
-    let mut container = Container::start(alloc, accepted, driver, Limits::default());
+    let mut container = Container::start(alloc, tables, driver, Limits::default());
     check_numbers(rt, alloc, &mut container, count)
 }
 
@@ -307,6 +308,6 @@ fn serves_many_beans(rt: HostRuntime) -> Result<(), Fail> {
     let text = many_classes(alloc, 1_000)?;
     let mut bodies = Bodies::new(alloc);
     let deployment = deploy(alloc, text.as_str(), 1, &mut bodies)?;
-    let accepted = accept_well(alloc, deployment, &bodies)?;
-    check_all(&rt, alloc, accepted, bodies, 1_000)
+    let tables = accept_well(alloc, deployment, &bodies)?;
+    check_all(&rt, alloc, tables, bodies, 1_000)
 }

@@ -6,11 +6,12 @@ ghost use Rattle.cdi_container.specs.Accepted.{IsAccepted};
 use crate::bodies::{Counting, level_args};
 use cdi_base::{Cause, Name, Names, Seq, Value};
 use cdi_bodies::Bodies;
-use cdi_container::{Accepted, accept};
+use cdi_container::accept;
 use cdi_deploy::read;
 use cdi_deployment::Deployment;
 use cdi_engine::run::run;
 use cdi_machine::{Driver, Failure};
+use cdi_run_tables::RunTables;
 use cdi_runtime::Runtime;
 use cdi_steps::{Completion, Given, Job, Outcome};
 use std::alloc::{AllocError, Global};
@@ -45,11 +46,11 @@ pub(crate) fn accept_well(
     alloc: Global,
     deployment: Deployment,
     bodies: &Bodies,
-) -> Result<Accepted, Fail>
+) -> Result<RunTables, Fail>
     ensures { IfOk result (IsAccepted deployment (entries_of bodies.now)) }
 {
     match accept(alloc, deployment, bodies) {
-        Ok(accepted) => Ok(accepted),
+        Ok(tables) => Ok(tables),
         Err(_) => Err("a deployment without problems")?,
     }
 }

@@ -1,10 +1,8 @@
-//! Tests of the bean list, the world, the engine and the container.
+//! Tests of the world, the engine and the container.
 #![tactic(auto)]
 
 #[cfg(test)]
 mod acceptance;
-#[cfg(test)]
-mod beans;
 #[cfg(test)]
 mod bodies;
 #[cfg(test)]

@@ -1,12 +1,7 @@
-//! As many beans as there may be, and one more.
-use crate::checks::expect_same;
+//! Deployments of many beans.
 use cdi_base::{Name, Names, Scope, Seq, is_name};
-use cdi_beans::check::problems;
-use cdi_beans::problem::ProblemKind;
-use cdi_bodies::Bodies;
 use cdi_deployment::{Bean, Class, Deployment};
 use std::alloc::Global;
-use std::process::Abort;
 use std::test::Fail;
 
 /// The name of the class with this number.
@@ -62,34 +57,4 @@ pub(crate) fn beans(alloc: Global, count: u32) -> Result<Deployment, Fail> {
         order: Seq::empty(alloc),
         scripts: Seq::empty(alloc),
     })
-}
-
-/// The kinds of the first two problems of so many beans.
-fn first_problems(
-    alloc: Global,
-    count: u32,
-) -> Result<(Option<ProblemKind>, Option<ProblemKind>), Fail> {
-    let deployment = beans(alloc, count)?;
-    let found = problems(alloc, &deployment, &Bodies::new(alloc))?;
-    let first = found.get(0).map(|problem| problem.kind);
-    let second = found.get(1).map(|problem| problem.kind);
-    Ok((first, second))
-}
-
-/// Checks the kind of the only problem of so many beans, or that there is none.
-fn check_beans(
-    rt: &impl Abort,
-    alloc: Global,
-    count: u32,
-    wanted: Option<ProblemKind>,
-) -> Result<(), Fail> {
-    let found = first_problems(alloc, count)?;
-    expect_same(rt, &found, &(wanted, None));
-    Ok(())
-}
-
-#[test]
-fn counts_many_beans(rt: HostRuntime) -> Result<(), Fail> {
-    check_beans(&rt, rt.alloc(), 4_096, None)?;
-    check_beans(&rt, rt.alloc(), 4_097, Some(ProblemKind::TooMany))
 }

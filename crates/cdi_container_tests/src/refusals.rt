@@ -1,13 +1,13 @@
 //! Why what is asked for is refused: each refusal, with those behind it in the order holding too.
-ghost use Rattle.cdi_beans.specs.Beans.{KnowsEach};
-ghost use Rattle.cdi_presence.specs.Missing.{GivesServed};
+ghost use Rattle.cdi_run_tables.specs.Machine.{machine_tables};
+ghost use Rattle.cdi_runtime.specs.Standing.{IsServable, KnowsMethods};
 
 use crate::checks::expect_same_at;
 use crate::deployed::{Asks, TWO, accept_well, carry_out, deploy, job_of};
 use cdi_base::{Limits, Names, Refusal, Seq, Text, Value};
 use cdi_bodies::Bodies;
-use cdi_container::Accepted;
 use cdi_machine::Driver;
+use cdi_run_tables::RunTables;
 use cdi_runtime::Runtime;
 use cdi_steps::Job;
 use std::alloc::{AllocError, Global};
@@ -55,7 +55,7 @@ fn refusal_in<D: Driver>(
     let &(halted, in_request, wanted, _) = row;
     let request = Text::from_str(alloc, "R")?;
     let request = if in_request { Some(&request) } else { None };
-    let job = job_for(alloc, &runtime.tables().names, wanted)?;
+    let job = job_for(alloc, &runtime.tables().deployment().names, wanted)?;
     Ok(runtime.refusal(halted, request, &job))
 }
 
@@ -67,7 +67,7 @@ fn check_behind<D: Driver>(
     first: Asks,
     rows: &[Row],
 ) -> Result<(), Fail> {
-    let job = job_of(alloc, &runtime.tables().names, first)?;
+    let job = job_of(alloc, &runtime.tables().deployment().names, first)?;
     carry_out(runtime, job)?;
     for row in rows {
         let refusal = refusal_in(alloc, runtime, row)?;
@@ -80,16 +80,15 @@ fn check_behind<D: Driver>(
 fn check_each<D: Driver + Drop>(
     rt: &impl Abort,
     alloc: Global,
-    accepted: Accepted,
+    tables: RunTables,
     driver: D,
     first: Asks,
     rows: &[Row],
 ) -> Result<(), Fail>
-    requires knows { KnowsEach (D.knows driver) accepted.tables.beans }
-    requires serves { GivesServed accepted.tables (D.legal driver) }
+    requires knows { KnowsMethods (D.knows driver) (D.legal driver) (machine_tables tables) }
+    requires servable { IsServable tables }
 {
-    let Accepted { tables, classes } = accepted;
-    let mut runtime = Runtime::new(alloc, tables, classes, driver, Limits::default());
+    let mut runtime = Runtime::new(alloc, tables, driver, Limits::default());
     check_behind(rt, alloc, &mut runtime, first, rows)
 }
 
@@ -97,8 +96,8 @@ fn check_each<D: Driver + Drop>(
 fn check_refusals(rt: &impl Abort, alloc: Global, first: Asks, rows: &[Row]) -> Result<(), Fail> {
     let mut bodies = Bodies::new(alloc);
     let deployment = deploy(alloc, TWO, 1, &mut bodies)?;
-    let accepted = accept_well(alloc, deployment, &bodies)?;
-    check_each(rt, alloc, accepted, bodies, first, rows)
+    let tables = accept_well(alloc, deployment, &bodies)?;
+    check_each(rt, alloc, tables, bodies, first, rows)
 }
 
 #[test]

@@ -1,14 +1,14 @@
 //! Runs of the engine: which entries each job gives, how it ends, and how many instances live then.
-ghost use Rattle.cdi_beans.specs.Beans.{KnowsEach};
-ghost use Rattle.cdi_presence.specs.Missing.{GivesServed};
+ghost use Rattle.cdi_run_tables.specs.Machine.{machine_tables};
+ghost use Rattle.cdi_runtime.specs.Standing.{IsServable, KnowsMethods};
 
 use crate::checks::{expect_same, expect_same_at};
 use crate::deployed::{Asks, DEPENDENT, End, SHARED, TWO, accept_well, carry_out, deploy, job_of};
 use crate::traces::trace_text;
 use cdi_base::{BuiltIn, Cause, Limits};
 use cdi_bodies::Bodies;
-use cdi_container::Accepted;
 use cdi_machine::Driver;
+use cdi_run_tables::RunTables;
 use cdi_runtime::Runtime;
 use std::alloc::{AllocError, Global};
 use std::process::Abort;
@@ -19,7 +19,11 @@ type Row = (Asks, End, &'static str, usize);
 
 /// The entries of the job before.
 fn text_of<D: Driver>(alloc: Global, runtime: &Runtime<D>) -> Result<String, AllocError> {
-    trace_text(alloc, &runtime.tables().names, runtime.world().trace())
+    trace_text(
+        alloc,
+        &runtime.tables().deployment().names,
+        runtime.world().trace(),
+    )
 }
 
 /// How many instances live.
@@ -51,7 +55,7 @@ fn check_rows<D: Driver>(
     rows: &[Row],
 ) -> Result<(), Fail> {
     for row in rows {
-        let job = job_of(alloc, &runtime.tables().names, row.0)?;
+        let job = job_of(alloc, &runtime.tables().deployment().names, row.0)?;
         let end = carry_out(runtime, job)?;
         check_behind(rt, alloc, runtime, row, end)?;
     }
@@ -62,15 +66,14 @@ fn check_rows<D: Driver>(
 fn check_jobs<D: Driver + Drop>(
     rt: &impl Abort,
     alloc: Global,
-    accepted: Accepted,
+    tables: RunTables,
     driver: D,
     rows: &[Row],
 ) -> Result<(), Fail>
-    requires knows { KnowsEach (D.knows driver) accepted.tables.beans }
-    requires serves { GivesServed accepted.tables (D.legal driver) }
+    requires knows { KnowsMethods (D.knows driver) (D.legal driver) (machine_tables tables) }
+    requires servable { IsServable tables }
 {
-    let Accepted { tables, classes } = accepted;
-    let mut runtime = Runtime::new(alloc, tables, classes, driver, Limits::default());
+    let mut runtime = Runtime::new(alloc, tables, driver, Limits::default());
     check_rows(rt, alloc, &mut runtime, rows)
 }
 
@@ -78,8 +81,8 @@ fn check_jobs<D: Driver + Drop>(
 fn check_runs(rt: &impl Abort, alloc: Global, text: &str, rows: &[Row]) -> Result<(), Fail> {
     let mut bodies = Bodies::new(alloc);
     let deployment = deploy(alloc, text, 1, &mut bodies)?;
-    let accepted = accept_well(alloc, deployment, &bodies)?;
-    check_jobs(rt, alloc, accepted, bodies, rows)
+    let tables = accept_well(alloc, deployment, &bodies)?;
+    check_jobs(rt, alloc, tables, bodies, rows)
 }
 
 /// The entries of a boot.
@@ -193,6 +196,69 @@ fn ends_the_latest_first(rt: HostRuntime) -> Result<(), Fail> {
     check_runs(&rt, rt.alloc(), TWO, &rows)
 }
 
+// ---- injected fields
+
+/// A bean of the application, with fields in which two dependent objects are injected, each with one of its own, and a client proxy
+/// of another bean of the application.
+const OWNER: &str =
+    r#"{"classes":[{"name":"K","bean":{"scope":"ApplicationScoped"},"fields":[{"name":"n","value":0}],"inject":[{"name":"d","type":"D"},{"name":"s","type":"S"},{"name":"d2","type":"D"}],"members":[{"kind":"method","name":"up","args":1,"body":"up"}]},{"name":"D","bean":{},"inject":[{"name":"e","type":"E"}]},{"name":"E","bean":{}},{"name":"S","bean":{"scope":"ApplicationScoped"},"fields":[{"name":"n","value":10}],"inject":[{"name":"k","type":"K"},{"name":"e","type":"E"}],"members":[{"kind":"method","name":"up","args":1,"body":"up"}]}]}"#;
+
+/// The dependents are made where they are injected, and a proxy makes nothing. The dependents are destroyed behind their owner's
+/// beginning and before its end, each with its own in it.
+#[test]
+fn makes_and_destroys_dependents(rt: HostRuntime) -> Result<(), Fail> {
+    let rows = [
+        (
+            Asks::Call("K", 0),
+            End::Gave(1),
+            "new 1 K;new 2 D;new 3 E;ready 3;ready 2;new 4 D;new 5 E;ready 5;ready 4;ready 1;run 1 K#up;set n 1;give 1;",
+            5,
+        ),
+        (
+            Asks::Call("K", 0),
+            End::Gave(2),
+            "run 1 K#up;set n 2;give 2;",
+            5,
+        ),
+        (
+            Asks::Call("S", 0),
+            End::Gave(11),
+            "new 6 S;new 7 E;ready 7;ready 6;run 6 S#up;set n 11;give 11;",
+            7,
+        ),
+        (
+            Asks::Shutdown,
+            End::GaveNull,
+            "event Shutdown;event Object BeforeDestroyed ApplicationScoped;end 6;end 7;gone 7;gone 6;end 1;pick 2 0;end 2;end 3;gone 3;gone 2;end 4;end 5;gone 5;gone 4;gone 1;event Object Destroyed ApplicationScoped;",
+            0,
+        ),
+    ];
+    check_runs(&rt, rt.alloc(), OWNER, &rows)
+}
+
+/// A dependent bean with a dependent object.
+const BORROWED: &str =
+    r#"{"classes":[{"name":"E","bean":{}},{"name":"K","bean":{},"fields":[{"name":"n","value":0}],"inject":[{"name":"e","type":"E"}],"members":[{"kind":"method","name":"up","args":1,"body":"up"}]}]}"#;
+
+#[test]
+fn destroys_the_dependents_of_what_a_call_borrowed(rt: HostRuntime) -> Result<(), Fail> {
+    let rows = [
+        (
+            Asks::Call("K", 0),
+            End::Gave(1),
+            "new 1 K;new 2 E;ready 2;ready 1;run 1 K#up;set n 1;give 1;end 1;end 2;gone 2;gone 1;",
+            0,
+        ),
+        (
+            Asks::Call("K", 1),
+            End::Gave(2),
+            "new 3 K;new 4 E;ready 4;ready 3;run 3 K#up;set n 1;own up 0;run 3 K#up;set n 2;give 2;give 2;end 3;end 4;gone 4;gone 3;",
+            0,
+        ),
+    ];
+    check_runs(&rt, rt.alloc(), BORROWED, &rows)
+}
+
 // ---- many
 
 /// How a call ended, how many entries it gave, how many instances live, and the next number.
@@ -213,7 +279,7 @@ fn call_again<D: Driver>(
 ) -> Result<End, Fail> {
     let mut end = End::Other;
     for _ in 0..times {
-        let job = job_of(alloc, &runtime.tables().names, asks)?;
+        let job = job_of(alloc, &runtime.tables().deployment().names, asks)?;
         end = carry_out(runtime, job)?;
     }
     Ok(end)
@@ -238,16 +304,15 @@ fn behind_calls<D: Driver>(
 /// The same under default limits, in a world in which nothing was done before.
 fn call_often<D: Driver + Drop>(
     alloc: Global,
-    accepted: Accepted,
+    tables: RunTables,
     driver: D,
     asks: Asks,
     times: u32,
 ) -> Result<Behind, Fail>
-    requires knows { KnowsEach (D.knows driver) accepted.tables.beans }
-    requires serves { GivesServed accepted.tables (D.legal driver) }
+    requires knows { KnowsMethods (D.knows driver) (D.legal driver) (machine_tables tables) }
+    requires servable { IsServable tables }
 {
-    let Accepted { tables, classes } = accepted;
-    let mut runtime = Runtime::new(alloc, tables, classes, driver, Limits::default());
+    let mut runtime = Runtime::new(alloc, tables, driver, Limits::default());
     behind_calls(alloc, &mut runtime, asks, times)
 }
 
@@ -262,8 +327,8 @@ fn check_often(
 ) -> Result<(), Fail> {
     let mut bodies = Bodies::new(alloc);
     let deployment = deploy(alloc, text, 1, &mut bodies)?;
-    let accepted = accept_well(alloc, deployment, &bodies)?;
-    let behind = call_often(alloc, accepted, bodies, asks, times)?;
+    let tables = accept_well(alloc, deployment, &bodies)?;
+    let behind = call_often(alloc, tables, bodies, asks, times)?;
     expect_same(rt, &behind, &wanted);
     Ok(())
 }

@@ -108,6 +108,7 @@ fn entry_text(alloc: Global, names: &Names, entry: &Entry) -> Result<String, All
         Entry::Ready { number } => format!(in alloc; "ready {number}"),
         Entry::End { number } => format!(in alloc; "end {number}"),
         Entry::Gone { number } => format!(in alloc; "gone {number}"),
+        Entry::Pick { count, choice } => format!(in alloc; "pick {count} {choice}"),
         _ => String::from_str(alloc, "another entry"),
     }
 }

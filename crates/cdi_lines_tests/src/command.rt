@@ -1,6 +1,6 @@
 //! Tests of reading command lines.
 use crate::checks::{command_in, expect_command, expect_text, text};
-use cdi_base::{Command, Seq, Text, Value};
+use cdi_base::{Command, Seq, Text, Value, WrittenUse};
 use cdi_text::{BadLine, read_command};
 use std::alloc::Global;
 use std::process::Abort;
@@ -109,7 +109,9 @@ fn refuses_calls_with_a_wrong_part(rt: HostRuntime) {
         "[\"call\",null,\"K\",null,\"up\",[]]",
         "[\"call\",null,\"K\",{},\"up\",[]]",
         "[\"call\",null,\"K\",\"\",\"up\",[]]",
-        "[\"call\",null,\"K\",[\"Q\"],\"up\",[]]",
+        "[\"call\",null,\"K\",[\"Q 1\"],\"up\",[]]",
+        "[\"call\",null,\"K\",[[\"Q\"]],\"up\",[]]",
+        "[\"call\",null,\"K\",[[\"Q\",{\"v\":true}]],\"up\",[]]",
         "[\"call\",null,\"K\",[[]],\"up\",[]]",
         "[\"call\",null,\"K\",[null],\"up\",[]]",
         "[\"call\",null,\"K\",[],\"\",[]]",
@@ -222,6 +224,33 @@ fn full_call(rt: &impl Abort, alloc: Global) -> Command {
 fn reads_a_call_with_all_parts(rt: HostRuntime) {
     let line = "[\"call\",\"R.1_$\",\"K\",[],\"up\",[null,7,\"two words\"]]";
     check_line(&rt, rt.alloc(), line, Some(full_call(&rt, rt.alloc())));
+}
+
+/// A call with the qualifier `Q`, which gives no member a value.
+fn qualified_call(rt: &impl Abort, alloc: Global) -> Command {
+    let qualifier = WrittenUse {
+        name: text(rt, alloc, "Q"),
+        members: Seq::empty(alloc),
+    };
+    let qualifiers = Vec::from_array(alloc, [qualifier]).expect(rt, "memory");
+    Command::Call {
+        request: None,
+        bean_type: text(rt, alloc, "K"),
+        qualifiers: Seq::new(qualifiers),
+        method: text(rt, alloc, "up"),
+        args: Seq::empty(alloc),
+    }
+}
+
+#[test]
+fn reads_a_call_with_a_qualifier(rt: HostRuntime) {
+    const ROWS: &[&str] = &[
+        "[\"call\",null,\"K\",[\"Q\"],\"up\",[]]",
+        "[\"call\",null,\"K\",[[\"Q\",{}]],\"up\",[]]",
+    ];
+    for line in ROWS {
+        check_line(&rt, rt.alloc(), line, Some(qualified_call(&rt, rt.alloc())));
+    }
 }
 
 #[test]

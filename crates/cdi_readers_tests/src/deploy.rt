@@ -58,6 +58,7 @@ fn accepts_what_has_no_part(rt: HostRuntime) {
             ("{}", "ok"),
             (r#" { "form" : 1 } "#, "ok"),
             (r#"{"classes":[],"scripts":[]}"#, "ok"),
+            (r#"{"interfaces":[],"qualifiers":[],"selected":[]}"#, "ok"),
         ],
     );
 }
@@ -115,7 +116,9 @@ fn looks_at_the_root(rt: HostRuntime) {
         &[
             ("[]", "Shape "),
             ("null", "Shape "),
-            (r#"{"interfaces":[]}"#, "Shape "),
+            (r#"{"exceptions":[]}"#, "Shape "),
+            (r#"{"interfaces":{}}"#, "Shape /interfaces"),
+            (r#"{"selected":[1]}"#, "Shape /selected/0"),
             (r#"{"form":2,"x":0}"#, "Shape "),
             (r#"{"form":2}"#, "Shape /form"),
             (r#"{"form":0}"#, "Shape /form"),
@@ -140,8 +143,16 @@ fn looks_at_classes(rt: HostRuntime) {
         &[
             (r#"{"classes":[{}]}"#, "Shape /classes/0"),
             (
-                r#"{"classes":[{"name":"K"},{"name":"L","extends":"K"}]}"#,
+                r#"{"classes":[{"name":"K"},{"name":"L","constructor":{}}]}"#,
                 "Shape /classes/1",
+            ),
+            (
+                r#"{"classes":[{"name":"K"},{"name":"L","extends":null}]}"#,
+                "Shape /classes/1/extends",
+            ),
+            (
+                r#"{"classes":[{"name":"K"},{"name":"L","inject":[{"name":"k"}]}]}"#,
+                "Shape /classes/1/inject/0",
             ),
             (r#"{"classes":[{"name":1},{}]}"#, "Shape /classes/0/name"),
             (r#"{"classes":[{"name":null}]}"#, "Shape /classes/0/name"),
@@ -165,8 +176,16 @@ fn looks_at_beans(rt: HostRuntime) {
                 "Shape /classes/0/bean",
             ),
             (
-                r#"{"classes":[{"name":"K","bean":{"quals":[]}}]}"#,
+                r#"{"classes":[{"name":"K","bean":{"stereotypes":[]}}]}"#,
                 "Shape /classes/0/bean",
+            ),
+            (
+                r#"{"classes":[{"name":"K","bean":{"quals":["Q",["Q"]]}}]}"#,
+                "Shape /classes/0/bean/quals/1",
+            ),
+            (
+                r#"{"classes":[{"name":"K","bean":{"priority":"1"}}]}"#,
+                "Shape /classes/0/bean/priority",
             ),
             (
                 r#"{"classes":[{"name":"K","bean":{"scope":"SessionScoped"}}]}"#,

@@ -46,8 +46,9 @@ const NONE: &[&str] = &[
     // Shape, also beside a bad name
     "[]",
     r#"{"classes":[{"name":"a b"},{}]}"#,
-    // the value of a field is no name
+    // the value of a field is no name, and neither is that of a member in a use
     r#"{"classes":[{"name":"K","fields":[{"name":"f","value":"a b"}]}]}"#,
+    r#"{"classes":[{"name":"K","bean":{"quals":["Q",["Q",{"v":"w-"}]]}}]}"#,
 ];
 
 // Names: keys go in the order of bytes, and items by their index.
@@ -84,6 +85,23 @@ const NAMES: &[(&str, &str)] = &[
     (
         r#"{"scripts":[{"name":"s-","steps":[]}],"classes":[{"name":"n-"}]}"#,
         r#"the text "n-" is no name"#,
+    ),
+    (
+        r#"{"qualifiers":[{"name":"Q"},{"name":"q-"}]}"#,
+        r#"the text "q-" is no name"#,
+    ),
+    (
+        r#"{"selected":["S","s-"],"qualifiers":[{"name":"q-"}]}"#,
+        r#"the text "q-" is no name"#,
+    ),
+    // a use, whose name goes before the keys of its members
+    (
+        r#"{"classes":[{"name":"K","bean":{"quals":["Q",["q-",{"v-":"w-"}]]}}]}"#,
+        r#"the text "q-" is no name"#,
+    ),
+    (
+        r#"{"classes":[{"name":"K","bean":{"quals":["Q",["Q",{"v-":"w-"}]]}}]}"#,
+        r#"the text "v-" is no name"#,
     ),
 ];
 
@@ -211,6 +229,44 @@ const REPEATED: &[(&str, &str, usize, &str, &str)] = &[
         "]}]}",
         "/classes/1/members has more than 64 items",
     ),
+    (r#"{"qualifiers":["#, r#"{"name":"Q"}"#, 1024, "]}", "none"),
+    (
+        r#"{"qualifiers":["#,
+        r#"{"name":"Q"}"#,
+        1025,
+        "]}",
+        "/qualifiers has more than 1024 items",
+    ),
+    // interfaces count with the classes
+    (
+        r#"{"interfaces":["#,
+        r#"{"name":"I"}"#,
+        1024,
+        r#"],"classes":[{"name":"K"}]}"#,
+        "/classes has more than 1024 items",
+    ),
+    // injected fields count with the fields
+    (
+        r#"{"classes":[{"name":"K","fields":[{"name":"f"}],"inject":["#,
+        r#"{"name":"g","type":"T"}"#,
+        64,
+        "]}]}",
+        "/classes/0/fields has more than 64 items",
+    ),
+    (
+        r#"{"classes":[{"name":"K"},{"name":"L","implements":["#,
+        r#""I""#,
+        64,
+        "]}]}",
+        "none",
+    ),
+    (
+        r#"{"classes":[{"name":"K"},{"name":"L","implements":["#,
+        r#""I""#,
+        65,
+        "]}]}",
+        "/classes/1 has a list that is longer than its limit",
+    ),
     // a bad name goes before a long list
     (
         r#"{"classes":[{"name":"n-","members":["#,
@@ -258,12 +314,17 @@ const AT_STAGES: &[(&str, &str, &str)] = &[
     // steps that came later, and what is none at any stage
     (
         r#"{"scripts":[{"name":"s","steps":[["throw","X"]]}]}"#,
+        "none",
+        "none",
+    ),
+    (
+        r#"{"scripts":[{"name":"s","steps":[["peek","k"]]}]}"#,
         "step 0 (counted from 0) of script s is none",
         "none",
     ),
     (
         r#"{"scripts":[{"name":"s","steps":[["give",1],["catch",["give",1]],["find","T",[]],["find","T"]]}]}"#,
-        "step 1 (counted from 0) of script s is none",
+        "step 2 (counted from 0) of script s is none",
         "step 3 (counted from 0) of script s is none",
     ),
     (
@@ -278,28 +339,27 @@ const AT_STAGES: &[(&str, &str, &str)] = &[
     ),
     // names in lists that came later: where these aren't served the fault is Shape
     (
-        r#"{"qualifiers":[{"name":"Q"},{"name":"q-"}]}"#,
+        r#"{"bindings":[{"name":"B"},{"name":"b-"}]}"#,
         "none",
-        r#"the text "q-" is no name"#,
+        r#"the text "b-" is no name"#,
     ),
     (
         r#"{"selected":["s-"],"order":["S","o-"]}"#,
         "none",
         r#"the text "o-" is no name"#,
     ),
-    // a use, whose name goes before the keys of its members
     (
-        r#"{"classes":[{"name":"K","bean":{"quals":["Q",["q-",{"v-":"w-"}]]}}]}"#,
+        r#"{"classes":[{"name":"K","bindings":["B",["b-",{"v-":"w-"}]]}]}"#,
         "none",
-        r#"the text "q-" is no name"#,
+        r#"the text "b-" is no name"#,
     ),
     (
-        r#"{"classes":[{"name":"K","bean":{"quals":["Q",["Q",{"v-":"w-"}]]}}]}"#,
+        r#"{"classes":[{"name":"K","bindings":["B",["B",{"v-":"w-"}]]}]}"#,
         "none",
         r#"the text "v-" is no name"#,
     ),
     (
-        r#"{"classes":[{"name":"K","bean":{"quals":["Q",["Q",{"v":"w-"}]]}}]}"#,
+        r#"{"classes":[{"name":"K","bindings":["B",["B",{"v":"w-"}]]}]}"#,
         "none",
         "none",
     ),
@@ -318,13 +378,13 @@ fn tells_what_is_wrong_at_a_stage(rt: HostRuntime) -> Result<(), Fail> {
 
 // Lists that came later, as `REPEATED` has those that are served, with the hint where the whole form is served.
 const REPEATED_LATER: &[(&str, &str, usize, &str, &str)] = &[
-    (r#"{"qualifiers":["#, r#"{"name":"Q"}"#, 1024, "]}", "none"),
+    (r#"{"bindings":["#, r#"{"name":"B"}"#, 1024, "]}", "none"),
     (
-        r#"{"qualifiers":["#,
-        r#"{"name":"Q"}"#,
+        r#"{"bindings":["#,
+        r#"{"name":"B"}"#,
         1025,
         "]}",
-        "/qualifiers has more than 1024 items",
+        "/bindings has more than 1024 items",
     ),
     // interfaces and interceptors count with the classes
     (
@@ -334,25 +394,17 @@ const REPEATED_LATER: &[(&str, &str, usize, &str, &str)] = &[
         r#"],"classes":[{"name":"K"}],"interceptors":[{"name":"J","bindings":["B"]}]}"#,
         "/classes has more than 1024 items",
     ),
-    // injected fields count with the fields
     (
-        r#"{"classes":[{"name":"K","fields":[{"name":"f"}],"inject":["#,
-        r#"{"name":"g","type":"T"}"#,
-        64,
-        "]}]}",
-        "/classes/0/fields has more than 64 items",
-    ),
-    (
-        r#"{"classes":[{"name":"K"},{"name":"L","implements":["#,
-        r#""I""#,
-        64,
+        r#"{"classes":[{"name":"K"},{"name":"L","bindings":["#,
+        r#""B""#,
+        16,
         "]}]}",
         "none",
     ),
     (
-        r#"{"classes":[{"name":"K"},{"name":"L","implements":["#,
-        r#""I""#,
-        65,
+        r#"{"classes":[{"name":"K"},{"name":"L","bindings":["#,
+        r#""B""#,
+        17,
         "]}]}",
         "/classes/1 has a list that is longer than its limit",
     ),

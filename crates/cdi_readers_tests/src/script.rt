@@ -118,7 +118,8 @@ fn refuses_bad_parts(rt: HostRuntime) {
 #[test]
 fn refuses_steps_that_are_not_served(rt: HostRuntime) {
     let texts = &[
-        r#"[["call",["field","f"],"m",[]]]"#,
+        r#"[["call",["param",0],"m",[]]]"#,
+        r#"[["call",["local",0],"m",[]]]"#,
         r#"[["read",["field","f"]]]"#,
         r#"[["write",["param",0],1]]"#,
         r#"[["fire","C",[],1]]"#,
@@ -126,8 +127,8 @@ fn refuses_steps_that_are_not_served(rt: HostRuntime) {
         r#"[["find","T",[]]]"#,
         r#"[["keep","k",1]]"#,
         r#"[["peek","k"]]"#,
-        r#"[["throw","X"]]"#,
-        r#"[["catch",["give",1]]]"#,
+        r#"[["catch",["peek","k"]]]"#,
+        r#"[["throw","X"],["proceed"]]"#,
     ];
     refuse(&rt, rt.alloc(), texts);
 }

@@ -156,9 +156,9 @@ fn serves_each_step_since_its_stage(rt: HostRuntime) {
 #[test]
 fn refuses_what_is_not_served(rt: HostRuntime) {
     let texts = &[
-        r#"[["give",1],["throw","X"]]"#,
-        r#"[["catch",["give",1]]]"#,
-        r#"[["call",["field","f"],"m",[]]]"#,
+        r#"[["give",1],["read",["field","f"]]]"#,
+        r#"[["catch",["keep","k",1]]]"#,
+        r#"[["call",["param",0],"m",[]]]"#,
         r#"[["proceed"]]"#,
         r#"[["fire","C",[],1]]"#,
         r#"[["find","T",[]]]"#,

@@ -15,7 +15,8 @@ const DIARY: &str = r#"{"interfaces":[{"name":"Clock"}],"classes":[
         "inject":[{"name":"clock","type":"Clock"},{"name":"paper","type":"Paper"}],
         "members":[{"kind":"method","name":"note","body":"note"}]}]}"#;
 
-/// The same with one clock, with paper and with a body, which calls the clock: all of this isn't served by a run yet.
+/// The same with one clock, with a body, which calls the clock, and with paper for each request, which isn't served by a run
+/// yet.
 const WHOLE_DIARY: &str = r#"{"interfaces":[{"name":"Clock"}],"classes":[
     {"name":"Quartz","implements":["Clock"],"bean":{"scope":"ApplicationScoped"},
         "members":[{"kind":"method","name":"hour","body":"hour"}]},
@@ -73,7 +74,7 @@ fn checks_the_file_that_the_words_name(rt: HostRuntime) {
 fn checks_more_than_a_run_serves(rt: HostRuntime) {
     let wanted = Wanted {
         status: 1,
-        output: "Shape \n",
+        output: "Shape /classes/1/bean/scope\n",
         errors: "",
     };
     let words = ["cdi", "run", "k.json"];

@@ -1,11 +1,11 @@
 //! A deployment that isn't accepted.
 use crate::checks::expect_same;
 use cdi_base::{Names, ReadError};
-use cdi_beans::problem::{Problem, ProblemKind};
 use cdi_bodies::Bodies;
 use cdi_container::{Unaccepted, accept};
 use cdi_deploy::read;
 use cdi_deployment::Deployment;
+use cdi_problems::{Problem, ProblemKind};
 use std::alloc::{AllocError, Global};
 use std::process::Abort;
 use std::test::Fail;
@@ -37,6 +37,7 @@ fn tells_its_problems(rt: HostRuntime) -> Result<(), Fail> {
         Err(Unaccepted::Problems { names, problems }) => {
             check_problems(&rt, &names, problems.as_slice())
         }
+        Err(Unaccepted::Unserved) => panic!(rt; "all of it is served"),
         Err(Unaccepted::Memory) => return Err(AllocError)?,
         Ok(_) => panic!(rt; "a method has no body"),
     }

@@ -123,7 +123,7 @@ fn refuses_unreadable_lines(rt: HostRuntime) -> Result<(), Fail> {
         (r#"["call",null,"K",[],"up",[1.5]]"#, BAD_LINE),
         (r#"["call",null,"K",[],"up",[true]]"#, BAD_LINE),
         (r#"["call",null,"K",[],"up"]"#, BAD_LINE),
-        (r#"["call",null,"K",["Any"],"up",[]]"#, BAD_LINE),
+        (r#"["call",null,"K",["a b"],"up",[]]"#, BAD_LINE),
         (r#"["live"]"#, BAD_LINE),
         (r#"["begin","R"]"#, BAD_LINE),
         (r#"["read",null,"K",[]]"#, BAD_LINE),

@@ -12,11 +12,15 @@ mod deep;
 #[cfg(test)]
 mod drive;
 #[cfg(test)]
+mod injected;
+#[cfg(test)]
 mod program;
 #[cfg(test)]
 mod refusal_text;
 #[cfg(test)]
 mod refused;
+#[cfg(test)]
+mod resolved;
 #[cfg(test)]
 mod streams;
 #[cfg(test)]

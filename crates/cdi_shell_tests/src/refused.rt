@@ -33,7 +33,7 @@ fn refuses_shapes_and_names(rt: HostRuntime) {
     const ROWS: &[(&str, &str)] = &[
         ("[]", "Shape \n"),
         (r#"{"form":3,"x":1}"#, "Shape \n"),
-        (r#"{"interfaces":[]}"#, "Shape \n"),
+        (r#"{"bindings":[]}"#, "Shape \n"),
         (r#"{"form":3}"#, "Shape /form\n"),
         (r#"{"classes":5,"form":3}"#, "Shape /classes\n"),
         (r#"{"classes":[{}]}"#, "Shape /classes/0\n"),
@@ -152,7 +152,7 @@ fn refuses_the_first_bad_script(rt: HostRuntime) -> Result<(), Fail> {
             "script up BadStep\n",
         ),
         (
-            r#"{"name":"up","steps":[["throw","X"]]}"#,
+            r#"{"name":"up","steps":[["proceed"]]}"#,
             "script up BadStep\n",
         ),
         (
@@ -357,6 +357,11 @@ fn refuses_bodies_out_of_shape(rt: HostRuntime) -> Result<(), Fail> {
         (r#"["own","down",[]]"#, "P13 BodyOutsideShape K#up\n"),
         (r#"["own","n",[]]"#, "P13 BodyOutsideShape K#up\n"),
         (r#"["own","up",[1]]"#, "P13 BodyOutsideShape K#up\n"),
+        (r#"["throw","up"]"#, "P13 BodyOutsideShape K#up\n"),
+        (
+            r#"["call",["field","n"],"up",[]]"#,
+            "P13 BodyOutsideShape K#up\n",
+        ),
         (
             r#"["set","m",1],["own","down",[]]"#,
             "P13 BodyOutsideShape K#up\n",
