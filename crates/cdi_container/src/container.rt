@@ -19,7 +19,7 @@ use cdi_engine::run::run;
 use cdi_machine::Driver;
 use cdi_run_tables::RunTables;
 use cdi_runtime::Runtime;
-use cdi_steps::{Host, Job, Outcome};
+use cdi_steps::{Host, Job, Outcome, Request};
 use std::alloc::{AllocError, Global};
 use std::marker::Model;
 
@@ -168,12 +168,13 @@ impl<D: Driver> Container<D> {
                     self.names(),
                     qualifiers.as_slice(),
                 )?;
-                let job = Job::Call {
+                let call = Request {
                     bean_type,
                     qualifiers,
                     method,
                     args,
                 };
+                let job = Job::Call(Box::new(self.runtime.alloc(), call)?);
                 Ok(self.ask(request.as_ref(), job))
             }
             Command::Shutdown => Ok(self.ask(None, Job::Shutdown)),

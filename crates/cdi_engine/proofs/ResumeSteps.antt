@@ -1,5 +1,5 @@
 -- What frames do once what they wait for has ended is what the machine does.
-use Rattle.std.proofs.Common.{ℕ, ◌≡◌, refl}
+use Rattle.std.proofs.Common.{ℕ, ◌≡◌, refl, sym}
 use Rattle.std.specs.Global.{Box}
 use Rattle.cdi_steps.specs.declared.task.Running.{Running}
 use Rattle.cdi_base.specs.declared.value.Value.TheVariants as values
@@ -68,12 +68,12 @@ module _ (s : Setting) where
 
   -- ---- commands
 
-  pub returned_leads : (told : Completion) (g : Given) (w : World)
-      → GoesOn s (frames.Returning told) (completions.Gave g) w (nexts.Finished (outcomes.Ends told)) (after_change Change.Return w)
-  returned_leads (completions.Gave h) g w = Comes.same refl
-  returned_leads (completions.Threw x) g w = Comes.same refl
+  pub returned_leads : (told : Box Completion) {c : Completion} (g : Given) (w : World) → c ≡ told.value
+      → GoesOn s (frames.Returning told) (completions.Gave g) w (nexts.Finished (outcomes.Ends c)) (after_change Change.Return w)
+  returned_leads told {c = completions.Gave h} g w e = rw sym e (Comes.same refl)
+  returned_leads told {c = completions.Threw x} g w e = rw sym e (Comes.same refl)
 
-  pub threw_at_return : (told : Completion) (x : Name) (w : World)
+  pub threw_at_return : (told : Box Completion) (x : Name) (w : World)
       → GoesOn s (frames.Returning told) (completions.Threw x) w (nexts.Finished (outcomes.Ends (completions.Threw x))) (after_change Change.Return w)
   threw_at_return told x w = Comes.same refl
 
@@ -92,7 +92,7 @@ module _ (s : Setting) where
       → ((n : ℕ) → k ≡ frames.CleaningUp n → ⊥)
       → (k ≡ frames.Exiting → ⊥)
       → (k ≡ frames.Using → ⊥)
-      → ((told : Completion) → k ≡ frames.Returning told → ⊥)
+      → ((told : Box Completion) → k ≡ frames.Returning told → ⊥)
       → (k ≡ frames.Initializing → ⊥)
       → (k ≡ frames.Starting → ⊥)
       → (k ≡ frames.Closing → ⊥)

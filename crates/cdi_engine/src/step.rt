@@ -31,18 +31,8 @@ pub(crate) fn step<H: Host>(host: &mut H, task: Task) -> Result<Next, Failure>
     match task {
         Task::Start(call) => start(host, call),
         Task::Begin(job) => Ok(commands::begin(host, job)?),
-        Task::Using {
-            bean_type,
-            qualifiers,
-            method,
-            args,
-        } => Ok(obtaining::using(host, bean_type, qualifiers, method, args)?),
-        Task::Through {
-            instance,
-            field,
-            method,
-            args,
-        } => Ok(references::through(host, instance, field, method, args)?),
+        Task::Using(request) => Ok(obtaining::using(host, request)?),
+        Task::Through(call) => Ok(references::through(host, call)?),
         Task::Creating { number, bean, left } => {
             Ok(creation::creating(host, number, bean, left)?)
         }

@@ -1,6 +1,7 @@
 -- The steps of obtaining instances are those of the machine.
 use Rattle.std.proofs.Common.{ℕ, ◌≡◌, List, refl, ◌∙◌, ap, Option, Some, None, Bool, true, false}
 use Rattle.std.specs.Prelude.{option_map}
+use Rattle.std.specs.Global.{Box}
 use Rattle.cdi_base.specs.declared.value.Value.{Value}
 use Rattle.cdi_base.specs.declared.built_in.BuiltIn.TheVariants as built_in
 use Rattle.cdi_base.specs.BuiltIn.{number_of}
@@ -26,6 +27,7 @@ use Rattle.cdi_steps.specs.declared.task.Call.TheVariants as calls
 use Rattle.cdi_steps.specs.declared.task.Completion.TheVariants as completions
 use Rattle.cdi_steps.specs.declared.task.Given.TheVariants as givens
 use Rattle.cdi_steps.specs.declared.task.Outcome.TheVariants as outcomes
+use Rattle.cdi_steps.specs.declared.task.Request.{Request}
 use Rattle.cdi_steps.specs.declared.task.Task.TheVariants as tasks
 use Rattle.cdi_steps.specs.declared.task.Frame.TheVariants as frames
 use Rattle.cdi_steps.specs.declared.task.Next.{Next}
@@ -128,7 +130,19 @@ module _ (s : Setting) where
   abbrev ts : Tables
   ts = s.tables
 
-  module _ (type : Name) (uses : List Use) (method : Name) (args : List Value) where
+  module _ (request : Box Request) where
+    abbrev type : Name
+    type = request.value.bean_type
+
+    abbrev uses : List Use
+    uses = request.value.qualifiers
+
+    abbrev method : Name
+    method = request.value.method
+
+    abbrev args : List Value
+    args = request.value.args
+
     using_one : (b : ℕ) {x : Option Bean} (w : World)
         → ts.resolve (asked_for type uses) ≡ One b → ts.bean b ≡ x
         → next_stop ts (use_for (asked_for type uses) method args) w ≡ next_stop ts (referred b x method args) w
@@ -136,16 +150,16 @@ module _ (s : Setting) where
         ap (λ x. next_stop ts (resolved x method args) w) e ∙ ap (λ x. next_stop ts (referred b x method args) w) h
 
     pub using_nothing : (w : World) → ts.resolve (asked_for type uses) ≡ machine_resolution resolutions.Nothing
-        → MovesTo s (tasks.Using type uses method args) w (nexts.Finished (outcomes.Ends (completions.Threw (number_of built_in.UnsatisfiedResolutionException)))) w
+        → MovesTo s (tasks.Using request) w (nexts.Finished (outcomes.Ends (completions.Threw (number_of built_in.UnsatisfiedResolutionException)))) w
     using_nothing w e = Comes.same (ap (λ x. next_stop ts (resolved x method args) w) e)
 
     pub using_many : (w : World) → ts.resolve (asked_for type uses) ≡ machine_resolution resolutions.Many
-        → MovesTo s (tasks.Using type uses method args) w (nexts.Finished (outcomes.Ends (completions.Threw (number_of built_in.AmbiguousResolutionException)))) w
+        → MovesTo s (tasks.Using request) w (nexts.Finished (outcomes.Ends (completions.Threw (number_of built_in.AmbiguousResolutionException)))) w
     using_many w e = Comes.same (ap (λ x. next_stop ts (resolved x method args) w) e)
 
     module _ (b : ℕ) (w : World) (e : ts.resolve (asked_for type uses) ≡ machine_resolution (resolutions.One b)) where
       pub using_missing : option_map head_of (ts.bean b) ≡ None
-          → MovesTo s (tasks.Using type uses method args) w (nexts.Finished (outcomes.Ends (completions.Threw (number_of built_in.IllegalStateException)))) w
+          → MovesTo s (tasks.Using request) w (nexts.Finished (outcomes.Ends (completions.Threw (number_of built_in.IllegalStateException)))) w
       using_missing h = Comes.same (using_one b w e (is_absent (ts.bean b) h))
 
       -- a bean by whether its scope is normal
@@ -168,7 +182,7 @@ module _ (s : Setting) where
       shared_settled p h q = using_by_scope p true h q
 
       pub using_shared : (p : BeanHead) → IsThere (ts.bean b) p → is_normal p.scope ≡ true
-          → MovesTo s (tasks.Using type uses method args) w (nexts.Needs (tasks.Start (calls.Obtain b)) (frames.Reaching method args)) w
+          → MovesTo s (tasks.Using request) w (nexts.Needs (tasks.Start (calls.Obtain b)) (frames.Reaching method args)) w
       using_shared p h q = Comes.same (shared_settled p h q)
 
       -- what a context has for a bean is in an active context
@@ -180,7 +194,7 @@ module _ (s : Setting) where
       pub using_held : (n : ℕ) (p : BeanHead) (next : Next) (u : World) → IsThere (ts.bean b) p → is_normal p.scope ≡ true
           → held_in w p.scope b ≡ Some (Is n)
           → Settles s (invoke_method n method args) w next u
-          → MovesTo s (tasks.Using type uses method args) w next u
+          → MovesTo s (tasks.Using request) w next u
       using_held n p next u h q i k =
           let active = active_of (active_context w.contexts w.environment p.scope) (Is n) i in
           let there : next_stop ts (obtain b) w ≡ (ret (Number n), w) =
@@ -188,7 +202,7 @@ module _ (s : Setting) where
           Comes.calls (machine.Gave (Number n)) (shared_settled p h q) there (Comes.same k)
 
       pub using_dependent : (p : BeanHead) → IsThere (ts.bean b) p → is_normal p.scope ≡ false
-          → MovesTo s (tasks.Using type uses method args) w (nexts.Needs (tasks.Start (calls.Create b owners.Borrower)) (frames.Borrowing method args)) w
+          → MovesTo s (tasks.Using request) w (nexts.Needs (tasks.Start (calls.Create b owners.Borrower)) (frames.Borrowing method args)) w
       using_dependent p h q = Comes.same (using_by_scope p false h q)
 
   -- ---- an instance that was made for the command

@@ -85,5 +85,6 @@ task_of calls.Clear = machine.Clear Application
 
 abbrev pub command_of : Job → Command
 command_of jobs.Boot = Command.Boot
-command_of (jobs.Call type uses method args) = Command.Call None (asked_for type uses) method args
+command_of (jobs.Call r) =
+    Command.Call None (asked_for r.value.bean_type r.value.qualifiers) r.value.method r.value.args
 command_of jobs.Shutdown = Command.Shutdown

@@ -14,4 +14,4 @@ pub mod references;
 pub mod task;
 
 pub use host::Host;
-pub use task::{Completion, Given, Job, Outcome};
+pub use task::{Completion, Given, Job, Outcome, Request};

@@ -13,8 +13,8 @@ use crate::beans::Resolution;
 use crate::ends::{given, missing, raised};
 use crate::host::Host;
 use crate::invocations::invoke;
-use crate::task::{Call, Frame, Given, Next, Task};
-use cdi_base::{BuiltIn, Name, Scope, Seq, Use, Value};
+use crate::task::{Call, Frame, Given, Next, Request, Task};
+use cdi_base::{BuiltIn, Name, Scope, Seq, Value};
 use cdi_contexts::{Held, Status};
 use cdi_store::{Context, Owner, Phase};
 use std::alloc::AllocError;
@@ -57,21 +57,21 @@ pub fn obtain<H: Host>(host: &H, bean: u32) -> Next
 /// Uses the bean to which a type with qualifiers resolves (Jakarta CDI 4.0, *Typesafe resolution*) for a command: its contextual
 /// instance, or one that lasts as long as the command. What its context has for it is invoked at once.
 #[tactic(auto, using(crate::proofs::ObtainingSteps::leads))]
-pub fn using<H: Host>(
-    host: &mut H,
-    bean_type: Name,
-    qualifiers: Seq<Use>,
-    method: Name,
-    args: Seq<Value>,
-) -> Result<Next, AllocError>
+pub fn using<H: Host>(host: &mut H, request: Box<Request>) -> Result<Next, AllocError>
     ensures leads { IfOk result (λ next. MovesTo (H.setting host.old)
-        (Task.Using bean_type qualifiers method args) (H.world host.old) next (H.world host.new)) }
-    ensures falls { IfOk result (λ next. Falls (rank (Task.Using bean_type qualifiers method args))
+        (Task.Using request) (H.world host.old) next (H.world host.new)) }
+    ensures falls { IfOk result (λ next. Falls (rank (Task.Using request))
         (H.world host.old) next (H.world host.new)) }
     ensures known { IfOk result (KnownNext (H.setting host.new)) }
     ensures narrows { Narrows (H.setting host.old) (H.setting host.new) }
     ensures kept { OnErr result (H.world host.new ≡ H.world host.old) }
 {
+    let Request {
+        bean_type,
+        qualifiers,
+        method,
+        args,
+    } = Box::into_inner(request);
     let bean = match host.resolve(bean_type, qualifiers.as_slice()) {
         Resolution::One(bean) => bean,
         Resolution::Nothing => return Ok(raised(BuiltIn::UnsatisfiedResolutionException)),

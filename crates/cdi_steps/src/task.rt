@@ -65,18 +65,22 @@ pub enum Call {
     Clear,
 }
 
+/// What a command asks for by a call: a business method of the bean with this type and these qualifiers.
+#[derive(Drop)]
+pub struct Request {
+    pub bean_type: Name,
+    pub qualifiers: Seq<Use>,
+    pub method: Name,
+    pub args: Seq<Value>,
+}
+
 /// What a command that isn't refused asks for.
 #[derive(Drop)]
 pub enum Job {
     /// The application begins.
     Boot,
-    /// A business method of the bean with this type and these qualifiers is called.
-    Call {
-        bean_type: Name,
-        qualifiers: Seq<Use>,
-        method: Name,
-        args: Seq<Value>,
-    },
+    /// A business method is called.
+    Call(Box<Request>),
     /// All contexts end.
     Shutdown,
 }
@@ -97,6 +101,15 @@ pub enum ContainerEvent {
     Destroyed,
 }
 
+/// The call of a business method through an injected field of an instance.
+#[derive(Drop)]
+pub struct FieldCall {
+    pub instance: u32,
+    pub field: Name,
+    pub method: Name,
+    pub args: Seq<Value>,
+}
+
 /// What the engine carries out: a call, or a part of a command.
 #[derive(Drop)]
 pub enum Task {
@@ -104,20 +117,10 @@ pub enum Task {
     Start(Call),
     /// What a command asks for.
     Begin(Job),
-    /// The use of the bean with this type and these qualifiers by a command.
-    Using {
-        bean_type: Name,
-        qualifiers: Seq<Use>,
-        method: Name,
-        args: Seq<Value>,
-    },
-    /// The call of a business method through an injected field of an instance.
-    Through {
-        instance: u32,
-        field: Name,
-        method: Name,
-        args: Seq<Value>,
-    },
+    /// The use of a bean by a command.
+    Using(Box<Request>),
+    /// The call of a business method through an injected field.
+    Through(Box<FieldCall>),
     /// The rest of an instance's creation, of which so many steps are left.
     Creating {
         number: u32,
@@ -180,7 +183,7 @@ pub enum Frame {
     /// A command waits for its use of the bean.
     Using,
     /// A command waits for the end of its temporaries.
-    Returning(Completion),
+    Returning(Box<Completion>),
     /// The boot waits for its first event.
     Initializing,
     /// The boot waits for its last event.

@@ -3,4 +3,4 @@ use Rattle.cdi_engine.proofs.step.commands.call_bean.Goals as goal
 
 pub returns-clause-leads : goal.returns-clause-leads
 returns-clause-leads g c =
-    rw (c.stand_alone.ensures.world, c.in_ok-borrow.ensures.ok) (call_leads (g.H.Host.setting c.args.host.now) c.args.bean_type c.args.qualifiers c.args.method c.args.args (g.H.Host.world c.args.host.now))
+    rw (c.stand_alone.ensures.world, c.in_ok-borrow.ensures.ok) (call_leads (g.H.Host.setting c.args.host.now) c.args.request (g.H.Host.world c.args.host.now))
