@@ -87,7 +87,7 @@ module _ (s : Setting) where
 
   pub returning_leads : (c : CodeCompletion) (told : Box CodeCompletion) (w : World) → told.value ≡ c
       → GoesOn s frames.Using c w (nexts.Needs (tasks.Start calls.Dismiss) (frames.Returning told)) w
-  returning_leads c told w e = rw sym e (Comes.same refl)
+  returning_leads c told w e = rw (sym e) (Comes.same refl)
 
   -- nothing was borrowed
   pub returning_empty : (c : CodeCompletion) (w : World) → latest_in w ≡ Some None

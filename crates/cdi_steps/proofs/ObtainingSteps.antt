@@ -131,33 +131,33 @@ module _ (s : Setting) where
   ts = s.tables
 
   module _ (request : Box Request) where
-    abbrev type : Name
-    type = request.value.bean_type
+    abbrev its_type : Name
+    its_type = request.value.bean_type
 
-    abbrev uses : List Use
-    uses = request.value.qualifiers
+    abbrev its_uses : List Use
+    its_uses = request.value.qualifiers
 
-    abbrev method : Name
-    method = request.value.method
+    abbrev its_method : Name
+    its_method = request.value.method
 
-    abbrev args : List Value
-    args = request.value.args
+    abbrev its_args : List Value
+    its_args = request.value.args
 
     using_one : (b : ℕ) {x : Option Bean} (w : World)
-        → ts.resolve (asked_for type uses) ≡ One b → ts.bean b ≡ x
-        → next_stop ts (use_for (asked_for type uses) method args) w ≡ next_stop ts (referred b x method args) w
+        → ts.resolve (asked_for its_type its_uses) ≡ One b → ts.bean b ≡ x
+        → next_stop ts (use_for (asked_for its_type its_uses) its_method its_args) w ≡ next_stop ts (referred b x its_method its_args) w
     using_one b w e h =
-        ap (λ x. next_stop ts (resolved x method args) w) e ∙ ap (λ x. next_stop ts (referred b x method args) w) h
+        ap (λ x. next_stop ts (resolved x its_method its_args) w) e ∙ ap (λ x. next_stop ts (referred b x its_method its_args) w) h
 
-    pub using_nothing : (w : World) → ts.resolve (asked_for type uses) ≡ machine_resolution resolutions.Nothing
+    pub using_nothing : (w : World) → ts.resolve (asked_for its_type its_uses) ≡ machine_resolution resolutions.Nothing
         → MovesTo s (tasks.Using request) w (nexts.Finished (outcomes.Ends (completions.Threw (number_of built_in.UnsatisfiedResolutionException)))) w
-    using_nothing w e = Comes.same (ap (λ x. next_stop ts (resolved x method args) w) e)
+    using_nothing w e = Comes.same (ap (λ x. next_stop ts (resolved x its_method its_args) w) e)
 
-    pub using_many : (w : World) → ts.resolve (asked_for type uses) ≡ machine_resolution resolutions.Many
+    pub using_many : (w : World) → ts.resolve (asked_for its_type its_uses) ≡ machine_resolution resolutions.Many
         → MovesTo s (tasks.Using request) w (nexts.Finished (outcomes.Ends (completions.Threw (number_of built_in.AmbiguousResolutionException)))) w
-    using_many w e = Comes.same (ap (λ x. next_stop ts (resolved x method args) w) e)
+    using_many w e = Comes.same (ap (λ x. next_stop ts (resolved x its_method its_args) w) e)
 
-    module _ (b : ℕ) (w : World) (e : ts.resolve (asked_for type uses) ≡ machine_resolution (resolutions.One b)) where
+    module _ (b : ℕ) (w : World) (e : ts.resolve (asked_for its_type its_uses) ≡ machine_resolution (resolutions.One b)) where
       pub using_missing : option_map head_of (ts.bean b) ≡ None
           → MovesTo s (tasks.Using request) w (nexts.Finished (outcomes.Ends (completions.Threw (number_of built_in.IllegalStateException)))) w
       using_missing h = Comes.same (using_one b w e (is_absent (ts.bean b) h))
@@ -168,21 +168,21 @@ module _ (s : Setting) where
           (elim x [
             | true ↦ ret (Proxy b)
             | false ↦ call (machine.Create b owners.Borrower) >>= λ made. ret (direct_reference made)
-          ]) >>= λ r. reach_instance r >>= λ n. invoke_method n method args
+          ]) >>= λ r. reach_instance r >>= λ n. invoke_method n its_method its_args
 
       using_by_scope : (p : BeanHead) (x : Bool) → IsThere (ts.bean b) p → is_normal p.scope ≡ x
-          → next_stop ts (use_for (asked_for type uses) method args) w ≡ next_stop ts (by_scope x) w
+          → next_stop ts (use_for (asked_for its_type its_uses) its_method its_args) w ≡ next_stop ts (by_scope x) w
       using_by_scope p x h q =
           using_one b w e h.there
           ∙ ap (λ (y : BeanHead). next_stop ts (by_scope (is_normal y.scope)) w) h.headed
           ∙ ap (λ y. next_stop ts (by_scope y) w) q
 
       shared_settled : (p : BeanHead) → IsThere (ts.bean b) p → is_normal p.scope ≡ true
-          → next_stop ts (use_for (asked_for type uses) method args) w ≡ (node (nexts.Needs (tasks.Start (calls.Obtain b)) (frames.Reaching method args)), w)
+          → next_stop ts (use_for (asked_for its_type its_uses) its_method its_args) w ≡ (node (nexts.Needs (tasks.Start (calls.Obtain b)) (frames.Reaching its_method its_args)), w)
       shared_settled p h q = using_by_scope p true h q
 
       pub using_shared : (p : BeanHead) → IsThere (ts.bean b) p → is_normal p.scope ≡ true
-          → MovesTo s (tasks.Using request) w (nexts.Needs (tasks.Start (calls.Obtain b)) (frames.Reaching method args)) w
+          → MovesTo s (tasks.Using request) w (nexts.Needs (tasks.Start (calls.Obtain b)) (frames.Reaching its_method its_args)) w
       using_shared p h q = Comes.same (shared_settled p h q)
 
       -- what a context has for a bean is in an active context
@@ -193,7 +193,7 @@ module _ (s : Setting) where
       -- the contextual instance is there
       pub using_held : (n : ℕ) (p : BeanHead) (next : Next) (u : World) → IsThere (ts.bean b) p → is_normal p.scope ≡ true
           → held_in w p.scope b ≡ Some (Is n)
-          → Settles s (invoke_method n method args) w next u
+          → Settles s (invoke_method n its_method its_args) w next u
           → MovesTo s (tasks.Using request) w next u
       using_held n p next u h q i k =
           let active = active_of (active_context w.contexts w.environment p.scope) (Is n) i in
@@ -202,7 +202,7 @@ module _ (s : Setting) where
           Comes.calls (machine.Gave (Number n)) (shared_settled p h q) there (Comes.same k)
 
       pub using_dependent : (p : BeanHead) → IsThere (ts.bean b) p → is_normal p.scope ≡ false
-          → MovesTo s (tasks.Using request) w (nexts.Needs (tasks.Start (calls.Create b owners.Borrower)) (frames.Borrowing method args)) w
+          → MovesTo s (tasks.Using request) w (nexts.Needs (tasks.Start (calls.Create b owners.Borrower)) (frames.Borrowing its_method its_args)) w
       using_dependent p h q = Comes.same (using_by_scope p false h q)
 
   -- ---- an instance that was made for the command

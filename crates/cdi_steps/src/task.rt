@@ -122,11 +122,7 @@ pub enum Task {
     /// The call of a business method through an injected field.
     Through(Box<FieldCall>),
     /// The rest of an instance's creation, of which so many steps are left.
-    Creating {
-        number: u32,
-        bean: u32,
-        left: u32,
-    },
+    Creating { number: u32, bean: u32, left: u32 },
 }
 
 /// What waits for the outcome of a call, or of a part.

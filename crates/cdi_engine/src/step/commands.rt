@@ -8,6 +8,7 @@ ghost use Rattle.cdi_steps.specs.Leads.{MovesTo, GoesOn};
 ghost use Rattle.cdi_steps.specs.Falls.{Falls, rank, call_rank, frame_rank};
 ghost use Rattle.cdi_steps.specs.declared.task.Outcome.{Outcome};
 ghost use Rattle.cdi_steps.specs.declared.task.Given.{Given};
+ghost use Rattle.cdi_base.specs.declared.value.Value.{Value};
 ghost use Rattle.cdi_steps.specs.Known.{KnownNext};
 
 use crate::events::entry_of;
@@ -75,10 +76,7 @@ fn call_bean<H: Host>(host: &mut H, request: Box<Request>) -> Result<Next, Alloc
 
 /// The use of the bean has ended: what was borrowed is destroyed and given back, at once if nothing was.
 #[tactic(auto, using(crate::proofs::CommandSteps::leads))]
-pub(crate) fn returning<H: Host>(
-    host: &mut H,
-    completion: Completion,
-) -> Result<Next, AllocError>
+pub(crate) fn returning<H: Host>(host: &mut H, completion: Completion) -> Result<Next, AllocError>
     ensures leads { IfOk result (λ next. GoesOn (H.setting host.old) Frame.Using completion
         (H.world host.old) next (H.world host.new)) }
     ensures falls { IfOk result (λ next. Falls (frame_rank Frame.Using)
