@@ -23,6 +23,7 @@ use Rattle.cdi_base.specs.declared.uses.Use.{Use}
 use Rattle.cdi_steps.specs.Meanings.{node, use_for, use_lent}
 use Rattle.cdi_steps.specs.Leads.{next_stop, Comes, MovesTo, GoesOn, Settles}
 use Rattle.cdi_steps.proofs.AfterEntries.{on_way_at_start, stays_falls, lowers_falls}
+use Rattle.cdi_steps.specs.declared.task.ServedOwner.TheVariants as served
 use Rattle.cdi_steps.specs.declared.task.Call.TheVariants as calls
 use Rattle.cdi_steps.specs.declared.task.Completion.TheVariants as completions
 use Rattle.cdi_steps.specs.declared.task.Given.TheVariants as givens
@@ -202,7 +203,7 @@ module _ (s : Setting) where
           Comes.calls (machine.Gave (Number n)) (shared_settled p h q) there (Comes.same k)
 
       pub using_dependent : (p : BeanHead) → IsThere (ts.bean b) p → is_normal p.scope ≡ false
-          → MovesTo s (tasks.Using request) w (nexts.Needs (tasks.Start (calls.Create b owners.Borrower)) (frames.Borrowing its_method its_args)) w
+          → MovesTo s (tasks.Using request) w (nexts.Needs (tasks.Start (calls.Create b served.Borrower)) (frames.Borrowing its_method its_args)) w
       using_dependent p h q = Comes.same (using_by_scope p false h q)
 
   -- ---- an instance that was made for the command
@@ -268,7 +269,7 @@ module _ (s : Setting) where
     obtain_making a h = Comes.same (obtain_settled s.tables b p w e a h)
 
     pub obtain_open : status_in w p.scope ≡ Some Open → held_in w p.scope b ≡ None
-        → MovesTo s (tasks.Start (calls.Obtain b)) w (nexts.Goes (tasks.Start (calls.Create b (owners.Context Application)))) w
+        → MovesTo s (tasks.Start (calls.Obtain b)) w (nexts.Goes (tasks.Start (calls.Create b served.Application))) w
     obtain_open a h = Comes.same (obtain_settled s.tables b p w e a h)
 
     pub obtain_ending : status_in w p.scope ≡ Some Ending → held_in w p.scope b ≡ None

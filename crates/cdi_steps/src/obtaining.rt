@@ -13,10 +13,10 @@ use crate::beans::Resolution;
 use crate::ends::{given, missing, raised};
 use crate::host::Host;
 use crate::invocations::invoke;
-use crate::task::{Call, Frame, Given, Next, Request, Task};
+use crate::task::{Call, Frame, Given, Next, Request, ServedOwner, Task};
 use cdi_base::{BuiltIn, Name, Scope, Seq, Value};
 use cdi_contexts::{Held, Status};
-use cdi_store::{Context, Owner, Phase};
+use cdi_store::Phase;
 use std::alloc::AllocError;
 
 /// Whether a scope is a normal one (Jakarta CDI 4.0, *Normal scopes and pseudo-scopes*).
@@ -47,7 +47,7 @@ pub fn obtain<H: Host>(host: &H, bean: u32) -> Next
         None => match status {
             Status::Open => Next::Goes(Task::Start(Call::Create {
                 bean,
-                owner: Owner::Context(Context::Application),
+                owner: ServedOwner::Application,
             })),
             Status::Ending => raised(BuiltIn::ContextNotActiveException),
         },
@@ -81,7 +81,7 @@ pub fn using<H: Host>(host: &mut H, request: Box<Request>) -> Result<Next, Alloc
         return Ok(missing());
     };
     if !is_normal(head.scope) {
-        let owner = Owner::Borrower;
+        let owner = ServedOwner::Borrower;
         let call = Task::Start(Call::Create { bean, owner });
         return Ok(Next::Needs(call, Frame::Borrowing { method, args }));
     }

@@ -1,7 +1,6 @@
 //! What the engine carries out, and what waits for the outcome.
 use cdi_base::{Cause, InterceptorMethod, Name, Place, Seq, Use, Value};
 use cdi_bodies::{BodyId, View};
-use cdi_store::Owner;
 
 /// What a call gives.
 #[derive(Drop)]
@@ -40,13 +39,25 @@ pub struct Running {
     pub view: View,
 }
 
+/// An owner for whom an instance is created: as [`Owner`](cdi_store::Owner), but with the application's context alone, and so
+/// small enough to be handed on.
+#[derive(Clone, Copy)]
+pub enum ServedOwner {
+    /// The application's context.
+    Application,
+    /// The instance with this number.
+    Instance(u32),
+    /// The invocation or command that obtains it.
+    Borrower,
+}
+
 /// What calls itself, or is called.
 #[derive(Drop)]
 pub enum Call {
     /// Obtains the contextual instance of a bean with a normal scope.
     Obtain { bean: u32 },
     /// Creates an instance of a bean for an owner.
-    Create { bean: u32, owner: Owner },
+    Create { bean: u32, owner: ServedOwner },
     /// Runs what stands at the end of the innermost invocation's chain.
     Rest,
     /// Runs a body from its first act to its last.
