@@ -19,7 +19,7 @@ use cdi_engine::run::run;
 use cdi_machine::Driver;
 use cdi_run_tables::RunTables;
 use cdi_runtime::Runtime;
-use cdi_steps::{Host, Job, Outcome};
+use cdi_steps::{BeanCall, Host, Job, Outcome};
 use std::alloc::{AllocError, Global};
 use std::marker::Model;
 
@@ -142,7 +142,7 @@ impl<D: Driver> Container<D> {
     /// too, is answered as halted with the cause, and every later one is refused. The command has to be one that is
     /// served, as what [`read_command`](cdi_text::read_command) gives is.
     ///
-    /// The one error is [`AllocError`], if memory ran out for its qualifiers: nothing has changed then.
+    /// The one error is [`AllocError`], if memory ran out before it was carried out: nothing has changed then.
     pub fn command(&mut self, command: Command) -> Result<Reply, AllocError>
         requires { IsTrue (is_served command) }
         ensures answers { IfOk result (λ reply.
@@ -168,12 +168,13 @@ impl<D: Driver> Container<D> {
                     self.names(),
                     qualifiers.as_slice(),
                 )?;
-                let job = Job::Call {
+                let call = BeanCall {
                     bean_type,
                     qualifiers,
                     method,
                     args,
                 };
+                let job = Job::Call(Box::new(self.runtime.alloc(), call)?);
                 Ok(self.ask(request.as_ref(), job))
             }
             Command::Shutdown => Ok(self.ask(None, Job::Shutdown)),

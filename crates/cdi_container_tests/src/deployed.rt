@@ -13,7 +13,7 @@ use cdi_engine::run::run;
 use cdi_machine::{Driver, Failure};
 use cdi_run_tables::RunTables;
 use cdi_runtime::Runtime;
-use cdi_steps::{Completion, Given, Job, Outcome};
+use cdi_steps::{BeanCall, Completion, Given, Job, Outcome};
 use std::alloc::{AllocError, Global};
 use std::test::Fail;
 
@@ -67,16 +67,19 @@ pub(crate) enum Asks {
 }
 
 pub(crate) fn job_of(alloc: Global, names: &Names, asks: Asks) -> Result<Job, AllocError> {
-    Ok(match asks {
-        Asks::Boot => Job::Boot,
-        Asks::Call(bean_type, level) => Job::Call {
-            bean_type: names.name_for(bean_type),
-            qualifiers: Seq::empty(alloc),
-            method: names.name_for("up"),
-            args: level_args(alloc, level)?,
-        },
-        Asks::Shutdown => Job::Shutdown,
-    })
+    match asks {
+        Asks::Boot => Ok(Job::Boot),
+        Asks::Call(bean_type, level) => {
+            let call = BeanCall {
+                bean_type: names.name_for(bean_type),
+                qualifiers: Seq::empty(alloc),
+                method: names.name_for("up"),
+                args: level_args(alloc, level)?,
+            };
+            Ok(Job::Call(Box::new(alloc, call)?))
+        }
+        Asks::Shutdown => Ok(Job::Shutdown),
+    }
 }
 
 /// How a job ended.

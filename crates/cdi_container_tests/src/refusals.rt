@@ -9,7 +9,7 @@ use cdi_bodies::Bodies;
 use cdi_machine::Driver;
 use cdi_run_tables::RunTables;
 use cdi_runtime::Runtime;
-use cdi_steps::Job;
+use cdi_steps::{BeanCall, Job};
 use std::alloc::{AllocError, Global};
 use std::process::Abort;
 use std::test::Fail;
@@ -31,16 +31,19 @@ fn args_of(alloc: Global, count: u32) -> Result<Seq<Value>, AllocError> {
 }
 
 fn job_for(alloc: Global, names: &Names, wanted: Wanted) -> Result<Job, AllocError> {
-    Ok(match wanted {
-        Wanted::Boot => Job::Boot,
-        Wanted::Call(bean_type, method, count) => Job::Call {
-            bean_type: names.name_for(bean_type),
-            qualifiers: Seq::empty(alloc),
-            method: names.name_for(method),
-            args: args_of(alloc, count)?,
-        },
-        Wanted::Shutdown => Job::Shutdown,
-    })
+    match wanted {
+        Wanted::Boot => Ok(Job::Boot),
+        Wanted::Call(bean_type, method, count) => {
+            let call = BeanCall {
+                bean_type: names.name_for(bean_type),
+                qualifiers: Seq::empty(alloc),
+                method: names.name_for(method),
+                args: args_of(alloc, count)?,
+            };
+            Ok(Job::Call(Box::new(alloc, call)?))
+        }
+        Wanted::Shutdown => Ok(Job::Shutdown),
+    }
 }
 
 /// Whether the container has halted, whether a request is named, what is asked for, and why it is refused.

@@ -1,7 +1,8 @@
 -- The steps of commands, and of the container's own events, are those of the machine.
-use Rattle.std.proofs.Common.{ℕ, ◌≡◌, [], List, refl, ◌∙◌, ap, Some, None}
+use Rattle.std.proofs.Common.{ℕ, ◌≡◌, [], List, refl, sym, ◌∙◌, ap, Some, None}
 use Rattle.std.proofs.Math.Path.{fun_ext}
 use Rattle.std.specs.Prelude.{map}
+use Rattle.std.specs.Global.{Box}
 use Rattle.cdi_base.specs.declared.value.Value.{Value}
 use Rattle.cdi_base.specs.declared.value.Value.TheVariants as values
 use Rattle.cdi_base.specs.declared.entry.Entry.TheVariants as entries
@@ -26,6 +27,7 @@ use Rattle.cdi_steps.specs.declared.task.Completion.TheVariants as completions
 use Rattle.cdi_steps.specs.declared.task.Given.{Given as CodeGiven}
 use Rattle.cdi_steps.specs.declared.task.Given.TheVariants as givens
 use Rattle.cdi_steps.specs.declared.task.Outcome.TheVariants as outcomes
+use Rattle.cdi_steps.specs.declared.task.BeanCall.{BeanCall}
 use Rattle.cdi_steps.specs.declared.task.Task.TheVariants as tasks
 use Rattle.cdi_steps.specs.declared.task.Frame.TheVariants as frames
 use Rattle.cdi_steps.specs.declared.task.Next.TheVariants as nexts
@@ -78,14 +80,14 @@ module _ (s : Setting) where
 
   -- ---- a call
 
-  pub call_leads : (type : Name) (uses : List Use) (method : Name) (args : List Value) (w : World)
-      → MovesTo s (tasks.Begin (jobs.Call type uses method args)) w (nexts.Needs (tasks.Using type uses method args) frames.Using)
+  pub call_leads : (bean_call : Box BeanCall) (w : World)
+      → MovesTo s (tasks.Begin (jobs.Call bean_call)) w (nexts.Needs (tasks.Using bean_call) frames.Using)
       (after_change (Change.Stand no_environment) (after_change Change.Borrow w))
-  call_leads type uses method args w = Comes.within 3 refl
+  call_leads bean_call w = Comes.within 3 refl
 
-  pub returning_leads : (c : CodeCompletion) (w : World)
-      → GoesOn s frames.Using c w (nexts.Needs (tasks.Start calls.Dismiss) (frames.Returning c)) w
-  returning_leads c w = Comes.same refl
+  pub returning_leads : (c : CodeCompletion) (told : Box CodeCompletion) (w : World) → told.value ≡ c
+      → GoesOn s frames.Using c w (nexts.Needs (tasks.Start calls.Dismiss) (frames.Returning told)) w
+  returning_leads c told w e = rw (sym e) (Comes.same refl)
 
   -- nothing was borrowed
   pub returning_empty : (c : CodeCompletion) (w : World) → latest_in w ≡ Some None

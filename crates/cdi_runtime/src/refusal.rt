@@ -77,22 +77,17 @@ impl<D: Driver> Runtime<D> {
         }
         match job {
             Job::Boot | Job::Shutdown => None,
-            Job::Call {
-                bean_type,
-                qualifiers,
-                method,
-                args,
-            } => {
+            Job::Call(call) => {
                 self.world.law_alone();
                 if request.is_some() {
                     return Some(Refusal::NoRequest);
                 }
                 refuses_call(
                     &self.tables,
-                    *bean_type,
-                    qualifiers.as_slice(),
-                    *method,
-                    args.len(),
+                    call.bean_type,
+                    call.qualifiers.as_slice(),
+                    call.method,
+                    call.args.len(),
                 )
             }
         }

@@ -62,8 +62,8 @@ gave_below (tasks.Start (calls.Fire event)) k = frame_below k
 gave_below (tasks.Start calls.Dismiss) k = frame_below k
 gave_below (tasks.Start calls.Clear) k = frame_below k
 gave_below (tasks.Begin job) k = frame_below k
-gave_below (tasks.Using type uses method args) k = frame_below k
-gave_below (tasks.Through n field method args) k = frame_below k
+gave_below (tasks.Using bean_call) k = frame_below k
+gave_below (tasks.Through call) k = frame_below k
 gave_below (tasks.Creating n b left) k = frame_below k
 
 weight_below : (x : Next) → weight x < 2 ^ 40
@@ -140,8 +140,8 @@ module _ (tables : Tables) (legal : Legal) where
       by (tasks.Start calls.Dismiss) r = let g = goes_left (goes tables legal ⊥ r) in omega arith
       by (tasks.Start calls.Clear) r = let g = goes_left (goes tables legal ⊥ r) in omega arith
       by (tasks.Begin job) r = let g = goes_left (goes tables legal ⊥ r) in omega arith
-      by (tasks.Using type uses method args) r = let g = goes_left (goes tables legal ⊥ r) in omega arith
-      by (tasks.Through m field method args) r = let g = goes_left (goes tables legal ⊥ r) in omega arith
+      by (tasks.Using bean_call) r = let g = goes_left (goes tables legal ⊥ r) in omega arith
+      by (tasks.Through call) r = let g = goes_left (goes tables legal ⊥ r) in omega arith
       by (tasks.Creating m b left) r = let g = goes_left (goes tables legal ⊥ r) in omega arith
 
   pub back_falls : (d : Task) (k : Frame) (o : Outcome) (next : Next) (v x y : World) → Runs tables legal ⊥ (first d) v (outcome_of o) x

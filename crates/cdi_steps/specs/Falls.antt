@@ -32,8 +32,8 @@ creation_rank left = 2 * min left (2 ^ 32) + 2
 abbrev pub rank : Task → ℕ
 rank (tasks.Start c) = call_rank c
 rank (tasks.Begin job) = 5
-rank (tasks.Using type uses method args) = 4
-rank (tasks.Through n field method args) = 4
+rank (tasks.Using bean_call) = 4
+rank (tasks.Through field_call) = 4
 rank (tasks.Creating n b left) = creation_rank left
 
 -- what comes after the frame's call, if that gave something

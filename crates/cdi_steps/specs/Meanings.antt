@@ -197,8 +197,9 @@ empty_application = close_context Application >> bring_down
 abbrev pub rest : Task → Prog Given
 rest (tasks.Start c) = call (task_of c)
 rest (tasks.Begin job) = task (command_of job)
-rest (tasks.Using type uses method args) = use_for (asked_for type uses) method args
-rest (tasks.Through n field method args) = call_through n field method args
+rest (tasks.Using r) =
+    use_for (asked_for r.value.bean_type r.value.qualifiers) r.value.method r.value.args
+rest (tasks.Through c) = call_through c.value.instance c.value.field c.value.method c.value.args
 rest (tasks.Creating n b left) = carry_on_creating n b left
 
 -- what a frame does once the call or the part has ended
@@ -220,7 +221,7 @@ waits (frames.Borrowing method args) c =
     >>= λ r. reach_instance r >>= λ n. invoke_method n method args
 waits frames.Exiting c = end_with Change.Exit c
 waits frames.Using c = give_back_with c
-waits (frames.Returning told) c = finally (complete c) (alter Change.Return) >> complete (completion_of told)
+waits (frames.Returning told) c = finally (complete c) (alter Change.Return) >> complete (completion_of told.value)
 waits frames.Initializing c = start_container
 waits frames.Starting c = finish
 waits frames.Closing c = close_application

@@ -8,14 +8,15 @@ ghost use Rattle.cdi_steps.specs.Leads.{MovesTo, GoesOn};
 ghost use Rattle.cdi_steps.specs.Falls.{Falls, rank, call_rank, frame_rank};
 ghost use Rattle.cdi_steps.specs.declared.task.Outcome.{Outcome};
 ghost use Rattle.cdi_steps.specs.declared.task.Given.{Given};
+ghost use Rattle.cdi_base.specs.declared.value.Value.{Value};
 ghost use Rattle.cdi_steps.specs.Known.{KnownNext};
 
 use crate::events::entry_of;
-use cdi_base::{Cause, Name, Seq, Use, Value};
+use cdi_base::Cause;
 use cdi_steps::Host;
 use cdi_steps::ends::{cut, ended, null};
 use cdi_steps::entries::write;
-use cdi_steps::task::{Call, Completion, ContainerEvent, Frame, Job, Next, Task};
+use cdi_steps::task::{BeanCall, Call, Completion, ContainerEvent, Frame, Job, Next, Task};
 use std::alloc::AllocError;
 
 /// Begins what a command asks for: for the boot, the event of the application's begin (Jakarta CDI 4.0, *Context
@@ -35,12 +36,7 @@ pub(super) fn begin<H: Host>(host: &mut H, job: Job) -> Result<Next, AllocError>
             let call = Task::Start(Call::Fire(ContainerEvent::Initialized));
             Ok(Next::Needs(call, Frame::Initializing))
         }
-        Job::Call {
-            bean_type,
-            qualifiers,
-            method,
-            args,
-        } => call_bean(host, bean_type, qualifiers, method, args),
+        Job::Call(call) => call_bean(host, call),
         Job::Shutdown => {
             host.law_alone();
             host.stand_alone();
@@ -64,18 +60,10 @@ pub(crate) fn starting() -> Next
 
 /// Calls a method of the bean with a type and qualifiers, with what is borrowed for the time of the command.
 #[tactic(auto, using(crate::proofs::CommandSteps::leads))]
-fn call_bean<H: Host>(
-    host: &mut H,
-    bean_type: Name,
-    qualifiers: Seq<Use>,
-    method: Name,
-    args: Seq<Value>,
-) -> Result<Next, AllocError>
+fn call_bean<H: Host>(host: &mut H, call: Box<BeanCall>) -> Result<Next, AllocError>
     ensures leads { IfOk result (λ next. MovesTo (H.setting host.old)
-        (Task.Begin (Job.Call bean_type qualifiers method args))
-        (H.world host.old) next (H.world host.new)) }
-    ensures falls { IfOk result (λ next. Falls
-        (rank (Task.Begin (Job.Call bean_type qualifiers method args)))
+        (Task.Begin (Job.Call call)) (H.world host.old) next (H.world host.new)) }
+    ensures falls { IfOk result (λ next. Falls (rank (Task.Begin (Job.Call call)))
         (H.world host.old) next (H.world host.new)) }
     ensures known { IfOk result (KnownNext (H.setting host.new)) }
     ensures narrows { Narrows (H.setting host.old) (H.setting host.new) }
@@ -83,29 +71,25 @@ fn call_bean<H: Host>(
 {
     host.borrow()?;
     host.stand_alone();
-    let part = Task::Using {
-        bean_type,
-        qualifiers,
-        method,
-        args,
-    };
-    Ok(Next::Needs(part, Frame::Using))
+    Ok(Next::Needs(Task::Using(call), Frame::Using))
 }
 
 /// The use of the bean has ended: what was borrowed is destroyed and given back, at once if nothing was.
 #[tactic(auto, using(crate::proofs::CommandSteps::leads))]
-pub(crate) fn returning<H: Host>(host: &mut H, completion: Completion) -> Next
-    ensures leads { GoesOn (H.setting host.old) Frame.Using completion
-        (H.world host.old) result (H.world host.new) }
-    ensures falls { Falls (frame_rank Frame.Using)
-        (H.world host.old) result (H.world host.new) }
-    ensures known { KnownNext (H.setting host.new) result }
+pub(crate) fn returning<H: Host>(host: &mut H, completion: Completion) -> Result<Next, AllocError>
+    ensures leads { IfOk result (λ next. GoesOn (H.setting host.old) Frame.Using completion
+        (H.world host.old) next (H.world host.new)) }
+    ensures falls { IfOk result (λ next. Falls (frame_rank Frame.Using)
+        (H.world host.old) next (H.world host.new)) }
+    ensures known { IfOk result (KnownNext (H.setting host.new)) }
     ensures narrows { Narrows (H.setting host.old) (H.setting host.new) }
+    ensures kept { OnErr result (H.world host.new ≡ H.world host.old) }
 {
-    match host.latest_temporary() {
-        Some(None) => returned(host, completion),
-        _ => Next::Needs(Task::Start(Call::Dismiss), Frame::Returning(completion)),
+    if let Some(None) = host.latest_temporary() {
+        return Ok(returned(host, completion));
     }
+    let waiting = Frame::Returning(Box::new(host.alloc(), completion)?);
+    Ok(Next::Needs(Task::Start(Call::Dismiss), waiting))
 }
 
 /// What was borrowed is given back.
