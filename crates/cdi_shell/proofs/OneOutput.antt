@@ -1,5 +1,5 @@
 -- The program's output is a function of its limits, its deployment and its input.
-use Rattle.std.proofs.Common.{ℕ, ◌≤◌, length, take, ◌≡◌, ◌∙◌, ◌++◌, ◌∷◌, [], List, refl, sym, ap, subst, Option, Some, None, Ok, Err, append-nil, append_assoc, length-append, slice_get, arith}
+use Rattle.std.proofs.Common.{ℕ, ◌≤◌, length, take, true, false, ◌≡◌, ◌∙◌, ◌++◌, ◌∷◌, [], List, refl, sym, ap, subst, Option, Some, None, Ok, Err, append-nil, append_assoc, length-append, slice_get, arith}
 use lib.Seq.{take-append_seam}
 use Rattle.std.specs.Prelude.{Result, MatchOption}
 use Rattle.std.specs.Io.KnownBytes.{Appends, Consumes, IsAtEnd}
@@ -218,20 +218,20 @@ module _ (depth ticks : ℕ) (input held : List ℕ) (s s' : Streams) (e e' : En
       writes_one (problem_lines d.names these) held s s' e e' settled settled' h h' w (subst (λ ps. Writes (problem_lines d.names ps) s' e') same w')
 
   unlike : (ss : List NamedScript) (d : Deployment) (t t' : RunTables) → AreTablesWith ss d t → AreTablesWith ss d t' → serves (shape_under ss) t ≡ true → serves (shape_under ss) t' ≡ false → ⊥
-  unlike ss d t t' a b yes no = let same = same_verdict ss d t t' a b in cc (same, yes, no)
+  unlike ss d t t' a b served unserved = let same = same_verdict ss d t t' a b in cc (same, served, unserved)
 
   plays_one : (ss : List NamedScript) (d : Deployment) → PlaysScripts depth ticks d ss s e → PlaysScripts depth ticks d ss s' e' → SameOutput s s' e e'
   plays_one ss d (PlaysScripts.starves q) p' = absurd (subst IsSettled q.is_ending settled)
   plays_one ss d p (PlaysScripts.starves q) = absurd (subst IsSettled q.is_ending settled')
   plays_one ss d (PlaysScripts.refuses {problems = these} a some w) (PlaysScripts.refuses {problems = those} b some' w') = refused_one ss d these those a b w w'
-  plays_one ss d (PlaysScripts.refuses {problems = these} a some w) (PlaysScripts.unserved b t no w') = absurd (some (problems_one ss d these [] a b))
-  plays_one ss d (PlaysScripts.refuses {problems = these} a some w) (PlaysScripts.runs b t yes l) = absurd (some (problems_one ss d these [] a b))
-  plays_one ss d (PlaysScripts.unserved a t no w) (PlaysScripts.refuses {problems = those} b some w') = absurd (some (problems_one ss d those [] b a))
-  plays_one ss d (PlaysScripts.unserved a t no w) (PlaysScripts.unserved b t' no' w') = writes_one unserved_line held s s' e e' settled settled' h h' w w'
-  plays_one ss d (PlaysScripts.unserved {t = x} a t no w) (PlaysScripts.runs {t = y} b t' yes l) = absurd (unlike ss d y x t' t yes no)
-  plays_one ss d (PlaysScripts.runs a t yes l) (PlaysScripts.refuses {problems = those} b some w') = absurd (some (problems_one ss d those [] b a))
-  plays_one ss d (PlaysScripts.runs {t = x} a t yes l) (PlaysScripts.unserved {t = y} b t' no w') = absurd (unlike ss d x y t t' yes no)
-  plays_one ss d (PlaysScripts.runs {t = x} a t yes l) (PlaysScripts.runs {t = y} b t' yes' l') =
+  plays_one ss d (PlaysScripts.refuses {problems = these} a some w) (PlaysScripts.unserved b t unserved w') = absurd (some (problems_one ss d these [] a b))
+  plays_one ss d (PlaysScripts.refuses {problems = these} a some w) (PlaysScripts.runs b t served l) = absurd (some (problems_one ss d these [] a b))
+  plays_one ss d (PlaysScripts.unserved a t unserved w) (PlaysScripts.refuses {problems = those} b some w') = absurd (some (problems_one ss d those [] b a))
+  plays_one ss d (PlaysScripts.unserved a t unserved w) (PlaysScripts.unserved b t' unserved' w') = writes_one unserved_line held s s' e e' settled settled' h h' w w'
+  plays_one ss d (PlaysScripts.unserved {t = x} a t unserved w) (PlaysScripts.runs {t = y} b t' served l) = absurd (unlike ss d y x t' t served unserved)
+  plays_one ss d (PlaysScripts.runs a t served l) (PlaysScripts.refuses {problems = those} b some w') = absurd (some (problems_one ss d those [] b a))
+  plays_one ss d (PlaysScripts.runs {t = x} a t served l) (PlaysScripts.unserved {t = y} b t' unserved w') = absurd (unlike ss d x y t t' served unserved)
+  plays_one ss d (PlaysScripts.runs {t = x} a t served l) (PlaysScripts.runs {t = y} b t' served' l') =
       lives_one x y (legal_by ss) (one_by ss) (ap (λ (k : Deployment). k.names) (t.deployment_is ∙ sym t'.deployment_is)) (same_machine ss d x y t t') l l'
 
   readied_one : (r : Result Readied (List ℕ)) → DrivesReadied depth ticks r s e → DrivesReadied depth ticks r s' e' → SameOutput s s' e e'
