@@ -1,7 +1,6 @@
 -- A deployment without problems that is served is accepted.
-use Rattle.std.proofs.Common.{ℕ, ◌≡◌, ◌≢◌, ◌∙◌, ◌<◌, ◌&&◌, List, [], length, Bool, true, Option, Some, IsTrue, IsSome, is_some, refl, sym, ap, subst}
+use Rattle.std.proofs.Common.{◌≡◌, ◌&&◌, List, [], true, IsTrue, is_some, refl, sym, ap, subst}
 use Rattle.std.proofs.lemmas.Bool.{and_parts}
-use Rattle.cdi_beanlist.specs.Problems.{AreAllProblemsOf}
 use Rattle.cdi_bodies.specs.declared.entry.Entry.{Entry}
 use Rattle.cdi_body_check.specs.Shapes.{shape_of}
 use Rattle.cdi_check.specs.Late.{AreLateProblems, AreProblemsIn}
@@ -10,16 +9,13 @@ use Rattle.cdi_check.specs.Tables.{setting_by}
 use Rattle.cdi_deployment.specs.declared.deployment.Deployment.{Deployment}
 use Rattle.cdi_fit.specs.Fits.{Fits}
 use Rattle.cdi_machine.specs.Registered.{legal_of}
-use Rattle.cdi_machine.specs.Tables as machine
-use Rattle.cdi_machine.specs.Words.{Asked}
 use Rattle.cdi_problems.specs.declared.problem.Problem.{Problem}
-use Rattle.cdi_run_tables.specs.Machine.{AreIdsOf, bean_at, machine_tables}
+use Rattle.cdi_run_tables.specs.Machine.{AreIdsOf, machine_tables}
 use Rattle.cdi_run_tables.specs.Planned.{IsTabled}
 use Rattle.cdi_run_tables.specs.Served.{is_served, serves_shapes}
 use Rattle.cdi_run_tables.specs.Sizes.{is_small}
 use Rattle.cdi_run_tables.specs.declared.tables.RunTables.{RunTables}
 use Rattle.cdi_runtime.specs.Knowing.{KnowsServed}
-use Rattle.cdi_runtime.specs.Standing.{IsServable}
 use Rattle.cdi_tables.specs.declared.bean_tables.BeanTables.{BeanTables}
 use Rattle.cdi_container.specs.Accepted.{AreTablesWith, IsAccepted, serves}
 

@@ -15,12 +15,11 @@ use Rattle.cdi_machine.specs.Commands.{task}
 use Rattle.cdi_machine.specs.Container.{State as Machine, refusal, refused_by_contexts, refused_by_tables, is_cut, state_after}
 use Rattle.cdi_machine.specs.Container as container
 use Rattle.cdi_machine.specs.Runs.{Legal, Outcome, Ends, Cut, Runs}
-use Rattle.cdi_fit.specs.Fits.{Fits}
 use Rattle.cdi_fit.specs.Missing as fit
 use Rattle.cdi_fit.specs.Missing.{NothingMissing, IsServedCommand, IsReachable}
 use Rattle.cdi_container.specs.Commands.{machine_command}
 use Rattle.cdi_container.specs.States.{State, Answers, CarriesOut, machine_state, before_start, cause_of}
-use Rattle.cdi_container.specs.Missing.{Works, MissesNone, NoneMissed}
+use Rattle.cdi_container.specs.Missing.{Works, NoneMissed}
 
 served : (names : List (List ℕ)) (command : Command) → IsTrue (is_served command) → IsServedCommand (machine_command names command)
 served names (commands.Begin request session) q = absurd (cc)

@@ -1,5 +1,5 @@
 -- Commands as they are read, and as the machine takes them.
-use Rattle.std.specs.Prelude.{ℕ, List, [], map}
+use Rattle.std.specs.Prelude.{ℕ, List, map}
 use Rattle.cdi_base.specs.declared.command.Command.{Command}
 use Rattle.cdi_base.specs.declared.command.Command.TheVariants as commands
 use Rattle.cdi_base.specs.declared.uses.MemberValue.{MemberValue}

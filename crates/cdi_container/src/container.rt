@@ -12,14 +12,14 @@ ghost use Rattle.cdi_container.specs.Standing as spec;
 ghost use Rattle.cdi_container.specs.States.{Answers, CarriesOut, after_refusal, machine_state};
 ghost use Rattle.cdi_base.specs.declared.reply.Reply.TheVariants.{Refused};
 
+use crate::asked::call_for;
 use crate::reply::{cause, has_value, reply_of};
-use crate::uses::uses_for;
 use cdi_base::{Cause, Command, Limits, Names, Refusal, Reply, Text};
 use cdi_engine::run::run;
 use cdi_machine::Driver;
 use cdi_run_tables::RunTables;
 use cdi_runtime::Runtime;
-use cdi_steps::{BeanCall, Host, Job, Outcome};
+use cdi_steps::{Host, Job, Outcome};
 use std::alloc::{AllocError, Global};
 use std::marker::Model;
 
@@ -34,9 +34,13 @@ pub struct Container<D: Driver> {
 }
 
 impl<D: Driver> Model for Container<D> {
+    ghost use Rattle.std.specs.Coded.{codes};
+    ghost use Rattle.cdi_run_tables.specs.contracts.tables.RunTables as run_tables;
     ghost use Rattle.cdi_container.specs.Standing.{Standing};
 
     ghost Value = { Standing D };
+
+    ghost coded = { Prim.hlevel (codes, run_tables.the_row.coded) };
 
     ghost view = { λ c. record { runtime = c.runtime; halted = c.halted; booted = c.booted } };
 }
@@ -161,21 +165,18 @@ impl<D: Driver> Container<D> {
                 method,
                 args,
             } => {
-                let bean_type = self.names().name_for(bean_type.as_str());
-                let method = self.names().name_for(method.as_str());
-                let qualifiers = uses_for(
+                let call = call_for(
                     self.runtime.alloc(),
                     self.names(),
+                    &bean_type,
                     qualifiers.as_slice(),
-                )?;
-                let call = BeanCall {
-                    bean_type,
-                    qualifiers,
-                    method,
+                    &method,
                     args,
-                };
-                let job = Job::Call(Box::new(self.runtime.alloc(), call)?);
-                Ok(self.ask(request.as_ref(), job))
+                );
+                match call {
+                    Ok(call) => Ok(self.ask(request.as_ref(), Job::Call(call))),
+                    Err(_) => Err(AllocError),
+                }
             }
             Command::Shutdown => Ok(self.ask(None, Job::Shutdown)),
             _ => unreachable!(),

@@ -2,11 +2,11 @@
 #![tactic(auto)]
 
 mod acceptance;
+mod asked;
 mod container;
 pub mod laws;
 mod reply;
 mod session;
-mod uses;
 
 pub use acceptance::{Unaccepted, accept};
 pub use container::Container;

@@ -7,11 +7,11 @@ ghost use Rattle.cdi_steps.specs.Words.{command_of};
 ghost use Rattle.cdi_runtime.specs.Refusals.{bean_refusal, call_refusal, in_request, method_refusal, with_no_chain};
 
 use crate::runtime::Runtime;
-use cdi_base::{Name, Refusal, Text, Use};
+use cdi_base::{Name, Refusal, Text};
 use cdi_machine::Driver;
 use cdi_resolve::Resolution;
 use cdi_run_tables::{Method, RunTables};
-use cdi_steps::Job;
+use cdi_steps::{BeanCall, Job};
 
 /// Why a method that was looked for can't be called with so many values.
 fn refuses_method(method: Option<Method>, count: usize) -> Option<Refusal>
@@ -44,19 +44,16 @@ fn refuses_resolved(
 
 /// Why a call of a method of the bean with a type and qualifiers is refused: one of these isn't known, or they resolve to a bean that has
 /// no such method with so many values.
-fn refuses_call(
-    tables: &RunTables,
-    bean_type: Name,
-    qualifiers: &[Use],
-    method: Name,
-    count: usize,
-) -> Option<Refusal>
-    ensures { result ≡ call_refusal tables.now bean_type qualifiers.now method count }
+fn refuses_call(tables: &RunTables, call: &BeanCall) -> Option<Refusal>
+    ensures { result ≡ call_refusal tables.now
+        call.now.bean_type call.now.qualifiers call.now.method (length call.now.args) }
 {
-    if !tables.is_known(bean_type, qualifiers) {
+    let qualifiers = call.qualifiers.as_slice();
+    if !tables.is_known(call.bean_type, qualifiers) {
         return Some(Refusal::UnknownName);
     }
-    refuses_resolved(tables, tables.resolve(bean_type, qualifiers), method, count)
+    let resolution = tables.resolve(call.bean_type, qualifiers);
+    refuses_resolved(tables, resolution, call.method, call.args.len())
 }
 
 impl<D: Driver> Runtime<D> {
@@ -82,13 +79,7 @@ impl<D: Driver> Runtime<D> {
                 if request.is_some() {
                     return Some(Refusal::NoRequest);
                 }
-                refuses_call(
-                    &self.tables,
-                    call.bean_type,
-                    call.qualifiers.as_slice(),
-                    call.method,
-                    call.args.len(),
-                )
+                refuses_call(&self.tables, call)
             }
         }
     }

@@ -15,11 +15,11 @@ pub returns-else-is_some-clause-refusal : goal.returns-else-is_some-clause-refus
 returns-else-is_some-clause-refusal g c =
     let tables = c.self.inside.tables in
     let world = c.self.inside.world in
-    let k = c.in-Call in
+    let k = c.in-Call.call.value in
     let down : world.down ≡ false = search rules in
     let alone = none_if c.args.request (sym c.is_some.ensures ∙ c.if-is_some.false) in
     let told : c.refuses_call.result ≡ refusal (machine_tables tables) (record { world = world; halted = c.args.halted }) (Command.Call None (asked_for k.bean_type k.qualifiers) k.method k.args) =
-    (rw (c.as_slice.ensures, c.len.ensures) at c.refuses_call.ensures)
+    (rw c.deref.ensures at c.refuses_call.ensures)
     ∙ sym (call_refused tables c.self.invariant.servable k.bean_type k.qualifiers k.method k.args world c.args.halted c.if-halted.false down) in
-    rw (k.is, alone)
+    rw (c.in-Call.is, alone)
     (subst (λ r. c.refuses_call.result ≡ refusal (machine_tables r.tables) (record { world = r.world; halted = c.args.halted }) (Command.Call None (asked_for k.bean_type k.qualifiers) k.method k.args)) c.self.view_is told)

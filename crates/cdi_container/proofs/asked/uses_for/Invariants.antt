@@ -1,6 +1,6 @@
 use Rattle.std.proofs.Common.{◌≡◌, ◌++◌, map, drop}
 use Rattle.cdi_container.specs.Commands.{use_for}
-use Rattle.cdi_container.proofs.uses.uses_for.Given as goal
+use Rattle.cdi_container.proofs.asked.uses_for.Given as goal
 
 abbrev pub invariant-loop-qualifier : goal.invariant-loop-qualifier
 invariant-loop-qualifier l =

@@ -1,6 +1,6 @@
 use Rattle.std.proofs.Common.{◌≡◌, ◌++◌, map, drop}
 use Rattle.cdi_container.specs.Commands.{member_for}
-use Rattle.cdi_container.proofs.uses.members_for.Given as goal
+use Rattle.cdi_container.proofs.asked.members_for.Given as goal
 
 abbrev pub invariant-loop-member : goal.invariant-loop-member
 invariant-loop-member l =

@@ -1,8 +1,10 @@
-//! The qualifiers of a command, with the names of a deployment.
+//! What a command asks for, with the names of a deployment.
 ghost use Rattle.std.specs.Prelude.{◌≡◌, map, IfOk};
+ghost use Rattle.cdi_base.specs.Name.{number_of};
 ghost use Rattle.cdi_container.specs.Commands as spec;
 
-use cdi_base::{MemberValue, Names, Seq, Use, WrittenMember, WrittenUse};
+use cdi_base::{MemberValue, Names, Seq, Text, Use, Value, WrittenMember, WrittenUse};
+use cdi_steps::BeanCall;
 use std::alloc::{AllocError, Global};
 
 fn member_for(names: &Names, written: &WrittenMember) -> Result<MemberValue, AllocError>
@@ -37,12 +39,8 @@ fn use_for(alloc: Global, names: &Names, written: &WrittenUse) -> Result<Use, Al
     })
 }
 
-/// The uses with the numbers of their names. A name that the table doesn't hold gets a number that no name has.
-pub(crate) fn uses_for(
-    alloc: Global,
-    names: &Names,
-    written: &[WrittenUse],
-) -> Result<Seq<Use>, AllocError>
+/// The uses with the numbers of their names.
+fn uses_for(alloc: Global, names: &Names, written: &[WrittenUse]) -> Result<Seq<Use>, AllocError>
     ensures { IfOk result (λ uses. uses ≡ spec.uses_for names.now written.now) }
 {
     let mut uses = Seq::empty(alloc);
@@ -50,4 +48,29 @@ pub(crate) fn uses_for(
         uses.push(use_for(alloc, names, qualifier)?)?;
     }
     Ok(uses)
+}
+
+/// The call of a method of a bean. A name that the table doesn't hold gets a number that no name has.
+pub(crate) fn call_for(
+    alloc: Global,
+    names: &Names,
+    bean_type: &Text,
+    qualifiers: &[WrittenUse],
+    method: &Text,
+    args: Seq<Value>,
+) -> Result<Box<BeanCall>, AllocError>
+    ensures { IfOk result (λ call. call.value ≡ record {
+      bean_type = number_of names.now bean_type.now;
+      qualifiers = spec.uses_for names.now qualifiers.now;
+      method = number_of names.now method.now;
+      args = args;
+    }) }
+{
+    let call = BeanCall {
+        bean_type: names.name_for(bean_type.as_str()),
+        qualifiers: uses_for(alloc, names, qualifiers)?,
+        method: names.name_for(method.as_str()),
+        args,
+    };
+    Ok(Box::new(alloc, call)?)
 }
