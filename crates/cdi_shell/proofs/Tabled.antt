@@ -1,17 +1,14 @@
 -- A deployment with its scripts has one set of tables, as far as they are asked.
-use Rattle.std.proofs.Common.{ℕ, ◌≡◌, ◌∙◌, List, [], Bool, false, nat_eq, Option, None, refl, sym, ap, subst}
+use Rattle.std.proofs.Common.{ℕ, ◌≡◌, ◌∙◌, List, [], false, Option, None, sym, ap, subst}
 use Rattle.std.specs.Prelude.{option_and_then, slice_get}
 use Rattle.std.specs.List.{AllZip}
-use Rattle.cdi_base.specs.declared.uses.Use.{Use}
 use Rattle.cdi_bean_check.specs.Qualifiers.{full_uses}
 use Rattle.cdi_deployment.specs.declared.deployment.Deployment.{Deployment}
-use Rattle.cdi_machine.specs.Tables as machine
 use Rattle.cdi_plans.specs.Tables.{PlanTables}
 use Rattle.cdi_resolve.specs.Filters.{enabled_of}
 use Rattle.cdi_resolve.specs.Resolution.{resolution}
 use Rattle.cdi_run_tables.specs.Machine.{id_of, is_known, machine_bean, machine_resolution, machine_tables}
 use Rattle.cdi_run_tables.specs.Planned.{IsPlanned, plan_tables}
-use Rattle.cdi_run_tables.specs.declared.planned.PlannedBean.{PlannedBean}
 use Rattle.cdi_run_tables.specs.declared.tables.RunTables.{RunTables}
 use Rattle.cdi_tables.specs.BeanTables.{AreTablesOf}
 use Rattle.cdi_tables.specs.declared.bean_tables.BeanTables.{BeanTables}
