@@ -7,9 +7,10 @@ use crate::checks::expect_same_at;
 use crate::deployed::{Asks, End, SHARED, accept_well, carry_out, deploy, job_of};
 use cdi_base::{Cause, Limits};
 use cdi_bodies::Bodies;
-use cdi_machine::Driver;
+use cdi_machine::{Driver, Failure};
 use cdi_run_tables::RunTables;
 use cdi_runtime::Runtime;
+use cdi_steps::Job;
 use std::alloc::Global;
 use std::process::Abort;
 use std::test::Fail;
@@ -33,29 +34,42 @@ struct Answered {
     told: u64,
 }
 
-/// Makes the call in a container that nothing has been done with.
+/// How a job ended, and how many entries it gave.
+#[derive(Clone, Copy, Drop)]
+struct Ran {
+    end: End,
+    entries: u64,
+}
+
+fn run_counted<D: Driver>(runtime: &mut Runtime<D>, job: Job) -> Result<Ran, Failure> {
+    let end = carry_out(runtime, job)?;
+    let entries = runtime.world().entries();
+    Ok(Ran { end, entries })
+}
+
+/// Carries a job out in a container that nothing has been done with.
 fn answer<D: Driver + Drop>(
     alloc: Global,
     tables: RunTables,
     driver: D,
-    below: i64,
+    job: Job,
     limits: Limits,
-) -> Result<Answered, Fail>
+) -> Result<Answered, Failure>
     requires knows { KnowsMethods (D.knows driver) (D.legal driver) (machine_tables tables) }
     requires servable { IsServable tables }
 {
-    let job = job_of(alloc, &tables.deployment().names, Asks::Call("K", below))?;
     let asked = Asked::new();
     let counted = Counted {
         driver,
         asked: &asked,
     };
     let mut runtime = Runtime::new(alloc, tables, counted, limits);
-    let end = carry_out(&mut runtime, job)?;
-    let entries = runtime.world().entries();
+    let ran = run_counted(&mut runtime, job);
+    drop(runtime);
+    let ran = ran?;
     Ok(Answered {
-        end,
-        entries,
+        end: ran.end,
+        entries: ran.entries,
         asked: asked.times.get(),
         told: asked.entries.get(),
     })
@@ -65,8 +79,9 @@ fn answer<D: Driver + Drop>(
 fn ask(alloc: Global, asking: Asking, limits: Limits) -> Result<Answered, Fail> {
     let mut bodies = Bodies::new(alloc);
     let deployment = deploy(alloc, SHARED, asking.sets, &mut bodies)?;
+    let job = job_of(alloc, &deployment.names, Asks::Call("K", asking.below))?;
     let tables = accept_well(alloc, deployment, &bodies)?;
-    answer(alloc, tables, bodies, asking.below, limits)
+    Ok(answer(alloc, tables, bodies, job, limits)?)
 }
 
 /// Checks calls one by one, each in a container of its own. That memory is there is part of what is checked: a budget that is
