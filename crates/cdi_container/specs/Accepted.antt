@@ -49,6 +49,7 @@ pub record IsUnserved {X : Type 0} {F : X → Type 0} {g : _}
 abbrev pub IsUnaccepted : {X : Type 0} {F : X → Type 0} {g : _}
     → Deployment → List (Entry X F g) → Unaccepted → Type 0
 IsUnaccepted deployment entries (errors.Problems names problems) =
-    (names ≡ deployment.names) × AreProblemsOf deployment (shape_of entries) problems × (problems ≢ [])
+    (names ≡ deployment.names) × AreProblemsOf deployment (shape_of entries) problems
+    × (problems ≢ [])
 IsUnaccepted deployment entries errors.Unserved = IsUnserved deployment entries
 IsUnaccepted deployment entries errors.Memory = Unit {0}

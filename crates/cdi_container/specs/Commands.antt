@@ -37,3 +37,8 @@ machine_command names (commands.End request) = machine.Command.End request
 machine_command names (commands.Invalidate session) = machine.Command.Invalidate session
 machine_command names commands.Live = machine.Command.Live
 machine_command names commands.Shutdown = machine.Command.Shutdown
+
+-- it calls a method: the one command that takes memory before it is carried out
+abbrev pub IsCall : Command → Type 0
+IsCall (commands.Call request type qualifiers method args) = Unit {0}
+IsCall _ = ⊥

@@ -23,7 +23,8 @@ answer_items h (Answers.refuses r e is stays) = h
 answer_items h (Answers.carries_out o e carries halts is) = carried_items h carries
 
 -- what stands written, and the container's state, after some commands and lines that are none
-pub data History (tables : Tables) (legal : Legal) (Starved : Type 0) : State → List Item → Type 0 where
+pub data History (tables : Tables) (legal : Legal) (Starved : Type 0)
+    : State → List Item → Type 0 where
   begins : (ticks depth : ℕ) → History tables legal Starved (before_start ticks depth) []
   answers : {s t : State} {h : List Item} {c : Command} {reply : Reply}
       → History tables legal Starved s h

@@ -14,7 +14,8 @@ use Rattle.cdi_container.specs.Commands.{machine_command}
 use Rattle.cdi_container.specs.States.{State, Answers, Boots, machine_state, after_refusal}
 
 -- the states of a container from its start on, after commands that are served and lines that are none
-pub data Works (names : List (List ℕ)) (tables : machine.Tables) (legal : Legal) : State → Type 0 where
+pub data Works (names : List (List ℕ)) (tables : machine.Tables) (legal : Legal)
+    : State → Type 0 where
   starts : {t : State} (ticks depth : ℕ) (reply : Reply)
       → Boots tables legal (Unit {0}) ticks depth reply t
       → Works names tables legal t
@@ -22,7 +23,8 @@ pub data Works (names : List (List ℕ)) (tables : machine.Tables) (legal : Lega
       → IsTrue (is_served command)
       → Answers tables legal (Unit {0}) s (machine_command names command) reply t
       → Works names tables legal t
-  refuses_line : {s : State} → Works names tables legal s → Works names tables legal (after_refusal s)
+  refuses_line : {s : State} → Works names tables legal s
+      → Works names tables legal (after_refusal s)
 
 -- nothing is missing in what a command asks for that isn't refused
 abbrev pub MissesNone : List (List ℕ) → machine.Tables → Legal → Type 0 → Type 0

@@ -32,10 +32,11 @@ AnswersLine names tables legal Starved s line text t =
     × (text ≡ reply_line names reply)
 
 -- the same for a container, whose other parts stay
-pub record AnswersSo {Driving : Type 0} (before after : Legal) (c : Standing Driving) (line text : List ℕ)
-    (d : Standing Driving) : Type 0 where
+pub record AnswersSo {Driving : Type 0} (before after : Legal) (c : Standing Driving)
+    (line text : List ℕ) (d : Standing Driving) : Type 0 where
   pub same : SameParts before after c d
-  pub answers : AnswersLine (names_of c) (tables_of c) before (Unit {0}) (state_of c) line text (state_of d)
+  pub answers : AnswersLine
+      (names_of c) (tables_of c) before (Unit {0}) (state_of c) line text (state_of d)
 
 -- Lines were served to an end, behind a greeting. If there is no memory for that, nothing is read or written.
 pub data Served {S : Type 0} (limit : ℕ) (answers : S → List ℕ → List ℕ → S → Type 0)
@@ -48,7 +49,8 @@ pub data Served {S : Type 0} (limit : ℕ) (answers : S → List ℕ → List �
       → Served limit answers greeting s t unread unread_after held held_after result
 
 -- a container was served, which greets by the reply to its start
-abbrev pub ServedBy : {Driving : Type 0} → ℕ → (Driving → Legal) → Standing Driving → Standing Driving
+abbrev pub ServedBy : {Driving : Type 0} → ℕ → (Driving → Legal)
+    → Standing Driving → Standing Driving
     → Option (List ℕ) → Option (List ℕ) → Option (List ℕ) → Option (List ℕ)
     → Result (Unit {0}) ServeFault → Type 0
 ServedBy limit legal c d unread unread_after held held_after result =

@@ -31,13 +31,15 @@ module _ {Driving : Type 0} where
   state_of c = record { world = c.runtime.world; halted = c.halted }
 
 -- The names and the tables stay, and nothing becomes legal.
-pub record KeepsParts {Driving : Type 0} (before after : Legal) (r s : Working Driving) : Type 0 where
+pub record KeepsParts {Driving : Type 0} (before after : Legal) (r s : Working Driving)
+    : Type 0 where
   pub names : s.tables.deployment.names ≡ r.tables.deployment.names
   pub tables : tables_in s ≡ tables_in r
   pub legal : IsWithin after before
 
 -- So for a container, which still greets by the reply to its start.
-pub record SameParts {Driving : Type 0} (before after : Legal) (c d : Standing Driving) : Type 0 where
+pub record SameParts {Driving : Type 0} (before after : Legal) (c d : Standing Driving)
+    : Type 0 where
   pub parts : KeepsParts before after c.runtime d.runtime
   pub booted : d.booted ≡ c.booted
 

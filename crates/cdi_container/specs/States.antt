@@ -35,8 +35,8 @@ cause_of (Cut cause) = Some cause
 cause_of (Ends c) = None
 
 -- A program is carried out. If memory runs out in it, the entries so far are those of a run on its way, and it is cut.
-pub data CarriesOut (tables : Tables) (legal : Legal) (Starved : Type 0) (p : Prog Given) (w : World)
-    : Outcome → World → Type 0 where
+pub data CarriesOut (tables : Tables) (legal : Legal) (Starved : Type 0)
+    (p : Prog Given) (w : World) : Outcome → World → Type 0 where
   ends : {o : Outcome} {v : World} → Runs tables legal ⊥ p w o v
       → CarriesOut tables legal Starved p w o v
   starves : {v : World} → Starved → Runs tables legal (Unit {0}) p w (Cut causes.Memory) v

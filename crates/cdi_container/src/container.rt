@@ -47,7 +47,8 @@ impl<D: Driver> Model for Container<D> {
 
 /// Carries a job out, with a trace of its own. It is cut if memory runs out, or if the driver has nothing to give.
 fn carry_out<D: Driver>(runtime: &mut Runtime<D>, job: Job) -> Outcome
-    ensures carries { CarriesOut (spec.tables_in runtime.old) (D.legal runtime.old.driver) (Unit {0})
+    ensures carries { CarriesOut
+        (spec.tables_in runtime.old) (D.legal runtime.old.driver) (Unit {0})
         (task (command_of job)) (at_begin runtime.old.world) (outcome_of result) runtime.new.world }
     ensures keeps { spec.KeepsParts
         (D.legal runtime.old.driver) (D.legal runtime.new.driver) runtime.old runtime.new }
@@ -60,7 +61,7 @@ fn carry_out<D: Driver>(runtime: &mut Runtime<D>, job: Job) -> Outcome
 }
 
 impl<D: Driver> Container<D> {
-    ghost use Rattle.cdi_container.specs.Commands.{machine_command};
+    ghost use Rattle.cdi_container.specs.Commands.{IsCall, machine_command};
 
     /// Starts a container (Jakarta CDI 4.0, *Container lifecycle events*). A start that is cut gives a container that has
     /// halted. The deployment has to be served, and the driver has to have a body for each of its methods, which gives only
@@ -114,9 +115,11 @@ impl<D: Driver> Container<D> {
 
     /// Carries a job out that isn't refused, and answers it.
     fn perform(&mut self, job: Job) -> Reply
-        requires { machine_refusal (spec.tables_of self.old) (machine_state (spec.state_of self.old))
-            (command_of job) ≡ None }
-        ensures answers { Answers (spec.tables_of self.old) (D.legal self.old.runtime.driver) (Unit {0})
+        requires { machine_refusal
+            (spec.tables_of self.old) (machine_state (spec.state_of self.old)) (command_of job)
+            ≡ None }
+        ensures answers { Answers
+            (spec.tables_of self.old) (D.legal self.old.runtime.driver) (Unit {0})
             (spec.state_of self.old) (command_of job) result (spec.state_of self.new) }
         ensures same { spec.SameParts
             (D.legal self.old.runtime.driver) (D.legal self.new.runtime.driver) self.old self.new }
@@ -129,8 +132,10 @@ impl<D: Driver> Container<D> {
 
     /// Carries a job out in a request, or in none, or refuses it.
     fn ask(&mut self, request: Option<&Text>, job: Job) -> Reply
-        ensures answers { Answers (spec.tables_of self.old) (D.legal self.old.runtime.driver) (Unit {0})
-            (spec.state_of self.old) (in_request (option_map (λ r. r.now) request.entry) (command_of job))
+        ensures answers { Answers
+            (spec.tables_of self.old) (D.legal self.old.runtime.driver) (Unit {0})
+            (spec.state_of self.old)
+            (in_request (option_map (λ r. r.now) request.entry) (command_of job))
             result (spec.state_of self.new) }
         ensures same { spec.SameParts
             (D.legal self.old.runtime.driver) (D.legal self.new.runtime.driver) self.old self.new }
@@ -146,7 +151,7 @@ impl<D: Driver> Container<D> {
     /// too, is answered as halted with the cause, and every later one is refused. The command has to be one that is
     /// served, as what [`read_command`](cdi_text::read_command) gives is.
     ///
-    /// The one error is [`AllocError`], if memory ran out before it was carried out: nothing has changed then.
+    /// The one error is [`AllocError`], if memory ran out before a call was carried out: nothing has changed then.
     pub fn command(&mut self, command: Command) -> Result<Reply, AllocError>
         requires { IsTrue (is_served command) }
         ensures answers { IfOk result (λ reply.
@@ -156,6 +161,7 @@ impl<D: Driver> Container<D> {
         ensures same { spec.SameParts
             (D.legal self.old.runtime.driver) (D.legal self.new.runtime.driver) self.old self.new }
         ensures err { OnErr result (self.new ≡ self.old) }
+        ensures memory { OnErr result (IsCall command) }
     {
         match command {
             Command::Call {

@@ -19,7 +19,8 @@ impl<D: Driver> Container<D> {
     /// The reply to a line. If memory runs out for reading it, nothing changes.
     fn reply_to(&mut self, alloc: Global, line: &[u8]) -> Result<Reply, AllocError>
         ensures answers { IfOk result (λ reply.
-            AnswersRead (names_of self.old) (tables_of self.old) (D.legal self.old.runtime.driver) (Unit {0})
+            AnswersRead (names_of self.old) (tables_of self.old)
+            (D.legal self.old.runtime.driver) (Unit {0})
             (command_in line.now) (state_of self.old) reply (state_of self.new)) }
         ensures same { SameParts
             (D.legal self.old.runtime.driver) (D.legal self.new.runtime.driver) self.old self.new }
@@ -61,7 +62,8 @@ pub fn serve<R: Source, W: Sink, D: Driver>(
     container: &mut Container<D>,
 ) -> Result<(), ServeFault>
     ensures served { ServedBy MAX_INPUT (λ driver. D.legal driver) container.old container.new
-        (R.unread input.old) (R.unread input.new) (W.written output.old) (W.written output.new) result }
+        (R.unread input.old) (R.unread input.new) (W.written output.old) (W.written output.new)
+        result }
     ensures passed_on { OnOk result (IsTrue (W.is_passed_on output.new)) }
     ensures blames { Blames result
         (R.has_failed input.old) (R.has_failed input.new)
