@@ -1,7 +1,7 @@
 //! Deployments that are accepted, that have problems, and that aren't served.
 use crate::bodies::{Counting, add_null};
 use crate::checks::{expect_same, expect_same_at};
-use crate::deployed::{SHARED, TWO, accept_well, deploy};
+use crate::deployed::{SHARED, TWO, deploy};
 use crate::many_beans::beans;
 use cdi_base::{Name, Names};
 use cdi_bodies::Bodies;
@@ -26,41 +26,63 @@ fn bean_count(tables: &RunTables) -> usize {
     count
 }
 
-/// The classes and the beans that are accepted.
-fn count_accepted(alloc: Global, text: &str) -> Result<(usize, usize), Fail> {
-    let mut bodies = Bodies::new(alloc);
-    let deployment = deploy(alloc, text, 1, &mut bodies)?;
-    let tables = accept_well(alloc, deployment, &bodies)?;
-    Ok((tables.deployment().classes.len(), bean_count(&tables)))
+/// What comes of a deployment.
+#[derive(Clone, Copy, Debug, PartialEq, Eq)]
+enum Told {
+    /// It is accepted, with so many classes and beans.
+    Accepted {
+        classes: usize,
+        beans: usize,
+    },
+    /// It has problems, the first two of these kinds, and so many names come back.
+    Problems {
+        names: usize,
+        first: Option<ProblemKind>,
+        second: Option<ProblemKind>,
+    },
+    Unserved,
+    Memory,
 }
-
-#[test]
-fn accepts(rt: HostRuntime) -> Result<(), Fail> {
-    let rows = [("{}", (0, 0)), (SHARED, (1, 1)), (TWO, (3, 2))];
-    for (text, wanted) in rows {
-        expect_same_at(&rt, &text, &count_accepted(rt.alloc(), text)?, &wanted);
-    }
-    Ok(())
-}
-
-/// How many names come back, and the kinds of the first two problems.
-type Refused = (usize, Option<ProblemKind>, Option<ProblemKind>);
 
 fn kind_at(problems: &[Problem], index: usize) -> Option<ProblemKind> {
     problems.get(index).map(|problem| problem.kind)
 }
 
-/// What comes back of a deployment that isn't accepted.
-fn refusal_of(alloc: Global, deployment: Deployment, bodies: &Bodies) -> Result<Refused, Fail> {
-    match accept(alloc, deployment, bodies) {
-        Ok(_) => Err("a problem")?,
-        Err(Unaccepted::Unserved) => Err("what is served")?,
-        Err(Unaccepted::Memory) => Err("memory")?,
-        Err(Unaccepted::Problems { names, problems }) => {
-            let problems = problems.as_slice();
-            Ok((names.len(), kind_at(problems, 0), kind_at(problems, 1)))
-        }
+fn told_of(accepted: &Result<RunTables, Unaccepted>) -> Told {
+    match accepted {
+        Ok(tables) => Told::Accepted {
+            classes: tables.deployment().classes.len(),
+            beans: bean_count(tables),
+        },
+        Err(Unaccepted::Problems { names, problems }) => Told::Problems {
+            names: names.len(),
+            first: kind_at(problems.as_slice(), 0),
+            second: kind_at(problems.as_slice(), 1),
+        },
+        Err(Unaccepted::Unserved) => Told::Unserved,
+        Err(Unaccepted::Memory) => Told::Memory,
     }
+}
+
+/// The one function here that owns the tables.
+fn tell(alloc: Global, deployment: Deployment, bodies: &Bodies) -> Told {
+    told_of(&accept(alloc, deployment, bodies))
+}
+
+/// What comes of a deployment whose bodies count.
+fn told_of_text(alloc: Global, text: &str) -> Result<Told, Fail> {
+    let mut bodies = Bodies::new(alloc);
+    let deployment = deploy(alloc, text, 1, &mut bodies)?;
+    Ok(tell(alloc, deployment, &bodies))
+}
+
+#[test]
+fn accepts(rt: HostRuntime) -> Result<(), Fail> {
+    for (text, classes, beans) in [("{}", 0, 0), (SHARED, 1, 1), (TWO, 3, 2)] {
+        let wanted = Told::Accepted { classes, beans };
+        expect_same_at(&rt, &text, &told_of_text(rt.alloc(), text)?, &wanted);
+    }
+    Ok(())
 }
 
 /// The bodies that are registered.
@@ -92,12 +114,20 @@ fn register(
     Ok(())
 }
 
-/// What comes back of a deployment as it is written.
-fn refusal_of_text(alloc: Global, text: &str, registered: Registered) -> Result<Refused, Fail> {
+/// What comes of a deployment with these bodies.
+fn told_with(alloc: Global, text: &str, registered: Registered) -> Result<Told, Fail> {
     let mut bodies = Bodies::new(alloc);
     let deployment = read(alloc, text.as_bytes())?;
     register(alloc, &deployment.names, registered, &mut bodies)?;
-    refusal_of(alloc, deployment, &bodies)
+    Ok(tell(alloc, deployment, &bodies))
+}
+
+fn problems_of(names: usize, first: ProblemKind, second: Option<ProblemKind>) -> Told {
+    Told::Problems {
+        names,
+        first: Some(first),
+        second,
+    }
 }
 
 /// Besides the 19 built-in names a table has those of the deployment.
@@ -105,59 +135,46 @@ fn refusal_of_text(alloc: Global, text: &str, registered: Registered) -> Result<
 fn tells_problems_of_each_tier(rt: HostRuntime) -> Result<(), Fail> {
     const METHOD: &str =
         r#"{"classes":[{"name":"K","bean":{},"members":[{"kind":"method","name":"up","args":1,"body":"up"}]}]}"#;
+    const TWICE: &str = r#"{"classes":[{"name":"K"},{"name":"K"},{"name":"L"},{"name":"L"}]}"#;
+    const UNKNOWN: &str = r#"{"classes":[{"name":"K","bean":{},"extends":"L"}]}"#;
+    const UNSATISFIED: &str =
+        r#"{"classes":[{"name":"K","bean":{},"inject":[{"name":"f","type":"Startup"}]}]}"#;
+    let duplicate = ProblemKind::DuplicateName;
     let rows = [
+        (TWICE, Registered::Nothing, duplicate, Some(duplicate)),
+        (UNKNOWN, Registered::Nothing, ProblemKind::UnknownName, None),
         (
-            r#"{"classes":[{"name":"K"},{"name":"K"},{"name":"L"},{"name":"L"}]}"#,
+            UNSATISFIED,
             Registered::Nothing,
-            (
-                21,
-                Some(ProblemKind::DuplicateName),
-                Some(ProblemKind::DuplicateName),
-            ),
+            ProblemKind::Unsatisfied,
+            None,
         ),
-        (
-            r#"{"classes":[{"name":"K","bean":{},"extends":"L"}]}"#,
-            Registered::Nothing,
-            (21, Some(ProblemKind::UnknownName), None),
-        ),
-        (
-            r#"{"classes":[{"name":"K","bean":{},"inject":[{"name":"f","type":"Startup"}]}]}"#,
-            Registered::Nothing,
-            (21, Some(ProblemKind::Unsatisfied), None),
-        ),
-        (
-            METHOD,
-            Registered::Nothing,
-            (21, Some(ProblemKind::UnknownBody), None),
-        ),
+        (METHOD, Registered::Nothing, ProblemKind::UnknownBody, None),
         (
             METHOD,
             Registered::Counting,
-            (21, Some(ProblemKind::BodyOutsideShape), None),
+            ProblemKind::BodyOutsideShape,
+            None,
         ),
         (
             METHOD,
             Registered::Chained,
-            (21, Some(ProblemKind::ProceedNotAllowed), None),
+            ProblemKind::ProceedNotAllowed,
+            None,
         ),
     ];
-    for (text, registered, wanted) in rows {
-        let refused = refusal_of_text(rt.alloc(), text, registered)?;
-        expect_same_at(&rt, &registered, &refused, &wanted);
+    for (text, registered, first, second) in rows {
+        let told = told_with(rt.alloc(), text, registered)?;
+        expect_same_at(&rt, &registered, &told, &problems_of(21, first, second));
     }
     Ok(())
 }
 
-/// What comes back of so many beans.
-fn refusal_of_beans(alloc: Global, count: u32) -> Result<Refused, Fail> {
-    let deployment = beans(alloc, count)?;
-    refusal_of(alloc, deployment, &Bodies::new(alloc))
-}
-
 #[test]
 fn tells_too_many_beans(rt: HostRuntime) -> Result<(), Fail> {
-    let wanted = (4_116, Some(ProblemKind::TooMany), None);
-    expect_same(&rt, &refusal_of_beans(rt.alloc(), 4_097)?, &wanted);
+    let deployment = beans(rt.alloc(), 4_097)?;
+    let told = tell(rt.alloc(), deployment, &Bodies::new(rt.alloc()));
+    expect_same(&rt, &told, &problems_of(4_116, ProblemKind::TooMany, None));
     Ok(())
 }
 
@@ -168,8 +185,7 @@ fn is_unserved(alloc: Global, text: &str) -> Result<bool, Fail> {
     let deployment = read_at(alloc, WHOLE, text.as_bytes())?;
     let mut bodies = Bodies::new(alloc);
     add_null(alloc, &mut bodies, deployment.names.name_for("Any"), false)?;
-    let accepted = accept(alloc, deployment, &bodies);
-    Ok(matches!(accepted, Err(Unaccepted::Unserved)))
+    Ok(tell(alloc, deployment, &bodies) == Told::Unserved)
 }
 
 #[test]

@@ -1,16 +1,12 @@
 //! Runs of the engine up to the ends of its budgets, with memory to spare, under a driver that counts how often it is asked.
-ghost use Rattle.cdi_run_tables.specs.Machine.{machine_tables};
-ghost use Rattle.cdi_runtime.specs.Standing.{IsServable, KnowsMethods};
-
 use crate::bodies::{Asked, Counted};
 use crate::checks::expect_same_at;
 use crate::deployed::{Asks, End, SHARED, accept_well, carry_out, deploy, job_of};
+use crate::owners::{RuntimeTest, with_runtime};
 use cdi_base::{Cause, Limits};
 use cdi_bodies::Bodies;
-use cdi_machine::{Driver, Failure};
-use cdi_run_tables::RunTables;
+use cdi_machine::Driver;
 use cdi_runtime::Runtime;
-use cdi_steps::Job;
 use std::alloc::Global;
 use std::process::Abort;
 use std::test::Fail;
@@ -34,63 +30,59 @@ struct Answered {
     told: u64,
 }
 
-/// How a job ended, and how many entries it gave.
-#[derive(Clone, Copy, Drop)]
-struct Ran {
-    end: End,
-    entries: u64,
+/// A call of the bean of the application, in a runtime whose driver counts, and what has to come of it.
+#[derive(Drop)]
+struct CountedCall<'a, A> {
+    rt: &'a A,
+    asked: &'a Asked,
+    asking: Asking,
+    wanted: Answered,
 }
 
-fn run_counted<D: Driver>(runtime: &mut Runtime<D>, job: Job) -> Result<Ran, Failure> {
-    let end = carry_out(runtime, job)?;
-    let entries = runtime.world().entries();
-    Ok(Ran { end, entries })
+impl<A: Abort> RuntimeTest for CountedCall<'_, A> {
+    /// That memory is there is part of what is checked: a budget that is spent may not be told as want of memory.
+    fn run<D: Driver>(&self, alloc: Global, runtime: &mut Runtime<D>) -> Result<(), Fail> {
+        let names = &runtime.tables().deployment().names;
+        let job = job_of(alloc, names, Asks::Call("K", self.asking.below))?;
+        let answered = Answered {
+            end: carry_out(runtime, job)?,
+            entries: runtime.world().entries(),
+            asked: self.asked.times.get(),
+            told: self.asked.entries.get(),
+        };
+        expect_same_at(self.rt, &self.asking, &answered, &self.wanted);
+        Ok(())
+    }
 }
 
-/// Carries a job out in a container that nothing has been done with.
-fn answer<D: Driver + Drop>(
+/// Checks a call in a runtime of its own.
+fn check_asking(
+    rt: &impl Abort,
     alloc: Global,
-    tables: RunTables,
-    driver: D,
-    job: Job,
-    limits: Limits,
-) -> Result<Answered, Failure>
-    requires knows { KnowsMethods (D.knows driver) (D.legal driver) (machine_tables tables) }
-    requires servable { IsServable tables }
-{
-    let asked = Asked::new();
-    let counted = Counted {
-        driver,
-        asked: &asked,
-    };
-    let mut runtime = Runtime::new(alloc, tables, counted, limits);
-    let ran = run_counted(&mut runtime, job);
-    drop(runtime);
-    let ran = ran?;
-    Ok(Answered {
-        end: ran.end,
-        entries: ran.entries,
-        asked: asked.times.get(),
-        told: asked.entries.get(),
-    })
-}
-
-/// Makes the call of a bean of the application.
-fn ask(alloc: Global, asking: Asking, limits: Limits) -> Result<Answered, Fail> {
+    asking: Asking,
+    wanted: Answered,
+) -> Result<(), Fail> {
+    let limits = Limits::new(asking.depth, asking.ticks).expect(rt, "limits in range");
     let mut bodies = Bodies::new(alloc);
     let deployment = deploy(alloc, SHARED, asking.sets, &mut bodies)?;
-    let job = job_of(alloc, &deployment.names, Asks::Call("K", asking.below))?;
     let tables = accept_well(alloc, deployment, &bodies)?;
-    Ok(answer(alloc, tables, bodies, job, limits)?)
+    let asked = &Asked::new();
+    let driver = Counted {
+        driver: bodies,
+        asked,
+    };
+    let call = CountedCall {
+        rt,
+        asked,
+        asking,
+        wanted,
+    };
+    with_runtime(alloc, tables, driver, limits, &call)
 }
 
-/// Checks calls one by one, each in a container of its own. That memory is there is part of what is checked: a budget that is
-/// spent may not be told as want of memory.
 fn check_askings(rt: &impl Abort, alloc: Global, rows: &[(Asking, Answered)]) -> Result<(), Fail> {
     for &(asking, wanted) in rows {
-        let limits = Limits::new(asking.depth, asking.ticks).expect(rt, "limits in range");
-        let answered = ask(alloc, asking, limits)?;
-        expect_same_at(rt, &asking, &answered, &wanted);
+        check_asking(rt, alloc, asking, wanted)?;
     }
     Ok(())
 }

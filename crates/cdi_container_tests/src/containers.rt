@@ -1,14 +1,10 @@
 //! Containers that are started and answer commands, which are read from lines.
-ghost use Rattle.cdi_run_tables.specs.Machine.{machine_tables};
-ghost use Rattle.cdi_runtime.specs.Standing.{IsServable, KnowsMethods};
-
 use crate::checks::{expect_same, expect_same_at};
-use crate::deployed::{DEPENDENT, SHARED, TWO, accept_well, deploy};
+use crate::deployed::{DEPENDENT, SHARED, TWO};
+use crate::owners::{ContainerTest, check_container};
 use cdi_base::{BuiltIn, Cause, Limits, Name, Refusal, Reply, Value};
-use cdi_bodies::Bodies;
 use cdi_container::Container;
 use cdi_machine::Driver;
-use cdi_run_tables::RunTables;
 use cdi_text::read_command;
 use std::alloc::{AllocError, Global};
 use std::process::Abort;
@@ -66,48 +62,33 @@ const WELL: Life = Life {
 /// A line, and the reply to it.
 type Row = (&'static str, Replied);
 
-/// Checks what a container was answered at its start, its replies, and why it has halted in the end.
-fn check_replies<D: Driver>(
-    rt: &impl Abort,
-    alloc: Global,
-    container: &mut Container<D>,
+/// What a container is answered, from its start on.
+#[derive(Drop)]
+struct Talk<'a, A> {
+    rt: &'a A,
     life: Life,
-    rows: &[Row],
-) -> Result<(), Fail> {
-    expect_same(rt, &plain_reply(container.boot_reply()), &life.booted);
-    let object = Some(BuiltIn::Object.name());
-    expect_same(rt, &container.names().find("Object"), &object);
-    for &(line, wanted) in rows {
-        let reply = reply_to(alloc, container, line)?;
-        expect_same_at(rt, &line, &reply, &wanted);
-    }
-    expect_same(rt, &container.halted(), &life.halted);
-    Ok(())
+    rows: &'a [Row],
 }
 
-/// Starts a container, and checks its life.
-fn check_life<D: Driver + Drop>(
-    rt: &impl Abort,
-    alloc: Global,
-    tables: RunTables,
-    driver: D,
-    life: Life,
-    rows: &[Row],
-) -> Result<(), Fail>
-    requires knows { KnowsMethods (D.knows driver) (D.legal driver) (machine_tables tables) }
-    requires servable { IsServable tables }
-{
-    let limits = Limits::new(life.depth, life.ticks).expect(rt, "limits in range");
-    let mut container = Container::start(alloc, tables, driver, limits);
-    check_replies(rt, alloc, &mut container, life, rows)
+impl<A: Abort> ContainerTest for Talk<'_, A> {
+    fn run<D: Driver>(&self, alloc: Global, container: &mut Container<D>) -> Result<(), Fail> {
+        let booted = plain_reply(container.boot_reply());
+        expect_same(self.rt, &booted, &self.life.booted);
+        let object = Some(BuiltIn::Object.name());
+        expect_same(self.rt, &container.names().find("Object"), &object);
+        for &(line, wanted) in self.rows {
+            let reply = reply_to(alloc, container, line)?;
+            expect_same_at(self.rt, &line, &reply, &wanted);
+        }
+        expect_same(self.rt, &container.halted(), &self.life.halted);
+        Ok(())
+    }
 }
 
 /// Checks the container of a deployment whose bodies count once.
 fn check(rt: &impl Abort, alloc: Global, text: &str, life: Life, rows: &[Row]) -> Result<(), Fail> {
-    let mut bodies = Bodies::new(alloc);
-    let deployment = deploy(alloc, text, 1, &mut bodies)?;
-    let tables = accept_well(alloc, deployment, &bodies)?;
-    check_life(rt, alloc, tables, bodies, life, rows)
+    let limits = Limits::new(life.depth, life.ticks).expect(rt, "limits in range");
+    check_container(alloc, text, limits, &Talk { rt, life, rows })
 }
 
 const UP: &str = r#"["call",null,"K",[],"up",[0]]"#;
@@ -273,41 +254,30 @@ fn check_numbered<D: Driver>(
     Ok(())
 }
 
-/// Checks calls of all of so many beans, and then a shutdown.
-fn check_numbers<D: Driver>(
-    rt: &impl Abort,
-    alloc: Global,
-    container: &mut Container<D>,
+/// Calls of all of so many beans, and then a shutdown.
+#[derive(Drop)]
+struct NumberedCalls<'a, A> {
+    rt: &'a A,
     count: u32,
-) -> Result<(), Fail> {
-    for number in 0..count {
-        check_numbered(rt, alloc, container, number)?;
-    }
-    expect_same(rt, &reply_to(alloc, container, SHUTDOWN)?, &Replied::Done);
-    Ok(())
 }
 
-/// Starts a container of so many beans, and checks calls of all of them.
-fn check_all<D: Driver + Drop>(
-    rt: &impl Abort,
-    alloc: Global,
-    tables: RunTables,
-    driver: D,
-    count: u32,
-) -> Result<(), Fail>
-    requires knows { KnowsMethods (D.knows driver) (D.legal driver) (machine_tables tables) }
-    requires servable { IsServable tables }
-{
-    let mut container = Container::start(alloc, tables, driver, Limits::default());
-    check_numbers(rt, alloc, &mut container, count)
+impl<A: Abort> ContainerTest for NumberedCalls<'_, A> {
+    fn run<D: Driver>(&self, alloc: Global, container: &mut Container<D>) -> Result<(), Fail> {
+        for number in 0..self.count {
+            check_numbered(self.rt, alloc, container, number)?;
+        }
+        let reply = reply_to(alloc, container, SHUTDOWN)?;
+        expect_same(self.rt, &reply, &Replied::Done);
+        Ok(())
+    }
 }
 
 #[test]
 fn serves_many_beans(rt: HostRuntime) -> Result<(), Fail> {
-    let alloc = rt.alloc();
-    let text = many_classes(alloc, 1_000)?;
-    let mut bodies = Bodies::new(alloc);
-    let deployment = deploy(alloc, text.as_str(), 1, &mut bodies)?;
-    let tables = accept_well(alloc, deployment, &bodies)?;
-    check_all(&rt, alloc, tables, bodies, 1_000)
+    let text = many_classes(rt.alloc(), 1_000)?;
+    let calls = NumberedCalls {
+        rt: &rt,
+        count: 1_000,
+    };
+    check_container(rt.alloc(), text.as_str(), Limits::default(), &calls)
 }

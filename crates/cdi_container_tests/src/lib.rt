@@ -16,6 +16,8 @@ mod deployed;
 #[cfg(test)]
 mod many_beans;
 #[cfg(test)]
+mod owners;
+#[cfg(test)]
 mod refusals;
 #[cfg(test)]
 mod runs;

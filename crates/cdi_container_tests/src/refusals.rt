@@ -1,13 +1,9 @@
 //! Why what is asked for is refused: each refusal, with those behind it in the order holding too.
-ghost use Rattle.cdi_run_tables.specs.Machine.{machine_tables};
-ghost use Rattle.cdi_runtime.specs.Standing.{IsServable, KnowsMethods};
-
 use crate::checks::expect_same_at;
-use crate::deployed::{Asks, TWO, accept_well, carry_out, deploy, job_of};
-use cdi_base::{Limits, Names, Refusal, Seq, Text, Value};
-use cdi_bodies::Bodies;
+use crate::deployed::{Asks, TWO, carry_out, job_of};
+use crate::owners::{RuntimeTest, check_runtime};
+use cdi_base::{Names, Refusal, Seq, Text, Value};
 use cdi_machine::Driver;
-use cdi_run_tables::RunTables;
 use cdi_runtime::Runtime;
 use cdi_steps::{BeanCall, Job};
 use std::alloc::{AllocError, Global};
@@ -62,45 +58,29 @@ fn refusal_in<D: Driver>(
     Ok(runtime.refusal(halted, request, &job))
 }
 
-/// Carries a job out, and then checks why each is refused.
-fn check_behind<D: Driver>(
-    rt: &impl Abort,
-    alloc: Global,
-    runtime: &mut Runtime<D>,
+/// Why each is refused behind a first job.
+#[derive(Drop)]
+struct Refusals<'a, A> {
+    rt: &'a A,
     first: Asks,
-    rows: &[Row],
-) -> Result<(), Fail> {
-    let job = job_of(alloc, &runtime.tables().deployment().names, first)?;
-    carry_out(runtime, job)?;
-    for row in rows {
-        let refusal = refusal_in(alloc, runtime, row)?;
-        expect_same_at(rt, &row.2, &refusal, &row.3);
-    }
-    Ok(())
+    rows: &'a [Row],
 }
 
-/// Checks why each is refused, before anything was done or after a shutdown.
-fn check_each<D: Driver + Drop>(
-    rt: &impl Abort,
-    alloc: Global,
-    tables: RunTables,
-    driver: D,
-    first: Asks,
-    rows: &[Row],
-) -> Result<(), Fail>
-    requires knows { KnowsMethods (D.knows driver) (D.legal driver) (machine_tables tables) }
-    requires servable { IsServable tables }
-{
-    let mut runtime = Runtime::new(alloc, tables, driver, Limits::default());
-    check_behind(rt, alloc, &mut runtime, first, rows)
+impl<A: Abort> RuntimeTest for Refusals<'_, A> {
+    fn run<D: Driver>(&self, alloc: Global, runtime: &mut Runtime<D>) -> Result<(), Fail> {
+        let job = job_of(alloc, &runtime.tables().deployment().names, self.first)?;
+        carry_out(runtime, job)?;
+        for row in self.rows {
+            let refusal = refusal_in(alloc, runtime, row)?;
+            expect_same_at(self.rt, &row.2, &refusal, &row.3);
+        }
+        Ok(())
+    }
 }
 
 /// Checks why each is refused behind a job.
 fn check_refusals(rt: &impl Abort, alloc: Global, first: Asks, rows: &[Row]) -> Result<(), Fail> {
-    let mut bodies = Bodies::new(alloc);
-    let deployment = deploy(alloc, TWO, 1, &mut bodies)?;
-    let tables = accept_well(alloc, deployment, &bodies)?;
-    check_each(rt, alloc, tables, bodies, first, rows)
+    check_runtime(alloc, TWO, &Refusals { rt, first, rows })
 }
 
 #[test]

@@ -1,14 +1,10 @@
 //! Runs of the engine: which entries each job gives, how it ends, and how many instances live then.
-ghost use Rattle.cdi_run_tables.specs.Machine.{machine_tables};
-ghost use Rattle.cdi_runtime.specs.Standing.{IsServable, KnowsMethods};
-
 use crate::checks::{expect_same, expect_same_at};
-use crate::deployed::{Asks, DEPENDENT, End, SHARED, TWO, accept_well, carry_out, deploy, job_of};
+use crate::deployed::{Asks, DEPENDENT, End, SHARED, TWO, carry_out, job_of};
+use crate::owners::{RuntimeTest, check_runtime};
 use crate::traces::trace_text;
-use cdi_base::{BuiltIn, Cause, Limits};
-use cdi_bodies::Bodies;
+use cdi_base::{BuiltIn, Cause};
 use cdi_machine::Driver;
-use cdi_run_tables::RunTables;
 use cdi_runtime::Runtime;
 use std::alloc::{AllocError, Global};
 use std::process::Abort;
@@ -47,42 +43,27 @@ fn check_behind<D: Driver>(
     Ok(())
 }
 
-/// Carries jobs out one after the other, and checks each.
-fn check_rows<D: Driver>(
-    rt: &impl Abort,
-    alloc: Global,
-    runtime: &mut Runtime<D>,
-    rows: &[Row],
-) -> Result<(), Fail> {
-    for row in rows {
-        let job = job_of(alloc, &runtime.tables().deployment().names, row.0)?;
-        let end = carry_out(runtime, job)?;
-        check_behind(rt, alloc, runtime, row, end)?;
-    }
-    Ok(())
+/// Jobs that are carried out one after the other, from before the boot on.
+#[derive(Drop)]
+struct Jobs<'a, A> {
+    rt: &'a A,
+    rows: &'a [Row],
 }
 
-/// Checks jobs from before the boot on.
-fn check_jobs<D: Driver + Drop>(
-    rt: &impl Abort,
-    alloc: Global,
-    tables: RunTables,
-    driver: D,
-    rows: &[Row],
-) -> Result<(), Fail>
-    requires knows { KnowsMethods (D.knows driver) (D.legal driver) (machine_tables tables) }
-    requires servable { IsServable tables }
-{
-    let mut runtime = Runtime::new(alloc, tables, driver, Limits::default());
-    check_rows(rt, alloc, &mut runtime, rows)
+impl<A: Abort> RuntimeTest for Jobs<'_, A> {
+    fn run<D: Driver>(&self, alloc: Global, runtime: &mut Runtime<D>) -> Result<(), Fail> {
+        for row in self.rows {
+            let job = job_of(alloc, &runtime.tables().deployment().names, row.0)?;
+            let end = carry_out(runtime, job)?;
+            check_behind(self.rt, alloc, runtime, row, end)?;
+        }
+        Ok(())
+    }
 }
 
 /// Checks the jobs of a deployment whose bodies count once.
 fn check_runs(rt: &impl Abort, alloc: Global, text: &str, rows: &[Row]) -> Result<(), Fail> {
-    let mut bodies = Bodies::new(alloc);
-    let deployment = deploy(alloc, text, 1, &mut bodies)?;
-    let tables = accept_well(alloc, deployment, &bodies)?;
-    check_jobs(rt, alloc, tables, bodies, rows)
+    check_runtime(alloc, text, &Jobs { rt, rows })
 }
 
 /// The entries of a boot.
@@ -285,35 +266,26 @@ fn call_again<D: Driver>(
     Ok(end)
 }
 
-/// Makes a call so many times, and tells what stands behind the last.
-fn behind_calls<D: Driver>(
-    alloc: Global,
-    runtime: &mut Runtime<D>,
+/// A call that is made so many times, and what has to stand behind the last.
+#[derive(Drop)]
+struct ManyCalls<'a, A> {
+    rt: &'a A,
     asks: Asks,
     times: u32,
-) -> Result<Behind, Fail> {
-    let end = call_again(alloc, runtime, asks, times)?;
-    Ok(Behind {
-        end,
-        entries: runtime.world().entries(),
-        live: live_in(alloc, runtime)?,
-        next: runtime.world().next_number(),
-    })
+    wanted: Behind,
 }
 
-/// The same under default limits, in a world in which nothing was done before.
-fn call_often<D: Driver + Drop>(
-    alloc: Global,
-    tables: RunTables,
-    driver: D,
-    asks: Asks,
-    times: u32,
-) -> Result<Behind, Fail>
-    requires knows { KnowsMethods (D.knows driver) (D.legal driver) (machine_tables tables) }
-    requires servable { IsServable tables }
-{
-    let mut runtime = Runtime::new(alloc, tables, driver, Limits::default());
-    behind_calls(alloc, &mut runtime, asks, times)
+impl<A: Abort> RuntimeTest for ManyCalls<'_, A> {
+    fn run<D: Driver>(&self, alloc: Global, runtime: &mut Runtime<D>) -> Result<(), Fail> {
+        let behind = Behind {
+            end: call_again(alloc, runtime, self.asks, self.times)?,
+            entries: runtime.world().entries(),
+            live: live_in(alloc, runtime)?,
+            next: runtime.world().next_number(),
+        };
+        expect_same(self.rt, &behind, &self.wanted);
+        Ok(())
+    }
 }
 
 /// Checks what stands behind a call that was made so many times, of a deployment whose bodies count once.
@@ -325,12 +297,13 @@ fn check_often(
     times: u32,
     wanted: Behind,
 ) -> Result<(), Fail> {
-    let mut bodies = Bodies::new(alloc);
-    let deployment = deploy(alloc, text, 1, &mut bodies)?;
-    let tables = accept_well(alloc, deployment, &bodies)?;
-    let behind = call_often(alloc, tables, bodies, asks, times)?;
-    expect_same(rt, &behind, &wanted);
-    Ok(())
+    let calls = ManyCalls {
+        rt,
+        asks,
+        times,
+        wanted,
+    };
+    check_runtime(alloc, text, &calls)
 }
 
 fn left_behind(end: End, entries: u64, live: usize, next: u32) -> Behind {

@@ -252,68 +252,50 @@ fn add_found<R: Rule>(
     add_lines(rt, alloc, &deployment.names, kind, places.as_slice(), text);
 }
 
+/// The lines of the problems of a deployment that were found so far.
+#[derive(Drop)]
+struct Lines<'a, A> {
+    rt: &'a A,
+    alloc: Global,
+    deployment: &'a Deployment,
+    text: String,
+}
+
+impl<A: Abort> Lines<'_, A> {
+    fn add(&mut self, kind: ProblemKind, rule: &impl Rule) {
+        add_found(
+            self.rt,
+            self.alloc,
+            self.deployment,
+            kind,
+            rule,
+            &mut self.text,
+        );
+    }
+}
+
 /// The lines of a deployment's problems, of those that are looked for here, each kind by itself.
 fn lines_of(rt: &impl Abort, alloc: Global, deployment: &Deployment) -> String {
-    let mut text = String::new(alloc);
-    let names = DeclaredNames::build(alloc, deployment).expect(rt, "memory");
-    let unknown = UnknownName { names: &names };
-    add_found(
+    let mut lines = Lines {
         rt,
         alloc,
         deployment,
-        ProblemKind::UnknownName,
-        &unknown,
-        &mut text,
-    );
+        text: String::new(alloc),
+    };
+    let names = DeclaredNames::build(alloc, deployment).expect(rt, "memory");
+    lines.add(ProblemKind::UnknownName, &UnknownName { names: &names });
     let types = TypeGraph::build(alloc, deployment).expect(rt, "memory");
     let cyclic = CyclicHierarchy { types: &types };
-    add_found(
-        rt,
-        alloc,
-        deployment,
-        ProblemKind::CyclicHierarchy,
-        &cyclic,
-        &mut text,
-    );
-    add_found(
-        rt,
-        alloc,
-        deployment,
-        ProblemKind::AbstractBean,
-        &AbstractBean,
-        &mut text,
-    );
+    lines.add(ProblemKind::CyclicHierarchy, &cyclic);
+    lines.add(ProblemKind::AbstractBean, &AbstractBean);
     if let Ok(types) = TypeTable::of(types) {
-        let typed = TypedNotAType { types: &types };
-        add_found(
-            rt,
-            alloc,
-            deployment,
-            ProblemKind::TypedNotAType,
-            &typed,
-            &mut text,
-        );
+        lines.add(ProblemKind::TypedNotAType, &TypedNotAType { types: &types });
     }
     let beans = BeanNames::build(alloc, deployment.classes.as_slice()).expect(rt, "memory");
     let specializing = SpecializesNothing { beans: &beans };
-    add_found(
-        rt,
-        alloc,
-        deployment,
-        ProblemKind::SpecializesNothing,
-        &specializing,
-        &mut text,
-    );
-    let bindings = TwoBindingsOfOneType;
-    add_found(
-        rt,
-        alloc,
-        deployment,
-        ProblemKind::TwoBindingsOfOneType,
-        &bindings,
-        &mut text,
-    );
-    text
+    lines.add(ProblemKind::SpecializesNothing, &specializing);
+    lines.add(ProblemKind::TwoBindingsOfOneType, &TwoBindingsOfOneType);
+    lines.text
 }
 
 fn check(rt: &impl Abort, alloc: Global, deployment: &Deployment, wanted: &str) {

@@ -273,61 +273,62 @@ fn check_limited(rt: &impl Abort, alloc: Global, limited: &Limited) -> Result<()
 /// | the first `ask` of L: the bodies of L, D and E have 2, 2 and 2 acts | 3 * 2 + 3 * 3 = 15 |
 /// | an `ask` of D, whose objects are destroyed at its end | 2 * 2 + 2 * 3 + 2 * 2 = 14 |
 /// | the first `ask` of A in the cycle, which makes B when it is called | 2 * 2 + 2 * 3 = 10 |
+const ENTRIES_OF_OWNERS: &[Limited] = &[
+    (
+        OWNERS,
+        (32, 7),
+        [SEVEN_OF_L, SHUTDOWN],
+        [NO_TICKS, HALTED],
+        4,
+    ),
+    (
+        OWNERS,
+        (32, 8),
+        [SEVEN_OF_L, SHUTDOWN],
+        [SEVEN, NO_TICKS],
+        4,
+    ),
+    (
+        OWNERS,
+        (32, 9),
+        [SEVEN_OF_L, SHUTDOWN],
+        [SEVEN, SHUT_DOWN],
+        0,
+    ),
+    (
+        OWNERS,
+        (32, 11),
+        [SEVEN_OF_K, SHUTDOWN],
+        [NO_TICKS, HALTED],
+        4,
+    ),
+    (
+        OWNERS,
+        (32, 13),
+        [SEVEN_OF_K, SHUTDOWN],
+        [SEVEN, NO_TICKS],
+        4,
+    ),
+    (
+        OWNERS,
+        (32, 14),
+        [SEVEN_OF_K, SHUTDOWN],
+        [SEVEN, SHUT_DOWN],
+        0,
+    ),
+    (
+        OWNERS,
+        (32, 13),
+        [ASK_OF_D, ASK_OF_D],
+        [NO_TICKS, HALTED],
+        4,
+    ),
+    (OWNERS, (32, 14), [ASK_OF_D, ASK_OF_D], [ONE, ONE], 0),
+];
+
 #[test]
 fn destroys_the_dependents_of_dependents(rt: HostRuntime) -> Result<(), Fail> {
-    const ROWS: &[Limited] = &[
-        (
-            OWNERS,
-            (32, 7),
-            [SEVEN_OF_L, SHUTDOWN],
-            [NO_TICKS, HALTED],
-            4,
-        ),
-        (
-            OWNERS,
-            (32, 8),
-            [SEVEN_OF_L, SHUTDOWN],
-            [SEVEN, NO_TICKS],
-            4,
-        ),
-        (
-            OWNERS,
-            (32, 9),
-            [SEVEN_OF_L, SHUTDOWN],
-            [SEVEN, SHUT_DOWN],
-            0,
-        ),
-        (
-            OWNERS,
-            (32, 11),
-            [SEVEN_OF_K, SHUTDOWN],
-            [NO_TICKS, HALTED],
-            4,
-        ),
-        (
-            OWNERS,
-            (32, 13),
-            [SEVEN_OF_K, SHUTDOWN],
-            [SEVEN, NO_TICKS],
-            4,
-        ),
-        (
-            OWNERS,
-            (32, 14),
-            [SEVEN_OF_K, SHUTDOWN],
-            [SEVEN, SHUT_DOWN],
-            0,
-        ),
-        (
-            OWNERS,
-            (32, 13),
-            [ASK_OF_D, ASK_OF_D],
-            [NO_TICKS, HALTED],
-            4,
-        ),
-        (OWNERS, (32, 14), [ASK_OF_D, ASK_OF_D], [ONE, ONE], 0),
-    ];
-    for row in ROWS {
+    for row in ENTRIES_OF_OWNERS {
         check_limited(&rt, rt.alloc(), row)?;
     }
     Ok(())

@@ -127,55 +127,57 @@ fn check_kind(
     check_problems(rt, alloc, names, &[problem], expected)
 }
 
+/// Each kind, with its line.
+const KINDS: &[(ProblemKind, &str)] = &[
+    (ProblemKind::DuplicateName, "P1 DuplicateName K#up\n"),
+    (ProblemKind::UnknownName, "P2 UnknownName K#up\n"),
+    (ProblemKind::CyclicHierarchy, "P3 CyclicHierarchy K#up\n"),
+    (ProblemKind::AbstractBean, "P4 AbstractBean K#up\n"),
+    (ProblemKind::TypedNotAType, "P5 TypedNotAType K#up\n"),
+    (
+        ProblemKind::SpecializesNothing,
+        "P6 SpecializesNothing K#up\n",
+    ),
+    (
+        ProblemKind::SpecializedTypeLost,
+        "P7 SpecializedTypeLost K#up\n",
+    ),
+    (
+        ProblemKind::UnmatchedDisposer,
+        "P8 UnmatchedDisposer K#up\n",
+    ),
+    (ProblemKind::TwoDisposers, "P9 TwoDisposers K#up\n"),
+    (
+        ProblemKind::ConditionalDependent,
+        "P10 ConditionalDependent K#up\n",
+    ),
+    (
+        ProblemKind::TwoBindingsOfOneType,
+        "P11 TwoBindingsOfOneType K#up\n",
+    ),
+    (ProblemKind::UnknownBody, "P12 UnknownBody K#up\n"),
+    (ProblemKind::BodyOutsideShape, "P13 BodyOutsideShape K#up\n"),
+    (
+        ProblemKind::ProceedNotAllowed,
+        "P14 ProceedNotAllowed K#up\n",
+    ),
+    (ProblemKind::CheckedLifecycle, "P15 CheckedLifecycle K#up\n"),
+    (ProblemKind::Unsatisfied, "P16 Unsatisfied K#up\n"),
+    (ProblemKind::Ambiguous, "P17 Ambiguous K#up\n"),
+    (ProblemKind::Unproxyable, "P18 Unproxyable K#up\n"),
+    (
+        ProblemKind::InconsistentSpecialization,
+        "P19 InconsistentSpecialization K#up\n",
+    ),
+    (ProblemKind::DependentCycle, "P20 DependentCycle K#up\n"),
+    (ProblemKind::FinalIntercepted, "P21 FinalIntercepted K#up\n"),
+    (ProblemKind::TooMany, "P22 TooMany K#up\n"),
+];
+
 #[test]
 fn writes_each_problem(rt: HostRuntime) -> Result<(), Fail> {
     let names = table(&rt, rt.alloc())?;
-    const ROWS: &[(ProblemKind, &str)] = &[
-        (ProblemKind::DuplicateName, "P1 DuplicateName K#up\n"),
-        (ProblemKind::UnknownName, "P2 UnknownName K#up\n"),
-        (ProblemKind::CyclicHierarchy, "P3 CyclicHierarchy K#up\n"),
-        (ProblemKind::AbstractBean, "P4 AbstractBean K#up\n"),
-        (ProblemKind::TypedNotAType, "P5 TypedNotAType K#up\n"),
-        (
-            ProblemKind::SpecializesNothing,
-            "P6 SpecializesNothing K#up\n",
-        ),
-        (
-            ProblemKind::SpecializedTypeLost,
-            "P7 SpecializedTypeLost K#up\n",
-        ),
-        (
-            ProblemKind::UnmatchedDisposer,
-            "P8 UnmatchedDisposer K#up\n",
-        ),
-        (ProblemKind::TwoDisposers, "P9 TwoDisposers K#up\n"),
-        (
-            ProblemKind::ConditionalDependent,
-            "P10 ConditionalDependent K#up\n",
-        ),
-        (
-            ProblemKind::TwoBindingsOfOneType,
-            "P11 TwoBindingsOfOneType K#up\n",
-        ),
-        (ProblemKind::UnknownBody, "P12 UnknownBody K#up\n"),
-        (ProblemKind::BodyOutsideShape, "P13 BodyOutsideShape K#up\n"),
-        (
-            ProblemKind::ProceedNotAllowed,
-            "P14 ProceedNotAllowed K#up\n",
-        ),
-        (ProblemKind::CheckedLifecycle, "P15 CheckedLifecycle K#up\n"),
-        (ProblemKind::Unsatisfied, "P16 Unsatisfied K#up\n"),
-        (ProblemKind::Ambiguous, "P17 Ambiguous K#up\n"),
-        (ProblemKind::Unproxyable, "P18 Unproxyable K#up\n"),
-        (
-            ProblemKind::InconsistentSpecialization,
-            "P19 InconsistentSpecialization K#up\n",
-        ),
-        (ProblemKind::DependentCycle, "P20 DependentCycle K#up\n"),
-        (ProblemKind::FinalIntercepted, "P21 FinalIntercepted K#up\n"),
-        (ProblemKind::TooMany, "P22 TooMany K#up\n"),
-    ];
-    for &(kind, expected) in ROWS {
+    for &(kind, expected) in KINDS {
         check_kind(&rt, rt.alloc(), &names, kind, expected)?;
     }
     Ok(())

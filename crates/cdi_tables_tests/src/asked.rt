@@ -39,27 +39,22 @@ fn add_resolution(
     add(rt, " ", text);
 }
 
-#[test]
-fn resolves_uses_as_written(rt: HostRuntime) -> Result<(), Fail> {
-    let alloc = rt.alloc();
-    let tables = tables_of(&rt, alloc, BEANS, "");
+/// Uses resolve as they are written.
+fn check_resolutions(rt: &impl Abort, alloc: Global, tables: &RunTables) {
     let mut text = String::new(alloc);
-    for point in points_of(&tables) {
+    for point in points_of(tables) {
         let resolution = tables.resolve(point.ty, point.quals.as_slice());
-        add_resolution(&rt, alloc, &tables, resolution, &mut text);
+        add_resolution(rt, alloc, tables, resolution, &mut text);
     }
-    expect_text(&rt, text.as_str(), "P many R nothing R#p nothing P ");
-    Ok(())
+    expect_text(rt, text.as_str(), "P many R nothing R#p nothing P ");
 }
 
-#[test]
-fn knows_what_is_asked_for(rt: HostRuntime) -> Result<(), Fail> {
-    let tables = tables_of(&rt, rt.alloc(), BEANS, "");
-    let all = points_of(&tables)
+/// What is asked for is known.
+fn check_points(rt: &impl Abort, tables: &RunTables) {
+    let all = points_of(tables)
         .iter()
         .all(|point| tables.is_known(point.ty, point.quals.as_slice()));
-    assert!(&rt; all, "a point isn't known");
-    Ok(())
+    assert!(rt; all, "a point isn't known");
 }
 
 /// Adds a name with a mark that tells whether it is a type.
@@ -76,23 +71,20 @@ fn add_known(rt: &impl Abort, tables: &RunTables, name: Name, text: &mut String)
     );
 }
 
-#[test]
-fn knows_types_alone(rt: HostRuntime) -> Result<(), Fail> {
-    let alloc = rt.alloc();
-    let tables = tables_of(&rt, alloc, BEANS, "");
+/// Of the names only those of types are known as types.
+fn check_types(rt: &impl Abort, alloc: Global, tables: &RunTables) {
     let names = &tables.deployment().names;
     let mut text = String::new(alloc);
     for name in [
         "P", "Ask", "I", "Object", "Startup", "Shutdown", "A", "F", "m", "Default",
     ] {
-        add_known(&rt, &tables, names.name_for(name), &mut text);
+        add_known(rt, tables, names.name_for(name), &mut text);
     }
     expect_text(
-        &rt,
+        rt,
         text.as_str(),
         "P+ Ask+ I+ Object+ Startup+ Shutdown+ A- F- m- Default- ",
     );
-    Ok(())
 }
 
 /// A use of a qualifier with one member.
@@ -125,10 +117,8 @@ fn add_use(
     add(rt, if is_known { "+" } else { "-" }, text);
 }
 
-#[test]
-fn knows_members_of_qualifiers(rt: HostRuntime) -> Result<(), Fail> {
-    let alloc = rt.alloc();
-    let tables = tables_of(&rt, alloc, BEANS, "");
+/// A use is known if it is of a qualifier that has the member.
+fn check_members(rt: &impl Abort, alloc: Global, tables: &RunTables) {
     let mut text = String::new(alloc);
     for (qualifier, member) in [
         ("Q", "v"),
@@ -140,10 +130,9 @@ fn knows_members_of_qualifiers(rt: HostRuntime) -> Result<(), Fail> {
         ("F", "v"),
         ("P", "v"),
     ] {
-        add_use(&rt, alloc, &tables, qualifier, member, &mut text);
+        add_use(rt, alloc, tables, qualifier, member, &mut text);
     }
-    expect_text(&rt, text.as_str(), "+++-----");
-    Ok(())
+    expect_text(rt, text.as_str(), "+++-----");
 }
 
 /// Adds the place of a method of a bean, if it has that.
@@ -163,24 +152,32 @@ fn add_method(
     add(rt, " ", text);
 }
 
-#[test]
-fn finds_methods(rt: HostRuntime) -> Result<(), Fail> {
-    let alloc = rt.alloc();
-    let tables = tables_of(&rt, alloc, BEANS, "");
+/// A bean has its methods whose bodies are registered.
+fn check_methods(rt: &impl Abort, alloc: Global, tables: &RunTables) {
     let mut text = String::new(alloc);
     for bean in 0..5usize {
-        add_method(&rt, alloc, &tables, bean, "m", &mut text);
+        add_method(rt, alloc, tables, bean, "m", &mut text);
     }
-    add_method(&rt, alloc, &tables, 0, "n", &mut text);
-    add_method(&rt, alloc, &tables, 0, "P", &mut text);
-    expect_text(&rt, text.as_str(), "P#m none none none none none none ");
-    Ok(())
+    add_method(rt, alloc, tables, 0, "n", &mut text);
+    add_method(rt, alloc, tables, 0, "P", &mut text);
+    expect_text(rt, text.as_str(), "P#m none none none none none none ");
 }
 
-#[test]
-fn tells_texts(rt: HostRuntime) -> Result<(), Fail> {
-    let tables = tables_of(&rt, rt.alloc(), BEANS, "");
+fn check_texts(rt: &impl Abort, tables: &RunTables) {
     let name = tables.deployment().names.name_for("Ask");
-    expect_text(&rt, tables.text(name).unwrap_or("?"), "Ask");
+    expect_text(rt, tables.text(name).unwrap_or("?"), "Ask");
+}
+
+/// The tables are made once, since the proof of each function that owns them drops all that is in them.
+#[test]
+fn answers_what_is_asked(rt: HostRuntime) -> Result<(), Fail> {
+    let alloc = rt.alloc();
+    let tables = tables_of(&rt, alloc, BEANS, "");
+    check_resolutions(&rt, alloc, &tables);
+    check_points(&rt, &tables);
+    check_types(&rt, alloc, &tables);
+    check_members(&rt, alloc, &tables);
+    check_methods(&rt, alloc, &tables);
+    check_texts(&rt, &tables);
     Ok(())
 }

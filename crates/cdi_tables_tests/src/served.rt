@@ -1,5 +1,7 @@
 //! What a container serves of a deployment and of the shapes of its bodies.
 use crate::written::{bodies_of, tables_of};
+use cdi_run_tables::RunTables;
+use std::alloc::Global;
 use std::process::Abort;
 use std::test::Fail;
 
@@ -44,17 +46,29 @@ const ROWS: &[Row<'static>] = &[
     },
 ];
 
+fn is_served(rt: &impl Abort, alloc: Global, row: &Row<'_>) -> bool {
+    tables_of(rt, alloc, row.classes, row.more).is_served()
+}
+
 #[test]
 fn tells_what_is_served(rt: HostRuntime) -> Result<(), Fail> {
     for row in ROWS {
-        let tables = tables_of(&rt, rt.alloc(), row.classes, row.more);
         assert!(&rt;
-            tables.is_served() == row.wanted,
+            is_served(&rt, rt.alloc(), row) == row.wanted,
             "{} is told wrong",
             row.classes
         );
     }
     Ok(())
+}
+
+/// Checks whether bodies whose shapes may go on with a chain or not are served.
+fn check_shapes(rt: &impl Abort, alloc: Global, tables: &RunTables, chain: bool) {
+    let bodies = bodies_of(rt, alloc, &tables.deployment().names, chain);
+    assert!(rt;
+        tables.serves_shapes(&bodies) != chain,
+        "a shape is told wrong"
+    );
 }
 
 #[test]
@@ -63,12 +77,7 @@ fn tells_which_shapes_are_served(rt: HostRuntime) -> Result<(), Fail> {
     let classes =
         r#"{"name":"K","bean":{},"members":[{"kind":"method","name":"m","body":"b"},{"kind":"method","name":"n","body":"c"}]}"#;
     let tables = tables_of(&rt, alloc, classes, "");
-    for chain in [false, true] {
-        let bodies = bodies_of(&rt, alloc, &tables.deployment().names, chain);
-        assert!(&rt;
-            tables.serves_shapes(&bodies) != chain,
-            "a shape is told wrong"
-        );
-    }
+    check_shapes(&rt, alloc, &tables, false);
+    check_shapes(&rt, alloc, &tables, true);
     Ok(())
 }
