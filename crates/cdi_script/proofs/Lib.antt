@@ -7,3 +7,4 @@ pub mod UseNames
 pub mod Within
 pub mod Boxed
 pub mod Following
+pub mod Grown

@@ -7,3 +7,4 @@ pub mod Scripted
 pub mod Tabled
 pub mod Wider
 pub mod WorkedLines
+pub mod Serving

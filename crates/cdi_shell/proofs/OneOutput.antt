@@ -1,5 +1,5 @@
 -- The program's output is a function of its limits, its deployment and its input.
-use Rattle.std.proofs.Common.{ℕ, ◌≤◌, length, take, true, false, ◌≡◌, ◌∙◌, ◌++◌, ◌∷◌, [], List, refl, sym, ap, subst, Option, Some, None, Ok, Err, append-nil, append_assoc, length-append, slice_get, arith}
+use Rattle.std.proofs.Common.{ℕ, ◌≤◌, length, take, ◌≡◌, ◌∙◌, ◌++◌, ◌∷◌, [], List, refl, sym, ap, subst, Option, Some, None, Ok, Err, append-nil, append_assoc, length-append, slice_get, arith}
 use lib.Seq.{take-append_seam}
 use Rattle.std.specs.Prelude.{Result, MatchOption}
 use Rattle.std.specs.Io.KnownBytes.{Appends, Consumes, IsAtEnd}
@@ -14,7 +14,6 @@ use Rattle.cdi_machine.specs.Tables as machine
 use Rattle.cdi_problems.specs.declared.problem.Problem.{Problem}
 use Rattle.cdi_run_tables.specs.Machine.{machine_tables}
 use Rattle.cdi_run_tables.specs.declared.tables.RunTables.{RunTables}
-use Rattle.cdi_container.specs.Accepted.{serves}
 use Rattle.cdi_machine.specs.Commands.{Command}
 use Rattle.cdi_machine.specs.Laws.{IsOne}
 use Rattle.cdi_machine.specs.Runs.{Legal}
@@ -28,9 +27,9 @@ use Rattle.cdi_lines.specs.declared.fault.ServeFault.TheVariants as faults
 use Rattle.cdi_lines.specs.declared.sink.WriteFailed.{WriteFailed}
 use Rattle.cdi_prepare.specs.declared.scripts.NamedScript.{NamedScript}
 use Rattle.cdi_prepare.specs.Ready.{Readied}
-use Rattle.cdi_prepare.specs.Scripts.{registered, shape_under}
+use Rattle.cdi_prepare.specs.Scripts.{registered}
 use Rattle.cdi_report.specs.Reports.{AreProblemsWith, problem_lines}
-use Rattle.cdi_shell.specs.Drive.{Streams, Writes, Refuses, AreTablesWith, Lives, PlaysScripts, DrivesReadied, Drives, legal_by, readied, unserved_line}
+use Rattle.cdi_shell.specs.Drive.{Streams, Writes, Refuses, Lives, PlaysScripts, DrivesReadied, Drives, legal_by, readied}
 use Rattle.cdi_lines.specs.Ends.{WritesAll}
 use Rattle.cdi_shell.specs.Endings.{after_serving, after_refusal}
 use Rattle.cdi_shell.specs.Laws.{IsSettled, SameOutput, OneOutput}
@@ -39,7 +38,7 @@ use Rattle.cdi_text.specs.ReplyText.{reply_line}
 use Rattle.cdi_lines.specs.Served.{Replies, Serves}
 use Rattle.cdi_uniqueness.proofs.Verdicts.{one_verdict}
 use Rattle.cdi_shell.proofs.Determined.{IsFed, answers_one, replies_one, replies_halted}
-use Rattle.cdi_shell.proofs.Tabled.{same_machine, same_verdict}
+use Rattle.cdi_shell.proofs.Tabled.{same_machine}
 
 -- scripts leave open neither an act nor a pick
 pub one_by : (scripts : List NamedScript) → IsOne (legal_by scripts)
@@ -217,21 +216,13 @@ module _ (depth ticks : ℕ) (input held : List ℕ) (s s' : Streams) (e e' : En
       let same = problems_one ss d those these b a in
       writes_one (problem_lines d.names these) held s s' e e' settled settled' h h' w (subst (λ ps. Writes (problem_lines d.names ps) s' e') same w')
 
-  unlike : (ss : List NamedScript) (d : Deployment) (t t' : RunTables) → AreTablesWith ss d t → AreTablesWith ss d t' → serves (shape_under ss) t ≡ true → serves (shape_under ss) t' ≡ false → ⊥
-  unlike ss d t t' a b served unserved = let same = same_verdict ss d t t' a b in cc (same, served, unserved)
-
   plays_one : (ss : List NamedScript) (d : Deployment) → PlaysScripts depth ticks d ss s e → PlaysScripts depth ticks d ss s' e' → SameOutput s s' e e'
   plays_one ss d (PlaysScripts.starves q) p' = absurd (subst IsSettled q.is_ending settled)
   plays_one ss d p (PlaysScripts.starves q) = absurd (subst IsSettled q.is_ending settled')
   plays_one ss d (PlaysScripts.refuses {problems = these} a some w) (PlaysScripts.refuses {problems = those} b some' w') = refused_one ss d these those a b w w'
-  plays_one ss d (PlaysScripts.refuses {problems = these} a some w) (PlaysScripts.unserved b t unserved w') = absurd (some (problems_one ss d these [] a b))
-  plays_one ss d (PlaysScripts.refuses {problems = these} a some w) (PlaysScripts.runs b t served l) = absurd (some (problems_one ss d these [] a b))
-  plays_one ss d (PlaysScripts.unserved a t unserved w) (PlaysScripts.refuses {problems = those} b some w') = absurd (some (problems_one ss d those [] b a))
-  plays_one ss d (PlaysScripts.unserved a t unserved w) (PlaysScripts.unserved b t' unserved' w') = writes_one unserved_line held s s' e e' settled settled' h h' w w'
-  plays_one ss d (PlaysScripts.unserved {t = x} a t unserved w) (PlaysScripts.runs {t = y} b t' served l) = absurd (unlike ss d y x t' t served unserved)
-  plays_one ss d (PlaysScripts.runs a t served l) (PlaysScripts.refuses {problems = those} b some w') = absurd (some (problems_one ss d those [] b a))
-  plays_one ss d (PlaysScripts.runs {t = x} a t served l) (PlaysScripts.unserved {t = y} b t' unserved w') = absurd (unlike ss d x y t t' served unserved)
-  plays_one ss d (PlaysScripts.runs {t = x} a t served l) (PlaysScripts.runs {t = y} b t' served' l') =
+  plays_one ss d (PlaysScripts.refuses {problems = these} a some w) (PlaysScripts.runs b t l) = absurd (some (problems_one ss d these [] a b))
+  plays_one ss d (PlaysScripts.runs a t l) (PlaysScripts.refuses {problems = those} b some w') = absurd (some (problems_one ss d those [] b a))
+  plays_one ss d (PlaysScripts.runs {t = x} a t l) (PlaysScripts.runs {t = y} b t' l') =
       lives_one x y (legal_by ss) (one_by ss) (ap (λ (k : Deployment). k.names) (t.deployment_is ∙ sym t'.deployment_is)) (same_machine ss d x y t t') l l'
 
   readied_one : (r : Result Readied (List ℕ)) → DrivesReadied depth ticks r s e → DrivesReadied depth ticks r s' e' → SameOutput s s' e e'

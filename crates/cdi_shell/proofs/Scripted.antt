@@ -1,5 +1,5 @@
 -- A deployment whose bodies are scripts plays what the scripts do.
-use Rattle.std.proofs.Common.{ℕ, ◌≡◌, ◌∙◌, List, [], Bool, true, false, ap, sym, subst, Option, Some, None, if◌then◌else◌}
+use Rattle.std.proofs.Common.{ℕ, ◌≡◌, ◌∙◌, List, [], Bool, false, ap, sym, subst, Option, Some, None, if◌then◌else◌}
 use Rattle.cdi_bodies.specs.declared.entry.Entry.{Entry}
 use Rattle.cdi_bodies.specs.declared.shape.Shape.{Shape}
 use Rattle.cdi_body_check.specs.Shapes.{shape_of}
@@ -16,17 +16,17 @@ use Rattle.cdi_run_tables.specs.Machine.{machine_tables}
 use Rattle.cdi_run_tables.specs.declared.tables.RunTables.{RunTables}
 use Rattle.cdi_container.specs.Accepted as container
 use Rattle.cdi_container.specs.Accepted.{IsAccepted, IsUnaccepted, serves}
-use Rattle.cdi_container.specs.Sessions.{AnswersLine}
-use Rattle.cdi_container.specs.States.{before_start}
 use Rattle.cdi_container.specs.declared.acceptance.Unaccepted.{Unaccepted}
 use Rattle.cdi_container.specs.declared.acceptance.Unaccepted.TheVariants as errors
+use Rattle.cdi_container.specs.Sessions.{AnswersLine}
+use Rattle.cdi_container.specs.States.{before_start}
 use Rattle.cdi_prepare.specs.declared.scripts.NamedScript.{NamedScript}
 use Rattle.cdi_prepare.specs.Scripts.{place_under, shape_under}
 use Rattle.cdi_prepare.proofs.Holding.{AreBodiesOf, same_place, same_shape}
 use Rattle.cdi_report.specs.Reports.{AreProblemsWith, problem_lines}
 use Rattle.cdi_text.specs.ReplyText.{reply_line}
 use Rattle.cdi_shell.specs.declared.ending.Ending.{Ending}
-use Rattle.cdi_shell.specs.Drive.{Streams, AreTablesWith, Lives, PlaysScripts, Refuses, RefusesOr, RefusesUnaccepted, legal_by}
+use Rattle.cdi_shell.specs.Drive.{Streams, AreTablesWith, IsRefusable, IsServedWith, Lives, PlaysScripts, Refuses, RefusesOr, RefusesUnaccepted, legal_by}
 use Rattle.cdi_shell.proofs.Attended.{attended}
 use Rattle.cdi_shell.proofs.Holding.{within}
 use Rattle.cdi_shell.proofs.Wider.{answers_more, line_more}
@@ -47,7 +47,7 @@ lives_wider depth ticks t small large streams e more l =
       is_ending = l.is_ending;
     }
 
-module _ {X : Type 0} {F : X → Type 0} {g : _} (depth ticks : ℕ) (d : Deployment) (es : List (Entry X F g)) (ss : List NamedScript) (streams : Streams) (e : Ending) (h : AreBodiesOf es ss) where
+module _ {X : Type 0} {F : X → Type 0} {g : _} (d : Deployment) (es : List (Entry X F g)) (ss : List NamedScript) (h : AreBodiesOf es ss) where
   shapes : (name : ℕ) → shape_of es name ≡ shape_under ss name
   shapes name = same_shape es ss name h
 
@@ -68,16 +68,22 @@ module _ {X : Type 0} {F : X → Type 0} {g : _} (depth ticks : ℕ) (d : Deploy
             ∙ ap (λ (k : Deployment). told_of (place_under ss) (sites_of k) name) a.deployment_is;
       }
 
+  -- a deployment that is served isn't told to be unserved
+  pub refusable : IsServedWith ss d → (u : Unaccepted) → IsUnaccepted d es u → IsRefusable u
+  refusable served (errors.Problems names problems) told = tt
+  refusable served errors.Unserved told = cc (served told.tables (tables_with told.tables told.are), serves_with told.tables false told.unserved)
+  refusable served errors.Memory told = tt
+
+module _ {X : Type 0} {F : X → Type 0} {g : _} (depth ticks : ℕ) (d : Deployment) (es : List (Entry X F g)) (ss : List NamedScript) (streams : Streams) (e : Ending) (h : AreBodiesOf es ss) where
   pub accepted_plays : (t : RunTables) → IsAccepted d es t → Lives depth ticks t (legal_of es) streams e → PlaysScripts depth ticks d ss streams e
   accepted_plays t a l =
-      PlaysScripts.runs (problems_with [] a.are.faultless) (tables_with t a.are) (serves_with t true a.served)
+      PlaysScripts.runs (problems_with d es ss h [] a.are.faultless) (tables_with d es ss h t a.are)
       (lives_wider depth ticks t (legal_of es) (legal_by ss) streams e (within es ss h) l)
 
   pub refused_plays : (u : Unaccepted) → IsUnaccepted d es u → streams.unread_after ≡ streams.unread → RefusesUnaccepted u streams.held streams.held_after e → PlaysScripts depth ticks d ss streams e
   refused_plays (errors.Problems names problems) (named, are, some) unread (RefusesOr.starves held is) = PlaysScripts.starves (record { unread = unread; held = held; is_ending = is })
   refused_plays (errors.Problems names problems) (named, are, some) unread (RefusesOr.refuses w) =
-      PlaysScripts.refuses (problems_with problems are) some
+      PlaysScripts.refuses (problems_with d es ss h problems are) some
       (record { unread = unread; refuses = subst (λ (ns : List (List ℕ)). Refuses (problem_lines ns problems) streams.held streams.held_after e) named w })
-  refused_plays errors.Unserved u unread w =
-      PlaysScripts.unserved (problems_with [] u.are.faultless) (tables_with u.tables u.are) (serves_with u.tables false u.unserved) (record { unread = unread; refuses = w })
+  refused_plays errors.Unserved u unread w = absurd w
   refused_plays errors.Memory told unread (held, is) = PlaysScripts.starves (record { unread = unread; held = held; is_ending = is })

@@ -12,9 +12,7 @@ use Rattle.cdi_run_tables.specs.Planned.{IsPlanned, plan_tables}
 use Rattle.cdi_run_tables.specs.declared.tables.RunTables.{RunTables}
 use Rattle.cdi_tables.specs.BeanTables.{AreTablesOf}
 use Rattle.cdi_tables.specs.declared.bean_tables.BeanTables.{BeanTables}
-use Rattle.cdi_container.specs.Accepted.{serves}
 use Rattle.cdi_prepare.specs.declared.scripts.NamedScript.{NamedScript}
-use Rattle.cdi_prepare.specs.Scripts.{shape_under}
 use Rattle.cdi_uniqueness.proofs.Plans.{one_plan_list}
 use Rattle.cdi_uniqueness.proofs.Tables.{one_tables}
 use Rattle.cdi_shell.specs.Drive.{AreTablesWith}
@@ -53,7 +51,3 @@ module _ (ss : List NamedScript) (d : Deployment) (t u : RunTables) (a : AreTabl
         is_known = λ asked. is_known (same_deployment i) asked.type asked.qualifiers;
         is_event = λ class qualifiers. false;
       }
-
-  -- whether they are served
-  pub same_verdict : serves (shape_under ss) t ≡ serves (shape_under ss) u
-  same_verdict = λ i. serves (shape_under ss) (record { deployment = same_deployment i; tables = t.tables; beans = same_beans i; ids = t.ids })

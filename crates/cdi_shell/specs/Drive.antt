@@ -1,5 +1,5 @@
 -- A run of the program, from the bytes of a deployment and of its input to the bytes of its output.
-use Rattle.std.specs.Prelude.{◌≡◌, ◌≢◌, ℕ, List, [], codes, nat_eq, true, false, Option, Result, Ok, Err, slice_get, MatchOption}
+use Rattle.std.specs.Prelude.{◌≡◌, ◌≢◌, ℕ, List, [], nat_eq, true, Option, Result, Ok, Err, slice_get, MatchOption}
 use Rattle.std.specs.HashMap.{get}
 use Rattle.cdi_base.specs.declared.reply.Reply.{Reply}
 use Rattle.cdi_stage.specs.Stage.{served}
@@ -12,9 +12,9 @@ use Rattle.cdi_run_tables.specs.Machine.{machine_tables}
 use Rattle.cdi_run_tables.specs.Planned.{IsTabled}
 use Rattle.cdi_run_tables.specs.declared.tables.RunTables.{RunTables}
 use Rattle.cdi_script.specs.Next.{next_of}
+use Rattle.cdi_container.specs.Accepted.{serves}
 use Rattle.cdi_container.specs.declared.acceptance.Unaccepted.{Unaccepted}
 use Rattle.cdi_container.specs.declared.acceptance.Unaccepted.TheVariants as errors
-use Rattle.cdi_container.specs.Accepted.{serves}
 use Rattle.cdi_container.specs.Sessions.{AnswersLine, Served}
 use Rattle.cdi_container.specs.States.{State, Boots}
 use Rattle.cdi_shell.specs.declared.ending.Ending.{Ending}
@@ -36,7 +36,8 @@ readied bytes = readied_at served bytes
 abbrev pub legal_by : List NamedScript → Legal
 legal_by scripts =
     record {
-      gives = λ id count fields view act. MatchOption (slice_get scripts id) ⊥ (λ s. act ≡ next_of s.script fields view);
+      gives = λ id count fields view act.
+          MatchOption (slice_get scripts id) ⊥ (λ s. act ≡ next_of s.script fields view);
       picks = λ candidates count choice. choice ≡ 0;
     }
 
@@ -50,7 +51,8 @@ pub record Streams : Type 0 where
   pub held_after : Option (List ℕ)
 
 -- these lines are written, or where that failed a front part of them
-pub record Refuses (lines : List ℕ) (held held_after : Option (List ℕ)) (ending : Ending) : Type 0 where
+pub record Refuses (lines : List ℕ) (held held_after : Option (List ℕ)) (ending : Ending)
+    : Type 0 where
   pub result : Result (Unit {0}) WriteFailed
   pub written : WritesAll held held_after result lines
   pub is_ending : ending ≡ after_refusal result
@@ -81,51 +83,58 @@ pub record Lives (depth ticks : ℕ) (t : RunTables) (legal : Legal) (streams : 
   pub is_ending : ending ≡ after_serving result ended.halted
 
 -- these are the tables of a deployment whose bodies are scripts
-pub record AreTablesWith (scripts : List NamedScript) (d : Deployment) (t : RunTables) : Type 0 where
+pub record AreTablesWith (scripts : List NamedScript) (d : Deployment) (t : RunTables)
+    : Type 0 where
   pub deployment_is : t.deployment ≡ d
   pub tabled : IsTabled t
   pub ids :
       (name : ℕ) → get nat_eq t.ids.ids name ≡ told_of (place_under scripts) (sites_of d) name
 
--- the line for a deployment that has no problem and isn't served yet
-abbrev pub unserved_line : List ℕ
-unserved_line = codes "Unserved\n"
+-- all tables of the deployment are served with these scripts as bodies
+abbrev pub IsServedWith : List NamedScript → Deployment → Type 0
+IsServedWith scripts d =
+    (t : RunTables) → AreTablesWith scripts d t → serves (shape_under scripts) t ≡ true
 
--- A deployment whose bodies are these scripts is run: its problems are written or, if it has none and is served, its
--- container lives.
+-- A deployment whose bodies are these scripts is run: its problems are written or, if it has none, its container lives.
 pub data PlaysScripts (depth ticks : ℕ) (d : Deployment) (scripts : List NamedScript)
     (streams : Streams) (ending : Ending) : Type 0 where
   starves : IsSilent streams ending → PlaysScripts depth ticks d scripts streams ending
   refuses : {problems : List Problem} → AreProblemsWith scripts d problems → problems ≢ []
       → Writes (problem_lines d.names problems) streams ending
       → PlaysScripts depth ticks d scripts streams ending
-  unserved : {t : RunTables} → AreProblemsWith scripts d [] → AreTablesWith scripts d t
-      → serves (shape_under scripts) t ≡ false → Writes unserved_line streams ending
-      → PlaysScripts depth ticks d scripts streams ending
   runs : {t : RunTables} → AreProblemsWith scripts d [] → AreTablesWith scripts d t
-      → serves (shape_under scripts) t ≡ true → Lives depth ticks t (legal_by scripts) streams ending
+      → Lives depth ticks t (legal_by scripts) streams ending
       → PlaysScripts depth ticks d scripts streams ending
 
 -- what was made ready is run
 abbrev pub DrivesReadied : ℕ → ℕ → Result Readied (List ℕ) → Streams → Ending → Type 0
 DrivesReadied depth ticks (Err lines) streams ending = Writes lines streams ending
-DrivesReadied depth ticks (Ok r) streams ending = PlaysScripts depth ticks r.deployment (registered r.scripts) streams ending
+DrivesReadied depth ticks (Ok r) streams ending =
+    PlaysScripts depth ticks r.deployment (registered r.scripts) streams ending
 
 -- the program is run on the bytes of a deployment
-pub data Drives (depth ticks : ℕ) (bytes : List ℕ) (streams : Streams) (ending : Ending) : Type 0 where
+pub data Drives (depth ticks : ℕ) (bytes : List ℕ) (streams : Streams) (ending : Ending)
+    : Type 0 where
   starves : IsSilent streams ending → Drives depth ticks bytes streams ending
-  drives : DrivesReadied depth ticks (readied bytes) streams ending → Drives depth ticks bytes streams ending
+  drives : DrivesReadied depth ticks (readied bytes) streams ending
+      → Drives depth ticks bytes streams ending
 
 -- ---- parts of a run, for private clauses
 
 -- these lines are written, or memory ran out before
-pub data RefusesOr (lines : List ℕ) (held held_after : Option (List ℕ)) (ending : Ending) : Type 0 where
+pub data RefusesOr (lines : List ℕ) (held held_after : Option (List ℕ)) (ending : Ending)
+    : Type 0 where
   starves : held_after ≡ held → ending ≡ starved → RefusesOr lines held held_after ending
   refuses : Refuses lines held held_after ending → RefusesOr lines held held_after ending
+
+-- it isn't accepted for its problems or for want of memory
+abbrev pub IsRefusable : Unaccepted → Type 0
+IsRefusable errors.Unserved = ⊥
+IsRefusable unaccepted = Unit {0}
 
 -- the problems of a deployment that isn't accepted are written, or memory ran out
 abbrev pub RefusesUnaccepted : Unaccepted → Option (List ℕ) → Option (List ℕ) → Ending → Type 0
 RefusesUnaccepted (errors.Problems names problems) held held_after ending =
     RefusesOr (problem_lines names problems) held held_after ending
-RefusesUnaccepted errors.Unserved held held_after ending = Refuses unserved_line held held_after ending
+RefusesUnaccepted errors.Unserved held held_after ending = ⊥
 RefusesUnaccepted errors.Memory held held_after ending = (held_after ≡ held) × (ending ≡ starved)

@@ -24,15 +24,19 @@ pub record SameOutput (s s' : Streams) (e e' : Ending) : Type 0 where
 -- two runs with the same limits, on the same deployment and the same input, whose output goes behind the same bytes
 abbrev pub OneOutput : Type 0
 OneOutput =
-    (depth ticks : ℕ) (bytes input held : List ℕ) (s s' : Streams) (e e' : Ending) → IsSettled e → IsSettled e'
+    (depth ticks : ℕ) (bytes input held : List ℕ) (s s' : Streams) (e e' : Ending)
+    → IsSettled e → IsSettled e'
     → s.unread ≡ Some input → s'.unread ≡ Some input → s.held ≡ Some held → s'.held ≡ Some held
     → Drives depth ticks bytes s e → Drives depth ticks bytes s' e' → SameOutput s s' e e'
 
 -- The program is run, and ends so. Where it was not disturbed, what it wrote and how it ended is what every such run
 -- writes, and how it ends.
-pub record DrivesOnce (depth ticks : ℕ) (bytes : List ℕ) (streams : Streams) (source source_after sink sink_after is_passed_on : Bool) (ending : Ending) : Type 0 where
+pub record DrivesOnce (depth ticks : ℕ) (bytes : List ℕ) (streams : Streams)
+    (source source_after sink sink_after is_passed_on : Bool) (ending : Ending) : Type 0 where
   pub drives : Drives depth ticks bytes streams ending
   pub blames : Blames (outcome_of ending) source source_after sink sink_after
   pub passed_on : OnOk (outcome_of ending) (IsTrue is_passed_on)
-  pub only : (input held : List ℕ) (s : Streams) (e : Ending) → IsSettled ending → IsSettled e → streams.unread ≡ Some input → s.unread ≡ Some input → streams.held ≡ Some held → s.held ≡ Some held
+  pub only : (input held : List ℕ) (s : Streams) (e : Ending) → IsSettled ending → IsSettled e
+      → streams.unread ≡ Some input → s.unread ≡ Some input
+      → streams.held ≡ Some held → s.held ≡ Some held
       → Drives depth ticks bytes s e → SameOutput streams s ending e

@@ -29,11 +29,14 @@ names = codes "K" ∷ codes "n" ∷ codes "up" ∷ []
 pub record Replied : Type 0 where
   pub one : reply_line names (replies.Value (values.Int (pos 1))) ≡ codes "[\"value\",1]\n"
   pub null : reply_line names (replies.Value values.Null) ≡ codes "[\"value\",null]\n"
-  pub text : reply_line names (replies.Value (values.Text (codes "a\"b"))) ≡ codes "[\"value\",\"a\\\"b\"]\n"
+  pub text :
+      reply_line names
+      (replies.Value (values.Text (codes "a\"b"))) ≡ codes "[\"value\",\"a\\\"b\"]\n"
   pub threw : reply_line names (replies.Threw 0) ≡ codes "[\"threw\",\"K\"]\n"
   pub done : reply_line names replies.Done ≡ codes "[\"done\"]\n"
   pub live : reply_line names (replies.Live (1 ∷ 12 ∷ [])) ≡ codes "[\"live\",[1,12]]\n"
-  pub refused : reply_line names (replies.Refused refusals.BadLine) ≡ codes "[\"refused\",\"BadLine\"]\n"
+  pub refused :
+      reply_line names (replies.Refused refusals.BadLine) ≡ codes "[\"refused\",\"BadLine\"]\n"
   pub halted : reply_line names (replies.Halted causes.Depth) ≡ codes "[\"halted\",\"depth\"]\n"
 
 -- the lines of a refused deployment
@@ -42,8 +45,11 @@ pub record RefusedBy : Type 0 where
   pub shape : fault_line (faults.Shape (codes "/classes/0")) ≡ codes "Shape /classes/0\n"
   pub root : fault_line (faults.Shape []) ≡ codes "Shape \n"
   pub script : script_line (codes "up") script_faults.TooLong ≡ codes "script up TooLong\n"
-  pub body : problem_line names (record { kind = kinds.UnknownBody; place = Some (places.Member 0 2) }) ≡ codes "P12 UnknownBody K#up\n"
-  pub many : problem_line names (record { kind = kinds.TooMany; place = None }) ≡ codes "P22 TooMany\n"
+  pub body :
+      problem_line names (record { kind = kinds.UnknownBody; place = Some (places.Member 0 2) })
+      ≡ codes "P12 UnknownBody K#up\n"
+  pub many :
+      problem_line names (record { kind = kinds.TooMany; place = None }) ≡ codes "P22 TooMany\n"
 
 -- where lines end
 pub record Split : Type 0 where

@@ -29,9 +29,6 @@ const STARVED: Ending = Ending::Fault {
     halted: None,
 };
 
-/// What is written of a deployment that isn't served yet.
-const UNSERVED: &str = "Unserved\n";
-
 /// The lines of a refusal could not be written.
 const UNWRITTEN: Ending = Ending::Fault {
     fault: ServeFault::Write,
@@ -43,7 +40,8 @@ fn refuse<W: Sink>(lines: &[u8], output: &mut W) -> Ending
     ensures refuses { spec.Refuses lines.now (W.written output.old) (W.written output.new) result }
     ensures passed_on { OnOk (outcome_of result) (IsTrue (W.is_passed_on output.new)) }
     ensures blames { (source : Bool)
-        → Blames (outcome_of result) source source (W.has_failed output.old) (W.has_failed output.new) }
+        → Blames (outcome_of result) source source
+        (W.has_failed output.old) (W.has_failed output.new) }
 {
     match output.write_through(lines) {
         Ok(()) => Ending::Refused,
@@ -58,10 +56,12 @@ fn refuse_problems<W: Sink>(
     problems: &[Problem],
     output: &mut W,
 ) -> Ending
-    ensures refuses { spec.RefusesOr (problem_lines names.now problems.now) (W.written output.old) (W.written output.new) result }
+    ensures refuses { spec.RefusesOr (problem_lines names.now problems.now)
+        (W.written output.old) (W.written output.new) result }
     ensures passed_on { OnOk (outcome_of result) (IsTrue (W.is_passed_on output.new)) }
     ensures blames { (source : Bool)
-        → Blames (outcome_of result) source source (W.has_failed output.old) (W.has_failed output.new) }
+        → Blames (outcome_of result) source source
+        (W.has_failed output.old) (W.has_failed output.new) }
 {
     match write_problems(alloc, names, problems) {
         Ok(lines) => refuse(&lines, output),
@@ -69,19 +69,21 @@ fn refuse_problems<W: Sink>(
     }
 }
 
-/// Tells why a deployment isn't accepted: its problems, or that it isn't served yet, if memory didn't run out.
+/// Tells the problems for which a deployment isn't accepted, if memory didn't run out.
 fn refuse_unaccepted<W: Sink>(alloc: Global, unaccepted: Unaccepted, output: &mut W) -> Ending
+    requires { spec.IsRefusable unaccepted }
     ensures refuses { spec.RefusesUnaccepted
         unaccepted (W.written output.old) (W.written output.new) result }
     ensures passed_on { OnOk (outcome_of result) (IsTrue (W.is_passed_on output.new)) }
     ensures blames { (source : Bool)
-        → Blames (outcome_of result) source source (W.has_failed output.old) (W.has_failed output.new) }
+        → Blames (outcome_of result) source source
+        (W.has_failed output.old) (W.has_failed output.new) }
 {
     match unaccepted {
         Unaccepted::Problems { names, problems } => {
             refuse_problems(alloc, &names, problems.as_slice(), output)
         }
-        Unaccepted::Unserved => refuse(UNSERVED.as_bytes(), output),
+        Unaccepted::Unserved => unreachable!(),
         Unaccepted::Memory => STARVED,
     }
 }
@@ -122,7 +124,8 @@ fn play_scripts<R: Source, W: Sink>(
     input: &mut R,
     output: &mut W,
 ) -> Result<Ending, AllocError>
-    requires { length prepared.scripts.items ≤ MAX_BODIES }
+    requires few { length prepared.scripts.items ≤ MAX_BODIES }
+    requires served { spec.IsServedWith (registered prepared.scripts.items) prepared.deployment }
     ensures plays { IfOk result (spec.PlaysScripts limits.depth limits.ticks
         prepared.deployment (registered prepared.scripts.items)
         (record {
@@ -132,7 +135,8 @@ fn play_scripts<R: Source, W: Sink>(
           held_after = W.written output.new;
         })) }
     ensures silent { OnErr result ((input.new ≡ input.old) × (output.new ≡ output.old)) }
-    ensures passed_on { IfOk result (λ ending. OnOk (outcome_of ending) (IsTrue (W.is_passed_on output.new))) }
+    ensures passed_on { IfOk result (λ ending.
+        OnOk (outcome_of ending) (IsTrue (W.is_passed_on output.new))) }
     ensures blames { IfOk result (λ ending. Blames (outcome_of ending)
         (R.has_failed input.old) (R.has_failed input.new)
         (W.has_failed output.old) (W.has_failed output.new)) }
@@ -200,7 +204,7 @@ fn run<R: Source, W: Sink>(
 /// Runs the program from the bytes of a deployment on, and gives how it ended.
 ///
 /// A refused deployment is told by its first fault, by the first of its scripts that is bad, or by its problems, each on
-/// a line; one that has none and isn't served yet by the line `Unserved`. Otherwise the scripts are the bodies, the container is started and its command lines are answered, as
+/// a line. Otherwise the scripts are the bodies, the container is started and its command lines are answered, as
 /// [`serve`] does: the lines that stand written are those of a run of the machine for the lines that were read, in which
 /// each body does what its script does next. Where no read or write fails and memory does not run out, they are a
 /// function of the limits, the deployment and the input, also where that is too long. All is passed on before each read,

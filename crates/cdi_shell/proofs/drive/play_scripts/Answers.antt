@@ -10,7 +10,7 @@ use Rattle.cdi_prepare.specs.declared.scripts.NamedScript.{NamedScript}
 use Rattle.cdi_prepare.specs.Scripts.{added, place_under, registered}
 use Rattle.cdi_shell.specs.Drive.{Streams}
 use Rattle.cdi_prepare.proofs.Holding.{holds_add, same_length, same_place, add_known, add_new, holds_all, not_full}
-use Rattle.cdi_shell.proofs.Scripted.{accepted_plays, refused_plays}
+use Rattle.cdi_shell.proofs.Scripted.{accepted_plays, refusable, refused_plays}
 use Rattle.cdi_shell.proofs.drive.play_scripts.OwnLists.{own-1, at-1-1}
 use Rattle.cdi_shell.proofs.drive.play_scripts.Goals as goal
 
@@ -70,3 +70,12 @@ returns-in-Err-clause-plays g c =
     refused_plays c.args.limits.depth c.args.limits.ticks c.args.prepared.deployment entries (registered scripts) streams c.refuse_unaccepted.result
     (holds_all entries inv.0 c.loop-named.named-iterator.rest.items scripts inv.1 inv.2 all)
     c.in-Err.unaccepted c.in-Err.ensures.err refl c.refuse_unaccepted.ensures.refuses
+
+pub refuse_unaccepted-requires : goal.refuse_unaccepted-requires
+refuse_unaccepted-requires g c =
+    let inv = c.loop-named.invariant in
+    let entries = entries_of c.loop-named.bodies in
+    let scripts = c.args.prepared.scripts.items in
+    let all : c.loop-named.named-iterator.rest.items ≡ [] = nil_of c.loop-named.named-iterator.rest.items (let z : c.loop-named.named-iterator.rest.len ≡ 0 = c.in-None.ensures.steps.0 in omega arith) in
+    refusable c.args.prepared.deployment entries (registered scripts)
+    (holds_all entries inv.0 c.loop-named.named-iterator.rest.items scripts inv.1 inv.2 all) c.requires.served c.in-Err.unaccepted c.in-Err.ensures.err

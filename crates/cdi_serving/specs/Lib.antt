@@ -1,0 +1,2 @@
+pub mod AllServed
+pub mod Parts

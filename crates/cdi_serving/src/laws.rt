@@ -1,0 +1,40 @@
+//! Laws of what is served. A call of one of these does nothing: its contract is the law.
+ghost use Rattle.std.specs.Prelude.{◌≡◌, ℕ, List, IfOk, IsTrue, true};
+ghost use Rattle.cdi_deploy.specs.Reading.{deployment_in};
+ghost use Rattle.cdi_deployment.specs.Limits.{is_within};
+ghost use Rattle.cdi_prepare.specs.Ready.{readied_at};
+ghost use Rattle.cdi_prepare.specs.Scripts.{registered, shape_under};
+ghost use Rattle.cdi_run_tables.specs.Planned.{IsTabled};
+ghost use Rattle.cdi_run_tables.specs.Served.{is_served, is_served_body};
+ghost use Rattle.cdi_run_tables.specs.Sizes.{is_small};
+ghost use Rattle.cdi_run_tables.specs.declared.tables.RunTables.{RunTables};
+ghost use Rattle.cdi_serving.specs.AllServed.{IsAllServed};
+ghost use Rattle.cdi_serving.specs.Parts.{AreServedParts};
+ghost use Rattle.cdi_stage.specs.Stage.{served};
+
+/// A deployment that is read at the stage that is served has only parts that are served.
+pub fn law_reads_served_parts()
+    ensures { (bytes : List ℕ) → IfOk (deployment_in bytes) AreServedParts }
+{}
+
+/// The scripts of a deployment that is read at the stage that is served name only what is served.
+pub fn law_reads_served_scripts()
+    ensures { (bytes : List ℕ) → IfOk (readied_at served bytes) (λ r.
+        (name : ℕ) → is_served_body (shape_under (registered r.scripts) name) ≡ true) }
+{}
+
+/// The tables of a deployment that has only parts that are served are served.
+pub fn law_tables_are_served()
+    ensures { (t : RunTables) → IsTabled t → AreServedParts t.deployment → is_served t ≡ true }
+{}
+
+/// The tables of a deployment whose lists are within their limits are small: at most 4,096 beans, and of each at most 4,294,967,295
+/// injected fields.
+pub fn law_tables_are_small()
+    ensures { (t : RunTables) → IsTabled t → IsTrue (is_within t.deployment) → is_small t ≡ true }
+{}
+
+/// All is served of a deployment that is read with its scripts at the stage that is served.
+pub fn law_reads_served()
+    ensures { (bytes : List ℕ) → IfOk (readied_at served bytes) IsAllServed }
+{}
