@@ -47,9 +47,12 @@ number_of names.AmbiguousResolutionException = 18
 
 abbrev pub all_built_in : List BuiltIn
 all_built_in =
-    names.Object ∷ names.Startup ∷ names.Shutdown ∷ names.Any ∷ names.Default ∷ names.Named ∷ names.Initialized ∷ names.BeforeDestroyed ∷ names.Destroyed
-    ∷ names.Value ∷ names.ContextNotActiveException ∷ names.CreationException ∷ names.IllegalProductException ∷ names.IllegalStateException
-    ∷ names.IllegalArgumentException ∷ names.NullPointerException ∷ names.ObserverException ∷ names.UnsatisfiedResolutionException
+    names.Object ∷ names.Startup ∷ names.Shutdown ∷ names.Any ∷ names.Default ∷ names.Named
+    ∷ names.Initialized ∷ names.BeforeDestroyed ∷ names.Destroyed
+    ∷ names.Value ∷ names.ContextNotActiveException ∷ names.CreationException
+    ∷ names.IllegalProductException ∷ names.IllegalStateException
+    ∷ names.IllegalArgumentException ∷ names.NullPointerException ∷ names.ObserverException
+    ∷ names.UnsatisfiedResolutionException
     ∷ names.AmbiguousResolutionException ∷ []
 
 -- the table that each deployment begins with

@@ -23,7 +23,8 @@ module _ {X : Type 0} where
   abbrev pub put_in_order : ℕ → X → Map X → Map X
   put_in_order key value [] = (key, value) ∷ []
   put_in_order key value (p ∷ more) =
-      if key == p.0 then (p.0, value) ∷ more else if nat_lt key p.0 then (key, value) ∷ p ∷ more else p ∷ put_in_order key value more
+      if key == p.0 then (p.0, value) ∷ more else if nat_lt key p.0 then (key, value) ∷ p ∷ more
+      else p ∷ put_in_order key value more
 
   abbrev pub without : ℕ → Map X → Map X
   without key m = filter (λ p. not (key == p.0)) m

@@ -18,21 +18,31 @@ has_names written = is_name written.name && list_all has_name written.members
 
 -- the number of a text, and the table with it; none if the table is full
 abbrev pub numbered : List (List ℕ) → List ℕ → Option (ℕ × List (List ℕ))
-numbered names text = if has_room names text then Some (number_of names text, with_name names text) else None
+numbered names text =
+    if has_room names text then Some (number_of names text, with_name names text) else None
 
 abbrev pub numbered_member : List (List ℕ) → WrittenMember → Option (MemberValue × List (List ℕ))
-numbered_member names member = option_map (λ n. (record { name = n.0; value = member.value }, n.1)) (numbered names member.name)
+numbered_member names member =
+    option_map (λ n. (record { name = n.0; value = member.value }, n.1))
+    (numbered names member.name)
 
 -- the members with their names' numbers, one after the other
-abbrev pub numbered_members : List (List ℕ) → List WrittenMember → Option (List MemberValue × List (List ℕ))
+abbrev pub numbered_members : List (List ℕ) → List WrittenMember
+    → Option (List MemberValue × List (List ℕ))
 numbered_members names [] = Some ([], names)
 numbered_members names (member ∷ others) =
-    option_and_then (λ first. option_map (λ rest. (first.0 ∷ rest.0, rest.1)) (numbered_members first.1 others)) (numbered_member names member)
+    option_and_then
+    (λ first. option_map (λ rest. (first.0 ∷ rest.0, rest.1)) (numbered_members first.1 others))
+    (numbered_member names member)
 
 -- the use with the number of its name, and then of its members' names
 abbrev pub numbered_use : List (List ℕ) → WrittenUse → Option (Use × List (List ℕ))
 numbered_use names written =
-    option_and_then (λ n. option_map (λ members. (record { name = n.0; members = members.0 }, members.1)) (numbered_members n.1 written.members)) (numbered names written.name)
+    option_and_then
+    (λ n.
+    option_map (λ members. (record { name = n.0; members = members.0 }, members.1))
+    (numbered_members n.1 written.members))
+    (numbered names written.name)
 
 -- what was answered, seen by view, is what numbering gives: none if the table is full, and memory may run out
 abbrev pub Interns : {A B : Type 0} → (A → B) → Result A InternError → Option B → Type 0

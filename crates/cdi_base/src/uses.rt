@@ -80,7 +80,8 @@ impl WrittenUse {
 /// The name of a text, which has to be a name. An error leaves the table as it is.
 fn number(names: &mut Names, text: &str) -> Result<Name, InternError>
     requires { IsTrue (is_name text.now) }
-    ensures gives { spec.Interns (λ name. (name, names.new)) result (spec.numbered names.old text.now) }
+    ensures gives { spec.Interns
+        (λ name. (name, names.new)) result (spec.numbered names.old text.now) }
     ensures kept { Extends names.old names.new }
 {
     names.intern(text)

@@ -16,7 +16,8 @@ is_left None type = true
 is_left (Some typed) type = (type == object) || list_any (λ t. t == type) typed
 
 -- a type of a bean whose class or product has this type and that is restricted so
-pub record IsBeanType (types : List TypeDeclaration) (of : ℕ) (typed : Option (List ℕ)) (type : ℕ) : Type 0 where
+pub record IsBeanType (types : List TypeDeclaration) (of : ℕ) (typed : Option (List ℕ)) (type : ℕ)
+    : Type 0 where
   pub above : IsSubtype types of type
   pub left : IsTrue (is_left typed type)
 
@@ -64,7 +65,8 @@ pub record LacksTypeOf (types : List TypeDeclaration) (specialized c : Class) : 
   pub is_lost : IsLost types specialized c type
 
 -- a class directly specializes a bean, and lacks one of that bean's types
-pub record LosesType (classes : List Class) (types : List TypeDeclaration) (c : Class) : Type 0 where
+pub record LosesType (classes : List Class) (types : List TypeDeclaration) (c : Class)
+    : Type 0 where
   pub says : IsTrue (says_specializes c.bean)
   pub specialized : Class
   pub extends_it : extended_bean classes c ≡ Some specialized

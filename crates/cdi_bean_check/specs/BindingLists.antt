@@ -9,7 +9,8 @@ use Rattle.cdi_problems.specs.Elements.{Element}
 -- two uses of one type
 abbrev pub names_type_twice : List Use → Bool
 names_type_twice [] = false
-names_type_twice (u ∷ others) = list_any (λ other. other.name == u.name) others || names_type_twice others
+names_type_twice (u ∷ others) =
+    list_any (λ other. other.name == u.name) others || names_type_twice others
 
 abbrev pub bindings_of_member : Member → List Use
 bindings_of_member (members.Method m) = m.bindings

@@ -14,9 +14,13 @@ use Rattle.cdi_bean_check.specs.ManagedBeans.{is_bean}
 use Rattle.cdi_bean_check.specs.Qualifiers.{uses_with_built_in, required_uses, full_uses}
 
 -- a product has the type and the qualifiers of the disposed parameter
-pub record Fits (types : List TypeDeclaration) (qualifiers : List QualifierType) (m : Disposer) (of : ℕ) (typed : Option (List ℕ)) (uses : List Use) : Type 0 where
+pub record Fits (types : List TypeDeclaration) (qualifiers : List QualifierType) (m : Disposer)
+    (of : ℕ) (typed : Option (List ℕ)) (uses : List Use) : Type 0 where
   pub type : IsBeanType types of typed m.ty
-  pub had : IsTrue (has_all (full_uses qualifiers (uses_with_built_in uses)) (full_uses qualifiers (required_uses m.quals)))
+  pub had :
+      IsTrue (has_all
+      (full_uses qualifiers (uses_with_built_in uses))
+      (full_uses qualifiers (required_uses m.quals)))
 
 -- a disposer serves a member of its class, which is a producer
 abbrev pub Serves : List TypeDeclaration → List QualifierType → Disposer → Member → Type 0
@@ -26,10 +30,12 @@ Serves types qualifiers m _ = ⊥
 
 -- a disposer serves none of these members
 abbrev pub ServesNone : List TypeDeclaration → List QualifierType → List Member → Disposer → Type 0
-ServesNone types qualifiers all m = (producer : Member) → Contains all producer → Serves types qualifiers m producer → ⊥
+ServesNone types qualifiers all m =
+    (producer : Member) → Contains all producer → Serves types qualifiers m producer → ⊥
 
 -- a disposer of a bean serves no member of its class
-pub record ServesNothing (types : List TypeDeclaration) (qualifiers : List QualifierType) (c : Class) (m : Disposer) : Type 0 where
+pub record ServesNothing (types : List TypeDeclaration) (qualifiers : List QualifierType)
+    (c : Class) (m : Disposer) : Type 0 where
   pub of_bean : IsTrue (is_bean c)
   pub nothing : ServesNone types qualifiers c.members m
 
@@ -48,7 +54,8 @@ Disposes types qualifiers (members.Disposer m) producer = Serves types qualifier
 Disposes types qualifiers _ producer = ⊥
 
 -- two of these members are disposers that serve another
-pub record HasTwo (types : List TypeDeclaration) (qualifiers : List QualifierType) (all : List Member) (producer : Member) : Type 0 where
+pub record HasTwo (types : List TypeDeclaration) (qualifiers : List QualifierType)
+    (all : List Member) (producer : Member) : Type 0 where
   pub one : ℕ
   pub other : ℕ
   pub two : one < other
@@ -59,7 +66,8 @@ pub record HasTwo (types : List TypeDeclaration) (qualifiers : List QualifierTyp
   pub second_is : slice_get all other ≡ Some second
   pub second_serves : Disposes types qualifiers second producer
 
-pub record IsServedTwice (types : List TypeDeclaration) (qualifiers : List QualifierType) (c : Class) (producer : Member) : Type 0 where
+pub record IsServedTwice (types : List TypeDeclaration) (qualifiers : List QualifierType)
+    (c : Class) (producer : Member) : Type 0 where
   pub of_bean : IsTrue (is_bean c)
   pub served : HasTwo types qualifiers c.members producer
 

@@ -7,7 +7,8 @@ use Rattle.cdi_members.specs.Members.{members_of}
 use Rattle.cdi_types.specs.declared.declaration.TypeDeclaration.{TypeDeclaration}
 
 -- the members of a bean, superclass first, each with the class that declares it
-pub record AreMembersOf (classes : List Class) (types : List TypeDeclaration) (bean : Class) (has : List (Class × Member)) : Type 0 where
+pub record AreMembersOf (classes : List Class) (types : List TypeDeclaration) (bean : Class)
+    (has : List (Class × Member)) : Type 0 where
   pub line : List Class
   pub is_line : IsLineOf types classes bean.name line
   pub are : has ≡ members_of line

@@ -28,23 +28,28 @@ abbrev pub observer_count : List (Class × Member) → ℕ
 observer_count has = count_by (λ d. is_observer d.1) has
 
 -- how many observers a bean has, those that it inherits too
-pub record IsObserverCountOf (classes : List Class) (types : List TypeDeclaration) (bean : Class) (count : ℕ) : Type 0 where
+pub record IsObserverCountOf (classes : List Class) (types : List TypeDeclaration) (bean : Class)
+    (count : ℕ) : Type 0 where
   pub has : List (Class × Member)
   pub are : AreMembersOf classes types bean has
   pub sum : count ≡ observer_count has
 
 -- how many observers the beans have, those that they inherit too
-pub record IsObserverCount (classes : List Class) (types : List TypeDeclaration) (count : ℕ) : Type 0 where
+pub record IsObserverCount (classes : List Class) (types : List TypeDeclaration) (count : ℕ)
+    : Type 0 where
   pub members_of_beans : List (List (Class × Member))
   pub each : AllZip (AreMembersOf classes types) (filter is_bean classes) members_of_beans
   pub sum : count ≡ sum_by observer_count members_of_beans
 
 -- the same, counted up to a number
-pub record IsObserverCountUpTo (classes : List Class) (types : List TypeDeclaration) (most count : ℕ) : Type 0 where
+pub record IsObserverCountUpTo (classes : List Class) (types : List TypeDeclaration)
+    (most count : ℕ) : Type 0 where
   pub all : ℕ
   pub is : IsObserverCount classes types all
   pub counted : count ≡ min all most
 
 -- P22 TooMany: over 4,096 managed beans and products together, or over 16,384 observers with the inherited ones
 abbrev pub HasTooMany : List Class → List TypeDeclaration → Type 0
-HasTooMany classes types = (4096 < bean_count classes) ⊎ ((count : ℕ) × IsObserverCount classes types count × (16384 < count))
+HasTooMany classes types =
+    (4096 < bean_count classes)
+    ⊎ ((count : ℕ) × IsObserverCount classes types count × (16384 < count))

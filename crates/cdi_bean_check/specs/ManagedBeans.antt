@@ -44,7 +44,8 @@ IsAbstractBean _ = ⊥
 
 -- P6 SpecializesNothing: a bean specializes and its class doesn't directly extend a bean's class
 abbrev pub SpecializesNothing : List ℕ → Element → Type 0
-SpecializesNothing beans (Element.AClass i c) = IsTrue (says_specializes c.bean && not (extends_one_of beans c))
+SpecializesNothing beans (Element.AClass i c) =
+    IsTrue (says_specializes c.bean && not (extends_one_of beans c))
 SpecializesNothing beans _ = ⊥
 
 abbrev pub is_dependent : Scope → Bool

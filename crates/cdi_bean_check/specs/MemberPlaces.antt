@@ -17,7 +17,8 @@ abbrev pub has_place : {S : Type 0} → HashSet MemberPlace S → MemberPlace �
 has_place set place = contains same_place set place
 
 -- one of some items has something at a place
-pub record IsOfSome {X : Type 0} (Has : X → MemberPlace → Type 0) (items : List X) (place : MemberPlace) : Type 0 where
+pub record IsOfSome {X : Type 0} (Has : X → MemberPlace → Type 0) (items : List X)
+    (place : MemberPlace) : Type 0 where
   pub item : X
   pub listed : Contains items item
   pub has : Has item place
@@ -27,5 +28,8 @@ abbrev pub HasPlaces : {S : Type 0} → (MemberPlace → Type 0) → HashSet Mem
 HasPlaces Has set = (place : MemberPlace) → IsTrue (has_place set place) ↔ Has place
 
 -- these places are added to a set
-abbrev pub AddsPlaces : {S : Type 0} → (MemberPlace → Type 0) → HashSet MemberPlace S → HashSet MemberPlace S → Type 0
-AddsPlaces Has old new = (place : MemberPlace) → IsTrue (has_place new place) ↔ (Has place ⊎ IsTrue (has_place old place))
+abbrev pub AddsPlaces : {S : Type 0} → (MemberPlace → Type 0) → HashSet MemberPlace S
+    → HashSet MemberPlace S → Type 0
+AddsPlaces Has old new =
+    (place : MemberPlace)
+    → IsTrue (has_place new place) ↔ (Has place ⊎ IsTrue (has_place old place))

@@ -24,7 +24,8 @@ abbrev pub conditional_places : List (Class × Member) → List MemberPlace
 conditional_places has = filter_map conditional_place has
 
 -- a class is a bean of the dependent pseudo-scope, and has a conditional observer that is declared at a place
-pub record HasConditionalAt (classes : List Class) (types : List TypeDeclaration) (bean : Class) (place : MemberPlace) : Type 0 where
+pub record HasConditionalAt (classes : List Class) (types : List TypeDeclaration) (bean : Class)
+    (place : MemberPlace) : Type 0 where
   pub dependent : IsTrue (has_dependent_scope bean.bean)
   pub has : List (Class × Member)
   pub are : AreMembersOf classes types bean has
@@ -36,7 +37,8 @@ IsConditionalAt classes types place = IsOfSome (HasConditionalAt classes types) 
 
 -- P10 ConditionalDependent: a Dependent bean has a conditional observer; the place is the observer where it is declared
 abbrev pub IsConditionalDependent : List Class → List TypeDeclaration → Element → Type 0
-IsConditionalDependent classes types (Element.AMember i c m) = IsConditionalAt classes types (c.name, member_name m)
+IsConditionalDependent classes types (Element.AMember i c m) =
+    IsConditionalAt classes types (c.name, member_name m)
 IsConditionalDependent classes types _ = ⊥
 
 -- the same of a set that has those places

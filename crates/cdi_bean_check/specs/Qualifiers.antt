@@ -19,7 +19,8 @@ plain_use n = record { name = number_of n; members = [] }
 
 -- none but Named and Any
 abbrev pub names_no_other : List Use → Bool
-names_no_other uses = list_all (λ u. (u.name == number_of names.Named) || (u.name == number_of names.Any)) uses
+names_no_other uses =
+    list_all (λ u. (u.name == number_of names.Named) || (u.name == number_of names.Any)) uses
 
 abbrev pub default_if : Bool → List Use
 default_if b = if b then plain_use names.Default ∷ [] else []
@@ -34,7 +35,8 @@ is_any (u ∷ us) = true
 
 -- what a specializing bean has besides those of the bean that it specializes: it gets no Default where it declares nothing
 abbrev pub specializing_uses : List Use → List Use
-specializing_uses declared = declared ++ plain_use names.Any ∷ default_if (is_any declared && names_no_other declared)
+specializing_uses declared =
+    declared ++ plain_use names.Any ∷ default_if (is_any declared && names_no_other declared)
 
 abbrev pub declared_uses : Option Bean → List Use
 declared_uses None = []
@@ -46,8 +48,10 @@ specialized_bean classes c = if says_specializes c.bean then extended_bean class
 
 -- the qualifiers of a managed bean: declared, built in, and those of the bean that it directly specializes
 pub data AreUsesOf (classes : List Class) : Class → List Use → Type 0 where
-  plain : {c : Class} → specialized_bean classes c ≡ None → AreUsesOf classes c (uses_with_built_in (declared_uses c.bean))
-  specializing : {c s : Class} {uses : List Use} → specialized_bean classes c ≡ Some s → AreUsesOf classes s uses
+  plain : {c : Class} → specialized_bean classes c ≡ None
+      → AreUsesOf classes c (uses_with_built_in (declared_uses c.bean))
+  specializing : {c s : Class} {uses : List Use} → specialized_bean classes c ≡ Some s
+      → AreUsesOf classes s uses
       → AreUsesOf classes c (specializing_uses (declared_uses c.bean) ++ uses)
 
 -- a point without qualifiers requires Default
@@ -57,7 +61,8 @@ required_uses (u ∷ us) = u ∷ us
 
 -- the set of these uses, each with all members of its type
 abbrev pub IsSetOf : List (List ℕ) → List QualifierType → List Use → List Qualifier → Type 0
-IsSetOf names types uses set = IsOrderedSet (compare_qualifiers names) (map (full_use types) uses) set
+IsSetOf names types uses set =
+    IsOrderedSet (compare_qualifiers names) (map (full_use types) uses) set
 
 -- the same as lists, for what doesn't hang on the order
 abbrev pub full_uses : List QualifierType → List Use → List Qualifier

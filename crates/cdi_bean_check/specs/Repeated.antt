@@ -12,7 +12,8 @@ use Rattle.cdi_types.specs.declared.declaration.TypeDeclaration.{TypeDeclaration
 use Rattle.cdi_bean_check.specs.MemberPlaces.{MemberPlace, same_place, has_place, IsOfSome}
 
 abbrev pub has_field : ℕ → Class → Bool
-has_field name c = list_any (λ f. f.name == name) c.fields || list_any (λ f. f.name == name) c.inject
+has_field name c =
+    list_any (λ f. f.name == name) c.fields || list_any (λ f. f.name == name) c.inject
 
 -- of one kind, and methods with one number of values
 abbrev pub is_alike : Member → Member → Bool
@@ -28,20 +29,24 @@ is_alike _ _ = false
 
 -- a member of the same name that isn't alike
 abbrev pub has_other_member : Member → Class → Bool
-has_other_member m c = list_any (λ n. (member_name n == member_name m) && not (is_alike n m)) c.members
+has_other_member m c =
+    list_any (λ n. (member_name n == member_name m) && not (is_alike n m)) c.members
 
 -- the names of a class's fields, injected or not, that fields of a class above it have, and of its members that are other members there
 abbrev pub repeated_names : Class → Class → List ℕ
 repeated_names above c =
-    map (λ f. f.name) (filter (λ f. has_field f.name above) c.fields) ++ map (λ f. f.name) (filter (λ f. has_field f.name above) c.inject)
+    map (λ f. f.name) (filter (λ f. has_field f.name above) c.fields)
+    ++ map (λ f. f.name) (filter (λ f. has_field f.name above) c.inject)
     ++ map member_name (filter (λ m. has_other_member m above) c.members)
 
 -- at a place in a class stands such a name
 abbrev pub repeats_at : Class → MemberPlace → Class → Bool
-repeats_at c place above = list_any (λ name. same_place (c.name, name) place) (repeated_names above c)
+repeats_at c place above =
+    list_any (λ name. same_place (c.name, name) place) (repeated_names above c)
 
 -- a class repeats, at a place in it, a name of one of its superclasses
-pub record RepeatsAt (classes : List Class) (types : List TypeDeclaration) (c : Class) (place : MemberPlace) : Type 0 where
+pub record RepeatsAt (classes : List Class) (types : List TypeDeclaration) (c : Class)
+    (place : MemberPlace) : Type 0 where
   pub direct : ℕ
   pub extends : c.extends ≡ Some direct
   pub line : List Class
@@ -55,8 +60,10 @@ IsRepeatedAt classes types place = IsOfSome (RepeatsAt classes types) classes pl
 -- superclass's member of another kind or number of values
 abbrev pub RepeatsSuperclass : List Class → List TypeDeclaration → Element → Type 0
 RepeatsSuperclass classes types (Element.AField i c f) = IsRepeatedAt classes types (c.name, f.name)
-RepeatsSuperclass classes types (Element.AnInjectedField i c f) = IsRepeatedAt classes types (c.name, f.name)
-RepeatsSuperclass classes types (Element.AMember i c m) = IsRepeatedAt classes types (c.name, member_name m)
+RepeatsSuperclass classes types (Element.AnInjectedField i c f) =
+    IsRepeatedAt classes types (c.name, f.name)
+RepeatsSuperclass classes types (Element.AMember i c m) =
+    IsRepeatedAt classes types (c.name, member_name m)
 RepeatsSuperclass classes types _ = ⊥
 
 -- the same of a set that has those places

@@ -24,11 +24,13 @@ PlacesIn d P found = ArePlacesOf P (elements_of d) found
 
 -- there are too many, and the one problem says so; or there aren't, and nothing does
 pub data AreTooMany (d : Deployment) : List Problem → Type 0 where
-  too_many : HasTooMany d.classes (declarations_of d) → AreTooMany d ((record { kind = kinds.TooMany; place = None }) ∷ [])
+  too_many : HasTooMany d.classes (declarations_of d)
+      → AreTooMany d ((record { kind = kinds.TooMany; place = None }) ∷ [])
   few : ¬ HasTooMany d.classes (declarations_of d) → AreTooMany d []
 
 -- to a list are added the problems of a kind, where it holds of some elements
-pub record AddsProblems (P : Element → Type 0) (elements : List Element) (kind : ProblemKind) (old new : List Problem) : Type 0 where
+pub record AddsProblems (P : Element → Type 0) (elements : List Element) (kind : ProblemKind)
+    (old new : List Problem) : Type 0 where
   pub places : List Place
   pub are : ArePlacesOf P elements places
   pub adds : new ≡ old ++ problems_at kind places
@@ -40,7 +42,8 @@ pub record AddsExcess (d : Deployment) (old new : List Problem) : Type 0 where
   pub adds : new ≡ old ++ excess
 
 -- the problems of beans: each where it holds, by number and then in the order of the places
-pub record AreBeanProblems (d : Deployment) (qualifiers : List QualifierType) (problems : List Problem) : Type 0 where
+pub record AreBeanProblems (d : Deployment) (qualifiers : List QualifierType)
+    (problems : List Problem) : Type 0 where
   pub repeated : List Place
   pub are_repeated : PlacesIn d (RepeatsSuperclass d.classes (declarations_of d)) repeated
   pub abstract_beans : List Place
@@ -54,16 +57,22 @@ pub record AreBeanProblems (d : Deployment) (qualifiers : List QualifierType) (p
   pub unmatched : List Place
   pub are_unmatched : PlacesIn d (IsUnmatchedDisposer (declarations_of d) qualifiers) unmatched
   pub twice_disposed : List Place
-  pub are_twice_disposed : PlacesIn d (HasTwoDisposers (declarations_of d) qualifiers) twice_disposed
+  pub are_twice_disposed :
+      PlacesIn d (HasTwoDisposers (declarations_of d) qualifiers) twice_disposed
   pub conditional : List Place
-  pub are_conditional : PlacesIn d (IsConditionalDependent d.classes (declarations_of d)) conditional
+  pub are_conditional :
+      PlacesIn d (IsConditionalDependent d.classes (declarations_of d)) conditional
   pub twice_bound : List Place
   pub are_twice_bound : PlacesIn d HasTwoBindingsOfOneType twice_bound
   pub excess : List Problem
   pub are_excess : AreTooMany d excess
   pub are :
       problems
-      ≡ problems_at kinds.DuplicateName repeated ++ problems_at kinds.AbstractBean abstract_beans ++ problems_at kinds.TypedNotAType typed
-      ++ problems_at kinds.SpecializesNothing specializing ++ problems_at kinds.SpecializedTypeLost losing
-      ++ problems_at kinds.UnmatchedDisposer unmatched ++ problems_at kinds.TwoDisposers twice_disposed
-      ++ problems_at kinds.ConditionalDependent conditional ++ problems_at kinds.TwoBindingsOfOneType twice_bound ++ excess
+      ≡ problems_at kinds.DuplicateName repeated ++ problems_at kinds.AbstractBean abstract_beans
+      ++ problems_at kinds.TypedNotAType typed
+      ++ problems_at kinds.SpecializesNothing specializing
+      ++ problems_at kinds.SpecializedTypeLost losing
+      ++ problems_at kinds.UnmatchedDisposer unmatched
+      ++ problems_at kinds.TwoDisposers twice_disposed
+      ++ problems_at kinds.ConditionalDependent conditional
+      ++ problems_at kinds.TwoBindingsOfOneType twice_bound ++ excess

@@ -74,7 +74,8 @@ fn has_other_member(class: &Class, member: &Member) -> bool
 
 fn add_fields(above: &Class, fields: &[Field], names: &mut Seq<Name>) -> Result<(), AllocError>
     ensures { OnOk result (names.new
-        ≡ names.old ++ map (λ f. f.name) (filter (λ f. spec.has_field f.name above.now) fields.now)) }
+        ≡ names.old
+        ++ map (λ f. f.name) (filter (λ f. spec.has_field f.name above.now) fields.now)) }
 {
     for field in fields {
         if has_field(above, field.name) {
@@ -90,7 +91,8 @@ fn add_injected(
     names: &mut Seq<Name>,
 ) -> Result<(), AllocError>
     ensures { OnOk result (names.new
-        ≡ names.old ++ map (λ f. f.name) (filter (λ f. spec.has_field f.name above.now) fields.now)) }
+        ≡ names.old
+        ++ map (λ f. f.name) (filter (λ f. spec.has_field f.name above.now) fields.now)) }
 {
     for field in fields {
         if has_field(above, field.name) {
@@ -130,7 +132,8 @@ fn add_places(
     found: &mut HashSet<(Name, Name)>,
 ) -> Result<(), AllocError>
     ensures { OnOk result ((place : MemberPlace) → is_place_of found.new place
-        ≡ (list_any (λ name. same_place (class, name) place) names.now || is_place_of found.old place)) }
+        ≡ (list_any (λ name. same_place (class, name) place) names.now
+        || is_place_of found.old place)) }
 {
     for name in names {
         found.insert((class, *name))?;

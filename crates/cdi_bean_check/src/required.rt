@@ -97,7 +97,8 @@ fn has_written(types: &QualifierTypes, declared: &[Use], other: &Use) -> bool
 
 /// Whether a bean that declares these qualifiers, and specializes none, has all of others.
 fn has_each(types: &QualifierTypes, declared: &[Use], others: &[Use]) -> bool
-    ensures { result ≡ quals.has_all (spec.full_uses types.now (spec.uses_with_built_in declared.now))
+    ensures { result ≡ quals.has_all
+        (spec.full_uses types.now (spec.uses_with_built_in declared.now))
         (spec.full_uses types.now others.now) }
 {
     for other in others {
@@ -111,7 +112,8 @@ fn has_each(types: &QualifierTypes, declared: &[Use], others: &[Use]) -> bool
 /// Whether a bean that declares these qualifiers, and specializes none, has all those that are required; where none is written,
 /// that is `Default` (Jakarta CDI 4.0, *Built-in qualifier types*).
 pub fn has_required(types: &QualifierTypes, declared: &[Use], required: &[Use]) -> bool
-    ensures { result ≡ quals.has_all (spec.full_uses types.now (spec.uses_with_built_in declared.now))
+    ensures { result ≡ quals.has_all
+        (spec.full_uses types.now (spec.uses_with_built_in declared.now))
         (spec.full_uses types.now (spec.required_uses required.now)) }
 {
     match required {

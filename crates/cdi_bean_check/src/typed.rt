@@ -30,7 +30,8 @@ fn lists_other(types: &TypeTable, of: Name, typed: &[Name]) -> bool
 
 fn is_restricted_wrongly(types: &TypeTable, of: Name, typed: &Option<Seq<Name>>) -> bool
     ensures { MatchBool result
-        (spec.RestrictedWrongly types.now of typed.now) (¬ spec.RestrictedWrongly types.now of typed.now) }
+        (spec.RestrictedWrongly types.now of typed.now)
+        (¬ spec.RestrictedWrongly types.now of typed.now) }
 {
     match typed {
         Some(typed) => lists_other(types, of, typed.as_slice()),

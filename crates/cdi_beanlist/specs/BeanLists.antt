@@ -10,9 +10,12 @@ use Rattle.cdi_beanlist.specs.Interceptors.{AreInterceptorsOf}
 use Rattle.cdi_beanlist.specs.ObserverMethods.{AreObserversOf}
 use Rattle.cdi_beanlist.specs.declared.bean.BeanList.{BeanList}
 
-pub record IsBeanListOf (d : Deployment) (qualifiers bindings : List QualifierType) (list : BeanList) : Type 0 where
+pub record IsBeanListOf (d : Deployment) (qualifiers bindings : List QualifierType)
+    (list : BeanList) : Type 0 where
   pub beans : AllZip (IsBeanOf d qualifiers) (flat_map sources_in d.classes) list.beans
   pub selected : list.selected ≡ d.selected
   pub interceptors : AreInterceptorsOf d bindings list.interceptors
   pub observers : AreObserversOf d qualifiers (filter is_bean d.classes) list.observers
-  pub disposers : AllZip (IsDisposerOf d qualifiers) (flat_map disposers_in (filter is_bean d.classes)) list.disposers
+  pub disposers :
+      AllZip (IsDisposerOf d qualifiers) (flat_map disposers_in (filter is_bean d.classes))
+      list.disposers

@@ -51,9 +51,11 @@ pub record IsDeclaredBy (c : Class) (b : Bean) : Type 0 where
   pub priority : b.priority ≡ priority_of c.bean
 
 -- of this kind, with the types of a type that are restricted so, with these uses of qualifiers, and this scope
-pub record IsBeanWith (d : Deployment) (qualifiers : List QualifierType) (kind : BeanKind) (of : ℕ) (typed : Option (List ℕ)) (uses : List Use) (scope : Option Scope) (b : Bean) : Type 0 where
+pub record IsBeanWith (d : Deployment) (qualifiers : List QualifierType) (kind : BeanKind) (of : ℕ)
+    (typed : Option (List ℕ)) (uses : List Use) (scope : Option Scope) (b : Bean) : Type 0 where
   pub kind_is : b.kind ≡ kind
-  pub types : ListsThose (IsBeanType (declarations_of d) of typed) (all_types (declarations_of d)) b.types
+  pub types :
+      ListsThose (IsBeanType (declarations_of d) of typed) (all_types (declarations_of d)) b.types
   pub set : IsSetOf d.names qualifiers uses b.qualifiers
   pub scope_is : scope ≡ Some b.scope
 
@@ -75,12 +77,16 @@ pub record IsProductOf (c : Class) (b : Bean) : Type 0 where
   pub no_members : b.members ≡ []
 
 pub data IsBeanOf (d : Deployment) (qualifiers : List QualifierType) : Source → Bean → Type 0 where
-  managed : {c : Class} {uses : List Use} {b : Bean} → AreUsesOf d.classes c uses → IsDeclaredBy c b → IsManagedBeanOf d c b
-      → IsBeanWith d qualifiers kinds.Managed c.name (restriction c.bean) uses (option_map (λ bean. bean.scope) c.bean) b
+  managed : {c : Class} {uses : List Use} {b : Bean} → AreUsesOf d.classes c uses → IsDeclaredBy c b
+      → IsManagedBeanOf d c b
+      → IsBeanWith d qualifiers kinds.Managed c.name (restriction c.bean) uses
+      (option_map (λ bean. bean.scope) c.bean) b
       → IsBeanOf d qualifiers (Source.AClass c) b
   produced : {c : Class} {p : ProducerMethod} {b : Bean} → IsProductOf c b
-      → IsBeanWith d qualifiers (kinds.ProducerMethod p.name) p.ty p.typed (uses_with_built_in p.quals) (Some p.scope) b
+      → IsBeanWith d qualifiers (kinds.ProducerMethod p.name) p.ty p.typed
+      (uses_with_built_in p.quals) (Some p.scope) b
       → IsBeanOf d qualifiers (Source.AProducer c (members.Producer p)) b
   held : {c : Class} {p : ProducerField} {b : Bean} → IsProductOf c b
-      → IsBeanWith d qualifiers (kinds.ProducerField p.name) p.ty p.typed (uses_with_built_in p.quals) (Some p.scope) b
+      → IsBeanWith d qualifiers (kinds.ProducerField p.name) p.ty p.typed
+      (uses_with_built_in p.quals) (Some p.scope) b
       → IsBeanOf d qualifiers (Source.AProducer c (members.ProducerField p)) b

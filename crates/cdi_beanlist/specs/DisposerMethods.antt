@@ -22,13 +22,15 @@ abbrev pub disposers_in : Class → List (Class × Disposer)
 disposers_in c = filter_map (disposer c) c.members
 
 -- the names of those of some members that a disposer serves
-pub record AreServed (types : List TypeDeclaration) (qualifiers : List QualifierType) (m : Disposer) (ms : List Member) (names : List ℕ) : Type 0 where
+pub record AreServed (types : List TypeDeclaration) (qualifiers : List QualifierType) (m : Disposer)
+    (ms : List Member) (names : List ℕ) : Type 0 where
   pub producers : List Member
   pub served : ListsThose (Serves types qualifiers m) ms producers
   pub are : names ≡ map member_name producers
 
 -- a disposer with the names of the producers that it serves
-pub record IsDisposerOf (d : Deployment) (qualifiers : List QualifierType) (declared : Class × Disposer) (m : DisposerMethod) : Type 0 where
+pub record IsDisposerOf (d : Deployment) (qualifiers : List QualifierType)
+    (declared : Class × Disposer) (m : DisposerMethod) : Type 0 where
   pub class : m.class ≡ declared.0.name
   pub name : m.name ≡ declared.1.name
   pub serves : AreServed (declarations_of d) qualifiers declared.1 declared.0.members m.serves

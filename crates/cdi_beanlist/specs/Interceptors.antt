@@ -29,10 +29,13 @@ listed interceptors name = find (λ p. (p.1.name == name) && not (has_priority p
 -- those with a priority, ascending, and then those that are listed, in the order of the list
 pub record AreEnabled (d : Deployment) (enabled : List Indexed) : Type 0 where
   pub by_priority : List Indexed
-  pub in_order : IsOrderedSet compare_priorities (filter has_priority (enumerate_from 0 d.interceptors)) by_priority
+  pub in_order :
+      IsOrderedSet compare_priorities (filter has_priority (enumerate_from 0 d.interceptors))
+      by_priority
   pub are : enabled ≡ by_priority ++ filter_map (listed (enumerate_from 0 d.interceptors)) d.order
 
-pub record IsEnabledInterceptor (names : List (List ℕ)) (bindings : List QualifierType) (p : Indexed) (j : EnabledInterceptor) : Type 0 where
+pub record IsEnabledInterceptor (names : List (List ℕ)) (bindings : List QualifierType)
+    (p : Indexed) (j : EnabledInterceptor) : Type 0 where
   pub index : j.index ≡ p.0
   pub name : j.name ≡ p.1.name
   pub bound : IsSetOf names bindings p.1.bindings j.bindings
@@ -41,7 +44,8 @@ pub record IsEnabledInterceptor (names : List (List ℕ)) (bindings : List Quali
   pub post : j.post ≡ p.1.post
   pub pre : j.pre ≡ p.1.pre
 
-pub record AreInterceptorsOf (d : Deployment) (bindings : List QualifierType) (interceptors : List EnabledInterceptor) : Type 0 where
+pub record AreInterceptorsOf (d : Deployment) (bindings : List QualifierType)
+    (interceptors : List EnabledInterceptor) : Type 0 where
   pub enabled : List Indexed
   pub are_enabled : AreEnabled d enabled
   pub each : AllZip (IsEnabledInterceptor d.names bindings) enabled interceptors

@@ -21,7 +21,8 @@ abbrev pub observer_priority : Observer → ℤ
 observer_priority o = unwrap_or o.priority (pos 2500)
 
 -- an observer that a bean has, with the class that declares it
-pub record IsObserverOf (d : Deployment) (qualifiers : List QualifierType) (bean : Class) (declared : Class × Observer) (m : ObserverMethod) : Type 0 where
+pub record IsObserverOf (d : Deployment) (qualifiers : List QualifierType) (bean : Class)
+    (declared : Class × Observer) (m : ObserverMethod) : Type 0 where
   pub of_bean : m.bean ≡ bean.name
   pub of_class : m.class ≡ declared.0.name
   pub name : m.name ≡ declared.1.name
@@ -31,8 +32,12 @@ pub record IsObserverOf (d : Deployment) (qualifiers : List QualifierType) (bean
   pub if_exists : m.if_exists ≡ declared.1.if_exists
 
 -- the observers of some beans: bean by bean, those among the members that it has
-pub data AreObserversOf (d : Deployment) (qualifiers : List QualifierType) : List Class → List ObserverMethod → Type 0 where
+pub data AreObserversOf (d : Deployment) (qualifiers : List QualifierType)
+    : List Class → List ObserverMethod → Type 0 where
   none : AreObserversOf d qualifiers [] []
-  next : {c : Class} {cs : List Class} {has : List (Class × Member)} {rest : List ObserverMethod} (first : List ObserverMethod) → AreMembersOf d.classes (declarations_of d) c has
-      → AllZip (IsObserverOf d qualifiers c) (filter_map observer has) first → AreObserversOf d qualifiers cs rest
+  next :
+      {c : Class} {cs : List Class} {has : List (Class × Member)} {rest : List ObserverMethod}
+      (first : List ObserverMethod) → AreMembersOf d.classes (declarations_of d) c has
+      → AllZip (IsObserverOf d qualifiers c) (filter_map observer has) first
+      → AreObserversOf d qualifiers cs rest
       → AreObserversOf d qualifiers (c ∷ cs) (first ++ rest)

@@ -25,7 +25,8 @@ pub record IsMadeOf (d : Deployment) (list : BeanList) : Type 0 where
 -- problems of names or, if there are none, of beans
 pub data AreProblemsOf (d : Deployment) (problems : List Problem) : Type 0 where
   of_names : AreNameProblems d problems → AreProblemsOf d problems
-  of_beans : {qualifiers : List QualifierType} → AreQualifiersOf d qualifiers → AreNameProblems d [] → AreBeanProblems d qualifiers problems
+  of_beans : {qualifiers : List QualifierType} → AreQualifiersOf d qualifiers → AreNameProblems d []
+      → AreBeanProblems d qualifiers problems
       → AreProblemsOf d problems
 
 -- the problems of a deployment that has some

@@ -9,7 +9,8 @@ use Rattle.cdi_bodies.specs.declared.shape.Shape.{Shape}
 use Rattle.cdi_bodies.specs.Gives.{is_named}
 
 -- the new table has one body more, last
-pub record Adds {X : Type 0} {F : X → Type 0} {g : _} (old new : List (Entry X F g)) (name : ℕ) (shape : Shape) (body : DynBox X Global F) : Type 0 where
+pub record Adds {X : Type 0} {F : X → Type 0} {g : _} (old new : List (Entry X F g)) (name : ℕ)
+    (shape : Shape) (body : DynBox X Global F) : Type 0 where
   pub entry : Entry X F g
   pub is_last : new ≡ old ++ entry ∷ []
   pub is_name : entry.name ≡ name
@@ -33,7 +34,8 @@ is_full (Full body) = true
 is_full (Memory body) = false
 
 -- the body was not added, for this reason
-abbrev pub IsRefused : {X : Type 0} {F : X → Type 0} → (AddError X F → Bool) → Result ℕ (AddError X F) → Type 0
+abbrev pub IsRefused : {X : Type 0} {F : X → Type 0} → (AddError X F → Bool)
+    → Result ℕ (AddError X F) → Type 0
 IsRefused reason answer = IsErrAnd answer (λ error. IsTrue (reason error))
 
 -- there are 4,096 bodies, and none of this name

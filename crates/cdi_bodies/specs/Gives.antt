@@ -9,7 +9,8 @@ use Rattle.cdi_bodies.specs.declared.view.View.{View}
 use Rattle.cdi_bodies.specs.Shape.{in_shape}
 
 -- the entry's closure promises that it may answer this act where it is shown these fields and this view
-pub record Promises {X : Type 0} {F : X → Type 0} {g : _} (e : Entry X F g) (fields : Fields) (view : View) (act : Act) : Type 0 where
+pub record Promises {X : Type 0} {F : X → Type 0} {g : _} (e : Entry X F g) (fields : Fields)
+    (view : View) (act : Act) : Type 0 where
   pub shown_fields : Bor Fields
   pub shown_view : Bor View
   pub is_fields : shown_fields.now ≡ fields
@@ -17,8 +18,10 @@ pub record Promises {X : Type 0} {F : X → Type 0} {g : _} (e : Entry X F g) (f
   pub given : g.post (e.body.vtable, e.body.value) (shown_fields, (shown_view, tt)) (Ok act)
 
 -- the body under this number may give this act at these fields and this view
-abbrev pub gives : {X : Type 0} {F : X → Type 0} {g : _} → List (Entry X F g) → ℕ → Fields → View → Act → Type 0
-gives entries id fields view act = MatchOption (slice_get entries id) ⊥ (λ e. Promises e fields view act)
+abbrev pub gives : {X : Type 0} {F : X → Type 0} {g : _} → List (Entry X F g) → ℕ → Fields → View
+    → Act → Type 0
+gives entries id fields view act =
+    MatchOption (slice_get entries id) ⊥ (λ e. Promises e fields view act)
 
 abbrev pub shape_at : {X : Type 0} {F : X → Type 0} {g : _} → List (Entry X F g) → ℕ → Option Shape
 shape_at entries id = option_map (λ e. e.shape) (slice_get entries id)
@@ -34,9 +37,13 @@ abbrev pub is_named : {X : Type 0} {F : X → Type 0} {g : _} → List (Entry X 
 is_named entries name = is_some (place_of entries name)
 
 -- the act lies in the shape of the body under this number
-abbrev pub LiesInShape : {X : Type 0} {F : X → Type 0} {g : _} → List (Entry X F g) → ℕ → View → Act → Type 0
-LiesInShape entries id view act = IfSome (shape_at entries id) (λ shape. in_shape shape view act ≡ true)
+abbrev pub LiesInShape : {X : Type 0} {F : X → Type 0} {g : _} → List (Entry X F g) → ℕ → View → Act
+    → Type 0
+LiesInShape entries id view act =
+    IfSome (shape_at entries id) (λ shape. in_shape shape view act ≡ true)
 
 -- whatever a body may give lies in its shape
 abbrev pub LieInShape : {X : Type 0} {F : X → Type 0} {g : _} → List (Entry X F g) → Type 0
-LieInShape entries = (id : ℕ) (fields : Fields) (view : View) (act : Act) → gives entries id fields view act → LiesInShape entries id view act
+LieInShape entries =
+    (id : ℕ) (fields : Fields) (view : View) (act : Act) → gives entries id fields view act
+    → LiesInShape entries id view act

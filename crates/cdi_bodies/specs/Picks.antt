@@ -9,4 +9,8 @@ choice_of chooser = chooser.choice
 
 -- the chooser's choice promises that this may be its answer, of so many candidates and after so many entries
 abbrev pub picks : {X : Type 0} {F : X → Type 0} {g : _} → Chooser X F g → ℕ → ℕ → ℕ → Type 0
-picks {g = g} chooser count entries answer = g.post (chooser.choice.vtable, chooser.choice.value) (count, (entries, tt)) answer
+picks {g =
+    g} chooser count entries answer = g.post (chooser.choice.vtable, chooser.choice.value) (
+      count,
+      (entries, tt),
+    ) answer

@@ -126,7 +126,8 @@ impl Bodies {
         ensures ok { OnOk result
             (Adds (entries_of self.old) (entries_of self.new) name shape body) }
 
-        ensures repeated { IsRefused is_repeated result ↔ IsTrue (is_named (entries_of self.old) name) }
+        ensures repeated { IsRefused is_repeated result
+            ↔ IsTrue (is_named (entries_of self.old) name) }
         ensures full { IsRefused is_full result ↔ IsTrue (lacks_room (entries_of self.old) name) }
         ensures handed_back { IfErr result (λ error. body_of error ≡ body) }
         ensures err { OnErr result (entries_of self.new ≡ entries_of self.old) }

@@ -15,4 +15,5 @@ throws_checked exceptions (Some shape) = list_any (is_checked exceptions) shape.
 -- P15 CheckedLifecycle: the body of a live post-construct or pre-destroy callback, of a class or of an interceptor, throws a checked
 -- exception
 abbrev pub HasCheckedLifecycle : List Exception → Enabled → (ℕ → Option Shape) → Site → Type 0
-HasCheckedLifecycle exceptions e shape_of s = IsTrue (is_live e s && is_callback s && throws_checked exceptions (shape_of (body_of s)))
+HasCheckedLifecycle exceptions e shape_of s =
+    IsTrue (is_live e s && is_callback s && throws_checked exceptions (shape_of (body_of s)))

@@ -10,7 +10,8 @@ abbrev pub ArePlacesOf : (Site → Type 0) → List Site → List Place → Type
 ArePlacesOf P sites found = ArePlacesWhere P place_of sites found
 
 -- behind those that were there, the places of those sites for which P holds, before each is kept once
-pub record AddsPlacesOf (P : Site → Type 0) (sites : List Site) (old new : List Place) : Type 0 where
+pub record AddsPlacesOf (P : Site → Type 0) (sites : List Site) (old new : List Place)
+    : Type 0 where
   pub those : List Site
   pub listed : ListsThose P sites those
   pub are : new ≡ old ++ map place_of those

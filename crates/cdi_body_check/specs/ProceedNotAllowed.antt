@@ -11,4 +11,5 @@ may_proceed (Some shape) = shape.chain
 
 -- P14 ProceedNotAllowed: the body of a live site that isn't an interceptor's method may go on with a chain
 abbrev pub HasProceedNotAllowed : Enabled → (ℕ → Option Shape) → Site → Type 0
-HasProceedNotAllowed e shape_of s = IsTrue (is_live e s && not (is_interceptor_method s) && may_proceed (shape_of (body_of s)))
+HasProceedNotAllowed e shape_of s =
+    IsTrue (is_live e s && not (is_interceptor_method s) && may_proceed (shape_of (body_of s)))

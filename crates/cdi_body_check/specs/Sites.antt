@@ -60,11 +60,13 @@ method_body j methods.PostConstruct = j.post
 method_body j methods.PreDestroy = j.pre
 
 abbrev pub method_sites : Interceptor → InterceptorMethod → List Site
-method_sites j method = option_to_list (option_map (Site.AnInterceptorMethod j method) (method_body j method))
+method_sites j method =
+    option_to_list (option_map (Site.AnInterceptorMethod j method) (method_body j method))
 
 abbrev pub interceptor_sites : Interceptor → List Site
 interceptor_sites j =
-    method_sites j methods.AroundInvoke ++ method_sites j methods.AroundConstruct ++ method_sites j methods.PostConstruct
+    method_sites j methods.AroundInvoke ++ method_sites j methods.AroundConstruct
+    ++ method_sites j methods.PostConstruct
     ++ method_sites j methods.PreDestroy
 
 -- class by class, and then interceptor by interceptor

@@ -22,7 +22,9 @@ bindings_of (members.Observer o) = Some o.bindings
 bindings_of _ = None
 
 abbrev pub member_bindings : List QualifierType → Member → Option MemberBindings
-member_bindings types m = option_map (λ uses. record { name = member_name m; bindings = full_uses types uses }) (bindings_of m)
+member_bindings types m =
+    option_map (λ uses. record { name = member_name m; bindings = full_uses types uses })
+    (bindings_of m)
 
 -- the bindings of a class, and those of its members
 abbrev pub class_bindings : List QualifierType → Class → ClassBindings

@@ -29,7 +29,8 @@ is_bound method had j = is_some (method_of method j) && has_all had j.bindings
 
 -- those of some interceptors that pass a test, by their places in the order
 abbrev pub places_from : (EnabledInterceptor → Bool) → ℕ → List EnabledInterceptor → List ℕ
-places_from passes first interceptors = map (λ p. p.0) (filter (λ p. passes p.1) (enumerate_from first interceptors))
+places_from passes first interceptors =
+    map (λ p. p.0) (filter (λ p. passes p.1) (enumerate_from first interceptors))
 
 -- a chain: the interceptors with a method whose bindings are all had, by their places in the order of interceptors
 abbrev pub chain_of : InterceptorMethod → List Qualifier → List EnabledInterceptor → List ℕ
@@ -49,14 +50,17 @@ member_level_in name c = option_map (λ m. m.bindings) (find (λ m. m.name == na
 abbrev pub member_level : ChainTables → BeanMember → Option (List Qualifier)
 member_level t m = option_and_then (member_level_in m.name) (class_named t m.class)
 
-abbrev pub chain_with : InterceptorMethod → Option (List Qualifier) → List Qualifier → List EnabledInterceptor → List ℕ
+abbrev pub chain_with : InterceptorMethod → Option (List Qualifier) → List Qualifier
+    → List EnabledInterceptor → List ℕ
 chain_with method None of_class interceptors = []
-chain_with method (Some own) of_class interceptors = chain_of method (bindings_had own of_class) interceptors
+chain_with method (Some own) of_class interceptors =
+    chain_of method (bindings_had own of_class) interceptors
 
 -- The chain of a member of a bean: a binding of its own goes before one of the class of the same type. It is the bean's class whose
 -- bindings count, also if another one declares the member.
 abbrev pub invoke_chain : ChainTables → ℕ → BeanMember → List ℕ
-invoke_chain t bean m = chain_with methods.AroundInvoke (member_level t m) (class_level t bean) t.interceptors
+invoke_chain t bean m =
+    chain_with methods.AroundInvoke (member_level t m) (class_level t bean) t.interceptors
 
 -- the chain of a lifecycle method of a bean
 abbrev pub life_chain : ChainTables → ℕ → InterceptorMethod → List ℕ
@@ -73,12 +77,14 @@ intercepts_member t bean j m = is_bound_with (member_level t m) (class_level t b
 -- an interceptor stands in a chain of the lifecycle of a bean
 abbrev pub intercepts_lifecycle : ChainTables → ℕ → EnabledInterceptor → Bool
 intercepts_lifecycle t bean j =
-    is_bound methods.AroundConstruct (class_level t bean) j || is_bound methods.PostConstruct (class_level t bean) j
+    is_bound methods.AroundConstruct (class_level t bean) j
+    || is_bound methods.PostConstruct (class_level t bean) j
     || is_bound methods.PreDestroy (class_level t bean) j
 
 -- an interceptor stands in a chain of a bean
 abbrev pub intercepts : ChainTables → Bean → EnabledInterceptor → Bool
-intercepts t b j = list_any (intercepts_member t b.class j) b.members || intercepts_lifecycle t b.class j
+intercepts t b j =
+    list_any (intercepts_member t b.class j) b.members || intercepts_lifecycle t b.class j
 
 -- the interceptors in the chains of a bean, by their places
 abbrev pub interceptors_of : ChainTables → Bean → List ℕ

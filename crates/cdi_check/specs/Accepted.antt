@@ -22,7 +22,7 @@ use Rattle.cdi_quals.specs.declared.types.QualifierType.{QualifierType}
 use Rattle.cdi_resolve.specs.declared.resolution.Resolution.TheVariants.{One}
 use Rattle.cdi_shape_check.specs.BodyOutsideShape.{HasBodyOutsideShape}
 use Rattle.cdi_check.specs.BeanRules.{HasInconsistentSpecialization, HasFinalIntercepted}
-use Rattle.cdi_check.specs.Late.{setting_of}
+use Rattle.cdi_check.specs.Late.{setting_of, application_in}
 
 -- P holds of none of them
 abbrev pub HoldsOfNone : {X : Type 0} → (X → Type 0) → List X → Type 0
@@ -42,19 +42,19 @@ IsRegistered e shape_of s = IsTrue (is_live e s) → IsSome (shape_of (body_of s
 
 -- What is live has its bodies. They name nothing in their shapes that isn't there, go on with a chain in methods of interceptors alone,
 -- and throw no checked exception in a callback.
-pub record AreBodiesSound (d : Deployment) (shape_of : ℕ → Option Shape) (s : Setting) : Type 0 where
+pub record AreBodiesSound (d : Deployment) (shape_of : ℕ → Option Shape) (s : Setting)
+    : Type 0 where
   pub registered : All (IsRegistered s.enabled shape_of) (sites_of d)
   pub in_shape :
-      HoldsOfNone
-      (HasBodyOutsideShape (record { deployment = d; qualifiers = s.qualifiers; enabled = s.enabled.beans }) s.enabled shape_of)
-      (sites_of d)
+      HoldsOfNone (HasBodyOutsideShape (application_in d s) s.enabled shape_of) (sites_of d)
   pub none_proceeds : HoldsOfNone (HasProceedNotAllowed s.enabled shape_of) (sites_of d)
   pub none_checked : HoldsOfNone (HasCheckedLifecycle d.exceptions s.enabled shape_of) (sites_of d)
 
 -- Each live point resolves to one bean, for which there can be a proxy if it needs one.
 pub record ArePointsSound (d : Deployment) (s : Setting) : Type 0 where
   pub resolved : All (AreResolved s.qualifiers s.enabled) (elements_of d)
-  pub proxyable : HoldsOfNone (HasPointProblem points.Unproxyable s.qualifiers s.enabled) (elements_of d)
+  pub proxyable :
+      HoldsOfNone (HasPointProblem points.Unproxyable s.qualifiers s.enabled) (elements_of d)
 
 -- No two enabled beans specialize one, no dependent bean needs itself, and no bean of a final class is intercepted.
 pub record AreBeansSound (d : Deployment) (e : Enablement) (s : Setting) : Type 0 where

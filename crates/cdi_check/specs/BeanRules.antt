@@ -11,7 +11,8 @@ use Rattle.cdi_problems.specs.Elements.{Element}
 
 -- P19 InconsistentSpecialization: two enabled beans specialize the bean of a class
 abbrev pub HasInconsistentSpecialization : Enablement → Element → Type 0
-HasInconsistentSpecialization e (Element.AClass i c) = IsInconsistentBean e (bean_of_class e.classes c.name)
+HasInconsistentSpecialization e (Element.AClass i c) =
+    IsInconsistentBean e (bean_of_class e.classes c.name)
 HasInconsistentSpecialization e _ = ⊥
 
 -- an interceptor stands in a chain of a bean
@@ -20,5 +21,6 @@ is_intercepted t b = list_any (intercepts t b) t.interceptors
 
 -- P21 FinalIntercepted: an enabled bean of a final class has an interceptor in one of its chains
 abbrev pub HasFinalIntercepted : Enabled → ChainTables → Element → Type 0
-HasFinalIntercepted e t (Element.AClass i c) = IsTrue (c.is_final && list_any (λ b. is_bean_of c.name b && is_intercepted t b.1) e.beans)
+HasFinalIntercepted e t (Element.AClass i c) =
+    IsTrue (c.is_final && list_any (λ b. is_bean_of c.name b && is_intercepted t b.1) e.beans)
 HasFinalIntercepted e t _ = ⊥

@@ -25,12 +25,14 @@ use Rattle.cdi_problems.specs.declared.problem.ProblemKind.TheVariants as kinds
 use Rattle.cdi_quals.specs.Types.{AreQualifiersOf, AreTypesOf}
 use Rattle.cdi_quals.specs.declared.types.QualifierType.{QualifierType}
 use Rattle.cdi_resolve.specs.Filters.{enabled_beans}
+use Rattle.cdi_shape_check.specs.Application.{Application}
 use Rattle.cdi_shape_check.specs.BodyOutsideShape.{HasBodyOutsideShape}
 use Rattle.cdi_types.specs.Declarations.{declarations_of}
 use Rattle.cdi_check.specs.BeanRules.{HasInconsistentSpecialization, HasFinalIntercepted}
 
 -- what a deployment with this bean list is, where these flags tell which beans are enabled
-abbrev pub setting_of : Deployment → BeanList → List Bool → List QualifierType → List QualifierType → Setting
+abbrev pub setting_of : Deployment → BeanList → List Bool → List QualifierType → List QualifierType
+    → Setting
 setting_of d list flags qualifiers bindings =
     record {
       qualifiers = qualifiers;
@@ -42,7 +44,10 @@ setting_of d list flags qualifiers bindings =
             beans = enabled_beans list.beans flags;
             interceptors = list.interceptors;
           };
-      chains = record { classes = map (class_bindings bindings) d.classes; interceptors = list.interceptors };
+      chains = record {
+        classes = map (class_bindings bindings) d.classes;
+        interceptors = list.interceptors;
+      };
       disposers = list.disposers;
     }
 
@@ -52,13 +57,19 @@ SitesIn d P found = AreSitesOf P (sites_of d) found
 abbrev pub PlacesIn : Deployment → (Element → Type 0) → List Place → Type 0
 PlacesIn d P found = ArePlacesOf P (elements_of d) found
 
+-- what the shapes of bodies may name
+abbrev pub application_in : Deployment → Setting → Application
+application_in d s =
+    record { deployment = d; qualifiers = s.qualifiers; enabled = s.enabled.beans }
+
 -- P13 BodyOutsideShape, at the places where it holds
 abbrev pub AreOutsideShape : Deployment → (ℕ → Option Shape) → Setting → List Place → Type 0
 AreOutsideShape d shape_of s found =
-    SitesIn d (HasBodyOutsideShape (record { deployment = d; qualifiers = s.qualifiers; enabled = s.enabled.beans }) s.enabled shape_of) found
+    SitesIn d (HasBodyOutsideShape (application_in d s) s.enabled shape_of) found
 
 -- the problems of bodies
-pub record AreBodyProblems (d : Deployment) (shape_of : ℕ → Option Shape) (s : Setting) (problems : List Problem) : Type 0 where
+pub record AreBodyProblems (d : Deployment) (shape_of : ℕ → Option Shape) (s : Setting)
+    (problems : List Problem) : Type 0 where
   pub unknown : List Place
   pub are_unknown : SitesIn d (HasUnknownBody s.enabled shape_of) unknown
   pub outside : List Place
@@ -69,11 +80,13 @@ pub record AreBodyProblems (d : Deployment) (shape_of : ℕ → Option Shape) (s
   pub are_checked : SitesIn d (HasCheckedLifecycle d.exceptions s.enabled shape_of) checked
   pub are :
       problems
-      ≡ problems_at kinds.UnknownBody unknown ++ problems_at kinds.BodyOutsideShape outside ++ problems_at kinds.ProceedNotAllowed proceeding
+      ≡ problems_at kinds.UnknownBody unknown ++ problems_at kinds.BodyOutsideShape outside
+      ++ problems_at kinds.ProceedNotAllowed proceeding
       ++ problems_at kinds.CheckedLifecycle checked
 
 -- to a list are added the problems of bodies
-pub record AddsBodyProblems (d : Deployment) (shape_of : ℕ → Option Shape) (s : Setting) (old new : List Problem) : Type 0 where
+pub record AddsBodyProblems (d : Deployment) (shape_of : ℕ → Option Shape) (s : Setting)
+    (old new : List Problem) : Type 0 where
   pub added : List Problem
   pub are : AreBodyProblems d shape_of s added
   pub adds : new ≡ old ++ added
@@ -91,7 +104,8 @@ pub record ArePointProblems (d : Deployment) (s : Setting) (problems : List Prob
   pub are_unproxyable : ArePointPlaces points.Unproxyable d s unproxyable
   pub are :
       problems
-      ≡ problems_at kinds.Unsatisfied unsatisfied ++ problems_at kinds.Ambiguous ambiguous ++ problems_at kinds.Unproxyable unproxyable
+      ≡ problems_at kinds.Unsatisfied unsatisfied ++ problems_at kinds.Ambiguous ambiguous
+      ++ problems_at kinds.Unproxyable unproxyable
 
 pub record AddsPointProblems (d : Deployment) (s : Setting) (old new : List Problem) : Type 0 where
   pub added : List Problem
@@ -99,7 +113,8 @@ pub record AddsPointProblems (d : Deployment) (s : Setting) (old new : List Prob
   pub adds : new ≡ old ++ added
 
 -- the problems of enabled beans and interceptors
-pub record AreEnabledProblems (d : Deployment) (e : Enablement) (s : Setting) (problems : List Problem) : Type 0 where
+pub record AreEnabledProblems (d : Deployment) (e : Enablement) (s : Setting)
+    (problems : List Problem) : Type 0 where
   pub inconsistent : List Place
   pub are_inconsistent : PlacesIn d (HasInconsistentSpecialization e) inconsistent
   pub cyclic : List Place
@@ -108,16 +123,19 @@ pub record AreEnabledProblems (d : Deployment) (e : Enablement) (s : Setting) (p
   pub are_intercepted : PlacesIn d (HasFinalIntercepted s.enabled s.chains) intercepted
   pub are :
       problems
-      ≡ problems_at kinds.InconsistentSpecialization inconsistent ++ problems_at kinds.DependentCycle cyclic
+      ≡ problems_at kinds.InconsistentSpecialization inconsistent
+      ++ problems_at kinds.DependentCycle cyclic
       ++ problems_at kinds.FinalIntercepted intercepted
 
-pub record AddsEnabledProblems (d : Deployment) (e : Enablement) (s : Setting) (old new : List Problem) : Type 0 where
+pub record AddsEnabledProblems (d : Deployment) (e : Enablement) (s : Setting)
+    (old new : List Problem) : Type 0 where
   pub added : List Problem
   pub are : AreEnabledProblems d e s added
   pub adds : new ≡ old ++ added
 
 -- all of them, by number and then in the order of the places
-pub record AreProblemsIn (d : Deployment) (shape_of : ℕ → Option Shape) (e : Enablement) (s : Setting) (problems : List Problem) : Type 0 where
+pub record AreProblemsIn (d : Deployment) (shape_of : ℕ → Option Shape) (e : Enablement)
+    (s : Setting) (problems : List Problem) : Type 0 where
   pub of_bodies : List Problem
   pub are_of_bodies : AreBodyProblems d shape_of s of_bodies
   pub of_points : List Problem
@@ -127,7 +145,8 @@ pub record AreProblemsIn (d : Deployment) (shape_of : ℕ → Option Shape) (e :
   pub are : problems ≡ of_bodies ++ of_points ++ of_enabled
 
 -- the last tier of problems of a deployment with its bean list and with these registered bodies
-pub record AreLateProblems (d : Deployment) (shape_of : ℕ → Option Shape) (problems : List Problem) : Type 0 where
+pub record AreLateProblems (d : Deployment) (shape_of : ℕ → Option Shape) (problems : List Problem)
+    : Type 0 where
   pub list : BeanList
   pub made : IsMadeOf d list
   pub qualifiers : List QualifierType
@@ -136,4 +155,6 @@ pub record AreLateProblems (d : Deployment) (shape_of : ℕ → Option Shape) (p
   pub are_bindings : AreTypesOf d.names d.bindings bindings
   pub flags : List Bool
   pub are_flags : AreFlags (enablement_of list) flags
-  pub are : AreProblemsIn d shape_of (enablement_of list) (setting_of d list flags qualifiers bindings) problems
+  pub are :
+      AreProblemsIn d shape_of (enablement_of list) (setting_of d list flags qualifiers bindings)
+      problems

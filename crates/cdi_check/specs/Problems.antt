@@ -9,6 +9,7 @@ use Rattle.cdi_check.specs.Late.{AreLateProblems}
 
 -- those of names or, if there are none, those of beans; and where there are none of either, those of the last tier. A deployment is
 -- accepted if there is none.
-pub data AreProblemsOf (d : Deployment) (shape_of : ℕ → Option Shape) (problems : List Problem) : Type 0 where
+pub data AreProblemsOf (d : Deployment) (shape_of : ℕ → Option Shape) (problems : List Problem)
+    : Type 0 where
   early : AreAllProblemsOf d problems → AreProblemsOf d shape_of problems
   late : AreLateProblems d shape_of problems → AreProblemsOf d shape_of problems

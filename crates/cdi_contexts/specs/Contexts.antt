@@ -113,7 +113,12 @@ belongs_to session r = elim r.session [ None ↦ false | Some s ↦ bytes_eq s s
 
 -- the session is marked, and has no open request
 abbrev pub is_due : Contexts → List ℕ → Bool
-is_due c name = elim (session_in c.sessions name) [ None ↦ false | Some s ↦ s.is_marked && not (list_any (belongs_to name) c.requests) ]
+is_due c name =
+    elim (session_in c.sessions name) [
+      | None ↦ false
+      | Some s ↦ s.is_marked
+          && not (list_any (belongs_to name) c.requests)
+    ]
 
 -- ---- changes
 
@@ -127,20 +132,28 @@ in_session = changed (λ s. s.name)
 abbrev pub with_context : Context → (Active → Active) → Contexts → Contexts
 with_context Application f c = record c { application = option_map f c.application }
 with_context (Request name) f c = record c { requests = in_request name f c.requests }
-with_context (Session name) f c = record c { sessions = in_session name (λ s. record s { active = f s.active }) c.sessions }
+with_context (Session name) f c =
+    record c { sessions = in_session name (λ s. record s { active = f s.active }) c.sessions }
 
 -- a context at its begin
 abbrev pub fresh : Active
 fresh = record { status = Open; holds = [] }
 
 abbrev pub with_request : List ℕ → Option (List ℕ) → Contexts → Contexts
-with_request name session c = record c { requests = c.requests ++ record { name = name; session = session; active = fresh } ∷ [] }
+with_request name session c =
+    record c {
+      requests = c.requests ++ record { name = name; session = session; active = fresh } ∷ [];
+    }
 
 abbrev pub with_session : List ℕ → Contexts → Contexts
-with_session name c = record c { sessions = c.sessions ++ record { name = name; is_marked = false; active = fresh } ∷ [] }
+with_session name c =
+    record c {
+      sessions = c.sessions ++ record { name = name; is_marked = false; active = fresh } ∷ [];
+    }
 
 abbrev pub with_mark : List ℕ → Contexts → Contexts
-with_mark name c = record c { sessions = in_session name (λ s. record s { is_marked = true }) c.sessions }
+with_mark name c =
+    record c { sessions = in_session name (λ s. record s { is_marked = true }) c.sessions }
 
 -- a context with this for the bean, with nothing for it, and one that is being destroyed
 abbrev pub active_with : ℕ → Held → Active → Active
@@ -167,8 +180,10 @@ with_ending context = with_context context ending_active
 -- the context is gone
 abbrev pub without_context : Context → Contexts → Contexts
 without_context Application c = record c { application = None }
-without_context (Request name) c = record c { requests = without_name (λ r. r.name) name c.requests }
-without_context (Session name) c = record c { sessions = without_name (λ s. s.name) name c.sessions }
+without_context (Request name) c =
+    record c { requests = without_name (λ r. r.name) name c.requests }
+without_context (Session name) c =
+    record c { sessions = without_name (λ s. s.name) name c.sessions }
 
 -- the contexts at the boot
 abbrev pub at_boot : Contexts

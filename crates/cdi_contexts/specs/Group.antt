@@ -87,7 +87,11 @@ IsSessionOf s p = session_at s p.0 ≡ Some (session_found p)
 abbrev pub standing : Option Active → Map (Kept (Option (List ℕ))) → Map (Kept Bool) → Standing
 standing application requests sessions =
     record {
-      contexts = record { application = application; requests = map (λ p. request_of p.1) requests; sessions = map (λ p. session_of p.1) sessions };
+      contexts = record {
+        application = application;
+        requests = map (λ p. request_of p.1) requests;
+        sessions = map (λ p. session_of p.1) sessions;
+      };
       request_slots = map (λ p. p.0) requests;
       session_slots = map (λ p. p.0) sessions;
     }

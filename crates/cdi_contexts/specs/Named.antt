@@ -10,7 +10,8 @@ module _ {X : Type 0} (name_of : X → List ℕ) where
   -- the thing of a name changed
   abbrev pub changed : List ℕ → (X → X) → List X → List X
   changed name f [] = []
-  changed name f (x ∷ more) = if bytes_eq (name_of x) name then f x ∷ more else x ∷ changed name f more
+  changed name f (x ∷ more) =
+      if bytes_eq (name_of x) name then f x ∷ more else x ∷ changed name f more
 
   abbrev pub without_name : List ℕ → List X → List X
   without_name name xs = filter (λ x. not (bytes_eq (name_of x) name)) xs

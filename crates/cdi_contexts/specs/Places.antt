@@ -47,10 +47,12 @@ Takes bean entry old new = (p : Place) → has new p ≡ (not (is_place bean ent
 -- without the place of an entry that is replaced by another
 abbrev pub Replaces : ℕ → Option Held → Held → Places → Places → Type 0
 Replaces bean before held old new =
-    (p : Place) → has new p ≡ ((not (is_place bean before p) || is_place bean (Some held) p) && has old p)
+    (p : Place)
+    → has new p ≡ ((not (is_place bean before p) || is_place bean (Some held) p) && has old p)
 
 -- a place has this number, and none a greater one
 abbrev pub IsLast : Places → Option ℕ → Type 0
 IsLast s None = (p : Place) → has s p ≡ false
 IsLast s (Some n) =
-    ((bean : ℕ) × IsTrue (has s (record { number = n; bean = bean }))) × ((p : Place) → IsTrue (has s p) → p.number ≤ n)
+    ((bean : ℕ) × IsTrue (has s (record { number = n; bean = bean })))
+    × ((p : Place) → IsTrue (has s p) → p.number ≤ n)

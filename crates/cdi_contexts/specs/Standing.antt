@@ -100,11 +100,13 @@ IsAloneIn s name env = environment_of s env ≡ record { request = None; session
 
 -- a request and its session, if that is there
 abbrev pub environment_for : Contexts → OpenRequest → Environment
-environment_for c r = record { request = Some r.name; session = option_map (λ s. s.name) (session_for c r.session) }
+environment_for c r =
+    record { request = Some r.name; session = option_map (λ s. s.name) (session_for c r.session) }
 
 -- the environment is that of the request of this name
 abbrev pub EndsIn : Standing → List ℕ → Env → Type 0
-EndsIn s name env = Some (environment_of s env) ≡ option_map (environment_for s.contexts) (request_by s name)
+EndsIn s name env =
+    Some (environment_of s env) ≡ option_map (environment_for s.contexts) (request_by s name)
 
 abbrev pub session_environment : OpenSession → Environment
 session_environment s = record { request = None; session = Some s.name }
@@ -120,7 +122,8 @@ environment_with c (contexts.Session name) =
 -- the first that isn't being destroyed
 abbrev pub first_open : {X : Type 0} → (X → Active) → List X → Option X
 first_open active [] = None
-first_open active (x ∷ more) = if is_ending (active x).status then first_open active more else Some x
+first_open active (x ∷ more) =
+    if is_ending (active x).status then first_open active more else Some x
 
 abbrev pub first_open_request : Standing → Option OpenRequest
 first_open_request s = first_open (λ r. r.active) s.contexts.requests
@@ -130,8 +133,10 @@ first_open_session s = first_open (λ s. s.active) s.contexts.sessions
 
 -- the environment of the first context of a scope that isn't being destroyed
 abbrev pub oldest_environment : Contexts → Scope → Option Environment
-oldest_environment c scopes.RequestScoped = option_map (environment_for c) (first_open (λ r. r.active) c.requests)
-oldest_environment c scopes.SessionScoped = option_map session_environment (first_open (λ s. s.active) c.sessions)
+oldest_environment c scopes.RequestScoped =
+    option_map (environment_for c) (first_open (λ r. r.active) c.requests)
+oldest_environment c scopes.SessionScoped =
+    option_map session_environment (first_open (λ s. s.active) c.sessions)
 oldest_environment c _ = None
 
 -- the session is marked, and no request that is there belongs to it
@@ -152,12 +157,19 @@ with_slot None slots = slots
 with_slot (Some slot) slots = slots ++ slot ∷ []
 
 -- the request has begun in an environment; its slot, and that of a new session, were no one's
-pub record Begins (request : List ℕ) (session : Option (List ℕ)) (old : Standing) (env : Env) (new : Standing) : Type 0 where
+pub record Begins (request : List ℕ) (session : Option (List ℕ)) (old : Standing) (env : Env)
+    (new : Standing) : Type 0 where
   pub contexts : new.contexts ≡ with_begun request session old.contexts
   pub environment : environment_of new env ≡ record { request = Some request; session = session }
-  pub earlier : environment_of old env ≡ record { request = None; session = option_map (λ s. s.name) (session_for old.contexts session) }
+  pub earlier : environment_of old env
+      ≡ record {
+        request = None;
+        session = option_map (λ s. s.name) (session_for old.contexts session);
+      }
   pub request_slots : new.request_slots ≡ with_slot env.request old.request_slots
-  pub session_slots : new.session_slots ≡ (if opens_session old.contexts session then with_slot env.session old.session_slots else old.session_slots)
+  pub session_slots : new.session_slots
+      ≡ (if opens_session old.contexts session then with_slot env.session old.session_slots
+      else old.session_slots)
 
 -- ---- changes in an environment
 
@@ -185,15 +197,18 @@ all_but_slot (Some slot) slots = filter (λ s. not (slot == s)) slots
 -- the context of a scope gone, and its slot free
 abbrev pub without_env : Env → Scope → Standing → Standing
 without_env env scopes.RequestScoped s =
-    record (in_env env scopes.RequestScoped without_context s) { request_slots = all_but_slot env.request s.request_slots }
+    record (in_env env scopes.RequestScoped without_context s)
+    { request_slots = all_but_slot env.request s.request_slots }
 without_env env scopes.SessionScoped s =
-    record (in_env env scopes.SessionScoped without_context s) { session_slots = all_but_slot env.session s.session_slots }
+    record (in_env env scopes.SessionScoped without_context s)
+    { session_slots = all_but_slot env.session s.session_slots }
 without_env env scope s = in_env env scope without_context s
 
 -- an open context is being destroyed, and one that was being destroyed is gone
 abbrev pub with_step : Env → Scope → Option Active → Standing → Standing
 with_step env scope None s = s
-with_step env scope (Some a) s = if is_ending a.status then without_env env scope s else in_env env scope with_ending s
+with_step env scope (Some a) s =
+    if is_ending a.status then without_env env scope s else in_env env scope with_ending s
 
 -- a session that is marked
 abbrev pub with_marked : List ℕ → Standing → Standing

@@ -43,8 +43,10 @@ pub record IsNeedyInterceptor (s : Setting) (name : ℕ) (j : ℕ × EnabledInte
 -- P20 DependentCycle: an enabled dependent bean or interceptor lies on a cycle of such alone
 abbrev pub HasDependentCycle : Setting → Element → Type 0
 HasDependentCycle s (Element.AClass i c) = Any (IsNeedyBean s c.name) s.enabled.beans
-HasDependentCycle s (Element.AMember i c m) = Any (IsNeedyProduct s c.name (member_name m)) s.enabled.beans
-HasDependentCycle s (Element.AnInterceptor i j) = Any (IsNeedyInterceptor s j.name) (enumerate_from 0 s.enabled.interceptors)
+HasDependentCycle s (Element.AMember i c m) =
+    Any (IsNeedyProduct s c.name (member_name m)) s.enabled.beans
+HasDependentCycle s (Element.AnInterceptor i j) =
+    Any (IsNeedyInterceptor s j.name) (enumerate_from 0 s.enabled.interceptors)
 HasDependentCycle s _ = ⊥
 
 -- what a list of flags says of an index
@@ -65,7 +67,11 @@ has_needy_product flags beans class name = list_any (is_needy_product flags clas
 
 -- the same by flags
 abbrev pub HasFlaggedCycle : Enabled → NeedyFlags → Element → Type 0
-HasFlaggedCycle e flags (Element.AClass i c) = IsTrue (list_any (λ b. is_bean_of c.name b && flag flags.beans b.0) e.beans)
-HasFlaggedCycle e flags (Element.AMember i c m) = IsTrue (has_needy_product flags e.beans c.name (member_name m))
-HasFlaggedCycle e flags (Element.AnInterceptor i j) = IsTrue (list_any (λ k. (k.1.name == j.name) && flag flags.interceptors k.0) (enumerate_from 0 e.interceptors))
+HasFlaggedCycle e flags (Element.AClass i c) =
+    IsTrue (list_any (λ b. is_bean_of c.name b && flag flags.beans b.0) e.beans)
+HasFlaggedCycle e flags (Element.AMember i c m) =
+    IsTrue (has_needy_product flags e.beans c.name (member_name m))
+HasFlaggedCycle e flags (Element.AnInterceptor i j) =
+    IsTrue (list_any (λ k. (k.1.name == j.name) && flag flags.interceptors k.0)
+    (enumerate_from 0 e.interceptors))
 HasFlaggedCycle e flags _ = ⊥

@@ -23,7 +23,8 @@ node_of n x = if nat_lt x n.beans then nodes.Bean x else nodes.Interceptor (x - 
 
 -- a row lists the numbers of what a node needs
 pub data IsRowOf (s : Setting) (n : Counts) (x : Node) (row : List ℕ) : Type 0 where
-  needing : (those : List Node) → NeedsThose s x those → row ≡ filter_map (number_of n) those → IsRowOf s n x row
+  needing : (those : List Node) → NeedsThose s x those → row ≡ filter_map (number_of n) those
+      → IsRowOf s n x row
   unknown : ((those : List Node) → NeedsThose s x those → ⊥) → row ≡ [] → IsRowOf s n x row
 
 -- rows for the first beans
@@ -35,4 +36,5 @@ pub record HasBeanRows (s : Setting) (n : Counts) (count : ℕ) (graph : List (L
 pub record HasRows (s : Setting) (n : Counts) (count : ℕ) (graph : List (List ℕ)) : Type 0 where
   pub len : length graph ≡ n.beans + count
   pub bean_rows : (i : ℕ) → i < n.beans → IsRowOf s n (nodes.Bean i) (targets_of graph i)
-  pub interceptor_rows : (k : ℕ) → k < count → IsRowOf s n (nodes.Interceptor k) (targets_of graph (n.beans + k))
+  pub interceptor_rows : (k : ℕ) → k < count
+      → IsRowOf s n (nodes.Interceptor k) (targets_of graph (n.beans + k))

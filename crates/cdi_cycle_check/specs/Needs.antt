@@ -22,7 +22,8 @@ is_dependent_bean (Some b) = is_dependent b.scope
 
 abbrev pub dependent_bean : Enabled → Resolution → Option Node
 dependent_bean e Nothing = None
-dependent_bean e (One bean) = if is_dependent_bean (at e.beans bean) then Some (nodes.Bean bean) else None
+dependent_bean e (One bean) =
+    if is_dependent_bean (at e.beans bean) then Some (nodes.Bean bean) else None
 dependent_bean e Many = None
 
 -- what a point needs an instance of: a dependent bean that it resolves to
@@ -37,16 +38,24 @@ pub record AddsManaged (s : Setting) (b : Bean) (old new : List Node) : Type 0 w
 
 -- a dependent managed bean of a class
 abbrev pub declaring_bean : ℕ → ℕ × Bean → Option Node
-declaring_bean class b = if is_bean_of class b && is_dependent b.1.scope then Some (nodes.Bean b.0) else None
+declaring_bean class b =
+    if is_bean_of class b && is_dependent b.1.scope then Some (nodes.Bean b.0) else None
 
 -- What an instance of a bean or of an interceptor needs: dependent beans at its points; a managed bean also its interceptors, and a
 -- product the bean that declares it.
 pub data NeedsThose (s : Setting) : Node → List Node → Type 0 where
-  managed : {i : ℕ} {b : Bean} {points : List Point} → at s.enabled.beans i ≡ Some b → b.kind ≡ kinds.Managed → AreManagedPoints s b points
-      → NeedsThose s (nodes.Bean i) (filter_map (needed_at s) points ++ map (λ k. nodes.Interceptor k) (interceptors_of s.chains b))
-  product : {i name : ℕ} {b : Bean} → at s.enabled.beans i ≡ Some b → product_name b.kind ≡ Some name
-      → NeedsThose s (nodes.Bean i) (filter_map (needed_at s) (product_points s b name) ++ filter_map (declaring_bean b.class) s.enabled.beans)
-  interceptor : {k : ℕ} → NeedsThose s (nodes.Interceptor k) (filter_map (needed_at s) (interceptor_points s k))
+  managed : {i : ℕ} {b : Bean} {points : List Point} → at s.enabled.beans i ≡ Some b
+      → b.kind ≡ kinds.Managed → AreManagedPoints s b points
+      → NeedsThose s (nodes.Bean i)
+      (filter_map (needed_at s) points
+      ++ map (λ k. nodes.Interceptor k) (interceptors_of s.chains b))
+  product : {i name : ℕ} {b : Bean} → at s.enabled.beans i ≡ Some b
+      → product_name b.kind ≡ Some name
+      → NeedsThose s (nodes.Bean i)
+      (filter_map (needed_at s) (product_points s b name)
+      ++ filter_map (declaring_bean b.class) s.enabled.beans)
+  interceptor : {k : ℕ}
+      → NeedsThose s (nodes.Interceptor k) (filter_map (needed_at s) (interceptor_points s k))
 
 pub record Needs (s : Setting) (x y : Node) : Type 0 where
   pub those : List Node

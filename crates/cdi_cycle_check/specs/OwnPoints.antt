@@ -42,7 +42,9 @@ initializer_points (c, m) = []
 
 -- the points of a line of classes that a bean has: the injected fields, and the parameters of the initializers
 abbrev pub line_points : List Class → List Point
-line_points line = map (λ f. field_point f.1) (injected_fields_of line) ++ flat_map initializer_points (members_of line)
+line_points line =
+    map (λ f. field_point f.1) (injected_fields_of line)
+    ++ flat_map initializer_points (members_of line)
 
 -- the points of a managed bean: the parameters of its constructor, its injected fields, and the parameters of its initializers, also
 -- those that it inherits
@@ -60,7 +62,8 @@ points_of_some (Some m) = params_of m
 
 -- the parameters of a member of a class
 abbrev pub member_points : List Class → ℕ → ℕ → List Point
-member_points classes class name = points_of_some (option_and_then (member_in name) (class_named classes class))
+member_points classes class name =
+    points_of_some (option_and_then (member_in name) (class_named classes class))
 
 abbrev pub serves : ℕ → ℕ → DisposerMethod → Bool
 serves class name m = (m.class == class) && list_any (λ n. n == name) m.serves
@@ -87,4 +90,6 @@ fields_of_some (Some j) = j.inject
 -- the injected fields of an enabled interceptor, by its place
 abbrev pub interceptor_points : Setting → ℕ → List Point
 interceptor_points s k =
-    map field_point (fields_of_some (option_and_then (λ j. slice_get s.interceptors j.index) (slice_get s.enabled.interceptors k)))
+    map field_point (fields_of_some
+    (option_and_then (λ j. slice_get s.interceptors j.index)
+    (slice_get s.enabled.interceptors k)))

@@ -16,4 +16,8 @@ setting_of t =
 
 -- all beans of the list, and the enabled interceptors
 abbrev pub counts_of : CycleTables → Counts
-counts_of t = record { beans = length t.points.resolver.now.beans; interceptors = length t.points.live.now.interceptors }
+counts_of t =
+    record {
+      beans = length t.points.resolver.now.beans;
+      interceptors = length t.points.live.now.interceptors;
+    }

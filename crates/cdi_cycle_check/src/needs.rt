@@ -118,7 +118,8 @@ impl CycleTables<'_> {
         bean: &Bean,
         needs: &mut Seq<Node>,
     ) -> Result<(), AllocError>
-        ensures { OnOk result (spec.AddsManaged (setting_of self.now) bean.now needs.old needs.new) }
+        ensures { OnOk result
+            (spec.AddsManaged (setting_of self.now) bean.now needs.old needs.new) }
     {
         let classes = self.points.classes;
         add_params(self, constructor_points(classes.class(bean.class)), needs)?;
@@ -200,7 +201,8 @@ impl CycleTables<'_> {
     /// What a managed bean needs.
     fn managed_needs(&self, alloc: Global, bean: &Bean) -> Result<Seq<Node>, AllocError>
         requires { bean.now.kind ≡ BeanKind.Managed }
-        ensures { IfOk result (λ needs. (i : ℕ) → at self.now.points.live.now.beans i ≡ Some bean.now
+        ensures { IfOk result (λ needs. (i : ℕ)
+            → at self.now.points.live.now.beans i ≡ Some bean.now
             → spec.NeedsThose (setting_of self.now) (Node.Bean i) needs) }
     {
         let mut needs = Seq::empty(alloc);
@@ -212,7 +214,8 @@ impl CycleTables<'_> {
     /// What the product of a producer with this name needs.
     fn product_needs(&self, alloc: Global, bean: &Bean, name: Name) -> Result<Seq<Node>, AllocError>
         requires { own.product_name bean.now.kind ≡ Some name }
-        ensures { IfOk result (λ needs. (i : ℕ) → at self.now.points.live.now.beans i ≡ Some bean.now
+        ensures { IfOk result (λ needs. (i : ℕ)
+            → at self.now.points.live.now.beans i ≡ Some bean.now
             → spec.NeedsThose (setting_of self.now) (Node.Bean i) needs) }
     {
         let mut needs = Seq::empty(alloc);
@@ -225,7 +228,8 @@ impl CycleTables<'_> {
 
     /// What an enabled bean needs.
     pub(crate) fn bean_needs(&self, alloc: Global, bean: &Bean) -> Result<Seq<Node>, AllocError>
-        ensures { IfOk result (λ needs. (i : ℕ) → at self.now.points.live.now.beans i ≡ Some bean.now
+        ensures { IfOk result (λ needs. (i : ℕ)
+            → at self.now.points.live.now.beans i ≡ Some bean.now
             → spec.NeedsThose (setting_of self.now) (Node.Bean i) needs) }
     {
         match product_name(bean.kind) {

@@ -64,7 +64,11 @@ member_value names m = record { name = number_of names m.name; value = m.value }
 
 -- a use with the numbers of its names
 abbrev pub numbered : List (List ℕ) → WrittenUse → Use
-numbered names written = record { name = number_of names written.name; members = map (member_value names) written.members }
+numbered names written =
+    record {
+      name = number_of names written.name;
+      members = map (member_value names) written.members;
+    }
 
 abbrev pub nameless : WrittenUse
 nameless = record { name = []; members = [] }
@@ -75,7 +79,11 @@ use_in_table names d = numbered names (unwrap_or (use_in d) nameless)
 -- ---- the objects
 
 unfoldable pub interface_in : List (List ℕ) → Data → Interface
-interface_in names d = record { name = name_at names (codes "name") d; extends = each_at (name_in names) (codes "extends") d }
+interface_in names d =
+    record {
+      name = name_at names (codes "name") d;
+      extends = each_at (name_in names) (codes "extends") d;
+    }
 
 unfoldable pub annotation_type_in : List (List ℕ) → Data → AnnotationType
 annotation_type_in names d = record {
@@ -85,7 +93,8 @@ annotation_type_in names d = record {
 }
 
 unfoldable pub exception_in : List (List ℕ) → Data → Exception
-exception_in names d = record { name = name_at names (codes "name") d; checked = mark_of (get (codes "checked") d) }
+exception_in names d =
+    record { name = name_at names (codes "name") d; checked = mark_of (get (codes "checked") d) }
 
 unfoldable pub bean_in : List (List ℕ) → Data → Bean
 bean_in names d = record {
@@ -98,7 +107,8 @@ bean_in names d = record {
 }
 
 unfoldable pub field_in : List (List ℕ) → Data → Field
-field_in names d = record { name = name_at names (codes "name") d; value = value_of (get (codes "value") d) }
+field_in names d =
+    record { name = name_at names (codes "name") d; value = value_of (get (codes "value") d) }
 
 unfoldable pub injected_field_in : List (List ℕ) → Data → InjectedField
 injected_field_in names d = record {
@@ -108,10 +118,18 @@ injected_field_in names d = record {
 }
 
 unfoldable pub point_in : List (List ℕ) → Data → Point
-point_in names d = record { ty = name_at names (codes "type") d; quals = each_at (use_in_table names) (codes "quals") d }
+point_in names d =
+    record {
+      ty = name_at names (codes "type") d;
+      quals = each_at (use_in_table names) (codes "quals") d;
+    }
 
 unfoldable pub constructor_in : List (List ℕ) → Data → Constructor
-constructor_in names d = record { params = each_at (point_in names) (codes "params") d; body = maybe_at (name_in names) (codes "body") d }
+constructor_in names d =
+    record {
+      params = each_at (point_in names) (codes "params") d;
+      body = maybe_at (name_in names) (codes "body") d;
+    }
 
 unfoldable pub interceptor_in : List (List ℕ) → Data → Interceptor
 interceptor_in names d = record {
@@ -144,7 +162,8 @@ initializer_in names d = record {
 }
 
 unfoldable pub callback_in : List (List ℕ) → Data → Callback
-callback_in names d = record { name = name_at names (codes "name") d; body = name_at names (codes "body") d }
+callback_in names d =
+    record { name = name_at names (codes "name") d; body = name_at names (codes "body") d }
 
 unfoldable pub producer_in : List (List ℕ) → Data → ProducerMethod
 producer_in names d = record {
@@ -222,7 +241,8 @@ class_in names d = record {
 }
 
 unfoldable pub script_in : List (List ℕ) → Data → Script
-script_in names d = record { name = name_at names (codes "name") d; steps = data_of (get (codes "steps") d) }
+script_in names d =
+    record { name = name_at names (codes "name") d; steps = data_of (get (codes "steps") d) }
 
 -- the lists of a deployment
 unfoldable pub lists_in : List (List ℕ) → Data → Deployment

@@ -19,7 +19,10 @@ Table = Result (List (List ℕ)) ReadFault
 
 -- what is no name is left out
 unfoldable pub added : List (List ℕ) → List ℕ → Table
-added names text = if is_name text then (if has_room names text then Ok (with_name names text) else Err faults.TooMany) else Ok names
+added names text =
+    if is_name text then
+    (if has_room names text then Ok (with_name names text) else Err faults.TooMany)
+    else Ok names
 
 abbrev pub text_added : Part → List (List ℕ) → List ℕ → Table
 text_added parts.Name names s = added names s
@@ -38,16 +41,20 @@ added_at (Some x) names inside = inside x
 abbrev mutual
   pub names_added : Stage → List (List ℕ) → Data → Part → Table
   names_added stage names (string s) part = text_added part names s
-  names_added stage names (array ds) part = added_at (named_part part) names (λ inner. items_added stage names ds inner)
+  names_added stage names (array ds) part = added_at (named_part part) names
+      (λ inner. items_added stage names ds inner)
   names_added stage names (object ms) parts.Use = keys_added names ms
-  names_added stage names (object ms) part = added_at (kind_of stage part ms) names (λ kind. members_added stage names ms kind)
+  names_added stage names (object ms) part = added_at (kind_of stage part ms) names
+      (λ kind. members_added stage names ms kind)
   names_added stage names _ part = Ok names
 
   pub items_added : Stage → List (List ℕ) → Items → Part → Table
   items_added stage names no_items part = Ok names
-  items_added stage names (item d ds) part = names_added stage names d part >>= λ after. items_added stage after ds part
+  items_added stage names (item d ds)
+      part = names_added stage names d part >>= λ after. items_added stage after ds part
 
   pub members_added : Stage → List (List ℕ) → Members → Kind → Table
   members_added stage names no_members kind = Ok names
   members_added stage names (member key d ms) kind =
-      added_at (part_at stage kind key) names (λ part. names_added stage names d part) >>= λ after. members_added stage after ms kind
+      added_at (part_at stage kind key) names (λ part. names_added stage names d part)
+      >>= λ after. members_added stage after ms kind

@@ -51,7 +51,9 @@ within_limits d = if is_within d then Ok d else Err faults.TooMany
 unfoldable pub deployment_at : Stage → Data → Result Deployment ReadFault
 deployment_at stage d =
     if not (numbers_fit d) then Err faults.BadNumber
-    else or_shape (wrong stage d root) (if not (names_fit stage d root) then Err faults.BadName else lists_at stage d >>= within_limits)
+    else or_shape (wrong stage d root)
+    (if not (names_fit stage d root) then Err faults.BadName
+    else lists_at stage d >>= within_limits)
 
 abbrev pub deployment_of : Data → Result Deployment ReadFault
 deployment_of d = deployment_at served d
@@ -66,7 +68,9 @@ is_no_text bytes = not (is_too_long bytes) && not (is_utf8 bytes)
 
 -- the deployment that bytes are at a stage, or their first fault: too many are not looked at
 unfoldable pub read_at : Stage → List ℕ → Result Deployment ReadFault
-read_at stage bytes = if is_too_long bytes then Err faults.TooLong else or_not_json (json_in bytes) >>= deployment_at stage
+read_at stage bytes =
+    if is_too_long bytes then Err faults.TooLong
+    else or_not_json (json_in bytes) >>= deployment_at stage
 
 -- the same for what is served
 abbrev pub deployment_in : List ℕ → Result Deployment ReadFault

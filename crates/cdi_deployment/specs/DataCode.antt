@@ -57,7 +57,8 @@ mutual
 
   pub items_inj : (x y : Items) → items_code x ≡ items_code y → x ≡ y
   items_inj no_items no_items p = refl
-  items_inj (item d ds) (item e es) p = ap₂ item (data_inj d e (ap head p)) (items_inj ds es (ap tail p))
+  items_inj (item d ds) (item e es) p = ap₂ item (data_inj d e (ap head p))
+      (items_inj ds es (ap tail p))
   items_inj x y p = absurd cc
 
   pub members_inj : (x y : Members) → members_code x ≡ members_code y → x ≡ y

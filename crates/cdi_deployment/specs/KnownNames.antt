@@ -66,10 +66,16 @@ module _ (count : ℕ) where
   KnowsMember (members.PostConstruct m) = KnowsCallback m
   KnowsMember (members.PreDestroy m) = KnowsCallback m
   KnowsMember (members.Producer m) =
-      IsKnown m.name × IsKnown m.body × IsKnown m.ty × KnowsUses m.quals × IfSome m.typed AreKnown × All KnowsPoint m.params × KnowsUses m.bindings
-  KnowsMember (members.ProducerField m) = IsKnown m.name × IsKnown m.field × IsKnown m.ty × KnowsUses m.quals × IfSome m.typed AreKnown
-  KnowsMember (members.Disposer m) = IsKnown m.name × IsKnown m.body × IsKnown m.ty × KnowsUses m.quals × All KnowsPoint m.params × KnowsUses m.bindings
-  KnowsMember (members.Observer m) = IsKnown m.name × IsKnown m.body × IsKnown m.ty × KnowsUses m.quals × All KnowsPoint m.params × KnowsUses m.bindings
+      IsKnown m.name × IsKnown m.body × IsKnown m.ty × KnowsUses m.quals × IfSome m.typed AreKnown
+      × All KnowsPoint m.params × KnowsUses m.bindings
+  KnowsMember (members.ProducerField m) =
+      IsKnown m.name × IsKnown m.field × IsKnown m.ty × KnowsUses m.quals × IfSome m.typed AreKnown
+  KnowsMember (members.Disposer m) =
+      IsKnown m.name × IsKnown m.body × IsKnown m.ty × KnowsUses m.quals
+      × All KnowsPoint m.params × KnowsUses m.bindings
+  KnowsMember (members.Observer m) =
+      IsKnown m.name × IsKnown m.body × IsKnown m.ty × KnowsUses m.quals
+      × All KnowsPoint m.params × KnowsUses m.bindings
 
   pub record KnowsClass (c : Class) : Type 0 where
     pub name : IsKnown c.name

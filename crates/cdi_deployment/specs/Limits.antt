@@ -57,10 +57,13 @@ is_member_within (members.Initializer m) = are_params_within m.params
 is_member_within (members.PostConstruct m) = true
 is_member_within (members.PreDestroy m) = true
 is_member_within (members.Producer m) =
-    are_uses_within m.quals && is_typed_within m.typed && are_params_within m.params && are_uses_within m.bindings
+    are_uses_within m.quals && is_typed_within m.typed && are_params_within m.params
+    && are_uses_within m.bindings
 is_member_within (members.ProducerField m) = are_uses_within m.quals && is_typed_within m.typed
-is_member_within (members.Disposer m) = are_uses_within m.quals && are_params_within m.params && are_uses_within m.bindings
-is_member_within (members.Observer m) = are_uses_within m.quals && are_params_within m.params && are_uses_within m.bindings
+is_member_within (members.Disposer m) =
+    are_uses_within m.quals && are_params_within m.params && are_uses_within m.bindings
+is_member_within (members.Observer m) =
+    are_uses_within m.quals && are_params_within m.params && are_uses_within m.bindings
 
 -- 64 fields that hold values and injected fields together
 abbrev pub are_fields_within : ℕ → ℕ → Bool
@@ -69,12 +72,15 @@ are_fields_within fields inject = nat_le (fields + inject) 64
 -- 64 members
 abbrev pub is_class_within : Class → Bool
 is_class_within c =
-    are_fields_within (length c.fields) (length c.inject) && is_at_most 64 c.members && are_names_within c.implements && are_uses_within c.bindings
-    && is_bean_within c.bean && are_injected_within c.inject && is_constructor_within c.constructor && list_all is_member_within c.members
+    are_fields_within (length c.fields) (length c.inject) && is_at_most 64 c.members
+    && are_names_within c.implements && are_uses_within c.bindings
+    && is_bean_within c.bean && are_injected_within c.inject && is_constructor_within c.constructor
+    && list_all is_member_within c.members
 
 abbrev pub is_interceptor_within : Interceptor → Bool
 is_interceptor_within i =
-    are_fields_within (length i.fields) (length i.inject) && are_uses_within i.bindings && are_injected_within i.inject
+    are_fields_within (length i.fields) (length i.inject) && are_uses_within i.bindings
+    && are_injected_within i.inject
 
 -- 1,024 interfaces, classes and interceptors together
 abbrev pub are_types_within : Deployment → Bool
@@ -83,11 +89,14 @@ are_types_within d = nat_le (length d.interfaces + length d.classes + length d.i
 -- 1,024 items of each other list
 abbrev pub is_length_within : Deployment → Bool
 is_length_within d =
-    are_types_within d && is_at_most 1024 d.scripts && is_at_most 1024 d.qualifiers && is_at_most 1024 d.bindings && is_at_most 1024 d.exceptions
+    are_types_within d && is_at_most 1024 d.scripts && is_at_most 1024 d.qualifiers
+    && is_at_most 1024 d.bindings && is_at_most 1024 d.exceptions
     && is_at_most 1024 d.selected && is_at_most 1024 d.order
 
 abbrev pub is_within : Deployment → Bool
 is_within d =
-    is_length_within d && list_all is_class_within d.classes && list_all is_interface_within d.interfaces
-    && list_all is_annotation_type_within d.qualifiers && list_all is_annotation_type_within d.bindings
+    is_length_within d && list_all is_class_within d.classes
+    && list_all is_interface_within d.interfaces
+    && list_all is_annotation_type_within d.qualifiers
+    && list_all is_annotation_type_within d.bindings
     && list_all is_interceptor_within d.interceptors

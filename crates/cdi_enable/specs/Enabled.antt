@@ -27,7 +27,8 @@ may_be_enabled beans b = is_candidate (slice_get beans b)
 -- whether a bean is enabled, from the most derived class upwards: no enabled bean specializes it, and it is no alternative or a
 -- selected one
 pub data Enabled (beans : List ManagedBean) : ℕ → Bool → Type 0 where
-  enabled : {b : ℕ} → may_be_enabled beans b ≡ true → ((x : ℕ) → Specializes beans x b → Enabled beans x false) → Enabled beans b true
+  enabled : {b : ℕ} → may_be_enabled beans b ≡ true
+      → ((x : ℕ) → Specializes beans x b → Enabled beans x false) → Enabled beans b true
   not_selected : {b : ℕ} → may_be_enabled beans b ≡ false → Enabled beans b false
   specialized : {x b : ℕ} → Specializes beans x b → Enabled beans x true → Enabled beans b false
 

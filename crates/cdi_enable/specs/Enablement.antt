@@ -36,7 +36,11 @@ is_selected selected b = is_some b.priority || list_any (λ c. c == b.class) sel
 
 abbrev pub managed_bean : List ℕ → List ℕ → Bean → ManagedBean
 managed_bean classes selected b =
-    record { specializes = option_and_then (bean_of_class classes) b.specializes; alternative = b.alternative; selected = is_selected selected b }
+    record {
+      specializes = option_and_then (bean_of_class classes) b.specializes;
+      alternative = b.alternative;
+      selected = is_selected selected b;
+    }
 
 abbrev pub listed_bean : Bean → ListedBean
 listed_bean b = record { class = b.class; is_managed = is_managed b.kind }
@@ -44,7 +48,8 @@ listed_bean b = record { class = b.class; is_managed = is_managed b.kind }
 abbrev pub enablement_of : BeanList → Enablement
 enablement_of list = record {
   classes = classes_of (managed_beans list.beans);
-  managed = map (managed_bean (classes_of (managed_beans list.beans)) list.selected) (managed_beans list.beans);
+  managed = map (managed_bean (classes_of (managed_beans list.beans)) list.selected)
+      (managed_beans list.beans);
   beans = map listed_bean list.beans;
 }
 
@@ -75,7 +80,8 @@ IsInconsistentBean e (Some b) = IsInconsistentManaged e.managed b
 
 -- two enabled beans specialize a managed bean of the list
 abbrev pub IsInconsistent : Enablement → ℕ → Type 0
-IsInconsistent e bean = IsInconsistentBean e (option_and_then (managed_index e.classes) (slice_get e.beans bean))
+IsInconsistent e bean =
+    IsInconsistentBean e (option_and_then (managed_index e.classes) (slice_get e.beans bean))
 
 -- one flag for each bean of the list, in order: whether it is enabled
 pub record AreFlags (e : Enablement) (flags : List Bool) : Type 0 where

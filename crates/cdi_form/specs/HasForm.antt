@@ -30,11 +30,14 @@ HasRequired kind ms = AllPass (is_met ms) (rows kind)
 
 -- each key that is there is listed
 abbrev pub AreListed : Stage → Kind → Members → Type 0
-AreListed stage kind ms = (key : List ℕ) (d : Data) → HasMember ms key d → IsTrue (is_some (part_at stage kind key))
+AreListed stage kind ms =
+    (key : List ℕ) (d : Data) → HasMember ms key d → IsTrue (is_some (part_at stage kind key))
 
 -- the key `kind` of a member names a kind
 abbrev pub NamesKind : Stage → Members → Kind → Type 0
-NamesKind stage ms kind = (word : List ℕ) × (get_member (codes "kind") ms ≡ Some (string word)) × (member_kind stage word ≡ Some kind)
+NamesKind stage ms kind =
+    (word : List ℕ) × (get_member (codes "kind") ms ≡ Some (string word))
+    × (member_kind stage word ≡ Some kind)
 
 -- where a use is wanted, there is one
 abbrev pub IsLongEnough : Part → Items → Type 0
@@ -58,7 +61,8 @@ pub data HasForm (stage : Stage) : Part → Data → Type 0 where
   -- a whole number is a number: of which size is looked at before
   whole_number : (n : Num) → HasForm stage parts.WholeNumber (number n)
   -- a scope is one of its texts
-  scope : (s : List ℕ) → IsTrue (is_some (scope_named stage s)) → HasForm stage parts.Scope (string s)
+  scope : (s : List ℕ) → IsTrue (is_some (scope_named stage s))
+      → HasForm stage parts.Scope (string s)
   -- the kind of a member is a text
   kind_text : (s : List ℕ) → HasForm stage parts.MemberKind (string s)
   -- a use is one
@@ -70,8 +74,10 @@ pub data HasForm (stage : Stage) : Part → Data → Type 0 where
       → ((d : Data) → HasItem ds d → HasForm stage inner d) → HasForm stage part (array ds)
   -- an object has each key that its kind requires, only listed keys, and at each key a value of the form of its part
   an_object : (kind : Kind) (ms : Members) → HasRequired kind ms → AreListed stage kind ms
-      → ((key : List ℕ) (d : Data) (part : Part) → HasMember ms key d → part_at stage kind key ≡ Some part → HasForm stage part d)
+      → ((key : List ℕ) (d : Data) (part : Part) → HasMember ms key d
+      → part_at stage kind key ≡ Some part → HasForm stage part d)
       → HasForm stage (parts.Object kind) (object ms)
   -- a member is an object of the kind that it names
-  a_member : (kind : Kind) (ms : Members) → NamesKind stage ms kind → HasForm stage (parts.Object kind) (object ms)
+  a_member : (kind : Kind) (ms : Members) → NamesKind stage ms kind
+      → HasForm stage (parts.Object kind) (object ms)
       → HasForm stage parts.Member (object ms)

@@ -23,7 +23,8 @@ has_required kind ms = list_all (is_met ms) (rows kind)
 -- each key is listed
 abbrev pub are_listed : Stage → Kind → Members → Bool
 are_listed stage kind no_members = true
-are_listed stage kind (member key d ms) = is_some (part_at stage kind key) && are_listed stage kind ms
+are_listed stage kind (member key d ms) =
+    is_some (part_at stage kind key) && are_listed stage kind ms
 
 -- an object itself is right: no key is missing, and each is listed
 abbrev pub has_right_keys : Stage → Kind → Members → Bool

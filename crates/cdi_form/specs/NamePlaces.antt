@@ -17,8 +17,11 @@ pub data StandsAsName (stage : Stage) (s : List ℕ) : Part → Data → Type 0 
   -- it is the key of a member in a use
   given : (ms : Members) (d : Data) → HasMember ms s d → StandsAsName stage s parts.Use (object ms)
   -- it is so in an item of an array
-  in_items : (part inner : Part) (ds : Items) (d : Data) → named_part part ≡ Some inner → HasItem ds d → StandsAsName stage s inner d
+  in_items : (part inner : Part) (ds : Items) (d : Data) → named_part part ≡ Some inner
+      → HasItem ds d → StandsAsName stage s inner d
       → StandsAsName stage s part (array ds)
   -- it is so at a listed key of an object
-  in_object : (part inner : Part) (ms : Members) (kind : Kind) (key : List ℕ) (d : Data) → kind_of stage part ms ≡ Some kind
-      → HasMember ms key d → part_at stage kind key ≡ Some inner → StandsAsName stage s inner d → StandsAsName stage s part (object ms)
+  in_object : (part inner : Part) (ms : Members) (kind : Kind) (key : List ℕ) (d : Data)
+      → kind_of stage part ms ≡ Some kind
+      → HasMember ms key d → part_at stage kind key ≡ Some inner → StandsAsName stage s inner d
+      → StandsAsName stage s part (object ms)

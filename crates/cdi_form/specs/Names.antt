@@ -29,19 +29,23 @@ first_bad_key (member key d ms) = option_or (no_name key) (first_bad_key ms)
 abbrev mutual
   pub first_bad_name : Stage → Data → Part → Option (List ℕ)
   first_bad_name stage (string s) part = bad_text part s
-  first_bad_name stage (array ds) part = option_and_then (λ inner. bad_name_in_items stage ds inner) (named_part part)
+  first_bad_name stage (array ds) part = option_and_then (λ inner. bad_name_in_items stage ds inner)
+      (named_part part)
   first_bad_name stage (object ms) parts.Use = first_bad_key ms
-  first_bad_name stage (object ms) part = option_and_then (λ kind. bad_name_in_members stage ms kind) (kind_of stage part ms)
+  first_bad_name stage (object ms) part = option_and_then
+      (λ kind. bad_name_in_members stage ms kind) (kind_of stage part ms)
   first_bad_name stage _ part = None
 
   pub bad_name_in_items : Stage → Items → Part → Option (List ℕ)
   bad_name_in_items stage no_items part = None
-  bad_name_in_items stage (item d ds) part = option_or (first_bad_name stage d part) (bad_name_in_items stage ds part)
+  bad_name_in_items stage (item d ds) part = option_or (first_bad_name stage d part)
+      (bad_name_in_items stage ds part)
 
   pub bad_name_in_members : Stage → Members → Kind → Option (List ℕ)
   bad_name_in_members stage no_members kind = None
   bad_name_in_members stage (member key d ms) kind =
-      option_or (option_and_then (λ part. first_bad_name stage d part) (part_at stage kind key)) (bad_name_in_members stage ms kind)
+      option_or (option_and_then (λ part. first_bad_name stage d part) (part_at stage kind key))
+      (bad_name_in_members stage ms kind)
 
 -- each text in the place of a name is one
 abbrev pub names_fit : Stage → Data → Part → Bool

@@ -96,15 +96,20 @@ abbrev mutual
   wrong stage (number n) part = here_unless (may_be_number part n)
   wrong stage (string s) part = here_unless (may_be_text stage part s)
   wrong stage (array ds) part =
-      if may_be_array part (array ds) then at_part (item_part part) (λ inner. wrong_items stage ds inner 0) else Some []
+      if may_be_array part (array ds)
+      then at_part (item_part part) (λ inner. wrong_items stage ds inner 0)
+      else Some []
   wrong stage (object ms) part =
-      in_kind (kind_of stage part ms) (λ kind. if has_right_keys stage kind ms then wrong_members stage ms kind else Some [])
+      in_kind (kind_of stage part ms)
+      (λ kind. if has_right_keys stage kind ms then wrong_members stage ms kind else Some [])
 
   pub wrong_items : Stage → Items → Part → ℕ → Option (List ℕ)
   wrong_items stage no_items part i = None
-  wrong_items stage (item d ds) part i = or_else (under (decimal i) (wrong stage d part)) (wrong_items stage ds part (i + 1))
+  wrong_items stage (item d ds) part i = or_else (under (decimal i) (wrong stage d part))
+      (wrong_items stage ds part (i + 1))
 
   pub wrong_members : Stage → Members → Kind → Option (List ℕ)
   wrong_members stage no_members kind = None
   wrong_members stage (member key d ms) kind =
-      or_else (under key (at_part (part_at stage kind key) (λ part. wrong stage d part))) (wrong_members stage ms kind)
+      or_else (under key (at_part (part_at stage kind key) (λ part. wrong stage d part)))
+      (wrong_members stage ms kind)

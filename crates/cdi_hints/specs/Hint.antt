@@ -29,7 +29,8 @@ abbrev pub long_list : Stage → Data → Option Hint
 long_list stage d = long_list_in (lists_at stage d)
 
 -- the hint for a value, by its lists and what reading it gives
-abbrev pub hint_by : Stage → Data → Result Deployment ReadFault → Result Deployment ReadFault → Option Hint
+abbrev pub hint_by : Stage → Data → Result Deployment ReadFault → Result Deployment ReadFault
+    → Option Hint
 hint_by stage d lists (Ok deployment) = first_bad_step stage deployment
 hint_by stage d lists (Err faults.BadName) = bad_name stage d
 hint_by stage d lists (Err faults.TooMany) = long_list_in lists
@@ -45,7 +46,8 @@ IsHintBy stage bytes (Some d) hint = hint ≡ hint_of stage d
 
 -- none for too many bytes
 abbrev pub IsHintFor : Stage → List ℕ → Option Hint → Type 0
-IsHintFor stage bytes hint = MatchBool (is_too_long bytes) (hint ≡ None) (IsHintBy stage bytes (json_in bytes) hint)
+IsHintFor stage bytes hint =
+    MatchBool (is_too_long bytes) (hint ≡ None) (IsHintBy stage bytes (json_in bytes) hint)
 
 -- why bytes have no value: memory ran out, or they stop being one JSON text at a place
 abbrev pub IsNoValue : List ℕ → ReadError Hint → Type 0

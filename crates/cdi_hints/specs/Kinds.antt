@@ -30,7 +30,8 @@ abbrev pub lists_in : Stage → List ℕ → Result Deployment ReadFault
 lists_in stage bytes = or_not_json (json_in bytes) >>= lists_at stage
 
 -- a position for NotJson, a name for BadName, a list for TooMany where there are lists, at most a step for a deployment, and else none
-abbrev pub FitsReading : Result Deployment ReadFault → Result Deployment ReadFault → Option Hint → Type 0
+abbrev pub FitsReading : Result Deployment ReadFault → Result Deployment ReadFault → Option Hint
+    → Type 0
 FitsReading lists (Err faults.NotJson) hint = IsSomeAnd hint IsPosition
 FitsReading lists (Err faults.BadName) hint = IsSomeAnd hint IsName
 FitsReading (Ok deployment) (Err faults.TooMany) hint = IsSomeAnd hint IsList

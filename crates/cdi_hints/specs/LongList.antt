@@ -14,7 +14,8 @@ list_at key = hints.List (codes "/" ++ key) 1024
 
 -- a list of the class with this index
 abbrev pub class_list_at : ℕ → List ℕ → ℕ → Hint
-class_list_at index key limit = hints.List (codes "/classes/" ++ (decimal index ++ (codes "/" ++ key))) limit
+class_list_at index key limit =
+    hints.List (codes "/classes/" ++ (decimal index ++ (codes "/" ++ key))) limit
 
 -- an item of a list of the deployment
 abbrev pub item_at : List ℕ → ℕ → Hint
@@ -35,12 +36,15 @@ long_list_key d =
 abbrev pub long_list_of_class : ℕ → Class → Option Hint
 long_list_of_class index c =
     if is_class_within c then None
-    else (if not (are_fields_within (length c.fields) (length c.inject)) then Some (class_list_at index (codes "fields") 64)
-    else (if not (is_at_most 64 c.members) then Some (class_list_at index (codes "members") 64) else Some (item_at (codes "classes") index)))
+    else (if not (are_fields_within (length c.fields) (length c.inject))
+    then Some (class_list_at index (codes "fields") 64)
+    else (if not (is_at_most 64 c.members) then Some (class_list_at index (codes "members") 64)
+    else Some (item_at (codes "classes") index)))
 
 abbrev pub long_list_in_classes : ℕ → List Class → Option Hint
 long_list_in_classes index [] = None
-long_list_in_classes index (c ∷ cs) = option_or (long_list_of_class index c) (long_list_in_classes (index + 1) cs)
+long_list_in_classes index (c ∷ cs) =
+    option_or (long_list_of_class index c) (long_list_in_classes (index + 1) cs)
 
 -- the index of the first item that has a list longer than its limit
 abbrev pub first_beyond : {X : Type 0} → (X → Bool) → List X → Option ℕ
@@ -49,11 +53,19 @@ first_beyond is_within items = position_from (λ x. not (is_within x)) 0 items
 -- the first item of the other lists of the deployment that has a list longer than its limit
 abbrev pub long_item : Deployment → Option Hint
 long_item d =
-    option_or (option_map (item_at (codes "interfaces")) (first_beyond is_interface_within d.interfaces))
-    (option_or (option_map (item_at (codes "qualifiers")) (first_beyond is_annotation_type_within d.qualifiers))
-    (option_or (option_map (item_at (codes "bindings")) (first_beyond is_annotation_type_within d.bindings))
-    (option_map (item_at (codes "interceptors")) (first_beyond is_interceptor_within d.interceptors))))
+    option_or
+    (option_map (item_at (codes "interfaces")) (first_beyond is_interface_within d.interfaces))
+    (option_or
+    (option_map (item_at (codes "qualifiers"))
+    (first_beyond is_annotation_type_within d.qualifiers))
+    (option_or
+    (option_map (item_at (codes "bindings"))
+    (first_beyond is_annotation_type_within d.bindings))
+    (option_map (item_at (codes "interceptors"))
+    (first_beyond is_interceptor_within d.interceptors))))
 
 -- the lists of the deployment itself, then class by class, then the items of its other lists
 abbrev pub first_long_list : Deployment → Option Hint
-first_long_list d = option_or (option_map list_at (long_list_key d)) (option_or (long_list_in_classes 0 d.classes) (long_item d))
+first_long_list d =
+    option_or (option_map list_at (long_list_key d))
+    (option_or (long_list_in_classes 0 d.classes) (long_item d))

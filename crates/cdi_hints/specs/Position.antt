@@ -9,7 +9,8 @@ use Rattle.cdi_hints.specs.declared.hint.Hint.TheVariants as hints
 -- the place of what follows bytes that begin at a line and a column
 abbrev pub place_from : ℕ → ℕ → List ℕ → Hint
 place_from line column [] = hints.Position line column
-place_from line column (byte ∷ bytes) = if byte == 10 then place_from (line + 1) 1 bytes else place_from line (column + 1) bytes
+place_from line column (byte ∷ bytes) =
+    if byte == 10 then place_from (line + 1) 1 bytes else place_from line (column + 1) bytes
 
 -- the place of what follows bytes, both counted from 1
 abbrev pub place_after : List ℕ → Hint
@@ -21,4 +22,6 @@ IsPosition _ = ⊥
 
 -- behind the longest front that is UTF-8; where all of it is, some place
 abbrev pub IsPlaceIn : List ℕ → Hint → Type 0
-IsPlaceIn bytes place = MatchBool (is_utf8 bytes) (IsPosition place) (place ≡ place_after (take (utf8_valid_len bytes) bytes))
+IsPlaceIn bytes place =
+    MatchBool (is_utf8 bytes) (IsPosition place)
+    (place ≡ place_after (take (utf8_valid_len bytes) bytes))

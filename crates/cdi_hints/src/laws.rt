@@ -20,7 +20,8 @@ ghost use Rattle.cdi_hints.specs.declared.hint.Hint.{Hint as AnyHint};
 /// a name exactly if it is `BadName`, a list exactly if it is `TooMany` and not because the table of names is full, and
 /// a step only if it is a deployment.
 pub fn law_kind()
-    ensures { (stage : AnyStage) (bytes : List ℕ) (hint : Option AnyHint) → IsHintFor stage bytes hint
+    ensures { (stage : AnyStage) (bytes : List ℕ) (hint : Option AnyHint)
+        → IsHintFor stage bytes hint
         → FitsReading (lists_in stage bytes) (read_at stage bytes) hint }
 {}
 

@@ -23,11 +23,15 @@ value_in _ = None
 abbrev pub members_in : Members → Option (List WrittenMember)
 members_in no_members = Some []
 members_in (member key d others) =
-    option_and_then (λ value. option_map (λ rest. (record { name = key; value = value }) ∷ rest) (members_in others)) (value_in d)
+    option_and_then
+    (λ value.
+    option_map (λ rest. (record { name = key; value = value }) ∷ rest) (members_in others))
+    (value_in d)
 
 -- the use with this name and these members
 abbrev pub use_with : Data → Data → Option WrittenUse
-use_with (string text) (object ms) = option_map (λ members. record { name = text; members = members }) (members_in ms)
+use_with (string text) (object ms) =
+    option_map (λ members. record { name = text; members = members }) (members_in ms)
 use_with _ _ = None
 
 -- just these two items
@@ -45,7 +49,8 @@ module _ {X : Type 0} where
   -- what each item is, in their order: none if one is none
   abbrev pub each_in : (Data → Option X) → Items → Option (List X)
   each_in form no_items = Some []
-  each_in form (item d ds) = option_and_then (λ first. option_map (λ rest. first ∷ rest) (each_in form ds)) (form d)
+  each_in form (item d ds) = option_and_then
+      (λ first. option_map (λ rest. first ∷ rest) (each_in form ds)) (form d)
 
   -- what the items of an array are
   abbrev pub list_in : (Data → Option X) → Data → Option (List X)

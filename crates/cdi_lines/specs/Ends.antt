@@ -8,6 +8,8 @@ Tells (Ok _) failed fails = (failed ≡ false) × (fails ≡ false)
 Tells (Err _) failed fails = fails ≡ true
 
 -- known bytes grow by all that was to be written, or by a front part of it where that failed
-abbrev pub WritesAll : {T E : Type 0} → Option (List ℕ) → Option (List ℕ) → Result T E → List ℕ → Type 0
+abbrev pub WritesAll : {T E : Type 0} → Option (List ℕ) → Option (List ℕ) → Result T E → List ℕ
+    → Type 0
 WritesAll old new (Ok _) bytes = Appends old new bytes
-WritesAll old new (Err _) bytes = (part : List ℕ) × (rest : List ℕ) × (part ++ rest ≡ bytes) × Appends old new part
+WritesAll old new (Err _) bytes =
+    (part : List ℕ) × (rest : List ℕ) × (part ++ rest ≡ bytes) × Appends old new part

@@ -4,12 +4,14 @@ use Rattle.std.specs.Prelude.{◌≢◌, ℕ, ◌==◌, All, List, [], ◌∷◌
 -- the lines that end in bytes, where the first has begun with these before them
 abbrev pub ended_lines : List ℕ → List ℕ → List (List ℕ)
 ended_lines begun [] = []
-ended_lines begun (byte ∷ bytes) = if byte == 10 then begun ∷ ended_lines [] bytes else ended_lines (begun ++ byte ∷ []) bytes
+ended_lines begun (byte ∷ bytes) =
+    if byte == 10 then begun ∷ ended_lines [] bytes else ended_lines (begun ++ byte ∷ []) bytes
 
 -- and what then stands behind the last line feed
 abbrev pub begun_line : List ℕ → List ℕ → List ℕ
 begun_line begun [] = begun
-begun_line begun (byte ∷ bytes) = if byte == 10 then begun_line [] bytes else begun_line (begun ++ byte ∷ []) bytes
+begun_line begun (byte ∷ bytes) =
+    if byte == 10 then begun_line [] bytes else begun_line (begun ++ byte ∷ []) bytes
 
 -- what stands behind the last line feed is a line too, unless it is empty
 abbrev pub last_line : List ℕ → List (List ℕ)

@@ -5,6 +5,7 @@ ghost use Rattle.cdi_lines.specs.Lines.{begun_line, complete_lines, all_lines, w
 /// Bytes are their complete lines, each with a line feed behind it, and then what stands behind the last line feed.
 /// No line has a line feed in it.
 pub fn law_lines()
-    ensures joined { (bytes : List ℕ) → with_line_feeds (complete_lines bytes) ++ begun_line [] bytes ≡ bytes }
+    ensures joined { (bytes : List ℕ)
+        → with_line_feeds (complete_lines bytes) ++ begun_line [] bytes ≡ bytes }
     ensures apart { (bytes : List ℕ) → All IsOneLine (all_lines bytes) }
 {}

@@ -38,7 +38,8 @@ abbrev pub is_declared_class : List Class → ℕ → Bool
 is_declared_class classes name = list_any (λ c. c.name == name) classes
 
 -- a class of the deployment is that of an enabled managed bean, or stands above it, so that its injected fields are set
-pub record HasFieldsOf (classes : List Class) (types : List TypeDeclaration) (enabled : List (ℕ × Bean)) (class : ℕ) : Type 0 where
+pub record HasFieldsOf (classes : List Class) (types : List TypeDeclaration)
+    (enabled : List (ℕ × Bean)) (class : ℕ) : Type 0 where
   pub declared : IsTrue (is_declared_class classes class)
   pub below : Any (IsBeanBelow types class) enabled
 

@@ -104,7 +104,9 @@ interceptor_of n i = do
 abbrev pub run_rest : List ℕ → Prog Given
 run_rest [] = do
   v ← invocation
-  g ← each v.members λ m. call (Task.Body (body_at_start v.target m.place m.body v.parameters v.references []))
+  g ← each v.members λ m.
+      call (Task.Body
+      (body_at_start v.target m.place m.body v.parameters v.references []))
   alter Change.Reach
   ret (given_by v.role g)
 run_rest (i ∷ chain) = do
@@ -112,7 +114,8 @@ run_rest (i ∷ chain) = do
   interceptor ← interceptor_at i
   code ← require_present (interceptor.body v.role)
   n ← interceptor_of v.target i
-  g ← call (Task.Body (body_at_start n (places.Interceptor interceptor.name v.role) code v.parameters [] chain))
+  g ← call (Task.Body
+      (body_at_start n (places.Interceptor interceptor.name v.role) code v.parameters [] chain))
   ret (given_by v.role g)
 
 -- ---- bodies

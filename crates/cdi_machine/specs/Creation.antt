@@ -132,7 +132,8 @@ create b owner = do
 abbrev pub intercept : ℕ → ℕ → Prog Given
 intercept i n = do
   interceptor ← interceptor_at i
-  m ← begin_creation (places.Class interceptor.name) (components.Interceptor i) (owners.Instance n) interceptor.fields
+  m ← begin_creation (places.Class interceptor.name) (components.Interceptor i) (owners.Instance n)
+      interceptor.fields
   create_by m do
     each interceptor.injected λ p. inject m p.0 p.1
     ret (Number m)

@@ -107,8 +107,8 @@ abbrev pub played_by : Deployment → (ℕ → ℕ → ℕ) → Setting
 played_by d chooses =
     record {
       tables = tables_of d;
-      acts =
-          λ body entries fields view. as_written d (next (steps_of (slice_get d.scripts body)) fields view);
+      acts = λ body entries fields view.
+          as_written d (next (steps_of (slice_get d.scripts body)) fields view);
       chooses = chooses;
     }
 

@@ -57,11 +57,15 @@ module _ (s : Setting) where
   steps rec (change g p) w = steps rec p (after_change g w)
   steps rec (tick e p) w = after_entry e w (λ u. steps rec p u)
   steps rec (mark n p) w = steps rec p w
-  steps rec (act b fields view k) w = let a = s.acts b (length w.trace) fields view in after_entry (entries.Did a) w (λ u. steps rec (k a) u)
-  steps rec (choose n k) w = let i = s.chooses (candidates n) (length w.trace) in elim (nat_lt i (candidates n)) [
-    | true ↦ after_entry (entries.Pick (candidates n) i) w (λ u. steps rec (k i) u)
-    | false ↦ None
-  ]
+  steps rec (act b fields view k) w =
+      let a = s.acts b (length w.trace) fields view in
+      after_entry (entries.Did a) w (λ u. steps rec (k a) u)
+  steps rec (choose n k) w =
+      let i = s.chooses (candidates n) (length w.trace) in
+      elim (nat_lt i (candidates n)) [
+        | true ↦ after_entry (entries.Pick (candidates n) i) w (λ u. steps rec (k i) u)
+        | false ↦ None
+      ]
   steps rec (nested t k) w = after_task (rec t w) (λ c u. steps rec (k c) u)
 
   abbrev pub exec : ℕ → Task → World → Came
@@ -82,7 +86,9 @@ module _ (s : Setting) where
   answer_by n c u None (Some (o, v)) = Some (reply_to c o v, state_after o v)
 
   abbrev pub answer : ℕ → Command → State → Option (Reply × State)
-  answer n c u = let came = evaluation n (task c) (at_begin u.world) in answer_by n c u (refusal s.tables u c) came
+  answer n c u =
+      let came = evaluation n (task c) (at_begin u.world) in
+      answer_by n c u (refusal s.tables u c) came
 
   -- what is said to commands
   abbrev pub performance : ℕ → State → List Command → Option (List Said)

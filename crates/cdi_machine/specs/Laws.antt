@@ -88,7 +88,8 @@ abbrev pub OnItsWay : Tables → Legal → Legal → Type 0
 OnItsWay tables legal loose =
     IsServed loose → (p : Prog Given) (w v : World) (o : Outcome)
     → Runs tables legal (Unit {0}) p w o v
-    → (o' : Outcome) × (v' : World) × Runs tables (followed_by (length v.trace) legal loose) ⊥ p w o' v' × Goes v v'
+    → (o' : Outcome) × (v' : World)
+    × Runs tables (followed_by (length v.trace) legal loose) ⊥ p w o' v' × Goes v v'
 
 -- ---- what is running
 

@@ -30,7 +30,8 @@ rest_after (Cut cause) k = cut cause
 
 -- The program may come to this outcome, from the one world to the other. If `Starved` holds, memory may run out at any
 -- point.
-pub data Runs (tables : Tables) (legal : Legal) (Starved : Type 0) : Prog Given → World → Outcome → World → Type 0 where
+pub data Runs (tables : Tables) (legal : Legal) (Starved : Type 0)
+    : Prog Given → World → Outcome → World → Type 0 where
   returns : {g : Given} {w : World} → Runs tables legal Starved (ret g) w (Ends (Gave g)) w
   throws : {x : Name} {w : World} → Runs tables legal Starved (throw x) w (Ends (Threw x)) w
   cuts : {cause : Cause} {w : World} → Runs tables legal Starved (cut cause) w (Cut cause) w
@@ -55,7 +56,8 @@ pub data Runs (tables : Tables) (legal : Legal) (Starved : Type 0) : Prog Given 
       → Runs tables legal Starved p w o v
       → Runs tables legal Starved (mark n p) w o v
   -- a body gives an act that is legal, and a candidate is picked that is; the entry is written next
-  does : {b : ℕ} {fields : Fields} {view : View} {k : Act → Prog Given} {w v : World} {o : Outcome} (a : Act)
+  does : {b : ℕ} {fields : Fields} {view : View} {k : Act → Prog Given}
+      {w v : World} {o : Outcome} (a : Act)
       → legal.gives b (length w.trace) fields view a
       → Runs tables legal Starved (tick (entries.Did a) (k a)) w o v
       → Runs tables legal Starved (act b fields view k) w o v

@@ -157,11 +157,14 @@ after_change (Make component owner fields) w =
       next = w.next + 1;
     })
 after_change (Settle n) w =
-    for_instance w (instance_at w n) λ o. with_owned n o.component o.owner (with_instances (with_ready n) w)
+    for_instance w (instance_at w n) λ o.
+    with_owned n o.component o.owner (with_instances (with_ready n) w)
 after_change (Discard n) w =
-    for_instance w (instance_at w n) λ o. without_making o.component o.owner (with_instances (without n) w)
+    for_instance w (instance_at w n) λ o.
+    without_making o.component o.owner (with_instances (without n) w)
 after_change (Leave n) w =
-    for_instance w (instance_at w n) λ o. without_owned n o.component o.owner (with_instances (with_leaving n) w)
+    for_instance w (instance_at w n) λ o.
+    without_owned n o.component o.owner (with_instances (with_leaving n) w)
 after_change (Remove n) w = with_instances (without n) w
 after_change (Assign n field v) w = with_instances (with_field n field v) w
 after_change (Refer n field r) w = with_instances (with_reference n field r) w

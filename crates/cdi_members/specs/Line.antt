@@ -10,7 +10,8 @@ abbrev pub class_named : List Class → ℕ → Option Class
 class_named classes name = find (λ c. c.name == name) classes
 
 -- the classes of these that the lineage of a name names; names of no class are passed over
-pub record IsLineOf (types : List TypeDeclaration) (classes : List Class) (name : ℕ) (line : List Class) : Type 0 where
+pub record IsLineOf (types : List TypeDeclaration) (classes : List Class) (name : ℕ)
+    (line : List Class) : Type 0 where
   pub names : List ℕ
   pub lineage : IsLineage types name names
   pub named : line ≡ filter_map (class_named classes) names

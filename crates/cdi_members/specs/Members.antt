@@ -31,7 +31,8 @@ declares name class = list_any (λ m. member_name m == name) class.members
 -- a member has come down past the classes below its own: it is inherited, and none of them overrides it by a member with its name
 abbrev pub comes_down : List Class → Member → Bool
 comes_down [] member = true
-comes_down below member = is_inherited member && not (list_any (declares (member_name member)) below)
+comes_down below member =
+    is_inherited member && not (list_any (declares (member_name member)) below)
 
 -- something that a class declares, with that class
 abbrev pub parts_of : {A : Type 0} → Class → List A → List (Class × A)
@@ -40,7 +41,8 @@ parts_of class parts = map (λ part. (class, part)) parts
 -- the members that the last class of a line has: class by class, those that come down to it, in the order of their declarations
 abbrev pub members_of : List Class → List (Class × Member)
 members_of [] = []
-members_of (class ∷ below) = parts_of class (filter (comes_down below) class.members) ++ members_of below
+members_of (class ∷ below) =
+    parts_of class (filter (comes_down below) class.members) ++ members_of below
 
 -- the fields of all classes of a line: none is ever overridden
 abbrev pub fields_of : List Class → List (Class × Field)

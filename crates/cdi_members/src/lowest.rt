@@ -35,7 +35,8 @@ impl LowestDeclarations {
     /// Those of a line.
     pub(crate) fn of(alloc: Global, line: &[&Class]) -> Result<LowestDeclarations, AllocError>
         ensures { IfOk result (λ lowest. (name : ℕ)
-            → spec.place_in lowest name ≡ spec.lowest_from 0 (map (λ c. c.now) line.now) name None) }
+            → spec.place_in lowest name
+            ≡ spec.lowest_from 0 (map (λ c. c.now) line.now) name None) }
     {
         let mut places = HashMap::new(alloc);
         for (place, class) in line.iter().enumerate() {

@@ -49,15 +49,22 @@ built_in_claim names.Initialized = Some (claims.Qualifier (number_of names.Initi
 built_in_claim names.BeforeDestroyed = Some (claims.Qualifier (number_of names.BeforeDestroyed))
 built_in_claim names.Destroyed = Some (claims.Qualifier (number_of names.Destroyed))
 built_in_claim names.Value = None
-built_in_claim names.ContextNotActiveException = Some (claims.Exception (number_of names.ContextNotActiveException))
+built_in_claim names.ContextNotActiveException =
+    Some (claims.Exception (number_of names.ContextNotActiveException))
 built_in_claim names.CreationException = Some (claims.Exception (number_of names.CreationException))
-built_in_claim names.IllegalProductException = Some (claims.Exception (number_of names.IllegalProductException))
-built_in_claim names.IllegalStateException = Some (claims.Exception (number_of names.IllegalStateException))
-built_in_claim names.IllegalArgumentException = Some (claims.Exception (number_of names.IllegalArgumentException))
-built_in_claim names.NullPointerException = Some (claims.Exception (number_of names.NullPointerException))
+built_in_claim names.IllegalProductException =
+    Some (claims.Exception (number_of names.IllegalProductException))
+built_in_claim names.IllegalStateException =
+    Some (claims.Exception (number_of names.IllegalStateException))
+built_in_claim names.IllegalArgumentException =
+    Some (claims.Exception (number_of names.IllegalArgumentException))
+built_in_claim names.NullPointerException =
+    Some (claims.Exception (number_of names.NullPointerException))
 built_in_claim names.ObserverException = Some (claims.Exception (number_of names.ObserverException))
-built_in_claim names.UnsatisfiedResolutionException = Some (claims.Exception (number_of names.UnsatisfiedResolutionException))
-built_in_claim names.AmbiguousResolutionException = Some (claims.Exception (number_of names.AmbiguousResolutionException))
+built_in_claim names.UnsatisfiedResolutionException =
+    Some (claims.Exception (number_of names.UnsatisfiedResolutionException))
+built_in_claim names.AmbiguousResolutionException =
+    Some (claims.Exception (number_of names.AmbiguousResolutionException))
 
 abbrev pub built_in_claims : List Claim
 built_in_claims = filter_map built_in_claim all_built_in

@@ -20,4 +20,6 @@ pub record AreNameProblems (d : Deployment) (problems : List Problem) : Type 0 w
   pub are_unknown : ArePlacesOf (HasUnknownName d) (elements_of d) unknown
   pub cyclic : List Place
   pub are_cyclic : ArePlacesOf (IsCyclicHierarchy (declarations_of d)) (elements_of d) cyclic
-  pub are : problems ≡ problems_at kinds.DuplicateName duplicate ++ problems_at kinds.UnknownName unknown ++ problems_at kinds.CyclicHierarchy cyclic
+  pub are : problems
+      ≡ problems_at kinds.DuplicateName duplicate ++ problems_at kinds.UnknownName unknown
+      ++ problems_at kinds.CyclicHierarchy cyclic

@@ -37,7 +37,8 @@ is_declared_class d name = list_any (λ c. c.name == name) d.classes
 
 abbrev pub is_class : Deployment → ℕ → Bool
 is_class d name =
-    is_built_in names.Object name || is_built_in names.Startup name || is_built_in names.Shutdown name || is_declared_class d name
+    is_built_in names.Object name || is_built_in names.Startup name
+    || is_built_in names.Shutdown name || is_declared_class d name
 
 abbrev pub is_type : Deployment → ℕ → Bool
 is_type d name = is_class d name || is_interface d name
@@ -55,7 +56,8 @@ is_plain_qualifier name = is_built_in names.Any name || is_built_in names.Defaul
 -- the built-in qualifiers with the one member `value`
 abbrev pub is_valued_qualifier : ℕ → Bool
 is_valued_qualifier name =
-    is_built_in names.Named name || is_built_in names.Initialized name || is_built_in names.BeforeDestroyed name
+    is_built_in names.Named name || is_built_in names.Initialized name
+    || is_built_in names.BeforeDestroyed name
     || is_built_in names.Destroyed name
 
 abbrev pub is_declared : List AnnotationType → ℕ → Bool
@@ -67,17 +69,21 @@ has_member types name member = list_any (λ t. (t.name == name) && stands_in t.m
 
 abbrev pub is_qualifier_member : Deployment → ℕ → ℕ → Bool
 is_qualifier_member d name member =
-    has_member d.qualifiers name member || (is_valued_qualifier name && is_built_in names.Value member)
+    has_member d.qualifiers name member
+    || (is_valued_qualifier name && is_built_in names.Value member)
 
 abbrev pub is_qualifier : Deployment → ℕ → Bool
-is_qualifier d name = is_plain_qualifier name || is_valued_qualifier name || is_declared d.qualifiers name
+is_qualifier d name =
+    is_plain_qualifier name || is_valued_qualifier name || is_declared d.qualifiers name
 
 -- a use of a qualifier: its type is known, and each member is one of the type's
 abbrev pub is_qualifier_use : Deployment → Use → Bool
-is_qualifier_use d u = is_qualifier d u.name && list_all (λ m. is_qualifier_member d u.name m.name) u.members
+is_qualifier_use d u =
+    is_qualifier d u.name && list_all (λ m. is_qualifier_member d u.name m.name) u.members
 
 abbrev pub is_binding_use : Deployment → Use → Bool
-is_binding_use d u = is_declared d.bindings u.name && list_all (λ m. has_member d.bindings u.name m.name) u.members
+is_binding_use d u =
+    is_declared d.bindings u.name && list_all (λ m. has_member d.bindings u.name m.name) u.members
 
 -- an event has no qualifier Default
 abbrev pub is_event_qualifier_use : Deployment → Use → Bool
@@ -110,7 +116,8 @@ knows_superclass d (Some name) = is_extensible d name
 
 abbrev pub knows_class : Deployment → Class → Bool
 knows_class d c =
-    knows_superclass d c.extends && list_all (is_interface d) c.implements && are_bindings d c.bindings && knows_bean d c.bean
+    knows_superclass d c.extends && list_all (is_interface d) c.implements
+    && are_bindings d c.bindings && knows_bean d c.bean
 
 abbrev pub has_field : List Field → ℕ → Bool
 has_field fields name = list_any (λ f. f.name == name) fields
@@ -121,13 +128,17 @@ knows_member d c (members.Initializer i) = know_points d i.params
 knows_member d c (members.PostConstruct m) = true
 knows_member d c (members.PreDestroy m) = true
 knows_member d c (members.Producer p) =
-    is_type d p.ty && are_qualifiers d p.quals && knows_typed d p.typed && know_points d p.params && are_bindings d p.bindings
+    is_type d p.ty && are_qualifiers d p.quals && knows_typed d p.typed && know_points d p.params
+    && are_bindings d p.bindings
 knows_member d c (members.ProducerField p) =
-    has_field c.fields p.field && is_type d p.ty && are_qualifiers d p.quals && knows_typed d p.typed
+    has_field c.fields p.field && is_type d p.ty && are_qualifiers d p.quals
+    && knows_typed d p.typed
 knows_member d c (members.Disposer m) =
-    is_type d m.ty && are_qualifiers d m.quals && know_points d m.params && are_bindings d m.bindings
+    is_type d m.ty && are_qualifiers d m.quals && know_points d m.params
+    && are_bindings d m.bindings
 knows_member d c (members.Observer o) =
-    is_type d o.ty && list_all (is_event_qualifier_use d) o.quals && know_points d o.params && are_bindings d o.bindings
+    is_type d o.ty && list_all (is_event_qualifier_use d) o.quals && know_points d o.params
+    && are_bindings d o.bindings
 
 -- each name that an element has is declared, and of the right kind
 abbrev pub knows_names : Deployment → Element → Bool
@@ -139,7 +150,8 @@ knows_names d (Element.AnInjectedField i c f) = is_type d f.ty && are_qualifiers
 knows_names d (Element.AConstructor i c k) = know_points d k.params
 knows_names d (Element.AMember i c m) = knows_member d c m
 knows_names d (Element.AnInterceptor i j) = are_bindings d j.bindings
-knows_names d (Element.AnInterceptorInjectedField i j f) = is_type d f.ty && are_qualifiers d f.quals
+knows_names d (Element.AnInterceptorInjectedField i j f) =
+    is_type d f.ty && are_qualifiers d f.quals
 knows_names d (Element.ASelectedName name) = is_bean_class d name
 knows_names d (Element.AnOrderedName name) = is_interceptor d name
 knows_names d _ = true

@@ -17,9 +17,11 @@ pub record ObserverTable : Type 0 where
 
 -- those of some observers whose beans are enabled, in their order
 abbrev pub AreEnabledOnes : Enablement → List ObserverMethod → List ObserverMethod → Type 0
-AreEnabledOnes e observers enabled = ListsThose (λ o. IsEnabledClass e o.bean true) observers enabled
+AreEnabledOnes e observers enabled =
+    ListsThose (λ o. IsEnabledClass e o.bean true) observers enabled
 
-pub record IsTableOf (types : List TypeDeclaration) (observers : List ObserverMethod) (e : Enablement) (table : ObserverTable) : Type 0 where
+pub record IsTableOf (types : List TypeDeclaration) (observers : List ObserverMethod)
+    (e : Enablement) (table : ObserverTable) : Type 0 where
   pub types_are : table.types ≡ types
   pub enabled : AreEnabledOnes e observers table.observers
 
@@ -28,6 +30,7 @@ any = record { name = number_of names.Any; members = [] }
 
 -- an observer hears an event of a class with qualifiers: its type is among those of the class, and the event, which also has Any, has
 -- its qualifiers
-pub record Hears (types : List TypeDeclaration) (class : ℕ) (qualifiers : List Qualifier) (o : ObserverMethod) : Type 0 where
+pub record Hears (types : List TypeDeclaration) (class : ℕ) (qualifiers : List Qualifier)
+    (o : ObserverMethod) : Type 0 where
   pub type : IsSubtype types class o.ty
   pub had : has_all (any ∷ qualifiers) o.qualifiers ≡ true

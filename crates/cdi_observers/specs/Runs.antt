@@ -9,7 +9,10 @@ group_with r = record { priority = r.priority; observers = r.index ∷ [] }
 
 -- the group of the next observer: the one before, or a new one
 abbrev pub next_group : ObserverGroup → RankedObserver → ObserverGroup
-next_group g r = if int_eq r.priority g.priority then record { priority = g.priority; observers = g.observers ++ r.index ∷ [] } else group_with r
+next_group g r =
+    if int_eq r.priority g.priority
+    then record { priority = g.priority; observers = g.observers ++ r.index ∷ [] }
+    else group_with r
 
 -- the one before, if it isn't that of the next observer
 abbrev pub whole_groups : ObserverGroup → RankedObserver → List ObserverGroup

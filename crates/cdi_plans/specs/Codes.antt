@@ -38,7 +38,8 @@ constructor_body bean (Some body) = record { place = places.Constructor bean; bo
 
 -- the chain of a bean for this method of interceptors, and these callbacks at its end
 abbrev pub lifecycle : ChainTables → ℕ → InterceptorMethod → List Code → Lifecycle
-lifecycle t bean method callbacks = record { chain = life_chain t bean method; callbacks = callbacks }
+lifecycle t bean method callbacks =
+    record { chain = life_chain t bean method; callbacks = callbacks }
 
 -- the post-construct chain, and the callbacks among the members of a bean
 abbrev pub completion : ChainTables → ℕ → List (Class × Member) → Lifecycle
@@ -50,9 +51,16 @@ destruction t bean has = lifecycle t bean methods.PreDestroy (filter_map pre_des
 
 -- a business method of a bean
 abbrev pub business_method : ChainTables → ℕ → Class × Member → Option BusinessMethod
-business_method t bean (c, members.Method m) = Some (record { name = m.name; code = member_code c m.name m.body; count = m.args; chain = member_chain t bean c m.name })
+business_method t bean (c, members.Method m) =
+    Some (record {
+      name = m.name;
+      code = member_code c m.name m.body;
+      count = m.args;
+      chain = member_chain t bean c m.name;
+    })
 business_method t bean (c, m) = None
 
 -- a producer method, a disposer or an observer of a bean, which the class declares
 abbrev pub injected_method : ChainTables → ℕ → Class → ℕ → ℕ → List Point → InjectedMethod
-injected_method t bean c name body points = record { code = member_code c name body; points = points; chain = member_chain t bean c name }
+injected_method t bean c name body points =
+    record { code = member_code c name body; points = points; chain = member_chain t bean c name }

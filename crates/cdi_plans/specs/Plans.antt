@@ -43,8 +43,10 @@ pub record IsManagedPlan (t : PlanTables) (b : Bean) (plan : ManagedPlan) : Type
   pub is : plan ≡ managed_plan t.chains (constructor_of t.classes b.class) b line
 
 pub data IsPlanOf (t : PlanTables) (b : Bean) : Plan → Type 0 where
-  managed : {plan : ManagedPlan} → b.kind ≡ kinds.Managed → IsManagedPlan t b plan → IsPlanOf t b (plans.Managed plan)
-  product : {plan : ProductPlan} → IsProductPlan t b.class b.kind plan → IsPlanOf t b (plans.Product plan)
+  managed : {plan : ManagedPlan} → b.kind ≡ kinds.Managed → IsManagedPlan t b plan
+      → IsPlanOf t b (plans.Managed plan)
+  product : {plan : ProductPlan} → IsProductPlan t b.class b.kind plan
+      → IsPlanOf t b (plans.Product plan)
 
 -- the class of a product declares its producer; of classes with one name the first counts
 abbrev pub IsDeclaredAs : List Class → ℕ → BeanKind → Type 0

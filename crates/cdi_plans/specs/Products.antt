@@ -34,7 +34,8 @@ producer_of classes name kind = option_and_then (producer_in kind) (class_named 
 
 -- what a producer gives its instances by
 abbrev pub source_of : ChainTables → Class × Member → Option Source
-source_of t (c, members.Producer p) = Some (sources.ProducerMethod (injected_method t c.name c p.name p.body p.params))
+source_of t (c, members.Producer p) =
+    Some (sources.ProducerMethod (injected_method t c.name c p.name p.body p.params))
 source_of t (c, members.ProducerField p) = Some (sources.ProducerField p.field)
 source_of t (c, m) = None
 
@@ -43,7 +44,9 @@ disposer_method t c (members.Disposer m) = Some (injected_method t c.name c m.na
 disposer_method t c m = None
 
 -- those of these members of a class that are disposers and serve the producer, in their order
-pub record AreDisposersOf (types : List TypeDeclaration) (qualifiers : List QualifierType) (t : ChainTables) (c : Class) (producer : Member) (ms : List Member) (disposers : List InjectedMethod) : Type 0 where
+pub record AreDisposersOf (types : List TypeDeclaration) (qualifiers : List QualifierType)
+    (t : ChainTables) (c : Class) (producer : Member) (ms : List Member)
+    (disposers : List InjectedMethod) : Type 0 where
   pub serving : List Member
   pub serve : ListsThose (λ m. Disposes types qualifiers m producer) ms serving
   pub are : disposers ≡ filter_map (disposer_method t c) serving
@@ -52,9 +55,12 @@ pub record AreDisposersOf (types : List TypeDeclaration) (qualifiers : List Qual
 pub record IsPlanBy (t : PlanTables) (declared : Class × Member) (plan : ProductPlan) : Type 0 where
   pub declaring : plan.declaring ≡ declared.0.name
   pub source : source_of t.chains declared ≡ Some plan.source
-  pub disposers : AreDisposersOf t.types t.qualifiers t.chains declared.0 declared.1 declared.0.members plan.disposers
+  pub disposers :
+      AreDisposersOf t.types t.qualifiers t.chains
+      declared.0 declared.1 declared.0.members plan.disposers
 
-pub record IsProductPlan (t : PlanTables) (name : ℕ) (kind : BeanKind) (plan : ProductPlan) : Type 0 where
+pub record IsProductPlan (t : PlanTables) (name : ℕ) (kind : BeanKind) (plan : ProductPlan)
+    : Type 0 where
   pub declared : Class × Member
   pub is : producer_of t.classes name kind ≡ Some declared
   pub by : IsPlanBy t declared plan

@@ -34,7 +34,8 @@ abbrev pub IsLive : Enabled → Element → Type 0
 IsLive e (Element.AnInjectedField i c f) = HasFieldsOf e.classes e.types e.beans c.name
 IsLive e (Element.AConstructor i c k) = IsTrue (is_live_class e.beans c.name)
 IsLive e (Element.AMember i c m) = IsTrue (is_live_member e.beans c.name (member_name m))
-IsLive e (Element.AnInterceptorInjectedField i j f) = IsTrue (is_live_interceptor e.interceptors j.name)
+IsLive e (Element.AnInterceptorInjectedField i j f) =
+    IsTrue (is_live_interceptor e.interceptors j.name)
 IsLive e _ = ⊥
 
 -- an element has a live point for which P holds

@@ -27,7 +27,8 @@ abbrev pub script_in : Stage → List (List ℕ) → Declared → Reads NamedScr
 script_in stage names declared =
     told (name_text names declared.name) declared.name (script_at stage names declared.steps)
 
-abbrev pub scripts_after : Stage → List NamedScript → List (List ℕ) → List Declared → Reads (List NamedScript)
+abbrev pub scripts_after : Stage → List NamedScript → List (List ℕ) → List Declared
+    → Reads (List NamedScript)
 scripts_after stage scripts names [] = Ok (scripts, names)
 scripts_after stage scripts names (d ∷ ds) =
     script_in stage names d >>= λ read. scripts_after stage (scripts ++ read.0 ∷ []) read.1 ds

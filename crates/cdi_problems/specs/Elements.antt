@@ -41,21 +41,25 @@ pub data Element : Type 0 where
 abbrev pub class_elements : ℕ × Class → List Element
 class_elements (i, c) =
     Element.AClass i c
-    ∷ (map (Element.AField i c) c.fields ++ map (Element.AnInjectedField i c) c.inject ++ map (Element.AConstructor i c) (option_to_list c.constructor)
+    ∷ (map (Element.AField i c) c.fields ++ map (Element.AnInjectedField i c) c.inject
+    ++ map (Element.AConstructor i c) (option_to_list c.constructor)
     ++ map (Element.AMember i c) c.members)
 
 -- an interceptor: itself, its fields, its injected fields
 abbrev pub interceptor_elements : ℕ × Interceptor → List Element
 interceptor_elements (i, j) =
     Element.AnInterceptor i j
-    ∷ (map (Element.AnInterceptorField i j) j.fields ++ map (Element.AnInterceptorInjectedField i j) j.inject)
+    ∷ (map (Element.AnInterceptorField i j) j.fields
+    ++ map (Element.AnInterceptorInjectedField i j) j.inject)
 
 -- the elements of a deployment in the order of their places
 abbrev pub elements_of : Deployment → List Element
 elements_of d =
-    map Element.AnInterface d.interfaces ++ map Element.AQualifier d.qualifiers ++ map Element.ABinding d.bindings
+    map Element.AnInterface d.interfaces ++ map Element.AQualifier d.qualifiers
+    ++ map Element.ABinding d.bindings
     ++ map Element.AnException d.exceptions ++ flat_map class_elements (enumerate_from 0 d.classes)
-    ++ flat_map interceptor_elements (enumerate_from 0 d.interceptors) ++ map Element.ASelectedName d.selected
+    ++ flat_map interceptor_elements (enumerate_from 0 d.interceptors)
+    ++ map Element.ASelectedName d.selected
     ++ map Element.AnOrderedName d.order ++ map Element.AScript d.scripts
 
 abbrev pub member_name : Member → ℕ

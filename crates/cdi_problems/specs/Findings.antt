@@ -6,7 +6,8 @@ use Rattle.cdi_problems.specs.Elements.{Element, place_of}
 use Rattle.cdi_problems.specs.Places.{once}
 
 -- The places of those items for which P holds, in their order, each place once. P is a sentence, and need be no test.
-pub record ArePlacesWhere {X : Type 0} (P : X → Type 0) (place : X → Place) (items : List X) (found : List Place) : Type 0 where
+pub record ArePlacesWhere {X : Type 0} (P : X → Type 0) (place : X → Place) (items : List X)
+    (found : List Place) : Type 0 where
   pub those : List X
   pub listed : ListsThose P items those
   pub are : found ≡ once (map place those)
@@ -15,7 +16,8 @@ abbrev pub ArePlacesOf : (Element → Type 0) → List Element → List Place �
 ArePlacesOf P elements found = ArePlacesWhere P place_of elements found
 
 -- the same places before each is kept once
-pub record ListPlacesWhere (P : Element → Type 0) (elements : List Element) (found : List Place) : Type 0 where
+pub record ListPlacesWhere (P : Element → Type 0) (elements : List Element) (found : List Place)
+    : Type 0 where
   pub those : List Element
   pub listed : ListsThose P elements those
   pub are : found ≡ map place_of those
@@ -27,7 +29,8 @@ pub record Placed : Type 0 where
 
 abbrev pub placed_after : List Element → List Element → List Placed
 placed_after before [] = []
-placed_after before (e ∷ es) = (record { before = before; element = e }) ∷ placed_after (before ++ e ∷ []) es
+placed_after before (e ∷ es) =
+    (record { before = before; element = e }) ∷ placed_after (before ++ e ∷ []) es
 
 -- each element with all those before it
 abbrev pub placed : List Element → List Placed

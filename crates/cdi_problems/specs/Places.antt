@@ -19,9 +19,11 @@ method_word methods.PreDestroy = codes "pre"
 -- a bean `K`, a member `K#m`, a constructor `K#`, a method of an interceptor `J#invoke`
 abbrev pub place_text : List (List ℕ) → Place → List ℕ
 place_text names (places.Class name) = name_text names name
-place_text names (places.Member class member) = name_text names class ++ codes "#" ++ name_text names member
+place_text names (places.Member class member) =
+    name_text names class ++ codes "#" ++ name_text names member
 place_text names (places.Constructor class) = name_text names class ++ codes "#"
-place_text names (places.Interceptor interceptor method) = name_text names interceptor ++ codes "#" ++ method_word method
+place_text names (places.Interceptor interceptor method) =
+    name_text names interceptor ++ codes "#" ++ method_word method
 
 abbrev pub same_method : InterceptorMethod → InterceptorMethod → Bool
 same_method methods.AroundInvoke methods.AroundInvoke = true
@@ -39,7 +41,8 @@ same_place _ _ = false
 
 -- a place behind others, unless it stands among them
 abbrev pub with_place : List Place → Place → List Place
-with_place listed place = if list_any (λ other. same_place other place) listed then listed else listed ++ place ∷ []
+with_place listed place =
+    if list_any (λ other. same_place other place) listed then listed else listed ++ place ∷ []
 
 -- each place once, where it stands first
 abbrev pub once : List Place → List Place

@@ -41,4 +41,5 @@ problem_text names problem = kind_text problem.kind ++ at_place_text names probl
 
 -- the problems of a kind at these places
 abbrev pub problems_at : ProblemKind → List Place → List Problem
-problems_at kind where_they_stand = map (λ place. record { kind = kind; place = Some place }) where_they_stand
+problems_at kind where_they_stand =
+    map (λ place. record { kind = kind; place = Some place }) where_they_stand

@@ -167,7 +167,8 @@ fn add_scripts<'a>(scripts: &'a [Script], elements: &mut Vec<Element<'a>>) -> Re
 /// the selected alternatives, the enabled interceptors, scripts; within a class the class itself, its fields, its injected fields,
 /// its constructor, its members; within an interceptor the interceptor itself, its fields, its injected fields.
 pub fn elements_of(alloc: Global, deployment: &Deployment) -> Result<Vec<Element<'_>>, AllocError>
-    ensures { IfOk result (λ elements. spec.shown elements.items ≡ spec.elements_of deployment.now) }
+    ensures { IfOk result (λ elements.
+        spec.shown elements.items ≡ spec.elements_of deployment.now) }
 {
     let mut elements = Vec::new(alloc);
     add_interfaces(deployment.interfaces.as_slice(), &mut elements)?;

@@ -17,7 +17,9 @@ mode_form name = with_rule (new_app name) file_rule
 
 -- `cdi`, of which one subcommand has to be given, and which tells its version
 abbrev pub bare_form : App
-bare_form = let app = new_app (codes "cdi") in record app { top = record app.top { subcommand_required = true; has_version = true } }
+bare_form =
+    let app = new_app (codes "cdi") in
+    record app { top = record app.top { subcommand_required = true; has_version = true } }
 
 -- a command is that mode, with no argument that other modes have too
 pub record IsMode (name : Text) (c : Command) : Type 0 where

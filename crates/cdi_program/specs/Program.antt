@@ -57,9 +57,11 @@ status_of_showing (Err _) = 3
 -- Help or the version is written; or the status tells what is wrong with the words; or memory ran out.
 pub data AnswersUsage (kind : ErrorKind) (ends : Ends) (status : ℕ) : Type 0 where
   shows : is_shown kind ≡ true → (text : List ℕ) → (result : Result (Unit {0}) WriteFailed)
-      → WritesAll ends.held ends.held_after result text → Tells result ends.sink ends.sink_after → IsUnread ends
+      → WritesAll ends.held ends.held_after result text → Tells result ends.sink ends.sink_after
+      → IsUnread ends
       → status ≡ status_of_showing result → AnswersUsage kind ends status
-  mistaken : is_shown kind ≡ false → IsUntouched ends → status ≡ status_of kind → AnswersUsage kind ends status
+  mistaken : is_shown kind ≡ false → IsUntouched ends → status ≡ status_of kind
+      → AnswersUsage kind ends status
   starves : IsUntouched ends → status ≡ 3 → AnswersUsage kind ends status
 
 -- what an output holds, whether it has failed, and whether it has passed all on
@@ -71,10 +73,16 @@ pub record Output : Type 0 where
 -- the output is as the run left it, but after a fault it is asked once more to pass all on
 abbrev pub IsLeft : Result (Unit {0}) ServeFault → Output → Output → Type 0
 IsLeft (Ok _) old new = new ≡ old
-IsLeft (Err _) old new = Keeps old.held new.held × ((flushed : Result (Unit {0}) WriteFailed) × Tells flushed old.has_failed new.has_failed)
+IsLeft (Err _) old new =
+    Keeps old.held new.held
+    × ((flushed : Result (Unit {0}) WriteFailed) × Tells flushed old.has_failed new.has_failed)
 
 abbrev pub output_after : Ends → Output
-output_after ends = record { held = ends.held_after; has_failed = ends.sink_after; is_passed_on = ends.is_passed_on }
+output_after ends = record {
+  held = ends.held_after;
+  has_failed = ends.sink_after;
+  is_passed_on = ends.is_passed_on;
+}
 
 -- These bytes of a deployment are run under the default limits of 32 levels and 100,000 entries, and the status is that
 -- of the run's ending.
@@ -82,7 +90,12 @@ pub record RunsBytes (bytes : List ℕ) (ends : Ends) (status : ℕ) : Type 0 wh
   pub ending : Ending
   pub output : Output
   pub drives : DrivesOnce 32 100000 bytes
-      (record { unread = ends.unread; unread_after = ends.unread_after; held = ends.held; held_after = output.held })
+      (record {
+        unread = ends.unread;
+        unread_after = ends.unread_after;
+        held = ends.held;
+        held_after = output.held;
+      })
       ends.source ends.source_after ends.sink output.has_failed output.is_passed_on ending
   pub is_left : IsLeft (outcome_of ending) output (output_after ends)
   pub is_status : status ≡ status_of_ending ending
@@ -92,7 +105,8 @@ pub record ChecksBytes (bytes : List ℕ) (ends : Ends) (status : ℕ) : Type 0 
   pub verdict : Verdict
   pub output : Output
   pub reports : ReportsOn bytes ends.held output.held verdict
-  pub blames : Blames (outcome_of_verdict verdict) ends.source ends.source_after ends.sink output.has_failed
+  pub blames : Blames (outcome_of_verdict verdict)
+      ends.source ends.source_after ends.sink output.has_failed
   pub passed_on : OnOk (outcome_of_verdict verdict) (IsTrue output.is_passed_on)
   pub is_unread : IsUnread ends
   pub is_left : IsLeft (outcome_of_verdict verdict) output (output_after ends)
@@ -111,18 +125,24 @@ pub data ServesFile (gives : List ℕ → ℕ → List ℕ → Type 0) (unreadab
       → ServesFile gives unreadable mode path ends status
 
 -- Words that are of the form check or run the file that they name, and others are answered by one of their kinds.
-pub data RunsWords (gives : List ℕ → ℕ → List ℕ → Type 0) (unreadable : List ℕ → Type 0) (words : List Text) (ends : Ends) (status : ℕ) : Type 0 where
-  serves : faults_in words ≡ [] → ServesFile gives unreadable (mode_in words) (file_in words) ends status
+pub data RunsWords (gives : List ℕ → ℕ → List ℕ → Type 0) (unreadable : List ℕ → Type 0)
+    (words : List Text) (ends : Ends) (status : ℕ) : Type 0 where
+  serves : faults_in words ≡ []
+      → ServesFile gives unreadable (mode_in words) (file_in words) ends status
       → RunsWords gives unreadable words ends status
-  tells : (kind : ErrorKind) → IsAmong kind (faults_in words) → AnswersUsage kind ends status → RunsWords gives unreadable words ends status
+  tells : (kind : ErrorKind) → IsAmong kind (faults_in words) → AnswersUsage kind ends status
+      → RunsWords gives unreadable words ends status
   starves : IsUntouched ends → status ≡ 3 → RunsWords gives unreadable words ends status
 
 -- the words as texts, where they are known
-abbrev pub texts_of : {S : Type 0} → (S → Text) → Result (Bor (List S)) WordsError → Result (List Text) WordsError
+abbrev pub texts_of : {S : Type 0} → (S → Text) → Result (Bor (List S)) WordsError
+    → Result (List Text) WordsError
 texts_of text (Ok words) = Ok (map text words.now)
 texts_of text (Err error) = Err error
 
 -- the program is run on what came of asking for its words
-abbrev pub RunsProgram : (List ℕ → ℕ → List ℕ → Type 0) → (List ℕ → Type 0) → Result (List Text) WordsError → Ends → ℕ → Type 0
+abbrev pub RunsProgram : (List ℕ → ℕ → List ℕ → Type 0) → (List ℕ → Type 0)
+    → Result (List Text) WordsError → Ends → ℕ → Type 0
 RunsProgram gives unreadable (Ok words) ends status = RunsWords gives unreadable words ends status
-RunsProgram gives unreadable (Err error) ends status = IsUntouched ends × (status ≡ status_without_words error)
+RunsProgram gives unreadable (Err error) ends status =
+    IsUntouched ends × (status ≡ status_without_words error)

@@ -22,7 +22,8 @@ pub record WorkedWords : Type 0 where
   pub fit_check : faults_in check_words ≡ []
   pub mode_check : mode_in check_words ≡ modes.Check
   pub file_check : file_in check_words ≡ codes "a.json"
-  pub behind_dashes : file_in (codes "cdi" ∷ codes "run" ∷ codes "--" ∷ codes "-a" ∷ []) ≡ codes "-a"
+  pub behind_dashes :
+      file_in (codes "cdi" ∷ codes "run" ∷ codes "--" ∷ codes "-a" ∷ []) ≡ codes "-a"
   pub help : FailBy (codes "--help" ∷ []) (kinds.DisplayHelp ∷ [])
   pub help_of_run : FailBy (codes "run" ∷ codes "-h" ∷ []) (kinds.DisplayHelp ∷ [])
   pub help_of_check : FailBy (codes "check" ∷ codes "-h" ∷ []) (kinds.DisplayHelp ∷ [])

@@ -23,7 +23,8 @@ pub trait Files {
 /// The first bytes that a reader gives, up to a count.
 pub fn read_front<R: Read + Drop>(alloc: Global, reader: R, most: usize) -> io::Result<Vec<u8>>
     ensures few { IfOk result (λ bytes. length bytes.items ≤ most) }
-    ensures bytes { IfOk result (λ bytes. IfSome (R.remaining reader) (λ whole. bytes.items ≡ take most whole)) }
+    ensures bytes { IfOk result (λ bytes.
+        IfSome (R.remaining reader) (λ whole. bytes.items ≡ take most whole)) }
 {
     let mut bytes = Vec::new(alloc);
     reader.take(most as u64).read_to_end(&mut bytes)?;

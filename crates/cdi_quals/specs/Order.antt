@@ -33,11 +33,13 @@ compare_names names = then_cmp (on (slice_get names) compare_texts) nat_cmp
 -- members of one type by their values; the rest decides only between members of different types
 abbrev pub compare_member : QualifierMember → QualifierMember → Ordering
 compare_member =
-    then_cmp (on (λ m. m.value) compare_values) (then_cmp (on (λ m. m.name) nat_cmp) (on (λ m. m.is_binding) bool_cmp))
+    then_cmp (on (λ m. m.value) compare_values)
+    (then_cmp (on (λ m. m.name) nat_cmp) (on (λ m. m.is_binding) bool_cmp))
 
 abbrev pub compare_members : List QualifierMember → List QualifierMember → Ordering
 compare_members = slice_cmp compare_member
 
 -- by the texts of the names, then by the values in the order of the members
 abbrev pub compare_qualifiers : List (List ℕ) → Qualifier → Qualifier → Ordering
-compare_qualifiers names = then_cmp (on (λ q. q.name) (compare_names names)) (on (λ q. q.members) compare_members)
+compare_qualifiers names =
+    then_cmp (on (λ q. q.name) (compare_names names)) (on (λ q. q.members) compare_members)

@@ -19,11 +19,20 @@ value_of [] name = Null
 value_of (m ∷ ms) name = if m.name == name then m.value else value_of ms name
 
 abbrev pub full_member : List MemberValue → MemberType → QualifierMember
-full_member given member = record { name = member.name; value = value_of given member.name; is_binding = member.is_binding }
+full_member given member =
+    record {
+      name = member.name;
+      value = value_of given member.name;
+      is_binding = member.is_binding;
+    }
 
 -- a use with all the members of its type
 abbrev pub full_use : List QualifierType → Use → Qualifier
-full_use types written = record { name = written.name; members = map (full_member written.members) (members_of types written.name) }
+full_use types written =
+    record {
+      name = written.name;
+      members = map (full_member written.members) (members_of types written.name);
+    }
 
 -- equal values, which a nonbinding member needn't have
 abbrev pub agrees : QualifierMember → QualifierMember → Bool

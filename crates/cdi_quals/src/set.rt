@@ -61,7 +61,8 @@ impl QualSet {
         uses: &[Use],
     ) -> Result<QualSet, AllocError>
         ensures { IfOk result
-            (λ set. IsOrderedSet (order_of names.now) (map (spec.full_use types.now) uses.now) set) }
+            (λ set.
+            IsOrderedSet (order_of names.now) (map (spec.full_use types.now) uses.now) set) }
     {
         let mut qualifiers = full_uses(alloc, types, uses)?;
         put_in_order(names, &mut qualifiers)?;

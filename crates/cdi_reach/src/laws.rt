@@ -5,7 +5,8 @@ ghost use Rattle.cdi_reach.specs.Height.{height};
 
 /// Paths join.
 pub fn law_paths_join()
-    ensures { (graph : List (List ℕ)) (a b c : ℕ) → Path graph a b → Path graph b c → Path graph a c }
+    ensures { (graph : List (List ℕ)) (a b c : ℕ)
+        → Path graph a b → Path graph b c → Path graph a c }
 {}
 
 /// In a graph without a cycle two nodes that reach each other are one.

@@ -30,7 +30,8 @@ AreFindings names (p ∷ ps) lines is_accepted =
     (lines ≡ problem_lines names (p ∷ ps)) × (is_accepted ≡ false)
 
 -- these are the problems of a deployment whose bodies are scripts: each has the shape of the script of its name
-pub record AreProblemsWith (scripts : List NamedScript) (d : Deployment) (problems : List Problem) : Type 0 where
+pub record AreProblemsWith (scripts : List NamedScript) (d : Deployment) (problems : List Problem)
+    : Type 0 where
   pub shape_of : ℕ → Option Shape
   pub shapes : (name : ℕ) → shape_of name ≡ shape_under scripts name
   pub are : AreProblemsOf d shape_of problems
@@ -48,13 +49,15 @@ verdict_of (Ok _) false = verdicts.Refused
 verdict_of (Err _) is_accepted = verdicts.Fault faults.Write
 
 -- these lines are written, or if that failed a front part of them
-pub record Writes (lines : List ℕ) (is_accepted : Bool) (held held_after : Option (List ℕ)) (verdict : Verdict) : Type 0 where
+pub record Writes (lines : List ℕ) (is_accepted : Bool)
+    (held held_after : Option (List ℕ)) (verdict : Verdict) : Type 0 where
   pub result : Result (Unit {0}) WriteFailed
   pub written : WritesAll held held_after result lines
   pub is_verdict : verdict ≡ verdict_of result is_accepted
 
 -- the problems of a deployment are told, and that is written
-pub record TellsProblems (r : Readied) (held held_after : Option (List ℕ)) (verdict : Verdict) : Type 0 where
+pub record TellsProblems (r : Readied) (held held_after : Option (List ℕ)) (verdict : Verdict)
+    : Type 0 where
   pub lines : List ℕ
   pub is_accepted : Bool
   pub judges : Judges r lines is_accepted
@@ -66,6 +69,9 @@ Told (Err fault) held held_after verdict = Writes fault false held held_after ve
 Told (Ok r) held held_after verdict = TellsProblems r held held_after verdict
 
 -- what is told of the bytes is written; or memory ran out, and nothing is
-pub data ReportsOn (bytes : List ℕ) (held held_after : Option (List ℕ)) (verdict : Verdict) : Type 0 where
-  starves : held_after ≡ held → verdict ≡ verdicts.Fault faults.Memory → ReportsOn bytes held held_after verdict
-  tells : Told (readied_at whole bytes) held held_after verdict → ReportsOn bytes held held_after verdict
+pub data ReportsOn (bytes : List ℕ) (held held_after : Option (List ℕ)) (verdict : Verdict)
+    : Type 0 where
+  starves : held_after ≡ held → verdict ≡ verdicts.Fault faults.Memory
+      → ReportsOn bytes held held_after verdict
+  tells : Told (readied_at whole bytes) held held_after verdict
+      → ReportsOn bytes held held_after verdict

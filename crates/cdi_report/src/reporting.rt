@@ -29,7 +29,8 @@ const STARVED: Verdict = Verdict::Fault(ServeFault::Memory);
 
 /// What is told of a deployment with these problems.
 fn findings_of(alloc: Global, names: &Names, problems: &[Problem]) -> Result<Findings, AllocError>
-    ensures { IfOk result (λ f. spec.AreFindings names.now problems.now f.lines.items f.is_accepted) }
+    ensures { IfOk result (λ f.
+        spec.AreFindings names.now problems.now f.lines.items f.is_accepted) }
 {
     if problems.is_empty() {
         return Ok(Findings {

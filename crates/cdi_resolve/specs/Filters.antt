@@ -23,7 +23,8 @@ required (q ∷ qs) = q ∷ qs
 
 -- a bean has the type and each required qualifier
 abbrev pub fits : ℕ → List Qualifier → Bean → Bool
-fits type qualifiers b = list_any (λ t. t == type) b.types && has_all b.qualifiers (required qualifiers)
+fits type qualifiers b =
+    list_any (λ t. t == type) b.types && has_all b.qualifiers (required qualifiers)
 
 -- the required qualifiers of a question, however they are given
 abbrev pub required_of : Required → List Qualifier
@@ -56,11 +57,15 @@ has_priority priority b = is_priority priority b.priority
 abbrev pub passes : ℕ → List Qualifier → Left → Bean → Bool
 passes type qualifiers lefts.Eligible b = fits type qualifiers b
 passes type qualifiers lefts.Alternatives b = fits type qualifiers b && b.alternative
-passes type qualifiers lefts.WithoutPriority b = (fits type qualifiers b && b.alternative) && is_none b.priority
-passes type qualifiers (lefts.WithPriority priority) b = (fits type qualifiers b && b.alternative) && has_priority priority b
+passes type qualifiers lefts.WithoutPriority b =
+    (fits type qualifiers b && b.alternative) && is_none b.priority
+passes type qualifiers (lefts.WithPriority priority) b =
+    (fits type qualifiers b && b.alternative) && has_priority priority b
 
 abbrev pub is_wanted : ℕ → List Qualifier → Left → List Bool → ℕ × Bean → Bool
-is_wanted type qualifiers left enabled (index, b) = is_enabled enabled index && passes type qualifiers left b
+is_wanted type qualifiers left enabled (index, b) =
+    is_enabled enabled index && passes type qualifiers left b
 
 abbrev pub those_left : ℕ → List Qualifier → Left → List Bean → List Bool → List (ℕ × Bean)
-those_left type qualifiers left beans enabled = filter (is_wanted type qualifiers left enabled) (enumerate_from 0 beans)
+those_left type qualifiers left beans enabled =
+    filter (is_wanted type qualifiers left enabled) (enumerate_from 0 beans)

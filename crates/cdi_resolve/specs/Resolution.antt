@@ -19,7 +19,8 @@ abbrev pub eligible : ℕ → List Qualifier → List (ℕ × Bean) → List (�
 eligible type qualifiers beans = filter (λ b. fits type qualifiers b.1) beans
 
 -- one of them, by its index
-pub record IsEligible (type : ℕ) (qualifiers : List Qualifier) (beans : List (ℕ × Bean)) (index : ℕ) : Type 0 where
+pub record IsEligible (type : ℕ) (qualifiers : List Qualifier) (beans : List (ℕ × Bean)) (index : ℕ)
+    : Type 0 where
   pub bean : Bean
   pub stands : Contains beans (index, bean)
   pub fitting : fits type qualifiers bean ≡ true
@@ -64,11 +65,14 @@ if_nothing Nothing told = told
 if_nothing _ told = Many
 
 abbrev pub among_priorities : List (ℕ × Bean) → Resolution
-among_priorities beans = if_nothing (sole (without_priority beans)) (one_or_many (sole (highest beans)))
+among_priorities beans =
+    if_nothing (sole (without_priority beans)) (one_or_many (sole (highest beans)))
 
 -- several eligible beans: the one alternative among them, or the one of the highest priority
 abbrev pub among_alternatives : List (ℕ × Bean) → Resolution
 among_alternatives beans = or_narrowed (one_or_many (sole beans)) (among_priorities beans)
 
 abbrev pub resolution : ℕ → List Qualifier → List (ℕ × Bean) → Resolution
-resolution type qualifiers beans = or_narrowed (sole (eligible type qualifiers beans)) (among_alternatives (alternatives (eligible type qualifiers beans)))
+resolution type qualifiers beans =
+    or_narrowed (sole (eligible type qualifiers beans))
+    (among_alternatives (alternatives (eligible type qualifiers beans)))

@@ -59,7 +59,8 @@ fn has_priority(bean: &Bean, priority: i64) -> bool
 /// Whether a bean fits, and is left of those that do.
 pub(crate) fn passes(bean: &Bean, wanted: &Wanted<'_>, left: Left) -> bool
     requires { wanted.now.default.now ≡ spec.default }
-    ensures { result ≡ spec.passes wanted.now.ty (spec.required_of wanted.now.required) left bean.now }
+    ensures { result
+        ≡ spec.passes wanted.now.ty (spec.required_of wanted.now.required) left bean.now }
 {
     match left {
         Left::Eligible => fits(bean, wanted),

@@ -144,7 +144,8 @@ impl Resolver {
     fn only(&self, wanted: &Wanted<'_>, left: Left) -> Resolution
         requires { wanted.now.default.now ≡ default }
         ensures { result ≡ spec.sole
-            (filter (λ b. passes_of wanted.now.ty (required_of wanted.now.required) left b.1) (enabled_of self.now)) }
+            (filter (λ b. passes_of wanted.now.ty (required_of wanted.now.required) left b.1)
+            (enabled_of self.now)) }
     {
         sole(self.beans.as_slice(), self.enabled.as_slice(), wanted, left)
     }
@@ -162,7 +163,8 @@ impl Resolver {
     fn with_greatest(&self, wanted: &Wanted<'_>) -> Resolution
         requires { wanted.now.default.now ≡ default }
         ensures { result ≡ spec.one_or_many (spec.sole (spec.highest
-            (spec.alternatives (spec.eligible wanted.now.ty (required_of wanted.now.required) (enabled_of self.now))))) }
+            (spec.alternatives (spec.eligible
+            wanted.now.ty (required_of wanted.now.required) (enabled_of self.now))))) }
     {
         match greatest_priority(self.beans.as_slice(), self.enabled.as_slice(), wanted) {
             Some(priority) => self.only_with(wanted, priority).one_or_many(),
@@ -174,7 +176,8 @@ impl Resolver {
     fn among_priorities(&self, wanted: &Wanted<'_>) -> Resolution
         requires { wanted.now.default.now ≡ default }
         ensures { result ≡ spec.among_priorities
-            (spec.alternatives (spec.eligible wanted.now.ty (required_of wanted.now.required) (enabled_of self.now))) }
+            (spec.alternatives (spec.eligible
+            wanted.now.ty (required_of wanted.now.required) (enabled_of self.now))) }
     {
         match self.only(wanted, Left::WithoutPriority) {
             Resolution::Nothing => self.with_greatest(wanted),
@@ -186,7 +189,8 @@ impl Resolver {
     fn among_alternatives(&self, wanted: &Wanted<'_>) -> Resolution
         requires { wanted.now.default.now ≡ default }
         ensures { result ≡ spec.among_alternatives
-            (spec.alternatives (spec.eligible wanted.now.ty (required_of wanted.now.required) (enabled_of self.now))) }
+            (spec.alternatives (spec.eligible
+            wanted.now.ty (required_of wanted.now.required) (enabled_of self.now))) }
     {
         match self.only(wanted, Left::Alternatives) {
             Resolution::One(bean) => Resolution::One(bean),

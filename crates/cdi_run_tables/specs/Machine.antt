@@ -54,7 +54,8 @@ abbrev pub machine_lifecycle : (ℕ → Option ℕ) → Lifecycle → machine.Li
 machine_lifecycle ids l = record { chain = l.chain; callbacks = map (machine_code ids) l.callbacks }
 
 abbrev pub method_with : BusinessMethod → ℕ → Name × machine.Method
-method_with m body = (m.name, record { code = code_with m.code body; count = m.count; chain = m.chain })
+method_with m body =
+    (m.name, record { code = code_with m.code body; count = m.count; chain = m.chain })
 
 -- a business method by its name; one whose body isn't registered is left out
 abbrev pub machine_method : (ℕ → Option ℕ) → BusinessMethod → Option (Name × machine.Method)
@@ -143,7 +144,8 @@ abbrev pub id_of : RunTables → ℕ → Option ℕ
 id_of t = id_in t.ids
 
 -- the names of bodies in a deployment have the numbers under which these entries are registered
-abbrev pub AreIdsOf : {X : Type 0} {F : X → Type 0} {g : _} → List (Entry X F g) → RunTables → Type 0
+abbrev pub AreIdsOf : {X : Type 0} {F : X → Type 0} {g : _} → List (Entry X F g) → RunTables
+    → Type 0
 AreIdsOf entries t = AreIdsIn entries t.deployment t.ids
 
 abbrev pub bean_at : RunTables → ℕ → Option machine.Bean
@@ -158,7 +160,8 @@ method_in ids (plans.Product p) name = None
 -- the method of a bean, as its plan has it
 abbrev pub method_of : RunTables → ℕ → Name → Option machine.Method
 method_of t b name =
-    option_and_then (λ (bean : PlannedBean). method_in (id_of t) bean.plan name) (slice_get t.beans b)
+    option_and_then (λ (bean : PlannedBean). method_in (id_of t) bean.plan name)
+    (slice_get t.beans b)
 
 -- what the code hands out of a method
 abbrev pub without_chain : machine.Method → Method
@@ -168,7 +171,8 @@ without_chain m = record { place = m.code.place; count = m.count; body = m.code.
 
 abbrev pub resolution_of : RunTables → Name → List Use → Resolution
 resolution_of t type qualifiers =
-    resolution type (full_uses t.tables.declared.qualifiers qualifiers) (enabled_of t.tables.resolver)
+    resolution type (full_uses t.tables.declared.qualifiers qualifiers)
+    (enabled_of t.tables.resolver)
 
 abbrev pub machine_resolution : Resolution → machine.Resolution
 machine_resolution (resolutions.One bean) = machine.Resolution.One bean

@@ -39,4 +39,5 @@ plan_tables d t =
 -- the tables of a deployment without problems of names or beans: each of its beans has its plan
 pub record IsTabled (t : RunTables) : Type 0 where
   pub tables : AreTablesOf t.deployment t.tables
-  pub planned : AllZip (IsPlanned (plan_tables t.deployment t.tables)) t.tables.resolver.beans t.beans
+  pub planned :
+      AllZip (IsPlanned (plan_tables t.deployment t.tables)) t.tables.resolver.beans t.beans

@@ -16,7 +16,8 @@ use Rattle.cdi_run_tables.specs.declared.tables.RunTables.{RunTables}
 -- a call of a method with so many values
 abbrev pub method_refusal : Option Method → ℕ → Option Refusal
 method_refusal m count =
-    first_that_holds ((no_method m, refusals.NoMethod) ∷ (wrong_count m count, refusals.WrongCount) ∷ [])
+    first_that_holds
+    ((no_method m, refusals.NoMethod) ∷ (wrong_count m count, refusals.WrongCount) ∷ [])
 
 -- a method as the tables hand it out
 abbrev pub with_no_chain : Found → Method

@@ -46,7 +46,8 @@ AllInvoked IsBody legal vs =
     AllByRecursion (λ v. AllByRecursion (λ m. IsServedBody IsBody legal m.body) v.members) vs
 
 -- the driver has a body for each method, its acts are served, and no other body is under way
-pub record IsWorking (IsBody : ℕ → Type 0) (legal : Legal) (t : RunTables) (w : World) : Type 0 where
+pub record IsWorking (IsBody : ℕ → Type 0) (legal : Legal) (t : RunTables) (w : World)
+    : Type 0 where
   pub knows : KnowsMethods IsBody legal (machine_tables t)
   pub servable : IsServable t
   pub invoked : AllInvoked IsBody legal w.invocations

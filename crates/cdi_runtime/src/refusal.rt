@@ -64,7 +64,8 @@ impl<D: Driver> Runtime<D> {
             (record { world = self.now.world; halted = halted })
             (in_request (option_map (λ r. r.now) request.entry) (command_of job.now)) }
         ensures alone { result ≡ None
-            → in_request (option_map (λ r. r.now) request.entry) (command_of job.now) ≡ command_of job.now }
+            → in_request (option_map (λ r. r.now) request.entry) (command_of job.now)
+            ≡ command_of job.now }
     {
         if halted {
             return Some(Refusal::Halted);

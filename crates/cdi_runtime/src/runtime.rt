@@ -44,7 +44,8 @@ impl<D: Driver> Runtime<D> {
     /// A deployment that nothing has been done with. It has to be one that is served, and the driver has to have a body for each
     /// method, which gives only acts that are served.
     pub fn new(alloc: Global, tables: RunTables, driver: D, limits: Limits) -> Runtime<D>
-        requires knows { spec.KnowsMethods (D.knows driver) (D.legal driver) (machine_tables tables) }
+        requires knows { spec.KnowsMethods
+            (D.knows driver) (D.legal driver) (machine_tables tables) }
         requires servable { spec.IsServable tables }
         ensures { result ≡ record {
           tables = tables;

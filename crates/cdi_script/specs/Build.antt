@@ -21,7 +21,9 @@ behind_word no_items = no_items
 
 -- the action that these items are as a step of a kind
 abbrev pub action_as : Option StepKind → List (List ℕ) → Items → Reads Action
-action_as (Some kind) names items = with_parts no_parts names (row_of kind).parts (behind_word items) >>= λ read. Ok (action_of kind read.0, read.1)
+action_as (Some kind) names items =
+    with_parts no_parts names (row_of kind).parts (behind_word items)
+    >>= λ read. Ok (action_of kind read.0, read.1)
 action_as None names items = Err BadStep
 
 unfoldable pub action_in : Stage → List (List ℕ) → Items → Reads Action
@@ -29,7 +31,8 @@ action_in stage names items = action_as (kind_of stage items) names items
 
 abbrev pub step_in : Stage → List (List ℕ) → Items → Reads Step
 step_in stage names items =
-    action_in stage names (plain_items stage items) >>= λ read. Ok (record { is_catch = is_some (caught stage items); action = read.0 }, read.1)
+    action_in stage names (plain_items stage items)
+    >>= λ read. Ok (record { is_catch = is_some (caught stage items); action = read.0 }, read.1)
 
 abbrev pub step_at : Stage → List (List ℕ) → Data → Reads Step
 step_at stage names (array items) = step_in stage names items
@@ -38,7 +41,9 @@ step_at stage names _ = Err BadStep
 -- the steps, where each is one and they are at most 256
 abbrev pub steps_at : Stage → List (List ℕ) → Items → Reads (List Step)
 steps_at stage names items =
-    if are_steps_at stage items then (if nat_le (items_len items) 256 then each (step_at stage) names items else Err TooLong) else Err BadStep
+    if are_steps_at stage items then
+    (if nat_le (items_len items) 256 then each (step_at stage) names items else Err TooLong)
+    else Err BadStep
 
 -- the script that a value is
 abbrev pub script_at : Stage → List (List ℕ) → Data → Reads (List Step)

@@ -12,7 +12,9 @@ use Rattle.cdi_script.specs.Term as terms
 unfoldable pub is_pair : Data → Data → Bool
 is_pair word value =
     if is_word word (codes "field") then is_named value
-    else (if is_word word (codes "arg") then is_count value else (if is_word word (codes "ans") then is_count value else false))
+    else
+    (if is_word word (codes "arg") then is_count value
+    else (if is_word word (codes "ans") then is_count value else false))
 
 -- null, a whole number, a text, one of these pairs, `["last"]` or `["add",e,e]`
 abbrev pub is_expression : Data → Bool
@@ -22,15 +24,18 @@ is_expression (number n) = is_some (as_i64 n)
 is_expression (string text) = true
 is_expression (array (item word no_items)) = is_word word (codes "last")
 is_expression (array (item word (item value no_items))) = is_pair word value
-is_expression (array (item word (item left (item right no_items)))) = is_word word (codes "add") && (is_expression left && is_expression right)
+is_expression (array (item word (item left (item right no_items)))) =
+    is_word word (codes "add") && (is_expression left && is_expression right)
 is_expression (array _) = false
 is_expression (object _) = false
 
 unfoldable pub pair_of : List (List ℕ) → Data → Data → Reads terms.Term
 pair_of names word value =
-    if is_word word (codes "field") then (name_of names value >>= λ name. Ok (terms.field name.0, name.1))
+    if is_word word (codes "field") then
+    (name_of names value >>= λ name. Ok (terms.field name.0, name.1))
     else (if is_word word (codes "arg") then found terms.argument names (count_of value)
-    else (if is_word word (codes "ans") then found terms.answer names (count_of value) else Err BadStep))
+    else
+    (if is_word word (codes "ans") then found terms.answer names (count_of value) else Err BadStep))
 
 -- the expression that a value is
 abbrev pub expression_of : List (List ℕ) → Data → Reads terms.Term
@@ -38,9 +43,13 @@ expression_of names null = Ok (terms.null, names)
 expression_of names (boolean b) = Err BadStep
 expression_of names (number n) = found terms.whole names (as_i64 n)
 expression_of names (string text) = Ok (terms.text text, names)
-expression_of names (array (item word no_items)) = if is_word word (codes "last") then Ok (terms.last, names) else Err BadStep
+expression_of names (array (item word no_items)) =
+    if is_word word (codes "last") then Ok (terms.last, names) else Err BadStep
 expression_of names (array (item word (item value no_items))) = pair_of names word value
 expression_of names (array (item word (item left (item right no_items)))) =
-    if is_word word (codes "add") then (expression_of names left >>= λ a. expression_of a.1 right >>= λ b. Ok (terms.sum a.0 b.0, b.1)) else Err BadStep
+    if is_word word (codes "add")
+    then
+    (expression_of names left >>= λ a. expression_of a.1 right >>= λ b. Ok (terms.sum a.0 b.0, b.1))
+    else Err BadStep
 expression_of names (array _) = Err BadStep
 expression_of names (object _) = Err BadStep

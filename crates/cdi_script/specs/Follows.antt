@@ -10,10 +10,13 @@ use Rattle.cdi_script.specs.Next.{next_of}
 
 -- the body gives only what the script does next
 abbrev pub Runs : {X : Type 0} {F : X → Type 0} {g : _} → Entry X F g → List Step → Type 0
-Runs e steps = (fields : Fields) (view : View) (act : Act) → Promises e fields view act → act ≡ next_of steps fields view
+Runs e steps =
+    (fields : Fields) (view : View) (act : Act) → Promises e fields view act
+    → act ≡ next_of steps fields view
 
 -- each body runs the script at its place
-abbrev pub Follows : {X : Type 0} {F : X → Type 0} {g : _} → List (Entry X F g) → List (List Step) → Type 0
+abbrev pub Follows : {X : Type 0} {F : X → Type 0} {g : _} → List (Entry X F g) → List (List Step)
+    → Type 0
 Follows [] [] = ⊤
 Follows [] (script ∷ scripts) = ⊥
 Follows (e ∷ es) [] = ⊥

@@ -13,7 +13,8 @@ use Rattle.cdi_script.specs.Step.{Row, row_of, all_kinds}
 
 -- the word of a row that is served, and behind it the row's parts
 abbrev pub fits : Stage → Row → Items → Bool
-fits stage row (item word parts) = is_word word row.word && (is_included stage row.since && are_parts stage row.parts parts)
+fits stage row (item word parts) =
+    is_word word row.word && (is_included stage row.since && are_parts stage row.parts parts)
 fits stage row no_items = false
 
 -- the kind of the step that these items are, a catch apart
@@ -22,7 +23,8 @@ kind_of stage items = find (λ kind. fits stage (row_of kind) items) all_kinds
 
 -- the items of the array inside a catch
 abbrev pub caught_in : Stage → Data → Data → Option Items
-caught_in stage word (array inner) = if is_included stage Injection && is_word word (codes "catch") then Some inner else None
+caught_in stage word (array inner) =
+    if is_included stage Injection && is_word word (codes "catch") then Some inner else None
 caught_in stage word _ = None
 
 abbrev pub caught : Stage → Items → Option Items

@@ -24,7 +24,8 @@ end_act _ = acts.Give values.Null
 -- the act at the steps from the one reached on; a lookup's number is the number of lookups before it
 abbrev pub act_at : List Step → List Step → Fields → View → Act
 act_at steps [] fields view = end_act (last_answer view)
-act_at steps (step ∷ more) fields view = act_of (lookups_in steps - lookups_in (step ∷ more)) step.action fields view
+act_at steps (step ∷ more) fields view =
+    act_of (lookups_in steps - lookups_in (step ∷ more)) step.action fields view
 
 -- what the script does next
 abbrev pub next_of : List Step → Fields → View → Act

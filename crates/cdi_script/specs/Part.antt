@@ -33,15 +33,21 @@ no_parts = record { name = 0; via = vias.Param 0; qualifiers = []; value = terms
 
 -- the parts, with what a value is as a part of a kind
 abbrev pub with_part : Parts → List (List ℕ) → PartKind → Data → Reads Parts
-with_part parts names Name d = name_of names d >>= λ name. Ok (record parts { name = name.0 }, name.1)
+with_part parts names Name d =
+    name_of names d >>= λ name. Ok (record parts { name = name.0 }, name.1)
 with_part parts names Via d = via_of names d >>= λ via. Ok (record parts { via = via.0 }, via.1)
-with_part parts names Qualifiers d = array_of qualifier_of names d >>= λ qualifiers. Ok (record parts { qualifiers = qualifiers.0 }, qualifiers.1)
-with_part parts names Value d = expression_of names d >>= λ value. Ok (record parts { value = value.0 }, value.1)
-with_part parts names Values d = array_of expression_of names d >>= λ values. Ok (record parts { values = values.0 }, values.1)
+with_part parts names Qualifiers d =
+    array_of qualifier_of names d >>= λ qualifiers.
+    Ok (record parts { qualifiers = qualifiers.0 }, qualifiers.1)
+with_part parts names Value d =
+    expression_of names d >>= λ value. Ok (record parts { value = value.0 }, value.1)
+with_part parts names Values d =
+    array_of expression_of names d >>= λ values. Ok (record parts { values = values.0 }, values.1)
 
 -- the parts, with what values are, one after another
 abbrev pub with_parts : Parts → List (List ℕ) → List PartKind → Items → Reads Parts
-with_parts parts names (kind ∷ kinds) (item d ds) = with_part parts names kind d >>= λ read. with_parts read.0 read.1 kinds ds
+with_parts parts names (kind ∷ kinds) (item d ds) =
+    with_part parts names kind d >>= λ read. with_parts read.0 read.1 kinds ds
 with_parts parts names _ _ = Ok (parts, names)
 
 -- the parts are the same where they are of this kind

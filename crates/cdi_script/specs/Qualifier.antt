@@ -35,7 +35,8 @@ or_full None = Err Full
 
 -- the use with its names in the table
 abbrev pub named_use : List (List ℕ) → Option WrittenUse → Reads Use
-named_use names (Some written) = if has_names written then or_full (numbered_use names written) else Err BadStep
+named_use names (Some written) =
+    if has_names written then or_full (numbered_use names written) else Err BadStep
 named_use names None = Err BadStep
 
 abbrev pub qualifier_of : List (List ℕ) → Data → Reads Use

@@ -16,7 +16,8 @@ is_wanted false step = not step.is_catch
 -- the steps from the next that is wanted on
 abbrev pub from_next : Bool → List Step → List Step
 from_next catches [] = []
-from_next catches (step ∷ steps) = if is_wanted catches step then step ∷ steps else from_next catches steps
+from_next catches (step ∷ steps) =
+    if is_wanted catches step then step ∷ steps else from_next catches steps
 
 -- the steps behind the first
 abbrev pub passed : List Step → List Step

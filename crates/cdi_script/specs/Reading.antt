@@ -18,7 +18,9 @@ is_named _ = false
 -- the name of a text
 unfoldable pub named : List (List ℕ) → List ℕ → Reads ℕ
 named names text =
-    if is_name text then (if has_room names text then Ok (number_of names text, with_name names text) else Err Full) else Err BadStep
+    if is_name text then
+    (if has_room names text then Ok (number_of names text, with_name names text) else Err Full)
+    else Err BadStep
 
 abbrev pub name_of : List (List ℕ) → Data → Reads ℕ
 name_of names (string text) = named names text
@@ -52,10 +54,13 @@ is_array_of test (array ds) = all_items test ds
 is_array_of test _ = false
 
 -- one item after another, each into the table that the one before left
-abbrev pub each : {X : Type 0} → (List (List ℕ) → Data → Reads X) → List (List ℕ) → Items → Reads (List X)
+abbrev pub each : {X : Type 0} → (List (List ℕ) → Data → Reads X) → List (List ℕ) → Items
+    → Reads (List X)
 each form names no_items = Ok ([], names)
-each form names (item d ds) = form names d >>= λ first. each form first.1 ds >>= λ others. Ok (first.0 ∷ others.0, others.1)
+each form names (item d ds) =
+    form names d >>= λ first. each form first.1 ds >>= λ others. Ok (first.0 ∷ others.0, others.1)
 
-abbrev pub array_of : {X : Type 0} → (List (List ℕ) → Data → Reads X) → List (List ℕ) → Data → Reads (List X)
+abbrev pub array_of : {X : Type 0} → (List (List ℕ) → Data → Reads X) → List (List ℕ) → Data
+    → Reads (List X)
 array_of form names (array ds) = each form names ds
 array_of form names _ = Err BadStep

@@ -50,7 +50,8 @@ row_of kinds.Throw = row (codes "throw") (Name ∷ []) since.Injection
 
 abbrev pub all_kinds : List StepKind
 all_kinds =
-    kinds.Set ∷ kinds.Call ∷ kinds.Own ∷ kinds.Read ∷ kinds.Write ∷ kinds.Fire ∷ kinds.Proceed ∷ kinds.ProceedWith ∷ kinds.Find ∷ kinds.Keep
+    kinds.Set ∷ kinds.Call ∷ kinds.Own ∷ kinds.Read ∷ kinds.Write ∷ kinds.Fire ∷ kinds.Proceed
+    ∷ kinds.ProceedWith ∷ kinds.Find ∷ kinds.Keep
     ∷ kinds.Peek ∷ kinds.Give ∷ kinds.Throw ∷ []
 
 -- the action of a step with these parts
@@ -72,13 +73,16 @@ action_of kinds.Throw parts = actions.Throw parts.name
 -- the act of an action; the lookup is the one that it makes if it makes one
 abbrev pub act_of : ℕ → Action → Fields → View → Act
 act_of lookup (actions.Set field value) fields view = acts.Set field (value_of value fields view)
-act_of lookup (actions.Call via method args) fields view = acts.Call via method (values_of args fields view)
+act_of lookup (actions.Call via method args) fields view =
+    acts.Call via method (values_of args fields view)
 act_of lookup (actions.Own method args) fields view = acts.Own method (values_of args fields view)
 act_of lookup (actions.Read via) fields view = acts.Read via
 act_of lookup (actions.Write via value) fields view = acts.Write via (value_of value fields view)
-act_of lookup (actions.Fire class qualifiers value) fields view = acts.Fire class qualifiers (value_of value fields view)
+act_of lookup (actions.Fire class qualifiers value) fields view =
+    acts.Fire class qualifiers (value_of value fields view)
 act_of lookup actions.Proceed fields view = acts.Proceed None
-act_of lookup (actions.ProceedWith args) fields view = acts.Proceed (Some (values_of args fields view))
+act_of lookup (actions.ProceedWith args) fields view =
+    acts.Proceed (Some (values_of args fields view))
 act_of lookup (actions.Find bean_type qualifiers) fields view = acts.Find lookup
 act_of lookup (actions.Keep key value) fields view = acts.Keep key (value_of value fields view)
 act_of lookup (actions.Peek key) fields view = acts.Peek key
@@ -93,15 +97,25 @@ is_lookup _ = false
 -- the shape with what an action names added last
 abbrev pub with_action : Shape → Action → Shape
 with_action shape (actions.Set field value) = record shape { sets = shape.sets ++ field ∷ [] }
-with_action shape (actions.Call via method args) = record shape { calls = shape.calls ++ (record { via = via; method = method; count = length args }) ∷ [] }
-with_action shape (actions.Own method args) = record shape { owns = shape.owns ++ (record { method = method; count = length args }) ∷ [] }
+with_action shape (actions.Call via method args) =
+    record shape {
+      calls = shape.calls ++ (record { via = via; method = method; count = length args }) ∷ [];
+    }
+with_action shape (actions.Own method args) =
+    record shape { owns = shape.owns ++ (record { method = method; count = length args }) ∷ [] }
 with_action shape (actions.Read via) = record shape { cells = shape.cells ++ via ∷ [] }
 with_action shape (actions.Write via value) = record shape { cells = shape.cells ++ via ∷ [] }
-with_action shape (actions.Fire class qualifiers value) = record shape { fires = shape.fires ++ (record { class = class; qualifiers = qualifiers }) ∷ [] }
+with_action shape (actions.Fire class qualifiers value) =
+    record shape { fires = shape.fires ++ (record { class = class; qualifiers = qualifiers }) ∷ [] }
 with_action shape actions.Proceed = record shape { chain = true }
 with_action shape (actions.ProceedWith args) = record shape { chain = true }
-with_action shape (actions.Find bean_type qualifiers) = record shape { lookups = shape.lookups ++ (record { bean_type = bean_type; qualifiers = qualifiers }) ∷ [] }
+with_action shape (actions.Find bean_type qualifiers) =
+    record shape {
+      lookups =
+          shape.lookups ++ (record { bean_type = bean_type; qualifiers = qualifiers }) ∷ [];
+    }
 with_action shape (actions.Keep key value) = record shape { chain = true }
 with_action shape (actions.Peek key) = record shape { chain = true }
 with_action shape (actions.Give value) = shape
-with_action shape (actions.Throw exception) = record shape { throws = shape.throws ++ exception ∷ [] }
+with_action shape (actions.Throw exception) =
+    record shape { throws = shape.throws ++ exception ∷ [] }

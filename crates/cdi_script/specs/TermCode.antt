@@ -37,7 +37,8 @@ term_inj (field m) (field n) p = ap (λ g. field (number (tail g))) p
 term_inj (argument j) (argument k) p = ap (λ g. argument (number (tail g))) p
 term_inj (answer j) (answer k) p = ap (λ g. answer (number (tail g))) p
 term_inj last last p = refl
-term_inj (sum a b) (sum c d) p = ap₂ sum (term_inj a c (ap (λ g. head (tail g)) p)) (term_inj b d (ap (λ g. tail (tail g)) p))
+term_inj (sum a b) (sum c d) p =
+    ap₂ sum (term_inj a c (ap (λ g. head (tail g)) p)) (term_inj b d (ap (λ g. tail (tail g)) p))
 term_inj x y p = absurd cc
 
 abbrev pub coded_term : Coded Term

@@ -16,7 +16,8 @@ fits_i64 (negsuc n) = nat_lt n (2 ^ 63)
 
 -- the sum of two whole numbers, null where it is none of 64 bits, and for other values
 abbrev pub sum_of : Value → Value → Value
-sum_of (values.Int a) (values.Int b) = if fits_i64 (a +ℤ b) then values.Int (a +ℤ b) else values.Null
+sum_of (values.Int a) (values.Int b) =
+    if fits_i64 (a +ℤ b) then values.Int (a +ℤ b) else values.Null
 sum_of _ _ = values.Null
 
 abbrev pub or_null : Option Value → Value

@@ -16,7 +16,8 @@ unfoldable pub is_via_pair : Stage → Data → Data → Bool
 is_via_pair stage word value =
     if is_word word (codes "field") then (is_included stage Injection && is_named value)
     else (if is_word word (codes "param") then (is_included stage Lifecycle && is_count value)
-    else (if is_word word (codes "local") then (is_included stage Lookups && is_count value) else false))
+    else
+    (if is_word word (codes "local") then (is_included stage Lookups && is_count value) else false))
 
 abbrev pub is_via : Stage → Data → Bool
 is_via stage (array (item word (item value no_items))) = is_via_pair stage word value

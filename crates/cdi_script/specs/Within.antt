@@ -9,4 +9,6 @@ use Rattle.cdi_script.specs.Next.{next_of}
 
 -- at any fields, and whatever was answered
 abbrev pub StaysInShape : List Step → Type 0
-StaysInShape steps = (fields : Fields) (view : View) → in_shape (shape_of steps) view (next_of steps fields view) ≡ true
+StaysInShape steps =
+    (fields : Fields) (view : View)
+    → in_shape (shape_of steps) view (next_of steps fields view) ≡ true

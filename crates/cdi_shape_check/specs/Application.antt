@@ -14,4 +14,9 @@ pub record Application : Type 0 where
 
 -- the application of some tables
 abbrev pub application_of : ApplicationTables → Application
-application_of t = record { deployment = t.names.now; qualifiers = t.qualifiers.now; enabled = enabled_of t.resolver.now }
+application_of t =
+    record {
+      deployment = t.names.now;
+      qualifiers = t.qualifiers.now;
+      enabled = enabled_of t.resolver.now;
+    }

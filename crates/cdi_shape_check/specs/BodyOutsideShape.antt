@@ -21,22 +21,27 @@ lacks_method parts shape = list_any (λ own. not (parts.has_method own.method ow
 
 -- a business method to call through a reference that isn't there, or that leads to one bean without that method
 abbrev pub lacks_call : Application → OwnParts → List Point → Shape → Bool
-lacks_call app parts params shape = list_any (λ call. is_call_missing app call (point_at parts params shape.lookups call.via)) shape.calls
+lacks_call app parts params shape =
+    list_any (λ call. is_call_missing app call (point_at parts params shape.lookups call.via))
+    shape.calls
 
 -- a value to read or write through a reference that isn't there, or that leads to one managed bean
 abbrev pub lacks_cell : Application → OwnParts → List Point → Shape → Bool
-lacks_cell app parts params shape = list_any (λ via. is_cell_missing app (point_at parts params shape.lookups via)) shape.cells
+lacks_cell app parts params shape =
+    list_any (λ via. is_cell_missing app (point_at parts params shape.lookups via)) shape.cells
 
 -- an event to fire, a lookup or an exception with an unknown name
 abbrev pub names_unknown : Deployment → Shape → Bool
 names_unknown d shape =
-    list_any (λ e. not (is_event d e)) shape.fires || list_any (λ l. not (is_lookup d l)) shape.lookups
+    list_any (λ e. not (is_event d e)) shape.fires
+    || list_any (λ l. not (is_lookup d l)) shape.lookups
     || list_any (λ x. not (is_exception d x)) shape.throws
 
 -- something that isn't there
 abbrev pub names_missing : Application → OwnParts → List Point → Shape → Bool
 names_missing app parts params shape =
-    lacks_field parts shape || lacks_method parts shape || lacks_call app parts params shape || lacks_cell app parts params shape
+    lacks_field parts shape || lacks_method parts shape || lacks_call app parts params shape
+    || lacks_cell app parts params shape
     || names_unknown app.deployment shape
 
 -- a body is registered, and its shape names something that isn't there
@@ -45,7 +50,8 @@ is_outside app parts params None = false
 is_outside app parts params (Some shape) = names_missing app parts params shape
 
 -- P13 BodyOutsideShape: the shape of a live site's body names something that isn't there
-pub record HasBodyOutsideShape (app : Application) (e : Enabled) (shape_of : ℕ → Option Shape) (s : Site) : Type 0 where
+pub record HasBodyOutsideShape (app : Application) (e : Enabled) (shape_of : ℕ → Option Shape)
+    (s : Site) : Type 0 where
   pub live : IsTrue (is_live e s)
   pub parts : OwnParts
   pub are_parts : ArePartsOf app.deployment s parts
@@ -53,4 +59,5 @@ pub record HasBodyOutsideShape (app : Application) (e : Enabled) (shape_of : ℕ
 
 -- the same with the parts of the own instance given
 abbrev pub is_outside_with : Application → Enabled → (ℕ → Option Shape) → OwnParts → Site → Bool
-is_outside_with app e shape_of parts s = is_live e s && is_outside app parts (params_of s) (shape_of (body_of s))
+is_outside_with app e shape_of parts s =
+    is_live e s && is_outside app parts (params_of s) (shape_of (body_of s))

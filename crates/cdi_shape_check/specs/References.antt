@@ -38,7 +38,8 @@ bean_told enabled _ = None
 
 -- the one bean that a point resolves to
 abbrev pub bean_at : Application → Point → Option Bean
-bean_at app p = bean_told app.enabled (resolution p.ty (full_uses app.qualifiers p.quals) app.enabled)
+bean_at app p =
+    bean_told app.enabled (resolution p.ty (full_uses app.qualifiers p.quals) app.enabled)
 
 abbrev pub declares_called : MethodCall → Option Class → Bool
 declares_called call None = false
@@ -46,7 +47,8 @@ declares_called call (Some c) = declares_method call.method call.count c
 
 -- a member of a bean is the method that is called, with as many values
 abbrev pub is_called : List Class → MethodCall → BeanMember → Bool
-is_called classes call m = (m.name == call.method) && declares_called call (class_named classes m.class)
+is_called classes call m =
+    (m.name == call.method) && declares_called call (class_named classes m.class)
 
 -- a managed bean has the method; a product has none
 abbrev pub answers_call : List Class → MethodCall → Bean → Bool

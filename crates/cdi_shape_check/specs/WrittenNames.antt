@@ -18,7 +18,8 @@ is_concrete (Some c) = not c.is_abstract
 -- the class of an event is one of the deployment that isn't abstract, and its qualifiers are known, with their members, and none is
 -- Default
 abbrev pub is_event : Deployment → FiredEvent → Bool
-is_event d e = is_concrete (class_named d.classes e.class) && list_all (is_event_qualifier_use d) e.qualifiers
+is_event d e =
+    is_concrete (class_named d.classes e.class) && list_all (is_event_qualifier_use d) e.qualifiers
 
 -- the required type and qualifiers of a lookup are known
 abbrev pub is_lookup : Deployment → Lookup → Bool
@@ -26,9 +27,13 @@ is_lookup d l = is_type d l.bean_type && are_qualifiers d l.qualifiers
 
 abbrev pub is_built_in_exception : ℕ → Bool
 is_built_in_exception name =
-    is_built_in names.ContextNotActiveException name || is_built_in names.CreationException name || is_built_in names.IllegalProductException name
-    || is_built_in names.IllegalStateException name || is_built_in names.IllegalArgumentException name || is_built_in names.NullPointerException name
-    || is_built_in names.ObserverException name || is_built_in names.UnsatisfiedResolutionException name
+    is_built_in names.ContextNotActiveException name || is_built_in names.CreationException name
+    || is_built_in names.IllegalProductException name
+    || is_built_in names.IllegalStateException name
+    || is_built_in names.IllegalArgumentException name
+    || is_built_in names.NullPointerException name
+    || is_built_in names.ObserverException name
+    || is_built_in names.UnsatisfiedResolutionException name
     || is_built_in names.AmbiguousResolutionException name
 
 abbrev pub is_exception : Deployment → ℕ → Bool

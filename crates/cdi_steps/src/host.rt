@@ -75,7 +75,8 @@ pub trait Host {
 
     /// No event has an observer.
     fn law_unobserved(&self)
-        ensures { (class : ℕ) (uses : List AnyUse) → (setting self.now).tables.observers class uses ≡ [] };
+        ensures { (class : ℕ) (uses : List AnyUse)
+            → (setting self.now).tables.observers class uses ≡ [] };
 
     // ---- the driver
 

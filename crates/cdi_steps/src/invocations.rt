@@ -98,7 +98,8 @@ pub fn rest<H: Host>(host: &mut H) -> Result<Next, AllocError>
 /// The end of a chain has been run. A lifecycle callback gives null (Jakarta Interceptors 2.1, *Interceptor Methods for
 /// Lifecycle Event Callbacks*).
 pub fn reached<H: Host>(host: &mut H, role: InterceptorMethod, given: Given) -> Next
-    ensures next { result ≡ Next.Finished (Outcome.Ends (Completion.Gave (given_at_end role given))) }
+    ensures next { result
+        ≡ Next.Finished (Outcome.Ends (Completion.Gave (given_at_end role given))) }
     ensures world { H.world host.new ≡ after_change Reach (H.world host.old) }
     ensures narrows { Narrows (H.setting host.old) (H.setting host.new) }
 {

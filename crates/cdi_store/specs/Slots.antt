@@ -25,7 +25,8 @@ instances_in slots [] = []
 instances_in slots (p ∷ more) = preceded p.0 (slot_at slots p.1) (instances_in slots more)
 
 abbrev pub kept_in : Slots → Map ℕ → ℕ → Kept
-kept_in slots numbers next = record { instances = instances_in slots numbers; slots = numbers; next = next }
+kept_in slots numbers next =
+    record { instances = instances_in slots numbers; slots = numbers; next = next }
 
 -- each number is below the later ones
 abbrev pub AreRising : Map ℕ → Type 0

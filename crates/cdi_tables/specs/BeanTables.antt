@@ -11,13 +11,17 @@ use Rattle.cdi_tables.specs.declared.bean_tables.BeanTables.{BeanTables}
 use Rattle.cdi_tables.specs.declared.declared.DeclaredTables.{DeclaredTables}
 
 -- the tables of a deployment with its bean list, by what it declares and which beans are enabled
-abbrev pub bean_tables : Deployment → BeanList → DeclaredTables → Enablement → List Bool → BeanTables
+abbrev pub bean_tables : Deployment → BeanList → DeclaredTables → Enablement → List Bool
+    → BeanTables
 bean_tables d list declared enabled flags =
     record {
       declared = declared;
       enabled = enabled;
       resolver = record { beans = list.beans; flags = flags };
-      chains = record { classes = map (class_bindings declared.bindings) d.classes; interceptors = list.interceptors };
+      chains = record {
+        classes = map (class_bindings declared.bindings) d.classes;
+        interceptors = list.interceptors;
+      };
       disposers = list.disposers;
     }
 

@@ -66,7 +66,8 @@ values_of d = or_bad (list_in value_in d)
 
 -- a list of uses, whose texts in a name's place are names
 abbrev pub qualifiers_of : Data → Reads (List WrittenUse)
-qualifiers_of d = or_bad (list_in use_in d) >>= λ uses. if list_all has_names uses then Ok uses else bad
+qualifiers_of d =
+    or_bad (list_in use_in d) >>= λ uses. if list_all has_names uses then Ok uses else bad
 
 -- a request, and a session if there is one
 abbrev pub begin_of : Items → Reads Command

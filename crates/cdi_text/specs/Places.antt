@@ -22,6 +22,8 @@ part_text owner part = owner ++ 35 ∷ part
 -- a constructor is the part without a name
 abbrev pub place_text : List (List ℕ) → Place → List ℕ
 place_text names (places.Class name) = name_text names name
-place_text names (places.Member class member) = part_text (name_text names class) (name_text names member)
+place_text names (places.Member class member) =
+    part_text (name_text names class) (name_text names member)
 place_text names (places.Constructor class) = part_text (name_text names class) []
-place_text names (places.Interceptor interceptor method) = part_text (name_text names interceptor) (method_word method)
+place_text names (places.Interceptor interceptor method) =
+    part_text (name_text names interceptor) (method_word method)

@@ -12,12 +12,15 @@ abbrev pub of_built_in : BuiltIn → TypeDeclaration
 of_built_in class = record { name = number_of class; superclass = None; interfaces = [] }
 
 abbrev pub of_interface : Interface → TypeDeclaration
-of_interface interface = record { name = interface.name; superclass = None; interfaces = interface.extends }
+of_interface interface =
+    record { name = interface.name; superclass = None; interfaces = interface.extends }
 
 abbrev pub of_class : Class → TypeDeclaration
-of_class class = record { name = class.name; superclass = class.extends; interfaces = class.implements }
+of_class class =
+    record { name = class.name; superclass = class.extends; interfaces = class.implements }
 
 -- the built-in classes but for Object, the interfaces, and the classes
 abbrev pub declarations_of : Deployment → List TypeDeclaration
 declarations_of deployment =
-    (of_built_in names.Startup ∷ of_built_in names.Shutdown ∷ []) ++ map of_interface deployment.interfaces ++ map of_class deployment.classes
+    (of_built_in names.Startup ∷ of_built_in names.Shutdown ∷ [])
+    ++ map of_interface deployment.interfaces ++ map of_class deployment.classes

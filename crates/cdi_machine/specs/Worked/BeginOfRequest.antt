@@ -51,12 +51,24 @@ deployment =
       written = [];
       observed = (
         number_of built_in.Object,
-        ((record { name = number_of built_in.Initialized; members = record { name = number_of built_in.Value; value = values.Text (codes "SessionScoped") } ∷ [] }) ∷ []),
+        ((record {
+          name = number_of built_in.Initialized;
+          members = (record {
+            name = number_of built_in.Value;
+            value = values.Text (codes "SessionScoped");
+          }) ∷ [];
+        }) ∷ []),
         ((record { bean = 0; member = member R o body_nop [] []; conditional = false }) ∷ []) ∷
             [],
       ) ∷ (
         number_of built_in.Object,
-        ((record { name = number_of built_in.Initialized; members = record { name = number_of built_in.Value; value = values.Text (codes "RequestScoped") } ∷ [] }) ∷ []),
+        ((record {
+          name = number_of built_in.Initialized;
+          members = (record {
+            name = number_of built_in.Value;
+            value = values.Text (codes "RequestScoped");
+          }) ∷ [];
+        }) ∷ []),
         ((record { bean = 0; member = member R p body_nop [] []; conditional = false }) ∷ []) ∷
             [],
       ) ∷

@@ -46,7 +46,13 @@ deployment =
       written = [];
       observed = (
         number_of built_in.Object,
-        ((record { name = number_of built_in.Initialized; members = record { name = number_of built_in.Value; value = values.Text (codes "RequestScoped") } ∷ [] }) ∷ []),
+        ((record {
+          name = number_of built_in.Initialized;
+          members = (record {
+            name = number_of built_in.Value;
+            value = values.Text (codes "RequestScoped");
+          }) ∷ [];
+        }) ∷ []),
         ((record { bean = 0; member = member L o body_oops [] []; conditional = false }) ∷ []) ∷
             [],
       ) ∷

@@ -58,12 +58,24 @@ deployment =
       written = [];
       observed = (
         number_of built_in.Object,
-        ((record { name = number_of built_in.BeforeDestroyed; members = record { name = number_of built_in.Value; value = values.Text (codes "RequestScoped") } ∷ [] }) ∷ []),
+        ((record {
+          name = number_of built_in.BeforeDestroyed;
+          members = (record {
+            name = number_of built_in.Value;
+            value = values.Text (codes "RequestScoped");
+          }) ∷ [];
+        }) ∷ []),
         ((record { bean = 0; member = member R o body_nop [] []; conditional = false }) ∷ []) ∷
             [],
       ) ∷ (
         number_of built_in.Object,
-        ((record { name = number_of built_in.Destroyed; members = record { name = number_of built_in.Value; value = values.Text (codes "RequestScoped") } ∷ [] }) ∷ []),
+        ((record {
+          name = number_of built_in.Destroyed;
+          members = (record {
+            name = number_of built_in.Value;
+            value = values.Text (codes "RequestScoped");
+          }) ∷ [];
+        }) ∷ []),
         ((record { bean = 1; member = member A d body_d [] []; conditional = false }) ∷ []) ∷
             [],
       ) ∷

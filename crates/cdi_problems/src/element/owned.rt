@@ -13,7 +13,8 @@ fn add_fields<'a>(
     elements: &mut Vec<Element<'a>>,
 ) -> Result<(), AllocError>
     ensures { OnOk result (spec.shown elements.new.items
-        ≡ spec.shown elements.old.items ++ map (spec.Element.AField index class.now) class.now.fields) }
+        ≡ spec.shown elements.old.items
+        ++ map (spec.Element.AField index class.now) class.now.fields) }
 {
     for field in class.fields.as_slice() {
         elements.push(Element::Field {
@@ -31,7 +32,8 @@ fn add_injected<'a>(
     elements: &mut Vec<Element<'a>>,
 ) -> Result<(), AllocError>
     ensures { OnOk result (spec.shown elements.new.items
-        ≡ spec.shown elements.old.items ++ map (spec.Element.AnInjectedField index class.now) class.now.inject) }
+        ≡ spec.shown elements.old.items
+        ++ map (spec.Element.AnInjectedField index class.now) class.now.inject) }
 {
     for field in class.inject.as_slice() {
         elements.push(Element::InjectedField {
@@ -68,7 +70,8 @@ fn add_members<'a>(
     elements: &mut Vec<Element<'a>>,
 ) -> Result<(), AllocError>
     ensures { OnOk result (spec.shown elements.new.items
-        ≡ spec.shown elements.old.items ++ map (spec.Element.AMember index class.now) class.now.members) }
+        ≡ spec.shown elements.old.items
+        ++ map (spec.Element.AMember index class.now) class.now.members) }
 {
     for member in class.members.as_slice() {
         elements.push(Element::Member {
@@ -101,7 +104,8 @@ pub(super) fn add_classes<'a>(
     elements: &mut Vec<Element<'a>>,
 ) -> Result<(), AllocError>
     ensures { OnOk result (spec.shown elements.new.items
-        ≡ spec.shown elements.old.items ++ flat_map spec.class_elements (enumerate_from 0 classes.now)) }
+        ≡ spec.shown elements.old.items
+        ++ flat_map spec.class_elements (enumerate_from 0 classes.now)) }
 {
     for (index, class) in classes.iter().enumerate() {
         add_class(index, class, elements)?;
@@ -135,7 +139,8 @@ fn add_interceptor_injected<'a>(
 ) -> Result<(), AllocError>
     ensures { OnOk result (spec.shown elements.new.items
         ≡ spec.shown elements.old.items
-        ++ map (spec.Element.AnInterceptorInjectedField index interceptor.now) interceptor.now.inject) }
+        ++ map (spec.Element.AnInterceptorInjectedField index interceptor.now)
+        interceptor.now.inject) }
 {
     for field in interceptor.inject.as_slice() {
         elements.push(Element::InterceptorInjectedField {
