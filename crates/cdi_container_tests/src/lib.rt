@@ -1,4 +1,4 @@
-//! Tests of the world, the engine and the container.
+//! Tests of the world and of the engine, and of which deployments a container accepts.
 #![tactic(auto)]
 
 #[cfg(test)]
@@ -10,15 +10,11 @@ mod budgets;
 #[cfg(test)]
 mod checks;
 #[cfg(test)]
-mod containers;
-#[cfg(test)]
 mod deployed;
 #[cfg(test)]
 mod many_beans;
 #[cfg(test)]
 mod owners;
-#[cfg(test)]
-mod refusals;
 #[cfg(test)]
 mod runs;
 #[cfg(test)]

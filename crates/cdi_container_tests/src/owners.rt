@@ -1,12 +1,10 @@
-//! The functions that own a runtime or a container. The proof of each drops all tables, so that there are few: what a test does
-//! comes in with it.
+//! The functions that own a runtime. The proof of each drops all tables, so that there are few: what a test does comes in with it.
 ghost use Rattle.cdi_run_tables.specs.Machine.{machine_tables};
 ghost use Rattle.cdi_runtime.specs.Standing.{IsServable, KnowsMethods};
 
 use crate::deployed::{accept_well, deploy};
 use cdi_base::Limits;
 use cdi_bodies::Bodies;
-use cdi_container::Container;
 use cdi_machine::Driver;
 use cdi_run_tables::RunTables;
 use cdi_runtime::Runtime;
@@ -43,37 +41,4 @@ pub(crate) fn check_runtime(
     let deployment = deploy(alloc, text, 1, &mut bodies)?;
     let tables = accept_well(alloc, deployment, &bodies)?;
     with_runtime(alloc, tables, bodies, Limits::default(), test)
-}
-
-/// What a test does with a container that has just been started.
-pub(crate) trait ContainerTest {
-    fn run<D: Driver>(&self, alloc: Global, container: &mut Container<D>) -> Result<(), Fail>;
-}
-
-/// Does it with the container of some tables.
-fn with_container<D: Driver + Drop>(
-    alloc: Global,
-    tables: RunTables,
-    driver: D,
-    limits: Limits,
-    test: &impl ContainerTest,
-) -> Result<(), Fail>
-    requires knows { KnowsMethods (D.knows driver) (D.legal driver) (machine_tables tables) }
-    requires servable { IsServable tables }
-{
-    let mut container = Container::start(alloc, tables, driver, limits);
-    test.run(alloc, &mut container)
-}
-
-/// Does it with the container of a deployment whose bodies count once.
-pub(crate) fn check_container(
-    alloc: Global,
-    text: &str,
-    limits: Limits,
-    test: &impl ContainerTest,
-) -> Result<(), Fail> {
-    let mut bodies = Bodies::new(alloc);
-    let deployment = deploy(alloc, text, 1, &mut bodies)?;
-    let tables = accept_well(alloc, deployment, &bodies)?;
-    with_container(alloc, tables, bodies, limits, test)
 }

@@ -1,4 +1,4 @@
-//! Tests of the problems of names and of beans.
+//! Tests of the problems of names and of beans in large deployments.
 #![tactic(auto)]
 
 #[cfg(test)]
@@ -6,10 +6,6 @@ mod bean_problems;
 #[cfg(test)]
 mod counts;
 #[cfg(test)]
-mod deployments;
-#[cfg(test)]
 mod names;
-#[cfg(test)]
-mod problems;
 #[cfg(test)]
 mod written;

@@ -1,4 +1,4 @@
-//! Tests of the container and of whole runs, from a deployment and its command lines to the bytes written.
+//! Tests of whole runs over readers, writers, files and words that no transcript can give, and of the lines of refusals.
 #![tactic(auto)]
 
 #[cfg(test)]
@@ -6,21 +6,11 @@ mod checking;
 #[cfg(test)]
 mod checks;
 #[cfg(test)]
-mod container;
-#[cfg(test)]
-mod deep;
-#[cfg(test)]
-mod drive;
-#[cfg(test)]
-mod injected;
+mod many_instances;
 #[cfg(test)]
 mod program;
 #[cfg(test)]
 mod refusal_text;
-#[cfg(test)]
-mod refused;
-#[cfg(test)]
-mod resolved;
 #[cfg(test)]
 mod streams;
 #[cfg(test)]

@@ -1,12 +1,11 @@
 //! The program, from the words of its command line to its status, with all that it writes.
-use crate::test_runs::{COUNTED, COUNTER, COUNTS, DONE, ENDLESS};
+use crate::test_runs::{COUNTED, COUNTER, COUNTS, DONE};
 use cdi_lines::{Input, Output};
 use cdi_program::program::MAX_READ;
 use cdi_program::{Files, HostFiles, WordsError, run_program};
 use std::alloc::Global;
 use std::io::{ErrorKind, Read, Write};
 use std::process::Abort;
-use std::test::Fail;
 use std::{io, str};
 
 const RUN: [&str; 3] = ["cdi", "run", "k.json"];
@@ -103,79 +102,6 @@ pub(crate) fn check(
 }
 
 #[test]
-fn runs_the_file_that_the_words_name(rt: HostRuntime) {
-    for (deployment, status, output, errors) in [
-        (COUNTER, 0, COUNTS, ""),
-        (
-            r#"{"classes":[{"name":"K"},{"name":"K"}]}"#,
-            1,
-            "P1 DuplicateName K\n",
-            "",
-        ),
-        ("{", 1, "NotJson\n", "cdi: k.json: line 1, column 1\n"),
-        (
-            r#"{"classes":[{"name":"a b"}]}"#,
-            1,
-            "BadName\n",
-            "cdi: k.json: the text \"a b\" is no name\n",
-        ),
-        (
-            r#"{"scripts":[{"name":"up","steps":[["give",1],7]}]}"#,
-            1,
-            "script up BadStep\n",
-            "cdi: k.json: step 1 (counted from 0) of script up is none\n",
-        ),
-        (
-            ENDLESS,
-            0,
-            "[\"done\"]\n[\"refused\",\"NoMethod\"]\n[\"refused\",\"NoMethod\"]\n[\"done\"]\n",
-            "",
-        ),
-    ] {
-        let wanted = Wanted {
-            status,
-            output,
-            errors,
-        };
-        check(&rt, rt.alloc(), &RUN, deployment, &wanted);
-    }
-}
-
-#[test]
-fn tells_what_is_wrong_with_the_words(rt: HostRuntime) {
-    for (words, errors) in [
-        (
-            ["cdi"].as_slice(),
-            "error: 'cdi' requires a subcommand but one was not provided\n",
-        ),
-        (&["cdi", "walk"], "error: unrecognized subcommand 'walk'\n"),
-        (
-            &["cdi", "run"],
-            "error: the following required arguments were not provided:\n  <FILE>\n",
-        ),
-        (
-            &["cdi", "check"],
-            "error: the following required arguments were not provided:\n  <FILE>\n",
-        ),
-        (
-            &["cdi", "run", "k.json", "k.json"],
-            "error: unexpected argument 'k.json' found\n",
-        ),
-        (
-            &["cdi", "run", "k.json", "--fast"],
-            "error: unexpected argument '--fast' found\n",
-        ),
-    ] {
-        let wanted = Wanted {
-            status: 2,
-            output: "",
-            errors,
-        };
-        check(&rt, rt.alloc(), words, COUNTER, &wanted);
-    }
-}
-
-#[test]
 fn tells_why_the_words_are_not_known(rt: HostRuntime) {
     let alloc = rt.alloc();
     let files = OneFile { bytes: b"" };
@@ -203,18 +129,6 @@ fn tells_why_the_words_are_not_known(rt: HostRuntime) {
     }
 }
 
-#[test]
-fn shows_the_version(rt: HostRuntime) {
-    for words in [["cdi", "--version"], ["cdi", "-V"]] {
-        let wanted = Wanted {
-            status: 0,
-            output: "cdi 0.1.0\n",
-            errors: "",
-        };
-        check(&rt, rt.alloc(), &words, COUNTER, &wanted);
-    }
-}
-
 /// The parts of the help that a stranger looks for.
 #[test]
 fn shows_the_help(rt: HostRuntime) {
@@ -234,34 +148,6 @@ fn shows_the_help(rt: HostRuntime) {
     ] {
         assert!(rt; ran.status == 0 && text.contains(part), "{part} in {text}");
     }
-}
-
-#[test]
-fn tells_that_a_file_is_not_there(rt: HostRuntime) {
-    let wanted = Wanted {
-        status: 3,
-        output: "",
-        errors: "cdi: other.json: entity not found\n",
-    };
-    let words = ["cdi", "run", "other.json"];
-    check(&rt, rt.alloc(), &words, COUNTER, &wanted);
-}
-
-/// A container that was cut is told by the status alone.
-#[test]
-fn ends_halted(rt: HostRuntime) {
-    let alloc = rt.alloc();
-    let files = OneFile {
-        bytes: ENDLESS.as_bytes(),
-    };
-    let line = b"[\"call\",null,\"K\",[],\"a\",[]]";
-    let ran = run(alloc, Ok(&RUN), &files, line.as_slice(), Vec::new(alloc));
-    let wanted = Wanted {
-        status: 4,
-        output: "[\"done\"]\n[\"halted\",\"depth\"]\n",
-        errors: "",
-    };
-    expect_ran(&rt, &ran, &wanted);
 }
 
 /// Fails at each read.
@@ -326,28 +212,6 @@ fn tells_that_the_output_failed(rt: HostRuntime) {
     ] {
         check_unwritten(&rt, rt.alloc(), words, deployment);
     }
-}
-
-/// Spaces behind a deployment belong to it: at most 1,048,576 bytes are read as one.
-#[test]
-fn reads_a_file_up_to_its_limit(rt: HostRuntime) -> Result<(), Fail> {
-    let alloc = rt.alloc();
-    let mut long = Vec::new(alloc);
-    long.extend_from_slice(COUNTER.as_bytes())?;
-    long.resize(MAX_READ, b' ')?;
-    for (count, status, output) in [(MAX_READ - 1, 0, COUNTS), (MAX_READ, 1, "TooLong\n")] {
-        let files = OneFile {
-            bytes: &long[..count],
-        };
-        let ran = run(alloc, Ok(&RUN), &files, COUNTED.as_bytes(), Vec::new(alloc));
-        let wanted = Wanted {
-            status,
-            output,
-            errors: "",
-        };
-        expect_ran(&rt, &ran, &wanted);
-    }
-    Ok(())
 }
 
 fn front_of(rt: &HostRuntime, path: &str) -> io::Result<usize> {

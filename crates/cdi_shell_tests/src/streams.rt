@@ -1,6 +1,6 @@
 //! Runs over readers and writers that go in steps, or fail.
 use crate::checks::{expect_same, expect_written};
-use crate::test_runs::{COUNTED, COUNTER, COUNTS, DONE, Ran, check_ran, run};
+use crate::test_runs::{COUNTED, COUNTER, COUNTS, DONE, Ran, check_ran, check_refused, run};
 use cdi_base::Limits;
 use std::alloc::{AllocError, Global};
 use std::io;
@@ -185,4 +185,26 @@ fn passes_a_refusal_on(rt: HostRuntime) -> Result<(), Fail> {
 fn ends_where_a_refusal_is_held_back(rt: HostRuntime) {
     let ran = refuse(rt.alloc(), Stuck::new(rt.alloc()));
     expect_same(&rt, &ran.status, &3);
+}
+
+#[test]
+fn refuses_what_is_not_utf8(rt: HostRuntime) {
+    let alloc = rt.alloc();
+    check_refused(&rt, alloc, b"{\"\xff\":1}", "NotJson\n");
+    let reader = b"\xff\n".as_slice();
+    let ran = run(
+        alloc,
+        COUNTER.as_bytes(),
+        Limits::default(),
+        reader,
+        Vec::new(alloc),
+    );
+    check_ran(&rt, &ran, "[\"done\"]\n[\"refused\",\"BadLine\"]\n", 0);
+}
+
+/// The last line counts without an end, too.
+#[test]
+fn answers_a_last_line_without_an_end(rt: HostRuntime) {
+    let reader = COUNTED.trim_end().as_bytes();
+    check_read(&rt, rt.alloc(), Limits::default(), reader, COUNTS, 0);
 }
