@@ -16,6 +16,7 @@ shares no check, since it may be the cause of what is complained of at functions
 together takes --jobs N in front of the names, and then tries so many crates at a time. Both take what `rt all check` kept in
 out/. The last line is 'N refused, M failed'; the status is 0 if M is 0.
 """
+import functools
 import importlib.machinery
 import importlib.util
 import os
@@ -38,6 +39,8 @@ def kits_rt():
     loader = importlib.machinery.SourceFileLoader("rt", f"{os.path.dirname(first_page)}/bin/rt")
     made = importlib.util.module_from_spec(importlib.util.spec_from_loader("rt", loader))
     loader.exec_module(made)
+    # (a crate's sum takes the sums of all below it, each of which does so again; here no crate changes meanwhile)
+    made.rtlib.Crate.stamp = functools.cache(made.rtlib.Crate.stamp)
     return made
 
 

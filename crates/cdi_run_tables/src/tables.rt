@@ -21,12 +21,23 @@ use cdi_tables::BeanTables;
 use std::alloc::{AllocError, Global};
 
 /// A deployment with its tables and the plans of its beans. It never changes.
-#[derive(Drop)]
 pub struct RunTables {
     pub(crate) deployment: Deployment,
     pub(crate) tables: BeanTables,
     pub(crate) beans: Seq<PlannedBean>,
     pub(crate) ids: BodyIds,
+}
+
+/// In one call, so that the proof of each function that owns all tables has one step here, and not one for each of them.
+impl Drop for RunTables {
+    fn drop(self) {
+        let RunTables {
+            deployment: _deployment,
+            tables: _tables,
+            beans: _beans,
+            ids: _ids,
+        } = self;
+    }
 }
 
 /// A business method of a bean, with its registered body.
