@@ -46,8 +46,10 @@ impl From<AllocError> for Unaccepted {
 fn refused(deployment: Deployment, problems: Seq<Problem>) -> Unaccepted
     ensures { result ≡ Problems deployment.names problems }
 {
-    let Deployment { names, .. } = deployment;
-    Unaccepted::Problems { names, problems }
+    Unaccepted::Problems {
+        names: deployment.into_names(),
+        problems,
+    }
 }
 
 /// Whether a container serves a deployment with these bodies.

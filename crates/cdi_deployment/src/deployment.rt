@@ -1,10 +1,11 @@
 //! A deployment: what an application declares (Jakarta CDI 4.0, *Concepts*).
+ghost use Rattle.std.specs.Prelude.{◌≡◌};
+
 use crate::steps::Steps;
 use cdi_base::{Name, Names, Scope, Seq, Use, Value};
 
 /// What an application declares, in the order in which it was written, and the table that numbers all names in it.
 /// The table begins with the built-in names. A list that is not written is empty.
-#[derive(Drop)]
 pub struct Deployment {
     pub names: Names,
     /// At most 1,024 interfaces, classes and interceptors together.
@@ -25,6 +26,45 @@ pub struct Deployment {
     pub order: Seq<Name>,
     /// At most 1,024 scripts.
     pub scripts: Seq<Script>,
+}
+
+impl Deployment {
+    /// Its table of names, without the rest.
+    pub fn into_names(self) -> Names
+        ensures { result ≡ self.names }
+    {
+        let Self {
+            names,
+            interfaces: _interfaces,
+            qualifiers: _qualifiers,
+            bindings: _bindings,
+            exceptions: _exceptions,
+            classes: _classes,
+            interceptors: _interceptors,
+            selected: _selected,
+            order: _order,
+            scripts: _scripts,
+        } = self;
+        names
+    }
+}
+
+/// In one call, so that the proof of each function that owns a deployment has one step here, and not one for each list.
+impl Drop for Deployment {
+    fn drop(self) {
+        let Self {
+            names: _names,
+            interfaces: _interfaces,
+            qualifiers: _qualifiers,
+            bindings: _bindings,
+            exceptions: _exceptions,
+            classes: _classes,
+            interceptors: _interceptors,
+            selected: _selected,
+            order: _order,
+            scripts: _scripts,
+        } = self;
+    }
 }
 
 /// An interface: a type with no members of its own.
