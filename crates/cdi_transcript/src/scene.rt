@@ -1,4 +1,4 @@
-//! Transcripts: runs of the program, each with all that it has to write.
+//! A run as it is written in a transcript, with all that it has to write.
 //!
 //! The first letter of a line and a space behind it say what the line is for; the rest of it is taken as it stands.
 //!
@@ -14,24 +14,23 @@
 //! | `!` | a line with which what it writes to standard error begins; without one that isn't looked at, unless the status is 0 |
 //! | `=` | its exit status, if that isn't 0 |
 //!
-//! The words are those of the program; or `limits`, a depth and a number of ticks, for a run under these limits; or those for which a
-//! layer alone says something of the deployment (`lines_of` in `layers.rt`).
+//! What the words of a run are is for the program to say that plays it.
 use std::alloc::{AllocError, Global};
 
 /// A run as it is written in a transcript.
 #[derive(Drop)]
-pub(crate) struct Scene {
+pub struct Scene {
     /// The line of its words, counted from 1.
-    pub(crate) line: usize,
-    pub(crate) words: String,
-    pub(crate) deployment: String,
+    pub line: usize,
+    pub words: String,
+    pub deployment: String,
     /// What takes the places that the deployment leaves open.
-    pub(crate) inserts: Vec<String>,
-    pub(crate) input: String,
-    pub(crate) output: String,
-    pub(crate) errors: String,
+    pub inserts: Vec<String>,
+    pub input: String,
+    pub output: String,
+    pub errors: String,
     /// The exit status as it is written.
-    pub(crate) status: String,
+    pub status: String,
 }
 
 impl Scene {
@@ -46,6 +45,19 @@ impl Scene {
             errors: String::new(alloc),
             status: String::from_str(alloc, "0")?,
         })
+    }
+
+    /// The deployment, with what takes the places that it leaves open.
+    pub fn whole_deployment(&self, alloc: Global) -> Result<String, AllocError> {
+        let mut text = String::new(alloc);
+        let mut inserts = self.inserts.iter();
+        for (index, piece) in self.deployment.as_str().split("%%").enumerate() {
+            if index > 0 {
+                text.push_str(inserts.next().map_or("", |insert| insert.as_str()))?;
+            }
+            text.push_str(piece)?;
+        }
+        Ok(text)
     }
 
     /// Fills the next open place with a text, so many times.
@@ -118,7 +130,7 @@ impl Reading {
 }
 
 /// The runs of a transcript, in their order.
-pub(crate) fn scenes_of(alloc: Global, text: &str) -> Result<Vec<Scene>, AllocError> {
+pub fn scenes_of(alloc: Global, text: &str) -> Result<Vec<Scene>, AllocError> {
     let mut reading = Reading {
         scenes: Vec::new(alloc),
         deployment: String::new(alloc),

@@ -1,0 +1,30 @@
+//! The problems for which a deployment has no bean list.
+use cdi_beanlist::{BeanList, BeanListError};
+use cdi_deployment::Deployment;
+use cdi_problems::{Problem, ProblemText};
+use std::alloc::{AllocError, Global};
+
+/// A line for each problem.
+fn problem_lines(
+    alloc: Global,
+    deployment: &Deployment,
+    problems: &[Problem],
+) -> Result<String, AllocError> {
+    let mut text = String::new(alloc);
+    for problem in problems {
+        let names = &deployment.names;
+        writeln!(text, "{}", ProblemText { names, problem })?;
+    }
+    Ok(text)
+}
+
+/// That a deployment has a bean list, or the problems for which it has none.
+pub(crate) fn early_lines(alloc: Global, deployment: &Deployment) -> Result<String, AllocError> {
+    match BeanList::build(alloc, deployment) {
+        Ok(_) => String::from_str(alloc, "ok\n"),
+        Err(BeanListError::Problems(problems)) => {
+            problem_lines(alloc, deployment, problems.as_slice())
+        }
+        Err(BeanListError::Memory) => Err(AllocError),
+    }
+}

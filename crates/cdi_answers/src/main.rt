@@ -1,0 +1,16 @@
+//! Plays transcripts of the layers below the container: what they say of a deployment, as it is written in files.
+#![tactic(auto)]
+
+mod asked;
+mod early;
+mod layers;
+mod reading;
+
+use crate::layers::Layers;
+use cdi_transcript::play_files;
+use std::io;
+use std::process::ExitCode;
+
+fn main(rt: HostRuntime) -> io::Result<ExitCode> {
+    play_files(&rt, &Layers)
+}
