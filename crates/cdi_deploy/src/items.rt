@@ -54,8 +54,8 @@ pub(crate) fn maybe_at<T: Item>(
         (λ item. item ≡ spec.maybe_at (T.form names.now) key.now (view value.now)) }
 {
     match value.get(key) {
-        None => Ok(None),
         Some(found) => Ok(Some(T::read(alloc, names, found)?)),
+        None => Ok(None),
     }
 }
 

@@ -39,8 +39,8 @@ pub(crate) fn text_at<'v>(value: &'v Json, key: &str) -> &'v str
     ensures { result.now ≡ spec.text_of (get key.now (view value.now)) }
 {
     match value.get(key) {
-        Some(Json::String(text)) => text.as_str(),
-        _ => "",
+        Some(found) => text_in(found),
+        None => "",
     }
 }
 
@@ -49,8 +49,8 @@ pub(crate) fn list_at<'v>(value: &'v Json, key: &str) -> &'v [Json]
     ensures { items_view result.now ≡ spec.list_of (get key.now (view value.now)) }
 {
     match value.get(key) {
-        Some(Json::Array(items)) => items.as_slice(),
-        _ => &[],
+        Some(found) => list_in(found),
+        None => &[],
     }
 }
 
