@@ -88,7 +88,7 @@ pub struct DisposerMethod {
 
 /// The beans of a deployment, and what belongs to them, in the order of the deployment; the interceptors in their own order
 /// (Jakarta Interceptors 2.1, *Interceptor Ordering*).
-#[derive(Debug, Drop)]
+#[derive(Debug)]
 pub struct BeanList {
     pub beans: Seq<Bean>,
     /// The classes whose beans are selected alternatives without a priority (Jakarta CDI 4.0, *Declaring selected alternatives*).
@@ -96,4 +96,17 @@ pub struct BeanList {
     pub interceptors: Seq<EnabledInterceptor>,
     pub observers: Seq<ObserverMethod>,
     pub disposers: Seq<DisposerMethod>,
+}
+
+/// In one call, so that the proof of each function that owns a bean list has one step here, and not one for each of its parts.
+impl Drop for BeanList {
+    fn drop(self) {
+        let Self {
+            beans: _beans,
+            selected: _selected,
+            interceptors: _interceptors,
+            observers: _observers,
+            disposers: _disposers,
+        } = self;
+    }
 }

@@ -18,11 +18,21 @@ use std::marker::Model;
 
 /// The bindings of all classes and the enabled interceptors, which give the chains of all beans (Jakarta Interceptors 2.1, *Interceptor
 /// Resolution*). Contracts see both.
-#[derive(Drop)]
 pub struct Chains {
     classes: Seq<ClassBindings>,
     places: HashMap<Name, usize>,
     interceptors: Seq<EnabledInterceptor>,
+}
+
+/// In one call, so that the proof of each function that owns chains has one step here, and not one for each of its parts.
+impl Drop for Chains {
+    fn drop(self) {
+        let Self {
+            classes: _classes,
+            places: _places,
+            interceptors: _interceptors,
+        } = self;
+    }
 }
 
 impl Model for Chains {

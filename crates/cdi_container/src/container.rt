@@ -24,13 +24,23 @@ use std::alloc::{AllocError, Global};
 use std::marker::Model;
 
 /// A container: a deployment with what drives its bodies, and what the commands so far have left.
-#[derive(Drop)]
 pub struct Container<D: Driver> {
     runtime: Runtime<D>,
     /// Why it takes no further command, if it doesn't.
     halted: Option<Cause>,
     /// What its start was answered.
     booted: Reply,
+}
+
+/// In one call, so that the proof of each function that owns a container has one step here, and not one for each of its parts.
+impl<D: Driver + Drop> Drop for Container<D> {
+    fn drop(self) {
+        let Self {
+            runtime: _runtime,
+            halted: _halted,
+            booted: _booted,
+        } = self;
+    }
 }
 
 impl<D: Driver> Model for Container<D> {

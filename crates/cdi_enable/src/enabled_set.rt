@@ -17,11 +17,21 @@ use std::marker::Model;
 ///
 /// For m managed beans among n, and s names in the list of the selected ones, it is made in time in proportion to n + m s + m³ / 64;
 /// asking whether a bean is enabled takes constant time.
-#[derive(Drop)]
 pub struct EnabledSet {
     classes: ClassPlaces,
     managed: EnabledManaged,
     beans: Seq<ListedBean>,
+}
+
+/// In one call, so that the proof of each function that owns such a set has one step here, and not one for each of its parts.
+impl Drop for EnabledSet {
+    fn drop(self) {
+        let Self {
+            classes: _classes,
+            managed: _managed,
+            beans: _beans,
+        } = self;
+    }
 }
 
 impl Model for EnabledSet {

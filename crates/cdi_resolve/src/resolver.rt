@@ -18,11 +18,21 @@ use std::marker::Model;
 /// Typesafe resolution among the enabled ones of a list of beans (Jakarta CDI 4.0, *Typesafe resolution*). Contracts see the
 /// beans and the flags that tell which of them are enabled. A question goes through the beans at most five times, and after the first
 /// time it looks at alternatives alone.
-#[derive(Drop)]
 pub struct Resolver {
     beans: Seq<Bean>,
     enabled: Seq<bool>,
     default: Qualifier,
+}
+
+/// In one call, so that the proof of each function that owns a resolver has one step here, and not one for each of its parts.
+impl Drop for Resolver {
+    fn drop(self) {
+        let Self {
+            beans: _beans,
+            enabled: _enabled,
+            default: _default,
+        } = self;
+    }
 }
 
 impl Model for Resolver {

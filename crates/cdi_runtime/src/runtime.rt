@@ -18,12 +18,23 @@ use std::alloc::{AllocError, Global};
 use std::marker::Model;
 
 /// The tables of a deployment that is served, what drives the bodies and picks, and the world of the container.
-#[derive(Drop)]
 pub struct Runtime<D: Driver> {
     alloc: Global,
     pub(crate) tables: RunTables,
     driver: D,
     pub(crate) world: World,
+}
+
+/// In one call, so that the proof of each function that owns a runtime has one step here, and not one for each of its parts.
+impl<D: Driver + Drop> Drop for Runtime<D> {
+    fn drop(self) {
+        let Self {
+            alloc: _alloc,
+            tables: _tables,
+            driver: _driver,
+            world: _world,
+        } = self;
+    }
 }
 
 impl<D: Driver> Model for Runtime<D> {

@@ -13,6 +13,7 @@ use cdi_enable::laws::law_forest;
 use cdi_enable::{EnabledSet, enabled};
 use cdi_resolve::Resolver;
 use std::alloc::{AllocError, Global};
+use std::mem;
 
 /// Which beans of a list are enabled, as a set and as a flag for each.
 #[derive(Drop)]
@@ -22,13 +23,25 @@ struct EnabledBeans {
 }
 
 /// What is made from a deployment and its bean list.
-#[derive(Drop)]
 pub struct BeanTables {
     pub declared: DeclaredTables,
     pub enabled: EnabledSet,
     pub resolver: Resolver,
     pub chains: Chains,
     pub disposers: Seq<DisposerMethod>,
+}
+
+/// In one call, so that the proof of each function that owns these tables has one step here, and not one for each of its parts.
+impl Drop for BeanTables {
+    fn drop(self) {
+        let Self {
+            declared: _declared,
+            enabled: _enabled,
+            resolver: _resolver,
+            chains: _chains,
+            disposers: _disposers,
+        } = self;
+    }
 }
 
 /// Which beans of a deployment's list are enabled.
@@ -51,20 +64,23 @@ fn enabled_beans(
 fn tables_with(
     alloc: Global,
     deployment: &Deployment,
-    list: BeanList,
+    mut list: BeanList,
     declared: DeclaredTables,
     enabled: EnabledBeans,
 ) -> Result<BeanTables, AllocError>
     ensures { IfOk result (λ tables. tables
         ≡ spec.bean_tables deployment.now list declared enabled.set enabled.flags) }
 {
-    let chains = Chains::build(alloc, deployment, &declared.bindings, list.interceptors)?;
+    let interceptors = mem::replace(&mut list.interceptors, Seq::empty(alloc));
+    let chains = Chains::build(alloc, deployment, &declared.bindings, interceptors)?;
+    let beans = mem::replace(&mut list.beans, Seq::empty(alloc));
+    let disposers = mem::replace(&mut list.disposers, Seq::empty(alloc));
     Ok(BeanTables {
         declared,
         enabled: enabled.set,
-        resolver: Resolver::new(alloc, list.beans, enabled.flags),
+        resolver: Resolver::new(alloc, beans, enabled.flags),
         chains,
-        disposers: list.disposers,
+        disposers,
     })
 }
 

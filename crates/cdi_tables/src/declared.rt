@@ -11,11 +11,21 @@ use cdi_types::{TypeTable, TypesError};
 use std::alloc::{AllocError, Global};
 
 /// The types of a deployment, the types of its qualifiers, with the built-in ones, and those of its interceptor bindings.
-#[derive(Drop)]
 pub struct DeclaredTables {
     pub types: TypeTable,
     pub qualifiers: QualifierTypes,
     pub bindings: QualifierTypes,
+}
+
+/// In one call, so that the proof of each function that owns these tables has one step here, and not one for each of its parts.
+impl Drop for DeclaredTables {
+    fn drop(self) {
+        let Self {
+            types: _types,
+            qualifiers: _qualifiers,
+            bindings: _bindings,
+        } = self;
+    }
 }
 
 /// The table of the types of a deployment whose names have no problem.

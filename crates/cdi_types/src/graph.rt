@@ -15,11 +15,21 @@ use std::marker::Model;
 /// The declared types, whatever they are: some may be their own supertypes, stand twice, or stand below unknown names. Contracts
 /// see the list of the declarations. Where a name is declared twice, what both declarations name stands above it; nothing stands
 /// above an unknown name.
-#[derive(Drop)]
 pub struct TypeGraph {
     types: Seq<TypeDeclaration>,
     index: TypeIndex,
     reachability: Reachability,
+}
+
+/// In one call, so that the proof of each function that owns a graph of types has one step here, and not one for each of its parts.
+impl Drop for TypeGraph {
+    fn drop(self) {
+        let Self {
+            types: _types,
+            index: _index,
+            reachability: _reachability,
+        } = self;
+    }
 }
 
 impl Model for TypeGraph {

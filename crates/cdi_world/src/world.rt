@@ -27,7 +27,6 @@ use std::marker::Model;
 /// What a container holds: its live instances by number, its contexts, and of the running command
 /// its invocations, the instances with a running body, what is borrowed, and its entries. No
 /// request and no session begins in it yet.
-#[derive(Drop)]
 pub struct World {
     store: Store,
     contexts: LoneApplication,
@@ -39,6 +38,24 @@ pub struct World {
     ticks: u32,
     depth: u32,
     alloc: Global,
+}
+
+/// In one call, so that the proof of each function that owns a world has one step here, and not one for each of its parts.
+impl Drop for World {
+    fn drop(self) {
+        let Self {
+            store: _store,
+            contexts: _contexts,
+            down: _down,
+            invocations: _invocations,
+            bodies: _bodies,
+            temporaries: _temporaries,
+            trace: _trace,
+            ticks: _ticks,
+            depth: _depth,
+            alloc: _alloc,
+        } = self;
+    }
 }
 
 impl Model for World {
