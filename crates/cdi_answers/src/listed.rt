@@ -16,7 +16,10 @@ pub(crate) struct Listed {
 pub(crate) const PROBLEMS: &str = "problems\n";
 
 /// The bean list of a deployment, if it has no problems, with the enabled ones of its beans.
-pub(crate) fn list_of(alloc: Global, deployment: &Deployment) -> Result<Option<Listed>, AllocError> {
+pub(crate) fn list_of(
+    alloc: Global,
+    deployment: &Deployment,
+) -> Result<Option<Listed>, AllocError> {
     law_forest();
     match BeanList::build(alloc, deployment) {
         Ok(list) => {
