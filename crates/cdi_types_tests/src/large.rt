@@ -15,9 +15,7 @@ fn expect_count(rt: &impl Abort, found: usize, wanted: usize, about: &str) {
 /// The name of a number.
 fn numbered(rt: &impl Abort, alloc: Global, names: &mut Names, number: usize) -> Name {
     let text = format!(in alloc; "T{number}").expect(rt, "memory");
-    if !is_name(text.as_str()) {
-        panic!(rt; "{text} is no name");
-    }
+    assert!(rt; is_name(text.as_str()), "the name of a number");
     names.intern(text.as_str()).expect(rt, "room for a name")
 }
 
