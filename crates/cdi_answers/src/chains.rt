@@ -3,8 +3,8 @@
 //! `Class post` and `Class pre`.
 use crate::listed::PROBLEMS;
 use crate::words::{push_declared, push_name, push_word};
-use cdi_base::{InterceptorMethod, Name, Names};
-use cdi_beanlist::{Bean, BeanKind, BeanList, BeanListError, BeanMember};
+use cdi_base::{InterceptorMethod, Name, Names, Seq};
+use cdi_beanlist::{Bean, BeanKind, BeanList, BeanListError, BeanMember, EnabledInterceptor};
 use cdi_chains::{Chain, Chains};
 use cdi_deployment::Deployment;
 use cdi_quals::QualifierTypes;
@@ -148,6 +148,15 @@ fn lines_of(
     Ok(text)
 }
 
+fn chains_of(
+    alloc: Global,
+    deployment: &Deployment,
+    interceptors: Seq<EnabledInterceptor>,
+) -> Result<Chains, AllocError> {
+    let bindings = QualifierTypes::bindings_of(alloc, deployment)?;
+    Chains::build(alloc, deployment, &bindings, interceptors)
+}
+
 fn list_lines(
     alloc: Global,
     deployment: &Deployment,
@@ -158,8 +167,7 @@ fn list_lines(
         interceptors,
         ..
     } = list;
-    let bindings = QualifierTypes::bindings_of(alloc, deployment)?;
-    let chains = Chains::build(alloc, deployment, &bindings, interceptors)?;
+    let chains = chains_of(alloc, deployment, interceptors)?;
     lines_of(alloc, &deployment.names, &chains, beans.as_slice())
 }
 

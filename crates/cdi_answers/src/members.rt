@@ -9,7 +9,7 @@ use crate::words::push_declared;
 use cdi_base::{Name, Names};
 use cdi_deployment::{Deployment, Field, InjectedField, Member};
 use cdi_members::{ClassIndex, ClassLine, ClassPart, member_name};
-use cdi_types::TypeTable;
+use cdi_types::{TypeTable, TypesError};
 use std::alloc::{AllocError, Global};
 
 fn push_fields(
@@ -112,6 +112,7 @@ pub(crate) fn members_answers(
 ) -> Result<String, AllocError> {
     match TypeTable::build(alloc, deployment) {
         Ok(types) => lines_of(alloc, deployment, &types, input),
+        Err(TypesError::Memory) => Err(AllocError),
         Err(_) => String::from_str(alloc, "no table of types\n"),
     }
 }

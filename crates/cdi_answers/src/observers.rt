@@ -4,12 +4,13 @@
 use crate::listed::{Listed, PROBLEMS, list_of};
 use crate::points::points_of;
 use crate::words::{push_marked, push_name, push_space, push_word};
-use cdi_base::Names;
+use cdi_base::{Names, Seq};
 use cdi_beanlist::{BeanList, ObserverMethod};
 use cdi_deployment::{Deployment, InjectedField};
+use cdi_enable::EnabledSet;
 use cdi_observers::{ObserverGroup, Observers};
 use cdi_quals::{QualSet, QualifierTypes};
-use cdi_types::TypeTable;
+use cdi_types::{TypeTable, TypesError};
 use std::alloc::{AllocError, Global};
 
 fn push_observer(
@@ -91,7 +92,20 @@ fn lines_of(
     Ok(text)
 }
 
-/// The observers of the enabled ones of some beans, unless the deployment has no table of types.
+/// The enabled ones of some observers, unless the deployment has no table of types.
+fn enabled_ones(
+    alloc: Global,
+    deployment: &Deployment,
+    observers: Seq<ObserverMethod>,
+    enabled: &EnabledSet,
+) -> Result<Option<Observers>, AllocError> {
+    match TypeTable::build(alloc, deployment) {
+        Ok(types) => Ok(Some(Observers::build(alloc, observers, enabled, types)?)),
+        Err(TypesError::Memory) => Err(AllocError),
+        Err(_) => Ok(None),
+    }
+}
+
 fn observers_of(
     alloc: Global,
     deployment: &Deployment,
@@ -99,10 +113,7 @@ fn observers_of(
 ) -> Result<Option<Observers>, AllocError> {
     let Listed { list, enabled } = listed;
     let BeanList { observers, .. } = list;
-    match TypeTable::build(alloc, deployment) {
-        Ok(types) => Ok(Some(Observers::build(alloc, observers, &enabled, types)?)),
-        Err(_) => Ok(None),
-    }
+    enabled_ones(alloc, deployment, observers, &enabled)
 }
 
 fn heard(
@@ -114,7 +125,7 @@ fn heard(
     lines_of(alloc, deployment, &types, observers)
 }
 
-/// The observers of a deployment without problems.
+/// The enabled observers of a deployment without problems.
 fn observers_in(alloc: Global, deployment: &Deployment) -> Result<Option<Observers>, AllocError> {
     match list_of(alloc, deployment)? {
         Some(listed) => observers_of(alloc, deployment, listed),
