@@ -9,6 +9,7 @@ use cdi_chains::{Chain, Chains};
 use cdi_deployment::Deployment;
 use cdi_quals::QualifierTypes;
 use std::alloc::{AllocError, Global};
+use std::mem;
 
 /// Adds the names of the interceptors at these places, and ends the line.
 fn push_places(
@@ -160,15 +161,11 @@ fn chains_of(
 fn list_lines(
     alloc: Global,
     deployment: &Deployment,
-    list: BeanList,
+    mut list: BeanList,
 ) -> Result<String, AllocError> {
-    let BeanList {
-        beans,
-        interceptors,
-        ..
-    } = list;
+    let interceptors = mem::replace(&mut list.interceptors, Seq::empty(alloc));
     let chains = chains_of(alloc, deployment, interceptors)?;
-    lines_of(alloc, &deployment.names, &chains, beans.as_slice())
+    lines_of(alloc, &deployment.names, &chains, list.beans.as_slice())
 }
 
 /// Which interceptors stand round what.

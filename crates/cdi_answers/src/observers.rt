@@ -5,13 +5,14 @@ use crate::listed::{Listed, PROBLEMS, list_of};
 use crate::points::points_of;
 use crate::words::{push_marked, push_name, push_space, push_word};
 use cdi_base::{Names, Seq};
-use cdi_beanlist::{BeanList, ObserverMethod};
+use cdi_beanlist::ObserverMethod;
 use cdi_deployment::{Deployment, InjectedField};
 use cdi_enable::EnabledSet;
 use cdi_observers::{ObserverGroup, Observers};
 use cdi_quals::{QualSet, QualifierTypes};
 use cdi_types::{TypeTable, TypesError};
 use std::alloc::{AllocError, Global};
+use std::mem;
 
 fn push_observer(
     names: &Names,
@@ -106,14 +107,13 @@ fn enabled_ones(
     }
 }
 
-fn observers_of(
+fn enabled_observers(
     alloc: Global,
     deployment: &Deployment,
-    listed: Listed,
+    mut listed: Listed,
 ) -> Result<Option<Observers>, AllocError> {
-    let Listed { list, enabled } = listed;
-    let BeanList { observers, .. } = list;
-    enabled_ones(alloc, deployment, observers, &enabled)
+    let observers = mem::replace(&mut listed.list.observers, Seq::empty(alloc));
+    enabled_ones(alloc, deployment, observers, &listed.enabled)
 }
 
 fn heard(
@@ -126,9 +126,9 @@ fn heard(
 }
 
 /// The enabled observers of a deployment without problems.
-fn observers_in(alloc: Global, deployment: &Deployment) -> Result<Option<Observers>, AllocError> {
+fn observers_of(alloc: Global, deployment: &Deployment) -> Result<Option<Observers>, AllocError> {
     match list_of(alloc, deployment)? {
-        Some(listed) => observers_of(alloc, deployment, listed),
+        Some(listed) => enabled_observers(alloc, deployment, listed),
         None => Ok(None),
     }
 }
@@ -139,7 +139,7 @@ pub(crate) fn observers_answers(
     deployment: &Deployment,
     _input: &str,
 ) -> Result<String, AllocError> {
-    match observers_in(alloc, deployment)? {
+    match observers_of(alloc, deployment)? {
         Some(observers) => heard(alloc, deployment, &observers),
         None => String::from_str(alloc, PROBLEMS),
     }

@@ -3,12 +3,12 @@
 use crate::listed::{Listed, PROBLEMS, list_of};
 use crate::points::points_of;
 use crate::words::{push_bean, push_word};
-use cdi_base::Names;
-use cdi_beanlist::BeanList;
+use cdi_base::{Names, Seq};
 use cdi_deployment::{Deployment, InjectedField};
 use cdi_quals::{QualSet, QualifierTypes};
 use cdi_resolve::{Resolution, Resolver};
 use std::alloc::{AllocError, Global};
+use std::mem;
 
 fn push_found(
     names: &Names,
@@ -59,10 +59,9 @@ fn line_of(
     Ok(text)
 }
 
-fn resolver_of(alloc: Global, listed: Listed) -> Result<Resolver, AllocError> {
-    let Listed { list, enabled } = listed;
-    let flags = enabled.flags(alloc)?;
-    let BeanList { beans, .. } = list;
+fn resolver_of(alloc: Global, mut listed: Listed) -> Result<Resolver, AllocError> {
+    let flags = listed.enabled.flags(alloc)?;
+    let beans = mem::replace(&mut listed.list.beans, Seq::empty(alloc));
     Ok(Resolver::new(alloc, beans, flags))
 }
 
