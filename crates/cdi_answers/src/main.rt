@@ -2,9 +2,19 @@
 #![tactic(auto)]
 
 mod asked;
+mod chains;
 mod early;
+mod enabled;
 mod layers;
+mod listed;
+mod members;
+mod observers;
+mod points;
+mod qualifiers;
 mod reading;
+mod resolve;
+mod types;
+mod words;
 
 use crate::layers::Layers;
 use cdi_transcript::play_files;
