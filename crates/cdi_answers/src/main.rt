@@ -2,9 +2,13 @@
 #![tactic(auto)]
 
 mod asked;
+mod beans;
 mod early;
 mod layers;
+mod plans;
 mod reading;
+mod tables;
+mod texts;
 
 use crate::layers::Layers;
 use cdi_transcript::play_files;
