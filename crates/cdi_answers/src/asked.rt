@@ -6,10 +6,12 @@
 //! | `beans` | nothing: the bean list, made without a look at problems | `beans` |
 //! | `early` | nothing: that the deployment has a bean list, or the problems for which it has none | `early` |
 //! | `list` | nothing: the bean list, or the problems for which there is none | `beans` |
+//! | `parts` | the parts of the deployment as they were read | `parts` |
 //! | `plans` | nothing: the plans of the beans | `plans` |
 //! | `tables` | what the tables answer that are asked at run time | `tables` |
 use crate::beans::{beans_answers, list_answers};
 use crate::early::early_lines;
+use crate::parts::parts_answers;
 use crate::plans::plans_answers;
 use crate::tables::tables_answers;
 use cdi_deployment::Deployment;
@@ -26,6 +28,7 @@ fn answers(
         ["beans"] => beans_answers(alloc, deployment, input),
         ["early"] => early_lines(alloc, deployment),
         ["list"] => list_answers(alloc, deployment, input),
+        ["parts"] => parts_answers(alloc, deployment, input),
         _ => String::from_str(alloc, "no layer has these words\n"),
     }
 }

@@ -1,6 +1,7 @@
 //! Asking the layer that the words of a run name.
 use crate::asked::all_answers;
 use crate::reading::{fault_line, hint_line, stage_of};
+use crate::scripts::{script_answers, scripts_answers};
 use cdi_deploy::read_at;
 use cdi_stage::WHOLE;
 use cdi_transcript::{Played, Player, Scene};
@@ -10,27 +11,43 @@ use std::alloc::{AllocError, Global};
 fn answers_of(
     alloc: Global,
     words: &[&str],
-    bytes: &[u8],
+    text: &str,
     input: &str,
 ) -> Result<String, AllocError> {
-    match read_at(alloc, WHOLE, bytes) {
+    match read_at(alloc, WHOLE, text.as_bytes()) {
         Ok(deployment) => all_answers(alloc, deployment, words, input),
         Err(_) => String::from_str(alloc, "not read\n"),
     }
 }
 
-/// What is said of the bytes of a deployment.
-fn output_of(
-    alloc: Global,
-    words: &[&str],
-    bytes: &[u8],
-    input: &str,
-) -> Result<String, AllocError> {
+/// What is said of the text of a deployment, or of a script in its place.
+fn output_of(alloc: Global, words: &[&str], text: &str, input: &str) -> Result<String, AllocError> {
     match words {
-        ["read", stage] => fault_line(alloc, stage_of(stage), bytes),
-        ["hint", stage] => hint_line(alloc, stage_of(stage), bytes),
-        _ => answers_of(alloc, words, bytes, input),
+        ["read", stage] => fault_line(alloc, stage_of(stage), bytes_of(alloc, text)?.as_slice()),
+        ["hint", stage] => hint_line(alloc, stage_of(stage), bytes_of(alloc, text)?.as_slice()),
+        ["script", what @ ..] => script_answers(alloc, what, text, input),
+        ["scripts", what @ ..] => scripts_answers(alloc, what, input),
+        _ => answers_of(alloc, words, text, input),
     }
+}
+
+/// Adds the byte that two hexadecimal digits tell, and the text behind them.
+fn add_byte(bytes: &mut Vec<u8>, piece: &str) -> Result<(), AllocError> {
+    let (code, rest) = piece.split_at_checked(2).unwrap_or((piece, ""));
+    bytes.push(u8::from_str_radix(code, 16).unwrap_or(0))?;
+    Ok(bytes.extend_from_slice(rest.as_bytes())?)
+}
+
+/// The bytes of a text, in which `#x` and two digits stand for a byte.
+fn bytes_of(alloc: Global, text: &str) -> Result<Vec<u8>, AllocError> {
+    let (front, others) = text.split_once("#x").unwrap_or((text, ""));
+    let mut bytes = Vec::from_slice(alloc, front.as_bytes())?;
+    if !others.is_empty() {
+        for piece in others.split("#x") {
+            add_byte(&mut bytes, piece)?;
+        }
+    }
+    Ok(bytes)
 }
 
 /// A text with a number in place of each `##` of it, counted from 0.
@@ -61,7 +78,7 @@ impl Player for Layers {
         let output = output_of(
             alloc,
             words.as_slice(),
-            deployment.as_bytes(),
+            deployment.as_str(),
             scene.input.as_str(),
         )?;
         Ok(Played {

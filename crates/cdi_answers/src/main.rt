@@ -1,12 +1,15 @@
 //! Plays transcripts of the layers below the container: what they say of a deployment, as it is written in files.
 #![tactic(auto)]
 
+mod acts;
 mod asked;
 mod beans;
 mod early;
 mod layers;
+mod parts;
 mod plans;
 mod reading;
+mod scripts;
 mod tables;
 mod texts;
 

@@ -15,7 +15,7 @@ ghost use Rattle.std.specs.Prelude.{◌≡◌, IfOk};
 ghost use Rattle.cdi_base.specs.declared.act.Act.TheVariants.{Give};
 ghost use Rattle.cdi_base.specs.declared.value.Value.TheVariants.{Null};
 
-use crate::texts::{add_name, add_place};
+use crate::texts::{add_answer, add_place};
 use cdi_base::{Act, Fields, MemberValue, Names, Seq, Use, Value};
 use cdi_beanlist::{BeanList, BeanListError};
 use cdi_bodies::{Bodies, Body, Shape, View};
@@ -92,10 +92,6 @@ fn are_points_known(tables: &RunTables) -> bool {
     points_of(tables.deployment())
         .iter()
         .all(|point| tables.is_known(point.ty, point.quals.as_slice()))
-}
-
-fn add_answer(text: &mut String, answer: bool) -> Result<(), AllocError> {
-    text.push_str(if answer { "yes" } else { "no" })
 }
 
 /// Adds names, each with a mark that tells whether it is that of a known type.
@@ -192,7 +188,7 @@ fn add_line(
 /// The answers to the questions of the input.
 fn answer_lines(alloc: Global, tables: &RunTables, input: &str) -> Result<String, AllocError> {
     let mut text = String::new(alloc);
-    for line in input.split_terminator('\n') {
+    for line in input.lines() {
         let question: Vec<&str> = line.split_whitespace().collect(alloc)?;
         add_line(&mut text, alloc, tables, question.as_slice())?;
         text.push('\n')?;

@@ -51,3 +51,8 @@ pub(crate) fn add_scope(text: &mut String, before: &str, scope: Scope) -> Result
     text.push_str(before)?;
     text.push_str(word)
 }
+
+/// Adds an answer to whether something is so.
+pub(crate) fn add_answer(text: &mut String, answer: bool) -> Result<(), AllocError> {
+    text.push_str(if answer { "yes" } else { "no" })
+}
