@@ -34,19 +34,11 @@ fn read(
     Script::read_at(alloc, stage, &json(alloc, text), names)
 }
 
-/// Adds the number of steps of what was read, or the fault.
-fn add_found(
-    text: &mut String,
-    found: &Result<Script, ReadError<ScriptFault>>,
-) -> Result<(), AllocError> {
-    match found {
-        Ok(script) => {
-            let count = script.len();
-            let before = if script.is_empty() { "empty, " } else { "" };
-            write!(text, "{before}{count}")
-        }
-        Err(fault) => write!(text, "{fault}"),
-    }
+/// Adds the number of steps of a script.
+fn add_count(text: &mut String, script: &Script) -> Result<(), AllocError> {
+    let count = script.len();
+    let before = if script.is_empty() { "empty, " } else { "" };
+    write!(text, "{before}{count}")
 }
 
 /// Adds what is read of a script, and whether the names of one that is refused are kept.
@@ -57,12 +49,17 @@ fn add_read(
     script: &str,
 ) -> Result<(), AllocError> {
     let mut names = Names::new(alloc);
-    let found = read(alloc, stage, &mut names, script);
-    add_found(text, &found)?;
-    if found.is_err() && !names.is_empty() {
-        text.push_str(", names are kept")?;
+    match read(alloc, stage, &mut names, script) {
+        Ok(script) => add_count(text, &script),
+        Err(fault) => {
+            let kept = if names.is_empty() {
+                ""
+            } else {
+                ", names are kept"
+            };
+            write!(text, "{fault}{kept}")
+        }
     }
-    Ok(())
 }
 
 fn threw(alloc: Global, exception: BuiltIn) -> Result<Answer, AllocError> {
@@ -85,7 +82,7 @@ fn answer_of(alloc: Global, word: &str) -> Result<Answer, AllocError> {
 fn tens(alloc: Global, count: u16) -> Result<Seq<Answer>, AllocError> {
     let mut answers = Seq::empty(alloc);
     for number in 0..count {
-        answers.push(Answer::Done(Value::Int(i64::from(number) * 10)))?;
+        answers.push(Answer::Done(Value::Int(i64::from(number).saturating_mul(10))))?;
     }
     Ok(answers)
 }
@@ -153,18 +150,19 @@ fn add_acts_of(
 }
 
 fn add_shape(text: &mut String, shape: &Shape) -> Result<(), AllocError> {
-    let (sets, calls, owns) = (shape.sets.len(), shape.calls.len(), shape.owns.len());
-    let (cells, fires) = (shape.cells.len(), shape.fires.len());
-    let (lookups, throws) = (shape.lookups.len(), shape.throws.len());
-    write!(
-        text,
-        "sets {sets}, calls {calls}, owns {owns}, cells {cells}"
-    )?;
-    write!(text, ", fires {fires}, lookups {lookups}, throws {throws}")?;
-    if shape.chain {
-        text.push_str(", chain")?;
+    let counts = [
+        ("sets", shape.sets.len()),
+        (", calls", shape.calls.len()),
+        (", owns", shape.owns.len()),
+        (", cells", shape.cells.len()),
+        (", fires", shape.fires.len()),
+        (", lookups", shape.lookups.len()),
+        (", throws", shape.throws.len()),
+    ];
+    for (word, count) in counts {
+        write!(text, "{word} {count}")?;
     }
-    Ok(())
+    text.push_str(if shape.chain { ", chain" } else { "" })
 }
 
 /// Adds what the shape of a script lists.
@@ -214,6 +212,14 @@ fn add_evaluated(
     add_value(text, "", &value)
 }
 
+/// The expression to which the first step of a script sets a field.
+fn first_set(script: &Script) -> Option<&Expression> {
+    match &script.steps().first()?.action {
+        Action::Set { value, .. } => Some(value),
+        _ => None,
+    }
+}
+
 /// Adds the value to which the first step of a script sets a field.
 fn add_set(
     text: &mut String,
@@ -221,12 +227,9 @@ fn add_set(
     names: &Names,
     script: &Script,
 ) -> Result<(), AllocError> {
-    match script.steps().first() {
-        Some(step) => match &step.action {
-            Action::Set { value, .. } => add_evaluated(text, alloc, names, value),
-            _ => text.push_str("nothing is set"),
-        },
-        None => text.push_str("no step"),
+    match first_set(script) {
+        Some(expression) => add_evaluated(text, alloc, names, expression),
+        None => text.push_str("nothing is set"),
     }
 }
 
