@@ -1,18 +1,18 @@
 //! The problems for which a deployment has no bean list.
+use cdi_base::Names;
 use cdi_beanlist::{BeanList, BeanListError};
 use cdi_deployment::Deployment;
 use cdi_problems::{Problem, ProblemText};
 use std::alloc::{AllocError, Global};
 
 /// A line for each problem.
-fn problem_lines(
+pub(crate) fn problem_lines(
     alloc: Global,
-    deployment: &Deployment,
+    names: &Names,
     problems: &[Problem],
 ) -> Result<String, AllocError> {
     let mut text = String::new(alloc);
     for problem in problems {
-        let names = &deployment.names;
         writeln!(text, "{}", ProblemText { names, problem })?;
     }
     Ok(text)
@@ -23,7 +23,7 @@ pub(crate) fn early_lines(alloc: Global, deployment: &Deployment) -> Result<Stri
     match BeanList::build(alloc, deployment) {
         Ok(_) => String::from_str(alloc, "ok\n"),
         Err(BeanListError::Problems(problems)) => {
-            problem_lines(alloc, deployment, problems.as_slice())
+            problem_lines(alloc, &deployment.names, problems.as_slice())
         }
         Err(BeanListError::Memory) => Err(AllocError),
     }

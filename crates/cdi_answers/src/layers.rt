@@ -1,6 +1,7 @@
 //! Asking the layer that the words of a run name.
-use crate::asked::answers;
+use crate::asked::all_answers;
 use crate::reading::{fault_line, hint_line, stage_of};
+use crate::scripts::{script_answers, scripts_answers};
 use cdi_deploy::read_at;
 use cdi_stage::WHOLE;
 use cdi_transcript::{Played, Player, Scene};
@@ -10,40 +11,74 @@ use std::alloc::{AllocError, Global};
 fn answers_of(
     alloc: Global,
     words: &[&str],
-    bytes: &[u8],
+    text: &str,
     input: &str,
 ) -> Result<String, AllocError> {
-    match read_at(alloc, WHOLE, bytes) {
-        Ok(deployment) => answers(alloc, &deployment, words, input),
+    match read_at(alloc, WHOLE, text.as_bytes()) {
+        Ok(deployment) => all_answers(alloc, deployment, words, input),
         Err(_) => String::from_str(alloc, "not read\n"),
     }
 }
 
-/// What is said of the bytes of a deployment.
-fn output_of(
-    alloc: Global,
-    words: &[&str],
-    bytes: &[u8],
-    input: &str,
-) -> Result<String, AllocError> {
+/// What is said of the text of a deployment, or of a script in its place.
+fn output_of(alloc: Global, words: &[&str], text: &str, input: &str) -> Result<String, AllocError> {
     match words {
-        ["read", stage] => fault_line(alloc, stage_of(stage), bytes),
-        ["hint", stage] => hint_line(alloc, stage_of(stage), bytes),
-        _ => answers_of(alloc, words, bytes, input),
+        ["read", stage] => fault_line(alloc, stage_of(stage), bytes_of(alloc, text)?.as_slice()),
+        ["hint", stage] => hint_line(alloc, stage_of(stage), bytes_of(alloc, text)?.as_slice()),
+        ["script", what @ ..] => script_answers(alloc, what, text, input),
+        ["scripts", what @ ..] => scripts_answers(alloc, what, input),
+        _ => answers_of(alloc, words, text, input),
     }
 }
 
-/// The layers below the container.
+/// Adds the byte that two hexadecimal digits tell, and the text behind them.
+fn add_byte(bytes: &mut Vec<u8>, piece: &str) -> Result<(), AllocError> {
+    let (code, rest) = piece.split_at_checked(2).unwrap_or((piece, ""));
+    bytes.push(u8::from_str_radix(code, 16).unwrap_or(0))?;
+    Ok(bytes.extend_from_slice(rest.as_bytes())?)
+}
+
+/// The bytes of a text, in which `#x` and two digits stand for a byte.
+fn bytes_of(alloc: Global, text: &str) -> Result<Vec<u8>, AllocError> {
+    let (front, others) = text.split_once("#x").unwrap_or((text, ""));
+    let mut bytes = Vec::from_slice(alloc, front.as_bytes())?;
+    if !others.is_empty() {
+        for piece in others.split("#x") {
+            add_byte(&mut bytes, piece)?;
+        }
+    }
+    Ok(bytes)
+}
+
+/// A text with a number in place of each `##` of it, counted from 0.
+fn numbered(alloc: Global, text: &str) -> Result<String, AllocError> {
+    let mut numbered = String::new(alloc);
+    for (index, piece) in text.split("##").enumerate() {
+        if let Some(number) = index.checked_sub(1) {
+            write!(numbered, "{number}")?;
+        }
+        numbered.push_str(piece)?;
+    }
+    Ok(numbered)
+}
+
+/// The deployment of a run as it is read.
+fn written(alloc: Global, scene: &Scene) -> Result<String, AllocError> {
+    let text = scene.whole_deployment(alloc)?;
+    numbered(alloc, text.as_str())
+}
+
+/// The layers below the container. Of a deployment they read, each `##` stands for a number, counted from 0.
 pub(crate) struct Layers;
 
 impl Player for Layers {
     fn play(&self, alloc: Global, scene: &Scene) -> Result<Played, AllocError> {
-        let deployment = scene.whole_deployment(alloc)?;
+        let deployment = written(alloc, scene)?;
         let words: Vec<&str> = scene.words.as_str().split_whitespace().collect(alloc)?;
         let output = output_of(
             alloc,
             words.as_slice(),
-            deployment.as_bytes(),
+            deployment.as_str(),
             scene.input.as_str(),
         )?;
         Ok(Played {

@@ -1,7 +1,9 @@
 //! Plays transcripts of the layers below the container: what they say of a deployment, as it is written in files.
 #![tactic(auto)]
 
+mod acts;
 mod asked;
+mod beans;
 mod chains;
 mod early;
 mod enabled;
@@ -9,10 +11,15 @@ mod layers;
 mod listed;
 mod members;
 mod observers;
+mod parts;
+mod plans;
 mod points;
 mod qualifiers;
 mod reading;
 mod resolve;
+mod scripts;
+mod tables;
+mod texts;
 mod types;
 mod words;
 

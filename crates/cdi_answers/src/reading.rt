@@ -9,6 +9,12 @@ pub(crate) fn stage_of(word: &str) -> Stage {
     match word {
         "counter" => Stage::Counter,
         "injection" => Stage::Injection,
+        "requests" => Stage::Requests,
+        "lifecycle" => Stage::Lifecycle,
+        "producers" => Stage::Producers,
+        "interceptors" => Stage::Interceptors,
+        "events" => Stage::Events,
+        "lookups" => Stage::Lookups,
         "whole" => WHOLE,
         _ => SERVED,
     }

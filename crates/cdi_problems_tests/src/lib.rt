@@ -1,10 +1,6 @@
-//! Tests of the problems of names and of beans in large deployments.
+//! A test of the problems of names in a deployment that is larger than its bytes may be.
 #![tactic(auto)]
 
-#[cfg(test)]
-mod bean_problems;
-#[cfg(test)]
-mod counts;
 #[cfg(test)]
 mod names;
 #[cfg(test)]

@@ -1,15 +1,5 @@
-//! Tests of the readers: deployments and scripts.
+//! A test of bodies that run scripts.
 #![tactic(auto)]
 
 #[cfg(test)]
-mod checks;
-#[cfg(test)]
-mod deploy;
-#[cfg(test)]
-mod hints;
-#[cfg(test)]
-mod large;
-#[cfg(test)]
 mod script;
-#[cfg(test)]
-mod steps;
