@@ -6,6 +6,7 @@ mod asked;
 mod beans;
 mod early;
 mod layers;
+mod marks;
 mod parts;
 mod plans;
 mod reading;
