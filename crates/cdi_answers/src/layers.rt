@@ -1,5 +1,6 @@
 //! Asking the layer that the words of a run name.
 use crate::asked::all_answers;
+use crate::marks::{bytes_of, numbered};
 use crate::reading::{fault_line, hint_line, stage_of};
 use crate::scripts::{script_answers, scripts_answers};
 use cdi_deploy::read_at;
@@ -29,37 +30,6 @@ fn output_of(alloc: Global, words: &[&str], text: &str, input: &str) -> Result<S
         ["scripts", what @ ..] => scripts_answers(alloc, what, input),
         _ => answers_of(alloc, words, text, input),
     }
-}
-
-/// Adds the byte that two hexadecimal digits tell, and the text behind them.
-fn add_byte(bytes: &mut Vec<u8>, piece: &str) -> Result<(), AllocError> {
-    let (code, rest) = piece.split_at_checked(2).unwrap_or((piece, ""));
-    bytes.push(u8::from_str_radix(code, 16).unwrap_or(0))?;
-    Ok(bytes.extend_from_slice(rest.as_bytes())?)
-}
-
-/// The bytes of a text, in which `#x` and two digits stand for a byte.
-fn bytes_of(alloc: Global, text: &str) -> Result<Vec<u8>, AllocError> {
-    let (front, others) = text.split_once("#x").unwrap_or((text, ""));
-    let mut bytes = Vec::from_slice(alloc, front.as_bytes())?;
-    if !others.is_empty() {
-        for piece in others.split("#x") {
-            add_byte(&mut bytes, piece)?;
-        }
-    }
-    Ok(bytes)
-}
-
-/// A text with a number in place of each `##` of it, counted from 0.
-fn numbered(alloc: Global, text: &str) -> Result<String, AllocError> {
-    let mut numbered = String::new(alloc);
-    for (index, piece) in text.split("##").enumerate() {
-        if let Some(number) = index.checked_sub(1) {
-            write!(numbered, "{number}")?;
-        }
-        numbered.push_str(piece)?;
-    }
-    Ok(numbered)
 }
 
 /// The deployment of a run as it is read.

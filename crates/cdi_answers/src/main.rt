@@ -9,6 +9,7 @@ mod early;
 mod enabled;
 mod layers;
 mod listed;
+mod marks;
 mod members;
 mod observers;
 mod parts;
