@@ -4,7 +4,9 @@ ghost use Rattle.cdi_base.specs.declared.act.Act.TheVariants.{Give};
 ghost use Rattle.cdi_base.specs.declared.value.Value.TheVariants.{Null};
 
 use crate::checks::expect_same;
-use cdi_base::{Act, BuiltIn, Entry, Fields, InterceptorMethod, Limits, Name, Place, Scope, Seq, Value};
+use cdi_base::{
+    Act, BuiltIn, Entry, Fields, InterceptorMethod, Limits, Name, Place, Scope, Seq, Value,
+};
 use cdi_bodies::{Bodies, Body, BodyId, Shape, View};
 use cdi_contexts::Held;
 use cdi_store::{Component, Context, Instance, Owner};
@@ -186,7 +188,10 @@ fn push_running(text: &mut String, world: &World) -> Result<(), AllocError> {
     let levels = world.levels();
     let latest = world.latest_temporary();
     let (entries, has_room) = (world.entries(), world.has_room());
-    write!(text, "{innermost:?} {levels} {latest:?} {entries} {has_room}")
+    write!(
+        text,
+        "{innermost:?} {levels} {latest:?} {entries} {has_room}"
+    )
 }
 
 // ---- tables of changes
