@@ -1,13 +1,27 @@
-//! Plays transcripts of the program `cdi`: its runs as they are written in files, each with what it has to write.
+//! Plays transcripts of the program `cdi` and of what stands below it: runs as they are written in files, each with what it has to
+//! write. The words of a run are told in the module `words`.
 #![tactic(auto)]
 
+mod asked;
+mod counting;
+mod entries;
+mod jobs;
+mod lines;
+mod many_beans;
+mod numbered;
 mod program;
+mod runtimes;
+mod streams;
+mod told;
+mod words;
 
-use crate::program::Program;
+use crate::words::Program;
+use cdi_program::HostFiles;
 use cdi_transcript::play_files;
 use std::io;
 use std::process::ExitCode;
 
 fn main(rt: HostRuntime) -> io::Result<ExitCode> {
-    play_files(&rt, &Program)
+    let files = HostFiles::new(&rt);
+    play_files(&rt, &Program { files })
 }

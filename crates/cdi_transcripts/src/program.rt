@@ -1,14 +1,13 @@
-//! Running the program as a transcript says.
-//!
-//! The words of a run are those of the program; or `limits`, a depth and a number of ticks, for a run under these limits.
+//! Running the program over one file.
+use crate::told::limits_of;
 use cdi_base::Limits;
 use cdi_lines::{Input, Output};
-use cdi_program::{Files, run_program};
+use cdi_program::{Files, WordsError, run_program};
 use cdi_shell::drive::drive;
-use cdi_transcript::{Played, Player, Scene};
-use std::alloc::{AllocError, Global};
+use cdi_transcript::Played;
+use std::alloc::Global;
 use std::io;
-use std::io::ErrorKind;
+use std::io::{ErrorKind, Read, Write};
 
 /// The file of a run's deployment.
 const FILE: &str = "deployment.json";
@@ -36,19 +35,33 @@ impl Files for OneFile<'_> {
 }
 
 /// The limits that the words of a run give in place of words of the program.
-fn limits_of(words: &[&str]) -> Option<Limits> {
+fn limits_in(words: &[&str]) -> Option<Limits> {
     match words {
-        ["limits", depth, ticks] => Limits::new(depth.parse().ok()?, ticks.parse().ok()?),
+        ["limits", limits @ ..] => limits_of(limits),
         _ => None,
     }
 }
 
+/// How a run ended, with its writer and what was told on standard error.
+#[derive(Drop)]
+pub(crate) struct Ran<W> {
+    pub(crate) status: u8,
+    pub(crate) writer: W,
+    pub(crate) errors: Vec<u8>,
+}
+
 /// Runs the program, or what stands below it under other limits.
-fn run(alloc: Global, words: &[&str], bytes: &[u8], input: &[u8]) -> Played {
-    let mut input = Input::new(input);
-    let mut output = Output::new(Vec::new(alloc));
+pub(crate) fn run<R: Read + Drop, W: Write>(
+    alloc: Global,
+    words: &[&str],
+    bytes: &[u8],
+    reader: R,
+    writer: W,
+) -> Ran<W> {
+    let mut input = Input::new(reader);
+    let mut output = Output::new(writer);
     let mut errors = Output::new(Vec::new(alloc));
-    let status = match limits_of(words) {
+    let status = match limits_in(words) {
         Some(limits) => drive(alloc, bytes, limits, &mut input, &mut output).status(),
         None => run_program(
             alloc,
@@ -59,25 +72,30 @@ fn run(alloc: Global, words: &[&str], bytes: &[u8], input: &[u8]) -> Played {
             &mut errors,
         ),
     };
-    Played {
+    Ran {
         status,
-        output: output.into_inner(),
+        writer: output.into_inner(),
         errors: errors.into_inner(),
     }
 }
 
-/// The program `cdi`.
-pub(crate) struct Program;
-
-impl Player for Program {
-    fn play(&self, alloc: Global, scene: &Scene) -> Result<Played, AllocError> {
-        let deployment = scene.whole_deployment(alloc)?;
-        let words: Vec<&str> = scene.words.as_str().split_whitespace().collect(alloc)?;
-        Ok(run(
-            alloc,
-            words.as_slice(),
-            deployment.as_bytes(),
-            scene.input.as_bytes(),
-        ))
+/// Runs the program where its words are not known.
+pub(crate) fn run_without_words(alloc: Global, error: WordsError) -> Played {
+    let mut input = Input::new(b"".as_slice());
+    let mut output = Output::new(Vec::new(alloc));
+    let mut errors = Output::new(Vec::new(alloc));
+    let words: Result<&[&str], WordsError> = Err(error);
+    let status = run_program(
+        alloc,
+        words,
+        &OneFile { bytes: b"" },
+        &mut input,
+        &mut output,
+        &mut errors,
+    );
+    Played {
+        status,
+        output: output.into_inner(),
+        errors: errors.into_inner(),
     }
 }

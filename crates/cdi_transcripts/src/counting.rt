@@ -1,15 +1,12 @@
-//! The body of the tests, and a driver that counts how often it is asked.
-ghost use Rattle.std.specs.Prelude.{◌≡◌, length, IfOk};
+//! Bodies that no script can be: one that calls itself until a number is spent, and those that give null.
+ghost use Rattle.std.specs.Prelude.{◌≡◌, IfOk};
 ghost use Rattle.cdi_base.specs.declared.act.Act.TheVariants.{Give};
 ghost use Rattle.cdi_base.specs.declared.value.Value.TheVariants.{Null};
-ghost use Rattle.cdi_container_tests.specs.Plain.{IsPlain, plain_shape};
+ghost use Rattle.cdi_transcripts.specs.Plain.{IsPlain, plain_shape};
 
 use cdi_base::{Act, Fields, Name, Names, Seq, Value};
-use cdi_bodies::{Bodies, Body, BodyId, OwnCall, Shape, View};
-use cdi_machine::{Driver, Failure};
+use cdi_bodies::{Bodies, Body, OwnCall, Shape, View};
 use std::alloc::{AllocError, Global};
-use std::cell::Cell;
-use std::test::Fail;
 
 /// A body that counts a field up so many times, then calls its own method with one less than it was called with, unless
 /// that was 0, and then gives the field.
@@ -29,17 +26,8 @@ fn next_of(value: &Value) -> i64 {
     }
 }
 
-/// The values of a call with a number.
-pub(crate) fn level_args(alloc: Global, level: i64) -> Result<Seq<Value>, AllocError>
-    ensures { IfOk result (λ args. length args ≡ 1) }
-{
-    let mut args = Seq::empty(alloc);
-    args.push(Value::Int(level))?;
-    Ok(args)
-}
-
 impl Counting {
-    /// The body that counts the field n and calls the method up.
+    /// The body that counts the field `n` and calls the method `up`.
     pub(crate) fn new(alloc: Global, names: &Names, sets: usize) -> Counting {
         Counting {
             alloc,
@@ -61,7 +49,8 @@ impl Counting {
     fn call_below(&self, level: i64) -> Result<Act, AllocError>
         ensures { IfOk result (IsPlain self.now.field self.now.method) }
     {
-        let args = level_args(self.alloc, level)?;
+        let mut args = Seq::empty(self.alloc);
+        args.push(Value::Int(level))?;
         Ok(Act::Own {
             method: self.method,
             args,
@@ -105,7 +94,7 @@ impl Counting {
 
     /// Registers it under the name of its method.
     #[tactic(auto, using(crate::proofs::Shapes::plain_in_shape))]
-    pub(crate) fn register(self, bodies: &mut Bodies) -> Result<BodyId, Fail> {
+    pub(crate) fn register(self, bodies: &mut Bodies) -> Result<(), AllocError> {
         let shape = self.shape()?;
         let body: Body = Box::new(
             self.alloc,
@@ -113,7 +102,10 @@ impl Counting {
                 ensures { IfOk result (IsPlain self.field self.method) }
             { self.next(fields, view) },
         )?;
-        Ok(bodies.add(self.method, shape, body)?)
+        match bodies.add(self.method, shape, body) {
+            Ok(_) => Ok(()),
+            Err(_) => Err(AllocError),
+        }
     }
 }
 
@@ -123,7 +115,7 @@ pub(crate) fn add_null(
     bodies: &mut Bodies,
     name: Name,
     chain: bool,
-) -> Result<BodyId, Fail> {
+) -> Result<(), AllocError> {
     let mut shape = Shape::new(alloc);
     shape.chain = chain;
     let body: Body = Box::new(
@@ -132,56 +124,8 @@ pub(crate) fn add_null(
             ensures { IfOk result (λ act. act ≡ Give Null) }
         { Ok(Act::Give { value: Value::Null }) },
     )?;
-    Ok(bodies.add(name, shape, body)?)
-}
-
-/// How often a driver was asked for an act, and how many entries it was told the last time.
-#[derive(Drop)]
-pub(crate) struct Asked {
-    pub(crate) times: Cell<u32>,
-    pub(crate) entries: Cell<u64>,
-}
-
-impl Asked {
-    pub(crate) fn new() -> Asked {
-        Asked {
-            times: Cell::new(0),
-            entries: Cell::new(0),
-        }
-    }
-
-    fn note(&self, entries: u64) {
-        self.times.set(self.times.get().saturating_add(1));
-        self.entries.set(entries);
-    }
-}
-
-/// A driver, and how often it is asked.
-#[derive(Drop)]
-pub(crate) struct Counted<'a, D: Driver> {
-    pub(crate) driver: D,
-    pub(crate) asked: &'a Asked,
-}
-
-impl<D: Driver> Driver for Counted<'_, D> {
-    ghost knows = { λ c. D.knows c.driver };
-
-    ghost legal = { λ c. D.legal c.driver };
-
-    ghost may_end = { λ c. D.may_end c.driver };
-
-    fn act(
-        &mut self,
-        body: BodyId,
-        entries: u64,
-        fields: &Fields,
-        view: &View,
-    ) -> Result<Act, Failure> {
-        self.asked.note(entries);
-        self.driver.act(body, entries, fields, view)
-    }
-
-    fn pick(&mut self, count: u32, entries: u64) -> Result<u32, Failure> {
-        self.driver.pick(count, entries)
+    match bodies.add(name, shape, body) {
+        Ok(_) => Ok(()),
+        Err(_) => Err(AllocError),
     }
 }

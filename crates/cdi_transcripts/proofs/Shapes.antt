@@ -1,10 +1,10 @@
--- The acts of the body of the tests lie in its shape.
+-- The acts of a body that counts lie in its shape.
 use Rattle.std.proofs.Common.{◌≡◌, ℕ, true, refl, rules}
 use Rattle.cdi_base.specs.declared.act.Act.{Act}
 use Rattle.cdi_base.specs.declared.act.Act.TheVariants as acts
 use Rattle.cdi_bodies.specs.declared.view.View.{View}
 use Rattle.cdi_bodies.specs.Shape.{in_shape}
-use Rattle.cdi_container_tests.specs.Plain.{IsPlain, plain_shape}
+use Rattle.cdi_transcripts.specs.Plain.{IsPlain, plain_shape}
 
 pub plain_in_shape : (field method : ℕ) (view : View) (act : Act) → IsPlain field method act
     → in_shape (plain_shape field method) view act ≡ true

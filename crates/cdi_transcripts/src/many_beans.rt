@@ -1,16 +1,18 @@
-//! Deployments of many beans.
+//! Deployments of more beans than a text may have classes.
 use cdi_base::{Name, Names, Scope, Seq, is_name};
 use cdi_deployment::{Bean, Class, Deployment};
-use std::alloc::Global;
-use std::test::Fail;
+use std::alloc::{AllocError, Global};
 
 /// The name of the class with this number.
-fn class_name(alloc: Global, names: &mut Names, number: u32) -> Result<Name, Fail> {
+fn class_name(alloc: Global, names: &mut Names, number: u32) -> Result<Name, AllocError> {
     let text = format!(in alloc; "K{number}")?;
     if !is_name(text.as_str()) {
-        return Err("K and a number are a name")?;
+        return Err(AllocError);
     }
-    Ok(names.intern(text.as_str())?)
+    match names.intern(text.as_str()) {
+        Ok(name) => Ok(name),
+        Err(_) => Err(AllocError),
+    }
 }
 
 /// A class that is a bean and has nothing else.
@@ -38,7 +40,7 @@ fn bean_class(alloc: Global, name: Name) -> Class {
 }
 
 /// A deployment of so many beans.
-pub(crate) fn beans(alloc: Global, count: u32) -> Result<Deployment, Fail> {
+pub(crate) fn beans(alloc: Global, count: u32) -> Result<Deployment, AllocError> {
     let mut names = Names::with_built_in(alloc)?;
     let mut classes = Seq::empty(alloc);
     for number in 0..count {

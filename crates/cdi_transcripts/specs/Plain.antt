@@ -1,4 +1,4 @@
--- What the body of the tests may give.
+-- What a body that counts may give.
 use Rattle.std.specs.Prelude.{ℕ, ◌≡◌, [], ◌∷◌, length}
 use Rattle.cdi_base.specs.declared.act.Act.{Act}
 use Rattle.cdi_base.specs.declared.act.Act.TheVariants as acts

@@ -1,7 +1,13 @@
 //! Tests of the world: what is seen of it after each change, on few and on many instances.
-use crate::checks::{expect_same, expect_same_at};
-use cdi_base::{BuiltIn, Entry, Fields, InterceptorMethod, Limits, Name, Place, Scope, Seq, Value};
-use cdi_bodies::{Bodies, BodyId};
+ghost use Rattle.std.specs.Prelude.{◌≡◌, IfOk};
+ghost use Rattle.cdi_base.specs.declared.act.Act.TheVariants.{Give};
+ghost use Rattle.cdi_base.specs.declared.value.Value.TheVariants.{Null};
+
+use crate::checks::expect_same;
+use cdi_base::{
+    Act, BuiltIn, Entry, Fields, InterceptorMethod, Limits, Name, Place, Scope, Seq, Value,
+};
+use cdi_bodies::{Bodies, Body, BodyId, Shape, View};
 use cdi_contexts::Held;
 use cdi_store::{Component, Context, Instance, Owner};
 use cdi_world::{Code, Invocation, World};
@@ -12,7 +18,7 @@ use std::test::Fail;
 // ---- changes
 
 /// Whose a new instance is.
-#[derive(Clone, Copy, Debug)]
+#[derive(Clone, Copy)]
 enum Owned {
     Application,
     Instance(u32),
@@ -20,7 +26,7 @@ enum Owned {
 }
 
 /// A change of a world. Instances are told by their numbers.
-#[derive(Clone, Copy, Debug)]
+#[derive(Clone, Copy)]
 enum Change {
     /// Makes an instance of a bean, with the field `value` = 0.
     Make(u32, Owned),
@@ -137,35 +143,37 @@ fn number_in(value: &Value) -> i64 {
 }
 
 /// An instance: its number, its phase, the number in its field, and its dependents.
-fn instance_text(alloc: Global, number: u32, instance: &Instance) -> Result<String, AllocError> {
+fn push_instance(text: &mut String, number: u32, instance: &Instance) -> Result<(), AllocError> {
     let phase = instance.phase;
     let value = number_in(instance.fields.get(field()));
     let dependents = instance.dependents.as_slice();
-    format!(in alloc; "{number} {phase:?} {value} {dependents:?}, ")
+    write!(text, "{number} {phase:?} {value} {dependents:?}, ")
 }
 
 /// The live instances.
-fn instances_text(alloc: Global, world: &World) -> Result<String, AllocError> {
-    let mut text = String::new(alloc);
-    let numbers = world.numbers(alloc)?;
-    for number in &numbers {
+fn push_instances(text: &mut String, world: &World, numbers: &[u32]) -> Result<(), AllocError> {
+    for number in numbers {
         if let Some(instance) = world.instance(*number) {
-            text.push_str(instance_text(alloc, *number, instance)?.as_str())?;
+            push_instance(text, *number, instance)?;
         }
     }
-    Ok(text)
+    Ok(())
 }
 
-/// The live instances, the next number, and of the application its status, what it has for the bean 3, and its greatest
-/// number.
-fn held_text(alloc: Global, world: &World) -> Result<String, AllocError> {
-    let instances = instances_text(alloc, world)?;
+/// The next number, and of the application its status, what it has for the bean 3, and its greatest number.
+fn push_application(text: &mut String, world: &World) -> Result<(), AllocError> {
     let next = world.next_number();
     let status = world.status(Scope::ApplicationScoped);
     let held = world.held(Scope::ApplicationScoped, 3);
     let last = world.last_in_application();
-    let instances = instances.as_str();
-    format!(in alloc; "{instances}next {next:?}, {status:?} {held:?} {last:?}")
+    write!(text, "next {next:?}, {status:?} {held:?} {last:?}")
+}
+
+/// The live instances, and what the application has.
+fn push_held(alloc: Global, text: &mut String, world: &World) -> Result<(), AllocError> {
+    let numbers = world.numbers(alloc)?;
+    push_instances(text, world, &numbers)?;
+    push_application(text, world)
 }
 
 fn innermost(world: &World) -> Option<(u32, bool)> {
@@ -175,12 +183,15 @@ fn innermost(world: &World) -> Option<(u32, bool)> {
 
 /// What is under way: the target of the innermost invocation, and whether its chain's end has been reached; how many bodies
 /// run; the latest of the innermost temporaries; the entries, and whether there may be one more.
-fn running_text(alloc: Global, world: &World) -> Result<String, AllocError> {
+fn push_running(text: &mut String, world: &World) -> Result<(), AllocError> {
     let innermost = innermost(world);
     let levels = world.levels();
     let latest = world.latest_temporary();
     let (entries, has_room) = (world.entries(), world.has_room());
-    format!(in alloc; "{innermost:?} {levels} {latest:?} {entries} {has_room}")
+    write!(
+        text,
+        "{innermost:?} {levels} {latest:?} {entries} {has_room}"
+    )
 }
 
 // ---- tables of changes
@@ -190,15 +201,20 @@ type Row = (Change, &'static str);
 
 /// What is looked at.
 #[derive(Clone, Copy)]
-enum View {
+enum Look {
     Held,
     Running,
 }
 
-fn text_of(alloc: Global, world: &World, view: View) -> Result<String, AllocError> {
-    match view {
-        View::Held => held_text(alloc, world),
-        View::Running => running_text(alloc, world),
+fn push_seen(
+    alloc: Global,
+    text: &mut String,
+    world: &World,
+    look: Look,
+) -> Result<(), AllocError> {
+    match look {
+        Look::Held => push_held(alloc, text, world),
+        Look::Running => push_running(text, world),
     }
 }
 
@@ -207,10 +223,11 @@ fn check_seen(
     rt: &impl Abort,
     alloc: Global,
     world: &World,
-    view: View,
+    look: Look,
     wanted: &str,
 ) -> Result<(), AllocError> {
-    let seen = text_of(alloc, world, view)?;
+    let mut seen = String::new(alloc);
+    push_seen(alloc, &mut seen, world, look)?;
     expect_same(rt, &seen.as_str(), &wanted);
     Ok(())
 }
@@ -220,30 +237,82 @@ fn check_each(
     rt: &impl Abort,
     alloc: Global,
     world: &mut World,
-    view: View,
+    look: Look,
     rows: &[Row],
 ) -> Result<(), AllocError> {
     for &(change, wanted) in rows {
         make_change(alloc, world, change)?;
-        check_seen(rt, alloc, world, view, wanted)?;
+        check_seen(rt, alloc, world, look, wanted)?;
     }
     Ok(())
 }
 
-/// The same of a world whose commands may have two entries.
-fn check_changes(rt: &impl Abort, alloc: Global, view: View, rows: &[Row]) -> Result<(), Fail> {
-    let limits = Limits::new(32, 2).expect(rt, "limits in range");
+/// What is checked of a world that nothing has been done with.
+#[derive(Clone, Copy)]
+enum Case<'a> {
+    Nothing,
+    /// What is seen after each of some changes.
+    Changes(Look, &'a [Row]),
+    Down,
+    Invocation(Code),
+    Shared,
+    UnderWay,
+    Dependents,
+    Entries,
+}
+
+fn check_in(
+    rt: &impl Abort,
+    alloc: Global,
+    world: &mut World,
+    case: Case,
+) -> Result<(), AllocError> {
+    match case {
+        Case::Nothing => check_nothing(rt, world),
+        Case::Changes(look, rows) => check_each(rt, alloc, world, look, rows)?,
+        Case::Down => check_down(rt, world),
+        Case::Invocation(code) => check_entered(rt, alloc, world, code)?,
+        Case::Shared => check_shared(rt, alloc, world)?,
+        Case::UnderWay => check_under_way(rt, alloc, world)?,
+        Case::Dependents => check_dependents(rt, alloc, world)?,
+        Case::Entries => check_entries(rt, alloc, world)?,
+    }
+    Ok(())
+}
+
+/// The one function that owns a world, since the proof of each drops all that is in it.
+fn check_world(
+    rt: &impl Abort,
+    alloc: Global,
+    limits: Limits,
+    case: Case,
+) -> Result<(), AllocError> {
     let mut world = World::new(alloc, limits);
-    Ok(check_each(rt, alloc, &mut world, view, rows)?)
+    check_in(rt, alloc, &mut world, case)
+}
+
+/// Checks it in a world of default limits.
+fn check_case(rt: &HostRuntime, case: Case) -> Result<(), Fail> {
+    Ok(check_world(rt, rt.alloc(), Limits::default(), case)?)
+}
+
+/// Checks changes of a world whose commands may have two entries.
+fn check_changes(rt: &impl Abort, alloc: Global, look: Look, rows: &[Row]) -> Result<(), Fail> {
+    let limits = Limits::new(32, 2).expect(rt, "limits in range");
+    Ok(check_world(rt, alloc, limits, Case::Changes(look, rows))?)
+}
+
+/// Checks what a world begins with.
+fn check_nothing(rt: &impl Abort, world: &World) {
+    expect_same(rt, &(world.depth(), world.is_down()), &(32, false));
+    for scope in [Scope::SessionScoped, Scope::RequestScoped, Scope::Dependent] {
+        expect_same(rt, &world.status(scope), &None);
+    }
 }
 
 #[test]
-fn begins_with_nothing(rt: HostRuntime) {
-    let world = World::new(rt.alloc(), Limits::default());
-    expect_same(&rt, &(world.depth(), world.is_down()), &(32, false));
-    for scope in [Scope::SessionScoped, Scope::RequestScoped, Scope::Dependent] {
-        expect_same_at(&rt, &scope, &world.status(scope), &None);
-    }
+fn begins_with_nothing(rt: HostRuntime) -> Result<(), Fail> {
+    check_case(&rt, Case::Nothing)
 }
 
 #[test]
@@ -257,7 +326,7 @@ fn leaves_what_is_not_there(rt: HostRuntime) -> Result<(), Fail> {
         (Change::Remove(1), NOTHING),
         (Change::Assign(1, 5), NOTHING),
     ];
-    check_changes(&rt, rt.alloc(), View::Held, ROWS)
+    check_changes(&rt, rt.alloc(), Look::Held, ROWS)
 }
 
 #[test]
@@ -304,7 +373,7 @@ fn holds_what_is_shared(rt: HostRuntime) -> Result<(), Fail> {
             "2 Ready 0 [], next Some(4), Some(Open) None None",
         ),
     ];
-    check_changes(&rt, rt.alloc(), View::Held, ROWS)
+    check_changes(&rt, rt.alloc(), Look::Held, ROWS)
 }
 
 #[test]
@@ -351,7 +420,7 @@ fn keeps_dependents_in_order(rt: HostRuntime) -> Result<(), Fail> {
             "1 Ready 0 [3], 3 Ready 0 [], 4 Ready 0 [], next Some(5), Some(Open) None None",
         ),
     ];
-    check_changes(&rt, rt.alloc(), View::Held, ROWS)
+    check_changes(&rt, rt.alloc(), Look::Held, ROWS)
 }
 
 #[test]
@@ -369,7 +438,7 @@ fn gives_back_what_is_borrowed(rt: HostRuntime) -> Result<(), Fail> {
         (Change::GiveBack, "None 0 None 0 true"),
         (Change::GiveBack, "None 0 None 0 true"),
     ];
-    check_changes(&rt, rt.alloc(), View::Running, ROWS)
+    check_changes(&rt, rt.alloc(), Look::Running, ROWS)
 }
 
 #[test]
@@ -388,7 +457,7 @@ fn knows_what_is_running(rt: HostRuntime) -> Result<(), Fail> {
         (Change::Stop, "None 0 None 0 true"),
         (Change::Stop, "None 0 None 0 true"),
     ];
-    check_changes(&rt, rt.alloc(), View::Running, ROWS)
+    check_changes(&rt, rt.alloc(), Look::Running, ROWS)
 }
 
 #[test]
@@ -400,7 +469,7 @@ fn writes_entries(rt: HostRuntime) -> Result<(), Fail> {
         (Change::StandAlone, "None 0 None 3 false"),
         (Change::Begin, "None 0 None 0 true"),
     ];
-    check_changes(&rt, rt.alloc(), View::Running, ROWS)
+    check_changes(&rt, rt.alloc(), Look::Running, ROWS)
 }
 
 #[test]
@@ -447,22 +516,37 @@ fn ends_the_application(rt: HostRuntime) -> Result<(), Fail> {
             "1 Leaving 0 [], 2 Ready 0 [], next Some(3), None None None",
         ),
     ];
-    check_changes(&rt, rt.alloc(), View::Held, ROWS)
+    check_changes(&rt, rt.alloc(), Look::Held, ROWS)
+}
+
+/// Brings a world down.
+fn check_down(rt: &impl Abort, world: &mut World) {
+    world.bring_down();
+    expect_same(rt, &world.is_down(), &true);
 }
 
 #[test]
-fn goes_down(rt: HostRuntime) {
-    let mut world = World::new(rt.alloc(), Limits::default());
-    world.bring_down();
-    expect_same(&rt, &world.is_down(), &true);
+fn goes_down(rt: HostRuntime) -> Result<(), Fail> {
+    check_case(&rt, Case::Down)
 }
 
 // ---- an invocation as a whole
 
+/// Registers a body that gives null.
+fn add_null(alloc: Global, bodies: &mut Bodies, name: Name) -> Result<BodyId, Fail> {
+    let body: Body = Box::new(
+        alloc,
+        |_fields: &Fields, _view: &View| -> Result<Act, AllocError>
+            ensures { IfOk result (λ act. act ≡ Give Null) }
+        { Ok(Act::Give { value: Value::Null }) },
+    )?;
+    Ok(bodies.add(name, Shape::new(alloc), body)?)
+}
+
 /// The number of a body.
 fn body_of(alloc: Global) -> Result<BodyId, Fail> {
     let mut bodies = Bodies::new(alloc);
-    crate::bodies::add_null(alloc, &mut bodies, BuiltIn::Any.name(), false)
+    add_null(alloc, &mut bodies, BuiltIn::Any.name())
 }
 
 /// A member.
@@ -478,7 +562,8 @@ fn check_code(rt: &impl Abort, code: Code, body: BodyId) {
 
 /// Enters an invocation of a member, with the value 9.
 fn enter_member(alloc: Global, world: &mut World, code: Code) -> Result<(), AllocError> {
-    let parameters = crate::bodies::level_args(alloc, 9)?;
+    let mut parameters = Seq::empty(alloc);
+    parameters.push(Value::Int(9))?;
     world.enter(Invocation::new(7, InterceptorMethod::PreDestroy, Some(code), parameters))
 }
 
@@ -492,15 +577,24 @@ fn check_invocation(rt: &impl Abort, invocation: Option<&Invocation>, code: Code
     expect_same(rt, &parameters, &[Value::Int(9)].as_slice());
 }
 
+/// Enters an invocation of a member, and checks it.
+fn check_entered(
+    rt: &impl Abort,
+    alloc: Global,
+    world: &mut World,
+    code: Code,
+) -> Result<(), AllocError> {
+    enter_member(alloc, world, code)?;
+    check_invocation(rt, world.invocation(), code);
+    Ok(())
+}
+
 #[test]
 fn keeps_an_invocation(rt: HostRuntime) -> Result<(), Fail> {
     let body = body_of(rt.alloc())?;
     let code = Code::new(place(), body);
     check_code(&rt, code, body);
-    let mut world = World::new(rt.alloc(), Limits::default());
-    enter_member(rt.alloc(), &mut world, code)?;
-    check_invocation(&rt, world.invocation(), code);
-    Ok(())
+    check_case(&rt, Case::Invocation(code))
 }
 
 // ---- many
@@ -571,8 +665,7 @@ fn check_shared(rt: &impl Abort, alloc: Global, world: &mut World) -> Result<(),
 
 #[test]
 fn holds_many_that_are_shared(rt: HostRuntime) -> Result<(), Fail> {
-    let mut world = World::new(rt.alloc(), Limits::default());
-    Ok(check_shared(&rt, rt.alloc(), &mut world)?)
+    check_case(&rt, Case::Shared)
 }
 
 /// Makes a change a thousand times, and checks what is seen then.
@@ -584,7 +677,7 @@ fn check_many(
     wanted: &str,
 ) -> Result<(), AllocError> {
     repeat(alloc, world, 1_000, change)?;
-    check_seen(rt, alloc, world, View::Running, wanted)
+    check_seen(rt, alloc, world, Look::Running, wanted)
 }
 
 /// Makes many temporaries, and many of each change.
@@ -609,8 +702,7 @@ fn check_under_way(rt: &impl Abort, alloc: Global, world: &mut World) -> Result<
 
 #[test]
 fn keeps_many_under_way(rt: HostRuntime) -> Result<(), Fail> {
-    let mut world = World::new(rt.alloc(), Limits::default());
-    Ok(check_under_way(&rt, rt.alloc(), &mut world)?)
+    check_case(&rt, Case::UnderWay)
 }
 
 /// Makes many dependents of the first instance.
@@ -629,19 +721,27 @@ fn dependents_of(world: &World, number: u32) -> Option<(usize, u32)> {
     Some((dependents.len(), *dependents.last()?))
 }
 
+/// Makes many dependents, and checks them.
+fn check_dependents(rt: &impl Abort, alloc: Global, world: &mut World) -> Result<(), AllocError> {
+    make_dependents(alloc, world, 1_000)?;
+    expect_same(rt, &dependents_of(world, 1), &Some((1_000, 1_001)));
+    Ok(())
+}
+
 #[test]
 fn keeps_many_dependents(rt: HostRuntime) -> Result<(), Fail> {
-    let mut world = World::new(rt.alloc(), Limits::default());
-    make_dependents(rt.alloc(), &mut world, 1_000)?;
-    expect_same(&rt, &dependents_of(&world, 1), &Some((1_000, 1_001)));
+    check_case(&rt, Case::Dependents)
+}
+
+/// Writes many entries, and checks them.
+fn check_entries(rt: &impl Abort, alloc: Global, world: &mut World) -> Result<(), AllocError> {
+    repeat(alloc, world, 100_000, Change::Write)?;
+    expect_same(rt, &world.trace().len(), &100_000);
+    expect_same(rt, &(world.entries(), world.has_room()), &(100_000, false));
     Ok(())
 }
 
 #[test]
 fn keeps_many_entries(rt: HostRuntime) -> Result<(), Fail> {
-    let mut world = World::new(rt.alloc(), Limits::default());
-    repeat(rt.alloc(), &mut world, 100_000, Change::Write)?;
-    expect_same(&rt, &world.trace().len(), &100_000);
-    expect_same(&rt, &(world.entries(), world.has_room()), &(100_000, false));
-    Ok(())
+    check_case(&rt, Case::Entries)
 }

@@ -6,16 +6,3 @@ use std::process::Abort;
 pub(crate) fn expect_same<T: PartialEq + Debug>(rt: &impl Abort, found: &T, wanted: &T) {
     assert!(rt; found == wanted, "{found:?} in place of {wanted:?}");
 }
-
-/// The same, where a case says of what it was found.
-pub(crate) fn expect_same_at<C: Debug, T: PartialEq + Debug>(
-    rt: &impl Abort,
-    case: &C,
-    found: &T,
-    wanted: &T,
-) {
-    assert!(rt;
-        found == wanted,
-        "{found:?} in place of {wanted:?}, at {case:?}"
-    );
-}

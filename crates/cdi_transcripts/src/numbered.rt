@@ -1,0 +1,90 @@
+//! Runs of many items that differ by a number alone.
+use crate::streams::Run;
+use cdi_transcript::Played;
+use std::alloc::{AllocError, Global};
+use std::str;
+
+/// A text with the numbers from 0 on in place of its marks.
+fn numbered(alloc: Global, text: &str) -> Result<String, AllocError> {
+    let mut whole = String::new(alloc);
+    for (index, piece) in text.split('#').enumerate() {
+        if let Some(number) = index.checked_sub(1) {
+            write!(whole, "{number}")?;
+        }
+        whole.push_str(piece)?;
+    }
+    Ok(whole)
+}
+
+/// Adds a line, or so many of it if it has a mark, each with a number in its place.
+fn push_input(
+    alloc: Global,
+    input: &mut String,
+    line: &str,
+    count: usize,
+) -> Result<(), AllocError> {
+    if !line.contains('#') {
+        return writeln!(input, "{line}");
+    }
+    let line = format!(in alloc; "{line}\n")?;
+    let lines = line.as_str().repeat(alloc, count)?;
+    let lines = numbered(alloc, lines.as_str())?;
+    input.push_str(lines.as_str())
+}
+
+fn many_lines(alloc: Global, input: &str, count: usize) -> Result<String, AllocError> {
+    let mut lines = String::new(alloc);
+    for line in input.lines() {
+        push_input(alloc, &mut lines, line, count)?;
+    }
+    Ok(lines)
+}
+
+/// The lines of a text, of which each stands behind the count of those that follow one another.
+fn folded(alloc: Global, text: &str) -> Result<String, AllocError> {
+    let mut lines = String::new(alloc);
+    let mut last = "";
+    let mut count = 0usize;
+    for line in text.lines() {
+        if line != last && count > 0 {
+            writeln!(lines, "{count} {last}")?;
+            count = 0;
+        }
+        last = line;
+        count = count.saturating_add(1);
+    }
+    if count > 0 {
+        writeln!(lines, "{count} {last}")?;
+    }
+    Ok(lines)
+}
+
+/// What a run came to, with its output folded so.
+fn with_folded(alloc: Global, played: Played) -> Result<Played, AllocError> {
+    let text = str::from_utf8(&played.output).unwrap_or("no text");
+    let output = folded(alloc, text)?;
+    Ok(Played {
+        status: played.status,
+        output: output.into_bytes(),
+        errors: played.errors,
+    })
+}
+
+/// What a run comes to of which each `#` of the deployment is a number, from 0 on. A line of the input with a `#` stands so many times,
+/// with these numbers; and a line of the output stands behind the count of those that are the same, one after the other.
+pub(crate) fn play_numbered(
+    alloc: Global,
+    words: &[&str],
+    deployment: &str,
+    input: &str,
+    count: usize,
+) -> Result<Played, AllocError> {
+    let deployment = numbered(alloc, deployment)?;
+    let input = many_lines(alloc, input, count)?;
+    let run = Run {
+        alloc,
+        words,
+        bytes: deployment.as_bytes(),
+    };
+    with_folded(alloc, run.over(input.as_bytes()))
+}

@@ -1,0 +1,72 @@
+//! The functions that own the tables of a deployment. The proof of each drops all tables, so that there are few.
+ghost use Rattle.cdi_run_tables.specs.Machine.{machine_tables};
+ghost use Rattle.cdi_runtime.specs.Standing.{IsServable, KnowsMethods};
+
+use crate::asked::{Asked, Counted};
+use crate::jobs::answers;
+use cdi_base::Limits;
+use cdi_bodies::Bodies;
+use cdi_container::{Unaccepted, accept};
+use cdi_deployment::Deployment;
+use cdi_machine::Driver;
+use cdi_problems::Problem;
+use cdi_run_tables::RunTables;
+use cdi_runtime::Runtime;
+use std::alloc::{AllocError, Global};
+
+/// What is asked of a runtime: its limits, and the lines.
+#[derive(Clone, Copy)]
+pub(crate) struct Asking<'a> {
+    pub(crate) limits: Limits,
+    pub(crate) input: &'a str,
+}
+
+/// How many names came back, and a line for the kind of each problem.
+fn problem_lines(alloc: Global, names: usize, problems: &[Problem]) -> Result<String, AllocError> {
+    let mut text = format!(in alloc; "{names} names\n")?;
+    for problem in problems {
+        let kind = problem.kind;
+        writeln!(text, "{kind:?}")?;
+    }
+    Ok(text)
+}
+
+/// Why a deployment isn't accepted.
+fn refusal_lines(alloc: Global, unaccepted: &Unaccepted) -> Result<String, AllocError> {
+    match unaccepted {
+        Unaccepted::Problems { names, problems } => {
+            problem_lines(alloc, names.len(), problems.as_slice())
+        }
+        Unaccepted::Unserved => String::from_str(alloc, "not served\n"),
+        Unaccepted::Memory => Err(AllocError),
+    }
+}
+
+/// What a runtime answers that nothing has been done with.
+fn answers_by<D: Driver + Drop>(
+    alloc: Global,
+    tables: RunTables,
+    driver: D,
+    asking: Asking,
+) -> Result<String, AllocError>
+    requires knows { KnowsMethods (D.knows driver) (D.legal driver) (machine_tables tables) }
+    requires servable { IsServable tables }
+{
+    let asked = &Asked::new();
+    let counted = Counted { driver, asked };
+    let mut runtime = Runtime::new(alloc, tables, counted, asking.limits);
+    answers(alloc, &mut runtime, asked, asking.input)
+}
+
+/// What is told of a deployment with its bodies: what its runtime answers, or why it isn't accepted.
+pub(crate) fn told_of(
+    alloc: Global,
+    deployment: Deployment,
+    bodies: Bodies,
+    asking: Asking,
+) -> Result<String, AllocError> {
+    match accept(alloc, deployment, &bodies) {
+        Ok(tables) => answers_by(alloc, tables, bodies, asking),
+        Err(unaccepted) => refusal_lines(alloc, &unaccepted),
+    }
+}
