@@ -12,7 +12,6 @@
 //! | `list` | nothing: the bean list, or the problems for which there is none | `beans` |
 //! | `members` | what classes inherit | `members` |
 //! | `observers` | nothing: which observers hear events of the injected fields of the last class | `observers` |
-//! | `parts` | the parts of the deployment as they were read | `parts` |
 //! | `plans` | nothing: the plans of the beans | `plans` |
 //! | `qualifiers` | what sets of qualifiers have | `qualifiers` |
 //! | `resolve` | nothing: a line with what the injected fields of the last class resolve to | `resolve` |
@@ -24,7 +23,6 @@ use crate::early::early_lines;
 use crate::enabled::enabled_answers;
 use crate::members::members_answers;
 use crate::observers::observers_answers;
-use crate::parts::parts_answers;
 use crate::plans::plans_answers;
 use crate::qualifiers::{bindings_answers, qualifiers_answers};
 use crate::resolve::resolve_answers;
@@ -50,7 +48,6 @@ fn answers(
         ["list"] => list_answers(alloc, deployment, input),
         ["members"] => members_answers(alloc, deployment, input),
         ["observers"] => observers_answers(alloc, deployment, input),
-        ["parts"] => parts_answers(alloc, deployment, input),
         ["qualifiers"] => qualifiers_answers(alloc, deployment, input),
         ["resolve"] => resolve_answers(alloc, deployment, input),
         ["types"] => types_answers(alloc, deployment, input),

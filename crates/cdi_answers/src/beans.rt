@@ -7,7 +7,6 @@
 //! | an observer | the bean, `:` the method, the type, `\|` qualifiers; then, each behind `;`, the priority, and `if exists` where it is conditional |
 //! | a disposer | the method, `:` the producers that it serves |
 use crate::early::problem_lines;
-use crate::texts::{add_name, add_names, add_scope};
 use cdi_base::{Name, Names};
 use cdi_beanlist::{
     Bean, BeanKind, BeanList, BeanListError, BeanMember, DisposerMethod, EnabledInterceptor,
@@ -15,6 +14,7 @@ use cdi_beanlist::{
 };
 use cdi_deployment::Deployment;
 use cdi_quals::{QualSet, QualifierTypes};
+use cdi_transcript::texts::{add_name, add_names, add_scope};
 use cdi_types::TypeTable;
 use std::alloc::{AllocError, Global};
 

@@ -1,7 +1,6 @@
-//! Plays transcripts of the layers below the container: what they say of a deployment, as it is written in files.
+//! Plays transcripts of the layers between the readers and the container: what they say of a deployment, as it is written in files.
 #![tactic(auto)]
 
-mod acts;
 mod asked;
 mod beans;
 mod chains;
@@ -9,18 +8,14 @@ mod early;
 mod enabled;
 mod layers;
 mod listed;
-mod marks;
 mod members;
 mod observers;
-mod parts;
+mod places;
 mod plans;
 mod points;
 mod qualifiers;
-mod reading;
 mod resolve;
-mod scripts;
 mod tables;
-mod texts;
 mod types;
 mod words;
 

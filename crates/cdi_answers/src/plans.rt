@@ -11,8 +11,8 @@
 //!
 //! and of a product `of`, the class that declares it, its source and each disposer behind `disposed`. Points are types in round
 //! brackets, a chain has the places of interceptors in square brackets, and a body stands behind its member and `=`.
+use crate::places::add_place;
 use crate::tables::tables_of;
-use crate::texts::{add_name, add_place, add_scope};
 use cdi_base::Names;
 use cdi_beanlist::BeanListError;
 use cdi_deployment::{Deployment, Field, Point};
@@ -20,6 +20,7 @@ use cdi_plans::{
     BusinessMethod, Code, InjectedMethod, Lifecycle, ManagedPlan, Plan, ProductPlan, Source, Step,
 };
 use cdi_run_tables::{PlannedBean, RunTables};
+use cdi_transcript::texts::{add_name, add_scope};
 use std::alloc::{AllocError, Global};
 
 fn add_chain(text: &mut String, chain: &[usize]) -> Result<(), AllocError> {

@@ -15,7 +15,7 @@ ghost use Rattle.std.specs.Prelude.{◌≡◌, IfOk};
 ghost use Rattle.cdi_base.specs.declared.act.Act.TheVariants.{Give};
 ghost use Rattle.cdi_base.specs.declared.value.Value.TheVariants.{Null};
 
-use crate::texts::{add_answer, add_place};
+use crate::places::add_place;
 use cdi_base::{Act, Fields, MemberValue, Names, Seq, Use, Value};
 use cdi_beanlist::{BeanList, BeanListError};
 use cdi_bodies::{Bodies, Body, Shape, View};
@@ -23,6 +23,7 @@ use cdi_deployment::{Deployment, InjectedField};
 use cdi_resolve::Resolution;
 use cdi_run_tables::RunTables;
 use cdi_tables::BeanTables;
+use cdi_transcript::texts::add_answer;
 use std::alloc::{AllocError, Global};
 
 /// Bodies of which one, with the name `b`, gives null. Its shape says whether it may go on with a chain.

@@ -4,8 +4,10 @@
 //! it is written, or as a wrong number of runs.
 #![tactic(auto)]
 
+pub mod marks;
 pub mod playing;
 pub mod scene;
+pub mod texts;
 
 pub use playing::{Played, Player, play_files};
 pub use scene::Scene;

@@ -9,7 +9,7 @@ fn add_byte(bytes: &mut Vec<u8>, piece: &str) -> Result<(), AllocError> {
 }
 
 /// The bytes of a text, in which `#x` and two digits stand for a byte.
-pub(crate) fn bytes_of(alloc: Global, text: &str) -> Result<Vec<u8>, AllocError> {
+pub fn bytes_of(alloc: Global, text: &str) -> Result<Vec<u8>, AllocError> {
     let (front, others) = text.split_once("#x").unwrap_or((text, ""));
     let mut bytes = Vec::from_slice(alloc, front.as_bytes())?;
     if !others.is_empty() {
@@ -21,7 +21,7 @@ pub(crate) fn bytes_of(alloc: Global, text: &str) -> Result<Vec<u8>, AllocError>
 }
 
 /// A text with a number in place of each `##` of it, counted from 0.
-pub(crate) fn numbered(alloc: Global, text: &str) -> Result<String, AllocError> {
+pub fn numbered(alloc: Global, text: &str) -> Result<String, AllocError> {
     let mut numbered = String::new(alloc);
     for (index, piece) in text.split("##").enumerate() {
         if let Some(number) = index.checked_sub(1) {

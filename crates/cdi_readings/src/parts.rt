@@ -7,10 +7,10 @@
 //! | `class 0` | the class at this place: its name and, if it is a bean, its scope; then, each behind `;`, its fields with their values, and its methods, each with its body and the number of its values |
 //! | `script 0` | the script at this place: its name, and its steps as they were written |
 use crate::acts::add_value;
-use crate::texts::{add_answer, add_name, scope_word};
 use cdi_base::Names;
 use cdi_base::built_in::ALL;
 use cdi_deployment::{Bean, Class, Deployment, Field, Member, Method, Script};
+use cdi_transcript::texts::{add_answer, add_name, scope_word};
 use std::alloc::{AllocError, Global};
 
 fn add_bean(text: &mut String, bean: &Bean) -> Result<(), AllocError> {

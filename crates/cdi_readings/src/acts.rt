@@ -1,6 +1,6 @@
 //! Acts and values, as they are told: texts in quotation marks, uses of qualifiers with their members.
-use crate::texts::add_name;
 use cdi_base::{Act, Name, Names, Seq, Use, Value, Via};
+use cdi_transcript::texts::add_name;
 use std::alloc::AllocError;
 
 /// Adds a value behind a text.

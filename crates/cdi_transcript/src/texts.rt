@@ -1,10 +1,9 @@
-//! Parts of lines: names, places, numbers and scopes.
-use cdi_base::{Name, Names, Place, Scope};
-use cdi_problems::PlaceText;
+//! Parts of the lines that programs write which play transcripts: names, scopes and answers.
+use cdi_base::{Name, Names, Scope};
 use std::alloc::AllocError;
 
 /// Adds a name behind a text.
-pub(crate) fn add_name(
+pub fn add_name(
     text: &mut String,
     names: &Names,
     before: &str,
@@ -15,25 +14,15 @@ pub(crate) fn add_name(
 }
 
 /// Adds names, each behind a blank.
-pub(crate) fn add_names(text: &mut String, names: &Names, list: &[Name]) -> Result<(), AllocError> {
+pub fn add_names(text: &mut String, names: &Names, list: &[Name]) -> Result<(), AllocError> {
     for name in list {
         add_name(text, names, " ", *name)?;
     }
     Ok(())
 }
 
-/// Adds a place behind a text.
-pub(crate) fn add_place(
-    text: &mut String,
-    names: &Names,
-    before: &str,
-    place: &Place,
-) -> Result<(), AllocError> {
-    write!(text, "{before}{}", PlaceText { names, place })
-}
-
 /// The word of a scope; none of that of dependent beans.
-pub(crate) fn scope_word(scope: Scope) -> &'static str {
+pub fn scope_word(scope: Scope) -> &'static str {
     match scope {
         Scope::ApplicationScoped => "application",
         Scope::SessionScoped => "session",
@@ -43,7 +32,7 @@ pub(crate) fn scope_word(scope: Scope) -> &'static str {
 }
 
 /// Adds the word of a scope behind a text, unless it is that of dependent beans.
-pub(crate) fn add_scope(text: &mut String, before: &str, scope: Scope) -> Result<(), AllocError> {
+pub fn add_scope(text: &mut String, before: &str, scope: Scope) -> Result<(), AllocError> {
     let word = scope_word(scope);
     if word.is_empty() {
         return Ok(());
@@ -53,6 +42,6 @@ pub(crate) fn add_scope(text: &mut String, before: &str, scope: Scope) -> Result
 }
 
 /// Adds an answer to whether something is so.
-pub(crate) fn add_answer(text: &mut String, answer: bool) -> Result<(), AllocError> {
+pub fn add_answer(text: &mut String, answer: bool) -> Result<(), AllocError> {
     text.push_str(if answer { "yes" } else { "no" })
 }

@@ -12,11 +12,11 @@
 //! | `scripts since` | two stages and a step in each line | whether the step is one at each of the stages |
 use crate::acts::{add_act, add_value};
 use crate::reading::stage_of;
-use crate::texts::add_answer;
 use cdi_base::{Answer, BuiltIn, Fields, Names, ReadError, Seq, Text, Value};
 use cdi_bodies::{Shape, View};
 use cdi_script::{Action, Expression, Script, ScriptFault, is_step_at};
 use cdi_stage::{Stage, WHOLE};
+use cdi_transcript::texts::add_answer;
 use serde_json::Value as Json;
 use std::alloc::{AllocError, Global};
 
