@@ -62,12 +62,13 @@ fn push_member(
     member: BeanMember,
     text: &mut String,
 ) -> Result<(), AllocError> {
+    let (class, name) = (member.class, member.name);
     let chain = chains.invoke_chain(bean, member);
     let places = chain.places(alloc)?;
     if places.is_empty() && chain.is_empty() {
         return Ok(());
     }
-    push_declared(names, member.class, member.name, text)?;
+    push_declared(names, class, name, text)?;
     push_chain(names, chains, &chain, places.as_slice(), text)
 }
 
