@@ -70,7 +70,7 @@ fn told_of_counting(
     let body: Body = Box::new(
         alloc,
         move |fields: &Fields, view: &View| -> Result<Act, AllocError>
-            ensures { IfOk result (IsPlain counting.field counting.method) }
+            ensures { IfOk result (λ act. in_shape (plain_shape counting.field counting.method) view.now act ≡ true) }
         { counting.next(fields, view) },
     )?;
     let mut bodies = Bodies::new(alloc);
