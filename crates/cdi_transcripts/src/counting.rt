@@ -1,11 +1,10 @@
-//! Bodies that no script can be: one that calls itself until a number is spent, and those that give null.
-ghost use Rattle.std.specs.Prelude.{◌≡◌, IfOk};
-ghost use Rattle.cdi_base.specs.declared.act.Act.TheVariants.{Give};
-ghost use Rattle.cdi_base.specs.declared.value.Value.TheVariants.{Null};
+//! A body that no script can be: one that calls itself until a number is spent.
+ghost use Rattle.std.specs.Prelude.{◌≡◌, true, IfOk};
+ghost use Rattle.cdi_bodies.specs.Shape.{in_shape};
 ghost use Rattle.cdi_transcripts.specs.Plain.{IsPlain, plain_shape};
 
 use cdi_base::{Act, Fields, Name, Names, Seq, Value};
-use cdi_bodies::{Bodies, Body, OwnCall, Shape, View};
+use cdi_bodies::{OwnCall, Shape, View};
 use std::alloc::{AllocError, Global};
 
 /// A body that counts a field up so many times, then calls its own method with one less than it was called with, unless
@@ -13,8 +12,8 @@ use std::alloc::{AllocError, Global};
 #[derive(Clone, Copy, Drop)]
 pub(crate) struct Counting {
     alloc: Global,
-    field: Name,
-    method: Name,
+    pub(crate) field: Name,
+    pub(crate) method: Name,
     sets: usize,
 }
 
@@ -64,8 +63,7 @@ impl Counting {
         Ok(Act::Give { value })
     }
 
-    /// What it does next.
-    fn next(&self, fields: &Fields, view: &View) -> Result<Act, AllocError>
+    fn plain_next(&self, fields: &Fields, view: &View) -> Result<Act, AllocError>
         ensures { IfOk result (IsPlain self.now.field self.now.method) }
     {
         let answers = view.answers.len();
@@ -80,7 +78,17 @@ impl Counting {
         }
     }
 
-    fn shape(&self) -> Result<Shape, AllocError>
+    /// What it does next.
+    #[tactic(auto, using(crate::proofs::Shapes::plain_in_shape))]
+    pub(crate) fn next(&self, fields: &Fields, view: &View) -> Result<Act, AllocError>
+        ensures { IfOk result (λ act.
+            in_shape (plain_shape self.now.field self.now.method) view.now act ≡ true) }
+    {
+        self.plain_next(fields, view)
+    }
+
+    /// What it may name.
+    pub(crate) fn shape(&self) -> Result<Shape, AllocError>
         ensures { IfOk result (λ shape. shape ≡ plain_shape self.now.field self.now.method) }
     {
         let mut shape = Shape::new(self.alloc);
@@ -90,42 +98,5 @@ impl Counting {
             count: 1,
         })?;
         Ok(shape)
-    }
-
-    /// Registers it under the name of its method.
-    #[tactic(auto, using(crate::proofs::Shapes::plain_in_shape))]
-    pub(crate) fn register(self, bodies: &mut Bodies) -> Result<(), AllocError> {
-        let shape = self.shape()?;
-        let body: Body = Box::new(
-            self.alloc,
-            move |fields: &Fields, view: &View| -> Result<Act, AllocError>
-                ensures { IfOk result (IsPlain self.field self.method) }
-            { self.next(fields, view) },
-        )?;
-        match bodies.add(self.method, shape, body) {
-            Ok(_) => Ok(()),
-            Err(_) => Err(AllocError),
-        }
-    }
-}
-
-/// Registers a body that gives null, of a shape that goes on with an interceptor chain or not.
-pub(crate) fn add_null(
-    alloc: Global,
-    bodies: &mut Bodies,
-    name: Name,
-    chain: bool,
-) -> Result<(), AllocError> {
-    let mut shape = Shape::new(alloc);
-    shape.chain = chain;
-    let body: Body = Box::new(
-        alloc,
-        |_fields: &Fields, _view: &View| -> Result<Act, AllocError>
-            ensures { IfOk result (λ act. act ≡ Give Null) }
-        { Ok(Act::Give { value: Value::Null }) },
-    )?;
-    match bodies.add(name, shape, body) {
-        Ok(_) => Ok(()),
-        Err(_) => Err(AllocError),
     }
 }

@@ -40,23 +40,54 @@ fn many_lines(alloc: Global, input: &str, count: usize) -> Result<String, AllocE
     Ok(lines)
 }
 
-/// The lines of a text, of which each stands behind the count of those that follow one another.
-fn folded(alloc: Global, text: &str) -> Result<String, AllocError> {
-    let mut lines = String::new(alloc);
-    let mut last = "";
-    let mut count = 0usize;
-    for line in text.lines() {
-        if line != last && count > 0 {
-            writeln!(lines, "{count} {last}")?;
-            count = 0;
+/// Lines, of which each stands behind the count of those that are the same, one after the other.
+#[derive(Drop)]
+struct Folding {
+    lines: String,
+    last: String,
+    count: usize,
+}
+
+impl Folding {
+    /// Writes the last line with its count.
+    fn write_last(&mut self) -> Result<(), AllocError> {
+        let count = self.count;
+        if count == 0 {
+            return Ok(());
         }
-        last = line;
-        count = count.saturating_add(1);
+        self.count = 0;
+        let last = self.last.as_str();
+        writeln!(self.lines, "{count} {last}")
     }
-    if count > 0 {
-        writeln!(lines, "{count} {last}")?;
+
+    /// Takes the next line.
+    fn take(&mut self, line: &str) -> Result<(), AllocError> {
+        if line != self.last.as_str() {
+            self.write_last()?;
+            self.last.clear();
+            self.last.push_str(line)?;
+        }
+        self.count = self.count.saturating_add(1);
+        Ok(())
     }
-    Ok(lines)
+
+    fn take_all(&mut self, text: &str) -> Result<(), AllocError> {
+        for line in text.lines() {
+            self.take(line)?;
+        }
+        self.write_last()
+    }
+}
+
+/// The lines of a text, folded so.
+fn folded(alloc: Global, text: &str) -> Result<String, AllocError> {
+    let mut folding = Folding {
+        lines: String::new(alloc),
+        last: String::new(alloc),
+        count: 0,
+    };
+    folding.take_all(text)?;
+    Ok(folding.lines)
 }
 
 /// What a run came to, with its output folded so.

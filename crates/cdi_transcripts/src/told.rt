@@ -4,59 +4,83 @@
 //! |---|---|
 //! | `jobs` | its scripts are the bodies |
 //! | `whole` | the same, of the whole form |
-//! | `counting COUNT` | the same, and one more body, `up`: it counts the field `n` so many times, calls itself with one less than it was called with unless that was 0, and then gives the field |
+//! | `counting COUNT` | its one body is `up`: it counts the field `n` so many times, calls itself with one less than it was called with unless that was 0, and then gives the field |
 //! | `beans COUNT` | a deployment of so many beans, whatever is written |
 //!
 //! A depth and a number of ticks may stand behind the first and the third, as the limits. What is told is why the deployment isn't
 //! accepted: how many names it has, and the kind of each problem; or else what its runtime answers to each line of the input, as the
 //! table of the module `jobs` says.
-ghost use Rattle.std.specs.Prelude.{◌≡◌, IfOk};
-ghost use Rattle.cdi_script.specs.Next.{next_of};
+ghost use Rattle.std.specs.Prelude.{◌≡◌, true, IfOk};
+ghost use Rattle.cdi_bodies.specs.Shape.{in_shape};
+ghost use Rattle.cdi_script.specs.Listed.{shape_of};
+ghost use Rattle.cdi_transcripts.specs.Plain.{plain_shape};
 
 use crate::counting::Counting;
 use crate::many_beans::beans;
 use crate::runtimes::{Asking, told_of};
-use cdi_base::{Act, Fields, Limits, Name};
+use cdi_base::{Act, Fields, Limits};
 use cdi_bodies::{Bodies, Body, View};
+use cdi_deployment::Deployment;
 use cdi_prepare::{NamedScript, Prepared, prepare};
 use cdi_script::Script;
 use cdi_stage::{SERVED, Stage, WHOLE};
 use std::alloc::{AllocError, Global};
 
-/// Registers a script as a body.
+/// What a script does next.
 #[tactic(auto, using(cdi_script::proofs::Within::lies))]
-fn register(
+fn next_of(alloc: Global, script: &Script, fields: &Fields, view: &View) -> Result<Act, AllocError>
+    ensures { IfOk result (λ act. in_shape (shape_of script.now) view.now act ≡ true) }
+{
+    script.next(alloc, fields, view)
+}
+
+/// What is told of a deployment with its scripts.
+fn told_of_scripts(
     alloc: Global,
-    name: Name,
-    script: Script,
-    bodies: &mut Bodies,
-) -> Result<(), AllocError> {
-    let shape = script.shape_of(alloc)?;
+    deployment: Deployment,
+    scripts: Vec<NamedScript>,
+    asking: Asking,
+) -> Result<String, AllocError> {
+    let mut bodies = Bodies::new(alloc);
+    for named in scripts {
+        let NamedScript { name, script } = named;
+        let shape = script.shape_of(alloc)?;
+        let body: Body = Box::new(
+            alloc,
+            move |fields: &Fields, view: &View| -> Result<Act, AllocError>
+                ensures { IfOk result (λ act. in_shape (shape_of script) view.now act ≡ true) }
+            { next_of(alloc, &script, fields, view) },
+        )?;
+        if bodies.add(name, shape, body).is_err() {
+            return Err(AllocError);
+        }
+    }
+    told_of(alloc, deployment, bodies, asking)
+}
+
+/// What is told of a deployment with a body that counts so many times.
+fn told_of_counting(
+    alloc: Global,
+    deployment: Deployment,
+    sets: usize,
+    asking: Asking,
+) -> Result<String, AllocError> {
+    let counting = Counting::new(alloc, &deployment.names, sets);
+    let shape = counting.shape()?;
     let body: Body = Box::new(
         alloc,
         move |fields: &Fields, view: &View| -> Result<Act, AllocError>
-            ensures { IfOk result (λ act. act ≡ next_of script fields.now view.now) }
-        { script.next(alloc, fields, view) },
+            ensures { IfOk result (λ act. in_shape (plain_shape counting.field counting.method) view.now act ≡ true) }
+        { counting.next(fields, view) },
     )?;
-    match bodies.add(name, shape, body) {
-        Ok(_) => Ok(()),
-        Err(_) => Err(AllocError),
+    let mut bodies = Bodies::new(alloc);
+    if bodies.add(counting.method, shape, body).is_err() {
+        return Err(AllocError);
     }
+    told_of(alloc, deployment, bodies, asking)
 }
 
-fn register_all(
-    alloc: Global,
-    scripts: Vec<NamedScript>,
-    bodies: &mut Bodies,
-) -> Result<(), AllocError> {
-    for named in scripts {
-        let NamedScript { name, script } = named;
-        register(alloc, name, script, bodies)?;
-    }
-    Ok(())
-}
-
-/// What is told of a deployment with its scripts, and with a body that counts so many times, if there is one.
+/// What is told of a deployment with its scripts, or with a body that counts so many times.
 fn told_of_prepared(
     alloc: Global,
     prepared: Prepared,
@@ -67,12 +91,10 @@ fn told_of_prepared(
         deployment,
         scripts,
     } = prepared;
-    let mut bodies = Bodies::new(alloc);
-    register_all(alloc, scripts, &mut bodies)?;
-    if let Some(sets) = sets {
-        Counting::new(alloc, &deployment.names, sets).register(&mut bodies)?;
+    match sets {
+        Some(sets) => told_of_counting(alloc, deployment, sets, asking),
+        None => told_of_scripts(alloc, deployment, scripts, asking),
     }
-    told_of(alloc, deployment, bodies, asking)
 }
 
 fn told_of_bytes(
