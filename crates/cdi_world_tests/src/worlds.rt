@@ -292,8 +292,8 @@ fn check_world(
 }
 
 /// Checks it in a world of default limits.
-fn check_case(rt: &HostRuntime, case: Case) -> Result<(), Fail> {
-    Ok(check_world(rt, rt.alloc(), Limits::default(), case)?)
+fn check_case(rt: &impl Abort, alloc: Global, case: Case) -> Result<(), Fail> {
+    Ok(check_world(rt, alloc, Limits::default(), case)?)
 }
 
 /// Checks changes of a world whose commands may have two entries.
@@ -312,7 +312,7 @@ fn check_nothing(rt: &impl Abort, world: &World) {
 
 #[test]
 fn begins_with_nothing(rt: HostRuntime) -> Result<(), Fail> {
-    check_case(&rt, Case::Nothing)
+    check_case(&rt, rt.alloc(), Case::Nothing)
 }
 
 #[test]
@@ -527,7 +527,7 @@ fn check_down(rt: &impl Abort, world: &mut World) {
 
 #[test]
 fn goes_down(rt: HostRuntime) -> Result<(), Fail> {
-    check_case(&rt, Case::Down)
+    check_case(&rt, rt.alloc(), Case::Down)
 }
 
 // ---- an invocation as a whole
@@ -594,7 +594,7 @@ fn keeps_an_invocation(rt: HostRuntime) -> Result<(), Fail> {
     let body = body_of(rt.alloc())?;
     let code = Code::new(place(), body);
     check_code(&rt, code, body);
-    check_case(&rt, Case::Invocation(code))
+    check_case(&rt, rt.alloc(), Case::Invocation(code))
 }
 
 // ---- many
@@ -665,7 +665,7 @@ fn check_shared(rt: &impl Abort, alloc: Global, world: &mut World) -> Result<(),
 
 #[test]
 fn holds_many_that_are_shared(rt: HostRuntime) -> Result<(), Fail> {
-    check_case(&rt, Case::Shared)
+    check_case(&rt, rt.alloc(), Case::Shared)
 }
 
 /// Makes a change a thousand times, and checks what is seen then.
@@ -702,7 +702,7 @@ fn check_under_way(rt: &impl Abort, alloc: Global, world: &mut World) -> Result<
 
 #[test]
 fn keeps_many_under_way(rt: HostRuntime) -> Result<(), Fail> {
-    check_case(&rt, Case::UnderWay)
+    check_case(&rt, rt.alloc(), Case::UnderWay)
 }
 
 /// Makes many dependents of the first instance.
@@ -730,7 +730,7 @@ fn check_dependents(rt: &impl Abort, alloc: Global, world: &mut World) -> Result
 
 #[test]
 fn keeps_many_dependents(rt: HostRuntime) -> Result<(), Fail> {
-    check_case(&rt, Case::Dependents)
+    check_case(&rt, rt.alloc(), Case::Dependents)
 }
 
 /// Writes many entries, and checks them.
@@ -743,5 +743,5 @@ fn check_entries(rt: &impl Abort, alloc: Global, world: &mut World) -> Result<()
 
 #[test]
 fn keeps_many_entries(rt: HostRuntime) -> Result<(), Fail> {
-    check_case(&rt, Case::Entries)
+    check_case(&rt, rt.alloc(), Case::Entries)
 }
