@@ -26,29 +26,34 @@ use cdi_tables::BeanTables;
 use cdi_transcript::texts::add_answer;
 use std::alloc::{AllocError, Global};
 
-/// Bodies of which one, with the name `b`, gives null. Its shape says whether it may go on with a chain.
-fn bodies_of(alloc: Global, names: &Names, chain: bool) -> Result<Bodies, AllocError> {
+/// The shape of a body that only gives a value. It says whether it may go on with a chain.
+fn shape_with(alloc: Global, chain: bool) -> Shape {
     let mut shape = Shape::new(alloc);
     shape.chain = chain;
+    shape
+}
+
+/// The tables of a deployment, unless it has problems of names or beans. A body is made in the function that registers it, since none
+/// may hand out a closure that it boxed.
+pub(crate) fn tables_of(alloc: Global, deployment: Deployment) -> Result<RunTables, BeanListError> {
+    let list = BeanList::build(alloc, &deployment)?;
+    let tables = BeanTables::build(alloc, &deployment, list)?;
     let body: Body = Box::new(
         alloc,
         |_fields: &Fields, _view: &View| -> Result<Act, AllocError>
             ensures { IfOk result (λ act. act ≡ Give Null) }
         { Ok(Act::Give { value: Value::Null }) },
-    )?;
+    )
+    .map_err(AllocError::from)?;
     let mut bodies = Bodies::new(alloc);
-    match bodies.add(names.name_for("b"), shape, body) {
-        Ok(_) => Ok(bodies),
-        Err(_) => Err(AllocError),
+    match bodies.add(
+        deployment.names.name_for("b"),
+        shape_with(alloc, false),
+        body,
+    ) {
+        Ok(_) => Ok(RunTables::build(alloc, deployment, tables, &bodies)?),
+        Err(_) => Err(BeanListError::Memory),
     }
-}
-
-/// The tables of a deployment, unless it has problems of names or beans.
-pub(crate) fn tables_of(alloc: Global, deployment: Deployment) -> Result<RunTables, BeanListError> {
-    let list = BeanList::build(alloc, &deployment)?;
-    let tables = BeanTables::build(alloc, &deployment, list)?;
-    let bodies = bodies_of(alloc, &deployment.names, false)?;
-    Ok(RunTables::build(alloc, deployment, tables, &bodies)?)
 }
 
 /// What is asked for: the injected fields of the last class.
@@ -152,9 +157,20 @@ fn add_method(
     }
 }
 
+/// Whether the shape of a body `b` that gives null is served.
 fn serves_shapes(alloc: Global, tables: &RunTables, chain: bool) -> Result<bool, AllocError> {
-    let bodies = bodies_of(alloc, &tables.deployment().names, chain)?;
-    Ok(tables.serves_shapes(&bodies))
+    let body: Body = Box::new(
+        alloc,
+        |_fields: &Fields, _view: &View| -> Result<Act, AllocError>
+            ensures { IfOk result (λ act. act ≡ Give Null) }
+        { Ok(Act::Give { value: Value::Null }) },
+    )?;
+    let mut bodies = Bodies::new(alloc);
+    let name = tables.deployment().names.name_for("b");
+    match bodies.add(name, shape_with(alloc, chain), body) {
+        Ok(_) => Ok(tables.serves_shapes(&bodies)),
+        Err(_) => Err(AllocError),
+    }
 }
 
 fn add_text(text: &mut String, tables: &RunTables, word: &str) -> Result<(), AllocError> {
