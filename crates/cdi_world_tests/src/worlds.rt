@@ -247,59 +247,11 @@ fn check_each(
     Ok(())
 }
 
-/// What is checked of a world that nothing has been done with.
-#[derive(Clone, Copy)]
-enum Case<'a> {
-    Nothing,
-    /// What is seen after each of some changes.
-    Changes(Look, &'a [Row]),
-    Down,
-    Invocation(Code),
-    Shared,
-    UnderWay,
-    Dependents,
-    Entries,
-}
-
-fn check_in(
-    rt: &impl Abort,
-    alloc: Global,
-    world: &mut World,
-    case: Case,
-) -> Result<(), AllocError> {
-    match case {
-        Case::Nothing => check_nothing(rt, world),
-        Case::Changes(look, rows) => check_each(rt, alloc, world, look, rows)?,
-        Case::Down => check_down(rt, world),
-        Case::Invocation(code) => check_entered(rt, alloc, world, code)?,
-        Case::Shared => check_shared(rt, alloc, world)?,
-        Case::UnderWay => check_under_way(rt, alloc, world)?,
-        Case::Dependents => check_dependents(rt, alloc, world)?,
-        Case::Entries => check_entries(rt, alloc, world)?,
-    }
-    Ok(())
-}
-
-/// The one function that owns a world, since the proof of each drops all that is in it.
-fn check_world(
-    rt: &impl Abort,
-    alloc: Global,
-    limits: Limits,
-    case: Case,
-) -> Result<(), AllocError> {
-    let mut world = World::new(alloc, limits);
-    check_in(rt, alloc, &mut world, case)
-}
-
-/// Checks it in a world of default limits.
-fn check_case(rt: &impl Abort, alloc: Global, case: Case) -> Result<(), Fail> {
-    Ok(check_world(rt, alloc, Limits::default(), case)?)
-}
-
-/// Checks changes of a world whose commands may have two entries.
+/// Checks what is seen after each of some changes of a world whose commands may have two entries.
 fn check_changes(rt: &impl Abort, alloc: Global, look: Look, rows: &[Row]) -> Result<(), Fail> {
     let limits = Limits::new(32, 2).expect(rt, "limits in range");
-    Ok(check_world(rt, alloc, limits, Case::Changes(look, rows))?)
+    let mut world = World::new(alloc, limits);
+    Ok(check_each(rt, alloc, &mut world, look, rows)?)
 }
 
 /// Checks what a world begins with.
@@ -311,8 +263,9 @@ fn check_nothing(rt: &impl Abort, world: &World) {
 }
 
 #[test]
-fn begins_with_nothing(rt: HostRuntime) -> Result<(), Fail> {
-    check_case(&rt, rt.alloc(), Case::Nothing)
+fn begins_with_nothing(rt: HostRuntime) {
+    let world = World::new(rt.alloc(), Limits::default());
+    check_nothing(&rt, &world);
 }
 
 #[test]
@@ -526,27 +479,23 @@ fn check_down(rt: &impl Abort, world: &mut World) {
 }
 
 #[test]
-fn goes_down(rt: HostRuntime) -> Result<(), Fail> {
-    check_case(&rt, rt.alloc(), Case::Down)
+fn goes_down(rt: HostRuntime) {
+    let mut world = World::new(rt.alloc(), Limits::default());
+    check_down(&rt, &mut world);
 }
 
 // ---- an invocation as a whole
 
-/// Registers a body that gives null.
-fn add_null(alloc: Global, bodies: &mut Bodies, name: Name) -> Result<BodyId, Fail> {
+/// The number of a body that gives null.
+fn body_of(alloc: Global) -> Result<BodyId, Fail> {
     let body: Body = Box::new(
         alloc,
         |_fields: &Fields, _view: &View| -> Result<Act, AllocError>
             ensures { IfOk result (λ act. act ≡ Give Null) }
         { Ok(Act::Give { value: Value::Null }) },
     )?;
-    Ok(bodies.add(name, Shape::new(alloc), body)?)
-}
-
-/// The number of a body.
-fn body_of(alloc: Global) -> Result<BodyId, Fail> {
     let mut bodies = Bodies::new(alloc);
-    add_null(alloc, &mut bodies, BuiltIn::Any.name())
+    Ok(bodies.add(BuiltIn::Any.name(), Shape::new(alloc), body)?)
 }
 
 /// A member.
@@ -594,7 +543,8 @@ fn keeps_an_invocation(rt: HostRuntime) -> Result<(), Fail> {
     let body = body_of(rt.alloc())?;
     let code = Code::new(place(), body);
     check_code(&rt, code, body);
-    check_case(&rt, rt.alloc(), Case::Invocation(code))
+    let mut world = World::new(rt.alloc(), Limits::default());
+    Ok(check_entered(&rt, rt.alloc(), &mut world, code)?)
 }
 
 // ---- many
@@ -665,7 +615,8 @@ fn check_shared(rt: &impl Abort, alloc: Global, world: &mut World) -> Result<(),
 
 #[test]
 fn holds_many_that_are_shared(rt: HostRuntime) -> Result<(), Fail> {
-    check_case(&rt, rt.alloc(), Case::Shared)
+    let mut world = World::new(rt.alloc(), Limits::default());
+    Ok(check_shared(&rt, rt.alloc(), &mut world)?)
 }
 
 /// Makes a change a thousand times, and checks what is seen then.
@@ -702,7 +653,8 @@ fn check_under_way(rt: &impl Abort, alloc: Global, world: &mut World) -> Result<
 
 #[test]
 fn keeps_many_under_way(rt: HostRuntime) -> Result<(), Fail> {
-    check_case(&rt, rt.alloc(), Case::UnderWay)
+    let mut world = World::new(rt.alloc(), Limits::default());
+    Ok(check_under_way(&rt, rt.alloc(), &mut world)?)
 }
 
 /// Makes many dependents of the first instance.
@@ -730,7 +682,8 @@ fn check_dependents(rt: &impl Abort, alloc: Global, world: &mut World) -> Result
 
 #[test]
 fn keeps_many_dependents(rt: HostRuntime) -> Result<(), Fail> {
-    check_case(&rt, rt.alloc(), Case::Dependents)
+    let mut world = World::new(rt.alloc(), Limits::default());
+    Ok(check_dependents(&rt, rt.alloc(), &mut world)?)
 }
 
 /// Writes many entries, and checks them.
@@ -743,5 +696,6 @@ fn check_entries(rt: &impl Abort, alloc: Global, world: &mut World) -> Result<()
 
 #[test]
 fn keeps_many_entries(rt: HostRuntime) -> Result<(), Fail> {
-    check_case(&rt, rt.alloc(), Case::Entries)
+    let mut world = World::new(rt.alloc(), Limits::default());
+    Ok(check_entries(&rt, rt.alloc(), &mut world)?)
 }
