@@ -70,7 +70,8 @@ fn told_of_counting(
     let body: Body = Box::new(
         alloc,
         move |fields: &Fields, view: &View| -> Result<Act, AllocError>
-            ensures { IfOk result (λ act. in_shape (plain_shape counting.field counting.method) view.now act ≡ true) }
+            ensures { IfOk result (λ act.
+                in_shape (plain_shape counting.field counting.method) view.now act ≡ true) }
         { counting.next(fields, view) },
     )?;
     let mut bodies = Bodies::new(alloc);
