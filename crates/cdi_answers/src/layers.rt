@@ -2,7 +2,7 @@
 use crate::asked::all_answers;
 use cdi_deploy::read_at;
 use cdi_stage::WHOLE;
-use cdi_transcript::marks::numbered;
+use cdi_transcript::marks::with_numbers;
 use cdi_transcript::{Played, Player, Scene};
 use std::alloc::{AllocError, Global};
 
@@ -20,9 +20,9 @@ fn answers_of(
 }
 
 /// The deployment of a run, as it is read.
-fn written(alloc: Global, scene: &Scene) -> Result<String, AllocError> {
+fn deployment_text(alloc: Global, scene: &Scene) -> Result<String, AllocError> {
     let text = scene.whole_deployment(alloc)?;
-    numbered(alloc, text.as_str())
+    with_numbers(alloc, text.as_str(), "##")
 }
 
 /// The layers between the readers and the container. Of a deployment they read, each `##` stands for a number, counted from 0.
@@ -30,7 +30,7 @@ pub(crate) struct Layers;
 
 impl Player for Layers {
     fn play(&self, alloc: Global, scene: &Scene) -> Result<Played, AllocError> {
-        let deployment = written(alloc, scene)?;
+        let deployment = deployment_text(alloc, scene)?;
         let words: Vec<&str> = scene.words.as_str().split_whitespace().collect(alloc)?;
         let output = answers_of(
             alloc,

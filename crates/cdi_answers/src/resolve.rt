@@ -65,7 +65,11 @@ fn resolver_of(alloc: Global, mut listed: Listed) -> Result<Resolver, AllocError
     Ok(Resolver::new(alloc, beans, flags))
 }
 
-fn resolved(alloc: Global, deployment: &Deployment, listed: Listed) -> Result<String, AllocError> {
+fn resolutions(
+    alloc: Global,
+    deployment: &Deployment,
+    listed: Listed,
+) -> Result<String, AllocError> {
     let resolver = resolver_of(alloc, listed)?;
     let types = QualifierTypes::qualifiers_of(alloc, deployment)?;
     line_of(alloc, deployment, &types, &resolver)
@@ -78,7 +82,7 @@ pub(crate) fn resolve_answers(
     _input: &str,
 ) -> Result<String, AllocError> {
     match list_of(alloc, deployment)? {
-        Some(listed) => resolved(alloc, deployment, listed),
+        Some(listed) => resolutions(alloc, deployment, listed),
         None => String::from_str(alloc, PROBLEMS),
     }
 }

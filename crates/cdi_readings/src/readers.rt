@@ -12,7 +12,7 @@ use crate::reading::{fault_line, hint_line, stage_of};
 use crate::scripts::{script_answers, scripts_answers};
 use cdi_deploy::read_at;
 use cdi_stage::WHOLE;
-use cdi_transcript::marks::{bytes_of, numbered};
+use cdi_transcript::marks::{bytes_of, with_numbers};
 use cdi_transcript::{Played, Player, Scene};
 use std::alloc::{AllocError, Global};
 
@@ -37,9 +37,9 @@ fn output_of(alloc: Global, words: &[&str], text: &str, input: &str) -> Result<S
 }
 
 /// The text of a run, as it is read.
-fn written(alloc: Global, scene: &Scene) -> Result<String, AllocError> {
+fn whole_text(alloc: Global, scene: &Scene) -> Result<String, AllocError> {
     let text = scene.whole_deployment(alloc)?;
-    numbered(alloc, text.as_str())
+    with_numbers(alloc, text.as_str(), "##")
 }
 
 /// The readers. Of a text, each `##` stands for a number, counted from 0.
@@ -47,7 +47,7 @@ pub(crate) struct Readers;
 
 impl Player for Readers {
     fn play(&self, alloc: Global, scene: &Scene) -> Result<Played, AllocError> {
-        let text = written(alloc, scene)?;
+        let text = whole_text(alloc, scene)?;
         let words: Vec<&str> = scene.words.as_str().split_whitespace().collect(alloc)?;
         let output = output_of(alloc, words.as_slice(), text.as_str(), scene.input.as_str())?;
         Ok(Played {

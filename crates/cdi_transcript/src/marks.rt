@@ -20,14 +20,14 @@ pub fn bytes_of(alloc: Global, text: &str) -> Result<Vec<u8>, AllocError> {
     Ok(bytes)
 }
 
-/// A text with a number in place of each `##` of it, counted from 0.
-pub fn numbered(alloc: Global, text: &str) -> Result<String, AllocError> {
-    let mut numbered = String::new(alloc);
-    for (index, piece) in text.split("##").enumerate() {
+/// A text with a number in place of each mark of it, counted from 0.
+pub fn with_numbers(alloc: Global, text: &str, mark: &str) -> Result<String, AllocError> {
+    let mut whole = String::new(alloc);
+    for (index, piece) in text.split(mark).enumerate() {
         if let Some(number) = index.checked_sub(1) {
-            write!(numbered, "{number}")?;
+            write!(whole, "{number}")?;
         }
-        numbered.push_str(piece)?;
+        whole.push_str(piece)?;
     }
-    Ok(numbered)
+    Ok(whole)
 }

@@ -64,7 +64,7 @@ fn push_kinds(names: &Names, problems: &mut Vec<Problem>) -> Result<(), AllocErr
 }
 
 /// Problems whose order is neither that of their words nor that of their kinds.
-fn unsorted(names: &Names) -> [Problem; 3] {
+fn unsorted_problems(names: &Names) -> [Problem; 3] {
     let class = names.name_for("K");
     [
         Problem {
@@ -85,7 +85,7 @@ fn unsorted(names: &Names) -> [Problem; 3] {
 fn lines_of(alloc: Global, names: &Names) -> Result<Vec<u8>, AllocError> {
     let mut problems = Vec::new(alloc);
     push_kinds(names, &mut problems)?;
-    problems.extend(unsorted(names))?;
+    problems.extend(unsorted_problems(names))?;
     write_problems(alloc, names, problems.as_slice())
 }
 

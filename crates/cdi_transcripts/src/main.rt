@@ -10,9 +10,9 @@ mod lines;
 mod many_beans;
 mod numbered;
 mod program;
+mod report;
 mod runtimes;
 mod streams;
-mod told;
 mod words;
 
 use crate::words::Program;

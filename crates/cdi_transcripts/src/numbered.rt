@@ -1,20 +1,9 @@
 //! Runs of many items that differ by a number alone.
 use crate::streams::Run;
 use cdi_transcript::Played;
+use cdi_transcript::marks::with_numbers;
 use std::alloc::{AllocError, Global};
 use std::str;
-
-/// A text with the numbers from 0 on in place of its marks.
-fn numbered(alloc: Global, text: &str) -> Result<String, AllocError> {
-    let mut whole = String::new(alloc);
-    for (index, piece) in text.split('#').enumerate() {
-        if let Some(number) = index.checked_sub(1) {
-            write!(whole, "{number}")?;
-        }
-        whole.push_str(piece)?;
-    }
-    Ok(whole)
-}
 
 /// Adds a line, or so many of it if it has a mark, each with a number in its place.
 fn push_input(
@@ -28,7 +17,7 @@ fn push_input(
     }
     let line = format!(in alloc; "{line}\n")?;
     let lines = line.as_str().repeat(alloc, count)?;
-    let lines = numbered(alloc, lines.as_str())?;
+    let lines = with_numbers(alloc, lines.as_str(), "#")?;
     input.push_str(lines.as_str())
 }
 
@@ -80,7 +69,7 @@ impl Folding {
 }
 
 /// The lines of a text, folded so.
-fn folded(alloc: Global, text: &str) -> Result<String, AllocError> {
+fn counted_lines(alloc: Global, text: &str) -> Result<String, AllocError> {
     let mut folding = Folding {
         lines: String::new(alloc),
         last: String::new(alloc),
@@ -91,9 +80,9 @@ fn folded(alloc: Global, text: &str) -> Result<String, AllocError> {
 }
 
 /// What a run came to, with its output folded so.
-fn with_folded(alloc: Global, played: Played) -> Result<Played, AllocError> {
+fn with_counts(alloc: Global, played: Played) -> Result<Played, AllocError> {
     let text = str::from_utf8(&played.output).unwrap_or("no text");
-    let output = folded(alloc, text)?;
+    let output = counted_lines(alloc, text)?;
     Ok(Played {
         status: played.status,
         output: output.into_bytes(),
@@ -110,12 +99,12 @@ pub(crate) fn play_numbered(
     input: &str,
     count: usize,
 ) -> Result<Played, AllocError> {
-    let deployment = numbered(alloc, deployment)?;
+    let deployment = with_numbers(alloc, deployment, "#")?;
     let input = many_lines(alloc, input, count)?;
     let run = Run {
         alloc,
         words,
         bytes: deployment.as_bytes(),
     };
-    with_folded(alloc, run.over(input.as_bytes()))
+    with_counts(alloc, run.over(input.as_bytes()))
 }

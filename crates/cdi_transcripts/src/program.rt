@@ -1,5 +1,5 @@
 //! Running the program over one file.
-use crate::told::limits_of;
+use crate::report::limits_of;
 use cdi_base::Limits;
 use cdi_lines::{Input, Output};
 use cdi_program::{Files, WordsError, run_program};

@@ -59,7 +59,7 @@ fn answers_by<D: Driver + Drop>(
 }
 
 /// What is told of a deployment with its bodies: what its runtime answers, or why it isn't accepted.
-pub(crate) fn told_of(
+pub(crate) fn report_of(
     alloc: Global,
     deployment: Deployment,
     bodies: Bodies,

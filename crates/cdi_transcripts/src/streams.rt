@@ -134,7 +134,7 @@ impl Run<'_> {
     }
 
     /// The run, as far as a buffered writer passes its output on.
-    fn held(self, input: &[u8]) -> Result<Played, AllocError> {
+    fn through_buffer(self, input: &[u8]) -> Result<Played, AllocError> {
         let Ok(writer) = BufWriter::new(self.alloc, Vec::new(self.alloc)) else {
             return Err(AllocError);
         };
@@ -181,7 +181,7 @@ pub(crate) fn play_over(run: Run, kind: &str, input: &[u8]) -> Result<Played, Al
         "broken" => Ok(run.over(open(input).chain(Broken))),
         "parts" => Ok(run.in_parts(input)),
         "rooms" => run.with_rooms(input),
-        "held" => run.held(input),
+        "held" => run.through_buffer(input),
         "stuck" => Ok(run.stuck(input)),
         _ => Ok(run.over(input)),
     }

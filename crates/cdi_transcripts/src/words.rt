@@ -10,12 +10,12 @@
 //! | `unknown WHY` | the program where its words are no text, or where there is no memory for them |
 //! | `front PATH` | how many bytes the program reads of a file of the machine |
 //! | `faults`, `problems` | lines that were written by hand: see the module `lines` |
-//! | others | what stands below the program: see the module `told` |
+//! | others | what stands below the program: see the module `report` |
 use crate::lines::{fault_lines, problem_lines};
 use crate::numbered::play_numbered;
 use crate::program::run_without_words;
+use crate::report::report;
 use crate::streams::{Run, bytes_of, play_blanks, play_over};
-use crate::told::told;
 use cdi_program::program::MAX_READ;
 use cdi_program::{Files, HostFiles, WordsError};
 use cdi_transcript::{Played, Player, Scene};
@@ -23,7 +23,7 @@ use std::alloc::{AllocError, Global};
 use std::str;
 
 /// A run that wrote this, and ended well.
-fn written(alloc: Global, output: Vec<u8>) -> Played {
+fn played_well(alloc: Global, output: Vec<u8>) -> Played {
     Played {
         status: 0,
         output,
@@ -75,7 +75,7 @@ fn play_bytes(
                 input.as_slice(),
             )
         }
-        _ => Ok(written(alloc, Vec::new(alloc))),
+        _ => Ok(played_well(alloc, Vec::new(alloc))),
     }
 }
 
@@ -105,10 +105,10 @@ fn play_beside(
     input: &str,
 ) -> Result<Played, AllocError> {
     match words {
-        ["faults"] => Ok(written(alloc, fault_lines(alloc)?)),
-        ["problems"] => Ok(written(alloc, problem_lines(alloc)?)),
+        ["faults"] => Ok(played_well(alloc, fault_lines(alloc)?)),
+        ["problems"] => Ok(played_well(alloc, problem_lines(alloc)?)),
         ["unknown", why] => Ok(run_without_words(alloc, error_of(why))),
-        _ => Ok(written(alloc, told(alloc, words, bytes, input)?.into_bytes())),
+        _ => Ok(played_well(alloc, report(alloc, words, bytes, input)?.into_bytes())),
     }
 }
 
@@ -181,7 +181,7 @@ impl Player for Program<'_> {
         let deployment = scene.whole_deployment(alloc)?;
         let words: Vec<&str> = scene.words.as_str().split_whitespace().collect(alloc)?;
         match words.as_slice() {
-            ["front", path] => Ok(written(
+            ["front", path] => Ok(played_well(
                 alloc,
                 front_line(alloc, &self.files, path)?.into_bytes(),
             )),

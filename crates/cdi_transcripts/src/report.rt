@@ -17,7 +17,7 @@ ghost use Rattle.cdi_transcripts.specs.Plain.{plain_shape};
 
 use crate::counting::Counting;
 use crate::many_beans::beans;
-use crate::runtimes::{Asking, told_of};
+use crate::runtimes::{Asking, report_of};
 use cdi_base::{Act, Fields, Limits};
 use cdi_bodies::{Bodies, Body, View};
 use cdi_deployment::Deployment;
@@ -35,7 +35,7 @@ fn next_of(alloc: Global, script: &Script, fields: &Fields, view: &View) -> Resu
 }
 
 /// What is told of a deployment with its scripts.
-fn told_of_scripts(
+fn report_of_scripts(
     alloc: Global,
     deployment: Deployment,
     scripts: Vec<NamedScript>,
@@ -55,11 +55,11 @@ fn told_of_scripts(
             return Err(AllocError);
         }
     }
-    told_of(alloc, deployment, bodies, asking)
+    report_of(alloc, deployment, bodies, asking)
 }
 
 /// What is told of a deployment with a body that counts so many times.
-fn told_of_counting(
+fn report_of_counting(
     alloc: Global,
     deployment: Deployment,
     sets: usize,
@@ -78,11 +78,11 @@ fn told_of_counting(
     if bodies.add(counting.method, shape, body).is_err() {
         return Err(AllocError);
     }
-    told_of(alloc, deployment, bodies, asking)
+    report_of(alloc, deployment, bodies, asking)
 }
 
 /// What is told of a deployment with its scripts, or with a body that counts so many times.
-fn told_of_prepared(
+fn report_of_prepared(
     alloc: Global,
     prepared: Prepared,
     sets: Option<usize>,
@@ -93,12 +93,12 @@ fn told_of_prepared(
         scripts,
     } = prepared;
     match sets {
-        Some(sets) => told_of_counting(alloc, deployment, sets, asking),
-        None => told_of_scripts(alloc, deployment, scripts, asking),
+        Some(sets) => report_of_counting(alloc, deployment, sets, asking),
+        None => report_of_scripts(alloc, deployment, scripts, asking),
     }
 }
 
-fn told_of_bytes(
+fn report_of_bytes(
     alloc: Global,
     stage: Stage,
     bytes: &[u8],
@@ -106,7 +106,7 @@ fn told_of_bytes(
     asking: Asking,
 ) -> Result<String, AllocError> {
     match prepare(alloc, stage, bytes) {
-        Ok(prepared) => told_of_prepared(alloc, prepared, sets, asking),
+        Ok(prepared) => report_of_prepared(alloc, prepared, sets, asking),
         Err(_) => String::from_str(alloc, "not read\n"),
     }
 }
@@ -128,28 +128,28 @@ fn asking_of<'a>(words: &[&str], input: &'a str) -> Asking<'a> {
 }
 
 /// What is told of so many beans.
-fn told_of_beans(alloc: Global, count: u32, asking: Asking) -> Result<String, AllocError> {
+fn report_of_beans(alloc: Global, count: u32, asking: Asking) -> Result<String, AllocError> {
     let deployment = beans(alloc, count)?;
-    told_of(alloc, deployment, Bodies::new(alloc), asking)
+    report_of(alloc, deployment, Bodies::new(alloc), asking)
 }
 
 /// What is told by the words of a run that are none of the program.
-pub(crate) fn told(
+pub(crate) fn report(
     alloc: Global,
     words: &[&str],
     bytes: &[u8],
     input: &str,
 ) -> Result<String, AllocError> {
     match words {
-        ["whole"] => told_of_bytes(alloc, WHOLE, bytes, None, asking_of(&[], input)),
+        ["whole"] => report_of_bytes(alloc, WHOLE, bytes, None, asking_of(&[], input)),
         ["counting", sets, limits @ ..] => {
             let asking = asking_of(limits, input);
-            told_of_bytes(alloc, SERVED, bytes, sets.parse().ok(), asking)
+            report_of_bytes(alloc, SERVED, bytes, sets.parse().ok(), asking)
         }
         ["beans", count] => {
-            told_of_beans(alloc, count.parse().unwrap_or(0), asking_of(&[], input))
+            report_of_beans(alloc, count.parse().unwrap_or(0), asking_of(&[], input))
         }
-        [_, limits @ ..] => told_of_bytes(alloc, SERVED, bytes, None, asking_of(limits, input)),
+        [_, limits @ ..] => report_of_bytes(alloc, SERVED, bytes, None, asking_of(limits, input)),
         [] => Ok(String::new(alloc)),
     }
 }
