@@ -9,11 +9,12 @@ use cdi_contexts::{Held, Status};
 use cdi_machine::{Driver, Failure};
 use cdi_resolve::Resolution as Resolved;
 use cdi_run_tables::RunTables;
+use cdi_stacks::Invocation;
 use cdi_steps::Host;
 use cdi_steps::beans::{BeanHead, Injection, Method, Resolution};
 use cdi_steps::task::Running;
 use cdi_store::{Component, Instance, Owner, Reference};
-use cdi_world::{Invocation, World};
+use cdi_world::World;
 use std::alloc::{AllocError, Global};
 use std::marker::Model;
 

@@ -4,8 +4,8 @@ use crate::task::Running;
 use cdi_base::{Act, Entry, Fields, Name, Scope, Use, Value};
 use cdi_contexts::{Held, Status};
 use cdi_machine::Failure;
+use cdi_stacks::Invocation;
 use cdi_store::{Component, Instance, Owner, Reference};
-use cdi_world::Invocation;
 use std::alloc::{AllocError, Global};
 
 /// All that the engine asks and changes. Each change of the world is one of the machine's definition. Asking the driver

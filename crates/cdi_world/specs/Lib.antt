@@ -1,4 +1,2 @@
-pub mod Stack
-pub mod Invocation
 pub mod Application
 pub mod Home

@@ -4,10 +4,7 @@
 
 mod application;
 mod home;
-pub mod invocation;
 mod numbered;
-mod stack;
 pub mod world;
 
-pub use invocation::{Code, Invocation};
 pub use world::World;

@@ -7,7 +7,7 @@ ghost use Rattle.cdi_store.specs.declared.instance.Context.TheVariants.{Applicat
 ghost use Rattle.cdi_contexts.specs.Contexts.{active_context, context_at, entry_in};
 ghost use Rattle.cdi_machine.specs.Destruction.{greatest_in, latest};
 ghost use Rattle.cdi_machine.specs.World.{before_boot, instance_at, no_environment};
-ghost use Rattle.cdi_world.specs.Stack.{innermost};
+ghost use Rattle.cdi_stacks.specs.Stack.{innermost};
 
 mod changes;
 mod command;
@@ -15,11 +15,10 @@ mod homes;
 mod making;
 
 use crate::application::LoneApplication;
-use crate::invocation::Invocation;
 use crate::numbered::instance_in;
-use crate::stack::Stack;
 use cdi_base::{Entry, Limits, Scope, Seq};
 use cdi_contexts::{Held, Status};
+use cdi_stacks::{Invocation, Stack};
 use cdi_store::{Instance, Store};
 use std::alloc::{AllocError, Global};
 use std::marker::Model;

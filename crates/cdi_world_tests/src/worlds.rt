@@ -9,8 +9,9 @@ use cdi_base::{
 };
 use cdi_bodies::{Bodies, Body, BodyId, Shape, View};
 use cdi_contexts::Held;
+use cdi_stacks::{Code, Invocation};
 use cdi_store::{Component, Context, Instance, Owner};
-use cdi_world::{Code, Invocation, World};
+use cdi_world::World;
 use std::alloc::{AllocError, Global};
 use std::process::Abort;
 use std::test::Fail;

@@ -5,8 +5,8 @@ ghost use Rattle.cdi_machine.specs.World.Change.{Borrow, Enter, Exit, Reach, Ret
 ghost use Rattle.cdi_machine.specs.World.Change.{Start, Stop};
 
 use super::World;
-use crate::invocation::Invocation;
 use cdi_base::{Entry, Seq};
+use cdi_stacks::Invocation;
 use std::alloc::AllocError;
 
 impl World {

@@ -2,7 +2,7 @@
 ghost use Rattle.std.specs.Prelude.{◌≡◌, ◌∷◌, [], length, OnOk, OnErr};
 ghost use Rattle.std.specs.Option.{option_copied};
 ghost use Rattle.cdi_machine.specs.World.{below};
-ghost use Rattle.cdi_world.specs.Stack.{innermost};
+ghost use Rattle.cdi_stacks.specs.Stack.{innermost};
 
 mod invocations;
 mod temporaries;
@@ -12,7 +12,7 @@ use std::marker::Model;
 
 /// A stack over a `Vec`, which contracts see as the list of its items, the innermost first.
 #[derive(Drop)]
-pub(crate) struct Stack<T> {
+pub struct Stack<T> {
     /// The innermost last.
     items: Vec<T>,
 }
@@ -27,7 +27,7 @@ impl<T> Model for Stack<T> {
 
 impl<T> Stack<T> {
     /// No items.
-    pub(crate) fn new(alloc: Global) -> Stack<T>
+    pub fn new(alloc: Global) -> Stack<T>
         ensures { result ≡ [] }
     {
         Stack {
@@ -36,21 +36,21 @@ impl<T> Stack<T> {
     }
 
     /// How many items there are.
-    pub(crate) fn len(&self) -> usize
+    pub fn len(&self) -> usize
         ensures { result ≡ length self.now }
     {
         self.items.len()
     }
 
     /// The innermost item, if there is one.
-    pub(crate) fn top(&self) -> Option<&T>
+    pub fn top(&self) -> Option<&T>
         ensures { option_copied result ≡ innermost self.now }
     {
         self.items.as_slice().last()
     }
 
     /// Adds an item as the innermost. On an error nothing changes.
-    pub(crate) fn push(&mut self, item: T) -> Result<(), AllocFailed<T>>
+    pub fn push(&mut self, item: T) -> Result<(), AllocFailed<T>>
         ensures ok { OnOk result (self.new ≡ item ∷ self.old) }
         ensures err { OnErr result (self.new ≡ self.old) }
     {
@@ -58,7 +58,7 @@ impl<T> Stack<T> {
     }
 
     /// Takes the innermost item away, if there is one.
-    pub(crate) fn pop(&mut self)
+    pub fn pop(&mut self)
     where
         T: Drop,
         ensures { self.new ≡ below self.old }
