@@ -7,12 +7,13 @@
 //! | an observer | the bean, `:` the method, the type, `\|` qualifiers; then, each behind `;`, the priority, and `if exists` where it is conditional |
 //! | a disposer | the method, `:` the producers that it serves |
 use crate::early::problem_lines;
-use cdi_base::{Name, Names};
+use cdi_base::{Name, Names, OrMemory, Seq};
 use cdi_beanlist::{
-    Bean, BeanKind, BeanList, BeanListError, BeanMember, DisposerMethod, EnabledInterceptor,
-    ObserverMethod, list_beans,
+    Bean, BeanKind, BeanList, BeanMember, DisposerMethod, EnabledInterceptor, ObserverMethod,
+    list_beans,
 };
 use cdi_deployment::Deployment;
+use cdi_problems::Problem;
 use cdi_quals::{QualSet, QualifierTypes};
 use cdi_transcript::texts::{add_name, add_names, add_scope};
 use cdi_types::TypeTable;
@@ -154,7 +155,10 @@ fn list_lines(alloc: Global, names: &Names, list: &BeanList) -> Result<String, A
 }
 
 /// The list of a deployment whose types have a table, whatever problems it has.
-fn unchecked_list(alloc: Global, deployment: &Deployment) -> Result<BeanList, BeanListError> {
+fn unchecked_list(
+    alloc: Global,
+    deployment: &Deployment,
+) -> Result<BeanList, OrMemory<Seq<Problem>>> {
     let Ok(types) = TypeTable::build(alloc, deployment) else {
         return BeanList::build(alloc, deployment);
     };
@@ -166,12 +170,12 @@ fn unchecked_list(alloc: Global, deployment: &Deployment) -> Result<BeanList, Be
 fn lines_of(
     alloc: Global,
     names: &Names,
-    built: &Result<BeanList, BeanListError>,
+    built: &Result<BeanList, OrMemory<Seq<Problem>>>,
 ) -> Result<String, AllocError> {
     match built {
         Ok(list) => list_lines(alloc, names, list),
-        Err(BeanListError::Problems(problems)) => problem_lines(alloc, names, problems.as_slice()),
-        Err(BeanListError::Memory) => Err(AllocError),
+        Err(OrMemory::Fault(problems)) => problem_lines(alloc, names, problems.as_slice()),
+        Err(OrMemory::Memory) => Err(AllocError),
     }
 }
 

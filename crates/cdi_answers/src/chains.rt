@@ -3,8 +3,8 @@
 //! `Class post` and `Class pre`.
 use crate::listed::PROBLEMS;
 use crate::words::{push_declared, push_name, push_word};
-use cdi_base::{InterceptorMethod, Name, Names, Seq};
-use cdi_beanlist::{Bean, BeanKind, BeanList, BeanListError, BeanMember, EnabledInterceptor};
+use cdi_base::{InterceptorMethod, Name, Names, OrMemory, Seq};
+use cdi_beanlist::{Bean, BeanKind, BeanList, BeanMember, EnabledInterceptor};
 use cdi_chains::{Chain, Chains};
 use cdi_deployment::Deployment;
 use cdi_quals::QualifierTypes;
@@ -177,7 +177,7 @@ pub(crate) fn chains_answers(
 ) -> Result<String, AllocError> {
     match BeanList::build(alloc, deployment) {
         Ok(list) => list_lines(alloc, deployment, list),
-        Err(BeanListError::Problems(_)) => String::from_str(alloc, PROBLEMS),
-        Err(BeanListError::Memory) => Err(AllocError),
+        Err(OrMemory::Fault(_)) => String::from_str(alloc, PROBLEMS),
+        Err(OrMemory::Memory) => Err(AllocError),
     }
 }

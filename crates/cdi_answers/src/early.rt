@@ -1,6 +1,6 @@
 //! The problems for which a deployment has no bean list.
-use cdi_base::Names;
-use cdi_beanlist::{BeanList, BeanListError};
+use cdi_base::{Names, OrMemory};
+use cdi_beanlist::BeanList;
 use cdi_deployment::Deployment;
 use cdi_problems::{Problem, ProblemText};
 use std::alloc::{AllocError, Global};
@@ -22,9 +22,9 @@ pub(crate) fn problem_lines(
 pub(crate) fn early_lines(alloc: Global, deployment: &Deployment) -> Result<String, AllocError> {
     match BeanList::build(alloc, deployment) {
         Ok(_) => String::from_str(alloc, "ok\n"),
-        Err(BeanListError::Problems(problems)) => {
+        Err(OrMemory::Fault(problems)) => {
             problem_lines(alloc, &deployment.names, problems.as_slice())
         }
-        Err(BeanListError::Memory) => Err(AllocError),
+        Err(OrMemory::Memory) => Err(AllocError),
     }
 }

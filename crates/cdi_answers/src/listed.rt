@@ -1,5 +1,6 @@
 //! The bean list of a deployment with the enabled ones of its beans.
-use cdi_beanlist::{BeanList, BeanListError};
+use cdi_base::OrMemory;
+use cdi_beanlist::BeanList;
 use cdi_deployment::Deployment;
 use cdi_enable::laws::law_forest;
 use cdi_enable::{EnabledSet, enabled};
@@ -26,7 +27,7 @@ pub(crate) fn list_of(
             let enabled = enabled(alloc, &list)?;
             Ok(Some(Listed { list, enabled }))
         }
-        Err(BeanListError::Problems(_)) => Ok(None),
-        Err(BeanListError::Memory) => Err(AllocError),
+        Err(OrMemory::Fault(_)) => Ok(None),
+        Err(OrMemory::Memory) => Err(AllocError),
     }
 }

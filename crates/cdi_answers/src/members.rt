@@ -6,10 +6,10 @@
 //! | `injected C` | the same for its injected fields |
 //! | `members C` | the same for its members |
 use crate::words::push_declared;
-use cdi_base::{Name, Names};
+use cdi_base::{Name, Names, OrMemory};
 use cdi_deployment::{Deployment, Field, InjectedField, Member};
 use cdi_members::{ClassIndex, ClassLine, ClassPart, member_name};
-use cdi_types::{TypeTable, TypesError};
+use cdi_types::TypeTable;
 use std::alloc::{AllocError, Global};
 
 fn push_fields(
@@ -112,7 +112,7 @@ pub(crate) fn members_answers(
 ) -> Result<String, AllocError> {
     match TypeTable::build(alloc, deployment) {
         Ok(types) => lines_of(alloc, deployment, &types, input),
-        Err(TypesError::Memory) => Err(AllocError),
+        Err(OrMemory::Memory) => Err(AllocError),
         Err(_) => String::from_str(alloc, "no table of types\n"),
     }
 }

@@ -4,13 +4,13 @@
 use crate::listed::{Listed, PROBLEMS, list_of};
 use crate::points::points_of;
 use crate::words::{push_marked, push_name, push_space, push_word};
-use cdi_base::{Names, Seq};
+use cdi_base::{Names, OrMemory, Seq};
 use cdi_beanlist::ObserverMethod;
 use cdi_deployment::{Deployment, InjectedField};
 use cdi_enable::EnabledSet;
 use cdi_observers::{ObserverGroup, Observers};
 use cdi_quals::{QualSet, QualifierTypes};
-use cdi_types::{TypeTable, TypesError};
+use cdi_types::TypeTable;
 use std::alloc::{AllocError, Global};
 use std::mem;
 
@@ -102,7 +102,7 @@ fn enabled_ones(
 ) -> Result<Option<Observers>, AllocError> {
     match TypeTable::build(alloc, deployment) {
         Ok(types) => Ok(Some(Observers::build(alloc, observers, enabled, types)?)),
-        Err(TypesError::Memory) => Err(AllocError),
+        Err(OrMemory::Memory) => Err(AllocError),
         Err(_) => Ok(None),
     }
 }

@@ -13,8 +13,7 @@
 //! brackets, a chain has the places of interceptors in square brackets, and a body stands behind its member and `=`.
 use crate::places::add_place;
 use crate::tables::tables_of;
-use cdi_base::Names;
-use cdi_beanlist::BeanListError;
+use cdi_base::{Names, OrMemory};
 use cdi_deployment::{Deployment, Field, Point};
 use cdi_plans::{
     BusinessMethod, Code, InjectedMethod, Lifecycle, ManagedPlan, Plan, ProductPlan, Source, Step,
@@ -159,7 +158,7 @@ pub(crate) fn plans_answers(
 ) -> Result<String, AllocError> {
     match tables_of(alloc, deployment) {
         Ok(tables) => plan_lines(alloc, &tables),
-        Err(BeanListError::Problems(_)) => String::from_str(alloc, "problems\n"),
-        Err(BeanListError::Memory) => Err(AllocError),
+        Err(OrMemory::Fault(_)) => String::from_str(alloc, "problems\n"),
+        Err(OrMemory::Memory) => Err(AllocError),
     }
 }

@@ -16,10 +16,11 @@ ghost use Rattle.cdi_base.specs.declared.act.Act.TheVariants.{Give};
 ghost use Rattle.cdi_base.specs.declared.value.Value.TheVariants.{Null};
 
 use crate::places::add_place;
-use cdi_base::{Act, Fields, MemberValue, Names, Seq, Use, Value};
-use cdi_beanlist::{BeanList, BeanListError};
+use cdi_base::{Act, Fields, MemberValue, Names, OrMemory, Seq, Use, Value};
+use cdi_beanlist::BeanList;
 use cdi_bodies::{Bodies, Body, Shape, View};
 use cdi_deployment::{Deployment, InjectedField};
+use cdi_problems::Problem;
 use cdi_resolve::Resolution;
 use cdi_run_tables::RunTables;
 use cdi_tables::BeanTables;
@@ -35,7 +36,10 @@ fn shape_with(alloc: Global, chain: bool) -> Shape {
 
 /// The tables of a deployment, unless it has problems of names or beans. A body is made in the function that registers it, since none
 /// may hand out a closure that it boxed.
-pub(crate) fn tables_of(alloc: Global, deployment: Deployment) -> Result<RunTables, BeanListError> {
+pub(crate) fn tables_of(
+    alloc: Global,
+    deployment: Deployment,
+) -> Result<RunTables, OrMemory<Seq<Problem>>> {
     let list = BeanList::build(alloc, &deployment)?;
     let tables = BeanTables::build(alloc, &deployment, list)?;
     let body: Body = Box::new(
@@ -52,7 +56,7 @@ pub(crate) fn tables_of(alloc: Global, deployment: Deployment) -> Result<RunTabl
         body,
     ) {
         Ok(_) => Ok(RunTables::build(alloc, deployment, tables, &bodies)?),
-        Err(_) => Err(BeanListError::Memory),
+        Err(_) => Err(OrMemory::Memory),
     }
 }
 
@@ -221,7 +225,7 @@ pub(crate) fn tables_answers(
 ) -> Result<String, AllocError> {
     match tables_of(alloc, deployment) {
         Ok(tables) => answer_lines(alloc, &tables, input),
-        Err(BeanListError::Problems(_)) => String::from_str(alloc, "problems\n"),
-        Err(BeanListError::Memory) => Err(AllocError),
+        Err(OrMemory::Fault(_)) => String::from_str(alloc, "problems\n"),
+        Err(OrMemory::Memory) => Err(AllocError),
     }
 }

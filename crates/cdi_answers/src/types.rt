@@ -8,9 +8,9 @@
 //!
 //! Where the types have no table, one line says why: `cycle` or `unknown`.
 use crate::words::push_names;
-use cdi_base::{Name, Names};
+use cdi_base::{Name, Names, OrMemory};
 use cdi_deployment::Deployment;
-use cdi_types::{TypeGraph, TypeTable, TypesError};
+use cdi_types::{TypeGraph, TypeTable, TypesFault};
 use std::alloc::{AllocError, Global};
 
 /// Whether one of two types is a subtype of the other; both have to be names of the deployment.
@@ -89,9 +89,9 @@ pub(crate) fn types_answers(
 ) -> Result<String, AllocError> {
     match TypeTable::build(alloc, deployment) {
         Ok(table) => table_answers(alloc, &deployment.names, &table, input),
-        Err(TypesError::Cycle) => String::from_str(alloc, "cycle\n"),
-        Err(TypesError::Unknown) => String::from_str(alloc, "unknown\n"),
-        Err(TypesError::Memory) => Err(AllocError),
+        Err(OrMemory::Fault(TypesFault::Cycle)) => String::from_str(alloc, "cycle\n"),
+        Err(OrMemory::Fault(TypesFault::Unknown)) => String::from_str(alloc, "unknown\n"),
+        Err(OrMemory::Memory) => Err(AllocError),
     }
 }
 

@@ -1,7 +1,8 @@
 -- A loop over the members of a use numbers their names as `numbered_members` does.
 use Rattle.std.proofs.Common.{◌≡◌, ◌∙◌, ℕ, List, [], ◌∷◌, ◌++◌, Option, Some, None, Err, option_map, option_and_then, refl, sym, ap, append_assoc, append-nil}
-use Rattle.cdi_base.specs.declared.name.InternError.{InternError}
-use Rattle.cdi_base.specs.declared.name.InternError.TheVariants as errors
+use Rattle.cdi_base.specs.declared.name.TableFull.{TableFull}
+use Rattle.cdi_base.specs.declared.or_memory.OrMemory.{OrMemory}
+use Rattle.cdi_base.specs.declared.or_memory.OrMemory.TheVariants as errors
 use Rattle.cdi_base.specs.declared.uses.MemberValue.{MemberValue}
 use Rattle.cdi_base.specs.declared.uses.WrittenMember.{WrittenMember}
 use Rattle.cdi_base.specs.Uses.{Interns, numbered_member, numbered_members}
@@ -35,11 +36,11 @@ goes_on front names after m x ms total read so_far =
     sym one ∙ so_far
 
 -- where a name has no room, the members have none
-pub ends : (e : InternError) (front : List MemberValue) (names : List (List ℕ)) (m : WrittenMember) (ms : List WrittenMember) (total : Numbered)
+pub ends : (e : OrMemory TableFull) (front : List MemberValue) (names : List (List ℕ)) (m : WrittenMember) (ms : List WrittenMember) (total : Numbered)
     → (h : Interns {A = MemberValue} (λ x. (x, names)) (Err e) (numbered_member names m)) → with_front front (numbered_members names (m ∷ ms)) ≡ total
     → Interns {A = List MemberValue} (λ xs. (xs, names)) (Err e) total
 ends errors.Memory front names m ms total h so_far = tt
-ends errors.Full front names m ms total h so_far =
+ends (errors.Fault full) front names m ms total h so_far =
     sym so_far ∙ ap (λ (r : Option (MemberValue × List (List ℕ))). with_front front (option_and_then (λ first. option_map (λ rest. (first.0 ∷ rest.0, rest.1)) (numbered_members first.1 ms)) r)) h
 
 pub is_done : (front : List MemberValue) (names : List (List ℕ)) (total : Numbered) → with_front front (numbered_members names []) ≡ total → total ≡ Some (front, names)

@@ -1,8 +1,9 @@
 -- Uses as they are written, and with their names in a table.
 use Rattle.std.specs.Prelude.{◌≡◌, ℕ, Bool, ◌&&◌, List, [], ◌∷◌, Option, Some, None, Result, Ok, Err, option_map, option_and_then, if◌then◌else◌}
 use Rattle.std.specs.List.{list_all}
-use Rattle.cdi_base.specs.declared.name.InternError.{InternError}
-use Rattle.cdi_base.specs.declared.name.InternError.TheVariants as errors
+use Rattle.cdi_base.specs.declared.name.TableFull.{TableFull}
+use Rattle.cdi_base.specs.declared.or_memory.OrMemory.{OrMemory}
+use Rattle.cdi_base.specs.declared.or_memory.OrMemory.TheVariants as errors
 use Rattle.cdi_base.specs.declared.uses.MemberValue.{MemberValue}
 use Rattle.cdi_base.specs.declared.uses.Use.{Use}
 use Rattle.cdi_base.specs.declared.uses.WrittenMember.{WrittenMember}
@@ -45,7 +46,7 @@ numbered_use names written =
     (numbered names written.name)
 
 -- what was answered, seen by view, is what numbering gives: none if the table is full, and memory may run out
-abbrev pub Interns : {A B : Type 0} → (A → B) → Result A InternError → Option B → Type 0
+abbrev pub Interns : {A B : Type 0} → (A → B) → Result A (OrMemory TableFull) → Option B → Type 0
 Interns view (Ok x) given = given ≡ Some (view x)
-Interns view (Err errors.Full) given = given ≡ None
+Interns view (Err (errors.Fault full)) given = given ≡ None
 Interns view (Err errors.Memory) given = Unit {0}

@@ -2,7 +2,8 @@
 ghost use Rattle.std.specs.Prelude.{◌≡◌, ◌<◌, length, slice_get, Some, IfOk};
 ghost use Rattle.cdi_base.specs.BuiltIn as spec;
 
-use crate::name::{InternError, Name, Names};
+use crate::name::{Name, Names, TableFull};
+use crate::or_memory::OrMemory;
 use std::alloc::{AllocError, Global};
 
 /// A built-in class, qualifier, member of a qualifier, or exception. All built-in exceptions are unchecked.
@@ -108,8 +109,8 @@ impl Names {
         for built_in in ALL {
             match names.intern(built_in.text()) {
                 Ok(_) => {}
-                Err(InternError::Full) => unreachable!(),
-                Err(InternError::Memory) => return Err(AllocError),
+                Err(OrMemory::Fault(TableFull)) => unreachable!(),
+                Err(OrMemory::Memory) => return Err(AllocError),
             }
         }
         Ok(names)

@@ -1,11 +1,12 @@
 //! Names, and the table that numbers them.
-ghost use Rattle.std.specs.Prelude.{◌≡◌, [], ◌<◌, ◌≤◌, ◌↔◌, false, length, slice_get, option_map, position, bytes_eq, Some, IsTrue, IsOk, IfOk, OnOk, OnErr, IsErrOf};
+ghost use Rattle.std.specs.Prelude.{◌≡◌, [], ◌<◌, ◌≤◌, ◌↔◌, false, length, slice_get, option_map, position, bytes_eq, Some, IsTrue, IsOk, IfOk, OnOk, OnErr};
 ghost use Rattle.std.specs.List.{list_all};
 ghost use Rattle.cdi_base.specs.Name as spec;
-ghost use Rattle.cdi_base.specs.declared.name.InternError.TheVariants.{Memory};
+ghost use Rattle.cdi_base.specs.Reading.{IsFault};
 
+use crate::or_memory::OrMemory;
 use indexmap::IndexSet;
-use std::alloc::{AllocError, AllocFailed, Global};
+use std::alloc::Global;
 use std::marker::Model;
 use thiserror::Error;
 
@@ -40,32 +41,10 @@ impl Name {
     }
 }
 
-/// Why a name was not interned. The table is as before.
+/// A name was not interned, since the table holds [`MAX_NAMES`] others.
 #[derive(Clone, Copy, Debug, PartialEq, Eq, Error)]
-pub enum InternError {
-    /// The table holds [`MAX_NAMES`] other names.
-    #[error("the table of names is full")]
-    Full,
-    /// No memory was left for the name.
-    #[error("out of memory")]
-    Memory,
-}
-
-impl From<AllocError> for InternError {
-    ghost from_gives = { λ _ e. e ≡ Memory };
-
-    fn from(_error: AllocError) -> InternError {
-        InternError::Memory
-    }
-}
-
-impl<T: Drop> From<AllocFailed<T>> for InternError {
-    ghost from_gives = { λ _ e. e ≡ Memory };
-
-    fn from(_error: AllocFailed<T>) -> InternError {
-        InternError::Memory
-    }
-}
+#[error("the table of names is full")]
+pub struct TableFull;
 
 /// A table of names, each under a number of its own. Contracts see the list of the texts, each at its number.
 #[derive(Drop)]
@@ -137,13 +116,13 @@ impl Names {
 
     /// The name of a text, which a text that is new to the table is given. A text that is known is never refused. On an
     /// error nothing changes.
-    pub fn intern(&mut self, text: &str) -> Result<Name, InternError>
+    pub fn intern(&mut self, text: &str) -> Result<Name, OrMemory<TableFull>>
         requires { IsTrue (spec.is_name text.now) }
         ensures number { IfOk result (λ name. name ≡ spec.number_of self.old text.now) }
         ensures added { OnOk result (self.new ≡ spec.with_name self.old text.now) }
         ensures within { IfOk result (λ name. name < length self.new) }
         ensures known { IsTrue (spec.is_known self.old text.now) → IsOk result }
-        ensures full { IsErrOf result InternError.Full ↔ (spec.has_room self.old text.now ≡ false) }
+        ensures full { IsFault result (record {}) ↔ (spec.has_room self.old text.now ≡ false) }
         ensures err { OnErr result (self.new ≡ self.old) }
     {
         if let Some(index) = self.texts.get_index_of(text) {
@@ -152,7 +131,7 @@ impl Names {
             });
         }
         if self.texts.len() >= MAX_NAMES {
-            return Err(InternError::Full);
+            return Err(OrMemory::Fault(TableFull));
         }
         let copy = String::from_str(*self.texts.allocator(), text)?;
         let (index, _) = self.texts.insert_full(copy)?;

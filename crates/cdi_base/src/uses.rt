@@ -4,7 +4,8 @@ ghost use Rattle.std.specs.List.{list_all};
 ghost use Rattle.cdi_base.specs.Name.{is_name, Extends};
 ghost use Rattle.cdi_base.specs.Uses as spec;
 
-use crate::name::{InternError, Name, Names, is_name as is_a_name};
+use crate::name::{Name, Names, TableFull, is_name as is_a_name};
+use crate::or_memory::OrMemory;
 use crate::seq::Seq;
 use crate::text::Text;
 use crate::value::Value;
@@ -78,7 +79,7 @@ impl WrittenUse {
 }
 
 /// The name of a text, which has to be a name. An error leaves the table as it is.
-fn number(names: &mut Names, text: &str) -> Result<Name, InternError>
+fn number(names: &mut Names, text: &str) -> Result<Name, OrMemory<TableFull>>
     requires { IsTrue (is_name text.now) }
     ensures gives { spec.Interns
         (λ name. (name, names.new)) result (spec.numbered names.old text.now) }
@@ -87,7 +88,10 @@ fn number(names: &mut Names, text: &str) -> Result<Name, InternError>
     names.intern(text)
 }
 
-fn number_member(names: &mut Names, written: &WrittenMember) -> Result<MemberValue, InternError>
+fn number_member(
+    names: &mut Names,
+    written: &WrittenMember,
+) -> Result<MemberValue, OrMemory<TableFull>>
     requires { IsTrue (spec.has_name written.now) }
     ensures gives { spec.Interns (λ m. (m, names.new)) result
         (spec.numbered_member names.old written.now) }
@@ -102,7 +106,7 @@ fn number_members(
     alloc: Global,
     names: &mut Names,
     written: &[WrittenMember],
-) -> Result<Seq<MemberValue>, InternError>
+) -> Result<Seq<MemberValue>, OrMemory<TableFull>>
     requires { IsTrue (list_all spec.has_name written.now) }
     ensures gives { spec.Interns (λ ms. (ms, names.new)) result
         (spec.numbered_members names.old written.now) }
@@ -119,7 +123,11 @@ impl Names {
     /// The use with its names in this table: its own first, and then those of its members in their order. Its texts have
     /// to be names (see [`WrittenUse::has_names`]). On an error the table may have got some of the names, and those that
     /// were in it keep their numbers.
-    pub fn intern_use(&mut self, alloc: Global, written: &WrittenUse) -> Result<Use, InternError>
+    pub fn intern_use(
+        &mut self,
+        alloc: Global,
+        written: &WrittenUse,
+    ) -> Result<Use, OrMemory<TableFull>>
         requires { IsTrue (spec.has_names written.now) }
         ensures gives { spec.Interns (λ u. (u, self.new)) result
             (spec.numbered_use self.old written.now) }

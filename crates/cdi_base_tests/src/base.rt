@@ -2,8 +2,8 @@
 use crate::checks::{expect_same, expect_text, expect_that};
 use cdi_base::built_in::ALL;
 use cdi_base::{
-    Act, Answer, BuiltIn, Cause, Fields, InternError, Limits, MemberValue, Name, Names, ReadError,
-    Refusal, Seq, Text, Use, Value, Via, is_name,
+    Act, Answer, BuiltIn, Cause, Fields, Limits, MemberValue, Name, Names, OrMemory, Refusal, Seq,
+    Text, Use, Value, Via, is_name,
 };
 use std::alloc::Global;
 use std::process::Abort;
@@ -13,9 +13,9 @@ pub(crate) fn interned(rt: &impl Abort, names: &mut Names, text: &str) -> Name {
     assert!(rt; is_name(text));
     let before = names.len();
     let found = names.intern(text);
-    if let Err(error) = found {
+    if let Err(error) = &found {
         expect_same(rt, &names.len(), &before);
-        expect_same(rt, &error, &InternError::Memory);
+        expect_same(rt, error, &OrMemory::Memory);
     }
     found.expect(rt, text)
 }
@@ -286,5 +286,5 @@ fn writes_words(rt: HostRuntime) {
     expect_text(&rt, rt.alloc(), &Refusal::BadLine, "BadLine");
     expect_same(&rt, &Refusal::TooManySessions.word(), &"TooManySessions");
     expect_text(&rt, rt.alloc(), &Cause::Memory, "memory");
-    expect_text(&rt, rt.alloc(), &ReadError::Fault(Cause::Depth), "depth");
+    expect_text(&rt, rt.alloc(), &OrMemory::Fault(Cause::Depth), "depth");
 }

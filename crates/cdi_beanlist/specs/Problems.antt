@@ -1,6 +1,8 @@
 -- Which deployments have a bean list, and the problems of the others (Jakarta CDI 4.0, Problems detected automatically by the
 -- container).
 use Rattle.std.specs.Prelude.{◌≢◌, List, []}
+use Rattle.cdi_base.specs.declared.or_memory.OrMemory.{OrMemory}
+use Rattle.cdi_base.specs.declared.or_memory.OrMemory.TheVariants as errors
 use Rattle.cdi_deployment.specs.declared.deployment.Deployment.{Deployment}
 use Rattle.cdi_bean_check.specs.Tiers.{AreBeanProblems}
 use Rattle.cdi_name_check.specs.NameProblems.{AreNameProblems}
@@ -9,8 +11,6 @@ use Rattle.cdi_quals.specs.Types.{AreQualifiersOf, AreTypesOf}
 use Rattle.cdi_quals.specs.declared.types.QualifierType.{QualifierType}
 use Rattle.cdi_beanlist.specs.BeanLists.{IsBeanListOf}
 use Rattle.cdi_beanlist.specs.declared.bean.BeanList.{BeanList}
-use Rattle.cdi_beanlist.specs.declared.build.BeanListError.{BeanListError}
-use Rattle.cdi_beanlist.specs.declared.build.BeanListError.TheVariants as errors
 
 -- a deployment whose names have no problem, and its beans neither, with the types of its qualifiers and its bean list
 pub record IsMadeOf (d : Deployment) (list : BeanList) : Type 0 where
@@ -34,6 +34,7 @@ pub record AreAllProblemsOf (d : Deployment) (problems : List Problem) : Type 0 
   pub some : problems ≢ []
   pub are : AreProblemsOf d problems
 
-abbrev pub IsRefusedWith : Deployment → BeanListError → Type 0
-IsRefusedWith d (errors.Problems problems) = AreAllProblemsOf d problems
+-- the fault is the problems of a deployment that has some, or memory ran out
+abbrev pub IsRefusedWith : Deployment → OrMemory (List Problem) → Type 0
+IsRefusedWith d (errors.Fault problems) = AreAllProblemsOf d problems
 IsRefusedWith d errors.Memory = Unit {0}

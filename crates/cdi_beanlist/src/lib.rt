@@ -3,7 +3,7 @@
 
 pub mod bean;
 mod beans;
-pub mod build;
+mod build;
 mod disposers;
 mod interceptors;
 pub mod list;
@@ -15,5 +15,4 @@ mod uses;
 pub use bean::{
     Bean, BeanKind, BeanList, BeanMember, DisposerMethod, EnabledInterceptor, ObserverMethod,
 };
-pub use build::BeanListError;
 pub use list::list_beans;

@@ -9,8 +9,8 @@ ghost use Rattle.cdi_check.specs.Tables.{setting_by};
 ghost use Rattle.cdi_tables.specs.BeanTables.{AreTablesOf};
 
 use crate::settings::problems_by;
-use cdi_base::Seq;
-use cdi_beanlist::{BeanList, BeanListError};
+use cdi_base::{OrMemory, Seq};
+use cdi_beanlist::BeanList;
 use cdi_bodies::Bodies;
 use cdi_deployment::Deployment;
 use cdi_problems::Problem;
@@ -64,7 +64,7 @@ pub fn check(
 {
     match BeanList::build(alloc, deployment) {
         Ok(list) => problems_with(alloc, deployment, list, bodies),
-        Err(BeanListError::Problems(problems)) => Ok(problems),
-        Err(BeanListError::Memory) => Err(AllocError),
+        Err(OrMemory::Fault(problems)) => Ok(problems),
+        Err(OrMemory::Memory) => Err(AllocError),
     }
 }

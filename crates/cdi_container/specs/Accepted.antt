@@ -1,5 +1,7 @@
 -- Which deployments are accepted, and served.
 use Rattle.std.specs.Prelude.{ℕ, ◌≡◌, ◌≢◌, ◌<◌, ◌&&◌, List, [], length, Bool, true, false, Option}
+use Rattle.cdi_base.specs.declared.or_memory.OrMemory.{OrMemory}
+use Rattle.cdi_base.specs.declared.or_memory.OrMemory.TheVariants as errors
 use Rattle.cdi_bodies.specs.declared.entry.Entry.{Entry}
 use Rattle.cdi_bodies.specs.declared.shape.Shape.{Shape}
 use Rattle.cdi_body_check.specs.Shapes.{shape_of}
@@ -14,7 +16,7 @@ use Rattle.cdi_run_tables.specs.Sizes.{is_small}
 use Rattle.cdi_run_tables.specs.declared.tables.RunTables.{RunTables}
 use Rattle.cdi_runtime.specs.Standing.{IsServable, KnowsMethods}
 use Rattle.cdi_container.specs.declared.acceptance.Unaccepted.{Unaccepted}
-use Rattle.cdi_container.specs.declared.acceptance.Unaccepted.TheVariants as errors
+use Rattle.cdi_container.specs.declared.acceptance.Unaccepted.TheVariants as reasons
 
 -- what the deployment declares is served, and so are the bodies with these shapes
 abbrev pub serves : (ℕ → Option Shape) → RunTables → Bool
@@ -47,9 +49,9 @@ pub record IsUnserved {X : Type 0} {F : X → Type 0} {g : _}
 
 -- there are problems, it isn't served yet, or memory ran out
 abbrev pub IsUnaccepted : {X : Type 0} {F : X → Type 0} {g : _}
-    → Deployment → List (Entry X F g) → Unaccepted → Type 0
-IsUnaccepted deployment entries (errors.Problems names problems) =
+    → Deployment → List (Entry X F g) → OrMemory Unaccepted → Type 0
+IsUnaccepted deployment entries (errors.Fault (reasons.Problems names problems)) =
     (names ≡ deployment.names) × AreProblemsOf deployment (shape_of entries) problems
     × (problems ≢ [])
-IsUnaccepted deployment entries errors.Unserved = IsUnserved deployment entries
+IsUnaccepted deployment entries (errors.Fault reasons.Unserved) = IsUnserved deployment entries
 IsUnaccepted deployment entries errors.Memory = Unit {0}

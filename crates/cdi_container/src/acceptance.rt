@@ -1,16 +1,17 @@
 //! Which deployments a container is started for.
 ghost use Rattle.std.specs.Prelude.{◌≡◌, [], true, IfOk, IfErr};
+ghost use Rattle.cdi_base.specs.declared.or_memory.OrMemory.TheVariants.{Fault};
 ghost use Rattle.cdi_beanlist.specs.Problems.{IsMadeOf};
 ghost use Rattle.cdi_bodies.specs.Table.{entries_of};
 ghost use Rattle.cdi_body_check.specs.Shapes.{shape_of};
 ghost use Rattle.cdi_check.specs.Late.{AreProblemsIn};
 ghost use Rattle.cdi_check.specs.Tables.{setting_by};
 ghost use Rattle.cdi_container.specs.Accepted as spec;
-ghost use Rattle.cdi_container.specs.declared.acceptance.Unaccepted.TheVariants.{Memory, Problems};
+ghost use Rattle.cdi_container.specs.declared.acceptance.Unaccepted.TheVariants.{Problems};
 
 use cdi_accepted::laws::law_fits;
-use cdi_base::{Names, Seq};
-use cdi_beanlist::{BeanList, BeanListError};
+use cdi_base::{Names, OrMemory, Seq};
+use cdi_beanlist::BeanList;
 use cdi_bodies::Bodies;
 use cdi_check::late_problems;
 use cdi_deployment::Deployment;
@@ -18,7 +19,7 @@ use cdi_problems::Problem;
 use cdi_run_tables::RunTables;
 use cdi_runtime::laws::law_knows_methods;
 use cdi_tables::BeanTables;
-use std::alloc::{AllocError, Global};
+use std::alloc::Global;
 
 /// Why a deployment isn't accepted.
 #[derive(Drop)]
@@ -30,26 +31,16 @@ pub enum Unaccepted {
     },
     /// It has no problem, but something that a container doesn't serve yet.
     Unserved,
-    /// A growth was refused.
-    Memory,
-}
-
-impl From<AllocError> for Unaccepted {
-    ghost from_gives = { λ _ e. e ≡ Memory };
-
-    fn from(_error: AllocError) -> Unaccepted {
-        Unaccepted::Memory
-    }
 }
 
 /// A deployment has these problems.
-fn refused(deployment: Deployment, problems: Seq<Problem>) -> Unaccepted
-    ensures { result ≡ Problems deployment.names problems }
+fn refused(deployment: Deployment, problems: Seq<Problem>) -> OrMemory<Unaccepted>
+    ensures { result ≡ Fault (Problems deployment.names problems) }
 {
-    Unaccepted::Problems {
+    OrMemory::Fault(Unaccepted::Problems {
         names: deployment.into_names(),
         problems,
-    }
+    })
 }
 
 /// Whether a container serves a deployment with these bodies.
@@ -60,7 +51,7 @@ fn serves(tables: &RunTables, bodies: &Bodies) -> bool
 }
 
 /// The tables of a deployment that has no problem, if it is served with these bodies.
-fn served_tables(tables: RunTables, bodies: &Bodies) -> Result<RunTables, Unaccepted>
+fn served_tables(tables: RunTables, bodies: &Bodies) -> Result<RunTables, OrMemory<Unaccepted>>
     requires are { spec.AreTablesWith tables.deployment (entries_of bodies.now) tables }
     requires faultless { AreProblemsIn tables.deployment (shape_of (entries_of bodies.now))
         tables.tables.enabled (setting_by tables.deployment tables.tables) [] }
@@ -72,7 +63,7 @@ fn served_tables(tables: RunTables, bodies: &Bodies) -> Result<RunTables, Unacce
     if serves(&tables, bodies) {
         Ok(tables)
     } else {
-        Err(Unaccepted::Unserved)
+        Err(OrMemory::Fault(Unaccepted::Unserved))
     }
 }
 
@@ -82,7 +73,7 @@ fn accept_listed(
     deployment: Deployment,
     list: BeanList,
     bodies: &Bodies,
-) -> Result<RunTables, Unaccepted>
+) -> Result<RunTables, OrMemory<Unaccepted>>
     requires { IsMadeOf deployment list }
     ensures ok { IfOk result (spec.IsAccepted deployment (entries_of bodies.now)) }
     ensures err { IfErr result (spec.IsUnaccepted deployment (entries_of bodies.now)) }
@@ -103,13 +94,13 @@ pub fn accept(
     alloc: Global,
     deployment: Deployment,
     bodies: &Bodies,
-) -> Result<RunTables, Unaccepted>
+) -> Result<RunTables, OrMemory<Unaccepted>>
     ensures ok { IfOk result (spec.IsAccepted deployment (entries_of bodies.now)) }
     ensures err { IfErr result (spec.IsUnaccepted deployment (entries_of bodies.now)) }
 {
     match BeanList::build(alloc, &deployment) {
         Ok(list) => accept_listed(alloc, deployment, list, bodies),
-        Err(BeanListError::Problems(problems)) => Err(refused(deployment, problems)),
-        Err(BeanListError::Memory) => Err(Unaccepted::Memory),
+        Err(OrMemory::Fault(problems)) => Err(refused(deployment, problems)),
+        Err(OrMemory::Memory) => Err(OrMemory::Memory),
     }
 }

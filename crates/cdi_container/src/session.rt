@@ -4,7 +4,7 @@ ghost use Rattle.cdi_lines.specs.Served.{Blames};
 ghost use Rattle.cdi_container.specs.Sessions.{ServedBy};
 
 use crate::container::Container;
-use cdi_base::{ReadError, Refusal, Reply};
+use cdi_base::{OrMemory, Refusal, Reply};
 use cdi_lines::{MAX_INPUT, Responder, ServeFault, Sink, Source, serve_lines};
 use cdi_machine::Driver;
 use cdi_text::{read_command, write_reply};
@@ -28,8 +28,8 @@ impl<D: Driver> Container<D> {
     {
         match read_command(alloc, line) {
             Ok(command) => self.command(command),
-            Err(ReadError::Fault(_)) => Ok(self.refuse(Refusal::BadLine)),
-            Err(ReadError::Memory) => Err(AllocError),
+            Err(OrMemory::Fault(_)) => Ok(self.refuse(Refusal::BadLine)),
+            Err(OrMemory::Memory) => Err(AllocError),
         }
     }
 }

@@ -5,7 +5,7 @@ ghost use Rattle.serde_json.specs.View.{view, items_view, members_view};
 ghost use Rattle.cdi_deploy.specs.Naming as spec;
 
 use crate::fault::ReadFault;
-use cdi_base::{InternError, Names, ReadError, is_name};
+use cdi_base::{Names, OrMemory, TableFull, is_name};
 use cdi_form::form::{Kind, Part, named_part, part_at};
 use cdi_form::keys::kind_of;
 use cdi_stage::Stage;
@@ -13,7 +13,7 @@ use serde_json::{Map, Value};
 
 /// Adds a name. What isn't one was refused before, so the test only tells [`Names::intern`] so.
 #[tactic(auto, unfolding(crate::specs::Naming::added))]
-fn add_name(names: &mut Names, text: &str) -> Result<(), ReadError<ReadFault>>
+fn add_name(names: &mut Names, text: &str) -> Result<(), OrMemory<ReadFault>>
     ensures { Gives (λ _. names.new) result (spec.added names.old text.now) }
 {
     if !is_name(text) {
@@ -21,12 +21,12 @@ fn add_name(names: &mut Names, text: &str) -> Result<(), ReadError<ReadFault>>
     }
     match names.intern(text) {
         Ok(_) => Ok(()),
-        Err(InternError::Full) => Err(ReadError::Fault(ReadFault::TooMany)),
-        Err(InternError::Memory) => Err(ReadError::Memory),
+        Err(OrMemory::Fault(TableFull)) => Err(OrMemory::Fault(ReadFault::TooMany)),
+        Err(OrMemory::Memory) => Err(OrMemory::Memory),
     }
 }
 
-fn add_text(part: Part, names: &mut Names, text: &str) -> Result<(), ReadError<ReadFault>>
+fn add_text(part: Part, names: &mut Names, text: &str) -> Result<(), OrMemory<ReadFault>>
     ensures { Gives (λ _. names.new) result (spec.text_added part names.old text.now) }
 {
     match part {
@@ -36,7 +36,7 @@ fn add_text(part: Part, names: &mut Names, text: &str) -> Result<(), ReadError<R
 }
 
 /// Adds the keys of the members in a use.
-fn add_keys(names: &mut Names, members: &Map<String, Value>) -> Result<(), ReadError<ReadFault>>
+fn add_keys(names: &mut Names, members: &Map<String, Value>) -> Result<(), OrMemory<ReadFault>>
     ensures { Gives (λ _. names.new) result
         (spec.keys_added names.old (members_view members.now.entries)) }
 {
@@ -53,7 +53,7 @@ pub(crate) fn add_names(
     names: &mut Names,
     value: &Value,
     part: Part,
-) -> Result<(), ReadError<ReadFault>>
+) -> Result<(), OrMemory<ReadFault>>
     ensures { Gives (λ _. names.new) result
         (spec.names_added stage names.old (view value.now) part) }
 {
@@ -80,7 +80,7 @@ fn add_items(
     names: &mut Names,
     items: &Vec<Value>,
     part: Part,
-) -> Result<(), ReadError<ReadFault>>
+) -> Result<(), OrMemory<ReadFault>>
     ensures { Gives (λ _. names.new) result
         (spec.items_added stage names.old (items_view items.now.items) part) }
 {
@@ -96,7 +96,7 @@ fn add_members(
     names: &mut Names,
     members: &Map<String, Value>,
     kind: Kind,
-) -> Result<(), ReadError<ReadFault>>
+) -> Result<(), OrMemory<ReadFault>>
     ensures { Gives (λ _. names.new) result
         (spec.members_added stage names.old (members_view members.now.entries) kind) }
 {

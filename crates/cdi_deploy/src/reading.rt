@@ -7,7 +7,7 @@ ghost use Rattle.cdi_deploy.specs.Reading as spec;
 use crate::fault::ReadFault;
 use crate::naming::add_names;
 use crate::objects::lists_in;
-use cdi_base::{Names, ReadError};
+use cdi_base::{Names, OrMemory};
 use cdi_deployment::Deployment;
 use cdi_deployment::limits::is_within;
 use cdi_form::{Kind, Part, first_bad_name, numbers_fit, wrong};
@@ -29,7 +29,7 @@ pub fn lists_at(
     alloc: Global,
     stage: Stage,
     value: &Json,
-) -> Result<Deployment, ReadError<ReadFault>>
+) -> Result<Deployment, OrMemory<ReadFault>>
     ensures { Gives (λ d. d) result (spec.lists_at stage (view value.now)) }
 {
     let mut names = Names::with_built_in(alloc)?;
@@ -38,69 +38,65 @@ pub fn lists_at(
 }
 
 /// The same for what is served.
-pub fn lists_of(alloc: Global, value: &Json) -> Result<Deployment, ReadError<ReadFault>>
+pub fn lists_of(alloc: Global, value: &Json) -> Result<Deployment, OrMemory<ReadFault>>
     ensures { Gives (λ d. d) result (spec.lists_of (view value.now)) }
 {
     lists_at(alloc, SERVED, value)
 }
 
 /// The deployment that a JSON value declares at a stage, or its first fault in the order of [`ReadFault`]. An error is
-/// [`ReadError::Memory`] where a growth was refused.
+/// [`OrMemory::Memory`] where a growth was refused.
 #[tactic(auto, unfolding(crate::specs::Reading::deployment_at))]
 pub fn deployment_at(
     alloc: Global,
     stage: Stage,
     value: &Json,
-) -> Result<Deployment, ReadError<ReadFault>>
+) -> Result<Deployment, OrMemory<ReadFault>>
     ensures { Gives (λ d. d) result (spec.deployment_at stage (view value.now)) }
 {
     if !numbers_fit(value) {
-        return Err(ReadError::Fault(ReadFault::BadNumber));
+        return Err(OrMemory::Fault(ReadFault::BadNumber));
     }
     if let Some(path) = wrong(alloc, stage, value, ROOT)? {
-        return Err(ReadError::Fault(ReadFault::Shape(path)));
+        return Err(OrMemory::Fault(ReadFault::Shape(path)));
     }
     if first_bad_name(stage, value, ROOT).is_some() {
-        return Err(ReadError::Fault(ReadFault::BadName));
+        return Err(OrMemory::Fault(ReadFault::BadName));
     }
     let deployment = lists_at(alloc, stage, value)?;
     if !is_within(&deployment) {
-        return Err(ReadError::Fault(ReadFault::TooMany));
+        return Err(OrMemory::Fault(ReadFault::TooMany));
     }
     Ok(deployment)
 }
 
 /// The same for what is served.
-pub fn deployment_of(alloc: Global, value: &Json) -> Result<Deployment, ReadError<ReadFault>>
+pub fn deployment_of(alloc: Global, value: &Json) -> Result<Deployment, OrMemory<ReadFault>>
     ensures { Gives (λ d. d) result (spec.deployment_of (view value.now)) }
 {
     deployment_at(alloc, SERVED, value)
 }
 
 /// Reads a deployment at a stage: gives what the bytes declare, or the first fault that holds of them in the order of
-/// [`ReadFault`]. An error is [`ReadError::Memory`] where a growth was refused: it never is in place of
+/// [`ReadFault`]. An error is [`OrMemory::Memory`] where a growth was refused: it never is in place of
 /// [`ReadFault::TooLong`], nor of [`ReadFault::NotJson`] for bytes that aren't UTF-8, as nothing grows there.
 #[tactic(auto, unfolding(crate::specs::Reading::read_at))]
-pub fn read_at(
-    alloc: Global,
-    stage: Stage,
-    bytes: &[u8],
-) -> Result<Deployment, ReadError<ReadFault>>
+pub fn read_at(alloc: Global, stage: Stage, bytes: &[u8]) -> Result<Deployment, OrMemory<ReadFault>>
     ensures gives { Gives (λ d. d) result (spec.read_at stage bytes.now) }
     ensures too_long { IsTrue (spec.is_too_long bytes.now) → IsFault result ReadFault.TooLong }
     ensures no_text { IsTrue (spec.is_no_text bytes.now) → IsFault result ReadFault.NotJson }
 {
     if bytes.len() > MAX_BYTES {
-        return Err(ReadError::Fault(ReadFault::TooLong));
+        return Err(OrMemory::Fault(ReadFault::TooLong));
     }
     let Some(value) = read_json(alloc, bytes)? else {
-        return Err(ReadError::Fault(ReadFault::NotJson));
+        return Err(OrMemory::Fault(ReadFault::NotJson));
     };
     deployment_at(alloc, stage, &value)
 }
 
 /// The same for what is served.
-pub fn read(alloc: Global, bytes: &[u8]) -> Result<Deployment, ReadError<ReadFault>>
+pub fn read(alloc: Global, bytes: &[u8]) -> Result<Deployment, OrMemory<ReadFault>>
     ensures gives { Gives (λ d. d) result (spec.deployment_in bytes.now) }
     ensures too_long { IsTrue (spec.is_too_long bytes.now) → IsFault result ReadFault.TooLong }
     ensures no_text { IsTrue (spec.is_no_text bytes.now) → IsFault result ReadFault.NotJson }

@@ -2,8 +2,8 @@
 use Rattle.std.specs.Prelude.{◌≡◌, ℕ, List, Option, Some, None, Result, Ok, Err, IsSomeAnd, option_map}
 use Rattle.std.specs.Bool.{MatchBool}
 use Rattle.cdi_stage.specs.declared.stage.Stage.{Stage}
-use Rattle.cdi_base.specs.declared.reading.ReadError.{ReadError}
-use Rattle.cdi_base.specs.declared.reading.ReadError.TheVariants as errors
+use Rattle.cdi_base.specs.declared.or_memory.OrMemory.{OrMemory}
+use Rattle.cdi_base.specs.declared.or_memory.OrMemory.TheVariants as errors
 use Rattle.cdi_json.specs.Json.{json_in}
 use Rattle.serde_json.specs.Data.{Data}
 use Rattle.cdi_deployment.specs.declared.deployment.Deployment.{Deployment}
@@ -50,10 +50,10 @@ IsHintFor stage bytes hint =
     MatchBool (is_too_long bytes) (hint ≡ None) (IsHintBy stage bytes (json_in bytes) hint)
 
 -- why bytes have no value: memory ran out, or they stop being one JSON text at a place
-abbrev pub IsNoValue : List ℕ → ReadError Hint → Type 0
+abbrev pub IsNoValue : List ℕ → OrMemory Hint → Type 0
 IsNoValue bytes (errors.Fault place) = (json_in bytes ≡ None) × IsPlaceIn bytes place
 IsNoValue bytes errors.Memory = Unit {0}
 
-abbrev pub HasPlace : ReadError Hint → Type 0
+abbrev pub HasPlace : OrMemory Hint → Type 0
 HasPlace (errors.Fault place) = Unit {0}
 HasPlace errors.Memory = ⊥

@@ -10,7 +10,7 @@ use crate::hint::Hint;
 use crate::lists::first_long_list;
 use crate::position::place_after;
 use crate::steps::first_bad_step;
-use cdi_base::{ReadError, Text};
+use cdi_base::{OrMemory, Text};
 use cdi_deploy::reading::MAX_BYTES;
 use cdi_deploy::{ReadFault, deployment_at, lists_at};
 use cdi_form::{Kind, Part, first_bad_name};
@@ -23,7 +23,7 @@ const ROOT: Part = Part::Object(Kind::Deployment);
 
 /// The JSON value that bytes are, or else the place where they stop being one.
 #[tactic(auto, unfolding(cdi_json::specs::Json::json_in))]
-fn value_in(alloc: Global, bytes: &[u8]) -> Result<Json, ReadError<Hint>>
+fn value_in(alloc: Global, bytes: &[u8]) -> Result<Json, OrMemory<Hint>>
     ensures value { IfOk result (λ value. json_in bytes.now ≡ Some (view value)) }
     ensures place { IfErr result (spec.IsNoValue bytes.now) }
     ensures no_text { is_utf8 bytes.now ≡ false → IsErrAnd result spec.HasPlace }
@@ -32,15 +32,15 @@ fn value_in(alloc: Global, bytes: &[u8]) -> Result<Json, ReadError<Hint>>
         Ok(text) => text,
         Err(error) => {
             let (front, _) = bytes.split_at(error.valid_up_to());
-            return Err(ReadError::Fault(place_after(front)));
+            return Err(OrMemory::Fault(place_after(front)));
         }
     };
     match Json::from_str(alloc, text) {
         Ok(value) => Ok(value),
         Err(error) => if error.is_memory() {
-            Err(ReadError::Memory)
+            Err(OrMemory::Memory)
         } else {
-            Err(ReadError::Fault(Hint::Position {
+            Err(OrMemory::Fault(Hint::Position {
                 line: error.line(),
                 column: error.column(),
             }))
@@ -64,8 +64,8 @@ fn long_list(alloc: Global, stage: Stage, value: &Json) -> Result<Option<Hint>, 
 {
     match lists_at(alloc, stage, value) {
         Ok(deployment) => first_long_list(alloc, &deployment),
-        Err(ReadError::Fault(_)) => Ok(None),
-        Err(ReadError::Memory) => Err(AllocError),
+        Err(OrMemory::Fault(_)) => Ok(None),
+        Err(OrMemory::Memory) => Err(AllocError),
     }
 }
 
@@ -75,10 +75,10 @@ fn hint_of(alloc: Global, stage: Stage, value: &Json) -> Result<Option<Hint>, Al
 {
     match deployment_at(alloc, stage, value) {
         Ok(deployment) => first_bad_step(alloc, stage, &deployment),
-        Err(ReadError::Fault(ReadFault::BadName)) => bad_name(alloc, stage, value),
-        Err(ReadError::Fault(ReadFault::TooMany)) => long_list(alloc, stage, value),
-        Err(ReadError::Fault(_)) => Ok(None),
-        Err(ReadError::Memory) => Err(AllocError),
+        Err(OrMemory::Fault(ReadFault::BadName)) => bad_name(alloc, stage, value),
+        Err(OrMemory::Fault(ReadFault::TooMany)) => long_list(alloc, stage, value),
+        Err(OrMemory::Fault(_)) => Ok(None),
+        Err(OrMemory::Memory) => Err(AllocError),
     }
 }
 
@@ -98,7 +98,7 @@ pub fn hint_for(alloc: Global, stage: Stage, bytes: &[u8]) -> Result<Option<Hint
     }
     match value_in(alloc, bytes) {
         Ok(value) => hint_of(alloc, stage, &value),
-        Err(ReadError::Fault(place)) => Ok(Some(place)),
-        Err(ReadError::Memory) => Err(AllocError),
+        Err(OrMemory::Fault(place)) => Ok(Some(place)),
+        Err(OrMemory::Memory) => Err(AllocError),
     }
 }

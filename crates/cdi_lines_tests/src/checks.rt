@@ -1,6 +1,6 @@
 //! What the tests share: each compares by a call, since an assertion in a test makes its proof longer than a call does. What is
 //! refused for want of memory ends the test too: to hand it on by `?` would make the proofs longer.
-use cdi_base::{Command, ReadError, Text};
+use cdi_base::{Command, OrMemory, Text};
 use cdi_text::BadLine;
 use std::alloc::Global;
 use std::fmt::{Debug, Display};
@@ -25,12 +25,12 @@ pub(crate) fn expect_text(rt: &impl Abort, alloc: Global, it: &impl Display, wan
 /// What was read: nothing if a line is no command.
 pub(crate) fn command_in(
     rt: &impl Abort,
-    read: Result<Command, ReadError<BadLine>>,
+    read: Result<Command, OrMemory<BadLine>>,
 ) -> Option<Command> {
     match read {
         Ok(command) => Some(command),
-        Err(ReadError::Fault(BadLine)) => None,
-        Err(ReadError::Memory) => panic!(rt; "memory"),
+        Err(OrMemory::Fault(BadLine)) => None,
+        Err(OrMemory::Memory) => panic!(rt; "memory"),
     }
 }
 

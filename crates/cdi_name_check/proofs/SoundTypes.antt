@@ -19,8 +19,10 @@ use Rattle.cdi_reach.specs.ListsThose.{ListsThose}
 use Rattle.cdi_types.specs.Declarations.{declarations_of, of_built_in, of_interface, of_class}
 use Rattle.cdi_types.specs.Subtype.{IsBelow, IsCyclic, IsAcyclic, is_type, direct_supertypes, supertypes_of, knows_supertypes, object}
 use Rattle.cdi_types.specs.Table.{IsSound, IsRefused}
-use Rattle.cdi_types.specs.declared.error.TypesError.{TypesError}
-use Rattle.cdi_types.specs.declared.error.TypesError.TheVariants as errors
+use Rattle.cdi_base.specs.declared.or_memory.OrMemory.{OrMemory}
+use Rattle.cdi_base.specs.declared.or_memory.OrMemory.TheVariants as errors
+use Rattle.cdi_types.specs.declared.fault.TypesFault.{TypesFault}
+use Rattle.cdi_types.specs.declared.fault.TypesFault.TheVariants as faults
 use Rattle.cdi_problems.specs.declared.problem.ProblemKind.TheVariants as kinds
 use Rattle.cdi_name_check.proofs.ClaimSets.{both}
 use Rattle.cdi_name_check.proofs.Duplicates.{any_found, found_any}
@@ -273,7 +275,7 @@ sound_types d found =
       known = known d (none_found _ place_of (elements_of d) (subst U no_unknown found.are_unknown));
     }
 
-pub memory_alone : (types : List TypeDeclaration) (e : TypesError) → IsSound types → IsRefused types e → e ≡ errors.Memory
-memory_alone ts errors.Cycle sound refused = absurd (sound.acyclic refused.0 refused.1)
-memory_alone ts errors.Unknown sound refused = absurd (true≢false (sym sound.known ∙ refused.1))
+pub memory_alone : (types : List TypeDeclaration) (e : OrMemory TypesFault) → IsSound types → IsRefused types e → e ≡ errors.Memory
+memory_alone ts (errors.Fault faults.Cycle) sound refused = absurd (sound.acyclic refused.0 refused.1)
+memory_alone ts (errors.Fault faults.Unknown) sound refused = absurd (true≢false (sym sound.known ∙ refused.1))
 memory_alone ts errors.Memory sound refused = refl

@@ -1,12 +1,13 @@
 -- A deployment with its scripts, from its bytes.
+use Rattle.std.specs.Global.{Vec}
 use Rattle.std.specs.Prelude.{◌≡◌, ℕ, List, Result, Ok, Err}
 use Rattle.cdi_stage.specs.declared.stage.Stage.{Stage}
 use Rattle.cdi_base.specs.Reading.{◌>>=◌}
+use Rattle.cdi_base.specs.declared.or_memory.OrMemory.{OrMemory}
+use Rattle.cdi_base.specs.declared.or_memory.OrMemory.TheVariants as errors
 use Rattle.cdi_deployment.specs.declared.deployment.Deployment.{Deployment}
 use Rattle.cdi_deploy.specs.Reading.{read_at}
 use Rattle.cdi_prepare.specs.declared.reading.Prepared.{Prepared}
-use Rattle.cdi_prepare.specs.declared.reading.PrepareError.{PrepareError}
-use Rattle.cdi_prepare.specs.declared.reading.PrepareError.TheVariants as errors
 use Rattle.cdi_prepare.specs.declared.scripts.BadScript.{BadScript}
 use Rattle.cdi_prepare.specs.declared.scripts.NamedScript.{NamedScript}
 use Rattle.cdi_prepare.specs.FaultText.{fault_line, script_line}
@@ -38,7 +39,7 @@ with_scripts stage d =
 abbrev pub readied_at : Stage → List ℕ → Result Readied (List ℕ)
 readied_at stage bytes = or_line fault_line (read_at stage bytes) >>= with_scripts stage
 
--- the bytes tell the refusal, or memory ran out
-abbrev pub IsRefusal : {A : Type 0} → Result A (List ℕ) → PrepareError → Type 0
-IsRefusal answer (errors.Refused lines) = answer ≡ Err lines.items
+-- the bytes are the line that tells the fault, or memory ran out
+abbrev pub IsRefusal : {A : Type 0} → Result A (List ℕ) → OrMemory (Vec ℕ) → Type 0
+IsRefusal answer (errors.Fault line) = answer ≡ Err line.items
 IsRefusal answer errors.Memory = Unit {0}

@@ -5,5 +5,5 @@ pub mod fault_text;
 pub mod reading;
 pub mod scripts;
 
-pub use reading::{PrepareError, Prepared, prepare};
+pub use reading::{Prepared, prepare};
 pub use scripts::NamedScript;

@@ -1,17 +1,16 @@
 //! A deployment with its scripts, from its bytes.
 ghost use Rattle.std.specs.Prelude.{◌≡◌, ◌≤◌, length, Ok, IfOk, IfErr};
-ghost use Rattle.cdi_prepare.specs.declared.reading.PrepareError.TheVariants as prepare_errors;
 ghost use Rattle.cdi_prepare.specs.Ready as spec;
 ghost use Rattle.cdi_prepare.specs.Ready.{IsRefusal, ready_of};
 
 use crate::fault_text::{write_fault, write_script_fault};
 use crate::scripts::{NamedScript, read_scripts};
-use cdi_base::ReadError;
+use cdi_base::OrMemory;
 use cdi_bodies::MAX_BODIES;
 use cdi_deploy::read_at;
 use cdi_deployment::Deployment;
 use cdi_stage::Stage;
-use std::alloc::{AllocError, Global};
+use std::alloc::Global;
 
 /// A deployment with its scripts, whose names are in its table.
 #[derive(Drop)]
@@ -20,29 +19,12 @@ pub struct Prepared {
     pub scripts: Vec<NamedScript>,
 }
 
-/// Why no deployment was prepared.
-#[derive(Drop)]
-pub enum PrepareError {
-    /// The deployment or one of its scripts has a fault, which these bytes tell.
-    Refused(Vec<u8>),
-    /// A growth was refused.
-    Memory,
-}
-
-impl From<AllocError> for PrepareError {
-    ghost from_gives = { λ _ e. e ≡ prepare_errors.Memory };
-
-    fn from(_error: AllocError) -> PrepareError {
-        PrepareError::Memory
-    }
-}
-
-/// Reads the scripts of a deployment.
+/// Reads the scripts of a deployment. The fault is the bytes of the line that tells the first bad one.
 fn prepare_scripts(
     alloc: Global,
     stage: Stage,
     deployment: Deployment,
-) -> Result<Prepared, PrepareError>
+) -> Result<Prepared, OrMemory<Vec<u8>>>
     ensures ok { IfOk result (λ p. spec.with_scripts stage deployment ≡ Ok (ready_of p)) }
     ensures err { IfErr result (IsRefusal (spec.with_scripts stage deployment)) }
     ensures count { IfOk result (λ p. length p.scripts.items ≡ length deployment.scripts) }
@@ -58,28 +40,28 @@ fn prepare_scripts(
             deployment,
             scripts,
         }),
-        Err(ReadError::Fault(bad)) => {
+        Err(OrMemory::Fault(bad)) => {
             let line = write_script_fault(alloc, bad.name.as_str(), bad.fault)?;
-            Err(PrepareError::Refused(line))
+            Err(OrMemory::Fault(line))
         }
-        Err(ReadError::Memory) => Err(PrepareError::Memory),
+        Err(OrMemory::Memory) => Err(OrMemory::Memory),
     }
 }
 
-/// Reads a deployment with its scripts, of which there are at most as many as bodies, as they are served at a stage. An
-/// error is [`PrepareError::Refused`] with the line of the deployment's first fault or, if it has none, with that of its
-/// first bad script; and [`PrepareError::Memory`] if a growth was refused.
-pub fn prepare(alloc: Global, stage: Stage, bytes: &[u8]) -> Result<Prepared, PrepareError>
+/// Reads a deployment with its scripts, of which there are at most as many as bodies, as they are served at a stage. The
+/// fault is the bytes of a line: that which tells the deployment's first fault or, if it has none, its first bad script. An
+/// error is [`OrMemory::Memory`] if a growth was refused.
+pub fn prepare(alloc: Global, stage: Stage, bytes: &[u8]) -> Result<Prepared, OrMemory<Vec<u8>>>
     ensures ok { IfOk result (λ p. spec.readied_at stage bytes.now ≡ Ok (ready_of p)) }
     ensures err { IfErr result (IsRefusal (spec.readied_at stage bytes.now)) }
     ensures few { IfOk result (λ p. length p.scripts.items ≤ MAX_BODIES) }
 {
     match read_at(alloc, stage, bytes) {
         Ok(deployment) => prepare_scripts(alloc, stage, deployment),
-        Err(ReadError::Fault(fault)) => {
+        Err(OrMemory::Fault(fault)) => {
             let line = write_fault(alloc, &fault)?;
-            Err(PrepareError::Refused(line))
+            Err(OrMemory::Fault(line))
         }
-        Err(ReadError::Memory) => Err(PrepareError::Memory),
+        Err(OrMemory::Memory) => Err(OrMemory::Memory),
     }
 }

@@ -3,7 +3,7 @@ ghost use Rattle.cdi_base.specs.Name.{Extends};
 ghost use Rattle.cdi_base.specs.Reading.{Gives};
 ghost use Rattle.cdi_prepare.specs.Scripts as spec;
 
-use cdi_base::{Name, Names, ReadError, Text};
+use cdi_base::{Name, Names, OrMemory, Text};
 use cdi_deployment::deployment::Script as Declared;
 use cdi_script::{Script, ScriptFault};
 use cdi_stage::Stage;
@@ -29,7 +29,7 @@ fn read_script(
     stage: Stage,
     names: &mut Names,
     declared: &Declared,
-) -> Result<NamedScript, ReadError<BadScript>>
+) -> Result<NamedScript, OrMemory<BadScript>>
     ensures gives { Gives (λ script. (script, names.new)) result
         (spec.script_in stage names.old declared.now) }
     ensures kept { Extends names.old names.new }
@@ -40,20 +40,20 @@ fn read_script(
             name: declared.name,
             script,
         }),
-        Err(ReadError::Fault(fault)) => Err(ReadError::Fault(BadScript { name, fault })),
-        Err(ReadError::Memory) => Err(ReadError::Memory),
+        Err(OrMemory::Fault(fault)) => Err(OrMemory::Fault(BadScript { name, fault })),
+        Err(OrMemory::Memory) => Err(OrMemory::Memory),
     }
 }
 
 /// Reads the scripts of a deployment one after the other, with the steps of a stage, up to the first that can't be read.
-/// Their names go into the table. An error is [`ReadError::Memory`] if a growth was refused; the table may then have
+/// Their names go into the table. An error is [`OrMemory::Memory`] if a growth was refused; the table may then have
 /// some of the names.
 pub fn read_scripts(
     alloc: Global,
     stage: Stage,
     names: &mut Names,
     declared: &[Declared],
-) -> Result<Vec<NamedScript>, ReadError<BadScript>>
+) -> Result<Vec<NamedScript>, OrMemory<BadScript>>
     ensures gives { Gives (λ scripts. (scripts.items, names.new)) result
         (spec.scripts_in stage names.old declared.now) }
     ensures kept { Extends names.old names.new }

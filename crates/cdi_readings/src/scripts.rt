@@ -12,7 +12,7 @@
 //! | `scripts since` | two stages and a step in each line | whether the step is one at each of the stages |
 use crate::acts::{add_act, add_value};
 use crate::reading::stage_of;
-use cdi_base::{Answer, BuiltIn, Fields, Names, ReadError, Seq, Text, Value};
+use cdi_base::{Answer, BuiltIn, Fields, Names, OrMemory, Seq, Text, Value};
 use cdi_bodies::{Shape, View};
 use cdi_script::{Action, Expression, Script, ScriptFault, is_step_at};
 use cdi_stage::{Stage, WHOLE};
@@ -30,7 +30,7 @@ fn read(
     stage: Stage,
     names: &mut Names,
     text: &str,
-) -> Result<Script, ReadError<ScriptFault>> {
+) -> Result<Script, OrMemory<ScriptFault>> {
     Script::read_at(alloc, stage, &json(alloc, text), names)
 }
 

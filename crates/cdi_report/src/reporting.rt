@@ -8,11 +8,11 @@ ghost use Rattle.cdi_script.specs.Next.{next_of};
 
 use crate::problem_lines::write_problems;
 use crate::verdict::Verdict;
-use cdi_base::{Act, Fields, Names};
+use cdi_base::{Act, Fields, Names, OrMemory};
 use cdi_bodies::{AddError, Bodies, Body, MAX_BODIES, View};
 use cdi_check::check;
 use cdi_lines::{ServeFault, Sink};
-use cdi_prepare::{NamedScript, PrepareError, Prepared, prepare};
+use cdi_prepare::{NamedScript, Prepared, prepare};
 use cdi_problems::Problem;
 use cdi_stage::WHOLE;
 use std::alloc::{AllocError, Global};
@@ -109,7 +109,7 @@ pub fn report<W: Sink>(alloc: Global, deployment: &[u8], output: &mut W) -> Verd
             Ok(findings) => write_findings(&findings.lines, findings.is_accepted, output),
             Err(_) => STARVED,
         },
-        Err(PrepareError::Refused(lines)) => write_findings(&lines, false, output),
-        Err(PrepareError::Memory) => STARVED,
+        Err(OrMemory::Fault(line)) => write_findings(&line, false, output),
+        Err(OrMemory::Memory) => STARVED,
     }
 }

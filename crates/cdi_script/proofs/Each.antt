@@ -1,8 +1,8 @@
 -- A loop over items reads as `each` does.
 use Rattle.std.proofs.Common.{◌≡◌, ℕ, List, [], ◌∷◌, ◌++◌, Ok, Err, refl, sym, ap, ◌∙◌, append_assoc, append-nil}
 use Rattle.serde_json.specs.Data.{Data, Items, no_items, item}
-use Rattle.cdi_base.specs.declared.reading.ReadError.{ReadError}
-use Rattle.cdi_base.specs.declared.reading.ReadError.TheVariants as errors
+use Rattle.cdi_base.specs.declared.or_memory.OrMemory.{OrMemory}
+use Rattle.cdi_base.specs.declared.or_memory.OrMemory.TheVariants as errors
 use Rattle.cdi_base.specs.Reading.{◌>>=◌, Fails}
 use Rattle.cdi_script.specs.declared.fault.ScriptFault.{ScriptFault}
 use Rattle.cdi_script.specs.Reading.{Reads, each}
@@ -31,7 +31,7 @@ module _ {X : Type 0} where
         ap (λ (r : Reads X). with_front front (r >>= λ f. each form f.1 ds >>= λ o. Ok (f.0 ∷ o.0, o.1))) read ∙ regroup front x (each form after ds) in
         sym one ∙ so_far
 
-    pub ends : (e : ReadError ScriptFault) (front : List X) (names : List (List ℕ)) (d : Data) (ds : Items) (total : Reads (List X)) → Fails e (form names d)
+    pub ends : (e : OrMemory ScriptFault) (front : List X) (names : List (List ℕ)) (d : Data) (ds : Items) (total : Reads (List X)) → Fails e (form names d)
         → with_front front (each form names (item d ds)) ≡ total → Fails e total
     ends errors.Memory front names d ds total h so_far = tt
     ends (errors.Fault f) front names d ds total h so_far =

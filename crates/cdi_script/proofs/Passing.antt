@@ -5,7 +5,7 @@ use Rattle.std.specs.List.{find}
 use Rattle.std.specs.Option.{option_map_or}
 use Rattle.cdi_base.specs.Name.{is_name, has_room}
 use Rattle.cdi_base.specs.Reading.{◌>>=◌, Gives, IsFault}
-use Rattle.cdi_base.specs.declared.reading.ReadError.{ReadError}
+use Rattle.cdi_base.specs.declared.or_memory.OrMemory.{OrMemory}
 use Rattle.cdi_stage.specs.Stage.{is_included}
 use Rattle.cdi_base.specs.Uses.{has_names, numbered_use}
 use Rattle.cdi_base.specs.declared.act.Via.TheVariants as vias
@@ -207,7 +207,7 @@ step-read stage names (object ms) h = nothing h
 
 -- steps are read, unless the table of names is full or memory runs out
 module _ (stage : Stage) (names : Names) (ds : Items) where
-  pub no_other_fault : {A : Type 0} (fault : ScriptFault) (view : A → List Step × Names) (r : Result A (ReadError ScriptFault)) → (fault ≡ Full → ⊥)
+  pub no_other_fault : {A : Type 0} (fault : ScriptFault) (view : A → List Step × Names) (r : Result A (OrMemory ScriptFault)) → (fault ≡ Full → ⊥)
       → are_steps_at stage ds ≡ true → Gives view r (each (step_at stage) names ds) → IsFault r fault → ⊥
   no_other_fault fault view r other steps gives h =
       let is_fault : each (step_at stage) names ds ≡ Err fault = subst (λ x. Gives view x (each (step_at stage) names ds)) h gives in

@@ -8,7 +8,7 @@ ghost use Rattle.cdi_script.specs.Expression as spec;
 use crate::expression::{Expression, Node};
 use crate::fault::ScriptFault;
 use crate::reading::{Item, bad, count_of, is_count, is_named, name_of};
-use cdi_base::{Names, ReadError, Text};
+use cdi_base::{Names, OrMemory, Text};
 use cdi_json::is_word;
 use cdi_stage::Stage;
 use serde_json::Value as Json;
@@ -56,7 +56,7 @@ fn pair_of(
     names: &mut Names,
     word: &Json,
     value: &Json,
-) -> Result<Expression, ReadError<ScriptFault>>
+) -> Result<Expression, OrMemory<ScriptFault>>
     ensures gives { Gives (λ x. (x, names.new)) result
         (spec.pair_of names.old (view word.now) (view value.now)) }
     ensures kept { Extends names.old names.new }
@@ -90,7 +90,7 @@ fn expression_of(
     alloc: Global,
     names: &mut Names,
     value: &Json,
-) -> Result<Expression, ReadError<ScriptFault>>
+) -> Result<Expression, OrMemory<ScriptFault>>
     ensures gives { Gives (λ x. (x, names.new)) result
         (spec.expression_of names.old (view value.now)) }
     ensures kept { Extends names.old names.new }
@@ -144,7 +144,7 @@ impl Item for Expression {
         _stage: Stage,
         names: &mut Names,
         value: &Json,
-    ) -> Result<Expression, ReadError<ScriptFault>> {
+    ) -> Result<Expression, OrMemory<ScriptFault>> {
         expression_of(alloc, names, value)
     }
 }

@@ -11,7 +11,7 @@ use crate::fault::ScriptFault;
 use crate::part::{Parts, are_parts};
 use crate::reading::{Item, are_all, bad};
 use crate::step::{Action, Step, StepKind};
-use cdi_base::{Names, ReadError};
+use cdi_base::{Names, OrMemory};
 use cdi_json::is_word;
 use cdi_stage::{SERVED, Stage};
 use serde_json::Value as Json;
@@ -83,7 +83,7 @@ fn action_in(
     stage: Stage,
     names: &mut Names,
     items: &[Json],
-) -> Result<Action, ReadError<ScriptFault>>
+) -> Result<Action, OrMemory<ScriptFault>>
     ensures gives { Gives (λ action. (action, names.new)) result
         (build.action_in stage names.old (items_view items.now)) }
     ensures kept { Extends names.old names.new }
@@ -104,7 +104,7 @@ fn step_in(
     stage: Stage,
     names: &mut Names,
     items: &[Json],
-) -> Result<Step, ReadError<ScriptFault>>
+) -> Result<Step, OrMemory<ScriptFault>>
     ensures gives { Gives (λ step. (step, names.new)) result
         (build.step_in stage names.old (items_view items.now)) }
     ensures kept { Extends names.old names.new }
@@ -134,7 +134,7 @@ impl Item for Step {
         stage: Stage,
         names: &mut Names,
         value: &Json,
-    ) -> Result<Step, ReadError<ScriptFault>> {
+    ) -> Result<Step, OrMemory<ScriptFault>> {
         match value {
             Json::Array(items) => step_in(alloc, stage, names, items.as_slice()),
             _ => bad(),

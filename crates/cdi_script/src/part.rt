@@ -9,7 +9,7 @@ use crate::expression::{Expression, Node};
 use crate::fault::ScriptFault;
 use crate::reading::{Item, array_of, is_array_of, is_named, name_of};
 use crate::via::{is_via, via_of};
-use cdi_base::{BuiltIn, Name, Names, ReadError, Seq, Use, Via};
+use cdi_base::{BuiltIn, Name, Names, OrMemory, Seq, Use, Via};
 use cdi_stage::Stage;
 use serde_json::Value as Json;
 use std::alloc::Global;
@@ -88,7 +88,7 @@ impl Parts {
         names: &mut Names,
         kind: PartKind,
         value: &Json,
-    ) -> Result<(), ReadError<ScriptFault>>
+    ) -> Result<(), OrMemory<ScriptFault>>
         ensures gives { Gives (λ _. (self.new, names.new)) result
             (spec.with_part self.old names.old kind (view value.now)) }
         ensures kept { Extends names.old names.new }
@@ -111,7 +111,7 @@ impl Parts {
         names: &mut Names,
         kinds: &[PartKind],
         values: &[Json],
-    ) -> Result<(), ReadError<ScriptFault>>
+    ) -> Result<(), OrMemory<ScriptFault>>
         ensures gives { Gives (λ _. (self.new, names.new)) result
             (spec.with_parts self.old names.old kinds.now (items_view values.now)) }
         ensures kept { Extends names.old names.new }

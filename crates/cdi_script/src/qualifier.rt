@@ -7,7 +7,7 @@ ghost use Rattle.cdi_script.specs.Qualifier as spec;
 
 use crate::fault::ScriptFault;
 use crate::reading::{Item, bad, is_named};
-use cdi_base::{InternError, Names, ReadError, Use, WrittenUse, is_name};
+use cdi_base::{Names, OrMemory, TableFull, Use, WrittenUse, is_name};
 use cdi_json::{Form, is_use};
 use cdi_stage::Stage;
 use serde_json::{Map, Value as Json};
@@ -58,7 +58,7 @@ fn named_use(
     alloc: Global,
     names: &mut Names,
     written: &WrittenUse,
-) -> Result<Use, ReadError<ScriptFault>>
+) -> Result<Use, OrMemory<ScriptFault>>
     ensures gives { Gives (λ u. (u, names.new)) result
         (spec.named_use names.old (Some written.now)) }
     ensures kept { Extends names.old names.new }
@@ -68,8 +68,8 @@ fn named_use(
     }
     match names.intern_use(alloc, written) {
         Ok(named) => Ok(named),
-        Err(InternError::Full) => Err(ReadError::Fault(ScriptFault::Full)),
-        Err(InternError::Memory) => Err(ReadError::Memory),
+        Err(OrMemory::Fault(TableFull)) => Err(OrMemory::Fault(ScriptFault::Full)),
+        Err(OrMemory::Memory) => Err(OrMemory::Memory),
     }
 }
 
@@ -77,7 +77,7 @@ fn qualifier_of(
     alloc: Global,
     names: &mut Names,
     value: &Json,
-) -> Result<Use, ReadError<ScriptFault>>
+) -> Result<Use, OrMemory<ScriptFault>>
     ensures gives { Gives (λ u. (u, names.new)) result
         (spec.qualifier_of names.old (view value.now)) }
     ensures kept { Extends names.old names.new }
@@ -102,7 +102,7 @@ impl Item for Use {
         _stage: Stage,
         names: &mut Names,
         value: &Json,
-    ) -> Result<Use, ReadError<ScriptFault>> {
+    ) -> Result<Use, OrMemory<ScriptFault>> {
         qualifier_of(alloc, names, value)
     }
 }

@@ -8,7 +8,7 @@ ghost use Rattle.serde_json.specs.View.{view, items_view};
 ghost use Rattle.cdi_script.specs.Reading as spec;
 
 use crate::fault::ScriptFault;
-use cdi_base::{InternError, Name, Names, ReadError, Seq, is_name};
+use cdi_base::{Name, Names, OrMemory, Seq, TableFull, is_name};
 use cdi_stage::Stage;
 use serde_json::Value as Json;
 use std::alloc::Global;
@@ -17,10 +17,10 @@ use std::alloc::Global;
 const MAX_COUNT: u64 = 65_535;
 
 /// The fault of a value that is no step.
-pub(crate) fn bad<T>() -> Result<T, ReadError<ScriptFault>>
-    ensures { result ≡ Err (ReadError.Fault ScriptFault.BadStep) }
+pub(crate) fn bad<T>() -> Result<T, OrMemory<ScriptFault>>
+    ensures { result ≡ Err (OrMemory.Fault ScriptFault.BadStep) }
 {
-    Err(ReadError::Fault(ScriptFault::BadStep))
+    Err(OrMemory::Fault(ScriptFault::BadStep))
 }
 
 pub(crate) fn is_named(value: &Json) -> bool
@@ -33,7 +33,7 @@ pub(crate) fn is_named(value: &Json) -> bool
 }
 
 #[tactic(auto, unfolding(crate::specs::Reading::named))]
-fn named(names: &mut Names, text: &str) -> Result<Name, ReadError<ScriptFault>>
+fn named(names: &mut Names, text: &str) -> Result<Name, OrMemory<ScriptFault>>
     ensures gives { Gives (λ name. (name, names.new)) result (spec.named names.old text.now) }
     ensures kept { Extends names.old names.new }
 {
@@ -42,13 +42,13 @@ fn named(names: &mut Names, text: &str) -> Result<Name, ReadError<ScriptFault>>
     }
     match names.intern(text) {
         Ok(name) => Ok(name),
-        Err(InternError::Full) => Err(ReadError::Fault(ScriptFault::Full)),
-        Err(InternError::Memory) => Err(ReadError::Memory),
+        Err(OrMemory::Fault(TableFull)) => Err(OrMemory::Fault(ScriptFault::Full)),
+        Err(OrMemory::Memory) => Err(OrMemory::Memory),
     }
 }
 
 /// The name that a value is, which goes into the table.
-pub(crate) fn name_of(names: &mut Names, value: &Json) -> Result<Name, ReadError<ScriptFault>>
+pub(crate) fn name_of(names: &mut Names, value: &Json) -> Result<Name, OrMemory<ScriptFault>>
     ensures gives { Gives (λ name. (name, names.new)) result
         (spec.name_of names.old (view value.now)) }
     ensures kept { Extends names.old names.new }
@@ -97,7 +97,7 @@ pub(crate) trait Item: Sized + Drop {
         stage: Stage,
         names: &mut Names,
         value: &Json,
-    ) -> Result<Self, ReadError<ScriptFault>>
+    ) -> Result<Self, OrMemory<ScriptFault>>
         ensures gives { Gives (λ x. (x, names.new)) result
             (form stage names.old (view value.now)) }
         ensures kept { Extends names.old names.new };
@@ -127,7 +127,7 @@ pub(crate) fn each<T: Item>(
     stage: Stage,
     names: &mut Names,
     items: &[Json],
-) -> Result<Seq<T>, ReadError<ScriptFault>>
+) -> Result<Seq<T>, OrMemory<ScriptFault>>
     ensures gives { Gives (λ xs. (xs, names.new)) result
         (spec.each (T.form stage) names.old (items_view items.now)) }
     ensures kept { Extends names.old names.new }
@@ -146,7 +146,7 @@ pub(crate) fn array_of<T: Item>(
     stage: Stage,
     names: &mut Names,
     value: &Json,
-) -> Result<Seq<T>, ReadError<ScriptFault>>
+) -> Result<Seq<T>, OrMemory<ScriptFault>>
     ensures gives { Gives (λ xs. (xs, names.new)) result
         (spec.array_of (T.form stage) names.old (view value.now)) }
     ensures kept { Extends names.old names.new }

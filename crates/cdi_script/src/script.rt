@@ -10,7 +10,7 @@ ghost use Rattle.cdi_script.specs.declared.fault.ScriptFault.TheVariants.{BadSte
 use crate::fault::ScriptFault;
 use crate::reading::{Item, are_all, bad, each};
 use crate::step::Step;
-use cdi_base::{Names, ReadError, Seq};
+use cdi_base::{Names, OrMemory, Seq};
 use cdi_stage::{SERVED, Stage};
 use serde_json::Value as Json;
 use std::alloc::Global;
@@ -46,7 +46,7 @@ fn steps_at(
     stage: Stage,
     names: &mut Names,
     items: &[Json],
-) -> Result<Seq<Step>, ReadError<ScriptFault>>
+) -> Result<Seq<Step>, OrMemory<ScriptFault>>
     ensures gives { Gives (λ steps. (steps, names.new)) result
         (spec.steps_at stage names.old (items_view items.now)) }
     ensures within { IfOk result (λ steps. length steps ≤ MAX_STEPS) }
@@ -62,7 +62,7 @@ fn steps_at(
         return bad();
     }
     if items.len() > MAX_STEPS {
-        return Err(ReadError::Fault(ScriptFault::TooLong));
+        return Err(OrMemory::Fault(ScriptFault::TooLong));
     }
     each::<Step>(alloc, stage, names, items)
 }
@@ -95,7 +95,7 @@ impl Script {
         stage: Stage,
         value: &Json,
         names: &mut Names,
-    ) -> Result<Script, ReadError<ScriptFault>>
+    ) -> Result<Script, OrMemory<ScriptFault>>
         ensures gives { Gives (λ script. (script, names.new)) result
             (spec.script_at stage names.old (view value.now)) }
         ensures bad_step { IsFault result BadStep
@@ -118,7 +118,7 @@ impl Script {
         alloc: Global,
         value: &Json,
         names: &mut Names,
-    ) -> Result<Script, ReadError<ScriptFault>>
+    ) -> Result<Script, OrMemory<ScriptFault>>
         ensures gives { Gives (λ script. (script, names.new)) result
             (spec.script_of names.old (view value.now)) }
         ensures bad_step { IsFault result BadStep ↔ (form.has_steps (view value.now) ≡ false) }

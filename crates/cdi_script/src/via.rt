@@ -7,7 +7,7 @@ ghost use Rattle.cdi_script.specs.Via as spec;
 
 use crate::fault::ScriptFault;
 use crate::reading::{bad, count_of, is_count, is_named, name_of};
-use cdi_base::{Names, ReadError, Via};
+use cdi_base::{Names, OrMemory, Via};
 use cdi_json::is_word;
 use cdi_stage::Stage;
 use serde_json::Value as Json;
@@ -44,7 +44,7 @@ pub(crate) fn is_via(stage: Stage, value: &Json) -> bool
 }
 
 #[tactic(auto, unfolding(crate::specs::Via::via_pair_of))]
-fn via_pair_of(names: &mut Names, word: &Json, value: &Json) -> Result<Via, ReadError<ScriptFault>>
+fn via_pair_of(names: &mut Names, word: &Json, value: &Json) -> Result<Via, OrMemory<ScriptFault>>
     ensures gives { Gives (λ via. (via, names.new)) result
         (spec.via_pair_of names.old (view word.now) (view value.now)) }
     ensures kept { Extends names.old names.new }
@@ -69,7 +69,7 @@ fn via_pair_of(names: &mut Names, word: &Json, value: &Json) -> Result<Via, Read
 }
 
 /// The reference that a value is, at whatever stage.
-pub(crate) fn via_of(names: &mut Names, value: &Json) -> Result<Via, ReadError<ScriptFault>>
+pub(crate) fn via_of(names: &mut Names, value: &Json) -> Result<Via, OrMemory<ScriptFault>>
     ensures gives { Gives (λ via. (via, names.new)) result
         (spec.via_of names.old (view value.now)) }
     ensures kept { Extends names.old names.new }

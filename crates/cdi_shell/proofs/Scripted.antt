@@ -1,5 +1,7 @@
 -- A deployment whose bodies are scripts plays what the scripts do.
 use Rattle.std.proofs.Common.{ℕ, ◌≡◌, ◌∙◌, List, [], Bool, false, ap, sym, subst, Option, Some, None, if◌then◌else◌}
+use Rattle.cdi_base.specs.declared.or_memory.OrMemory.{OrMemory}
+use Rattle.cdi_base.specs.declared.or_memory.OrMemory.TheVariants as errors
 use Rattle.cdi_bodies.specs.declared.entry.Entry.{Entry}
 use Rattle.cdi_bodies.specs.declared.shape.Shape.{Shape}
 use Rattle.cdi_body_check.specs.Shapes.{shape_of}
@@ -17,7 +19,7 @@ use Rattle.cdi_run_tables.specs.declared.tables.RunTables.{RunTables}
 use Rattle.cdi_container.specs.Accepted as container
 use Rattle.cdi_container.specs.Accepted.{IsAccepted, IsUnaccepted, serves}
 use Rattle.cdi_container.specs.declared.acceptance.Unaccepted.{Unaccepted}
-use Rattle.cdi_container.specs.declared.acceptance.Unaccepted.TheVariants as errors
+use Rattle.cdi_container.specs.declared.acceptance.Unaccepted.TheVariants as reasons
 use Rattle.cdi_container.specs.Sessions.{AnswersLine}
 use Rattle.cdi_container.specs.States.{before_start}
 use Rattle.cdi_prepare.specs.declared.scripts.NamedScript.{NamedScript}
@@ -69,9 +71,9 @@ module _ {X : Type 0} {F : X → Type 0} {g : _} (d : Deployment) (es : List (En
       }
 
   -- a deployment that is served isn't told to be unserved
-  pub refusable : IsServedWith ss d → (u : Unaccepted) → IsUnaccepted d es u → IsRefusable u
-  refusable served (errors.Problems names problems) told = tt
-  refusable served errors.Unserved told = cc (served told.tables (tables_with told.tables told.are), serves_with told.tables false told.unserved)
+  pub refusable : IsServedWith ss d → (u : OrMemory Unaccepted) → IsUnaccepted d es u → IsRefusable u
+  refusable served (errors.Fault (reasons.Problems names problems)) told = tt
+  refusable served (errors.Fault reasons.Unserved) told = cc (served told.tables (tables_with told.tables told.are), serves_with told.tables false told.unserved)
   refusable served errors.Memory told = tt
 
 module _ {X : Type 0} {F : X → Type 0} {g : _} (depth ticks : ℕ) (d : Deployment) (es : List (Entry X F g)) (ss : List NamedScript) (streams : Streams) (e : Ending) (h : AreBodiesOf es ss) where
@@ -80,10 +82,10 @@ module _ {X : Type 0} {F : X → Type 0} {g : _} (depth ticks : ℕ) (d : Deploy
       PlaysScripts.runs (problems_with d es ss h [] a.are.faultless) (tables_with d es ss h t a.are)
       (lives_wider depth ticks t (legal_of es) (legal_by ss) streams e (within es ss h) l)
 
-  pub refused_plays : (u : Unaccepted) → IsUnaccepted d es u → streams.unread_after ≡ streams.unread → RefusesUnaccepted u streams.held streams.held_after e → PlaysScripts depth ticks d ss streams e
-  refused_plays (errors.Problems names problems) (named, are, some) unread (RefusesOr.starves held is) = PlaysScripts.starves (record { unread = unread; held = held; is_ending = is })
-  refused_plays (errors.Problems names problems) (named, are, some) unread (RefusesOr.refuses w) =
+  pub refused_plays : (u : OrMemory Unaccepted) → IsUnaccepted d es u → streams.unread_after ≡ streams.unread → RefusesUnaccepted u streams.held streams.held_after e → PlaysScripts depth ticks d ss streams e
+  refused_plays (errors.Fault (reasons.Problems names problems)) (named, are, some) unread (RefusesOr.starves held is) = PlaysScripts.starves (record { unread = unread; held = held; is_ending = is })
+  refused_plays (errors.Fault (reasons.Problems names problems)) (named, are, some) unread (RefusesOr.refuses w) =
       PlaysScripts.refuses (problems_with d es ss h problems are) some
       (record { unread = unread; refuses = subst (λ (ns : List (List ℕ)). Refuses (problem_lines ns problems) streams.held streams.held_after e) named w })
-  refused_plays errors.Unserved u unread w = absurd w
+  refused_plays (errors.Fault reasons.Unserved) u unread w = absurd w
   refused_plays errors.Memory told unread (held, is) = PlaysScripts.starves (record { unread = unread; held = held; is_ending = is })

@@ -1,6 +1,8 @@
 -- A run of the program, from the bytes of a deployment and of its input to the bytes of its output.
 use Rattle.std.specs.Prelude.{◌≡◌, ◌≢◌, ℕ, List, [], nat_eq, true, Option, Result, Ok, Err, slice_get, MatchOption}
 use Rattle.std.specs.HashMap.{get}
+use Rattle.cdi_base.specs.declared.or_memory.OrMemory.{OrMemory}
+use Rattle.cdi_base.specs.declared.or_memory.OrMemory.TheVariants as errors
 use Rattle.cdi_base.specs.declared.reply.Reply.{Reply}
 use Rattle.cdi_stage.specs.Stage.{served}
 use Rattle.cdi_body_check.specs.Sites.{sites_of}
@@ -14,7 +16,7 @@ use Rattle.cdi_run_tables.specs.declared.tables.RunTables.{RunTables}
 use Rattle.cdi_script.specs.Next.{next_of}
 use Rattle.cdi_container.specs.Accepted.{serves}
 use Rattle.cdi_container.specs.declared.acceptance.Unaccepted.{Unaccepted}
-use Rattle.cdi_container.specs.declared.acceptance.Unaccepted.TheVariants as errors
+use Rattle.cdi_container.specs.declared.acceptance.Unaccepted.TheVariants as reasons
 use Rattle.cdi_container.specs.Sessions.{AnswersLine, Served}
 use Rattle.cdi_container.specs.States.{State, Boots}
 use Rattle.cdi_shell.specs.declared.ending.Ending.{Ending}
@@ -128,13 +130,14 @@ pub data RefusesOr (lines : List ℕ) (held held_after : Option (List ℕ)) (end
   refuses : Refuses lines held held_after ending → RefusesOr lines held held_after ending
 
 -- it isn't accepted for its problems or for want of memory
-abbrev pub IsRefusable : Unaccepted → Type 0
-IsRefusable errors.Unserved = ⊥
+abbrev pub IsRefusable : OrMemory Unaccepted → Type 0
+IsRefusable (errors.Fault reasons.Unserved) = ⊥
 IsRefusable unaccepted = Unit {0}
 
 -- the problems of a deployment that isn't accepted are written, or memory ran out
-abbrev pub RefusesUnaccepted : Unaccepted → Option (List ℕ) → Option (List ℕ) → Ending → Type 0
-RefusesUnaccepted (errors.Problems names problems) held held_after ending =
+abbrev pub RefusesUnaccepted : OrMemory Unaccepted → Option (List ℕ) → Option (List ℕ) → Ending
+    → Type 0
+RefusesUnaccepted (errors.Fault (reasons.Problems names problems)) held held_after ending =
     RefusesOr (problem_lines names problems) held held_after ending
-RefusesUnaccepted errors.Unserved held held_after ending = ⊥
+RefusesUnaccepted (errors.Fault reasons.Unserved) held held_after ending = ⊥
 RefusesUnaccepted errors.Memory held held_after ending = (held_after ≡ held) × (ending ≡ starved)

@@ -11,12 +11,12 @@ ghost use Rattle.cdi_shell.specs.Endings.{outcome_of};
 ghost use Rattle.cdi_shell.specs.Laws.{DrivesOnce};
 
 use crate::ending::{Ending, after_serving};
-use cdi_base::{Act, Fields, Limits, Names};
+use cdi_base::{Act, Fields, Limits, Names, OrMemory};
 use cdi_bodies::{AddError, Bodies, Body, MAX_BODIES, View};
 use cdi_container::{Container, Unaccepted, accept, serve};
 use cdi_lines::{ServeFault, Sink, Source};
 use cdi_machine::Driver;
-use cdi_prepare::{NamedScript, PrepareError, Prepared, prepare};
+use cdi_prepare::{NamedScript, Prepared, prepare};
 use cdi_problems::Problem;
 use cdi_report::problem_lines::write_problems;
 use cdi_run_tables::RunTables;
@@ -70,7 +70,11 @@ fn refuse_problems<W: Sink>(
 }
 
 /// Tells the problems for which a deployment isn't accepted, if memory didn't run out.
-fn refuse_unaccepted<W: Sink>(alloc: Global, unaccepted: Unaccepted, output: &mut W) -> Ending
+fn refuse_unaccepted<W: Sink>(
+    alloc: Global,
+    unaccepted: OrMemory<Unaccepted>,
+    output: &mut W,
+) -> Ending
     requires { spec.IsRefusable unaccepted }
     ensures refuses { spec.RefusesUnaccepted
         unaccepted (W.written output.old) (W.written output.new) result }
@@ -80,11 +84,11 @@ fn refuse_unaccepted<W: Sink>(alloc: Global, unaccepted: Unaccepted, output: &mu
         (W.has_failed output.old) (W.has_failed output.new) }
 {
     match unaccepted {
-        Unaccepted::Problems { names, problems } => {
+        OrMemory::Fault(Unaccepted::Problems { names, problems }) => {
             refuse_problems(alloc, &names, problems.as_slice(), output)
         }
-        Unaccepted::Unserved => unreachable!(),
-        Unaccepted::Memory => STARVED,
+        OrMemory::Fault(Unaccepted::Unserved) => unreachable!(),
+        OrMemory::Memory => STARVED,
     }
 }
 
@@ -196,8 +200,8 @@ fn run<R: Source, W: Sink>(
             Ok(ending) => ending,
             Err(_) => STARVED,
         },
-        Err(PrepareError::Refused(lines)) => refuse(&lines, output),
-        Err(PrepareError::Memory) => STARVED,
+        Err(OrMemory::Fault(line)) => refuse(&line, output),
+        Err(OrMemory::Memory) => STARVED,
     }
 }
 

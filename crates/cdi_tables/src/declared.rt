@@ -4,10 +4,11 @@ ghost use Rattle.cdi_name_check.specs.NameProblems.{AreNameProblems};
 ghost use Rattle.cdi_quals.specs.Types.{AreQualifiersOf, AreTypesOf};
 ghost use Rattle.cdi_types.specs.Declarations.{declarations_of};
 
+use cdi_base::OrMemory;
 use cdi_deployment::Deployment;
 use cdi_name_check::laws::law_types_sound;
 use cdi_quals::QualifierTypes;
-use cdi_types::{TypeTable, TypesError};
+use cdi_types::{TypeTable, TypesFault};
 use std::alloc::{AllocError, Global};
 
 /// The types of a deployment, the types of its qualifiers, with the built-in ones, and those of its interceptor bindings.
@@ -36,9 +37,9 @@ fn table_of(alloc: Global, deployment: &Deployment) -> Result<TypeTable, AllocEr
     law_types_sound();
     match TypeTable::build(alloc, deployment) {
         Ok(types) => Ok(types),
-        Err(TypesError::Memory) => Err(AllocError),
-        Err(TypesError::Cycle) => unreachable!(),
-        Err(TypesError::Unknown) => unreachable!(),
+        Err(OrMemory::Memory) => Err(AllocError),
+        Err(OrMemory::Fault(TypesFault::Cycle)) => unreachable!(),
+        Err(OrMemory::Fault(TypesFault::Unknown)) => unreachable!(),
     }
 }
 

@@ -7,7 +7,7 @@ ghost use Rattle.cdi_base.specs.Uses.{has_names};
 ghost use Rattle.serde_json.specs.View.{view, items_view};
 ghost use Rattle.cdi_text.specs.Command as spec;
 
-use cdi_base::{Command, ReadError, Seq, Text, Value, WrittenUse, is_name};
+use cdi_base::{Command, OrMemory, Seq, Text, Value, WrittenUse, is_name};
 use cdi_json::{Form, is_word, list_of, read_json};
 use cdi_stage::{SERVED, Stage};
 use serde_json::Value as Json;
@@ -38,13 +38,13 @@ pub fn since(command: &Command) -> Stage
     }
 }
 
-fn bad<T>() -> Result<T, ReadError<BadLine>>
-    ensures { result ≡ Err (ReadError.Fault (record {})) }
+fn bad<T>() -> Result<T, OrMemory<BadLine>>
+    ensures { result ≡ Err (OrMemory.Fault (record {})) }
 {
-    Err(ReadError::Fault(BadLine))
+    Err(OrMemory::Fault(BadLine))
 }
 
-fn name_of(alloc: Global, value: &Json) -> Result<Text, ReadError<BadLine>>
+fn name_of(alloc: Global, value: &Json) -> Result<Text, OrMemory<BadLine>>
     ensures { Gives (λ name. name) result (spec.name_of (view value.now)) }
 {
     match value {
@@ -58,7 +58,7 @@ fn name_of(alloc: Global, value: &Json) -> Result<Text, ReadError<BadLine>>
     }
 }
 
-fn request_of(alloc: Global, value: &Json) -> Result<Option<Text>, ReadError<BadLine>>
+fn request_of(alloc: Global, value: &Json) -> Result<Option<Text>, OrMemory<BadLine>>
     ensures { Gives (λ request. request) result (spec.request_of (view value.now)) }
 {
     match value {
@@ -67,7 +67,7 @@ fn request_of(alloc: Global, value: &Json) -> Result<Option<Text>, ReadError<Bad
     }
 }
 
-fn value_of(alloc: Global, value: &Json) -> Result<Value, ReadError<BadLine>>
+fn value_of(alloc: Global, value: &Json) -> Result<Value, OrMemory<BadLine>>
     ensures { Gives (λ v. v) result (spec.value_of (view value.now)) }
 {
     match Value::read(alloc, value)? {
@@ -76,7 +76,7 @@ fn value_of(alloc: Global, value: &Json) -> Result<Value, ReadError<BadLine>>
     }
 }
 
-fn values_of(alloc: Global, value: &Json) -> Result<Seq<Value>, ReadError<BadLine>>
+fn values_of(alloc: Global, value: &Json) -> Result<Seq<Value>, OrMemory<BadLine>>
     ensures { Gives (λ values. values) result (spec.values_of (view value.now)) }
 {
     match list_of::<Value>(alloc, value)? {
@@ -91,7 +91,7 @@ fn are_named(uses: &[WrittenUse]) -> bool
     uses.iter().all(WrittenUse::has_names)
 }
 
-fn qualifiers_of(alloc: Global, value: &Json) -> Result<Seq<WrittenUse>, ReadError<BadLine>>
+fn qualifiers_of(alloc: Global, value: &Json) -> Result<Seq<WrittenUse>, OrMemory<BadLine>>
     ensures { Gives (λ uses. uses) result (spec.qualifiers_of (view value.now)) }
 {
     let Some(uses) = list_of::<WrittenUse>(alloc, value)? else {
@@ -103,7 +103,7 @@ fn qualifiers_of(alloc: Global, value: &Json) -> Result<Seq<WrittenUse>, ReadErr
     Ok(uses)
 }
 
-fn begin_of(alloc: Global, items: &[Json]) -> Result<Command, ReadError<BadLine>>
+fn begin_of(alloc: Global, items: &[Json]) -> Result<Command, OrMemory<BadLine>>
     ensures { Gives (λ c. c) result (spec.begin_of (items_view items.now)) }
 {
     match items {
@@ -128,7 +128,7 @@ fn call_with(
     qualifiers: &Json,
     method: &Json,
     args: &Json,
-) -> Result<Command, ReadError<BadLine>>
+) -> Result<Command, OrMemory<BadLine>>
     ensures { Gives (λ c. c) result (spec.call_with (view request.now) (view bean_type.now)
         (view qualifiers.now) (view method.now) (view args.now)) }
 {
@@ -146,7 +146,7 @@ fn call_with(
     })
 }
 
-fn call_of(alloc: Global, items: &[Json]) -> Result<Command, ReadError<BadLine>>
+fn call_of(alloc: Global, items: &[Json]) -> Result<Command, OrMemory<BadLine>>
     ensures { Gives (λ c. c) result (spec.call_of (items_view items.now)) }
 {
     let [request, bean_type, qualifiers, method, args] = items else {
@@ -161,7 +161,7 @@ fn read_with(
     request: &Json,
     bean_type: &Json,
     qualifiers: &Json,
-) -> Result<Command, ReadError<BadLine>>
+) -> Result<Command, OrMemory<BadLine>>
     ensures { Gives (λ c. c) result
         (spec.read_with (view request.now) (view bean_type.now) (view qualifiers.now)) }
 {
@@ -175,7 +175,7 @@ fn read_with(
     })
 }
 
-fn read_of(alloc: Global, items: &[Json]) -> Result<Command, ReadError<BadLine>>
+fn read_of(alloc: Global, items: &[Json]) -> Result<Command, OrMemory<BadLine>>
     ensures { Gives (λ c. c) result (spec.read_of (items_view items.now)) }
 {
     let [request, bean_type, qualifiers] = items else {
@@ -191,7 +191,7 @@ fn fire_with(
     class: &Json,
     qualifiers: &Json,
     value: &Json,
-) -> Result<Command, ReadError<BadLine>>
+) -> Result<Command, OrMemory<BadLine>>
     ensures { Gives (λ c. c) result (spec.fire_with (view request.now) (view class.now)
         (view qualifiers.now) (view value.now)) }
 {
@@ -207,7 +207,7 @@ fn fire_with(
     })
 }
 
-fn fire_of(alloc: Global, items: &[Json]) -> Result<Command, ReadError<BadLine>>
+fn fire_of(alloc: Global, items: &[Json]) -> Result<Command, OrMemory<BadLine>>
     ensures { Gives (λ c. c) result (spec.fire_of (items_view items.now)) }
 {
     let [request, class, qualifiers, value] = items else {
@@ -216,7 +216,7 @@ fn fire_of(alloc: Global, items: &[Json]) -> Result<Command, ReadError<BadLine>>
     fire_with(alloc, request, class, qualifiers, value)
 }
 
-fn name_alone(alloc: Global, items: &[Json]) -> Result<Text, ReadError<BadLine>>
+fn name_alone(alloc: Global, items: &[Json]) -> Result<Text, OrMemory<BadLine>>
     ensures { Gives (λ name. name) result (spec.name_alone (items_view items.now)) }
 {
     let [name] = items else {
@@ -225,7 +225,7 @@ fn name_alone(alloc: Global, items: &[Json]) -> Result<Text, ReadError<BadLine>>
     name_of(alloc, name)
 }
 
-fn alone(command: Command, items: &[Json]) -> Result<Command, ReadError<BadLine>>
+fn alone(command: Command, items: &[Json]) -> Result<Command, OrMemory<BadLine>>
     ensures { Gives (λ c. c) result (spec.alone command (items_view items.now)) }
 {
     match items {
@@ -234,14 +234,14 @@ fn alone(command: Command, items: &[Json]) -> Result<Command, ReadError<BadLine>
     }
 }
 
-fn end_of(alloc: Global, items: &[Json]) -> Result<Command, ReadError<BadLine>>
+fn end_of(alloc: Global, items: &[Json]) -> Result<Command, OrMemory<BadLine>>
     ensures { Gives (λ c. c) result (spec.end_of (items_view items.now)) }
 {
     let request = name_alone(alloc, items)?;
     Ok(Command::End { request })
 }
 
-fn invalidate_of(alloc: Global, items: &[Json]) -> Result<Command, ReadError<BadLine>>
+fn invalidate_of(alloc: Global, items: &[Json]) -> Result<Command, OrMemory<BadLine>>
     ensures { Gives (λ c. c) result (spec.invalidate_of (items_view items.now)) }
 {
     let session = name_alone(alloc, items)?;
@@ -250,7 +250,7 @@ fn invalidate_of(alloc: Global, items: &[Json]) -> Result<Command, ReadError<Bad
 
 /// The command with this word, and these items behind it.
 #[tactic(auto, unfolding(crate::specs::Command::command_named))]
-fn command_named(alloc: Global, word: &Json, items: &[Json]) -> Result<Command, ReadError<BadLine>>
+fn command_named(alloc: Global, word: &Json, items: &[Json]) -> Result<Command, OrMemory<BadLine>>
     ensures { Gives (λ c. c) result (spec.command_named (view word.now) (items_view items.now)) }
 {
     if is_word(word, "begin") {
@@ -280,7 +280,7 @@ fn command_named(alloc: Global, word: &Json, items: &[Json]) -> Result<Command, 
     bad()
 }
 
-fn whole_command_of(alloc: Global, value: &Json) -> Result<Command, ReadError<BadLine>>
+fn whole_command_of(alloc: Global, value: &Json) -> Result<Command, OrMemory<BadLine>>
     ensures { Gives (λ c. c) result (spec.whole_command_of (view value.now)) }
 {
     let Json::Array(items) = value else {
@@ -292,7 +292,7 @@ fn whole_command_of(alloc: Global, value: &Json) -> Result<Command, ReadError<Ba
     }
 }
 
-fn command_of(alloc: Global, stage: Stage, value: &Json) -> Result<Command, ReadError<BadLine>>
+fn command_of(alloc: Global, stage: Stage, value: &Json) -> Result<Command, OrMemory<BadLine>>
     ensures gives { Gives (λ c. c) result (spec.command_of stage (view value.now)) }
     ensures served { IfOk result (λ c. IsTrue (spec.is_served_at stage c)) }
 {
@@ -318,14 +318,14 @@ fn command_of(alloc: Global, stage: Stage, value: &Json) -> Result<Command, Read
 /// qualifiers are uses, whose texts in a name's place are names, and each of the args and a value is null, a number that
 /// is an `i64`, or a text.
 ///
-/// Every other line is a [`BadLine`]. An error is [`ReadError::Memory`] where a growth was refused, which can be only
+/// Every other line is a [`BadLine`]. An error is [`OrMemory::Memory`] where a growth was refused, which can be only
 /// where the line is UTF-8.
 #[tactic(auto, unfolding(crate::specs::Command::command_at))]
 pub fn read_command_at(
     alloc: Global,
     stage: Stage,
     line: &[u8],
-) -> Result<Command, ReadError<BadLine>>
+) -> Result<Command, OrMemory<BadLine>>
     ensures gives { Gives (λ c. c) result (spec.command_at stage line.now) }
     ensures served { IfOk result (λ c. IsTrue (spec.is_served_at stage c)) }
     ensures no_text { is_utf8 line.now ≡ false → IsFault result (record {}) }
@@ -337,7 +337,7 @@ pub fn read_command_at(
 }
 
 /// Reads the command that a line is, of those that are served now: [`read_command_at`] at [`SERVED`].
-pub fn read_command(alloc: Global, line: &[u8]) -> Result<Command, ReadError<BadLine>>
+pub fn read_command(alloc: Global, line: &[u8]) -> Result<Command, OrMemory<BadLine>>
     ensures gives { Gives (λ c. c) result (spec.command_in line.now) }
     ensures served { IfOk result (λ c. IsTrue (spec.is_served c)) }
     ensures no_text { is_utf8 line.now ≡ false → IsFault result (record {}) }

@@ -4,7 +4,7 @@ ghost use Rattle.cdi_runtime.specs.Standing.{IsServable, KnowsMethods};
 
 use crate::asked::{Asked, Counted};
 use crate::jobs::answers;
-use cdi_base::Limits;
+use cdi_base::{Limits, OrMemory};
 use cdi_bodies::Bodies;
 use cdi_container::{Unaccepted, accept};
 use cdi_deployment::Deployment;
@@ -32,13 +32,13 @@ fn problem_lines(alloc: Global, names: usize, problems: &[Problem]) -> Result<St
 }
 
 /// Why a deployment isn't accepted.
-fn refusal_lines(alloc: Global, unaccepted: &Unaccepted) -> Result<String, AllocError> {
+fn refusal_lines(alloc: Global, unaccepted: &OrMemory<Unaccepted>) -> Result<String, AllocError> {
     match unaccepted {
-        Unaccepted::Problems { names, problems } => {
+        OrMemory::Fault(Unaccepted::Problems { names, problems }) => {
             problem_lines(alloc, names.len(), problems.as_slice())
         }
-        Unaccepted::Unserved => String::from_str(alloc, "not served\n"),
-        Unaccepted::Memory => Err(AllocError),
+        OrMemory::Fault(Unaccepted::Unserved) => String::from_str(alloc, "not served\n"),
+        OrMemory::Memory => Err(AllocError),
     }
 }
 

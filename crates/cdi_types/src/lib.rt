@@ -4,7 +4,7 @@
 
 pub mod declaration;
 mod edges;
-pub mod error;
+pub mod fault;
 pub mod graph;
 mod index;
 pub mod laws;
@@ -12,6 +12,6 @@ mod lineage;
 pub mod table;
 
 pub use declaration::{TypeDeclaration, declarations_of};
-pub use error::TypesError;
+pub use fault::TypesFault;
 pub use graph::TypeGraph;
 pub use table::TypeTable;

@@ -4,10 +4,10 @@ ghost use Rattle.cdi_reach.specs.ListsThose.{ListsThose};
 ghost use Rattle.cdi_types.specs.Table.{IsSound, IsRefused};
 
 use crate::declaration::TypeDeclaration;
-use crate::error::TypesError;
+use crate::fault::TypesFault;
 use crate::graph::TypeGraph;
 use crate::lineage::lineage_of;
-use cdi_base::{BuiltIn, Name, Seq};
+use cdi_base::{BuiltIn, Name, OrMemory, Seq};
 use cdi_deployment::Deployment;
 use std::alloc::{AllocError, Global};
 use std::marker::Model;
@@ -39,9 +39,9 @@ impl TypeTable {
     ghost use Rattle.cdi_types.specs.Nodes.{place_of};
     ghost use Rattle.cdi_types.specs.Subtype as spec;
 
-    /// The table of the types of a deployment. Where it has none the answer is [`TypesError::Cycle`] before
-    /// [`TypesError::Unknown`], unless memory runs out.
-    pub fn build(alloc: Global, deployment: &Deployment) -> Result<TypeTable, TypesError>
+    /// The table of the types of a deployment. Where it has none the fault is [`TypesFault::Cycle`] before
+    /// [`TypesFault::Unknown`], unless memory runs out.
+    pub fn build(alloc: Global, deployment: &Deployment) -> Result<TypeTable, OrMemory<TypesFault>>
         ensures table { IfOk result (λ table. table ≡ declarations_of deployment.now) }
         ensures sound { OnOk result (IsSound (declarations_of deployment.now)) }
         ensures refused { IfErr result (IsRefused (declarations_of deployment.now)) }
@@ -49,18 +49,18 @@ impl TypeTable {
         TypeTable::of(TypeGraph::build(alloc, deployment)?)
     }
 
-    /// The table of these types. The answer is never [`TypesError::Memory`].
-    pub fn of(graph: TypeGraph) -> Result<TypeTable, TypesError>
+    /// The table of these types. The answer is never [`OrMemory::Memory`].
+    pub fn of(graph: TypeGraph) -> Result<TypeTable, OrMemory<TypesFault>>
         ensures table { IfOk result (λ table. table ≡ graph) }
         ensures sound { OnOk result (IsSound graph) }
         ensures refused { IfErr result (IsRefused graph) }
-        ensures decided { IfErr result (λ e. e ≢ TypesError.Memory) }
+        ensures decided { IfErr result (λ e. e ≢ OrMemory.Memory) }
     {
         if graph.has_cycle() {
-            return Err(TypesError::Cycle);
+            return Err(OrMemory::Fault(TypesFault::Cycle));
         }
         if !graph.knows_supertypes() {
-            return Err(TypesError::Unknown);
+            return Err(OrMemory::Fault(TypesFault::Unknown));
         }
         Ok(TypeTable { graph })
     }
