@@ -4,10 +4,15 @@
 //! it is written, or as a wrong number of runs.
 #![tactic(auto)]
 
+pub mod layers;
+pub mod limits;
 pub mod marks;
 pub mod playing;
+pub mod points;
 pub mod scene;
 pub mod texts;
+pub mod words;
 
+pub use layers::{Asked, Layers};
 pub use playing::{Played, Player, play_files};
 pub use scene::Scene;

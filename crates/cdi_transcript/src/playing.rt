@@ -13,6 +13,17 @@ pub struct Played {
     pub errors: Vec<u8>,
 }
 
+impl Played {
+    /// A run that wrote this, and ended well.
+    pub fn well(alloc: Global, output: Vec<u8>) -> Played {
+        Played {
+            status: 0,
+            output,
+            errors: Vec::new(alloc),
+        }
+    }
+}
+
 /// What plays the runs of transcripts.
 pub trait Player {
     /// What a run comes to.

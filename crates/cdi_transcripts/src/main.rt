@@ -1,17 +1,10 @@
-//! Plays transcripts of the program `cdi` and of what stands below it: runs as they are written in files, each with what it has to
+//! Plays transcripts of the program `cdi`, and of `cdi_shell` below it: runs as they are written in files, each with what it has to
 //! write. The words of a run are told in the module `words`.
 #![tactic(auto)]
 
-mod asked;
-mod counting;
-mod entries;
-mod jobs;
 mod lines;
-mod many_beans;
 mod numbered;
 mod program;
-mod report;
-mod runtimes;
 mod streams;
 mod words;
 

@@ -1,10 +1,10 @@
 //! Running the program over one file.
-use crate::report::limits_of;
 use cdi_base::Limits;
 use cdi_lines::{Input, Output};
 use cdi_program::{Files, WordsError, run_program};
 use cdi_shell::drive::drive;
 use cdi_transcript::Played;
+use cdi_transcript::limits::limits_of;
 use std::alloc::Global;
 use std::io;
 use std::io::{ErrorKind, Read, Write};

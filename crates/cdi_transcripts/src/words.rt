@@ -10,26 +10,15 @@
 //! | `unknown WHY` | the program where its words are no text, or where there is no memory for them |
 //! | `front PATH` | how many bytes the program reads of a file of the machine |
 //! | `faults`, `problems` | lines that were written by hand: see the module `lines` |
-//! | others | what stands below the program: see the module `report` |
 use crate::lines::{fault_lines, problem_lines};
 use crate::numbered::play_numbered;
 use crate::program::run_without_words;
-use crate::report::report;
 use crate::streams::{Run, bytes_of, play_blanks, play_over};
 use cdi_program::program::MAX_READ;
 use cdi_program::{Files, HostFiles, WordsError};
 use cdi_transcript::{Played, Player, Scene};
 use std::alloc::{AllocError, Global};
 use std::str;
-
-/// A run that wrote this, and ended well.
-fn played_well(alloc: Global, output: Vec<u8>) -> Played {
-    Played {
-        status: 0,
-        output,
-        errors: Vec::new(alloc),
-    }
-}
 
 /// Whether a text has each part of another.
 fn part_lines(alloc: Global, text: &str, parts: &str) -> Result<String, AllocError> {
@@ -75,7 +64,7 @@ fn play_bytes(
                 input.as_slice(),
             )
         }
-        _ => Ok(played_well(alloc, Vec::new(alloc))),
+        _ => Ok(Played::well(alloc, Vec::new(alloc))),
     }
 }
 
@@ -97,18 +86,25 @@ fn error_of(why: &str) -> WordsError {
     }
 }
 
-/// What is played that has no deployment, or one of its own.
-fn play_beside(
-    alloc: Global,
-    words: &[&str],
-    bytes: &[u8],
-    input: &str,
-) -> Result<Played, AllocError> {
+/// What is played that has no deployment.
+fn play_beside(alloc: Global, words: &[&str]) -> Result<Played, AllocError> {
     match words {
-        ["faults"] => Ok(played_well(alloc, fault_lines(alloc)?)),
-        ["problems"] => Ok(played_well(alloc, problem_lines(alloc)?)),
+        ["faults"] => Ok(Played::well(alloc, fault_lines(alloc)?)),
+        ["problems"] => Ok(Played::well(alloc, problem_lines(alloc)?)),
         ["unknown", why] => Ok(run_without_words(alloc, error_of(why))),
-        _ => Ok(played_well(alloc, report(alloc, words, bytes, input)?.into_bytes())),
+        _ => {
+            let output = String::from_str(alloc, "nothing has these words\n")?;
+            Ok(Played::well(alloc, output.into_bytes()))
+        }
+    }
+}
+
+/// The run of words of the program over a deployment.
+fn run_of<'a>(alloc: Global, words: &'a [&'a str], deployment: &'a str) -> Run<'a> {
+    Run {
+        alloc,
+        words,
+        bytes: deployment.as_bytes(),
     }
 }
 
@@ -119,54 +115,27 @@ fn play_words(
     deployment: &str,
     input: &str,
 ) -> Result<Played, AllocError> {
-    let bytes = deployment.as_bytes();
     match words {
-        ["cdi" | "limits", ..] => Ok(Run {
-            alloc,
-            words,
-            bytes,
+        ["cdi" | "limits", ..] => Ok(run_of(alloc, words, deployment).over(input.as_bytes())),
+        ["over", kind, words @ ..] => {
+            let run = run_of(alloc, words, deployment);
+            play_over(run, kind, input.as_bytes())
         }
-        .over(input.as_bytes())),
-        ["over", kind, words @ ..] => play_over(
-            Run {
-                alloc,
-                words,
-                bytes,
-            },
-            kind,
-            input.as_bytes(),
-        ),
-        ["sought", words @ ..] => play_sought(
-            Run {
-                alloc,
-                words,
-                bytes,
-            },
-            input,
-        ),
-        ["blanks", count, words @ ..] => Ok(play_blanks(
-            Run {
-                alloc,
-                words,
-                bytes,
-            },
-            count.parse().unwrap_or(0),
-        )),
-        ["room", count, words @ ..] => Run {
-            alloc,
-            words,
-            bytes,
+        ["sought", words @ ..] => play_sought(run_of(alloc, words, deployment), input),
+        ["blanks", count, words @ ..] => {
+            let run = run_of(alloc, words, deployment);
+            Ok(play_blanks(run, count.parse().unwrap_or(0)))
         }
-        .with_room(input.as_bytes(), count.parse().unwrap_or(0)),
+        ["room", count, words @ ..] => {
+            let run = run_of(alloc, words, deployment);
+            run.with_room(input.as_bytes(), count.parse().unwrap_or(0))
+        }
         ["bytes", words @ ..] => play_bytes(alloc, words, deployment, input),
-        ["numbered", count, words @ ..] => play_numbered(
-            alloc,
-            words,
-            deployment,
-            input,
-            count.parse().unwrap_or(0),
-        ),
-        _ => play_beside(alloc, words, bytes, input),
+        ["numbered", count, words @ ..] => {
+            let count = count.parse().unwrap_or(0);
+            play_numbered(alloc, words, deployment, input, count)
+        }
+        _ => play_beside(alloc, words),
     }
 }
 
@@ -181,7 +150,7 @@ impl Player for Program<'_> {
         let deployment = scene.whole_deployment(alloc)?;
         let words: Vec<&str> = scene.words.as_str().split_whitespace().collect(alloc)?;
         match words.as_slice() {
-            ["front", path] => Ok(played_well(
+            ["front", path] => Ok(Played::well(
                 alloc,
                 front_line(alloc, &self.files, path)?.into_bytes(),
             )),

@@ -2,14 +2,15 @@
 //! tells the groups of observers that hear it: each group has its priority and, behind `:`, its observers as `Class#member`, after the
 //! bean and `/` where the class of the bean is another one; it ends with `;`.
 use crate::listed::{Listed, PROBLEMS, list_of};
-use crate::points::points_of;
-use crate::words::{push_marked, push_name, push_space, push_word};
 use cdi_base::{Names, OrMemory, Seq};
 use cdi_beanlist::ObserverMethod;
 use cdi_deployment::{Deployment, InjectedField};
 use cdi_enable::EnabledSet;
 use cdi_observers::{ObserverGroup, Observers};
 use cdi_quals::{QualSet, QualifierTypes};
+use cdi_transcript::points::points_of;
+use cdi_transcript::texts::add_name;
+use cdi_transcript::words::{push_name, push_space, push_word};
 use cdi_types::TypeTable;
 use std::alloc::{AllocError, Global};
 use std::mem;
@@ -21,9 +22,9 @@ fn push_observer(
 ) -> Result<(), AllocError> {
     push_name(names, observer.bean, text)?;
     if observer.bean != observer.class {
-        push_marked(names, "/", observer.class, text)?;
+        add_name(text, names, "/", observer.class)?;
     }
-    push_marked(names, "#", observer.name, text)
+    add_name(text, names, "#", observer.name)
 }
 
 fn push_at(

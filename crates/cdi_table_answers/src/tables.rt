@@ -19,11 +19,12 @@ use crate::places::add_place;
 use cdi_base::{Act, Fields, MemberValue, Names, OrMemory, Seq, Use, Value};
 use cdi_beanlist::BeanList;
 use cdi_bodies::{Bodies, Body, Shape, View};
-use cdi_deployment::{Deployment, InjectedField};
+use cdi_deployment::Deployment;
 use cdi_problems::Problem;
 use cdi_resolve::Resolution;
 use cdi_run_tables::RunTables;
 use cdi_tables::BeanTables;
+use cdi_transcript::points::points_of;
 use cdi_transcript::texts::add_answer;
 use std::alloc::{AllocError, Global};
 
@@ -57,14 +58,6 @@ pub(crate) fn tables_of(
     ) {
         Ok(_) => Ok(RunTables::build(alloc, deployment, tables, &bodies)?),
         Err(_) => Err(OrMemory::Memory),
-    }
-}
-
-/// What is asked for: the injected fields of the last class.
-fn points_of(deployment: &Deployment) -> &[InjectedField] {
-    match deployment.classes.as_slice().last() {
-        Some(class) => class.inject.as_slice(),
-        None => &[],
     }
 }
 

@@ -6,11 +6,11 @@
 //! | `has a b` | whether the set of the uses a has all of the set of b: `yes` or `no` |
 //! | `same a b` | whether the first use of a and that of b are the same but for nonbinding members: `yes` or `no` |
 //! | `count a` | how many the set of a has |
-use crate::points::uses_named;
-use crate::words::yes_or_no;
 use cdi_base::{Names, Use};
 use cdi_deployment::Deployment;
 use cdi_quals::{QualSet, Qualifier, QualifierTypes};
+use cdi_transcript::points::uses_named;
+use cdi_transcript::words::yes_or_no;
 use std::alloc::{AllocError, Global};
 
 /// Whether a set has all of another, which is then its subset.

@@ -7,9 +7,9 @@
 //! | `lineage C` | the class C with its superclasses, the topmost first |
 //!
 //! Where the types have no table, one line says why: `cycle` or `unknown`.
-use crate::words::push_names;
 use cdi_base::{Name, Names, OrMemory};
 use cdi_deployment::Deployment;
+use cdi_transcript::words::push_names;
 use cdi_types::{TypeGraph, TypeTable, TypesFault};
 use std::alloc::{AllocError, Global};
 

@@ -5,10 +5,10 @@
 //! | `fields C` | the fields that the class C has, each as `Class#field` with the class that declares it |
 //! | `injected C` | the same for its injected fields |
 //! | `members C` | the same for its members |
-use crate::words::push_declared;
 use cdi_base::{Name, Names, OrMemory};
 use cdi_deployment::{Deployment, Field, InjectedField, Member};
 use cdi_members::{ClassIndex, ClassLine, ClassPart, member_name};
+use cdi_transcript::words::push_declared;
 use cdi_types::TypeTable;
 use std::alloc::{AllocError, Global};
 

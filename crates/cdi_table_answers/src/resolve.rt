@@ -1,12 +1,13 @@
 //! What points resolve to. One line tells it for each injected field of the last class: the bean, `many` or `nothing`, and `differs` if
 //! the qualifiers as they are written and the set of them don't come to the same.
+use crate::beans::push_bean;
 use crate::listed::{Listed, PROBLEMS, list_of};
-use crate::points::points_of;
-use crate::words::{push_bean, push_word};
 use cdi_base::{Names, Seq};
 use cdi_deployment::{Deployment, InjectedField};
 use cdi_quals::{QualSet, QualifierTypes};
 use cdi_resolve::{Resolution, Resolver};
+use cdi_transcript::points::points_of;
+use cdi_transcript::words::push_word;
 use std::alloc::{AllocError, Global};
 use std::mem;
 

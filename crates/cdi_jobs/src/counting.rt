@@ -1,7 +1,7 @@
 //! A body that no script can be: one that calls itself until a number is spent.
 ghost use Rattle.std.specs.Prelude.{◌≡◌, true, IfOk};
 ghost use Rattle.cdi_bodies.specs.Shape.{in_shape};
-ghost use Rattle.cdi_transcripts.specs.Plain.{IsPlain, plain_shape};
+ghost use Rattle.cdi_jobs.specs.Plain.{IsPlain, plain_shape};
 
 use cdi_base::{Act, Fields, Name, Names, Seq, Value};
 use cdi_bodies::{OwnCall, Shape, View};

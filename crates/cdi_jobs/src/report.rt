@@ -1,4 +1,4 @@
-//! What is told of a deployment below the program, by the words of a run.
+//! What is told of a deployment and its bodies, by the words of a run.
 //!
 //! | Words | The deployment and its bodies |
 //! |---|---|
@@ -13,17 +13,19 @@
 ghost use Rattle.std.specs.Prelude.{◌≡◌, true, IfOk};
 ghost use Rattle.cdi_bodies.specs.Shape.{in_shape};
 ghost use Rattle.cdi_script.specs.Listed.{shape_of};
-ghost use Rattle.cdi_transcripts.specs.Plain.{plain_shape};
+ghost use Rattle.cdi_jobs.specs.Plain.{plain_shape};
 
 use crate::counting::Counting;
 use crate::many_beans::beans;
 use crate::runtimes::{Asking, report_of};
-use cdi_base::{Act, Fields, Limits};
+use cdi_base::{Act, Fields};
 use cdi_bodies::{Bodies, Body, View};
 use cdi_deployment::Deployment;
 use cdi_prepare::{NamedScript, Prepared, prepare};
 use cdi_script::Script;
 use cdi_stage::{SERVED, Stage, WHOLE};
+use cdi_transcript::limits::limits_of;
+use cdi_transcript::{Played, Player, Scene};
 use std::alloc::{AllocError, Global};
 
 /// What a script does next.
@@ -111,14 +113,6 @@ fn report_of_bytes(
     }
 }
 
-/// The limits that two words give, if they are in range.
-pub(crate) fn limits_of(words: &[&str]) -> Option<Limits> {
-    match words {
-        [depth, ticks] => Limits::new(depth.parse().ok()?, ticks.parse().ok()?),
-        _ => None,
-    }
-}
-
 /// What is asked under the limits that words give, or else under those of the program.
 fn asking_of<'a>(words: &[&str], input: &'a str) -> Asking<'a> {
     Asking {
@@ -133,13 +127,8 @@ fn report_of_beans(alloc: Global, count: u32, asking: Asking) -> Result<String, 
     report_of(alloc, deployment, Bodies::new(alloc), asking)
 }
 
-/// What is told by the words of a run that are none of the program.
-pub(crate) fn report(
-    alloc: Global,
-    words: &[&str],
-    bytes: &[u8],
-    input: &str,
-) -> Result<String, AllocError> {
+/// What is told by the words of a run.
+fn report(alloc: Global, words: &[&str], bytes: &[u8], input: &str) -> Result<String, AllocError> {
     match words {
         ["whole"] => report_of_bytes(alloc, WHOLE, bytes, None, asking_of(&[], input)),
         ["counting", sets, limits @ ..] => {
@@ -151,5 +140,18 @@ pub(crate) fn report(
         }
         [_, limits @ ..] => report_of_bytes(alloc, SERVED, bytes, None, asking_of(limits, input)),
         [] => Ok(String::new(alloc)),
+    }
+}
+
+/// Runtimes, asked for what they answer.
+pub(crate) struct Runtimes;
+
+impl Player for Runtimes {
+    fn play(&self, alloc: Global, scene: &Scene) -> Result<Played, AllocError> {
+        let deployment = scene.whole_deployment(alloc)?;
+        let words: Vec<&str> = scene.words.as_str().split_whitespace().collect(alloc)?;
+        let bytes = deployment.as_str().as_bytes();
+        let text = report(alloc, words.as_slice(), bytes, scene.input.as_str())?;
+        Ok(Played::well(alloc, text.into_bytes()))
     }
 }

@@ -2,12 +2,12 @@
 //! each chain of the bean that isn't empty: those of its members as `Class#member`, and those of its lifecycle as `Class construct`,
 //! `Class post` and `Class pre`.
 use crate::listed::PROBLEMS;
-use crate::words::{push_declared, push_name, push_word};
 use cdi_base::{InterceptorMethod, Name, Names, OrMemory, Seq};
 use cdi_beanlist::{Bean, BeanKind, BeanList, BeanMember, EnabledInterceptor};
 use cdi_chains::{Chain, Chains};
 use cdi_deployment::Deployment;
 use cdi_quals::QualifierTypes;
+use cdi_transcript::words::{push_declared, push_name, push_word};
 use std::alloc::{AllocError, Global};
 use std::mem;
 

@@ -3,7 +3,7 @@ use cdi_base::Use;
 use cdi_deployment::{Deployment, InjectedField};
 
 /// The injected fields of the last class.
-pub(crate) fn points_of(deployment: &Deployment) -> &[InjectedField] {
+pub fn points_of(deployment: &Deployment) -> &[InjectedField] {
     match deployment.classes.as_slice().last() {
         Some(class) => class.inject.as_slice(),
         None => &[],
@@ -11,7 +11,7 @@ pub(crate) fn points_of(deployment: &Deployment) -> &[InjectedField] {
 }
 
 /// The qualifiers of the injected field of the last class with a name.
-pub(crate) fn uses_named<'a>(deployment: &'a Deployment, name: &str) -> &'a [Use] {
+pub fn uses_named<'a>(deployment: &'a Deployment, name: &str) -> &'a [Use] {
     for point in points_of(deployment) {
         if deployment.names.get(point.name) == Some(name) {
             return point.quals.as_slice();

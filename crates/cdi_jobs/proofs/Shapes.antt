@@ -4,7 +4,7 @@ use Rattle.cdi_base.specs.declared.act.Act.{Act}
 use Rattle.cdi_base.specs.declared.act.Act.TheVariants as acts
 use Rattle.cdi_bodies.specs.declared.view.View.{View}
 use Rattle.cdi_bodies.specs.Shape.{in_shape}
-use Rattle.cdi_transcripts.specs.Plain.{IsPlain, plain_shape}
+use Rattle.cdi_jobs.specs.Plain.{IsPlain, plain_shape}
 
 pub plain_in_shape : (field method : ℕ) (view : View) (act : Act) → IsPlain field method act
     → in_shape (plain_shape field method) view act ≡ true

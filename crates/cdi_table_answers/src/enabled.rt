@@ -1,7 +1,7 @@
 //! Which beans are enabled. One line tells each bean with a mark: `+` if it is enabled, `-` if it isn't, `?` if the calls that tell it
 //! differ; and `!` behind that if two enabled ones specialize it.
+use crate::beans::push_bean;
 use crate::listed::{Listed, PROBLEMS, list_of};
-use crate::words::push_bean;
 use cdi_base::Names;
 use cdi_beanlist::Bean;
 use cdi_deployment::Deployment;
