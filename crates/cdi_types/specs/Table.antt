@@ -1,5 +1,5 @@
 -- What building the table of the types answers.
-use Rattle.std.specs.Prelude.{ℕ, ◌≡◌, true, false, List, Result, Ok, Err}
+use Rattle.std.specs.Prelude.{ℕ, ◌≡◌, true, false, List}
 use Rattle.cdi_base.specs.declared.or_memory.OrMemory.{OrMemory}
 use Rattle.cdi_base.specs.declared.or_memory.OrMemory.TheVariants as errors
 use Rattle.cdi_types.specs.declared.declaration.TypeDeclaration.{TypeDeclaration}
