@@ -1,9 +1,7 @@
 -- Which acts lie in a shape.
-use Rattle.std.specs.Prelude.{◌≡◌, ℕ, Bool, true, false, [], ◌-◌, ◌==◌, ◌&&◌, ◌||◌, length, nat_lt, slice_get, Option, Some, Result, Ok, bytes_eq}
+use Rattle.std.specs.Prelude.{◌≡◌, ℕ, Bool, true, false, [], ◌-◌, ◌==◌, ◌&&◌, ◌||◌, length, nat_lt, slice_get, Option, Some, Result, Ok}
 use Rattle.std.specs.Borrow.{Bor}
-use Rattle.std.specs.Cmp.Lexicographic.{pointwise}
 use Rattle.std.specs.List.{list_any}
-use Rattle.std.specs.Ordering.{int_eq}
 use Rattle.std.specs.declared.alloc.AllocError.{AllocError}
 use Rattle.cdi_base.specs.declared.act.Act.{Act}
 use Rattle.cdi_base.specs.declared.act.Act.TheVariants as acts
@@ -12,25 +10,9 @@ use Rattle.cdi_base.specs.declared.act.Answer.TheVariants as answers
 use Rattle.cdi_base.specs.declared.act.Via.{Via}
 use Rattle.cdi_base.specs.declared.act.Via.TheVariants as vias
 use Rattle.cdi_base.specs.declared.fields.Fields.{Fields}
-use Rattle.cdi_base.specs.declared.uses.MemberValue.{MemberValue}
-use Rattle.cdi_base.specs.declared.uses.Use.{Use}
-use Rattle.cdi_base.specs.declared.value.Value.{Value}
-use Rattle.cdi_base.specs.declared.value.Value.TheVariants as values
+use Rattle.cdi_bodies.specs.Events.{same_qualifiers}
 use Rattle.cdi_bodies.specs.declared.shape.Shape.{Shape}
 use Rattle.cdi_bodies.specs.declared.view.View.{View}
-
-abbrev pub value_eq : Value → Value → Bool
-value_eq values.Null values.Null = true
-value_eq (values.Int a) (values.Int b) = int_eq a b
-value_eq (values.Text a) (values.Text b) = bytes_eq a b
-value_eq _ _ = false
-
-abbrev pub member_eq : MemberValue → MemberValue → Bool
-member_eq m n = (m.name == n.name) && value_eq m.value n.value
-
--- the same name, and the same members in the same order
-abbrev pub use_eq : Use → Use → Bool
-use_eq u v = (u.name == v.name) && pointwise member_eq u.members v.members
 
 abbrev pub via_eq : Via → Via → Bool
 via_eq (vias.Field a) (vias.Field b) = a == b
@@ -56,7 +38,7 @@ in_shape shape view (acts.Own method args) =
 in_shape shape view (acts.Read via) = list_any (λ v. via_eq v via) shape.cells
 in_shape shape view (acts.Write via value) = list_any (λ v. via_eq v via) shape.cells
 in_shape shape view (acts.Fire class qualifiers value) =
-    list_any (λ e. (e.class == class) && pointwise use_eq e.qualifiers qualifiers) shape.fires
+    list_any (λ e. (e.class == class) && same_qualifiers e.qualifiers qualifiers) shape.fires
 in_shape shape view (acts.Proceed args) = shape.chain
 in_shape shape view (acts.Find lookup) = nat_lt lookup (length shape.lookups)
 in_shape shape view (acts.Keep key value) = shape.chain

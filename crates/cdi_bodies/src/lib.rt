@@ -4,6 +4,7 @@
 pub mod chooser;
 pub mod entry;
 pub mod error;
+pub mod laws;
 pub mod shape;
 pub mod table;
 pub mod view;

@@ -20,7 +20,8 @@ pub struct OwnCall {
     pub count: usize,
 }
 
-/// An event that a body may fire: its class, and its qualifiers as they were written.
+/// An event that a body may fire: its class, and its qualifiers. Two lists of qualifiers are those of one event if they have
+/// the same uses: their order, repeats, the built-in `Any`, and the order of a use's members and its null members don't count.
 #[derive(Debug, PartialEq, Eq, Drop)]
 pub struct FiredEvent {
     pub class: Name,

@@ -1,6 +1,5 @@
 -- Small deployments for worked runs.
 use Rattle.std.specs.Prelude.{ℕ, ◌-◌, List, [], ◌∷◌, Bool, true, false, ◌&&◌, Option, Some, None, slice_get, nat_eq}
-use Rattle.std.specs.Cmp.Lexicographic.{pointwise}
 use Rattle.cdi_base.specs.declared.value.Value.TheVariants as values
 use Rattle.cdi_base.specs.declared.act.Act.{Act}
 use Rattle.cdi_base.specs.declared.act.Act.TheVariants as acts
@@ -15,7 +14,7 @@ use Rattle.cdi_base.specs.declared.built_in.BuiltIn.TheVariants as built_in
 use Rattle.cdi_base.specs.declared.uses.Use.{Use}
 use Rattle.cdi_base.specs.BuiltIn.{number_of}
 use Rattle.cdi_base.specs.Maps.{Map, at}
-use Rattle.cdi_bodies.specs.Shape.{use_eq}
+use Rattle.cdi_bodies.specs.Events.{same_qualifiers}
 use Rattle.cdi_machine.specs.Words.{Name, Asked}
 use Rattle.cdi_machine.specs.Tables.{Tables, Code, Method, Member, Lifecycle, Managed, Product, Kind, Bean, Interceptor, Observer, Resolution, Nothing}
 use Rattle.cdi_machine.specs.Scripts.{next, Step as Steps}
@@ -40,14 +39,11 @@ abbrev pub contains : List Name → Name → Bool
 contains [] n = false
 contains (m ∷ ms) n = elim (nat_eq m n) [ true ↦ true | false ↦ contains ms n ]
 
-abbrev pub same_uses : List Use → List Use → Bool
-same_uses us vs = pointwise use_eq us vs
-
 abbrev pub groups_heard : List (Name × List Use × List (List Observer)) → Name → List Use
     → List (List Observer)
 groups_heard [] class uses = []
 groups_heard ((c, us, groups) ∷ observed) class uses =
-    elim (nat_eq c class && same_uses us uses) [
+    elim (nat_eq c class && same_qualifiers us uses) [
       | true ↦ groups
       | false ↦ groups_heard observed class uses
     ]
@@ -55,7 +51,7 @@ groups_heard ((c, us, groups) ∷ observed) class uses =
 abbrev pub rewriting : List (List Use × List Use) → List Use → List Use
 rewriting [] uses = uses
 rewriting ((us, vs) ∷ written) uses =
-    elim (same_uses us uses) [ true ↦ vs | false ↦ rewriting written uses ]
+    elim (same_qualifiers us uses) [ true ↦ vs | false ↦ rewriting written uses ]
 
 abbrev pub resolution : Option Resolution → Resolution
 resolution None = Nothing

@@ -11,8 +11,8 @@ use Rattle.cdi_base.specs.declared.act.Act.TheVariants as acts
 use Rattle.cdi_base.specs.declared.act.Via.{Via}
 use Rattle.cdi_base.specs.declared.act.Via.TheVariants as vias
 use Rattle.cdi_bodies.specs.Gives.{Promises, gives, place_of, shape_at, LieInShape}
-use Rattle.std.specs.Cmp.Lexicographic.{pointwise}
-use Rattle.cdi_bodies.specs.Shape.{in_shape, use_eq, via_eq}
+use Rattle.cdi_bodies.specs.Events.{same_qualifiers}
+use Rattle.cdi_bodies.specs.Shape.{in_shape, via_eq}
 use Rattle.cdi_bodies.specs.declared.entry.Entry.{Entry}
 use Rattle.cdi_bodies.specs.declared.shape.FiredEvent.{FiredEvent}
 use Rattle.cdi_bodies.specs.declared.shape.MethodCall.{MethodCall}
@@ -99,7 +99,7 @@ act_served s view a h lies = by (parts_of s h) a lies
         absurd (none_passes (λ (c : MethodCall). via_eq c.via (vias.Local k) && nat_eq c.method name && nat_eq c.count (length args)) (λ (c : MethodCall). is_field c.via) s.calls (not_listed (vias.Local k) refl name (length args)) p.fields l)
     by p (acts.Read via) l = absurd (none_in (λ v. via_eq v via) s.cells p.cells l)
     by p (acts.Write via v) l = absurd (none_in (λ v. via_eq v via) s.cells p.cells l)
-    by p (acts.Fire class uses v) l = absurd (none_in (λ (f : FiredEvent). (f.class == class) && pointwise use_eq f.qualifiers uses) s.fires p.fires l)
+    by p (acts.Fire class uses v) l = absurd (none_in (λ (f : FiredEvent). (f.class == class) && same_qualifiers f.qualifiers uses) s.fires p.fires l)
     by p (acts.Proceed args) l = absurd (p.chain l)
     by p (acts.Find k) l = absurd (none_below s.lookups k p.lookups l)
     by p (acts.Keep key v) l = absurd (p.chain l)

@@ -5,8 +5,6 @@ use Rattle.std.proofs.lemmas.Bool.{lt-ltb}
 use borrow.Author.Tests.{ltb-true}
 use Rattle.std.proofs.lemmas.List.{length-map}
 use Rattle.std.proofs.lemmas.List.Folds.{list_any-append}
-use Rattle.std.proofs.lemmas.Cmp.{int_eq_equiv, nat_list_eq_equiv}
-use Rattle.std.specs.Cmp.Lexicographic.{pointwise}
 use Rattle.std.specs.List.{list_any}
 use Rattle.cdi_base.specs.declared.act.Act.{Act}
 use Rattle.cdi_base.specs.declared.act.Act.TheVariants as acts
@@ -15,17 +13,15 @@ use Rattle.cdi_base.specs.declared.act.Answer.TheVariants as answers
 use Rattle.cdi_base.specs.declared.act.Via.{Via}
 use Rattle.cdi_base.specs.declared.act.Via.TheVariants as vias
 use Rattle.cdi_base.specs.declared.fields.Fields.{Fields}
-use Rattle.cdi_base.specs.declared.uses.MemberValue.{MemberValue}
-use Rattle.cdi_base.specs.declared.uses.Use.{Use}
-use Rattle.cdi_base.specs.declared.value.Value.{Value}
-use Rattle.cdi_base.specs.declared.value.Value.TheVariants as values
 use Rattle.cdi_bodies.specs.declared.shape.Shape.{Shape}
 use Rattle.cdi_bodies.specs.declared.shape.MethodCall.{MethodCall}
 use Rattle.cdi_bodies.specs.declared.shape.OwnCall.{OwnCall}
 use Rattle.cdi_bodies.specs.declared.shape.FiredEvent.{FiredEvent}
 use Rattle.cdi_bodies.specs.declared.shape.Lookup.{Lookup}
 use Rattle.cdi_bodies.specs.declared.view.View.{View}
-use Rattle.cdi_bodies.specs.Shape.{in_shape, no_acts, last_answer, is_thrown, via_eq, value_eq, member_eq, use_eq}
+use Rattle.cdi_bodies.specs.Events.{same_qualifiers}
+use Rattle.cdi_bodies.specs.Shape.{in_shape, no_acts, last_answer, is_thrown, via_eq}
+use Rattle.cdi_bodies.proofs.Events.{reflexive}
 use Rattle.cdi_script.specs.declared.step.Action.{Action}
 use Rattle.cdi_script.specs.declared.step.Action.TheVariants as actions
 use Rattle.cdi_script.specs.declared.step.Step.{Step}
@@ -41,27 +37,8 @@ use Rattle.cdi_script.specs.Within.{StaysInShape}
 nat-self : (n : ℕ) → nat_eq n n ≡ true
 nat-self n = grind arith
 
-value-self : (v : Value) → value_eq v v ≡ true
-value-self values.Null = refl
-value-self (values.Int n) = int_eq_equiv.refl n
-value-self (values.Text s) = nat_list_eq_equiv.refl s
-
 both : (a b : Bool) → a ≡ true → b ≡ true → (a && b) ≡ true
 both a b p q = rw (p, q) refl
-
-member-self : (m : MemberValue) → member_eq m m ≡ true
-member-self m = both _ _ (nat-self m.name) (value-self m.value)
-
-members-self : (ms : List MemberValue) → pointwise member_eq ms ms ≡ true
-members-self [] = refl
-members-self (m ∷ ms) = both _ _ (member-self m) (members-self ms)
-
-use-self : (u : Use) → use_eq u u ≡ true
-use-self u = both _ _ (nat-self u.name) (members-self u.members)
-
-uses-self : (us : List Use) → pointwise use_eq us us ≡ true
-uses-self [] = refl
-uses-self (u ∷ us) = both _ _ (use-self u) (uses-self us)
 
 via-self : (v : Via) → via_eq v v ≡ true
 via-self (vias.Field name) = nat-self name
@@ -123,7 +100,7 @@ in_shape-grows old new view (acts.Own method args) g h = any-extends (λ c. (c.m
 in_shape-grows old new view (acts.Read via) g h = any-extends (λ v. via_eq v via) old.cells new.cells g.cells h
 in_shape-grows old new view (acts.Write via value) g h = any-extends (λ v. via_eq v via) old.cells new.cells g.cells h
 in_shape-grows old new view (acts.Fire class qualifiers value) g h =
-    any-extends (λ e. (e.class == class) && pointwise use_eq e.qualifiers qualifiers) old.fires new.fires g.fires h
+    any-extends (λ e. (e.class == class) && same_qualifiers e.qualifiers qualifiers) old.fires new.fires g.fires h
 in_shape-grows old new view (acts.Proceed args) g h = g.chain h
 in_shape-grows old new view (acts.Find lookup) g h = index-extends lookup old.lookups new.lookups g.lookups h
 in_shape-grows old new view (acts.Keep key value) g h = g.chain h
@@ -198,7 +175,7 @@ act_of-in_shape shape k (actions.Own method args) fields view n =
 act_of-in_shape shape k (actions.Read via) fields view n = at_end (λ v. via_eq v via) shape.cells via (via-self via)
 act_of-in_shape shape k (actions.Write via value) fields view n = at_end (λ v. via_eq v via) shape.cells via (via-self via)
 act_of-in_shape shape k (actions.Fire class qualifiers value) fields view n =
-    at_end (λ e. (e.class == class) && pointwise use_eq e.qualifiers qualifiers) shape.fires _ (both _ _ (nat-self class) (uses-self qualifiers))
+    at_end (λ e. (e.class == class) && same_qualifiers e.qualifiers qualifiers) shape.fires _ (both _ _ (nat-self class) (reflexive qualifiers))
 act_of-in_shape shape k actions.Proceed fields view n = refl
 act_of-in_shape shape k (actions.ProceedWith args) fields view n = refl
 act_of-in_shape shape k (actions.Find bean_type qualifiers) fields view n = lt-ltb _ _ (omega (arith, length-append shape.lookups (record { bean_type = bean_type; qualifiers = qualifiers } ∷ [])))
