@@ -17,9 +17,9 @@ use Rattle.cdi_contexts.specs.Refusals.{first_that_holds}
 use Rattle.cdi_machine.specs.Words.{Name}
 use Rattle.cdi_machine.specs.Tables.{Tables}
 use Rattle.cdi_machine.specs.World.{World, at_begin, before_boot}
-use Rattle.cdi_machine.specs.Programs.{Given, Gave, Threw}
+use Rattle.cdi_machine.specs.Programs.{Threw}
 use Rattle.cdi_machine.specs.Commands.{Command, task}
-use Rattle.cdi_machine.specs.Container.{State, refusal, Answers, given_to, reply_to, is_cut, refused_by_contexts, refused_by_tables}
+use Rattle.cdi_machine.specs.Container.{State, refusal, Answers, is_cut, refused_by_contexts, refused_by_tables}
 use Rattle.cdi_machine.specs.Runs.{Legal, Outcome, Ends, Cut, Runs}
 use Rattle.cdi_fit.specs.Fits.{HasText, Fits}
 use Rattle.cdi_fit.specs.Missing.{NothingMissing, IsServedCommand, IsReachable, AsksWhatIsThere, MissesNothing}
@@ -33,6 +33,7 @@ use Rattle.cdi_fit.proofs.Terms.{Pre, Post}
 use Rattle.cdi_fit.proofs.Tasks.{task_safe}
 use Rattle.cdi_fit.proofs.Commands.{IsDone, Completes, command_safe}
 use Rattle.cdi_fit.proofs.Admitted.{admitted}
+use Rattle.cdi_fit.proofs.Replies.{threw}
 
 -- between commands nothing is under way
 pub record Rests (tables : Tables) (legal : Legal) (w : World) : Type 0 where
@@ -143,28 +144,6 @@ leaves_tidy tables legal fits s before c e q d v r =
 pub throws_with_text : (tables : Tables) (legal : Legal) (Starved : Type 0) → ThrowsWithText tables legal Starved
 throws_with_text tables legal Starved fits s before c e q x v r =
     (carried_out tables legal fits Starved s c (Ends (Threw x)) v (reached tables legal fits before (not_halted tables legal fits s c e)).good q e r).1.2
-
--- what was given is no exception
-gives_none : (c : Command) (w : World) (g : Given) (x : Name) → given_to c w g ≡ replies.Threw x → ⊥
-gives_none Command.Boot w g x e = absurd (cc)
-gives_none (Command.Begin r s) w g x e = absurd (cc)
-gives_none (Command.End r) w g x e = absurd (cc)
-gives_none (Command.Invalidate s) w g x e = absurd (cc)
-gives_none (Command.Call r asked method args) w (Given.Result v) x e = absurd (cc)
-gives_none (Command.Call r asked method args) w (Given.Number n) x e = absurd (cc)
-gives_none (Command.Call r asked method args) w Given.Empty x e = absurd (cc)
-gives_none (Command.Read r asked) w (Given.Result v) x e = absurd (cc)
-gives_none (Command.Read r asked) w (Given.Number n) x e = absurd (cc)
-gives_none (Command.Read r asked) w Given.Empty x e = absurd (cc)
-gives_none (Command.Fire r class qualifiers v) w g x e = absurd (cc)
-gives_none Command.Live w g x e = absurd (cc)
-gives_none Command.Shutdown w g x e = absurd (cc)
-
--- a reply that tells an exception is that of an end with it
-pub threw : (c : Command) (o : Outcome) (w : World) (x : Name) → reply_to c o w ≡ replies.Threw x → o ≡ Ends (Threw x)
-threw c (Ends (Gave g)) w x e = absurd (gives_none c w g x e)
-threw c (Ends (Threw y)) w x e = cc
-threw c (Cut cause) w x e = absurd (cc)
 
 pub answers_with_text : (tables : Tables) (legal : Legal) → AnswersWithText tables legal
 answers_with_text tables legal fits s before c q x t h = by _ t h refl
