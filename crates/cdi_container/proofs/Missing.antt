@@ -21,7 +21,7 @@ use Rattle.cdi_container.specs.Commands.{machine_command}
 use Rattle.cdi_container.specs.States.{State, Answers, CarriesOut, machine_state, before_start, cause_of}
 use Rattle.cdi_container.specs.Missing.{Works, NoneMissed}
 
-served : (names : List (List ℕ)) (command : Command) → IsTrue (is_served command) → IsServedCommand (machine_command names command)
+pub served : (names : List (List ℕ)) (command : Command) → IsTrue (is_served command) → IsServedCommand (machine_command names command)
 served names (commands.Begin request session) q = absurd (cc)
 served names (commands.Call request type qualifiers method args) q = tt
 served names (commands.Read request type qualifiers) q = tt
@@ -53,14 +53,14 @@ whole_outcome (Cut cause) e = absurd (cc)
 
 module _ (names : List (List ℕ)) (tables : machine.Tables) (legal : Legal) where
   -- a state of the machine with the same world but for its trace
-  record ReachedAs (s : State) : Type 0 where
-    between : Machine
-    reached : IsReachable tables legal between
-    alike : at_begin s.world ≡ at_begin between.world
-    working : between.halted ≡ false
+  pub record ReachedAs (s : State) : Type 0 where
+    pub between : Machine
+    pub reached : IsReachable tables legal between
+    pub alike : at_begin s.world ≡ at_begin between.world
+    pub working : between.halted ≡ false
 
   -- what is refused is told by the world at the begin
-  refused_alike : (s : State) (m : Machine) (c : wanted.Command) → s.halted ≡ None → at_begin s.world ≡ at_begin m.world → m.halted ≡ false
+  pub refused_alike : (s : State) (m : Machine) (c : wanted.Command) → s.halted ≡ None → at_begin s.world ≡ at_begin m.world → m.halted ≡ false
       → refusal tables (machine_state s) c ≡ refusal tables m c
   refused_alike s m c none alike working =
       ap₂ (λ (h : Bool) (w : World). refusal tables (record { world = w; halted = h }) c) (ap is_some none ∙ sym working) alike
@@ -78,7 +78,7 @@ module _ (names : List (List ℕ)) (tables : machine.Tables) (legal : Legal) whe
       }
   carried s t c o m before q alike e (CarriesOut.starves starved r) whole = absurd (cc)
 
-  reached_as : (t : State) → Works names tables legal t → t.halted ≡ None → ReachedAs t
+  pub reached_as : (t : State) → Works names tables legal t → t.halted ≡ None → ReachedAs t
   reached_as t (Works.starts ticks depth reply (Answers.refuses r e is stays)) none = absurd (cc)
   reached_as t (Works.starts ticks depth reply (Answers.carries_out o e c halts is)) none =
       carried (before_start ticks depth) t wanted.Command.Boot o (machine_state (before_start ticks depth)) (IsReachable.begins ticks depth) (λ x. tt) refl e c (sym halts ∙ none)

@@ -6,3 +6,4 @@ pub mod Sessions
 pub mod Replies
 pub mod History
 pub mod Missing
+pub mod Thrown

@@ -1,8 +1,17 @@
 //! The laws of a container. A call of one of these does nothing: its contract is the law.
+ghost use Rattle.cdi_bodies.specs.Table.{entries_of};
+ghost use Rattle.cdi_deployment.specs.declared.deployment.Deployment.{Deployment};
+ghost use Rattle.cdi_fit.specs.Fits.{Fits};
+ghost use Rattle.cdi_machine.specs.Registered.{legal_of};
 ghost use Rattle.cdi_machine.specs.Tables.{Tables};
+ghost use Rattle.cdi_run_tables.specs.Machine.{machine_tables};
+ghost use Rattle.cdi_run_tables.specs.declared.tables.RunTables.{RunTables};
+ghost use Rattle.cdi_container.specs.Accepted.{IsAccepted};
 ghost use Rattle.cdi_container.specs.History.{KeepsOrder};
 ghost use Rattle.cdi_container.specs.Missing.{NoneMissed};
+ghost use Rattle.cdi_container.specs.Thrown.{NamesThrown};
 
+use cdi_bodies::Bodies;
 use cdi_fit::laws as fit;
 use cdi_ledger::laws as ledger;
 use cdi_machine::Driver;
@@ -17,6 +26,25 @@ pub fn law_nothing_missing<D: Driver>(driver: &D)
         NoneMissed tables (D.legal driver.now) (Unit {0}) }
 {
     fit::law_nothing_missing(driver);
+}
+
+/// In a container whose tables and bodies fit one another, the class of each exception that is replied, to its start or to
+/// a command, is a name of its table, so that the reply's line has the text of that name. That holds from the start on
+/// until the container halts.
+pub fn law_thrown_has_name<D: Driver>(driver: &D)
+    ensures { (tables : RunTables) → Fits (machine_tables tables) (D.legal driver.now)
+        → NamesThrown tables (D.legal driver.now) }
+{
+    fit::law_thrown_has_text(driver);
+}
+
+/// So it is in a container of a deployment that is [accepted](crate::accept) with these bodies.
+pub fn law_accepted_throws_names(bodies: &Bodies)
+    ensures { (deployment : Deployment) (tables : RunTables)
+        → IsAccepted deployment (entries_of bodies.now) tables
+        → NamesThrown tables (legal_of (entries_of bodies.now)) }
+{
+    law_thrown_has_name(bodies);
 }
 
 /// What a container has written since its start is in order, also if a command was cut or memory ran out in one: the

@@ -19,6 +19,7 @@ mod Destruction
 mod Tasks
 mod Commands
 mod Admitted
+pub mod Replies
 mod Presence
 mod Scripts
 mod Worked

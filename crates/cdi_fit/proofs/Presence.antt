@@ -1,5 +1,7 @@
 -- No command misses anything, and between commands only what the application has, and what depends on that, is live.
 use Rattle.std.proofs.Common.{ℕ, suc, zero, ◌≡◌, ◌<◌, ◌⊎◌, inl, inr, List, [], ◌∷◌, ◌++◌, length, Option, Some, None, Bool, true, false, refl, sym, ◌∙◌, subst, arith}
+use Rattle.cdi_base.specs.declared.reply.Reply.{Reply}
+use Rattle.cdi_base.specs.declared.reply.Reply.TheVariants as replies
 use Rattle.cdi_base.specs.declared.reply.Refusal.{Refusal}
 use Rattle.cdi_base.specs.declared.reply.Refusal.TheVariants as refusals
 use Rattle.cdi_base.specs.Maps.{at}
@@ -12,22 +14,26 @@ use Rattle.cdi_store.specs.declared.instance.Instance.{Instance}
 use Rattle.cdi_store.specs.Live.{Instances}
 use Rattle.cdi_store.proofs.Numbers.{equal_or_not}
 use Rattle.cdi_contexts.specs.Refusals.{first_that_holds}
+use Rattle.cdi_machine.specs.Words.{Name}
 use Rattle.cdi_machine.specs.Tables.{Tables}
 use Rattle.cdi_machine.specs.World.{World, at_begin, before_boot}
+use Rattle.cdi_machine.specs.Programs.{Threw}
 use Rattle.cdi_machine.specs.Commands.{Command, task}
 use Rattle.cdi_machine.specs.Container.{State, refusal, Answers, is_cut, refused_by_contexts, refused_by_tables}
 use Rattle.cdi_machine.specs.Runs.{Legal, Outcome, Ends, Cut, Runs}
-use Rattle.cdi_fit.specs.Fits.{Fits}
+use Rattle.cdi_fit.specs.Fits.{HasText, Fits}
 use Rattle.cdi_fit.specs.Missing.{NothingMissing, IsServedCommand, IsReachable, AsksWhatIsThere, MissesNothing}
 use Rattle.cdi_fit.specs.Left.{IsHeld, StandsAtHome, IsTidy, LeavesTidy}
+use Rattle.cdi_fit.specs.Thrown.{ThrowsWithText, AnswersWithText}
 use Rattle.cdi_fit.proofs.Safe.{UnlessCut, misses_none}
 use Rattle.cdi_fit.proofs.Lists.{not_among}
 use Rattle.cdi_fit.proofs.Whole.{IsServedOwner, IsPlaced, Good}
 use Rattle.cdi_fit.proofs.Frames.{WasSo, Leaves}
 use Rattle.cdi_fit.proofs.Terms.{Pre, Post}
 use Rattle.cdi_fit.proofs.Tasks.{task_safe}
-use Rattle.cdi_fit.proofs.Commands.{IsDone, command_safe}
+use Rattle.cdi_fit.proofs.Commands.{IsDone, Completes, command_safe}
 use Rattle.cdi_fit.proofs.Admitted.{admitted}
+use Rattle.cdi_fit.proofs.Replies.{threw}
 
 -- between commands nothing is under way
 pub record Rests (tables : Tables) (legal : Legal) (w : World) : Type 0 where
@@ -68,9 +74,9 @@ emptied tables legal w r none = none_lives w.instances (λ n o e. no_one (suc n)
 module _ (tables : Tables) (legal : Legal) (fits : Fits tables legal) where
   -- a command that isn't refused misses nothing, and what is left fits again
   carried_out : (Starved : Type 0) (s : State) (c : Command) (o : Outcome) (v : World) → Good tables legal s.world → IsServedCommand c → refusal tables s c ≡ None
-      → (r : Runs tables legal Starved (task c) (at_begin s.world) o v) → NothingMissing r × UnlessCut (λ d u. Leaves tables legal s.world u × IsDone c u) o v
+      → (r : Runs tables legal Starved (task c) (at_begin s.world) o v) → NothingMissing r × UnlessCut (Completes tables legal c s.world) o v
   carried_out Starved s c o v g q e r =
-      misses_none tables legal (Pre tables legal) (Post tables legal) Starved (task_safe tables legal fits) (λ d u. Leaves tables legal s.world u × IsDone c u) r
+      misses_none tables legal (Pre tables legal) (Post tables legal) Starved (task_safe tables legal fits) (Completes tables legal c s.world) r
       (command_safe tables legal fits c (at_begin s.world) g (admitted tables legal s g c q e))
 
   not_halted : (s : State) (c : Command) → refusal tables s c ≡ None → s.halted ≡ false
@@ -106,7 +112,7 @@ module _ (tables : Tables) (legal : Legal) (fits : Fits tables legal) where
       by n o (inl q) = q
       by n o (inr q) = sym q.2 ∙ r.ready n q.0 q.1
 
-  after_end : (w : World) (c : Command) (o : Outcome) (v : World) → Rests tables legal w → UnlessCut (λ d u. Leaves tables legal w u × IsDone c u) o v → is_cut o ≡ false → Rests tables legal v
+  after_end : (w : World) (c : Command) (o : Outcome) (v : World) → Rests tables legal w → UnlessCut (Completes tables legal c w) o v → is_cut o ≡ false → Rests tables legal v
   after_end w c (Ends d) v r g e = rests_again w v r g.0
   after_end w c (Cut cause) v r g e = absurd (cc)
 
@@ -132,3 +138,17 @@ leaves_tidy tables legal fits s before c e q d v r =
     let left = (carried_out tables legal fits ⊥ s c (Ends d) v rest.good q e r).1 in
     let after = rests_again tables legal fits s.world v rest left.0 in
     (tidy tables legal v after, λ is. emptied tables legal v after (subst (λ x. IsDone x v) is left.1))
+
+-- ---- what is thrown
+
+pub throws_with_text : (tables : Tables) (legal : Legal) (Starved : Type 0) → ThrowsWithText tables legal Starved
+throws_with_text tables legal Starved fits s before c e q x v r =
+    (carried_out tables legal fits Starved s c (Ends (Threw x)) v (reached tables legal fits before (not_halted tables legal fits s c e)).good q e r).1.2
+
+pub answers_with_text : (tables : Tables) (legal : Legal) → AnswersWithText tables legal
+answers_with_text tables legal fits s before c q x t h = by _ t h refl
+  where
+    by : (r : Reply) (u : State) → Answers tables legal s c r u → r ≡ replies.Threw x → HasText tables x
+    by _ _ (Answers.refuses r e) is = absurd (cc)
+    by _ _ (Answers.carries_out {o = o} {v = v} e r) is =
+        throws_with_text tables legal ⊥ fits s before c e (q e) x v (subst (λ z. Runs tables legal ⊥ (task c) (at_begin s.world) z v) (threw c o v x is) r)

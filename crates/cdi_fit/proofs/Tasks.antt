@@ -26,7 +26,7 @@ module _ (tables : Tables) (legal : Legal) (fits : Fits tables legal) where
   fire_safe : (class : Name) (qualifiers : List Use) (v : Value) (w : World) → Good tables legal w → Goes tables legal fits (fire class qualifiers v) w (Post tables legal (Task.Fire class qualifiers v) w)
   fire_safe class qualifiers v w g =
       subst (λ groups. Goes tables legal fits (handle (each groups (λ group. call (Task.Notify group v))) (λ _. finish) throw) (with_entry (entries.Event class qualifiers) w) (Post tables legal (Task.Fire class qualifiers v) w))
-      (sym (fits.unobserved class qualifiers)) (after_self tables legal Any w g, refl)
+      (sym (fits.unobserved class qualifiers)) (after_self tables legal Any w g, refl, tt)
 
   pub task_safe : (t : Task) (w : World) → Pre tables legal t w → Goes tables legal fits (machine t) w (Post tables legal t w)
   task_safe (Task.Obtain b) w h = obtain_safe tables legal fits b w h.0 h.1

@@ -1,4 +1,5 @@
 pub mod Fits
 pub mod Missing
 pub mod Left
+pub mod Thrown
 pub mod Worked

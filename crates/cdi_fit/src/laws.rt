@@ -1,7 +1,9 @@
-//! The laws that nothing is missing and nothing is left. A call of one of these does nothing: its contract is the law.
+//! The laws that nothing is missing, that nothing is left, and that what is thrown has a text. A call of one of these does
+//! nothing: its contract is the law.
 ghost use Rattle.cdi_machine.specs.Tables.{Tables};
 ghost use Rattle.cdi_fit.specs.Left.{LeavesTidy};
 ghost use Rattle.cdi_fit.specs.Missing.{AsksWhatIsThere, MissesNothing};
+ghost use Rattle.cdi_fit.specs.Thrown.{AnswersWithText, ThrowsWithText};
 ghost use Rattle.cdi_fit.specs.Worked.{AcceptsRightCalls, RefusesWrongCalls};
 
 use cdi_machine::Driver;
@@ -35,6 +37,18 @@ pub fn law_asks_what_is_there<D: Driver>(driver: &D)
 /// built-in scopes*).
 pub fn law_leaves_tidy<D: Driver>(driver: &D)
     ensures { (tables : Tables) → LeavesTidy tables (D.legal driver.now) }
+{
+    let _driver = driver;
+}
+
+/// What is thrown has a text: if the tables and the bodies fit one another, and in these states a command that isn't
+/// refused, and begins no request, ends with an exception, then the class of the exception has a text, also if memory
+/// could have run out on the way. So has the class of each exception with which a command is answered.
+pub fn law_thrown_has_text<D: Driver>(driver: &D)
+    ensures with_memory { (tables : Tables) → ThrowsWithText tables (D.legal driver.now) ⊥ }
+    ensures short_of_memory { (tables : Tables) →
+        ThrowsWithText tables (D.legal driver.now) (Unit {0}) }
+    ensures replies { (tables : Tables) → AnswersWithText tables (D.legal driver.now) }
 {
     let _driver = driver;
 }

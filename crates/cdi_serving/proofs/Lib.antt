@@ -22,4 +22,6 @@ pub mod ServedPlans
 pub mod ServedTables
 pub mod SmallTables
 pub mod Readied
+pub mod TrueNames
+pub mod ScriptNames
 pub mod AllServed

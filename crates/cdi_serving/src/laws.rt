@@ -1,5 +1,7 @@
 //! Laws of what is served. A call of one of these does nothing: its contract is the law.
 ghost use Rattle.std.specs.Prelude.{◌≡◌, ℕ, List, IfOk, IsTrue, true};
+ghost use Rattle.std.specs.List.{list_all};
+ghost use Rattle.cdi_base.specs.Name.{is_name};
 ghost use Rattle.cdi_deploy.specs.Reading.{deployment_in};
 ghost use Rattle.cdi_deployment.specs.Limits.{is_within};
 ghost use Rattle.cdi_prepare.specs.Ready.{readied_at};
@@ -11,10 +13,17 @@ ghost use Rattle.cdi_run_tables.specs.declared.tables.RunTables.{RunTables};
 ghost use Rattle.cdi_serving.specs.AllServed.{IsAllServed};
 ghost use Rattle.cdi_serving.specs.Parts.{AreServedParts};
 ghost use Rattle.cdi_stage.specs.Stage.{served};
+ghost use Rattle.cdi_stage.specs.declared.stage.Stage.{Stage as AnyStage};
 
 /// A deployment that is read at the stage that is served has only parts that are served.
 pub fn law_reads_served_parts()
     ensures { (bytes : List ℕ) → IfOk (deployment_in bytes) AreServedParts }
+{}
+
+/// Each text in the table of names of a deployment that is read with its scripts is a name.
+pub fn law_reads_names()
+    ensures { (stage : AnyStage) (bytes : List ℕ) → IfOk (readied_at stage bytes) (λ r.
+        IsTrue (list_all is_name r.deployment.names)) }
 {}
 
 /// The scripts of a deployment that is read at the stage that is served name only what is served.

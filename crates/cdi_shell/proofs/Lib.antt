@@ -7,4 +7,5 @@ pub mod Scripted
 pub mod Tabled
 pub mod Wider
 pub mod WorkedLines
+pub mod Thrown
 pub mod Serving

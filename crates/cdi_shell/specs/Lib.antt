@@ -1,4 +1,5 @@
 pub mod Drive
 pub mod Endings
 pub mod Laws
+pub mod Thrown
 pub mod WorkedLines

@@ -1,6 +1,12 @@
 //! Laws of the definitions that the contracts cite. A call of one of these does nothing: its contract is the law.
+ghost use Rattle.cdi_bodies.specs.Table.{entries_of};
 ghost use Rattle.cdi_shell.specs.Laws.{OneOutput};
+ghost use Rattle.cdi_shell.specs.Thrown.{TellsTrueNames};
 ghost use Rattle.cdi_shell.specs.WorkedLines.{WorkedLines};
+
+use cdi_bodies::Bodies;
+use cdi_container::laws as container;
+use cdi_serving::laws as serving;
 
 /// Where no read or write fails and memory does not run out, what the program writes is a function of its limits, of the
 /// bytes of the deployment and of the bytes of the input, and so is how it ends. That holds of an input that is too long,
@@ -8,6 +14,15 @@ ghost use Rattle.cdi_shell.specs.WorkedLines.{WorkedLines};
 pub fn law_one_output()
     ensures { OneOutput }
 {}
+
+/// In a container of a deployment that was read with its scripts and accepted, each exception that is replied is told by a
+/// name, which has 1 to 255 letters: the line `["threw",""]` is never one of its replies.
+pub fn law_tells_true_names(bodies: &Bodies)
+    ensures { TellsTrueNames (entries_of bodies.now) }
+{
+    container::law_accepted_throws_names(bodies);
+    serving::law_reads_names();
+}
 
 /// Worked lines of the definitions: each kind of reply, the lines of refused deployments, where lines end, and what calls
 /// of a counter ask.

@@ -1,0 +1,179 @@
+-- Each text in the table of the names of a value is a name, if those before it are.
+use Rattle.std.proofs.Common.{◌≡◌, ◌∙◌, ℕ, Bool, true, false, not, ◌&&◌, List, [], ◌∷◌, ◌++◌, Option, Some, None, Result, Ok, Err, IfOk, if◌then◌else◌, zero, suc, slice_get, refl, sym, ap}
+use Rattle.std.proofs.lemmas.Bool.{and_parts}
+use Rattle.std.proofs.lemmas.List.Folds.{list_all-append}
+use Rattle.std.specs.List.{list_all}
+use Rattle.cdi_stage.specs.declared.stage.Stage.{Stage}
+use Rattle.cdi_base.specs.BuiltIn.{built_in_names}
+use Rattle.cdi_base.specs.Name.{is_known, is_name, has_room, with_name}
+use Rattle.cdi_base.specs.Reading.{◌>>=◌}
+use Rattle.cdi_form.specs.declared.form.Kind.{Kind}
+use Rattle.cdi_form.specs.declared.form.Part.{Part}
+use Rattle.cdi_form.specs.declared.form.Part.TheVariants as parts
+use Rattle.cdi_form.specs.Form.{part_at, named_part}
+use Rattle.cdi_form.specs.Keys.{kind_of}
+use Rattle.cdi_form.specs.Names.{names_fit}
+use Rattle.cdi_form.specs.Numbers.{numbers_fit}
+use Rattle.cdi_form.specs.Shape.{wrong}
+use Rattle.cdi_json.specs.Json.{json_in}
+use Rattle.serde_json.specs.Data.{Data, null, boolean, number, string, array, object, Items, no_items, item, Members, no_members, member}
+use Rattle.cdi_deployment.specs.declared.deployment.Deployment.{Deployment}
+use Rattle.cdi_deployment.specs.Limits.{is_within}
+use Rattle.cdi_deploy.specs.declared.fault.ReadFault.{ReadFault}
+use Rattle.cdi_deploy.specs.Items.{lists_in}
+use Rattle.cdi_deploy.specs.Naming.{Table, added, text_added, keys_added, added_at, names_added, items_added, members_added}
+use Rattle.cdi_deploy.specs.Reading.{or_not_json, or_shape, root, table_of, within_limits, lists_at, deployment_at, is_too_long, read_at}
+
+abbrev pub AreNames : List (List ℕ) → Type 0
+AreNames names = list_all is_name names ≡ true
+
+both : (a b : Bool) → a ≡ true → b ≡ true → (a && b) ≡ true
+both true b e f = f
+both false b e f = absurd cc
+
+-- a name more
+pub with-name : (names : List (List ℕ)) (text : List ℕ) → AreNames names → is_name text ≡ true
+    → AreNames (with_name names text)
+with-name names text are is = by (is_known names text)
+  where
+    by : (b : Bool) → AreNames (if b then names else names ++ text ∷ [])
+    by true = are
+    by false =
+        list_all-append is_name names (text ∷ [])
+        ∙ both (list_all is_name names) (is_name text && true) are (both (is_name text) true is refl)
+
+-- what stands in such a table is a name
+pub name-at : (names : List (List ℕ)) (n : ℕ) (text : List ℕ) → AreNames names
+    → slice_get names n ≡ Some text → is_name text ≡ true
+name-at [] n text are e = absurd cc
+name-at (first ∷ names) zero text are e =
+    let is : first ≡ text = cc in
+    ap is_name (sym is) ∙ (and_parts (is_name first) (list_all is_name names) are).0
+name-at (first ∷ names) (suc n) text are e =
+    name-at names n text (and_parts (is_name first) (list_all is_name names) are).1 e
+
+-- ---- tables
+
+abbrev Named : Table → Type 0
+Named r = IfOk r AreNames
+
+-- one step after another
+then-named : (r : Table) (next : List (List ℕ) → Table) → Named r
+    → ((between : List (List ℕ)) → AreNames between → Named (next between)) → Named (r >>= next)
+then-named (Err fault) next first second = tt
+then-named (Ok between) next first second = second between first
+
+at-named : {X : Type 0} (o : Option X) (names : List (List ℕ)) (inside : X → Table) → AreNames names
+    → ((x : X) → Named (inside x)) → Named (added_at o names inside)
+at-named None names inside are each = are
+at-named (Some x) names inside are each = each x
+
+added-named : (names : List (List ℕ)) (text : List ℕ) → AreNames names → Named (added names text)
+unfolding added
+added-named names text are = by (is_name text) refl (has_room names text)
+  where
+    by : (name : Bool) → is_name text ≡ name → (room : Bool)
+        → Named (if name then (if room then Ok (with_name names text) else Err ReadFault.TooMany)
+        else Ok names)
+    by true is true = with-name names text are is
+    by true is false = tt
+    by false is room = are
+
+text-named : (part : Part) (names : List (List ℕ)) (text : List ℕ) → AreNames names
+    → Named (text_added part names text)
+text-named parts.Name names text are = added-named names text are
+text-named parts.Use names text are = added-named names text are
+text-named _ names text are = are
+
+keys-named : (names : List (List ℕ)) (ms : Members) → AreNames names → Named (keys_added names ms)
+keys-named names no_members are = are
+keys-named names (member key d ms) are =
+    then-named (added names key) (λ after. keys_added after ms) (added-named names key are)
+    (λ between h. keys-named between ms h)
+
+module _ (stage : Stage) where
+  object-named : (names : List (List ℕ)) (ms : Members) (part : Part) → AreNames names
+      → ((kind : Kind) → Named (members_added stage names ms kind))
+      → Named (names_added stage names (object ms) part)
+  object-named names ms parts.Use are inside = keys-named names ms are
+  object-named names ms part are inside =
+      at-named (kind_of stage part ms) names (λ kind. members_added stage names ms kind) are inside
+
+  mutual
+    pub names-named : (d : Data) (names : List (List ℕ)) (part : Part) → AreNames names
+        → Named (names_added stage names d part)
+    names-named null names part are = are
+    names-named (boolean b) names part are = are
+    names-named (number n) names part are = are
+    names-named (string text) names part are = text-named part names text are
+    names-named (array ds) names part are =
+        at-named (named_part part) names (λ inner. items_added stage names ds inner) are
+        (λ inner. items-named ds names inner are)
+    names-named (object ms) names part are =
+        object-named names ms part are (λ kind. members-named ms names kind are)
+
+    items-named : (ds : Items) (names : List (List ℕ)) (part : Part) → AreNames names
+        → Named (items_added stage names ds part)
+    items-named no_items names part are = are
+    items-named (item d ds) names part are =
+        then-named (names_added stage names d part) (λ after. items_added stage after ds part)
+        (names-named d names part are) (λ between h. items-named ds between part h)
+
+    members-named : (ms : Members) (names : List (List ℕ)) (kind : Kind) → AreNames names
+        → Named (members_added stage names ms kind)
+    members-named no_members names kind are = are
+    members-named (member key d ms) names kind are =
+        then-named (added_at (part_at stage kind key) names (λ part. names_added stage names d part))
+        (λ after. members_added stage after ms kind)
+        (at-named (part_at stage kind key) names (λ part. names_added stage names d part) are
+        (λ part. names-named d names part are))
+        (λ between h. members-named ms between kind h)
+
+-- ---- deployments
+
+abbrev HasNames : Deployment → Type 0
+HasNames d = AreNames d.names
+
+built_in-named : AreNames built_in_names
+unfolding built_in_names
+built_in-named = refl
+
+lists-named : (names : List (List ℕ)) (d : Data) → AreNames names → HasNames (lists_in names d)
+unfolding lists_in
+lists-named names d are = are
+
+table-named : (d : Data) (table : Table) → Named table
+    → IfOk ((table >>= λ names. Ok (lists_in names d)) >>= within_limits) HasNames
+table-named d (Err fault) are = tt
+table-named d (Ok names) are = by (is_within (lists_in names d))
+  where
+    by : (b : Bool) → IfOk (if b then Ok (lists_in names d) else Err ReadFault.TooMany) HasNames
+    by true = lists-named names d are
+    by false = tt
+
+module _ (stage : Stage) where
+  value-named : (d : Data) → IfOk (deployment_at stage d) HasNames
+  unfolding deployment_at lists_at
+  value-named d = by (numbers_fit d) (wrong stage d root) (names_fit stage d root)
+    where
+      by : (numbers : Bool) (place : Option (List ℕ)) (names : Bool)
+          → IfOk (if not numbers then Err ReadFault.BadNumber
+          else or_shape place (if not names then Err ReadFault.BadName
+          else (table_of stage d >>= λ n. Ok (lists_in n d)) >>= within_limits)) HasNames
+      by false place names = tt
+      by true (Some path) names = tt
+      by true None false = tt
+      by true None true =
+          table-named d (table_of stage d) (names-named stage d built_in_names root built_in-named)
+
+  -- in the table of a deployment that was read
+  pub read-named : (bytes : List ℕ) → IfOk (read_at stage bytes) (λ d. AreNames d.names)
+  unfolding read_at
+  read-named bytes = by (is_too_long bytes) (json_in bytes)
+    where
+      by : (long : Bool) (o : Option Data)
+          → IfOk (if long then Err ReadFault.TooLong else or_not_json o >>= deployment_at stage)
+          HasNames
+      by true o = tt
+      by false None = tt
+      by false (Some d) = value-named d

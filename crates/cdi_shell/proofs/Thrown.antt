@@ -1,0 +1,41 @@
+-- A reply that tells an exception by a text of a table of names tells it by a name.
+use Rattle.std.proofs.Common.{ℕ, ◌≡◌, List, true, Result, Ok, Err, IfOk, sym, subst}
+use Rattle.std.specs.List.{list_all}
+use Rattle.cdi_base.specs.declared.reply.Reply.{Reply}
+use Rattle.cdi_base.specs.declared.reply.Reply.TheVariants as replies
+use Rattle.cdi_base.specs.Name.{is_name}
+use Rattle.cdi_bodies.specs.declared.entry.Entry.{Entry}
+use Rattle.cdi_deployment.specs.declared.deployment.Deployment.{Deployment}
+use Rattle.cdi_machine.specs.Registered.{legal_of}
+use Rattle.cdi_prepare.specs.Ready.{Readied}
+use Rattle.cdi_run_tables.specs.Machine.{machine_tables}
+use Rattle.cdi_run_tables.specs.declared.tables.RunTables.{RunTables}
+use Rattle.cdi_serving.proofs.TrueNames.{name-at}
+use Rattle.cdi_text.specs.Places.{name_text}
+use Rattle.cdi_container.specs.Accepted.{IsAccepted}
+use Rattle.cdi_container.specs.Thrown.{Replies, TellsName, NamesThrown}
+use Rattle.cdi_shell.specs.Drive.{readied}
+use Rattle.cdi_shell.specs.Thrown.{TellsTrueName, TellsTrueNames}
+
+true_name : (names : List (List ℕ)) (reply : Reply) → list_all is_name names ≡ true → TellsName names reply → TellsTrueName names reply
+true_name names (replies.Threw x) are at = name-at names x (name_text names x) are at
+true_name names (replies.Value v) are at = tt
+true_name names replies.Done are at = tt
+true_name names (replies.Live numbers) are at = tt
+true_name names (replies.Refused r) are at = tt
+true_name names (replies.Halted cause) are at = tt
+
+module _ {X : Type 0} {F : X → Type 0} {g : _} (entries : List (Entry X F g)) where
+  -- in each container that is accepted with these bodies, what is thrown is told by the table
+  abbrev pub NamesAccepted : Type 0
+  NamesAccepted = (d : Deployment) (t : RunTables) → IsAccepted d entries t → NamesThrown t (legal_of entries)
+
+  pub tells_true_names : NamesAccepted → ((bytes : List ℕ) → IfOk (readied bytes) (λ r. list_all is_name r.deployment.names ≡ true)) → TellsTrueNames entries
+  tells_true_names thrown named bytes = by (readied bytes) (named bytes)
+    where
+      by : (found : Result Readied (List ℕ)) → IfOk found (λ r. list_all is_name r.deployment.names ≡ true)
+          → IfOk found (λ r. (t : RunTables) → IsAccepted r.deployment entries t → (reply : Reply) → Replies t.deployment.names (machine_tables t) (legal_of entries) reply → TellsTrueName t.deployment.names reply)
+      by (Ok r) are = λ t accepted reply h.
+          let names : list_all is_name t.deployment.names ≡ true = subst (λ (d : Deployment). list_all is_name d.names ≡ true) (sym accepted.are.deployment_is) are in
+          true_name t.deployment.names reply names (thrown r.deployment t accepted reply h)
+      by (Err line) are = tt
