@@ -1,0 +1,7 @@
+//! Tests of the crates for instances and contexts, over their public functions.
+#![tactic(auto)]
+
+#[cfg(test)]
+mod contexts;
+#[cfg(test)]
+mod store;
