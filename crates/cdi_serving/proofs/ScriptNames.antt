@@ -2,6 +2,7 @@
 use Rattle.std.proofs.Common.{◌≡◌, ℕ, List, [], ◌∷◌, ◌++◌, Result, Ok, Err, IfOk, refl, sym, subst}
 use Rattle.cdi_base.specs.Reading.{◌>>=◌}
 use Rattle.cdi_deploy.specs.Reading.{read_at}
+use Rattle.cdi_deploy.specs.declared.fault.ReadFault.{ReadFault}
 use Rattle.cdi_deployment.specs.declared.deployment.Deployment.{Deployment}
 use Rattle.cdi_deployment.specs.declared.deployment.Script.{Script as Declared}
 use Rattle.cdi_prepare.specs.Ready.{Readied, readied_at}
@@ -34,7 +35,7 @@ left-named _ read e (Named.ok {read = found} are) =
     subst (λ (x : List NamedScript × List (List ℕ)). AreNames x.1) same are
 left-named _ read e Named.err = absurd cc
 
-was-named : (r : Result Deployment _) (d : Deployment) → r ≡ Ok d → IfOk r (λ x. AreNames x.names) → AreNames d.names
+was-named : (r : Result Deployment ReadFault) (d : Deployment) → r ≡ Ok d → IfOk r (λ x. AreNames x.names) → AreNames d.names
 was-named (Ok found) d e are =
     let same : found ≡ d = cc in
     subst (λ (x : Deployment). AreNames x.names) same are
