@@ -13,8 +13,8 @@ An edit of a definition has a line 'only: LAW'. together tries it by a check of 
 does with an edit of what other functions cite (a constant, a type, a signature, a clause) that names a function so. Such an edit
 shares no check, since it may be the cause of what is complained of at functions that others turn.
 
-together takes --jobs N in front of the names, and then tries so many crates at a time. Both take what `rt all check` kept in
-out/. The last line is 'N refused, M failed'; the status is 0 if M is 0.
+together takes --jobs N in front of the names, and then tries so many crates at a time. It begins with what `rt check` kept in out/,
+or else with a check of the smallest group of edits, over which the others are tried. The last line is 'N refused, M failed'; the status is 0 if M is 0.
 """
 import functools
 import importlib.machinery
@@ -239,10 +239,14 @@ def link(old, new):
 def in_one(crate, edits, kept):
     """Returns those of the edits that one check with all of them refuses, each at a function of its own; None if the check says nothing."""
     texts = with_edits(crate, edits)
-    # (what a check with edits keeps would take the place of what the crate's own check kept)
-    with tempfile.TemporaryDirectory(prefix="planted-once-") as once:
-        shutil.copytree(kept, once, dirs_exist_ok=True, copy_function=link)
-        ran = rt.checked(crate, texts, ONE, once)
+    if not os.listdir(kept):
+        # (all but these edits' functions is proved here for the checks that follow)
+        ran = rt.checked(crate, texts, ONE, kept)
+    else:
+        # (what a check with edits keeps would take the place of what the first one kept)
+        with tempfile.TemporaryDirectory(prefix="planted-once-") as once:
+            shutil.copytree(kept, once, dirs_exist_ok=True, copy_function=link)
+            ran = rt.checked(crate, texts, ONE, once)
     lines = ran.stdout.rstrip("\n").split("\n")
     if ran.returncode != 1 or not lines[-1].startswith("logic=not-proved") or any(rt.unread(it, texts) for it in lines):
         return None
@@ -250,13 +254,19 @@ def in_one(crate, edits, kept):
     return [edit for edit in edits if edit in told]
 
 
+def groups_of(crate, edits):
+    """Returns the edits in groups that turn functions of their own, the smallest last."""
+    groups, left = [], edits
+    while left:
+        group, left = apart(crate, left)
+        groups.append(group)
+    return [it for it in groups if len(it) > 1]
+
+
 def in_groups(crate, edits, kept):
-    """Tries the edits many in a check. Returns those that were refused so, and how many checks it took. A group of which a check says nothing is halved."""
-    told, checks, left, groups = [], 0, edits, []
-    while left or groups:
-        if not groups:
-            group, left = apart(crate, left)
-            groups = [group]
+    """Tries the edits many in a check, the smallest group first. Returns those that were refused so, and how many checks it took. A group of which a check says nothing is halved."""
+    told, checks, groups = [], 0, groups_of(crate, edits)
+    while groups:
         group = groups.pop()
         if len(group) < 2:
             continue
@@ -305,6 +315,8 @@ def try_crate(crate):
         if crate.has_kept():
             shutil.copytree(f"{crate.folder}/out/incremental", kept, dirs_exist_ok=True)
         told, checks = in_groups(crate, good, kept)
+        if len(edits) - len(told) > 1 and not os.listdir(kept):
+            rt.checked(crate, {}, ONE, kept)
         alone = [it for it in edits if it not in told]
         tried = [by_law(crate, it, kept) if law_of(it) else alone_in(crate, it, kept) for it in alone]
     refused = len(told) + sum(well for well, _ in tried)
