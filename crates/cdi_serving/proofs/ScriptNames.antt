@@ -1,5 +1,5 @@
 -- Each text in the table of names of a deployment that is read with its scripts is a name.
-use Rattle.std.proofs.Common.{◌≡◌, ℕ, Bool, true, false, cond, ◌&&◌, List, [], ◌∷◌, ◌++◌, Option, Some, None, Result, Ok, Err, IfOk, refl, sym, ap, subst}
+use Rattle.std.proofs.Common.{◌≡◌, ℕ, Bool, true, false, cond, ◌&&◌, List, [], ◌∷◌, ◌++◌, Option, Some, None, Result, Ok, Err, refl, sym, subst}
 use Rattle.std.proofs.lemmas.Bool.{and_parts}
 use Rattle.std.specs.List.{list_all}
 use Rattle.std.specs.Prelude.{codes, nat_le, option_map, option_and_then, if◌then◌else◌}
@@ -15,7 +15,7 @@ use Rattle.cdi_deployment.specs.declared.deployment.Deployment.{Deployment}
 use Rattle.cdi_deployment.specs.declared.deployment.Script.{Script as Declared}
 use Rattle.cdi_json.specs.Forms.{use_in}
 use Rattle.cdi_json.specs.Json.{is_word}
-use Rattle.cdi_prepare.specs.Ready.{Readied, readied_at}
+use Rattle.cdi_prepare.specs.Ready.{Readied}
 use Rattle.cdi_prepare.specs.Scripts.{Reads as ReadsScripts, scripts_after, scripts_in, told}
 use Rattle.cdi_prepare.specs.declared.scripts.NamedScript.{NamedScript}
 use Rattle.cdi_script.specs.Build.{action_as, action_in, behind_word, script_at, step_at, steps_at}
@@ -37,7 +37,7 @@ use Rattle.cdi_stage.specs.declared.stage.Stage.{Stage}
 use Rattle.cdi_text.specs.Places.{name_text}
 use Rattle.serde_json.specs.Data.{Data, null, boolean, number, string, array, object, Items, no_items, item}
 use Rattle.serde_json.specs.Events.{items_len}
-use Rattle.cdi_serving.proofs.Readied.{IsMadeFrom, made_from}
+use Rattle.cdi_serving.proofs.Readied.{IsMadeFrom, if_read}
 use Rattle.cdi_serving.proofs.TrueNames.{AreNames, with-name, read-named}
 
 -- each text in the table that was left is a name
@@ -251,23 +251,10 @@ left-named _ read e (Named.ok {read = found} are) =
     subst (λ (x : List NamedScript × List (List ℕ)). AreNames x.1) same are
 left-named _ read e Named.err = absurd cc
 
-was-named : (r : Result Deployment _) (d : Deployment) → r ≡ Ok d → IfOk r (λ x. AreNames x.names) → AreNames d.names
-was-named (Ok found) d e are =
-    let same : found ≡ d = cc in
-    subst (λ (x : Deployment). AreNames x.names) same are
-was-named (Err fault) d e are = absurd cc
-
 module _ (stage : Stage) (bytes : List ℕ) where
-  made-named : (r : Readied) → IsMadeFrom stage bytes r → AreNames r.deployment.names
+  pub made-named : (r : Readied) → IsMadeFrom stage bytes r → AreNames r.deployment.names
   made-named r made =
-      let read : AreNames made.deployment.names = was-named (read_at stage bytes) made.deployment made.was_read (read-named stage bytes) in
+      let read : AreNames made.deployment.names = if_read (λ (d : Deployment). AreNames d.names) (read_at stage bytes) made.deployment (read-named stage bytes) made.was_read in
       let left : AreNames made.names = left-named (scripts_in stage made.deployment.names made.deployment.scripts) (r.scripts, made.names) made.scripts
           (scripts-named stage [] made.deployment.names made.deployment.scripts read) in
       subst (λ (x : Deployment). AreNames x.names) (sym made.is) left
-
-  pub readied-named : IfOk (readied_at stage bytes) (λ r. AreNames r.deployment.names)
-  readied-named = by (readied_at stage bytes) refl
-    where
-      by : (found : Result Readied (List ℕ)) → readied_at stage bytes ≡ found → IfOk found (λ r. AreNames r.deployment.names)
-      by (Ok r) e = made-named r (made_from stage bytes r e)
-      by (Err line) e = tt
