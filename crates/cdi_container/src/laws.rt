@@ -44,7 +44,7 @@ pub fn law_accepted_throws_names(bodies: &Bodies)
         → IsAccepted deployment (entries_of bodies.now) tables
         → NamesThrown tables (legal_of (entries_of bodies.now)) }
 {
-    law_thrown_has_name(bodies);
+    let _bodies = bodies;
 }
 
 /// What a container has written since its start is in order, also if a command was cut or memory ran out in one: the

@@ -20,6 +20,6 @@ mod Tasks
 mod Commands
 mod Admitted
 pub mod Replies
-mod Presence
+pub mod Presence
 mod Scripts
 mod Worked

@@ -1,7 +1,6 @@
 //! What the tests share: each compares by a call, since an assertion in a test makes its proof longer than a call does. What is
 //! refused for want of memory ends the test too: to hand it on by `?` would make the proofs longer.
-use cdi_base::{Command, OrMemory, Text};
-use cdi_text::BadLine;
+use cdi_base::Text;
 use std::alloc::Global;
 use std::fmt::{Debug, Display};
 use std::process::Abort;
@@ -20,32 +19,6 @@ pub(crate) fn expect_bytes(rt: &impl Abort, found: &[u8], wanted: &[u8]) {
 pub(crate) fn expect_text(rt: &impl Abort, alloc: Global, it: &impl Display, wanted: &str) {
     let text = it.to_string(alloc).expect(rt, "memory");
     expect_same(rt, &text.as_str(), &wanted);
-}
-
-/// What was read: nothing if a line is no command.
-pub(crate) fn command_in(
-    rt: &impl Abort,
-    read: Result<Command, OrMemory<BadLine>>,
-) -> Option<Command> {
-    match read {
-        Ok(command) => Some(command),
-        Err(OrMemory::Fault(BadLine)) => None,
-        Err(OrMemory::Memory) => panic!(rt; "memory"),
-    }
-}
-
-/// Ends the test unless what was read of a line is what is wanted: nothing if it is no command. Both are dropped here and nowhere
-/// else, since that makes a proof long.
-pub(crate) fn expect_command(
-    rt: &impl Abort,
-    line: &str,
-    read: Option<Command>,
-    wanted: Option<Command>,
-) {
-    assert!(rt;
-        read == wanted,
-        "{line} is {read:?}, in place of {wanted:?}"
-    );
 }
 
 /// A text.

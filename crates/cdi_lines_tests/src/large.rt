@@ -1,45 +1,9 @@
-//! Command lines and replies that are large.
+//! Replies that are large.
 use crate::checks::{expect_bytes, expect_same};
-use crate::command::{call_of, check_line};
 use cdi_base::{Names, Reply, Seq, Text, Value};
 use cdi_text::write_reply;
 use std::alloc::Global;
 use std::process::Abort;
-
-/// The numbers from 0 on as they are written, so many of them.
-fn written_numbers(rt: &impl Abort, alloc: Global, count: u32) -> String {
-    let mut line = String::from_str(alloc, "0").expect(rt, "memory");
-    for number in 1..count {
-        let more = format!(in alloc; ",{number}").expect(rt, "memory");
-        line.push_str(more.as_str()).expect(rt, "memory");
-    }
-    line
-}
-
-/// A call of `up` of `K` with these values.
-fn call_line(rt: &impl Abort, alloc: Global, count: u32) -> String {
-    let values = written_numbers(rt, alloc, count);
-    let line = format!(in alloc; "[\"call\",null,\"K\",[],\"up\",[{values}]]");
-    line.expect(rt, "memory")
-}
-
-/// The numbers from 0 on, so many of them.
-fn numbers(rt: &impl Abort, alloc: Global, count: u32) -> Seq<Value> {
-    let mut numbers = Seq::empty(alloc);
-    for number in 0..count {
-        numbers
-            .push(Value::Int(i64::from(number)))
-            .expect(rt, "memory");
-    }
-    numbers
-}
-
-#[test]
-fn reads_a_thousand_values(rt: HostRuntime) {
-    let line = call_line(&rt, rt.alloc(), 1_000);
-    let call = call_of(&rt, rt.alloc(), None, numbers(&rt, rt.alloc(), 1_000));
-    check_line(&rt, rt.alloc(), line.as_str(), Some(call));
-}
 
 /// The line of a reply.
 fn line_of(rt: &impl Abort, alloc: Global, reply: Reply) -> Vec<u8> {

@@ -1,10 +1,8 @@
-//! Tests of serving lines, and of commands and replies as lines.
+//! Tests of serving lines, and of replies as lines.
 #![tactic(auto)]
 
 #[cfg(test)]
 mod checks;
-#[cfg(test)]
-mod command;
 #[cfg(test)]
 mod ends;
 #[cfg(test)]
@@ -15,5 +13,3 @@ mod reply;
 mod serving;
 #[cfg(test)]
 mod test_ends;
-#[cfg(test)]
-mod whole_commands;

@@ -2,6 +2,7 @@
 #![tactic(auto)]
 
 mod acts;
+mod commands;
 mod parts;
 mod readers;
 mod reading;

@@ -4,9 +4,12 @@
 //! |---|---|---|
 //! | `read STAGE` | that the text is read as a deployment, or its first fault | `reading` |
 //! | `hint STAGE` | the hint for a refused deployment | `reading` |
+//! | `commands STAGE` | the command that each line is | `commands` |
+//! | `command STAGE` | the command that the text is | `commands` |
 //! | `parts` | the parts of the deployment as they were read | `parts` |
 //! | `script ..` | what is asked of the script that stands in place of the deployment | `scripts` |
 //! | `scripts ..` | the same of the script of each line | `scripts` |
+use crate::commands::{command_line, command_lines};
 use crate::parts::parts_answers;
 use crate::reading::{fault_line, hint_line, stage_of};
 use crate::scripts::{script_answers, scripts_answers};
@@ -29,6 +32,8 @@ fn output_of(alloc: Global, words: &[&str], text: &str, input: &str) -> Result<S
     match words {
         ["read", stage] => fault_line(alloc, stage_of(stage), bytes_of(alloc, text)?.as_slice()),
         ["hint", stage] => hint_line(alloc, stage_of(stage), bytes_of(alloc, text)?.as_slice()),
+        ["commands", stage] => command_lines(alloc, stage_of(stage), input),
+        ["command", stage] => command_line(alloc, stage_of(stage), text),
         ["parts"] => parts_of(alloc, text, input),
         ["script", what @ ..] => script_answers(alloc, what, text, input),
         ["scripts", what @ ..] => scripts_answers(alloc, what, input),
@@ -50,10 +55,6 @@ impl Player for Readers {
         let text = whole_text(alloc, scene)?;
         let words: Vec<&str> = scene.words.as_str().split_whitespace().collect(alloc)?;
         let output = output_of(alloc, words.as_slice(), text.as_str(), scene.input.as_str())?;
-        Ok(Played {
-            status: 0,
-            output: output.into_bytes(),
-            errors: Vec::new(alloc),
-        })
+        Ok(Played::well(alloc, output.into_bytes()))
     }
 }

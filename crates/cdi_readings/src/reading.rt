@@ -9,6 +9,7 @@ pub(crate) fn stage_of(word: &str) -> Stage {
     match word {
         "counter" => Stage::Counter,
         "injection" => Stage::Injection,
+        "alternatives" => Stage::Alternatives,
         "requests" => Stage::Requests,
         "lifecycle" => Stage::Lifecycle,
         "producers" => Stage::Producers,

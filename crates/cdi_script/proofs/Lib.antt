@@ -8,3 +8,4 @@ pub mod Within
 pub mod Boxed
 pub mod Following
 pub mod Grown
+pub mod Named

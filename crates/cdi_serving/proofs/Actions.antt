@@ -1,5 +1,5 @@
 -- The steps that are read at the stage that is served do only what is served.
-use Rattle.std.proofs.Common.{◌≡◌, ℕ, nat_le, ◌⊎◌, inl, inr, Bool, true, false, cond, List, [], ◌∷◌, Option, Some, None, Err, IfOk, IfSome, refl}
+use Rattle.std.proofs.Common.{◌≡◌, ℕ, nat_le, ◌⊎◌, inl, inr, Bool, true, false, cond, List, [], ◌∷◌, Option, Some, None, Err, IfOk, IfSome, ◌∙◌, refl, sym, true≢false}
 use Rattle.std.proofs.lemmas.Bool.{and_parts}
 use Rattle.std.proofs.lemmas.List.Elements.{All-nil, All-cons}
 use Rattle.std.specs.List.{All, AllByRecursion, find}
@@ -26,18 +26,41 @@ IsServedKind kind =
 abbrev Serves : Kind → Type 0
 Serves kind = ((parts : Parts) → IsServedAction (action_of kind parts)) ⊎ IsServedKind kind
 
--- the kinds in their order; of those since a later stage nothing is to show
-kinds_serve : AllByRecursion (λ kind. is_included served (row_of kind).since ≡ true → Serves kind) all_kinds
-kinds_serve = (
-  λ set. inl (λ parts. tt),
+abbrev is_served_kind : Kind → Bool
+is_served_kind kind = is_included served (row_of kind).since
+
+-- those that pass
+abbrev passing : {X : Type 0} → (X → Bool) → List X → List X
+passing p [] = []
+passing p (x ∷ xs) = cond (p x) (x ∷ passing p xs) (passing p xs)
+
+-- what holds of those that pass holds of each, if it passes
+of_passing : {X : Type 0} (p : X → Bool) (P : X → Type 0) (xs : List X) → AllByRecursion P (passing p xs) → AllByRecursion (λ x. p x ≡ true → P x) xs
+of_passing p P [] all = tt
+of_passing p P (x ∷ xs) all = by (p x) refl all
+  where
+    by : (b : Bool) → p x ≡ b → AllByRecursion P (cond b (x ∷ passing p xs) (passing p xs)) → (p x ≡ true → P x) × AllByRecursion (λ y. p y ≡ true → P y) xs
+    by true e h = ((λ is. h.0), of_passing p P xs h.1)
+    by false e h = ((λ is. absurd (true≢false (sym is ∙ e))), of_passing p P xs h)
+
+-- the kinds that are served, in their order
+served_kinds_serve : AllByRecursion Serves (passing is_served_kind all_kinds)
+served_kinds_serve = (
+  -- set, call, own
+  inl (λ parts. tt),
   (
-    λ call. inr call_is_served,
+    inr call_is_served,
     (
-      λ own. inl (λ parts. tt),
-      (nothing, (nothing, (nothing, (nothing, (nothing, (nothing, (nothing, (nothing, (λ give. inl (λ parts. tt), (λ throw. inl (λ parts. tt), tt)))))))))),
+      inl (λ parts. tt),
+      -- give, throw
+      (inl (λ parts. tt), (inl (λ parts. tt), tt)),
     ),
   ),
 )
+
+-- each kind, if it is served
+kinds_serve : AllByRecursion (λ kind. is_served_kind kind ≡ true → Serves kind) all_kinds
+kinds_serve = of_passing is_served_kind Serves all_kinds served_kinds_serve
 
 serves_kind : (kind : Kind) → Serves kind → IsServedKind kind
 serves_kind kind (inl all) names ds h = of_all (with_parts no_parts names (row_of kind).parts ds) (λ r. IsServedAction (action_of kind r.0)) (λ r. all r.0)

@@ -1,11 +1,10 @@
 -- Each text in the table of the names of a value is a name, if those before it are.
-use Rattle.std.proofs.Common.{◌≡◌, ◌∙◌, ℕ, Bool, true, false, ◌&&◌, List, [], ◌∷◌, ◌++◌, Option, Some, None, Ok, Err, IfOk, if◌then◌else◌, zero, suc, slice_get, refl, sym, ap}
+use Rattle.std.proofs.Common.{◌≡◌, ◌∙◌, ℕ, Bool, true, false, List, [], ◌∷◌, Option, Some, None, Ok, Err, IfOk, if◌then◌else◌, zero, suc, slice_get, refl, sym, ap}
 use Rattle.std.proofs.lemmas.Bool.{and_parts}
-use Rattle.std.proofs.lemmas.List.Folds.{list_all-append}
 use Rattle.std.specs.List.{list_all}
 use Rattle.cdi_stage.specs.declared.stage.Stage.{Stage}
 use Rattle.cdi_base.specs.BuiltIn.{built_in_names}
-use Rattle.cdi_base.specs.Name.{is_known, is_name, has_room, with_name}
+use Rattle.cdi_base.specs.Name.{is_name, has_room, with_name}
 use Rattle.cdi_base.specs.Reading.{◌>>=◌}
 use Rattle.cdi_form.specs.declared.form.Kind.{Kind}
 use Rattle.cdi_form.specs.declared.form.Part.{Part}
@@ -13,28 +12,11 @@ use Rattle.cdi_form.specs.declared.form.Part.TheVariants as parts
 use Rattle.cdi_form.specs.Form.{part_at, named_part}
 use Rattle.cdi_form.specs.Keys.{kind_of}
 use Rattle.serde_json.specs.Data.{Data, null, boolean, number, string, array, object, Items, no_items, item, Members, no_members, member}
+use Rattle.cdi_script.proofs.Named.{AreNames, with-name}
 use Rattle.cdi_deploy.specs.declared.fault.ReadFault.{ReadFault}
 use Rattle.cdi_deploy.specs.Naming.{Table, added, text_added, keys_added, added_at, names_added, items_added, members_added}
 use Rattle.cdi_deploy.specs.Reading.{read_at, root, table_of}
 use Rattle.cdi_serving.proofs.ReadTables.{of-read}
-
-abbrev pub AreNames : List (List ℕ) → Type 0
-AreNames names = list_all is_name names ≡ true
-
-both : (a b : Bool) → a ≡ true → b ≡ true → (a && b) ≡ true
-both true b e f = f
-both false b e f = absurd cc
-
--- a name more
-pub with-name : (names : List (List ℕ)) (text : List ℕ) → AreNames names → is_name text ≡ true
-    → AreNames (with_name names text)
-with-name names text are is = by (is_known names text)
-  where
-    by : (b : Bool) → AreNames (if b then names else names ++ text ∷ [])
-    by true = are
-    by false =
-        list_all-append is_name names (text ∷ [])
-        ∙ both (list_all is_name names) (is_name text && true) are (both (is_name text) true is refl)
 
 -- what stands in such a table is a name
 pub name-at : (names : List (List ℕ)) (n : ℕ) (text : List ℕ) → AreNames names
