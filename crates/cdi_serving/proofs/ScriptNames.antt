@@ -1,6 +1,5 @@
 -- Each text in the table of names of a deployment that is read with its scripts is a name.
 use Rattle.std.proofs.Common.{◌≡◌, ℕ, List, [], ◌∷◌, ◌++◌, Ok, sym, subst}
-use Rattle.cdi_base.specs.Reading.{◌>>=◌}
 use Rattle.cdi_deploy.specs.Reading.{read_at}
 use Rattle.cdi_deployment.specs.declared.deployment.Deployment.{Deployment}
 use Rattle.cdi_deployment.specs.declared.deployment.Script.{Script as Declared}
@@ -39,5 +38,5 @@ module _ (stage : Stage) (bytes : List ℕ) where
   made-named r made =
       let read : AreNames made.deployment.names = if_read (λ (d : Deployment). AreNames d.names) (read_at stage bytes) made.deployment (read-named stage bytes) made.was_read in
       let left : AreNames made.names = left-named (scripts_in stage made.deployment.names made.deployment.scripts) (r.scripts, made.names) made.scripts
-          (scripts-named stage [] made.deployment.names made.deployment.scripts read) in
+      (scripts-named stage [] made.deployment.names made.deployment.scripts read) in
       subst (λ (x : Deployment). AreNames x.names) (sym made.is) left
