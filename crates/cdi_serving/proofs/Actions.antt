@@ -37,11 +37,12 @@ passing p (x ∷ xs) = cond (p x) (x ∷ passing p xs) (passing p xs)
 -- what holds of those that pass holds of each, if it passes
 of_passing : {X : Type 0} (p : X → Bool) (P : X → Type 0) (xs : List X) → AllByRecursion P (passing p xs) → AllByRecursion (λ x. p x ≡ true → P x) xs
 of_passing p P [] all = tt
-of_passing p P (x ∷ xs) all = by (p x) refl all
+of_passing p P (x ∷ xs) all = by (p x) refl all (λ h. of_passing p P xs h)
   where
-    by : (b : Bool) → p x ≡ b → AllByRecursion P (cond b (x ∷ passing p xs) (passing p xs)) → (p x ≡ true → P x) × AllByRecursion (λ y. p y ≡ true → P y) xs
-    by true e h = ((λ is. h.0), of_passing p P xs h.1)
-    by false e h = ((λ is. absurd (true≢false (sym is ∙ e))), of_passing p P xs h)
+    by : (b : Bool) → p x ≡ b → AllByRecursion P (cond b (x ∷ passing p xs) (passing p xs))
+        → (AllByRecursion P (passing p xs) → AllByRecursion (λ y. p y ≡ true → P y) xs) → (p x ≡ true → P x) × AllByRecursion (λ y. p y ≡ true → P y) xs
+    by true e h more = ((λ is. h.0), more h.1)
+    by false e h more = ((λ is. absurd (true≢false (sym is ∙ e))), more h)
 
 -- the kinds that are served, in their order
 served_kinds_serve : AllByRecursion Serves (passing is_served_kind all_kinds)

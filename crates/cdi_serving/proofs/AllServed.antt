@@ -25,14 +25,10 @@ use Rattle.cdi_serving.specs.AllServed.{IsAllServed}
 use Rattle.cdi_serving.specs.Parts.{AreServedParts}
 use Rattle.cdi_serving.proofs.KeptTexts.{text-stays}
 use Rattle.cdi_serving.proofs.Parts.{reads-served}
-use Rattle.cdi_serving.proofs.Readied.{IsMadeFrom, made_from}
+use Rattle.cdi_serving.proofs.Readied.{IsMadeFrom, if_read, made_from}
 use Rattle.cdi_serving.proofs.Scripts.{readied_serves}
 use Rattle.cdi_serving.proofs.ServedTables.{tables_are_served}
 use Rattle.cdi_serving.proofs.SmallTables.{tables_are_small}
-
--- what holds of what was read
-if_read : {X E : Type 0} (P : X → Type 0) (r : Result X E) (x : X) → IfOk r P → r ≡ Ok x → P x
-if_read P r x h e = subst (λ (q : Result _ _). IfOk q P) e h
 
 all_pass : {X : Type 0} (p : X → Bool) (xs : List X) → ((x : X) → p x ≡ true) → list_all p xs ≡ true
 all_pass p [] each = refl

@@ -22,6 +22,9 @@ pub mod ServedPlans
 pub mod ServedTables
 pub mod SmallTables
 pub mod Readied
+pub mod ReadTables
 pub mod TrueNames
 pub mod ScriptNames
+pub mod KnownMore
+pub mod Facts
 pub mod AllServed

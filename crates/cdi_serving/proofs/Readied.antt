@@ -1,5 +1,5 @@
 -- A deployment that was made ready has what was read but for its table of names, which begins with the one that was read.
-use Rattle.std.proofs.Common.{◌≡◌, ℕ, List, [], ◌∷◌, ◌++◌, Result, Ok, Err, refl, sym, ap, ◌∙◌}
+use Rattle.std.proofs.Common.{◌≡◌, ℕ, List, [], ◌∷◌, ◌++◌, Result, Ok, Err, IfOk, refl, sym, subst, ap, ◌∙◌}
 use Rattle.cdi_base.specs.Name.{Extends}
 use Rattle.cdi_base.specs.Reading.{◌>>=◌}
 use Rattle.cdi_base.proofs.Tables.{stays, joins}
@@ -42,6 +42,10 @@ scripts-keep stage done names (d ∷ ds) =
 
 ok_is : {X E : Type 0} {x y : X} → ◌≡◌ {A = Result X E} (Ok x) (Ok y) → x ≡ y
 ok_is {x = x} e = ap (λ (r : Result _ _). elim r [ Ok z ↦ z | Err f ↦ x ]) e
+
+-- what holds of what was read
+pub if_read : {X E : Type 0} (P : X → Type 0) (r : Result X E) (x : X) → IfOk r P → r ≡ Ok x → P x
+if_read P r x h e = subst (λ (q : Result _ _). IfOk q P) e h
 
 -- the deployment that was read, and the table that its scripts left
 pub record IsMadeFrom (stage : Stage) (bytes : List ℕ) (r : Readied) : Type 0 where

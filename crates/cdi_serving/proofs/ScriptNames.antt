@@ -1,18 +1,16 @@
 -- Each text in the table of names of a deployment that is read with its scripts is a name.
-use Rattle.std.proofs.Common.{◌≡◌, ℕ, List, [], ◌∷◌, ◌++◌, Result, Ok, Err, IfOk, refl, sym, subst}
-use Rattle.cdi_base.specs.Reading.{◌>>=◌}
+use Rattle.std.proofs.Common.{◌≡◌, ℕ, List, [], ◌∷◌, ◌++◌, Ok, sym, subst}
 use Rattle.cdi_deploy.specs.Reading.{read_at}
-use Rattle.cdi_deploy.specs.declared.fault.ReadFault.{ReadFault}
 use Rattle.cdi_deployment.specs.declared.deployment.Deployment.{Deployment}
 use Rattle.cdi_deployment.specs.declared.deployment.Script.{Script as Declared}
-use Rattle.cdi_prepare.specs.Ready.{Readied, readied_at}
+use Rattle.cdi_prepare.specs.Ready.{Readied}
 use Rattle.cdi_prepare.specs.Scripts.{Reads as ReadsScripts, scripts_after, scripts_in, told}
 use Rattle.cdi_prepare.specs.declared.scripts.NamedScript.{NamedScript}
 use Rattle.cdi_script.specs.Reading.{Reads}
 use Rattle.cdi_script.specs.declared.step.Step.{Step}
 use Rattle.cdi_stage.specs.declared.stage.Stage.{Stage}
 use Rattle.cdi_text.specs.Places.{name_text}
-use Rattle.cdi_serving.proofs.Readied.{IsMadeFrom, made_from}
+use Rattle.cdi_serving.proofs.Readied.{IsMadeFrom, if_read}
 use Rattle.cdi_script.proofs.Named.{AreNames, Named, named-on, script-named}
 use Rattle.cdi_serving.proofs.TrueNames.{read-named}
 
@@ -35,23 +33,10 @@ left-named _ read e (Named.ok {read = found} are) =
     subst (λ (x : List NamedScript × List (List ℕ)). AreNames x.1) same are
 left-named _ read e Named.err = absurd cc
 
-was-named : (r : Result Deployment ReadFault) (d : Deployment) → r ≡ Ok d → IfOk r (λ x. AreNames x.names) → AreNames d.names
-was-named (Ok found) d e are =
-    let same : found ≡ d = cc in
-    subst (λ (x : Deployment). AreNames x.names) same are
-was-named (Err fault) d e are = absurd cc
-
 module _ (stage : Stage) (bytes : List ℕ) where
-  made-named : (r : Readied) → IsMadeFrom stage bytes r → AreNames r.deployment.names
+  pub made-named : (r : Readied) → IsMadeFrom stage bytes r → AreNames r.deployment.names
   made-named r made =
-      let read : AreNames made.deployment.names = was-named (read_at stage bytes) made.deployment made.was_read (read-named stage bytes) in
+      let read : AreNames made.deployment.names = if_read (λ (d : Deployment). AreNames d.names) (read_at stage bytes) made.deployment (read-named stage bytes) made.was_read in
       let left : AreNames made.names = left-named (scripts_in stage made.deployment.names made.deployment.scripts) (r.scripts, made.names) made.scripts
-          (scripts-named stage [] made.deployment.names made.deployment.scripts read) in
+      (scripts-named stage [] made.deployment.names made.deployment.scripts read) in
       subst (λ (x : Deployment). AreNames x.names) (sym made.is) left
-
-  pub readied-named : IfOk (readied_at stage bytes) (λ r. AreNames r.deployment.names)
-  readied-named = by (readied_at stage bytes) refl
-    where
-      by : (found : Result Readied (List ℕ)) → readied_at stage bytes ≡ found → IfOk found (λ r. AreNames r.deployment.names)
-      by (Ok r) e = made-named r (made_from stage bytes r e)
-      by (Err line) e = tt

@@ -1,5 +1,5 @@
 -- Each text in the table of the names of a value is a name, if those before it are.
-use Rattle.std.proofs.Common.{◌≡◌, ◌∙◌, ℕ, Bool, true, false, not, List, [], ◌∷◌, Option, Some, None, Result, Ok, Err, IfOk, if◌then◌else◌, zero, suc, slice_get, refl, sym, ap}
+use Rattle.std.proofs.Common.{◌≡◌, ◌∙◌, ℕ, Bool, true, false, List, [], ◌∷◌, Option, Some, None, Ok, Err, IfOk, if◌then◌else◌, zero, suc, slice_get, refl, sym, ap}
 use Rattle.std.proofs.lemmas.Bool.{and_parts}
 use Rattle.std.specs.List.{list_all}
 use Rattle.cdi_stage.specs.declared.stage.Stage.{Stage}
@@ -11,18 +11,12 @@ use Rattle.cdi_form.specs.declared.form.Part.{Part}
 use Rattle.cdi_form.specs.declared.form.Part.TheVariants as parts
 use Rattle.cdi_form.specs.Form.{part_at, named_part}
 use Rattle.cdi_form.specs.Keys.{kind_of}
-use Rattle.cdi_form.specs.Names.{names_fit}
-use Rattle.cdi_form.specs.Numbers.{numbers_fit}
-use Rattle.cdi_form.specs.Shape.{wrong}
-use Rattle.cdi_json.specs.Json.{json_in}
 use Rattle.serde_json.specs.Data.{Data, null, boolean, number, string, array, object, Items, no_items, item, Members, no_members, member}
-use Rattle.cdi_deployment.specs.declared.deployment.Deployment.{Deployment}
-use Rattle.cdi_deployment.specs.Limits.{is_within}
 use Rattle.cdi_script.proofs.Named.{AreNames, with-name}
 use Rattle.cdi_deploy.specs.declared.fault.ReadFault.{ReadFault}
-use Rattle.cdi_deploy.specs.Items.{lists_in}
 use Rattle.cdi_deploy.specs.Naming.{Table, added, text_added, keys_added, added_at, names_added, items_added, members_added}
-use Rattle.cdi_deploy.specs.Reading.{or_not_json, or_shape, root, table_of, within_limits, lists_at, deployment_at, is_too_long, read_at}
+use Rattle.cdi_deploy.specs.Reading.{read_at, root, table_of}
+use Rattle.cdi_serving.proofs.ReadTables.{of-read}
 
 -- what stands in such a table is a name
 pub name-at : (names : List (List ℕ)) (n : ℕ) (text : List ℕ) → AreNames names
@@ -113,49 +107,14 @@ module _ (stage : Stage) where
 
 -- ---- deployments
 
-abbrev HasNames : Deployment → Type 0
-HasNames d = AreNames d.names
-
 built_in-named : AreNames built_in_names
 unfolding built_in_names
 built_in-named = refl
 
-lists-named : (names : List (List ℕ)) (d : Data) → AreNames names → HasNames (lists_in names d)
-unfolding lists_in
-lists-named names d are = are
-
-table-named : (d : Data) (table : Table) → Named table
-    → IfOk ((table >>= λ names. Ok (lists_in names d)) >>= within_limits) HasNames
-table-named d (Err fault) are = tt
-table-named d (Ok names) are = by (is_within (lists_in names d))
-  where
-    by : (b : Bool) → IfOk (if b then Ok (lists_in names d) else Err ReadFault.TooMany) HasNames
-    by true = lists-named names d are
-    by false = tt
-
 module _ (stage : Stage) where
-  value-named : (d : Data) → IfOk (deployment_at stage d) HasNames
-  unfolding deployment_at lists_at
-  value-named d = by (numbers_fit d) (wrong stage d root) (names_fit stage d root)
-    where
-      by : (numbers : Bool) (place : Option (List ℕ)) (names : Bool)
-          → IfOk (if not numbers then Err ReadFault.BadNumber
-          else or_shape place (if not names then Err ReadFault.BadName
-          else (table_of stage d >>= λ n. Ok (lists_in n d)) >>= within_limits)) HasNames
-      by false place names = tt
-      by true (Some path) names = tt
-      by true None false = tt
-      by true None true =
-          table-named d (table_of stage d) (names-named stage d built_in_names root built_in-named)
+  value-named : (d : Data) → Named (table_of stage d)
+  value-named d = names-named stage d built_in_names root built_in-named
 
   -- in the table of a deployment that was read
   pub read-named : (bytes : List ℕ) → IfOk (read_at stage bytes) (λ d. AreNames d.names)
-  unfolding read_at
-  read-named bytes = by (is_too_long bytes) (json_in bytes)
-    where
-      by : (long : Bool) (o : Option Data)
-          → IfOk (if long then Err ReadFault.TooLong else or_not_json o >>= deployment_at stage)
-          HasNames
-      by true o = tt
-      by false None = tt
-      by false (Some d) = value-named d
+  read-named = of-read AreNames stage value-named

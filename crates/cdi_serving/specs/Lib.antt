@@ -1,2 +1,3 @@
 pub mod AllServed
+pub mod Facts
 pub mod Parts

@@ -1,7 +1,5 @@
 //! Laws of what is served. A call of one of these does nothing: its contract is the law.
 ghost use Rattle.std.specs.Prelude.{◌≡◌, ℕ, List, IfOk, IsTrue, true};
-ghost use Rattle.std.specs.List.{list_all};
-ghost use Rattle.cdi_base.specs.Name.{is_name};
 ghost use Rattle.cdi_deploy.specs.Reading.{deployment_in};
 ghost use Rattle.cdi_deployment.specs.Limits.{is_within};
 ghost use Rattle.cdi_prepare.specs.Ready.{readied_at};
@@ -11,6 +9,7 @@ ghost use Rattle.cdi_run_tables.specs.Served.{is_served, is_served_body};
 ghost use Rattle.cdi_run_tables.specs.Sizes.{is_small};
 ghost use Rattle.cdi_run_tables.specs.declared.tables.RunTables.{RunTables};
 ghost use Rattle.cdi_serving.specs.AllServed.{IsAllServed};
+ghost use Rattle.cdi_serving.specs.Facts.{HasFacts};
 ghost use Rattle.cdi_serving.specs.Parts.{AreServedParts};
 ghost use Rattle.cdi_stage.specs.Stage.{served};
 ghost use Rattle.cdi_stage.specs.declared.stage.Stage.{Stage as AnyStage};
@@ -20,10 +19,12 @@ pub fn law_reads_served_parts()
     ensures { (bytes : List ℕ) → IfOk (deployment_in bytes) AreServedParts }
 {}
 
-/// Each text in the table of names of a deployment that is read with its scripts is a name.
-pub fn law_reads_names()
-    ensures { (stage : AnyStage) (bytes : List ℕ) → IfOk (readied_at stage bytes) (λ r.
-        IsTrue (list_all is_name r.deployment.names)) }
+/// What holds of every deployment that was read with its scripts, so that no one who has one need prove it again: no list is
+/// longer than its limit, each name in the lists is a name of the table of names, and this table begins with the built-in
+/// names and has no text that isn't a name.
+pub fn law_reads_facts()
+    ensures { (stage : AnyStage) (bytes : List ℕ)
+        → IfOk (readied_at stage bytes) (λ r. HasFacts r.deployment) }
 {}
 
 /// The scripts of a deployment that is read at the stage that is served name only what is served.

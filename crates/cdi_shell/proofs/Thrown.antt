@@ -11,6 +11,7 @@ use Rattle.cdi_prepare.specs.Ready.{Readied}
 use Rattle.cdi_run_tables.specs.Machine.{machine_tables}
 use Rattle.cdi_run_tables.specs.declared.tables.RunTables.{RunTables}
 use Rattle.cdi_serving.proofs.TrueNames.{name-at}
+use Rattle.cdi_serving.specs.Facts.{HasFacts}
 use Rattle.cdi_text.specs.Places.{name_text}
 use Rattle.cdi_container.specs.Accepted.{IsAccepted}
 use Rattle.cdi_container.specs.Thrown.{Replies, TellsName, NamesThrown}
@@ -30,12 +31,12 @@ module _ {X : Type 0} {F : X → Type 0} {g : _} (entries : List (Entry X F g)) 
   abbrev pub NamesAccepted : Type 0
   NamesAccepted = (d : Deployment) (t : RunTables) → IsAccepted d entries t → NamesThrown t (legal_of entries)
 
-  pub tells_true_names : NamesAccepted → ((bytes : List ℕ) → IfOk (readied bytes) (λ r. list_all is_name r.deployment.names ≡ true)) → TellsTrueNames entries
-  tells_true_names thrown named bytes = by (readied bytes) (named bytes)
+  pub tells_true_names : NamesAccepted → ((bytes : List ℕ) → IfOk (readied bytes) (λ r. HasFacts r.deployment)) → TellsTrueNames entries
+  tells_true_names thrown facts bytes = by (readied bytes) (facts bytes)
     where
-      by : (found : Result Readied (List ℕ)) → IfOk found (λ r. list_all is_name r.deployment.names ≡ true)
+      by : (found : Result Readied (List ℕ)) → IfOk found (λ r. HasFacts r.deployment)
           → IfOk found (λ r. (t : RunTables) → IsAccepted r.deployment entries t → (reply : Reply) → Replies t.deployment.names (machine_tables t) (legal_of entries) reply → TellsTrueName t.deployment.names reply)
-      by (Ok r) are = λ t accepted reply h.
-          let names : list_all is_name t.deployment.names ≡ true = subst (λ (d : Deployment). list_all is_name d.names ≡ true) (sym accepted.are.deployment_is) are in
+      by (Ok r) has = λ t accepted reply h.
+          let names : list_all is_name t.deployment.names ≡ true = subst (λ (d : Deployment). list_all is_name d.names ≡ true) (sym accepted.are.deployment_is) has.texts in
           true_name t.deployment.names reply names (thrown r.deployment t accepted reply h)
-      by (Err line) are = tt
+      by (Err line) has = tt

@@ -21,7 +21,7 @@ pub fn law_tells_true_names(bodies: &Bodies)
     ensures { TellsTrueNames (entries_of bodies.now) }
 {
     container::law_accepted_throws_names(bodies);
-    serving::law_reads_names();
+    serving::law_reads_facts();
 }
 
 /// Worked lines of the definitions: each kind of reply, the lines of refused deployments, where lines end, and what calls

@@ -1,0 +1,47 @@
+-- A deployment that was read with its scripts is within its limits and knows its names, in a table of names behind the built-in ones.
+use Rattle.std.proofs.Common.{◌≡◌, ℕ, true, List, Result, Ok, Err, IfOk, refl, sym, subst}
+use Rattle.cdi_base.proofs.Tables.{joins}
+use Rattle.cdi_base.specs.BuiltIn.{built_in_names}
+use Rattle.cdi_base.specs.Name.{Extends}
+use Rattle.cdi_deploy.proofs.Readable.{read-knows, read-within}
+use Rattle.cdi_deploy.specs.Reading.{read_at, root}
+use Rattle.cdi_deployment.specs.KnownNames.{KnowsNames}
+use Rattle.cdi_deployment.specs.Limits.{is_within}
+use Rattle.cdi_deployment.specs.declared.deployment.Deployment.{Deployment}
+use Rattle.cdi_prepare.specs.Ready.{Readied, readied_at}
+use Rattle.cdi_stage.specs.declared.stage.Stage.{Stage}
+use Rattle.cdi_serving.specs.Facts.{HasFacts}
+use Rattle.cdi_serving.proofs.KeptTexts.{names-grow}
+use Rattle.cdi_serving.proofs.KnownMore.{names-more}
+use Rattle.cdi_serving.proofs.ReadTables.{of-read}
+use Rattle.cdi_serving.proofs.Readied.{IsMadeFrom, if_read, made_from}
+use Rattle.cdi_serving.proofs.ScriptNames.{made-named}
+
+module _ (stage : Stage) (bytes : List ℕ) where
+  -- what was read begins with the built-in names
+  read-begins : IfOk (read_at stage bytes) (λ d. Extends built_in_names d.names)
+  read-begins = of-read (Extends built_in_names) stage (λ d. names-grow stage d built_in_names root) bytes
+
+  module _ (r : Readied) (made : IsMadeFrom stage bytes r) where
+    -- what holds of what was read
+    of_read : (P : Deployment → Type 0) → IfOk (read_at stage bytes) P → P made.deployment
+    of_read P h = if_read P (read_at stage bytes) made.deployment h made.was_read
+
+    with_table : (P : Deployment → Type 0) → P (record made.deployment { names = made.names }) → P r.deployment
+    with_table P h = subst P (sym made.is) h
+
+    facts : HasFacts r.deployment
+    facts = record {
+      limits = with_table (λ (d : Deployment). is_within d ≡ true) (of_read (λ (d : Deployment). is_within d ≡ true) (read-within stage bytes));
+      known = with_table KnowsNames (names-more made.deployment made.names made.more (of_read KnowsNames (read-knows stage bytes)));
+      built_in = with_table (λ (d : Deployment). Extends built_in_names d.names)
+          (joins (of_read (λ (d : Deployment). Extends built_in_names d.names) read-begins) made.more);
+      texts = made-named stage bytes r made;
+    }
+
+  pub reads_facts : IfOk (readied_at stage bytes) (λ r. HasFacts r.deployment)
+  reads_facts = by (readied_at stage bytes) refl
+    where
+      by : (found : Result Readied (List ℕ)) → readied_at stage bytes ≡ found → IfOk found (λ r. HasFacts r.deployment)
+      by (Ok r) e = facts r (made_from stage bytes r e)
+      by (Err line) e = tt
