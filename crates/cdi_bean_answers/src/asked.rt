@@ -1,4 +1,4 @@
-//! What is asked of a deployment, and the layer that answers it. Each line of the input is a question, and each has a line of its own
+//! What is asked of a deployment behind the word `beans`, and the layer that answers it. Each line of the input is a question, and each has a line of its own
 //! in the answer, unless it says otherwise.
 //!
 //! | Words | What is asked | Module |
@@ -41,7 +41,7 @@ fn answers_of(
 }
 
 /// The layers up to the bean list.
-pub(crate) struct BeanLayers;
+pub struct BeanLayers;
 
 impl Layers for BeanLayers {
     fn answers(

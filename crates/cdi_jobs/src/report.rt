@@ -1,8 +1,8 @@
-//! What is told of a deployment and its bodies, by the words of a run.
+//! What is told of a deployment and its bodies, by the words of a run behind the word `jobs`.
 //!
 //! | Words | The deployment and its bodies |
 //! |---|---|
-//! | `jobs` | its scripts are the bodies |
+//! | `scripts` | its scripts are the bodies |
 //! | `whole` | the same, of the whole form |
 //! | `counting COUNT` | its one body is `up`: it counts the field `n` so many times, calls itself with one less than it was called with unless that was 0, and then gives the field |
 //! | `beans COUNT` | a deployment of so many beans, whatever is written |
@@ -127,7 +127,7 @@ fn report_of_beans(alloc: Global, count: u32, asking: Asking) -> Result<String, 
     report_of(alloc, deployment, Bodies::new(alloc), asking)
 }
 
-/// What is told by the words of a run.
+/// What is told by the words of a run behind the word `jobs`.
 fn report(alloc: Global, words: &[&str], bytes: &[u8], input: &str) -> Result<String, AllocError> {
     match words {
         ["whole"] => report_of_bytes(alloc, WHOLE, bytes, None, asking_of(&[], input)),
@@ -144,14 +144,13 @@ fn report(alloc: Global, words: &[&str], bytes: &[u8], input: &str) -> Result<St
 }
 
 /// Runtimes, asked for what they answer.
-pub(crate) struct Runtimes;
+pub struct Runtimes;
 
 impl Player for Runtimes {
-    fn play(&self, alloc: Global, scene: &Scene) -> Result<Played, AllocError> {
+    fn play(&self, alloc: Global, words: &[&str], scene: &Scene) -> Result<Played, AllocError> {
         let deployment = scene.whole_deployment(alloc)?;
-        let words: Vec<&str> = scene.words.as_str().split_whitespace().collect(alloc)?;
         let bytes = deployment.as_str().as_bytes();
-        let text = report(alloc, words.as_slice(), bytes, scene.input.as_str())?;
+        let text = report(alloc, words, bytes, scene.input.as_str())?;
         Ok(Played::well(alloc, text.into_bytes()))
     }
 }

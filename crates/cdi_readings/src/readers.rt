@@ -1,4 +1,4 @@
-//! Asking the reader that the words of a run name.
+//! Asking the reader that the words of a run name, behind the word `readings`.
 //!
 //! | Words | What is asked | Module |
 //! |---|---|---|
@@ -48,13 +48,12 @@ fn whole_text(alloc: Global, scene: &Scene) -> Result<String, AllocError> {
 }
 
 /// The readers. Of a text, each `##` stands for a number, counted from 0.
-pub(crate) struct Readers;
+pub struct Readers;
 
 impl Player for Readers {
-    fn play(&self, alloc: Global, scene: &Scene) -> Result<Played, AllocError> {
+    fn play(&self, alloc: Global, words: &[&str], scene: &Scene) -> Result<Played, AllocError> {
         let text = whole_text(alloc, scene)?;
-        let words: Vec<&str> = scene.words.as_str().split_whitespace().collect(alloc)?;
-        let output = output_of(alloc, words.as_slice(), text.as_str(), scene.input.as_str())?;
+        let output = output_of(alloc, words, text.as_str(), scene.input.as_str())?;
         Ok(Played::well(alloc, output.into_bytes()))
     }
 }

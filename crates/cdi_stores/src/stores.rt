@@ -73,12 +73,11 @@ fn answers(alloc: Global, words: &[&str], input: &str) -> Result<String, AllocEr
 }
 
 /// Stores and contexts, of which the words of a run say which one it calls.
-pub(crate) struct Stores;
+pub struct Stores;
 
 impl Player for Stores {
-    fn play(&self, alloc: Global, scene: &Scene) -> Result<Played, AllocError> {
-        let words: Vec<&str> = scene.words.as_str().split_whitespace().collect(alloc)?;
-        let text = answers(alloc, words.as_slice(), scene.input.as_str())?;
+    fn play(&self, alloc: Global, words: &[&str], scene: &Scene) -> Result<Played, AllocError> {
+        let text = answers(alloc, words, scene.input.as_str())?;
         Ok(Played::well(alloc, text.into_bytes()))
     }
 }

@@ -1,4 +1,4 @@
-//! What is asked of a deployment, and the layer that answers it. Each line of the input is a question, and each has a line of its own
+//! What is asked of a deployment behind the word `tables`, and the layer that answers it. Each line of the input is a question, and each has a line of its own
 //! in the answer, unless it says otherwise.
 //!
 //! | Words | What is asked | Module |
@@ -36,7 +36,7 @@ fn answers_of(
 }
 
 /// The layers from the bean list on.
-pub(crate) struct TableLayers;
+pub struct TableLayers;
 
 impl Layers for TableLayers {
     fn answers(

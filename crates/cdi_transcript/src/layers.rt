@@ -48,13 +48,12 @@ fn answers_of<L: Layers>(
 }
 
 impl<L: Layers> Player for Asked<L> {
-    fn play(&self, alloc: Global, scene: &Scene) -> Result<Played, AllocError> {
+    fn play(&self, alloc: Global, words: &[&str], scene: &Scene) -> Result<Played, AllocError> {
         let deployment = deployment_text(alloc, scene)?;
-        let words: Vec<&str> = scene.words.as_str().split_whitespace().collect(alloc)?;
         let output = answers_of(
             alloc,
             &self.layers,
-            words.as_slice(),
+            words,
             deployment.as_str(),
             scene.input.as_str(),
         )?;

@@ -1,4 +1,4 @@
-//! Transcripts: runs as they are written in files, each with what it has to write, and the programs that play them.
+//! Transcripts: runs as they are written in files, each with what it has to write, and how they are played.
 //!
 //! This library serves tests alone, and its calls promise nothing: a transcript that is misread shows as a run that doesn't go as
 //! it is written, or as a wrong number of runs.

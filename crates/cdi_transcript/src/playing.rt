@@ -26,8 +26,8 @@ impl Played {
 
 /// What plays the runs of transcripts.
 pub trait Player {
-    /// What a run comes to.
-    fn play(&self, alloc: Global, scene: &Scene) -> Result<Played, AllocError>;
+    /// What a run comes to, of which these are the words.
+    fn play(&self, alloc: Global, words: &[&str], scene: &Scene) -> Result<Played, AllocError>;
 }
 
 /// Whether what was written to standard error is as the run has it.
@@ -59,7 +59,8 @@ fn differs<P: Player>(
     player: &P,
     scene: &Scene,
 ) -> Result<Option<String>, AllocError> {
-    let played = player.play(alloc, scene)?;
+    let words: Vec<&str> = scene.words.as_str().split_whitespace().collect(alloc)?;
+    let played = player.play(alloc, words.as_slice(), scene)?;
     difference(alloc, scene, &played)
 }
 

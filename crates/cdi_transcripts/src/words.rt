@@ -146,15 +146,14 @@ pub(crate) struct Program<'a> {
 }
 
 impl Player for Program<'_> {
-    fn play(&self, alloc: Global, scene: &Scene) -> Result<Played, AllocError> {
+    fn play(&self, alloc: Global, words: &[&str], scene: &Scene) -> Result<Played, AllocError> {
         let deployment = scene.whole_deployment(alloc)?;
-        let words: Vec<&str> = scene.words.as_str().split_whitespace().collect(alloc)?;
-        match words.as_slice() {
+        match words {
             ["front", path] => Ok(Played::well(
                 alloc,
                 front_line(alloc, &self.files, path)?.into_bytes(),
             )),
-            words => play_words(alloc, words, deployment.as_str(), scene.input.as_str()),
+            _ => play_words(alloc, words, deployment.as_str(), scene.input.as_str()),
         }
     }
 }

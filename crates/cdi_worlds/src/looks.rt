@@ -1,4 +1,4 @@
-//! What is seen of a world.
+//! What is seen of a world, as the word of a run says behind the word `worlds`.
 //!
 //! | Words | What is seen |
 //! |---|---|

@@ -53,11 +53,12 @@ fn seen(alloc: Global, look: &str, input: &str) -> Result<String, AllocError> {
 }
 
 /// Worlds, of which the words of a run say what is looked at.
-pub(crate) struct Worlds;
+pub struct Worlds;
 
 impl Player for Worlds {
-    fn play(&self, alloc: Global, scene: &Scene) -> Result<Played, AllocError> {
-        let text = seen(alloc, scene.words.as_str(), scene.input.as_str())?;
+    fn play(&self, alloc: Global, words: &[&str], scene: &Scene) -> Result<Played, AllocError> {
+        let look = words.first().copied().unwrap_or("");
+        let text = seen(alloc, look, scene.input.as_str())?;
         Ok(Played::well(alloc, text.into_bytes()))
     }
 }
