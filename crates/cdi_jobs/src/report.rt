@@ -1,4 +1,4 @@
-//! What is told of a deployment and its bodies, by the words of a run behind the word `jobs`.
+//! What is told of a deployment and its bodies, by the words of a run.
 //!
 //! | Words | The deployment and its bodies |
 //! |---|---|
@@ -127,7 +127,7 @@ fn report_of_beans(alloc: Global, count: u32, asking: Asking) -> Result<String, 
     report_of(alloc, deployment, Bodies::new(alloc), asking)
 }
 
-/// What is told by the words of a run behind the word `jobs`.
+/// What is told by the words of a run.
 fn report(alloc: Global, words: &[&str], bytes: &[u8], input: &str) -> Result<String, AllocError> {
     match words {
         ["whole"] => report_of_bytes(alloc, WHOLE, bytes, None, asking_of(&[], input)),
@@ -144,7 +144,7 @@ fn report(alloc: Global, words: &[&str], bytes: &[u8], input: &str) -> Result<St
 }
 
 /// Runtimes, asked for what they answer.
-pub struct Runtimes;
+pub(crate) struct Runtimes;
 
 impl Player for Runtimes {
     fn play(&self, alloc: Global, words: &[&str], scene: &Scene) -> Result<Played, AllocError> {
