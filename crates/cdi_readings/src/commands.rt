@@ -63,12 +63,9 @@ fn add_call(text: &mut String, method: &Text, args: &Seq<Value>) -> Result<(), A
     Ok(())
 }
 
-fn add_command(text: &mut String, command: &Command) -> Result<(), AllocError> {
+/// Adds a command that asks for what a type and qualifiers stand for.
+fn add_asking(text: &mut String, command: &Command) -> Result<(), AllocError> {
     match command {
-        Command::Begin { request, session } => {
-            add_named(text, "begin", request)?;
-            add_option(text, "", session.as_ref())
-        }
         Command::Call {
             request,
             bean_type,
@@ -76,26 +73,18 @@ fn add_command(text: &mut String, command: &Command) -> Result<(), AllocError> {
             method,
             args,
         } => {
-            add_asked(
-                text,
-                "call",
-                request.as_ref(),
-                bean_type,
-                qualifiers.as_slice(),
-            )?;
+            let qualifiers = qualifiers.as_slice();
+            add_asked(text, "call", request.as_ref(), bean_type, qualifiers)?;
             add_call(text, method, args)
         }
         Command::Read {
             request,
             bean_type,
             qualifiers,
-        } => add_asked(
-            text,
-            "read",
-            request.as_ref(),
-            bean_type,
-            qualifiers.as_slice(),
-        ),
+        } => {
+            let qualifiers = qualifiers.as_slice();
+            add_asked(text, "read", request.as_ref(), bean_type, qualifiers)
+        }
         Command::Fire {
             request,
             class,
@@ -105,10 +94,21 @@ fn add_command(text: &mut String, command: &Command) -> Result<(), AllocError> {
             add_asked(text, "fire", request.as_ref(), class, qualifiers.as_slice())?;
             add_value(text, " ", value)
         }
+        _ => text.push_str("another command"),
+    }
+}
+
+fn add_command(text: &mut String, command: &Command) -> Result<(), AllocError> {
+    match command {
+        Command::Begin { request, session } => {
+            add_named(text, "begin", request)?;
+            add_option(text, "", session.as_ref())
+        }
         Command::End { request } => add_named(text, "end", request),
         Command::Invalidate { session } => add_named(text, "invalidate", session),
         Command::Live => text.push_str("live"),
         Command::Shutdown => text.push_str("shutdown"),
+        _ => add_asking(text, command),
     }
 }
 

@@ -23,7 +23,7 @@ pub trait Layers {
 /// Layers that are asked about the deployments of runs. These are of the whole form, and each `##` in them stands for a number,
 /// counted from 0.
 #[derive(Drop)]
-pub struct Asked<L> {
+pub struct LayerPlayer<L> {
     pub layers: L,
 }
 
@@ -47,7 +47,7 @@ fn answers_of<L: Layers>(
     }
 }
 
-impl<L: Layers> Player for Asked<L> {
+impl<L: Layers> Player for LayerPlayer<L> {
     fn play(&self, alloc: Global, words: &[&str], scene: &Scene) -> Result<Played, AllocError> {
         let deployment = deployment_text(alloc, scene)?;
         let output = answers_of(

@@ -13,6 +13,6 @@ pub mod scene;
 pub mod texts;
 pub mod words;
 
-pub use layers::{Asked, Layers};
+pub use layers::{LayerPlayer, Layers};
 pub use playing::{Played, Player, play_files};
 pub use scene::Scene;

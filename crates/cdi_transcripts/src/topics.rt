@@ -13,7 +13,7 @@ use cdi_bean_answers::BeanLayers;
 use cdi_readings::Readers;
 use cdi_stores::Stores;
 use cdi_table_answers::TableLayers;
-use cdi_transcript::{Asked, Played, Player, Scene};
+use cdi_transcript::{LayerPlayer, Played, Player, Scene};
 use cdi_worlds::Worlds;
 use std::alloc::{AllocError, Global};
 
@@ -27,8 +27,8 @@ impl Player for Topics<'_> {
     fn play(&self, alloc: Global, words: &[&str], scene: &Scene) -> Result<Played, AllocError> {
         match words {
             ["readings", words @ ..] => Readers.play(alloc, words, scene),
-            ["beans", words @ ..] => Asked { layers: BeanLayers }.play(alloc, words, scene),
-            ["tables", words @ ..] => Asked {
+            ["beans", words @ ..] => LayerPlayer { layers: BeanLayers }.play(alloc, words, scene),
+            ["tables", words @ ..] => LayerPlayer {
                 layers: TableLayers,
             }
             .play(alloc, words, scene),
