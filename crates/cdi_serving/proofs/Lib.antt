@@ -28,3 +28,4 @@ pub mod ScriptNames
 pub mod KnownMore
 pub mod Facts
 pub mod AllServed
+pub mod BadScripts

@@ -1,3 +1,4 @@
 pub mod AllServed
 pub mod Facts
 pub mod Parts
+pub mod BadScripts

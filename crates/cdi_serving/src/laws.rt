@@ -9,6 +9,7 @@ ghost use Rattle.cdi_run_tables.specs.Served.{is_served, is_served_body};
 ghost use Rattle.cdi_run_tables.specs.Sizes.{is_small};
 ghost use Rattle.cdi_run_tables.specs.declared.tables.RunTables.{RunTables};
 ghost use Rattle.cdi_serving.specs.AllServed.{IsAllServed};
+ghost use Rattle.cdi_serving.specs.BadScripts.{BadScriptsHaveNames};
 ghost use Rattle.cdi_serving.specs.Facts.{HasFacts};
 ghost use Rattle.cdi_serving.specs.Parts.{AreServedParts};
 ghost use Rattle.cdi_stage.specs.Stage.{served};
@@ -25,6 +26,11 @@ pub fn law_reads_served_parts()
 pub fn law_reads_facts()
     ensures { (stage : AnyStage) (bytes : List ℕ)
         → IfOk (readied_at stage bytes) (λ r. HasFacts r.deployment) }
+{}
+
+/// A script that is bad is told by its name, never by an empty text: the text in the line that tells it is a name.
+pub fn law_bad_scripts_have_names()
+    ensures { BadScriptsHaveNames }
 {}
 
 /// The scripts of a deployment that is read at the stage that is served name only what is served.

@@ -9,3 +9,6 @@ pub mod Wider
 pub mod WorkedLines
 pub mod Thrown
 pub mod Serving
+pub mod StandIns
+pub mod FittingScripts
+pub mod NamedLines

@@ -18,7 +18,7 @@ use Rattle.cdi_container.specs.Thrown.{Replies, TellsName, NamesThrown}
 use Rattle.cdi_shell.specs.Drive.{readied}
 use Rattle.cdi_shell.specs.Thrown.{TellsTrueName, TellsTrueNames}
 
-true_name : (names : List (List ℕ)) (reply : Reply) → list_all is_name names ≡ true → TellsName names reply → TellsTrueName names reply
+pub true_name : (names : List (List ℕ)) (reply : Reply) → list_all is_name names ≡ true → TellsName names reply → TellsTrueName names reply
 true_name names (replies.Threw x) are at = name-at names x (name_text names x) are at
 true_name names (replies.Value v) are at = tt
 true_name names replies.Done are at = tt

@@ -1,16 +1,25 @@
 -- The exceptions that a container of a deployment which was read replies are told by names, and none by the empty text.
-use Rattle.std.specs.Prelude.{ℕ, List, IsTrue, IfOk}
+use Rattle.std.specs.Prelude.{ℕ, ◌≡◌, List, [], IsTrue, IfOk}
 use Rattle.cdi_base.specs.declared.reply.Reply.{Reply}
 use Rattle.cdi_base.specs.declared.reply.Reply.TheVariants as replies
 use Rattle.cdi_base.specs.Name.{is_name}
 use Rattle.cdi_bodies.specs.declared.entry.Entry.{Entry}
 use Rattle.cdi_machine.specs.Registered.{legal_of}
+use Rattle.cdi_machine.specs.Runs.{Legal}
+use Rattle.cdi_machine.specs.Tables.{Tables}
+use Rattle.cdi_prepare.specs.Scripts.{registered}
+use Rattle.cdi_report.specs.Reports.{AreProblemsWith}
 use Rattle.cdi_run_tables.specs.Machine.{machine_tables}
 use Rattle.cdi_run_tables.specs.declared.tables.RunTables.{RunTables}
+use Rattle.cdi_text.specs.Command.{command_in}
 use Rattle.cdi_text.specs.Places.{name_text}
+use Rattle.cdi_text.specs.ReplyText.{reply_line}
 use Rattle.cdi_container.specs.Accepted.{IsAccepted}
+use Rattle.cdi_container.specs.Sessions.{AnswersRead, Served}
+use Rattle.cdi_container.specs.States.{State}
 use Rattle.cdi_container.specs.Thrown.{Replies}
-use Rattle.cdi_shell.specs.Drive.{readied}
+use Rattle.cdi_shell.specs.declared.ending.Ending.{Ending}
+use Rattle.cdi_shell.specs.Drive.{AreTablesWith, Lives, Streams, legal_by, readied}
 
 -- if the reply tells an exception, then the text in its line is a name: 1 to 255 letters, digits, `_`, `.` and `$`
 abbrev pub TellsTrueName : List (List ℕ) → Reply → Type 0
@@ -25,3 +34,30 @@ TellsTrueNames entries =
     (t : RunTables) → IsAccepted r.deployment entries t
     → (reply : Reply) → Replies t.deployment.names (machine_tables t) (legal_of entries) reply
     → TellsTrueName t.deployment.names reply)
+
+-- ---- the lines of a run
+
+-- a line is answered by the line of a reply, and this tells its exception, if it has one, by a name
+abbrev pub AnswersByName : List (List ℕ) → Tables → Legal → State → List ℕ → List ℕ → State → Type 0
+AnswersByName names tables legal s line text t =
+    (reply : Reply) × AnswersRead names tables legal (Unit {0}) (command_in line) s reply t
+    × (text ≡ reply_line names reply) × TellsTrueName names reply
+
+-- a container lives in a run, and all its lines tell their exceptions by names
+pub record LivesByNames (depth ticks : ℕ) (t : RunTables) (legal : Legal) (streams : Streams)
+    (ending : Ending) : Type 0 where
+  pub lives : Lives depth ticks t legal streams ending
+  pub start : TellsTrueName t.deployment.names lives.reply
+  pub served : Served 16777216 (AnswersByName t.deployment.names (machine_tables t) legal)
+      (reply_line t.deployment.names lives.reply) lives.started lives.ended
+      streams.unread streams.unread_after streams.held streams.held_after lives.result
+
+-- Whatever run of the program there is on the bytes of a deployment: if its container lives, it does so by names.
+abbrev pub LinesTellTrueNames : Type 0
+LinesTellTrueNames =
+    (bytes : List ℕ) → IfOk (readied bytes) (λ r.
+    (t : RunTables) → AreProblemsWith (registered r.scripts) r.deployment []
+    → AreTablesWith (registered r.scripts) r.deployment t
+    → (depth ticks : ℕ) (streams : Streams) (ending : Ending)
+    → Lives depth ticks t (legal_by (registered r.scripts)) streams ending
+    → LivesByNames depth ticks t (legal_by (registered r.scripts)) streams ending)

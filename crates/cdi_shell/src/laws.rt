@@ -1,7 +1,7 @@
 //! Laws of the definitions that the contracts cite. A call of one of these does nothing: its contract is the law.
 ghost use Rattle.cdi_bodies.specs.Table.{entries_of};
 ghost use Rattle.cdi_shell.specs.Laws.{OneOutput};
-ghost use Rattle.cdi_shell.specs.Thrown.{TellsTrueNames};
+ghost use Rattle.cdi_shell.specs.Thrown.{LinesTellTrueNames, TellsTrueNames};
 ghost use Rattle.cdi_shell.specs.WorkedLines.{WorkedLines};
 
 use cdi_bodies::Bodies;
@@ -21,6 +21,14 @@ pub fn law_tells_true_names(bodies: &Bodies)
     ensures { TellsTrueNames (entries_of bodies.now) }
 {
     container::law_accepted_throws_names(bodies);
+    serving::law_reads_facts();
+}
+
+/// So it is with the lines of a run: whatever run of the program there is on the bytes of a deployment, if its container lives, each line
+/// that it writes and that tells an exception tells it by a name. It is said of all that the scripts may do.
+pub fn law_lines_tell_true_names()
+    ensures { LinesTellTrueNames }
+{
     serving::law_reads_facts();
 }
 
