@@ -1,1 +1,10 @@
 pub mod OneReport
+pub mod Having
+pub mod FoundPlaces
+pub mod KnownNames
+pub mod ElementNames
+pub mod SiteNames
+pub mod ToldPlaces
+pub mod EarlyProblems
+pub mod LateProblems
+pub mod PlaceNames

@@ -1,3 +1,4 @@
 pub mod OneReport
+pub mod PlaceNames
 pub mod Reports
 pub mod Verdicts
