@@ -16,19 +16,14 @@ pub fn law_one_output()
 {}
 
 /// In a container of a deployment that was read with its scripts and accepted, each exception that is replied is told by a
-/// name, which has 1 to 255 letters: the line `["threw",""]` is never one of its replies.
+/// name, which has 1 to 255 letters: the line `["threw",""]` is never one of its replies. So it is with the lines of a run:
+/// whatever run of the program there is on the bytes of a deployment, if its container lives, each line that it writes and that
+/// tells an exception tells it by a name.
 pub fn law_tells_true_names(bodies: &Bodies)
-    ensures { TellsTrueNames (entries_of bodies.now) }
+    ensures in_containers { TellsTrueNames (entries_of bodies.now) }
+    ensures in_runs { LinesTellTrueNames }
 {
     container::law_accepted_throws_names(bodies);
-    serving::law_reads_facts();
-}
-
-/// So it is with the lines of a run: whatever run of the program there is on the bytes of a deployment, if its container lives, each line
-/// that it writes and that tells an exception tells it by a name. It is said of all that the scripts may do.
-pub fn law_lines_tell_true_names()
-    ensures { LinesTellTrueNames }
-{
     serving::law_reads_facts();
 }
 
