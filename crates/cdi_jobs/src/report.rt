@@ -17,9 +17,10 @@ ghost use Rattle.cdi_jobs.specs.Plain.{plain_shape};
 
 use crate::counting::Counting;
 use crate::many_beans::beans;
-use crate::runtimes::{Asking, report_of};
+use crate::runtimes::{Asking, told_by};
 use cdi_base::{Act, Fields};
 use cdi_bodies::{Bodies, Body, View};
+use cdi_container::accept;
 use cdi_deployment::Deployment;
 use cdi_prepare::{NamedScript, Prepared, prepare};
 use cdi_script::Script;
@@ -57,7 +58,8 @@ fn report_of_scripts(
             return Err(AllocError);
         }
     }
-    report_of(alloc, deployment, bodies, asking)
+    let accepted = accept(alloc, deployment, &bodies);
+    told_by(alloc, accepted, bodies, asking)
 }
 
 /// What is told of a deployment with a body that counts so many times.
@@ -80,7 +82,8 @@ fn report_of_counting(
     if bodies.add(counting.method, shape, body).is_err() {
         return Err(AllocError);
     }
-    report_of(alloc, deployment, bodies, asking)
+    let accepted = accept(alloc, deployment, &bodies);
+    told_by(alloc, accepted, bodies, asking)
 }
 
 /// What is told of a deployment with its scripts, or with a body that counts so many times.
@@ -124,7 +127,9 @@ fn asking_of<'a>(words: &[&str], input: &'a str) -> Asking<'a> {
 /// What is told of so many beans.
 fn report_of_beans(alloc: Global, count: u32, asking: Asking) -> Result<String, AllocError> {
     let deployment = beans(alloc, count)?;
-    report_of(alloc, deployment, Bodies::new(alloc), asking)
+    let bodies = Bodies::new(alloc);
+    let accepted = accept(alloc, deployment, &bodies);
+    told_by(alloc, accepted, bodies, asking)
 }
 
 /// What is told by the words of a run.
@@ -144,7 +149,7 @@ fn report(alloc: Global, words: &[&str], bytes: &[u8], input: &str) -> Result<St
 }
 
 /// Runtimes, asked for what they answer.
-pub(crate) struct Runtimes;
+pub struct Runtimes;
 
 impl Player for Runtimes {
     fn play(&self, alloc: Global, words: &[&str], scene: &Scene) -> Result<Played, AllocError> {

@@ -1,13 +1,12 @@
 //! The functions that own the tables of a deployment. The proof of each drops all tables, so that there are few.
+ghost use Rattle.std.specs.Prelude.{IfOk};
 ghost use Rattle.cdi_run_tables.specs.Machine.{machine_tables};
 ghost use Rattle.cdi_runtime.specs.Standing.{IsServable, KnowsMethods};
 
 use crate::asked::{Asked, Counted};
 use crate::jobs::answers;
 use cdi_base::{Limits, OrMemory};
-use cdi_bodies::Bodies;
-use cdi_container::{Unaccepted, accept};
-use cdi_deployment::Deployment;
+use cdi_container::Unaccepted;
 use cdi_machine::Driver;
 use cdi_problems::Problem;
 use cdi_run_tables::RunTables;
@@ -58,15 +57,20 @@ fn answers_by<D: Driver + Drop>(
     answers(alloc, &mut runtime, asked, asking.input)
 }
 
-/// What is told of a deployment with its bodies: what its runtime answers, or why it isn't accepted.
-pub(crate) fn report_of(
+/// What is told of a deployment that was looked at with bodies, which this driver has: what its runtime answers, or why it isn't
+/// accepted.
+pub(crate) fn told_by<D: Driver + Drop>(
     alloc: Global,
-    deployment: Deployment,
-    bodies: Bodies,
+    accepted: Result<RunTables, OrMemory<Unaccepted>>,
+    driver: D,
     asking: Asking,
-) -> Result<String, AllocError> {
-    match accept(alloc, deployment, &bodies) {
-        Ok(tables) => answers_by(alloc, tables, bodies, asking),
+) -> Result<String, AllocError>
+    requires knows { IfOk accepted (λ tables.
+        KnowsMethods (D.knows driver) (D.legal driver) (machine_tables tables)) }
+    requires servable { IfOk accepted IsServable }
+{
+    match accepted {
+        Ok(tables) => answers_by(alloc, tables, driver, asking),
         Err(unaccepted) => refusal_lines(alloc, &unaccepted),
     }
 }

@@ -8,8 +8,10 @@
 //! | `tables` | what is enabled, resolved, intercepted and observed, and the tables | `cdi_table_answers`: `asked` |
 //! | `stores` | stores and contexts | `cdi_stores`: `stores` |
 //! | `worlds` | worlds | `cdi_worlds`: `looks` |
+//! | `jobs` | which deployments are accepted, and the jobs of a runtime | `cdi_jobs`: `report` |
 use crate::words::Program;
 use cdi_bean_answers::BeanLayers;
+use cdi_jobs::Runtimes;
 use cdi_readings::Readers;
 use cdi_stores::Stores;
 use cdi_table_answers::TableLayers;
@@ -34,6 +36,7 @@ impl Player for Topics<'_> {
             .play(alloc, words, scene),
             ["stores", words @ ..] => Stores.play(alloc, words, scene),
             ["worlds", words @ ..] => Worlds.play(alloc, words, scene),
+            ["jobs", words @ ..] => Runtimes.play(alloc, words, scene),
             _ => self.program.play(alloc, words, scene),
         }
     }
