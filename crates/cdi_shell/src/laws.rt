@@ -16,16 +16,19 @@ pub fn law_one_output()
 {}
 
 /// In a container of a deployment that was read with its scripts and accepted, each exception that is replied is told by a
-/// name, which has 1 to 255 letters: the line `["threw",""]` is never one of its replies. So it is with the lines of a run:
-/// whatever run of the program there is on the bytes of a deployment, if its container lives, each line that it writes and that
-/// tells an exception tells it by a name.
+/// name, which has 1 to 255 letters: the line `["threw",""]` is never one of its replies.
 pub fn law_tells_true_names(bodies: &Bodies)
-    ensures in_containers { TellsTrueNames (entries_of bodies.now) }
-    ensures in_runs { LinesTellTrueNames }
+    ensures { TellsTrueNames (entries_of bodies.now) }
 {
     container::law_accepted_throws_names(bodies);
     serving::law_reads_facts();
 }
+
+/// So it is with the lines of a run: whatever run of the program there is on the bytes of a deployment, if its container lives,
+/// each line that it writes and that tells an exception tells it by a name.
+pub fn law_lines_tell_true_names()
+    ensures { LinesTellTrueNames }
+{}
 
 /// Worked lines of the definitions: each kind of reply, the lines of refused deployments, where lines end, and what calls
 /// of a counter ask.
