@@ -1,19 +1,18 @@
 -- Two reports on the same bytes that no fault ended are one.
-use Rattle.std.proofs.Common.{◌≡◌, ◌∙◌, ℕ, Bool, true, false, List, [], ◌∷◌, ◌++◌, Option, Some, None, refl, sym, ap, subst}
+use Rattle.std.proofs.Common.{◌≡◌, ◌∙◌, ℕ, Bool, true, false, List, [], ◌∷◌, Option, Some, None, refl, sym, ap, subst}
 use Rattle.std.specs.Prelude.{Result, Ok, Err}
 use Rattle.std.specs.Io.KnownBytes.{Appends}
 use Rattle.cdi_bodies.specs.declared.shape.Shape.{Shape}
 use Rattle.cdi_check.specs.Problems.{AreProblemsOf}
 use Rattle.cdi_deployment.specs.declared.deployment.Deployment.{Deployment}
 use Rattle.cdi_lines.specs.Ends.{WritesAll}
-use Rattle.cdi_lines.specs.declared.fault.ServeFault.TheVariants as faults
 use Rattle.cdi_lines.specs.declared.sink.WriteFailed.{WriteFailed}
 use Rattle.cdi_prepare.specs.Ready.{Readied}
 use Rattle.cdi_prepare.specs.Scripts.{registered}
 use Rattle.cdi_prepare.specs.declared.scripts.NamedScript.{NamedScript}
 use Rattle.cdi_problems.specs.declared.problem.Problem.{Problem}
 use Rattle.cdi_report.specs.OneReport.{IsSettled, OneReport, SameReport}
-use Rattle.cdi_report.specs.Reports.{AreFindings, AreProblemsWith, Judges, ReportsOn, TellsProblems, Told, Writes, verdict_of}
+use Rattle.cdi_report.specs.Reports.{AreFindings, AreProblemsWith, ReportsOn, TellsProblems, Told, Writes, verdict_of}
 use Rattle.cdi_report.specs.declared.verdict.Verdict.{Verdict}
 use Rattle.cdi_report.specs.declared.verdict.Verdict.TheVariants as verdicts
 use Rattle.cdi_uniqueness.proofs.Verdicts.{one_verdict}

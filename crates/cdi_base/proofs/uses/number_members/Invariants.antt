@@ -1,7 +1,6 @@
-use Rattle.std.proofs.Common.{◌≡◌, drop, true}
-use Rattle.std.specs.List.{list_all}
+use Rattle.std.proofs.Common.{◌≡◌, drop}
 use Rattle.cdi_base.specs.Name.{Extends}
-use Rattle.cdi_base.specs.Uses.{has_name, numbered_members}
+use Rattle.cdi_base.specs.Uses.{numbered_members}
 use Rattle.cdi_base.proofs.Numbering.{with_front}
 use Rattle.cdi_base.proofs.uses.number_members.Given as goal
 
