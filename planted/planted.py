@@ -13,8 +13,9 @@ An edit of a definition has a line 'only: LAW'. together tries it by a check of 
 does with an edit of what other functions cite (a constant, a type, a signature, a clause) that names a function so. Such an edit
 shares no check, since it may be the cause of what is complained of at functions that others turn.
 
-together takes --jobs N in front of the names, and then tries so many crates at a time. It begins with what `rt check` kept in out/,
-or else with a check of the smallest group of edits, over which the others are tried. The last line is 'N refused, M failed'; the status is 0 if M is 0.
+together checks the functions that the edits turn and what these call, and nothing that stands above them: a caller's proof cites the
+contract of what it calls. It begins with what `rt check` kept in out/, if there is any. With --jobs N in front of the names it tries so
+many crates at a time. The last line is 'N refused, M failed'; the status is 0 if M is 0.
 """
 import functools
 import importlib.machinery
@@ -137,6 +138,7 @@ class Place(typing.NamedTuple):
     body: int = 0
 
 
+BLOCK = r"(?:unsafe )?impl\b(?:<.*?>)? (?:([\w:]+)(?:<(?:(?:\w+::)*(\w+))?.*>)? for )?(\w+)"
 HEAD = r"( *)(?:pub(?:\([^)]*\))? )?(?:const |unsafe )*fn (\w+)"
 
 
@@ -144,9 +146,10 @@ def functions(text, path):
     """Returns the functions of a file in rt fmt's layout, each from its attributes and comments to its end."""
     lines, found, of_type, of_trait = text.split("\n"), [], "", ""
     for at, line in enumerate(lines):
-        head, block = re.match(HEAD, line), re.match(r"(?:unsafe )?impl\b(?:<.*?>)? (?:([\w:]+)(?:<.*>)? for )?(\w+)", line)
+        head, block = re.match(HEAD, line), re.match(BLOCK, line)
         if re.match(r"(?!where)\w", line):
-            of_trait, of_type = ((block[1] or "").split("::")[-1], block[2]) if block else ("", "")
+            # (the prover's name of From<AllocError> is FromAllocError)
+            of_trait, of_type = ((block[1] or "").split("::")[-1] + (block[2] or ""), block[3]) if block else ("", "")
         if not head:
             continue
         top = at
@@ -176,32 +179,47 @@ def places(crate, edit):
     return found, is_inside
 
 
+def module_of(place):
+    return re.sub(r"(^|/)(lib|main|mod)$", "", place.path[len("src/") : -len(".rt")])
+
+
+def name_of(crate, place):
+    """Returns a function's name, or the end of it that the prover takes in its place: a method's type may stand in another file."""
+    if place.of_type:
+        return f"{place.of_type}{place.of_trait}::{place.name}"
+    return "::".join([crate.name, *filter(None, module_of(place).split("/")), place.name])
+
+
 def proof_folder(place):
     """Returns the pattern of a function's folder below proofs/. A method's goes by its type, which may stand in another file."""
     name = rf"(\+?{place.name}|\+{place.cycle})/" if place.cycle else rf"\+?{place.name}/"
     if place.of_type:
         block = rf"{place.of_type}\w*{place.of_trait}\w*" if place.of_trait else place.of_type
         return rf"proofs/([\w+]+/)*{block}(\+[\w+]+)?/{name}"
-    module = re.sub(r"(^|/)(lib|main|mod)$", "", place.path[len("src/") : -len(".rt")])
+    module = module_of(place)
     return rf"proofs/{module}{'/' if module else ''}{name}"
 
 
-def complains(line, place):
-    """Returns whether the line is a complaint at the function: at its own text, or in a file of its proof that does not only name what is gone."""
+# What a proof says that names what an edit took away; and what one says that cites a proof that isn't one any more.
+IS_GONE = re.compile("has no field|is not in scope|has no `")
+IS_CITED = re.compile("was not admitted")
+
+
+def complains(line, place, is_gone=False):
+    """Returns whether the line is a complaint at the function: at its own text, or in a file of its proof; and there of a goal, or else of a name that is gone."""
     at = re.match(r"(?:note: )?(?:\./)?(\S+?):(\d+):\d+: (.*)", line)
-    if not at or not place.name:
+    if not at or not place.name or IS_CITED.search(at[3]):
         return False
     if at[1] == place.path:
-        return place.first <= int(at[2]) <= place.last and bool(re.search("it is not proved|found no proof|error", at[3]))
-    is_gone = re.search(r"has no field|is not in scope|has no `|was not admitted", at[3])
-    return bool(re.match(proof_folder(place), at[1])) and "error" in at[3] and not is_gone
+        return not is_gone and place.first <= int(at[2]) <= place.last and bool(re.search("it is not proved|found no proof|error", at[3]))
+    return bool(re.match(proof_folder(place), at[1])) and "error" in at[3] and bool(IS_GONE.search(at[3])) == is_gone
 
 
-def told_by(lines, turned):
+def told_by(lines, turned, is_gone=False):
     """Returns the edits that the lines of a check tell refused: a complaint stands at a function that this edit turns and none of the others."""
     told = set()
     for line in lines:
-        at = [edit for edit, its_places in turned.items() if any(complains(line, it) for it in its_places)]
+        at = [edit for edit, its_places in turned.items() if any(complains(line, it, is_gone) for it in its_places)]
         told |= {*at} if len(at) == 1 else set()
     return told
 
@@ -236,22 +254,23 @@ def link(old, new):
         shutil.copy2(old, new)
 
 
+def check_of(crate, texts, names, kept):
+    """Checks these functions of the crate with these texts and what they call; or all of it, if the prover knows one under no such name."""
+    ran = rt.checked(crate, texts, [*ONE, *(word for it in sorted(names) for word in ("--only", it))], kept)
+    return rt.checked(crate, texts, ONE, kept) if ran.returncode == 2 else ran
+
+
 def in_one(crate, edits, kept):
-    """Returns those of the edits that one check with all of them refuses, each at a function of its own; None if the check says nothing."""
-    texts = with_edits(crate, edits)
-    if not os.listdir(kept):
-        # (all but these edits' functions is proved here for the checks that follow)
-        ran = rt.checked(crate, texts, ONE, kept)
-    else:
-        # (what a check with edits keeps would take the place of what the first one kept)
-        with tempfile.TemporaryDirectory(prefix="planted-once-") as once:
-            shutil.copytree(kept, once, dirs_exist_ok=True, copy_function=link)
-            ran = rt.checked(crate, texts, ONE, once)
+    """Returns those of the edits that one check with all of them refuses, each at a function of its own, and those of these that only a proof refuses
+    that names what is gone; None if the check says nothing."""
+    texts, turned = with_edits(crate, edits), {edit: places(crate, edit)[0] for edit in edits}
+    ran = check_of(crate, texts, {name_of(crate, it) for those in turned.values() for it in those}, kept)
     lines = ran.stdout.rstrip("\n").split("\n")
-    if ran.returncode != 1 or not lines[-1].startswith("logic=not-proved") or any(rt.unread(it, texts) for it in lines):
+    if ran.returncode != 1 or not lines[-1].startswith(("only=", "logic=not-proved")) or any(rt.unread(it, texts) for it in lines):
         return None
-    told = told_by(lines, {edit: places(crate, edit)[0] for edit in edits})
-    return [edit for edit in edits if edit in told]
+    by_goals = told_by(lines, turned)
+    by_names = told_by(lines, turned, is_gone=True) - by_goals
+    return by_goals | by_names, by_names
 
 
 def groups_of(crate, edits):
@@ -264,8 +283,9 @@ def groups_of(crate, edits):
 
 
 def in_groups(crate, edits, kept):
-    """Tries the edits many in a check, the smallest group first. Returns those that were refused so, and how many checks it took. A group of which a check says nothing is halved."""
-    told, checks, groups = [], 0, groups_of(crate, edits)
+    """Tries the edits many in a check, the smallest group first. Returns those that were refused so, those of these that only a proof refused that names
+    what is gone, and how many checks it took. A group of which a check says nothing is halved."""
+    told, by_names, checks, groups = set(), set(), 0, groups_of(crate, edits)
     while groups:
         group = groups.pop()
         if len(group) < 2:
@@ -274,30 +294,41 @@ def in_groups(crate, edits, kept):
         if found is None:
             groups += [group[: len(group) // 2], group[len(group) // 2 :]]
         else:
-            told += found
-    return told, checks
+            told, by_names = told | found[0], by_names | found[1]
+    return told, by_names, checks
 
 
-def by_law(crate, edit, kept):
-    """Returns whether a check of the law that the edit names fails with it, and what to say."""
-    label = f"planted {crate.name}/{os.path.basename(edit)}"
+# An edit that is refused so says little of the contract.
+LITTLE = "only because a proof names what it takes away"
+
+
+def by_functions(crate, edit, names, kept):
+    """Returns whether a check of these functions fails with the edit, and what to say."""
+    label, by = f"planted {crate.name}/{os.path.basename(edit)}", " and ".join(sorted(names))
     texts, why = rt.read_edit(edit, crate.folder)
     if why:
         return False, f"{label}: BAD EDIT: {why}"
-    ran = rt.checked(crate, texts, [*ONE, "--only", law_of(edit)], kept)
+    ran = check_of(crate, texts, names, kept)
     lines = ran.stdout.rstrip("\n").split("\n")
     bad = next((it for it in lines if rt.unread(it, texts)), "")
     if bad:
         return False, f"{label}: BAD EDIT: the prover cannot read it: {bad[:200]}"
-    told = next((it for it in lines if re.match(r"(\./)?proofs/\S+: error: |note: src/.*it is not proved", it)), "")
-    is_open = any(it.startswith((f"fn {law_of(edit)}: not proved", f"fn {law_of(edit)}: no proof")) for it in lines)
-    if ran.returncode == 1 and told and is_open and lines[-1].startswith("only="):
-        return True, f"{label}: refused by {law_of(edit)}: {told[:160]}"
-    return False, f"{label}: NOT REFUSED by {law_of(edit)}: {lines[-1][:160]}"
+    told = [it for it in lines if re.match(r"(\./)?proofs/\S+: error: |note: src/.*it is not proved", it)]
+    is_open = any(re.match(rf"fn (\S+::)?{re.escape(name)}: (not proved|no proof)", it) for name in names for it in lines)
+    if ran.returncode == 1 and told and is_open and lines[-1].startswith(("only=", "logic=not-proved")):
+        first = next((it for it in told if not IS_GONE.search(it) and not IS_CITED.search(it)), "")
+        little = "" if first else f" ({LITTLE})"
+        return True, f"{label}: refused by {by}{little}: {(first or told[0])[:160]}"
+    return False, f"{label}: NOT REFUSED by {by}: {lines[-1][:160]}"
 
 
 def alone_in(crate, edit, kept):
-    """Returns whether a check of the crate with this edit alone refuses it, and what to say."""
+    """Returns whether this edit alone is refused, and what to say: by a check of its law, or of what it turns, or else of the crate."""
+    turned, is_inside = places(crate, edit)
+    names = {law_of(edit)} if law_of(edit) else {name_of(crate, it) for it in turned} if is_inside else set()
+    well, text = by_functions(crate, edit, names, kept) if names else (False, "")
+    if well or law_of(edit):
+        return well, text
     told, text = rt.must_fail(crate, edit, ONE, kept)
     # (some kits answer a bool, others a word)
     return told is True or told in (getattr(rt, "REFUSED", True), getattr(rt, "AT_LIMIT", True)), text
@@ -313,14 +344,13 @@ def try_crate(crate):
         return 0, len(edits), [f"planted: {crate.name} is not proved"]
     with tempfile.TemporaryDirectory(prefix="planted-kept-") as kept:
         if crate.has_kept():
-            shutil.copytree(f"{crate.folder}/out/incremental", kept, dirs_exist_ok=True)
-        told, checks = in_groups(crate, good, kept)
-        if len(edits) - len(told) > 1 and not os.listdir(kept):
-            rt.checked(crate, {}, ONE, kept)
+            shutil.copytree(f"{crate.folder}/out/incremental", kept, dirs_exist_ok=True, copy_function=link)
+        told, by_names, checks = in_groups(crate, good, kept)
         alone = [it for it in edits if it not in told]
-        tried = [by_law(crate, it, kept) if law_of(it) else alone_in(crate, it, kept) for it in alone]
+        tried = [alone_in(crate, it, kept) for it in alone]
     refused = len(told) + sum(well for well, _ in tried)
-    said = [f"rt: {text}" for _, text in tried]
+    said = [f"rt: planted {crate.name}/{os.path.basename(it)}: refused, {LITTLE}" for it in sorted(by_names)]
+    said += [f"rt: {text}" for _, text in tried]
     said.append(f"planted: {crate.name}: {len(edits)} edits, {checks} checks of many, {len(alone)} of one")
     return refused, len(edits) - refused, said
 

@@ -7,6 +7,7 @@ import shutil
 import subprocess
 import sys
 import tempfile
+import types
 import unittest
 
 sys.dont_write_bytecode = True
@@ -248,11 +249,21 @@ class Complaints(unittest.TestCase):
     def test_what_is_no_complaint(self):
         own = "./proofs/table/Table/put/Answers.antt:7:5"
         self.assertFalse(self.complains(own, self.put, "error: `returns`: record `At` has no field `x`"))
+        self.assertTrue(self.planted.complains(f"{own}: error: `returns`: record `At` has no field `x`", self.put, is_gone=True))
+        self.assertFalse(self.planted.complains(f"{own}: error: `returns`: it does not follow", self.put, is_gone=True))
+        self.assertFalse(self.complains(own, self.put, "error: `returns`: `other_spec` was not admitted"))
         self.assertFalse(self.complains(own, self.put, "note: the two sides may be different"))
         self.assertFalse(self.complains("note: src/table/putting.rt:3:5", self.put, "advice"))
         self.assertTrue(self.complains("note: src/table/putting.rt:3:5", self.put, "it is not proved that it holds (`returns`)"))
         self.assertTrue(self.complains("note: src/table/putting.rt:3:5", self.put, "`search` found no proof (`invariant_of-result`)"))
         self.assertFalse(self.complains("note: src/table/putting.rt:99:5", self.put, "it is not proved that it holds"))
+
+    def test_what_the_prover_is_asked_for(self):
+        crate = types.SimpleNamespace(name="small")
+        names = [self.planted.name_of(crate, it) for it in (self.put, self.convert, self.even)]
+        self.assertEqual(names, ["Table::put", "ErrorFromFailed::from", "small::table::putting::even"])
+        root = self.planted.functions(CODE, "src/lib.rt")[0]
+        self.assertEqual(self.planted.name_of(crate, root), "small::larger")
 
     def test_what_two_edits_can_have_caused_tells_of_none(self):
         lines = ["./proofs/table/putting/+parity/Answers.antt:7:5: error: `even-returns`: it does not follow"]
