@@ -130,35 +130,52 @@ class Place(typing.NamedTuple):
     first: int
     last: int
     name: str = ""
-    # the type of the impl that the function stands in, with its trait
+    # the type of the impl that the function stands in, or the trait that it stands in; the impl's trait; and what its type is an instance of
     of_type: str = ""
     of_trait: str = ""
+    of_args: str = ""
     cycle: str = ""
     # the body's first line: those above say what others can cite
     body: int = 0
 
 
-BLOCK = r"(?:unsafe )?impl\b(?:<.*?>)? (?:([\w:]+)(?:<(?:(?:\w+::)*(\w+))?.*>)? for )?(\w+)"
-HEAD = r"( *)(?:pub(?:\([^)]*\))? )?(?:const |unsafe )*fn (\w+)"
+BLOCK = r"(?:unsafe )?impl\b(<.*?>)? (?:([\w:]+)(?:<(?:(?:\w+::)*(\w+))?.*>)? for )?(\w+)(?:<(.*?)>)?"
+HEAD = r"( *)(?:pub(?:\([^)]*\))? )?(?:const |unsafe |final )*fn (\w+)"
+
+
+def block_of(line):
+    """Returns the type and the trait of the impl that the line begins, and the arguments of an instance's type, in the prover's spelling. A trait counts as a type."""
+    trait, block = re.match(r"(?:pub(?:\([^)]*\))? )?trait (\w+)", line), re.match(BLOCK, line)
+    if trait or not block:
+        return trait[1] if trait else "", "", ""
+    # (that of From<AllocError> is FromAllocError, and that of Stack<Seq<u32>> Stack+Seq+u32)
+    args = [] if block[2] else re.findall(r"\w+", re.sub(r"'\w+", "", block[5] or ""))
+    is_instance = not set(args) & set(re.findall(r"\w+", block[1] or ""))
+    of_args = "".join(f"+{it}" for it in args) if is_instance else ""
+    return block[4], (block[2] or "").split("::")[-1] + (block[3] or ""), of_args
 
 
 def functions(text, path):
-    """Returns the functions of a file in rt fmt's layout, each from its attributes and comments to its end."""
-    lines, found, of_type, of_trait = text.split("\n"), [], "", ""
+    """Returns the functions of a file in rt fmt's layout that have a body, each from its attributes and comments to its end."""
+    lines, found, block = text.split("\n"), [], ("", "", "")
     for at, line in enumerate(lines):
-        head, block = re.match(HEAD, line), re.match(BLOCK, line)
+        head = re.match(HEAD, line)
         if re.match(r"(?!where)\w", line):
-            # (the prover's name of From<AllocError> is FromAllocError)
-            of_trait, of_type = ((block[1] or "").split("::")[-1] + (block[2] or ""), block[3]) if block else ("", "")
+            block = block_of(line)
         if not head:
+            continue
+        begin = rf"{head[1]}(\{{|\S.*\{{)$"
+        # (what a trait only declares ends before the next one begins)
+        after = next((it for it in lines[at:] if re.match(begin, it) or it is not line and re.match(rf"\}}|{head[1]}///|{HEAD}", it)), "")
+        if not line.endswith("}") and not re.match(begin, after):
             continue
         top = at
         while top and re.match(r" *(#\[|///)", lines[top - 1]):
             top -= 1
         end = next((i for i in range(at, len(lines)) if lines[i] == head[1] + "}" or i == at and line.endswith("}")), at)
-        body = next((i for i in range(at, end) if re.match(rf"{head[1]}(\{{|\S.*\{{)$", lines[i])), at)
+        body = next((i for i in range(at, end) if re.match(begin, lines[i])), at)
         cycle = re.search(r"#\[cycle\((\w+)\)\]", "\n".join(lines[top:at]))
-        found.append(Place(path, top + 1, end + 1, head[2], of_type, of_trait, cycle[1] if cycle else "", body + 1))
+        found.append(Place(path, top + 1, end + 1, head[2], *block, cycle[1] if cycle else "", body + 1))
     return found
 
 
@@ -186,7 +203,7 @@ def module_of(place):
 def name_of(crate, place):
     """Returns a function's name, or the end of it that the prover takes in its place: a method's type may stand in another file."""
     if place.of_type:
-        return f"{place.of_type}{place.of_trait}::{place.name}"
+        return f"{place.of_type}{place.of_args}{place.of_trait}::{place.name}"
     return "::".join([crate.name, *filter(None, module_of(place).split("/")), place.name])
 
 

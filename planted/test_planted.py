@@ -92,6 +92,39 @@ fn odd(n: u8) -> bool
     n > 0 && even(n - 1)
 }
 """
+BLOCKS = """impl Stack<Seq<u32>> {
+    pub fn add(&mut self, number: u32) {
+        self.push(number)
+    }
+}
+
+impl<T: Drop> Stack<T> {
+    pub fn len(&self) -> usize
+        ensures { result ≡ length self.now }
+    {
+        self.items.len()
+    }
+}
+
+impl<'a> fmt::Display for Stack<'a> {
+    fn fmt(&self, to: &mut Formatter<'_>) -> fmt::Result {
+        to.write_str("stack")
+    }
+}
+
+pub trait Sink {
+    /// Writes bytes.
+    fn write(&mut self, bytes: &[u8]) -> bool
+        ensures { result ≡ true };
+
+    /// Writes bytes twice.
+    final fn write_all(&mut self, bytes: &[u8]) -> bool
+        ensures { result ≡ true }
+    {
+        self.write(bytes) && self.write(bytes)
+    }
+}
+"""
 GONE = "file: src/lib.rt\nold: if a <= b { b } else { a }\nnew: a\n"
 
 
@@ -264,6 +297,14 @@ class Complaints(unittest.TestCase):
         self.assertEqual(names, ["Table::put", "ErrorFromFailed::from", "small::table::putting::even"])
         root = self.planted.functions(CODE, "src/lib.rt")[0]
         self.assertEqual(self.planted.name_of(crate, root), "small::larger")
+
+    def test_instances_and_what_a_trait_provides(self):
+        add, sized, shown, all_of = self.planted.functions(BLOCKS, "src/stack.rt")
+        crate = types.SimpleNamespace(name="small")
+        names = [self.planted.name_of(crate, it) for it in (add, sized, shown, all_of)]
+        self.assertEqual(names, ["Stack+Seq+u32::add", "Stack::len", "StackDisplay::fmt", "Sink::write_all"])
+        self.assertTrue(self.complains("./proofs/stack/temporaries/Stack+Seq+u32/add/Answers.antt:7:5", add))
+        self.assertTrue(self.complains("./proofs/stack/Sink/write_all/Answers.antt:7:5", all_of))
 
     def test_what_two_edits_can_have_caused_tells_of_none(self):
         lines = ["./proofs/table/putting/+parity/Answers.antt:7:5: error: `even-returns`: it does not follow"]
