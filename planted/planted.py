@@ -197,6 +197,7 @@ def places(crate, edit):
 
 
 def module_of(place):
+    """Returns the path of the module that the place stands in, below the crate; that of the root is empty."""
     return re.sub(r"(^|/)(lib|main|mod)$", "", place.path[len("src/") : -len(".rt")])
 
 

@@ -63,6 +63,15 @@ pub fn nothing() -> u8
 """
 SOMETHING = "file: src/lib.rt\nold: const NOTHING: u8 = 0;\nnew: const NOTHING: u8 = 1;\n"
 ALSO_NOTHING = "file: src/lib.rt\nold:     NOTHING\nnew:     if NOTHING < 1 { NOTHING } else { 0 }\n"
+CALLER = """
+/// Zero, by a call.
+pub fn again() -> u8
+    ensures { result ≡ 0 }
+{
+    zero()
+}
+"""
+SAME_CALLER = "file: src/lib.rt\nold:     zero()\nnew:     if zero() < 1 { zero() } else { 0 }\n"
 TYPES = """impl Table {
     /// Puts it.
     pub fn put(&mut self, value: u8) -> bool
@@ -229,6 +238,14 @@ class Planted(unittest.TestCase):
         status, last, said = self.tried("together", "small")
         self.assertEqual((status, last), (1, "2 refused, 1 failed"))
         self.assertIn("small/sum.edit: NOT REFUSED by small::law_two", said)
+
+    def test_a_caller_is_not_refused_for_what_it_calls(self):
+        self.write("crates/small/src/lib.rt", CODE + CALLER)
+        self.edit("one", ONE)
+        self.edit("same_caller", SAME_CALLER)
+        status, last, said = self.tried("together", "small")
+        self.assertEqual((status, last), (1, "1 refused, 1 failed"), said)
+        self.assertIn("small/same_caller.edit: NOT REFUSED", said)
 
     def test_an_edit_of_a_constant_shares_no_check(self):
         self.write("crates/small/src/lib.rt", CODE + CONSTANT)
