@@ -4,15 +4,15 @@ use Rattle.std.proofs.lemmas.Bool.{and_parts, eq-eqb, eqb-true, true≢false}
 use Rattle.std.proofs.lemmas.Option.{same_Some}
 use Rattle.std.specs.List.{AllZip, enumerate_from, flat_map, list_all, slice_get}
 use Rattle.cdi_base.specs.Maps.{at}
-use Rattle.cdi_beanlist.specs.Beans.{IsBeanOf, Source, bean_member, sources_in}
-use Rattle.cdi_beanlist.specs.declared.bean.Bean.{Bean}
-use Rattle.cdi_beanlist.specs.declared.bean.BeanKind.TheVariants as kinds
+use Rattle.cdi_beans.specs.Beans.{IsBeanOf, Source, bean_member, sources_in}
+use Rattle.cdi_beans.specs.declared.bean.Bean.{Bean}
+use Rattle.cdi_beans.specs.declared.bean.BeanKind.TheVariants as kinds
 use Rattle.cdi_deployment.specs.declared.deployment.Class.{Class}
 use Rattle.cdi_deployment.specs.declared.deployment.Constructor.{Constructor}
 use Rattle.cdi_deployment.specs.declared.deployment.Deployment.{Deployment}
-use Rattle.cdi_members.proofs.Lines.{one_line}
-use Rattle.cdi_members.specs.Line.{IsLineOf}
-use Rattle.cdi_members.specs.Members.{members_of}
+use Rattle.cdi_types.proofs.Lines.{one_line}
+use Rattle.cdi_types.specs.Line.{IsLineOf}
+use Rattle.cdi_types.specs.Members.{members_of}
 use Rattle.cdi_plans.specs.Plans.{IsManagedPlan, IsPlanOf, constructor_of, managed_plan}
 use Rattle.cdi_plans.specs.Tables.{PlanTables}
 use Rattle.cdi_plans.specs.declared.plan.ManagedPlan.{ManagedPlan}
@@ -24,7 +24,7 @@ use Rattle.cdi_run_tables.specs.Planned.{IsPlanned, IsTabled, plan_tables}
 use Rattle.cdi_run_tables.specs.Served.{is_served, is_served_bean, is_served_plan, has_texts}
 use Rattle.cdi_run_tables.specs.declared.planned.PlannedBean.{PlannedBean}
 use Rattle.cdi_run_tables.specs.declared.tables.RunTables.{RunTables}
-use Rattle.cdi_tables.specs.declared.bean_tables.BeanTables.{BeanTables}
+use Rattle.cdi_resolve.specs.declared.bean_tables.BeanTables.{BeanTables}
 use Rattle.cdi_types.specs.Declarations.{declarations_of}
 use Rattle.cdi_types.specs.declared.declaration.TypeDeclaration.{TypeDeclaration}
 use Rattle.cdi_accepted.proofs.Lists.{Among, all_pass, at_among, of_filter}

@@ -6,9 +6,9 @@ use Rattle.std.proofs.lemmas.Option.{same_Some}
 use Rattle.std.specs.List.{flat_map, list_any}
 use Rattle.cdi_base.specs.Maps.{at}
 use Rattle.cdi_bean_check.specs.Qualifiers.{full_uses}
-use Rattle.cdi_beanlist.specs.Beans.{bean_member}
-use Rattle.cdi_beanlist.specs.declared.bean.Bean.{Bean}
-use Rattle.cdi_beanlist.specs.declared.bean.BeanMember.{BeanMember}
+use Rattle.cdi_beans.specs.Beans.{bean_member}
+use Rattle.cdi_beans.specs.declared.bean.Bean.{Bean}
+use Rattle.cdi_beans.specs.declared.bean.BeanMember.{BeanMember}
 use Rattle.cdi_bodies.specs.declared.entry.Entry.{Entry}
 use Rattle.cdi_bodies.specs.declared.shape.MethodCall.{MethodCall}
 use Rattle.cdi_bodies.specs.declared.shape.Shape.{Shape}
@@ -21,8 +21,8 @@ use Rattle.cdi_deployment.specs.declared.deployment.InjectedField.{InjectedField
 use Rattle.cdi_live.specs.Live.{is_managed}
 use Rattle.cdi_machine.specs.Tables as machine
 use Rattle.cdi_machine.specs.Words.{Asked}
-use Rattle.cdi_members.specs.Line.{class_named}
-use Rattle.cdi_members.specs.Members.{members_of}
+use Rattle.cdi_types.specs.Line.{class_named}
+use Rattle.cdi_types.specs.Members.{members_of}
 use Rattle.cdi_plans.specs.declared.plan.ManagedPlan.{ManagedPlan}
 use Rattle.cdi_plans.specs.declared.plan.Step.{Step}
 use Rattle.cdi_plans.specs.declared.plan.Step.TheVariants as steps
@@ -37,7 +37,8 @@ use Rattle.cdi_run_tables.specs.Served.{is_served}
 use Rattle.cdi_run_tables.specs.declared.tables.RunTables.{RunTables}
 use Rattle.cdi_shape_check.specs.OwnParts.{declares_method, parts_of_line}
 use Rattle.cdi_shape_check.specs.References.{answers_call, bean_told, declares_called, is_call_missing, is_called, point_at, point_of_field, refuses_call}
-use Rattle.cdi_fit.specs.Fits.{AnswersThrough, HasMethod, IsClassOf, IsIn}
+use Rattle.cdi_fit.specs.Fits.{AnswersThrough, HasMethod, IsClassOf}
+use Rattle.cdi_ownership.specs.Whose.{IsIn}
 use Rattle.cdi_accepted.proofs.Acts.{IsListedCall}
 use Rattle.cdi_accepted.proofs.Beans.{HasPlan, has_plan, is_kept, stands_listed}
 use Rattle.cdi_accepted.proofs.Fields.{IsInjected, of_machine, of_steps, one_injected}

@@ -10,7 +10,7 @@ use Rattle.cdi_deployment.specs.declared.deployment.InjectedField.{InjectedField
 use Rattle.cdi_deployment.specs.declared.deployment.Interface.{Interface}
 use Rattle.cdi_deployment.specs.declared.deployment.Member.{Member}
 use Rattle.cdi_deployment.specs.declared.deployment.Member.TheVariants as members
-use Rattle.cdi_members.specs.Members.{member_name}
+use Rattle.cdi_deployment.specs.Member.{member_name}
 use Rattle.cdi_name_check.specs.DuplicateName.{HasDuplicateName, claims_of, claims_after, built_in_claims}
 use Rattle.cdi_name_check.specs.NameProblems.{AreNameProblems}
 use Rattle.cdi_name_check.specs.declared.claim.Claim.{Claim}
@@ -19,7 +19,7 @@ use Rattle.cdi_problems.specs.Elements.{Element, elements_of, class_elements, in
 use Rattle.cdi_problems.specs.Findings.{Placed, placed_after, placed}
 use Rattle.cdi_problems.specs.Words.{problems_at}
 use Rattle.cdi_problems.specs.declared.problem.ProblemKind.TheVariants as kinds
-use Rattle.cdi_reach.specs.ListsThose.{ListsThose}
+use Rattle.cdi_types.specs.ListsThose.{ListsThose}
 use Rattle.cdi_check.proofs.Accepted.{append_none, map_none, no_places}
 use Rattle.cdi_accepted.proofs.Lists.{Among, among_contains, among_flat_map, among_left, among_map}
 

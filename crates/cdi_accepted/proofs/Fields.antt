@@ -5,7 +5,7 @@ use Rattle.std.specs.List.{filter_map, list_any}
 use Rattle.cdi_base.specs.Fields.{has, put}
 use Rattle.cdi_base.specs.declared.value.Value.{Value}
 use Rattle.cdi_bean_check.specs.Repeated.{has_field as has_field_of}
-use Rattle.cdi_beanlist.specs.declared.bean.Bean.{Bean}
+use Rattle.cdi_beans.specs.declared.bean.Bean.{Bean}
 use Rattle.cdi_chains.specs.Chains.{ChainTables, interceptors_of}
 use Rattle.cdi_deployment.specs.declared.deployment.Class.{Class}
 use Rattle.cdi_deployment.specs.declared.deployment.Constructor.{Constructor}
@@ -16,7 +16,7 @@ use Rattle.cdi_deployment.specs.declared.deployment.Member.TheVariants as member
 use Rattle.cdi_deployment.specs.declared.deployment.Point.{Point}
 use Rattle.cdi_machine.specs.Words.{Asked, Fields}
 use Rattle.cdi_machine.specs.Tables as machine
-use Rattle.cdi_members.specs.Members.{comes_down, fields_of, members_of, parts_of}
+use Rattle.cdi_types.specs.Members.{comes_down, fields_of, members_of, parts_of}
 use Rattle.cdi_plans.proofs.Fronts.{same}
 use Rattle.cdi_plans.specs.Codes.{completion}
 use Rattle.cdi_plans.specs.Plans.{first_fields as fields_first}

@@ -11,3 +11,12 @@ pub mod Acts
 pub mod Calls
 pub mod Texts
 pub mod Fitting
+pub mod DeterminedLists
+pub mod OneLine
+pub mod Types
+pub mod OneBean
+pub mod BeanLists
+pub mod Findings
+pub mod Tables
+pub mod Plans
+pub mod Verdicts

@@ -10,7 +10,7 @@ use Rattle.cdi_base.specs.declared.built_in.BuiltIn.TheVariants as names
 use Rattle.cdi_deployment.specs.declared.deployment.Class.{Class}
 use Rattle.cdi_deployment.specs.declared.deployment.Deployment.{Deployment}
 use Rattle.cdi_deployment.specs.declared.deployment.Interface.{Interface}
-use Rattle.cdi_members.specs.Line.{IsLineOf, class_named}
+use Rattle.cdi_types.specs.Line.{IsLineOf, class_named}
 use Rattle.cdi_name_check.specs.NameProblems.{AreNameProblems}
 use Rattle.cdi_types.specs.Declarations.{declarations_of, of_built_in, of_class, of_interface}
 use Rattle.cdi_types.specs.Lineage.{IsLineage, superclass_of}

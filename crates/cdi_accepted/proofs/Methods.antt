@@ -5,7 +5,7 @@ use Rattle.std.proofs.lemmas.Bool.{and_parts, eqb-true}
 use Rattle.std.proofs.lemmas.Option.{same_Some}
 use Rattle.std.specs.List.{filter_map, list_any}
 use Rattle.cdi_base.specs.Maps.{at}
-use Rattle.cdi_beanlist.specs.declared.bean.Bean.{Bean}
+use Rattle.cdi_beans.specs.declared.bean.Bean.{Bean}
 use Rattle.cdi_bodies.specs.declared.entry.Entry.{Entry}
 use Rattle.cdi_body_check.specs.Shapes.{shape_of}
 use Rattle.cdi_chains.specs.Chains.{ChainTables}
@@ -17,7 +17,7 @@ use Rattle.cdi_deployment.specs.declared.deployment.Member.{Member}
 use Rattle.cdi_deployment.specs.declared.deployment.Member.TheVariants as members
 use Rattle.cdi_deployment.specs.declared.deployment.Method.{Method}
 use Rattle.cdi_machine.specs.Tables as machine
-use Rattle.cdi_members.specs.Members.{members_of}
+use Rattle.cdi_types.specs.Members.{members_of}
 use Rattle.cdi_plans.proofs.Fronts.{same}
 use Rattle.cdi_plans.specs.Codes.{business_method, member_chain, member_code}
 use Rattle.cdi_plans.specs.declared.plan.BusinessMethod.{BusinessMethod}

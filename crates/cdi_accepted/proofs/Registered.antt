@@ -4,9 +4,9 @@ use Rattle.std.specs.Prelude.{option_and_then}
 use Rattle.std.proofs.lemmas.Bool.{and_from}
 use Rattle.std.proofs.lemmas.Option.{same_Some}
 use Rattle.std.specs.List.{flat_map}
-use Rattle.cdi_beanlist.specs.Beans.{bean_member}
-use Rattle.cdi_beanlist.specs.declared.bean.Bean.{Bean}
-use Rattle.cdi_beanlist.specs.declared.bean.BeanMember.{BeanMember}
+use Rattle.cdi_beans.specs.Beans.{bean_member}
+use Rattle.cdi_beans.specs.declared.bean.Bean.{Bean}
+use Rattle.cdi_beans.specs.declared.bean.BeanMember.{BeanMember}
 use Rattle.cdi_bodies.specs.Gives.{place_of, shape_at}
 use Rattle.cdi_bodies.specs.declared.entry.Entry.{Entry}
 use Rattle.cdi_bodies.specs.declared.shape.Shape.{Shape}
@@ -19,8 +19,8 @@ use Rattle.cdi_deployment.specs.declared.deployment.Deployment.{Deployment}
 use Rattle.cdi_deployment.specs.declared.deployment.Member.TheVariants as members
 use Rattle.cdi_deployment.specs.declared.deployment.Method.{Method}
 use Rattle.cdi_live.specs.Live.{has_member}
-use Rattle.cdi_members.specs.Line.{IsLineOf}
-use Rattle.cdi_members.specs.Members.{members_of}
+use Rattle.cdi_types.specs.Line.{IsLineOf}
+use Rattle.cdi_types.specs.Members.{members_of}
 use Rattle.cdi_plans.proofs.Fronts.{same}
 use Rattle.cdi_resolve.specs.Filters.{enabled_of}
 use Rattle.cdi_run_tables.specs.Ids.{is_named}

@@ -3,14 +3,14 @@ use Rattle.std.proofs.Common.{ℕ, ◌≡◌, ◌∙◌, ◌&&◌, Bool, true, f
 use Rattle.std.specs.List.{enumerate_from, flat_map}
 use Rattle.cdi_bean_check.specs.MemberPlaces.{same_place}
 use Rattle.cdi_bean_check.specs.Repeated.{RepeatsAt, RepeatsSuperclass, has_field, has_other_member, repeated_names, repeats_at}
-use Rattle.cdi_bean_check.specs.Tiers.{AreBeanProblems}
+use Rattle.cdi_bean_rules.specs.Tiers.{AreBeanProblems}
 use Rattle.cdi_deployment.specs.declared.deployment.Class.{Class}
 use Rattle.cdi_deployment.specs.declared.deployment.Deployment.{Deployment}
 use Rattle.cdi_deployment.specs.declared.deployment.Field.{Field}
 use Rattle.cdi_deployment.specs.declared.deployment.InjectedField.{InjectedField}
 use Rattle.cdi_deployment.specs.declared.deployment.Member.{Member}
-use Rattle.cdi_members.specs.Line.{IsLineOf}
-use Rattle.cdi_members.specs.Members.{member_name}
+use Rattle.cdi_types.specs.Line.{IsLineOf}
+use Rattle.cdi_deployment.specs.Member.{member_name}
 use Rattle.cdi_plans.proofs.Fronts.{same}
 use Rattle.cdi_problems.specs.Elements.{Element, elements_of, class_elements, interceptor_elements}
 use Rattle.cdi_problems.specs.declared.problem.ProblemKind.TheVariants as kinds

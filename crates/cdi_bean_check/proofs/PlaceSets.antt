@@ -6,16 +6,11 @@ use Rattle.std.specs.HashSet.{HashSet}
 use Rattle.std.specs.List.{Contains, cons_option, list_any, filter_map}
 use Rattle.std.specs.Result.{OnOk}
 use Rattle.cdi_deployment.specs.declared.deployment.Class.{Class}
-use Rattle.cdi_deployment.specs.declared.deployment.Member.{Member}
-use Rattle.cdi_members.specs.Line.{IsLineOf}
-use Rattle.cdi_members.specs.Members.{members_of}
-use Rattle.cdi_members.proofs.Lines.{one_line}
+use Rattle.cdi_types.specs.Line.{IsLineOf}
+use Rattle.cdi_types.proofs.Lines.{one_line}
 use Rattle.cdi_quals.proofs.Pairs.{next}
 use Rattle.cdi_types.specs.declared.declaration.TypeDeclaration.{TypeDeclaration}
-use Rattle.cdi_bean_check.specs.Inherited.{AreMembersOf}
-use Rattle.cdi_bean_check.specs.ManagedBeans.{has_dependent_scope}
 use Rattle.cdi_bean_check.specs.MemberPlaces.{MemberPlace, same_place, has_place, stands_at, IsOfSome, HasPlaces, AddsPlaces}
-use Rattle.cdi_bean_check.specs.Observers.{conditional_places, HasConditionalAt}
 use Rattle.cdi_bean_check.specs.Repeated.{repeats_at, RepeatsAt}
 
 pub on_ok : {T E P Q : Type 0} (r : Result T E) → (P → Q) → OnOk r P → OnOk r Q
@@ -46,38 +41,19 @@ module _ {X S : Type 0} (Has : X → MemberPlace → Type 0) (xs : List X) (i : 
         ),
   )
 
-either : (a b : Bool) → (a || b) ≡ true → (a ≡ true) ⊎ (b ≡ true)
+pub either : (a b : Bool) → (a || b) ≡ true → (a ≡ true) ⊎ (b ≡ true)
 either true b e = inl refl
 either false b e = inr e
 
-by_first : (a b : Bool) → a ≡ true → (a || b) ≡ true
+pub by_first : (a b : Bool) → a ≡ true → (a || b) ≡ true
 by_first true b e = refl
 by_first false b e = absurd cc
 
-by_second : (a b : Bool) → b ≡ true → (a || b) ≡ true
+pub by_second : (a b : Bool) → b ≡ true → (a || b) ≡ true
 by_second true b e = refl
 by_second false b e = e
 
 module _ {S : Type 0} (classes : List Class) (types : List TypeDeclaration) (old new : HashSet MemberPlace S) where
-  -- the conditional observers of a bean of the dependent pseudo-scope
-  pub of_dependent : (bean : Class) (has : List (Class × Member)) → has_dependent_scope bean.bean ≡ true → AreMembersOf classes types bean has
-      → ((place : MemberPlace) → has_place new place ≡ (stands_at (conditional_places has) place || has_place old place))
-      → AddsPlaces (HasConditionalAt classes types bean) old new
-  of_dependent bean has dependent are is place = (
-    λ h. (elim (either (stands_at (conditional_places has) place) (has_place old place) (sym (is place) ∙ h)) [
-      | inl there ↦ inl (record { dependent = dependent; has = has; are = are; conditional = there })
-      | inr before ↦ inr before
-    ]),
-    λ s. is place ∙ (elim s [
-      | inl there ↦ (
-          let line = one_line types classes bean.name there.are.line are.line there.are.is_line are.is_line in
-          let same : there.has ≡ has = there.are.are ∙ ap members_of line ∙ sym are.are in
-          by_first (stands_at (conditional_places has) place) (has_place old place) (ap (λ ms. stands_at (conditional_places ms) place) (sym same) ∙ there.conditional)
-          )
-      | inr before ↦ by_second (stands_at (conditional_places has) place) (has_place old place) before
-    ]),
-  )
-
   one_name : (a b : ℕ) → Some a ≡ Some b → a ≡ b
   one_name a b e = cc
 

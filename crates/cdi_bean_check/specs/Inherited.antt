@@ -2,8 +2,8 @@
 use Rattle.std.specs.Prelude.{◌≡◌, List}
 use Rattle.cdi_deployment.specs.declared.deployment.Class.{Class}
 use Rattle.cdi_deployment.specs.declared.deployment.Member.{Member}
-use Rattle.cdi_members.specs.Line.{IsLineOf}
-use Rattle.cdi_members.specs.Members.{members_of}
+use Rattle.cdi_types.specs.Line.{IsLineOf}
+use Rattle.cdi_types.specs.Members.{members_of}
 use Rattle.cdi_types.specs.declared.declaration.TypeDeclaration.{TypeDeclaration}
 
 -- the members of a bean, superclass first, each with the class that declares it

@@ -1,12 +1,8 @@
 pub mod BeanTypes
 pub mod BindingLists
-pub mod Disposers
 pub mod Inherited
-pub mod Limits
 pub mod ManagedBeans
 pub mod MemberPlaces
 pub mod NameSets
-pub mod Observers
 pub mod Qualifiers
 pub mod Repeated
-pub mod Tiers

@@ -5,8 +5,8 @@ use Rattle.std.specs.List.{list_any}
 use Rattle.cdi_deployment.specs.declared.deployment.Class.{Class}
 use Rattle.cdi_deployment.specs.declared.deployment.Member.{Member}
 use Rattle.cdi_deployment.specs.declared.deployment.Member.TheVariants as members
-use Rattle.cdi_members.specs.Line.{IsLineOf}
-use Rattle.cdi_members.specs.Members.{member_name}
+use Rattle.cdi_types.specs.Line.{IsLineOf}
+use Rattle.cdi_deployment.specs.Member.{member_name}
 use Rattle.cdi_problems.specs.Elements.{Element}
 use Rattle.cdi_types.specs.declared.declaration.TypeDeclaration.{TypeDeclaration}
 use Rattle.cdi_bean_check.specs.MemberPlaces.{MemberPlace, same_place, has_place, IsOfSome}

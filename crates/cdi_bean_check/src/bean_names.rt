@@ -27,7 +27,7 @@ impl Model for BeanNames {
 }
 
 /// Whether a class is a bean.
-pub(crate) fn is_bean(class: &Class) -> bool
+pub fn is_bean(class: &Class) -> bool
     ensures { result ≡ spec.is_bean class.now }
 {
     class.bean.is_some()

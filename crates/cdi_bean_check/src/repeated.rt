@@ -3,14 +3,13 @@ ghost use Rattle.std.specs.Prelude.{◌≡◌, ◌==◌, ◌++◌, ◌||◌, map
 ghost use Rattle.std.specs.List.{list_any};
 ghost use Rattle.cdi_bean_check.specs.MemberPlaces.{MemberPlace, same_place, has_place as is_place_of, HasPlaces, AddsPlaces};
 ghost use Rattle.cdi_bean_check.specs.Repeated as spec;
-ghost use Rattle.cdi_members.specs.Members.{member_name as name_of};
+ghost use Rattle.cdi_deployment.specs.Member.{member_name as name_of};
 
 use crate::member_places::has_place;
 use cdi_base::{Name, Seq};
 use cdi_deployment::{Class, Field, InjectedField, Member};
-use cdi_members::{ClassIndex, member_name};
 use cdi_problems::{Element, Rule};
-use cdi_types::TypeTable;
+use cdi_types::{ClassIndex, TypeTable};
 use std::alloc::{AllocError, Global};
 use std::collections::HashSet;
 
@@ -63,9 +62,9 @@ fn is_alike(member: &Member, other: &Member) -> bool
 fn has_other_member(class: &Class, member: &Member) -> bool
     ensures { result ≡ spec.has_other_member member.now class.now }
 {
-    let name = member_name(member);
+    let name = member.name();
     for other in class.members.as_slice() {
-        if member_name(other) == name && !is_alike(other, member) {
+        if other.name() == name && !is_alike(other, member) {
             return true;
         }
     }
@@ -108,7 +107,7 @@ fn add_members(above: &Class, members: &[Member], names: &mut Seq<Name>) -> Resu
 {
     for member in members {
         if has_other_member(above, member) {
-            names.push(member_name(member))?;
+            names.push(member.name())?;
         }
     }
     Ok(())
@@ -219,7 +218,7 @@ impl Rule for RepeatsSuperclass<'_> {
                 has_place(self.places, class.name, field.name)
             }
             Element::Member { class, member, .. } => {
-                has_place(self.places, class.name, member_name(member))
+                has_place(self.places, class.name, member.name())
             }
             _ => false,
         }

@@ -2,7 +2,7 @@
 use Rattle.std.specs.Prelude.{◌≡◌, ◌++◌, List, map}
 use Rattle.cdi_base.specs.declared.place.Place.{Place}
 use Rattle.cdi_problems.specs.Findings.{ArePlacesWhere}
-use Rattle.cdi_reach.specs.ListsThose.{ListsThose}
+use Rattle.cdi_types.specs.ListsThose.{ListsThose}
 use Rattle.cdi_body_check.specs.Sites.{Site, place_of}
 
 -- the places of those sites for which P holds, in their order, each place once

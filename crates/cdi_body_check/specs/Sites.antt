@@ -14,7 +14,7 @@ use Rattle.cdi_deployment.specs.declared.deployment.Member.TheVariants as member
 use Rattle.cdi_deployment.specs.declared.deployment.Point.{Point}
 use Rattle.cdi_live.specs.Enabled.{Enabled}
 use Rattle.cdi_live.specs.Live.{is_live_class, is_live_member, is_live_interceptor}
-use Rattle.cdi_problems.specs.Elements.{member_name}
+use Rattle.cdi_deployment.specs.Member.{member_name}
 use Rattle.cdi_body_check.specs.declared.site.BodySite.{BodySite}
 use Rattle.cdi_body_check.specs.declared.site.BodySite.TheVariants as lent
 

@@ -7,7 +7,6 @@ ghost use Rattle.cdi_body_check.specs.Sites as spec;
 use cdi_base::{InterceptorMethod, Name, Place};
 use cdi_deployment::{Class, Constructor, Deployment, Interceptor, Member, Point};
 use cdi_live::LiveTables;
-use cdi_problems::element::member_name;
 use std::alloc::{AllocError, Global};
 
 /// Something that has a body, with the body's name.
@@ -217,7 +216,7 @@ impl<'a> BodySite<'a> {
             BodySite::Constructor { class, .. } => Place::Constructor(class.name),
             BodySite::Member { class, member, .. } => Place::Member {
                 class: class.name,
-                member: member_name(member),
+                member: member.name(),
             },
             BodySite::InterceptorMethod {
                 interceptor,
@@ -249,9 +248,7 @@ impl<'a> BodySite<'a> {
     {
         match self {
             BodySite::Constructor { class, .. } => live.has_bean(class.name),
-            BodySite::Member { class, member, .. } => {
-                live.has_member(class.name, member_name(member))
-            }
+            BodySite::Member { class, member, .. } => { live.has_member(class.name, member.name()) }
             BodySite::InterceptorMethod { interceptor, .. } => {
                 live.has_interceptor(interceptor.name)
             }

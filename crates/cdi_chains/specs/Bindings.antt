@@ -6,7 +6,7 @@ use Rattle.cdi_bean_check.specs.Qualifiers.{full_uses}
 use Rattle.cdi_deployment.specs.declared.deployment.Class.{Class}
 use Rattle.cdi_deployment.specs.declared.deployment.Member.{Member}
 use Rattle.cdi_deployment.specs.declared.deployment.Member.TheVariants as members
-use Rattle.cdi_members.specs.Members.{member_name}
+use Rattle.cdi_deployment.specs.Member.{member_name}
 use Rattle.cdi_quals.specs.Qualifiers.{same_binding}
 use Rattle.cdi_quals.specs.declared.qualifier.Qualifier.{Qualifier}
 use Rattle.cdi_quals.specs.declared.types.QualifierType.{QualifierType}

@@ -7,7 +7,6 @@ ghost use Rattle.cdi_chains.specs.Bindings as spec;
 
 use cdi_base::{Name, Seq, Use};
 use cdi_deployment::{Class, Member};
-use cdi_members::member_name;
 use cdi_quals::{Qualifier, QualifierTypes};
 use std::alloc::{AllocError, Global};
 
@@ -71,7 +70,7 @@ fn add_member(
     match bindings_of(member) {
         Some(uses) => {
             members.push(MemberBindings {
-                name: member_name(member),
+                name: member.name(),
                 bindings: full_uses(alloc, types, uses)?,
             })?;
             Ok(())

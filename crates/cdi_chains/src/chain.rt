@@ -6,7 +6,7 @@ ghost use Rattle.cdi_chains.specs.Bindings as bindings;
 ghost use Rattle.cdi_chains.specs.Chains as spec;
 
 use cdi_base::{InterceptorMethod, Seq};
-use cdi_beanlist::EnabledInterceptor;
+use cdi_beans::EnabledInterceptor;
 use cdi_quals::Qualifier;
 use std::alloc::{AllocError, Global};
 use std::marker::Model;

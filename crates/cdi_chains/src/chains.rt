@@ -9,7 +9,7 @@ ghost use Rattle.cdi_chains.specs.Chains as spec;
 use crate::bindings::{ClassBindings, MemberBindings, bindings_of_classes};
 use crate::chain::{Chain, is_bound};
 use cdi_base::{InterceptorMethod, Name, Seq};
-use cdi_beanlist::{Bean, BeanMember, EnabledInterceptor};
+use cdi_beans::{Bean, BeanMember, EnabledInterceptor};
 use cdi_deployment::Deployment;
 use cdi_quals::{Qualifier, QualifierTypes};
 use std::alloc::{AllocError, Global};

@@ -2,7 +2,7 @@
 ghost use Rattle.std.specs.Prelude.{◌≡◌, ℕ, List};
 ghost use Rattle.std.specs.List.Sorted.{IsStrictlyIncreasing};
 ghost use Rattle.cdi_base.specs.declared.place.InterceptorMethod.{InterceptorMethod};
-ghost use Rattle.cdi_beanlist.specs.declared.bean.EnabledInterceptor.{EnabledInterceptor};
+ghost use Rattle.cdi_beans.specs.declared.bean.EnabledInterceptor.{EnabledInterceptor};
 ghost use Rattle.cdi_quals.specs.declared.qualifier.Qualifier.{Qualifier};
 ghost use Rattle.cdi_chains.specs.Chains.{chain_of};
 

@@ -5,11 +5,11 @@ use Rattle.cdi_bodies.specs.declared.shape.Shape.{Shape}
 use Rattle.cdi_body_check.specs.CheckedLifecycle.{HasCheckedLifecycle}
 use Rattle.cdi_body_check.specs.ProceedNotAllowed.{HasProceedNotAllowed}
 use Rattle.cdi_body_check.specs.UnknownBody.{HasUnknownBody}
-use Rattle.cdi_cycle_check.specs.Cycles.{HasDependentCycle}
-use Rattle.cdi_cycle_check.specs.OwnPoints.{Setting}
+use Rattle.cdi_live.specs.Cycles.{HasDependentCycle}
+use Rattle.cdi_live.specs.OwnPoints.{Setting}
 use Rattle.cdi_deployment.specs.declared.deployment.Deployment.{Deployment}
 use Rattle.cdi_enable.specs.Enablement.{Enablement}
-use Rattle.cdi_point_check.specs.declared.problem.PointProblem.TheVariants as points
+use Rattle.cdi_live.specs.declared.point_problem.PointProblem.TheVariants as points
 use Rattle.cdi_problems.specs.Elements.{Element, elements_of}
 use Rattle.cdi_problems.specs.Findings.{ArePlacesOf}
 use Rattle.cdi_problems.specs.Words.{problems_at}

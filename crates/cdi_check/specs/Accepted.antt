@@ -1,21 +1,21 @@
 -- What holds of an accepted deployment, on which its container relies.
 use Rattle.std.specs.Prelude.{ℕ, ◌≡◌, Bool, List, Option, IsTrue, IsSome}
 use Rattle.std.specs.List.{All}
-use Rattle.cdi_beanlist.specs.Problems.{IsMadeOf}
-use Rattle.cdi_beanlist.specs.declared.bean.BeanList.{BeanList}
+use Rattle.cdi_beans.specs.Problems.{IsMadeOf}
+use Rattle.cdi_beans.specs.declared.bean.BeanList.{BeanList}
 use Rattle.cdi_bodies.specs.declared.shape.Shape.{Shape}
 use Rattle.cdi_body_check.specs.CheckedLifecycle.{HasCheckedLifecycle}
 use Rattle.cdi_body_check.specs.ProceedNotAllowed.{HasProceedNotAllowed}
 use Rattle.cdi_body_check.specs.Sites.{Site, sites_of, is_live, body_of}
-use Rattle.cdi_cycle_check.specs.Cycles.{HasDependentCycle}
-use Rattle.cdi_cycle_check.specs.OwnPoints.{Setting}
+use Rattle.cdi_live.specs.Cycles.{HasDependentCycle}
+use Rattle.cdi_live.specs.OwnPoints.{Setting}
 use Rattle.cdi_deployment.specs.declared.deployment.Deployment.{Deployment}
 use Rattle.cdi_deployment.specs.declared.deployment.Point.{Point}
 use Rattle.cdi_enable.specs.Enablement.{Enablement, enablement_of, AreFlags}
 use Rattle.cdi_live.specs.Enabled.{Enabled}
-use Rattle.cdi_point_check.specs.PointProblems.{resolved, HasPointProblem}
-use Rattle.cdi_point_check.specs.Points.{points_of, IsLive}
-use Rattle.cdi_point_check.specs.declared.problem.PointProblem.TheVariants as points
+use Rattle.cdi_live.specs.PointProblems.{resolved, HasPointProblem}
+use Rattle.cdi_live.specs.Points.{points_of, IsLive}
+use Rattle.cdi_live.specs.declared.point_problem.PointProblem.TheVariants as points
 use Rattle.cdi_problems.specs.Elements.{Element, elements_of}
 use Rattle.cdi_quals.specs.Types.{AreQualifiersOf, AreTypesOf}
 use Rattle.cdi_quals.specs.declared.types.QualifierType.{QualifierType}

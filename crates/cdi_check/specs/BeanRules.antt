@@ -2,7 +2,7 @@
 -- Resolution).
 use Rattle.std.specs.Prelude.{◌&&◌, Bool, IsTrue}
 use Rattle.std.specs.List.{list_any}
-use Rattle.cdi_beanlist.specs.declared.bean.Bean.{Bean}
+use Rattle.cdi_beans.specs.declared.bean.Bean.{Bean}
 use Rattle.cdi_chains.specs.Chains.{ChainTables, intercepts}
 use Rattle.cdi_enable.specs.Enablement.{Enablement, IsInconsistentBean, bean_of_class}
 use Rattle.cdi_live.specs.Enabled.{Enabled}

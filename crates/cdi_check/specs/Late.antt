@@ -1,8 +1,8 @@
 -- The last tier of problems: those of a deployment whose names and beans have none.
 use Rattle.std.specs.Prelude.{ℕ, ◌≡◌, ◌++◌, Bool, List, Option, map}
 use Rattle.cdi_base.specs.declared.place.Place.{Place}
-use Rattle.cdi_beanlist.specs.Problems.{IsMadeOf}
-use Rattle.cdi_beanlist.specs.declared.bean.BeanList.{BeanList}
+use Rattle.cdi_beans.specs.Problems.{IsMadeOf}
+use Rattle.cdi_beans.specs.declared.bean.BeanList.{BeanList}
 use Rattle.cdi_bodies.specs.declared.shape.Shape.{Shape}
 use Rattle.cdi_body_check.specs.CheckedLifecycle.{HasCheckedLifecycle}
 use Rattle.cdi_body_check.specs.Findings.{ArePlacesOf as AreSitesOf}
@@ -10,13 +10,13 @@ use Rattle.cdi_body_check.specs.ProceedNotAllowed.{HasProceedNotAllowed}
 use Rattle.cdi_body_check.specs.Sites.{Site, sites_of}
 use Rattle.cdi_body_check.specs.UnknownBody.{HasUnknownBody}
 use Rattle.cdi_chains.specs.Bindings.{class_bindings}
-use Rattle.cdi_cycle_check.specs.Cycles.{HasDependentCycle}
-use Rattle.cdi_cycle_check.specs.OwnPoints.{Setting}
+use Rattle.cdi_live.specs.Cycles.{HasDependentCycle}
+use Rattle.cdi_live.specs.OwnPoints.{Setting}
 use Rattle.cdi_deployment.specs.declared.deployment.Deployment.{Deployment}
 use Rattle.cdi_enable.specs.Enablement.{Enablement, enablement_of, AreFlags}
-use Rattle.cdi_point_check.specs.PointProblems.{HasPointProblem}
-use Rattle.cdi_point_check.specs.declared.problem.PointProblem.{PointProblem}
-use Rattle.cdi_point_check.specs.declared.problem.PointProblem.TheVariants as points
+use Rattle.cdi_live.specs.PointProblems.{HasPointProblem}
+use Rattle.cdi_live.specs.declared.point_problem.PointProblem.{PointProblem}
+use Rattle.cdi_live.specs.declared.point_problem.PointProblem.TheVariants as points
 use Rattle.cdi_problems.specs.Elements.{Element, elements_of}
 use Rattle.cdi_problems.specs.Findings.{ArePlacesOf}
 use Rattle.cdi_problems.specs.Words.{problems_at}

@@ -5,7 +5,7 @@ ghost use Rattle.cdi_check.specs.BeanRules as spec;
 ghost use Rattle.cdi_live.specs.Live.{is_bean_of};
 
 use cdi_base::Name;
-use cdi_beanlist::Bean;
+use cdi_beans::Bean;
 use cdi_chains::Chains;
 use cdi_enable::EnabledSet;
 use cdi_live::{EnabledBean, LiveTables};

@@ -2,12 +2,12 @@
 ghost use Rattle.std.specs.Prelude.{◌≡◌, ◌++◌, IfOk, OnOk};
 ghost use Rattle.cdi_bodies.specs.Table.{entries_of};
 ghost use Rattle.cdi_body_check.specs.Shapes.{shape_of};
-ghost use Rattle.cdi_point_check.specs.PointProblems.{HasPointProblem};
+ghost use Rattle.cdi_live.specs.PointProblems.{HasPointProblem};
 ghost use Rattle.cdi_problems.specs.Elements.{elements_of, shown};
 ghost use Rattle.cdi_problems.specs.Findings.{ArePlacesOf};
 ghost use Rattle.cdi_problems.specs.Words.{problems_at};
 ghost use Rattle.cdi_check.specs.Late as spec;
-ghost use Rattle.cdi_cycle_check.specs.Settings.{setting_of};
+ghost use Rattle.cdi_live.specs.Settings.{setting_of};
 
 use crate::bean_rules::{FinalIntercepted, InconsistentSpecialization};
 use crate::tables::LateTables;
@@ -16,9 +16,8 @@ use cdi_bodies::Bodies;
 use cdi_body_check::{
     BodyTables, DeclaredExceptions, checked_lifecycles, proceeds_not_allowed, unknown_bodies,
 };
-use cdi_cycle_check::dependent_cycles;
+use cdi_live::{PointProblem, PointRule, dependent_cycles};
 use cdi_name_check::DeclaredNames;
-use cdi_point_check::{PointProblem, PointRule};
 use cdi_problems::{Element, Problem, ProblemKind, elements_of as all_elements, places_where};
 use cdi_shape_check::{ApplicationTables, ShapeTables, bodies_outside_shape};
 use std::alloc::{AllocError, Global};

@@ -9,13 +9,11 @@ ghost use Rattle.cdi_types.specs.Declarations.{declarations_of};
 use crate::tables::LateTables;
 use cdi_base::Seq;
 use cdi_bodies::Bodies;
-use cdi_cycle_check::CycleTables;
 use cdi_deployment::Deployment;
-use cdi_live::LiveTables;
-use cdi_members::ClassIndex;
-use cdi_point_check::PointTables;
+use cdi_live::{CycleTables, LiveTables, PointTables};
 use cdi_problems::Problem;
-use cdi_tables::BeanTables;
+use cdi_resolve::BeanTables;
+use cdi_types::ClassIndex;
 use std::alloc::{AllocError, Global};
 
 /// The last tier of problems, by these tables and by what is live.

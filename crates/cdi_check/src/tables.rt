@@ -3,11 +3,11 @@ ghost use Rattle.std.specs.Prelude.{◌≡◌};
 ghost use Rattle.cdi_types.specs.Declarations.{declarations_of};
 
 use cdi_base::Seq;
-use cdi_beanlist::DisposerMethod;
+use cdi_beans::DisposerMethod;
 use cdi_chains::Chains;
-use cdi_cycle_check::CycleTables;
 use cdi_deployment::Deployment;
 use cdi_enable::EnabledSet;
+use cdi_live::CycleTables;
 use cdi_quals::QualifierTypes;
 use cdi_resolve::Resolver;
 use cdi_types::TypeTable;

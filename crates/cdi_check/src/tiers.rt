@@ -1,20 +1,20 @@
 //! All problems of a deployment with its registered bodies.
 ghost use Rattle.std.specs.Prelude.{IfOk};
-ghost use Rattle.cdi_beanlist.specs.Problems.{IsMadeOf};
+ghost use Rattle.cdi_beans.specs.Problems.{IsMadeOf};
 ghost use Rattle.cdi_bodies.specs.Table.{entries_of};
 ghost use Rattle.cdi_body_check.specs.Shapes.{shape_of};
 ghost use Rattle.cdi_check.specs.Late.{AreLateProblems, AreProblemsIn};
 ghost use Rattle.cdi_check.specs.Problems.{AreProblemsOf};
 ghost use Rattle.cdi_check.specs.Tables.{setting_by};
-ghost use Rattle.cdi_tables.specs.BeanTables.{AreTablesOf};
+ghost use Rattle.cdi_resolve.specs.BeanTables.{AreTablesOf};
 
 use crate::settings::problems_by;
 use cdi_base::{OrMemory, Seq};
-use cdi_beanlist::BeanList;
+use cdi_beans::BeanList;
 use cdi_bodies::Bodies;
 use cdi_deployment::Deployment;
 use cdi_problems::Problem;
-use cdi_tables::BeanTables;
+use cdi_resolve::BeanTables;
 use std::alloc::{AllocError, Global};
 
 /// The last tier of problems of a deployment whose names and beans have none, by its tables: those that look at what is enabled. They

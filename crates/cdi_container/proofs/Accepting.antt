@@ -16,7 +16,7 @@ use Rattle.cdi_run_tables.specs.Served.{is_served, serves_shapes}
 use Rattle.cdi_run_tables.specs.Sizes.{is_small}
 use Rattle.cdi_run_tables.specs.declared.tables.RunTables.{RunTables}
 use Rattle.cdi_runtime.specs.Knowing.{KnowsServed}
-use Rattle.cdi_tables.specs.declared.bean_tables.BeanTables.{BeanTables}
+use Rattle.cdi_resolve.specs.declared.bean_tables.BeanTables.{BeanTables}
 use Rattle.cdi_container.specs.Accepted.{AreTablesWith, IsAccepted, serves}
 
 module _ {X : Type 0} {F : X → Type 0} {g : _} (entries : List (Entry X F g)) where

@@ -4,7 +4,7 @@ use Rattle.cdi_base.specs.declared.command.Command.{Command}
 use Rattle.cdi_base.specs.declared.reply.Reply.{Reply}
 use Rattle.cdi_base.specs.declared.reply.Reply.TheVariants as replies
 use Rattle.cdi_text.specs.Command.{is_served}
-use Rattle.cdi_text.specs.Places.{name_text}
+use Rattle.cdi_problems.specs.Places.{name_text}
 use Rattle.cdi_machine.specs.Tables as machine
 use Rattle.cdi_machine.specs.Runs.{Legal}
 use Rattle.cdi_run_tables.specs.Machine.{machine_tables}

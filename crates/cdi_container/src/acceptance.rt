@@ -1,7 +1,7 @@
 //! Which deployments a container is started for.
 ghost use Rattle.std.specs.Prelude.{◌≡◌, [], true, IfOk, IfErr};
 ghost use Rattle.cdi_base.specs.declared.or_memory.OrMemory.TheVariants.{Fault};
-ghost use Rattle.cdi_beanlist.specs.Problems.{IsMadeOf};
+ghost use Rattle.cdi_beans.specs.Problems.{IsMadeOf};
 ghost use Rattle.cdi_bodies.specs.Table.{entries_of};
 ghost use Rattle.cdi_body_check.specs.Shapes.{shape_of};
 ghost use Rattle.cdi_check.specs.Late.{AreProblemsIn};
@@ -9,16 +9,16 @@ ghost use Rattle.cdi_check.specs.Tables.{setting_by};
 ghost use Rattle.cdi_container.specs.Accepted as spec;
 ghost use Rattle.cdi_container.specs.declared.acceptance.Unaccepted.TheVariants.{Problems};
 
-use cdi_accepted::laws::law_fits;
+use cdi_accepted::fitting_laws::law_fits;
 use cdi_base::{Names, OrMemory, Seq};
-use cdi_beanlist::BeanList;
+use cdi_beans::BeanList;
 use cdi_bodies::Bodies;
 use cdi_check::late_problems;
 use cdi_deployment::Deployment;
 use cdi_problems::Problem;
+use cdi_resolve::BeanTables;
 use cdi_run_tables::RunTables;
 use cdi_runtime::laws::law_knows_methods;
-use cdi_tables::BeanTables;
 use std::alloc::Global;
 
 /// Why a deployment isn't accepted.

@@ -15,7 +15,7 @@ ghost use Rattle.cdi_base.specs.declared.reply.Reply.TheVariants.{Refused};
 use crate::asked::call_for;
 use crate::reply::{cause, has_value, reply_of};
 use cdi_base::{Cause, Command, Limits, Names, Refusal, Reply, Text};
-use cdi_engine::run::run;
+use cdi_frames::run::run;
 use cdi_machine::Driver;
 use cdi_run_tables::RunTables;
 use cdi_runtime::Runtime;

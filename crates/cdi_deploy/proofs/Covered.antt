@@ -22,7 +22,7 @@ use Rattle.cdi_form.specs.Keys.{is_met, are_listed, has_required, has_right_keys
 use Rattle.cdi_form.specs.HasForm.{HasItem, HasMember}
 use Rattle.cdi_form.specs.NamePlaces.{StandsAsName, itself, used, given, in_items, in_object}
 use Rattle.cdi_form.specs.Shape.{here_unless, or_else, under, at_part, wrong, wrong_items, wrong_members}
-use Rattle.cdi_json.specs.Forms.{use_in, members_in, value_in}
+use Rattle.cdi_form.specs.ValueForms.{use_in, members_in, value_in}
 use Rattle.serde_json.specs.Data.{Data, null, boolean, number, string, array, object, Items, no_items, item, Members, no_members, member}
 use Rattle.serde_json.specs.Find.{get, get_member}
 use Rattle.cdi_deploy.specs.Items.{each, name_in, names_in, member_value, nameless, numbered, use_in_table}

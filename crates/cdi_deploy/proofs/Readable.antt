@@ -9,7 +9,7 @@ use Rattle.cdi_form.specs.Numbers.{numbers_fit}
 use Rattle.cdi_form.specs.Shape.{wrong}
 use Rattle.cdi_form.proofs.Forms.{form-of, nothing_wrong}
 use Rattle.cdi_form.proofs.NamePlaces.{is_name-of_fitting, names_fit-of}
-use Rattle.cdi_json.specs.Json.{json_in}
+use Rattle.cdi_form.specs.Json.{json_in}
 use Rattle.serde_json.specs.Data.{Data}
 use Rattle.cdi_deploy.specs.declared.fault.ReadFault.{ReadFault}
 use Rattle.cdi_deployment.specs.declared.deployment.Deployment.{Deployment}

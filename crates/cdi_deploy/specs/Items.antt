@@ -10,7 +10,7 @@ use Rattle.cdi_stage.specs.Stage.{whole}
 use Rattle.cdi_form.specs.declared.form.Kind.{Kind}
 use Rattle.cdi_form.specs.declared.form.Kind.TheVariants as kinds
 use Rattle.cdi_form.specs.Words.{member_kind}
-use Rattle.cdi_json.specs.Forms.{use_in}
+use Rattle.cdi_form.specs.ValueForms.{use_in}
 use Rattle.serde_json.specs.Data.{Data, Items, no_items, item}
 use Rattle.serde_json.specs.Find.{get}
 use Rattle.cdi_deployment.specs.declared.deployment.AnnotationType.{AnnotationType}

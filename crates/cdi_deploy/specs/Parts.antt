@@ -7,7 +7,7 @@ use Rattle.cdi_base.specs.declared.value.Value.{Value}
 use Rattle.cdi_base.specs.declared.value.Value.TheVariants as values
 use Rattle.cdi_stage.specs.Stage.{whole}
 use Rattle.cdi_form.specs.Words.{scope_named}
-use Rattle.cdi_json.specs.Forms.{value_in}
+use Rattle.cdi_form.specs.ValueForms.{value_in}
 use Rattle.serde_json.specs.Data.{Num, unsigned, Data, null, boolean, number, string, array, Items, no_items}
 use Rattle.serde_json.specs.Find.{as_i64}
 

@@ -5,7 +5,7 @@ use Rattle.cdi_base.specs.Name.{is_name}
 use Rattle.cdi_form.specs.HasForm.{HasForm}
 use Rattle.cdi_form.specs.NamePlaces.{StandsAsName}
 use Rattle.cdi_form.specs.Numbers.{numbers_fit}
-use Rattle.cdi_json.specs.Json.{json_in}
+use Rattle.cdi_form.specs.Json.{json_in}
 use Rattle.serde_json.specs.Data.{Data}
 use Rattle.cdi_deploy.specs.Items.{lists_in}
 use Rattle.cdi_deployment.specs.Limits.{is_within}

@@ -11,7 +11,7 @@ use Rattle.cdi_form.specs.declared.form.Part.TheVariants as parts
 use Rattle.cdi_form.specs.Names.{names_fit}
 use Rattle.cdi_form.specs.Numbers.{numbers_fit}
 use Rattle.cdi_form.specs.Shape.{wrong}
-use Rattle.cdi_json.specs.Json.{json_in}
+use Rattle.cdi_form.specs.Json.{json_in}
 use Rattle.serde_json.specs.Data.{Data}
 use Rattle.cdi_deploy.specs.declared.fault.ReadFault.{ReadFault}
 use Rattle.cdi_deploy.specs.declared.fault.ReadFault.TheVariants as faults

@@ -8,7 +8,7 @@ ghost use Rattle.cdi_deploy.specs.Items.{name_in, names_in, use_in_table};
 
 use crate::parts::{list_at, list_in, text_at, text_in};
 use cdi_base::{MemberValue, Name, Names, Seq, Text, Use, WrittenMember, WrittenUse};
-use cdi_json::Form;
+use cdi_form::Form;
 use serde_json::Value as Json;
 use std::alloc::{AllocError, Global};
 

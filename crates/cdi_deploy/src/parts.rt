@@ -7,9 +7,9 @@ ghost use Rattle.cdi_deploy.specs.Parts as spec;
 
 use cdi_base::{Scope, Value};
 use cdi_deployment::Steps;
+use cdi_form::Form;
 use cdi_form::shape::MAX_ARGUMENTS;
 use cdi_form::words::scope_named;
-use cdi_json::Form;
 use cdi_stage::WHOLE;
 use serde_json::Value as Json;
 use std::alloc::{AllocError, Global};

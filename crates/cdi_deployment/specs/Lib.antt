@@ -1,3 +1,4 @@
 pub mod DataCode
 pub mod Limits
 pub mod KnownNames
+pub mod Member

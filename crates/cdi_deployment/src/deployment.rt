@@ -1,5 +1,6 @@
 //! A deployment: what an application declares (Jakarta CDI 4.0, *Concepts*).
 ghost use Rattle.std.specs.Prelude.{◌≡◌};
+ghost use Rattle.cdi_deployment.specs.Member.{member_name};
 
 use crate::steps::Steps;
 use cdi_base::{Name, Names, Scope, Seq, Use, Value};
@@ -214,6 +215,24 @@ pub enum Member {
     Disposer(Disposer),
     /// An observer method (Jakarta CDI 4.0, *Observer methods*).
     Observer(Observer),
+}
+
+impl Member {
+    /// The name of the member.
+    pub fn name(&self) -> Name
+        ensures { result ≡ member_name self.now }
+    {
+        match self {
+            Member::Method(method) => method.name,
+            Member::Initializer(initializer) => initializer.name,
+            Member::PostConstruct(callback) => callback.name,
+            Member::PreDestroy(callback) => callback.name,
+            Member::Producer(producer) => producer.name,
+            Member::ProducerField(producer) => producer.name,
+            Member::Disposer(disposer) => disposer.name,
+            Member::Observer(observer) => observer.name,
+        }
+    }
 }
 
 /// A business method.

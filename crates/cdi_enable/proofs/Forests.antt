@@ -10,7 +10,7 @@ use Rattle.cdi_deployment.specs.declared.deployment.Class.{Class}
 use Rattle.cdi_deployment.specs.declared.deployment.Deployment.{Deployment}
 use Rattle.cdi_deployment.specs.declared.deployment.Member.{Member}
 use Rattle.cdi_quals.specs.declared.types.QualifierType.{QualifierType}
-use Rattle.cdi_reach.specs.Graph.{targets_of, Path}
+use Rattle.cdi_types.specs.Graph.{targets_of, Path}
 use Rattle.cdi_types.specs.Declarations.{of_class}
 use Rattle.cdi_types.specs.Subtype.{IsAcyclic}
 use Rattle.cdi_types.proofs.Listed.{not_in_none, first_or_later}
@@ -18,11 +18,11 @@ use Rattle.cdi_types.proofs.Steps.{steps_of}
 use Rattle.cdi_name_check.proofs.SoundTypes.{sound_types}
 use Rattle.cdi_bean_check.specs.ManagedBeans.{is_bean}
 use Rattle.cdi_bean_check.specs.Qualifiers.{specialized_bean}
-use Rattle.cdi_beanlist.specs.Beans.{Source, IsBeanOf, products_in, sources_in}
-use Rattle.cdi_beanlist.specs.Problems.{IsMadeOf}
-use Rattle.cdi_beanlist.specs.declared.bean.Bean.{Bean}
-use Rattle.cdi_beanlist.specs.declared.bean.BeanList.{BeanList}
-use Rattle.cdi_beanlist.proofs.Specialized.{acyclic_classes, steps-fall_specialized}
+use Rattle.cdi_beans.specs.Beans.{Source, IsBeanOf, products_in, sources_in}
+use Rattle.cdi_beans.specs.Problems.{IsMadeOf}
+use Rattle.cdi_beans.specs.declared.bean.Bean.{Bean}
+use Rattle.cdi_beans.specs.declared.bean.BeanList.{BeanList}
+use Rattle.cdi_beans.proofs.Specialized.{acyclic_classes, steps-fall_specialized}
 use Rattle.cdi_enable.specs.declared.managed_bean.ManagedBean.{ManagedBean}
 use Rattle.cdi_enable.specs.Enabled.{graph_of, IsForest}
 use Rattle.cdi_enable.specs.Enablement.{is_managed, managed_beans, classes_of, bean_of_class, managed_bean, enablement_of}

@@ -1,10 +1,10 @@
 -- Which beans of a bean list are enabled (Jakarta CDI 4.0, Enabled and disabled beans).
 use Rattle.std.specs.Prelude.{ℕ, ◌≡◌, ◌==◌, ◌||◌, Bool, true, false, List, filter, length, map, position, slice_get, slice_index_or, Option, Some, None, is_some, option_and_then, if◌then◌else◌}
 use Rattle.std.specs.List.{list_any}
-use Rattle.cdi_beanlist.specs.declared.bean.Bean.{Bean}
-use Rattle.cdi_beanlist.specs.declared.bean.BeanKind.{BeanKind}
-use Rattle.cdi_beanlist.specs.declared.bean.BeanKind.TheVariants as kinds
-use Rattle.cdi_beanlist.specs.declared.bean.BeanList.{BeanList}
+use Rattle.cdi_beans.specs.declared.bean.Bean.{Bean}
+use Rattle.cdi_beans.specs.declared.bean.BeanKind.{BeanKind}
+use Rattle.cdi_beans.specs.declared.bean.BeanKind.TheVariants as kinds
+use Rattle.cdi_beans.specs.declared.bean.BeanList.{BeanList}
 use Rattle.cdi_enable.specs.Enabled.{Enabled, IsInconsistent as IsInconsistentManaged}
 use Rattle.cdi_enable.specs.declared.listed_bean.ListedBean.{ListedBean}
 use Rattle.cdi_enable.specs.declared.managed_bean.ManagedBean.{ManagedBean}

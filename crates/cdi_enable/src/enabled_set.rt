@@ -8,7 +8,7 @@ use crate::enabled_managed::EnabledManaged;
 use crate::listed_bean::ListedBean;
 use crate::managed_beans::{listed_beans, managed_beans, managed_classes};
 use cdi_base::{Name, Seq};
-use cdi_beanlist::BeanList;
+use cdi_beans::BeanList;
 use std::alloc::{AllocError, Global};
 use std::marker::Model;
 

@@ -1,7 +1,7 @@
 //! Laws of enablement, over the definitions alone.
 ghost use Rattle.std.specs.Prelude.{◌≡◌, ◌↔◌, ◌<◌, ◌≤◌, ◌++◌, ℕ, List, Bool, true, length};
-ghost use Rattle.cdi_beanlist.specs.Problems.{IsMadeOf};
-ghost use Rattle.cdi_beanlist.specs.declared.bean.BeanList.{BeanList};
+ghost use Rattle.cdi_beans.specs.Problems.{IsMadeOf};
+ghost use Rattle.cdi_beans.specs.declared.bean.BeanList.{BeanList};
 ghost use Rattle.cdi_deployment.specs.declared.deployment.Deployment.{Deployment};
 ghost use Rattle.cdi_enable.specs.Enabled.{Enabled, IsForest, Specializes};
 ghost use Rattle.cdi_enable.specs.Enablement.{enablement_of};

@@ -3,7 +3,7 @@ ghost use Rattle.std.specs.Prelude.{◌≡◌};
 ghost use Rattle.cdi_enable.specs.Enablement as spec;
 
 use cdi_base::Name;
-use cdi_beanlist::{Bean, BeanKind};
+use cdi_beans::{Bean, BeanKind};
 
 /// Where a bean is declared.
 #[derive(Clone, Copy, Debug, PartialEq, Eq)]

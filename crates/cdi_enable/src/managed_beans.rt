@@ -7,7 +7,7 @@ use crate::class_places::ClassPlaces;
 use crate::listed_bean::{ListedBean, is_managed, listed_bean};
 use crate::managed_bean::ManagedBean;
 use cdi_base::{Name, Seq};
-use cdi_beanlist::Bean;
+use cdi_beans::Bean;
 use std::alloc::{AllocError, Global};
 
 /// The classes of the managed ones of some beans, in their order.

@@ -20,11 +20,12 @@ use Rattle.cdi_machine.specs.Tables.{Tables, Managed}
 use Rattle.cdi_machine.specs.World.{World, Change, after_change}
 use Rattle.cdi_machine.specs.Creation.{first_fields}
 use Rattle.cdi_machine.specs.Runs.{Legal}
-use Rattle.cdi_fit.specs.Fits.{IsIn, IsClassOf, IsServedBean}
-use Rattle.cdi_fit.specs.Left.{IsHeld}
-use Rattle.cdi_fit.proofs.Maps.{at_added, at_before}
-use Rattle.cdi_fit.proofs.Lists.{Tested, HasTop}
-use Rattle.cdi_fit.proofs.Contexts.{StillMaking, IsFree, free_none, put_making, held_put, making_put, AllHeld, all_held_map, all_held_put}
+use Rattle.cdi_fit.specs.Fits.{IsClassOf, IsServedBean}
+use Rattle.cdi_ownership.specs.Whose.{IsIn}
+use Rattle.cdi_ownership.specs.Whose.{IsHeld}
+use Rattle.cdi_ownership.proofs.Maps.{at_added, at_before}
+use Rattle.cdi_ownership.proofs.Lists.{Tested, HasTop}
+use Rattle.cdi_ownership.proofs.Holdings.{StillMaking, IsFree, free_none, put_making, held_put, making_put, AllHeld, all_held_map, all_held_put}
 use Rattle.cdi_fit.proofs.Whole.{IsServedOwner, IsWhole, AllWhole, Stands, IsOwned, Refers, HeldBy, Good, placed_map, IsPlaced}
 use Rattle.cdi_fit.proofs.Frames.{Any, Other, Keeps, keeps_less, owned_then, stands_then, AfterOf, Changed, WasSo}
 use Rattle.cdi_fit.proofs.Settling.{HasPlace, Apart}

@@ -28,7 +28,7 @@ use Rattle.cdi_machine.specs.Contexts.{reach_instance}
 use Rattle.cdi_machine.specs.Bodies.{invocation_at_start, body_at_start, given_by, run_rest, run_body, reference_at, bean_of, method_in, method_of, invoke_method, carry_out, answer_of, with_answer, perform, carry_on}
 use Rattle.cdi_machine.specs.Runs.{Legal}
 use Rattle.cdi_fit.specs.Fits.{HasMethod, IsClassOf, IsPointedTo, AnswersThrough, IsServedAct, IsServedBean, Fits}
-use Rattle.cdi_fit.proofs.Maps.{all_weaker, all_last}
+use Rattle.cdi_ownership.proofs.Maps.{all_weaker, all_last}
 use Rattle.cdi_fit.proofs.Whole.{IsWhole, Refers, Good}
 use Rattle.cdi_fit.proofs.Frames.{Any, After, after_self, after_trans}
 use Rattle.cdi_fit.proofs.Parts.{assigned}

@@ -21,8 +21,8 @@ use Rattle.cdi_machine.specs.Commands.{Command, task, close, use_bean, requests_
 use Rattle.cdi_machine.specs.Runs.{Legal}
 use Rattle.cdi_fit.specs.Fits.{IsServedBean, Fits}
 use Rattle.cdi_fit.specs.Missing.{IsAdmitted}
-use Rattle.cdi_fit.proofs.Lists.{HasTop, has_top}
-use Rattle.cdi_fit.proofs.Contexts.{NoneHeld}
+use Rattle.cdi_ownership.proofs.Lists.{HasTop, has_top}
+use Rattle.cdi_ownership.proofs.Holdings.{NoneHeld}
 use Rattle.cdi_fit.proofs.Whole.{Good}
 use Rattle.cdi_fit.proofs.Frames.{Any, After, Leaves, Settles, settles_trans, after_self, after_trans, leaves_trans, leaves_after}
 use Rattle.cdi_fit.proofs.Parts.{borrows, returns, finishes, closes}

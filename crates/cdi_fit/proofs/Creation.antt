@@ -14,7 +14,6 @@ use Rattle.cdi_store.specs.declared.instance.Instance.{Instance}
 use Rattle.cdi_store.specs.declared.references.Reference.{Reference}
 use Rattle.cdi_store.specs.declared.references.Reference.TheVariants.{Direct, Proxy}
 use Rattle.cdi_store.specs.declared.references.Reference.TheVariants.{Empty as NoReference}
-use Rattle.cdi_store.specs.Live.{Instances}
 use Rattle.cdi_store.proofs.Numbers.{equal_or_not}
 use Rattle.cdi_machine.specs.Words.{Name, Asked}
 use Rattle.cdi_machine.specs.Tables.{Tables, Step, Managed, One}
@@ -23,9 +22,10 @@ use Rattle.cdi_machine.specs.Programs.{Task, Given, Completion, Gave, Threw, Pro
 use Rattle.cdi_machine.specs.Contexts.{refer_to, resolve_point}
 use Rattle.cdi_machine.specs.Creation.{first_fields, inject, take_step, make, create, end_creation, make_ready, discard}
 use Rattle.cdi_machine.specs.Runs.{Legal}
-use Rattle.cdi_fit.specs.Fits.{IsIn, IsInjection, IsClassOf, IsPointedTo, HasText, IsServedBean, Fits}
-use Rattle.cdi_fit.proofs.Lists.{Tested, has_top}
-use Rattle.cdi_fit.proofs.Contexts.{IsMaking, free_apart}
+use Rattle.cdi_fit.specs.Fits.{IsInjection, IsClassOf, IsPointedTo, HasText, IsServedBean, Fits}
+use Rattle.cdi_ownership.specs.Whose.{IsIn}
+use Rattle.cdi_ownership.proofs.Lists.{Tested, has_top}
+use Rattle.cdi_ownership.proofs.Holdings.{IsMaking, free_apart}
 use Rattle.cdi_fit.proofs.Whole.{Stands, Refers, Good}
 use Rattle.cdi_fit.proofs.Frames.{Any, Other, Below, stands_then, WasSo, AfterAt, AfterBut, After, Changed, after_self, after_trans, after_less}
 use Rattle.cdi_fit.proofs.Settling.{HasPlace, Apart, settled}

@@ -25,10 +25,11 @@ use Rattle.cdi_machine.specs.Programs.{Task, Given, Completion, Gave, Threw, Pro
 use Rattle.cdi_machine.specs.Bodies.{invocation_at_start, call_back}
 use Rattle.cdi_machine.specs.Destruction.{latest, dismiss_latest, dismiss, clean_up_bean, clean_up, only_ready, destroy, release_from, release, greatest_in, clear_from, clear}
 use Rattle.cdi_machine.specs.Runs.{Legal}
-use Rattle.cdi_fit.specs.Fits.{IsIn, IsServedBean, Fits}
-use Rattle.cdi_fit.proofs.Maps.{all_weaker}
-use Rattle.cdi_fit.proofs.Lists.{Tested, in_got, got, IsAmong, HasTop, TopEmpty, has_top}
-use Rattle.cdi_fit.proofs.Contexts.{NoneHeld, AllHeld, EachHeld}
+use Rattle.cdi_fit.specs.Fits.{IsServedBean, Fits}
+use Rattle.cdi_ownership.specs.Whose.{IsIn}
+use Rattle.cdi_ownership.proofs.Maps.{all_weaker}
+use Rattle.cdi_ownership.proofs.Lists.{Tested, in_got, got, IsAmong, HasTop, TopEmpty, has_top}
+use Rattle.cdi_ownership.proofs.Holdings.{NoneHeld, AllHeld, EachHeld}
 use Rattle.cdi_fit.proofs.Whole.{IsWhole, Stands, IsOwned, HeldBy, Good, IsServedOwner}
 use Rattle.cdi_fit.proofs.Frames.{Any, Other, Below, stands_then, WasSo, AfterAt, AfterBut, After, Leaves, Changed, after_self, after_trans, after_less, after_fewer, leaves_trans, leaves_after}
 use Rattle.cdi_fit.proofs.Leaving.{leaves}

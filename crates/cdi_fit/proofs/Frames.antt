@@ -11,7 +11,7 @@ use Rattle.cdi_contexts.specs.Contexts.{Active, Contexts}
 use Rattle.cdi_machine.specs.Tables.{Tables}
 use Rattle.cdi_machine.specs.World.{World}
 use Rattle.cdi_machine.specs.Runs.{Legal}
-use Rattle.cdi_fit.proofs.Contexts.{StillMaking, making_self, making_trans, making_less}
+use Rattle.cdi_ownership.proofs.Holdings.{StillMaking, making_self, making_trans, making_less}
 use Rattle.cdi_fit.proofs.Whole.{Stands, IsOwned, Whole, Good}
 
 abbrev pub Any : ℕ → Type 0

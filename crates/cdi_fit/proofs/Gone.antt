@@ -14,11 +14,11 @@ use Rattle.cdi_contexts.specs.Contexts.{Contexts, with_nothing}
 use Rattle.cdi_machine.specs.Tables.{Tables}
 use Rattle.cdi_machine.specs.World.{World, Change, after_change, instance_at, for_instance, without_making, with_instances}
 use Rattle.cdi_machine.specs.Runs.{Legal}
-use Rattle.cdi_fit.specs.Fits.{IsIn}
-use Rattle.cdi_fit.specs.Left.{IsHeld, DependsOn}
-use Rattle.cdi_fit.proofs.Maps.{at_gone, at_left}
-use Rattle.cdi_fit.proofs.Lists.{Tested}
-use Rattle.cdi_fit.proofs.Contexts.{StillMaking, making_self, making_none, IsMaking, held_left, making_left, AllHeld, all_held_map, all_held_left}
+use Rattle.cdi_ownership.specs.Whose.{IsIn}
+use Rattle.cdi_ownership.specs.Whose.{IsHeld, DependsOn}
+use Rattle.cdi_ownership.proofs.Maps.{at_gone, at_left}
+use Rattle.cdi_ownership.proofs.Lists.{Tested}
+use Rattle.cdi_ownership.proofs.Holdings.{StillMaking, making_self, making_none, IsMaking, held_left, making_left, AllHeld, all_held_map, all_held_left}
 use Rattle.cdi_fit.proofs.Whole.{Stands, IsOwned, HeldBy, Good, not_new, not_leaving, placed_map}
 use Rattle.cdi_fit.proofs.Frames.{Any, Other, Keeps, Settles, owned_then, stands_then, AfterOf, Changed}
 use Rattle.cdi_fit.proofs.Turns.{AllWere, refers_then}

@@ -15,10 +15,10 @@ use Rattle.cdi_contexts.specs.Contexts.{Contexts, with_nothing}
 use Rattle.cdi_machine.specs.Tables.{Tables}
 use Rattle.cdi_machine.specs.World.{World, Change, after_change, instance_at, for_instance, without_owned, with_instances}
 use Rattle.cdi_machine.specs.Runs.{Legal}
-use Rattle.cdi_fit.specs.Fits.{IsIn}
-use Rattle.cdi_fit.specs.Left.{IsHeld}
-use Rattle.cdi_fit.proofs.Lists.{Tested, in_others, in_left, IsAmong, among_others, among_left, map_length}
-use Rattle.cdi_fit.proofs.Contexts.{StillMaking, making_self, held_apart, held_left, held_once, making_left, AllHeld, all_held_map, all_held_left}
+use Rattle.cdi_ownership.specs.Whose.{IsIn}
+use Rattle.cdi_ownership.specs.Whose.{IsHeld}
+use Rattle.cdi_ownership.proofs.Lists.{Tested, in_others, in_left, IsAmong, among_others, among_left, map_length}
+use Rattle.cdi_ownership.proofs.Holdings.{StillMaking, making_self, held_apart, held_left, held_once, making_left, AllHeld, all_held_map, all_held_left}
 use Rattle.cdi_fit.proofs.Whole.{Stands, IsOwned, HeldBy, AllBorrowed, IsServedOwner, IsPlaced, Good, same_component, same_owner, same_phase, placed_map, IsWhole}
 use Rattle.cdi_fit.proofs.Frames.{Any, Other, owned_then, stands_then, AfterOf, Changed}
 use Rattle.cdi_fit.proofs.Turns.{in_stage, Passes, passes_by, passes_whole, passes_keeps, passes_settles, passes_refer, passes_owned, passes_depends, passes_one}

@@ -1,7 +1,4 @@
 mod Safe
-mod Maps
-mod Lists
-mod Contexts
 mod Whole
 mod Frames
 mod Turns

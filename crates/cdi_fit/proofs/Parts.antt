@@ -16,11 +16,12 @@ use Rattle.cdi_machine.specs.Words.{Name, Fields}
 use Rattle.cdi_machine.specs.Tables.{Tables, Managed}
 use Rattle.cdi_machine.specs.World.{World, Change, after_change}
 use Rattle.cdi_machine.specs.Runs.{Legal}
-use Rattle.cdi_fit.specs.Fits.{IsClassOf, IsIn}
-use Rattle.cdi_fit.specs.Left.{IsHeld, DependsOn}
-use Rattle.cdi_fit.proofs.Maps.{at_adjusted, put_at}
-use Rattle.cdi_fit.proofs.Lists.{IsAmong, TopEmpty, among_below, below_among}
-use Rattle.cdi_fit.proofs.Contexts.{NoneHeld, held_ending, making_self, all_held_map, all_held_ending}
+use Rattle.cdi_fit.specs.Fits.{IsClassOf}
+use Rattle.cdi_ownership.specs.Whose.{IsIn}
+use Rattle.cdi_ownership.specs.Whose.{IsHeld, DependsOn}
+use Rattle.cdi_ownership.proofs.Maps.{at_adjusted, put_at}
+use Rattle.cdi_ownership.proofs.Lists.{IsAmong, TopEmpty, among_below, below_among}
+use Rattle.cdi_ownership.proofs.Holdings.{NoneHeld, held_ending, making_self, all_held_map, all_held_ending}
 use Rattle.cdi_fit.proofs.Whole.{AllRefer, Refers, HeldBy, AllPlaced, Good, placed_map, IsPlaced, IsOwned}
 use Rattle.cdi_fit.proofs.Frames.{Any, Keeps, owned_then, stands_then, After}
 use Rattle.cdi_fit.proofs.Turns.{Alike, alike_whole, AllWere, refers_then}

@@ -14,7 +14,6 @@ use Rattle.cdi_store.specs.declared.instance.Instance.{Instance}
 use Rattle.cdi_store.specs.Live.{Instances}
 use Rattle.cdi_store.proofs.Numbers.{equal_or_not}
 use Rattle.cdi_contexts.specs.Refusals.{first_that_holds}
-use Rattle.cdi_machine.specs.Words.{Name}
 use Rattle.cdi_machine.specs.Tables.{Tables}
 use Rattle.cdi_machine.specs.World.{World, at_begin, before_boot}
 use Rattle.cdi_machine.specs.Programs.{Threw}
@@ -23,10 +22,11 @@ use Rattle.cdi_machine.specs.Container.{State, refusal, Answers, is_cut, refused
 use Rattle.cdi_machine.specs.Runs.{Legal, Outcome, Ends, Cut, Runs}
 use Rattle.cdi_fit.specs.Fits.{HasText, Fits}
 use Rattle.cdi_fit.specs.Missing.{NothingMissing, IsServedCommand, IsReachable, AsksWhatIsThere, MissesNothing}
-use Rattle.cdi_fit.specs.Left.{IsHeld, StandsAtHome, IsTidy, LeavesTidy}
+use Rattle.cdi_fit.specs.Left.{StandsAtHome, IsTidy, LeavesTidy}
+use Rattle.cdi_ownership.specs.Whose.{IsHeld}
 use Rattle.cdi_fit.specs.Thrown.{ThrowsWithText, AnswersWithText}
 use Rattle.cdi_fit.proofs.Safe.{UnlessCut, misses_none}
-use Rattle.cdi_fit.proofs.Lists.{not_among}
+use Rattle.cdi_ownership.proofs.Lists.{not_among}
 use Rattle.cdi_fit.proofs.Whole.{IsServedOwner, IsPlaced, Good}
 use Rattle.cdi_fit.proofs.Frames.{WasSo, Leaves}
 use Rattle.cdi_fit.proofs.Terms.{Pre, Post}

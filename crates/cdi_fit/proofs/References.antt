@@ -26,8 +26,8 @@ use Rattle.cdi_machine.specs.Programs.{Task, Given, Completion, Gave, Threw, Pro
 use Rattle.cdi_machine.specs.Contexts.{find_or_create, obtain, is_normal, direct_reference, refer_to, stays, reach_instance}
 use Rattle.cdi_machine.specs.Runs.{Legal}
 use Rattle.cdi_fit.specs.Fits.{HasText, IsServedScope, IsServedBean, Fits}
-use Rattle.cdi_fit.proofs.Maps.{all_at}
-use Rattle.cdi_fit.proofs.Contexts.{IsFree, AllHeld, EachHeld}
+use Rattle.cdi_ownership.proofs.Maps.{all_at}
+use Rattle.cdi_ownership.proofs.Holdings.{IsFree, AllHeld, EachHeld}
 use Rattle.cdi_fit.proofs.Whole.{HeldBy, Good}
 use Rattle.cdi_fit.proofs.Frames.{Any, After, after_self}
 use Rattle.cdi_fit.proofs.Begun.{CanHave}

@@ -14,7 +14,7 @@ use Rattle.cdi_machine.specs.Tables.{Managed}
 use Rattle.cdi_machine.specs.Scripts.{Step, set, call, own, read, write, fire, proceed, proceed_with, find, keep, peek, destroy, give, throw, catch, last_of, value_by, act_of, is_catch, from_next, steps_behind, steps_left, at_the_end, next_step, next}
 use Rattle.cdi_machine.specs.Deployments.{Deployment, tables_of, as_written}
 use Rattle.cdi_fit.specs.Fits.{HasMethod, AnswersThrough, HasText, IsServedAct}
-use Rattle.cdi_fit.proofs.Lists.{map_length}
+use Rattle.cdi_ownership.proofs.Lists.{map_length}
 
 module _ (d : Deployment) (c : Managed) where
   -- a step whose act is served

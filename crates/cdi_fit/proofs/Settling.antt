@@ -17,11 +17,11 @@ use Rattle.cdi_contexts.specs.Contexts.{Active, Contexts, with_held}
 use Rattle.cdi_machine.specs.Tables.{Tables}
 use Rattle.cdi_machine.specs.World.{World, Change, after_change, instance_at, for_instance, with_owned, with_instances, on_top}
 use Rattle.cdi_machine.specs.Runs.{Legal}
-use Rattle.cdi_fit.specs.Fits.{IsIn}
-use Rattle.cdi_fit.specs.Left.{IsHeld}
-use Rattle.cdi_fit.proofs.Maps.{at_adjusted}
-use Rattle.cdi_fit.proofs.Lists.{Tested, in_last, in_front, in_either, in_others, in_left, IsAmong, HasTop, among_new, among_old, among_either, top_length}
-use Rattle.cdi_fit.proofs.Contexts.{IsMaking, StillMaking, making_none, put_held, held_put, making_put, AllHeld, all_held_map, all_held_put}
+use Rattle.cdi_ownership.specs.Whose.{IsIn}
+use Rattle.cdi_ownership.specs.Whose.{IsHeld}
+use Rattle.cdi_ownership.proofs.Maps.{at_adjusted}
+use Rattle.cdi_ownership.proofs.Lists.{Tested, in_last, in_front, in_either, in_others, in_left, IsAmong, HasTop, among_new, among_old, among_either, top_length}
+use Rattle.cdi_ownership.proofs.Holdings.{IsMaking, StillMaking, making_none, put_held, held_put, making_put, AllHeld, all_held_map, all_held_put}
 use Rattle.cdi_fit.proofs.Whole.{Stands, IsOwned, HeldBy, AllBorrowed, IsPlaced, Good, not_new, same_owner, placed_map, same_component}
 use Rattle.cdi_fit.proofs.Frames.{Other, owned_then, stands_then, AfterOf, Changed}
 use Rattle.cdi_fit.proofs.Turns.{in_stage, Passes, passes_by, passes_whole, passes_keeps, passes_settles, passes_refer, passes_owned, passes_depends, passes_one}

@@ -17,9 +17,9 @@ use Rattle.cdi_machine.specs.World.{World, Invocation}
 use Rattle.cdi_machine.specs.Programs.{Task, Given, Completion, Gave, Threw, Running}
 use Rattle.cdi_machine.specs.Runs.{Legal}
 use Rattle.cdi_fit.specs.Fits.{IsClassOf, HasText, IsServedBean}
-use Rattle.cdi_fit.proofs.Maps.{all_get}
-use Rattle.cdi_fit.proofs.Lists.{HasTop, TopEmpty}
-use Rattle.cdi_fit.proofs.Contexts.{NoneHeld}
+use Rattle.cdi_ownership.proofs.Maps.{all_get}
+use Rattle.cdi_ownership.proofs.Lists.{HasTop, TopEmpty}
+use Rattle.cdi_ownership.proofs.Holdings.{NoneHeld}
 use Rattle.cdi_fit.proofs.Whole.{Good}
 use Rattle.cdi_fit.proofs.Frames.{Any, Below, Keeps, After, AfterBut, Leaves}
 use Rattle.cdi_fit.proofs.Gone.{NoDependents}

@@ -13,9 +13,9 @@ use Rattle.cdi_store.proofs.Numbers.{equal_or_not}
 use Rattle.cdi_machine.specs.Words.{Name}
 use Rattle.cdi_machine.specs.Tables.{Tables, Managed}
 use Rattle.cdi_machine.specs.Runs.{Legal}
-use Rattle.cdi_fit.specs.Fits.{IsIn}
-use Rattle.cdi_fit.specs.Left.{DependsOn}
-use Rattle.cdi_fit.proofs.Lists.{Tested}
+use Rattle.cdi_ownership.specs.Whose.{IsIn}
+use Rattle.cdi_ownership.specs.Whose.{DependsOn}
+use Rattle.cdi_ownership.proofs.Lists.{Tested}
 use Rattle.cdi_fit.proofs.Whole.{IsServedOwner, IsWhole, AllWhole, Stands, IsOwned, AllOwned, Refers, AllRefer}
 use Rattle.cdi_fit.proofs.Frames.{Other, Keeps, Settles, owned_then}
 

@@ -19,10 +19,11 @@ use Rattle.cdi_machine.specs.Words.{Name}
 use Rattle.cdi_machine.specs.Tables.{Tables, Managed}
 use Rattle.cdi_machine.specs.World.{World}
 use Rattle.cdi_machine.specs.Runs.{Legal}
-use Rattle.cdi_fit.specs.Fits.{IsIn, IsClassOf, IsPointedTo, IsServedBean}
-use Rattle.cdi_fit.specs.Left.{IsHeld, DependsOn}
-use Rattle.cdi_fit.proofs.Lists.{IsAmong}
-use Rattle.cdi_fit.proofs.Contexts.{AllHeld}
+use Rattle.cdi_fit.specs.Fits.{IsClassOf, IsPointedTo, IsServedBean}
+use Rattle.cdi_ownership.specs.Whose.{IsIn}
+use Rattle.cdi_ownership.specs.Whose.{IsHeld, DependsOn}
+use Rattle.cdi_ownership.proofs.Lists.{IsAmong}
+use Rattle.cdi_ownership.proofs.Holdings.{AllHeld}
 
 -- an instance belongs to the application context, to one that was made before it, or to who borrowed it
 abbrev pub IsServedOwner : ℕ → Owner → Type 0

@@ -16,7 +16,8 @@ use Rattle.cdi_machine.specs.Runs.{Legal}
 use Rattle.cdi_machine.specs.Scripts.{Expression, Plain, next}
 use Rattle.cdi_machine.specs.Deployments.{Deployment, tables_of, steps_of, as_written, played_by, first_chosen, of_type, managed_bean, method, resolution}
 use Rattle.cdi_machine.specs.Evaluator.{legal_in}
-use Rattle.cdi_fit.specs.Fits.{IsIn, HasMethod, IsClassOf, AnswersThrough, IsServedAct, GivesServed, IsServedBean}
+use Rattle.cdi_fit.specs.Fits.{HasMethod, IsClassOf, AnswersThrough, IsServedAct, GivesServed, IsServedBean}
+use Rattle.cdi_ownership.specs.Whose.{IsIn}
 use Rattle.cdi_fit.specs.Worked.{Counter, up, Caller, count, count_again, counter, itself, counter_class, caller_class, calling_with, AcceptsRightCalls, RefusesWrongCalls}
 use Rattle.cdi_fit.proofs.Terms.{class_of, same_class}
 use Rattle.cdi_fit.proofs.Scripts.{IsServedStep, script_served}

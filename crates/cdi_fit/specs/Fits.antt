@@ -1,5 +1,5 @@
 -- Tables and bodies that fit one another, as far as beans and acts are served now.
-use Rattle.std.specs.Prelude.{ℕ, ◌≡◌, ◌⊎◌, List, [], ◌∷◌, length, Some, true}
+use Rattle.std.specs.Prelude.{ℕ, ◌≡◌, ◌⊎◌, List, [], length, Some, true}
 use Rattle.std.specs.List.{AllByRecursion}
 use Rattle.cdi_base.specs.declared.act.Act.{Act}
 use Rattle.cdi_base.specs.declared.act.Act.TheVariants as acts
@@ -16,10 +16,7 @@ use Rattle.cdi_bodies.specs.Shape.{is_thrown, last_answer}
 use Rattle.cdi_machine.specs.Words.{Name, Fields, Asked}
 use Rattle.cdi_machine.specs.Tables.{Tables, Method, Step, Managed, Kind, Bean, One}
 use Rattle.cdi_machine.specs.Runs.{Legal}
-
-abbrev pub IsIn : {X : Type 0} → X → List X → Type 0
-IsIn x [] = ⊥
-IsIn x (y ∷ ys) = (y ≡ x) ⊎ IsIn x ys
+use Rattle.cdi_ownership.specs.Whose.{IsIn}
 
 -- ---- classes
 

@@ -1,34 +1,20 @@
 -- What a command leaves.
-use Rattle.std.specs.Prelude.{ℕ, ◌≡◌, [], Option, Some, None}
-use Rattle.cdi_base.specs.Maps.{at}
+use Rattle.std.specs.Prelude.{ℕ, ◌≡◌, [], Some, None}
 use Rattle.cdi_store.specs.declared.instance.Component.{Component}
-use Rattle.cdi_store.specs.declared.instance.Component.TheVariants as components
 use Rattle.cdi_store.specs.declared.instance.Context.TheVariants.{Application}
 use Rattle.cdi_store.specs.declared.instance.Instance.{Instance}
 use Rattle.cdi_store.specs.declared.instance.Owner.{Owner}
 use Rattle.cdi_store.specs.declared.instance.Owner.TheVariants as owners
 use Rattle.cdi_store.specs.declared.instance.Phase.TheVariants.{Ready}
-use Rattle.cdi_store.specs.Live.{Instances}
-use Rattle.cdi_contexts.specs.declared.context.Held.TheVariants.{Is}
-use Rattle.cdi_contexts.specs.Contexts.{Active}
 use Rattle.cdi_machine.specs.Tables.{Tables}
 use Rattle.cdi_machine.specs.World.{World, at_begin, instance_at}
 use Rattle.cdi_machine.specs.Programs.{Given, Completion}
 use Rattle.cdi_machine.specs.Commands.{Command, task}
 use Rattle.cdi_machine.specs.Container.{State, refusal}
 use Rattle.cdi_machine.specs.Runs.{Legal, Ends, Runs}
-use Rattle.cdi_fit.specs.Fits.{IsIn, Fits}
+use Rattle.cdi_fit.specs.Fits.{Fits}
 use Rattle.cdi_fit.specs.Missing.{IsServedCommand, IsReachable}
-
--- the context has it for its bean
-abbrev pub IsHeld : Option Active → Component → ℕ → Type 0
-IsHeld None component n = ⊥
-IsHeld (Some a) (components.Bean b) n = at a.holds b ≡ Some (Is n)
-IsHeld (Some a) (components.Interceptor i) n = ⊥
-
--- the instance m lives and has it among its dependents
-abbrev pub DependsOn : Instances → ℕ → ℕ → Type 0
-DependsOn instances m n = (o : Instance) × (at instances m ≡ Some o) × IsIn n o.dependents
+use Rattle.cdi_ownership.specs.Whose.{IsHeld, DependsOn}
 
 -- It stands where its owner says: in the application context, or among the dependents of an instance that lives.
 abbrev pub StandsAtHome : World → ℕ → Component → Owner → Type 0

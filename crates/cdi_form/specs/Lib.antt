@@ -7,3 +7,5 @@ pub mod Numbers
 pub mod Shape
 pub mod HasForm
 pub mod NamePlaces
+pub mod Json
+pub mod ValueForms

@@ -3,7 +3,7 @@
 use Rattle.std.specs.Prelude.{ℕ, ◌+◌, ◌==◌, Bool, true, false, List, [], ◌∷◌, ◌++◌, decimal, Option, Some, None, if◌then◌else◌, nat_le}
 use Rattle.std.specs.Option.{is_some}
 use Rattle.cdi_stage.specs.declared.stage.Stage.{Stage}
-use Rattle.cdi_json.specs.Forms.{use_in}
+use Rattle.cdi_form.specs.ValueForms.{use_in}
 use Rattle.serde_json.specs.Data.{Num, unsigned, negative, float, Data, null, boolean, number, string, array, object, Items, no_items, item, Members, no_members, member}
 use Rattle.cdi_form.specs.declared.form.Kind.{Kind}
 use Rattle.cdi_form.specs.declared.form.Part.{Part}

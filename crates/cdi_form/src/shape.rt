@@ -5,9 +5,9 @@ ghost use Rattle.cdi_form.specs.Shape as spec;
 
 use crate::form::{Kind, Part, item_part, part_at};
 use crate::keys::{has_right_keys, kind_of};
+use crate::value_forms::is_use;
 use crate::words::scope_named;
 use cdi_base::Text;
-use cdi_json::is_use;
 use cdi_stage::Stage;
 use serde_json::{Map, Number, Value};
 use std::alloc::{AllocError, Global};

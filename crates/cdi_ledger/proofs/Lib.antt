@@ -4,3 +4,15 @@ mod Plain
 mod Steps
 mod Fronts
 pub mod Ledgered
+mod Owed
+mod Fine
+mod Standing
+mod Doings
+mod Tasks
+mod Creations
+mod Tops
+pub mod Settled
+pub mod Nesting
+pub mod Births
+pub mod Referred
+pub mod Farewells

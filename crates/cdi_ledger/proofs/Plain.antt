@@ -10,9 +10,9 @@ use Rattle.cdi_machine.specs.Tables.{Tables}
 use Rattle.cdi_machine.specs.World.{World, Change, after_change, with_entry}
 use Rattle.cdi_machine.specs.Programs.{Task, Given, Completion, Prog, ret, throw, cut, miss, see, change, tick, mark, act, choose, nested, candidates, handle}
 use Rattle.cdi_machine.proofs.Walk.{PlainChange, PlainEntry, Plain, map_change, map_entry}
-use Rattle.cdi_ledger.specs.Ledger.{Item, Wrote, Fate, Unborn, Made, Readied, Left, Lost, fate, numbers, InSequence}
+use Rattle.cdi_ledger.specs.Ledger.{Item, Wrote, with_birth, Fate, Unborn, Made, Readied, Left, Lost, fate, numbers, InSequence}
 use Rattle.cdi_ledger.proofs.Stages.{phase_at, adjusted_same}
-use Rattle.cdi_ledger.proofs.Judge.{Does}
+use Rattle.cdi_ledger.proofs.Judge.{Free, guard_free, note_free, Does}
 
 pub plainly : {A B : Type 0} (p : Prog A) (f : A → Prog B) (g : Name → Prog B) → Plain p → ((a : A) → Plain (f a)) → ((x : Name) → Plain (g x)) → Plain (handle p f g)
 plainly (ret a) f g q qf qg = qf a
@@ -92,7 +92,7 @@ sane_still n w v h s g = record {
 pub same_still : (n : ℕ) (w : World) → Still n w w
 same_still n w = record { phase = refl; next = refl }
 
-plain_change : (n : ℕ) (g : Change) (w : World) (X : Type 0) → PlainChange g X → Still n w (after_change g w) × X
+pub plain_change : (n : ℕ) (g : Change) (w : World) (X : Type 0) → PlainChange g X → Still n w (after_change g w) × X
 plain_change n (Change.Make component owner fields) w X x = absurd x
 plain_change n (Change.Settle m) w X x = absurd x
 plain_change n (Change.Discard m) w X x = absurd x
@@ -119,6 +119,10 @@ plain_change n Change.Borrow w X x = (record { phase = refl; next = refl }, x)
 plain_change n Change.Return w X x = (record { phase = refl; next = refl }, x)
 plain_change n Change.Down w X x = (record { phase = refl; next = refl }, x)
 
+pub plain_birth : (g : Change) (w : World) (h : List Item) (X : Type 0) → PlainChange g X → with_birth g w h ≡ h
+plain_birth (Change.Make component owner fields) w h X x = absurd x
+plain_birth _ w h X x = refl
+
 pub sane_entry : (n : ℕ) (e : Entry) (w : World) (h : List Item) (X : Type 0) → PlainEntry e X → Sane n w h → Sane n (with_entry e w) (Wrote e ∷ h) × X
 sane_entry n (entries.Event class qualifiers) w h X x g = (record { fate = g.fate; later = g.later; count = g.count; sequence = (tt, g.sequence) }, x)
 sane_entry n (entries.Did a) w h X x g = (record { fate = g.fate; later = g.later; count = g.count; sequence = (tt, g.sequence) }, x)
@@ -138,7 +142,7 @@ Post n t w h c w1 h1 = Kept (standing n w) (standing n w1)
 
 module _ (tables : Tables) (n : ℕ) where
   abbrev pub Doing : {A : Type 0} → Prog A → World → List Item → (Completion A → World → List Item → Type 0) → Type 0
-  Doing p w h Q = Does tables (Sane n) Pre (Post n) p w h Q
+  Doing p w h Q = Does tables Free (Sane n) Pre (Post n) p w h Q
 
   abbrev pub From : {A : Type 0} → Fate → Completion A → World → List Item → Type 0
   From f c w h = Kept f (standing n w)
@@ -152,8 +156,8 @@ module _ (tables : Tables) (n : ℕ) where
   keeps (see p) f w h q g k = keeps (p tables w) f w h (q tables w) g k
   keeps (change x p) f w h q g k =
       let s = plain_change n x w (Plain p) q in
-      keeps p f (after_change x w) h s.1 (sane_still n w (after_change x w) h s.0 g) (subst (λ z. Kept f z) (sym (still_standing n w (after_change x w) s.0)) k)
-  keeps (tick e p) f w h q g k = let s = sane_entry n e w h (Plain p) q g in (g, keeps p f (with_entry e w) (Wrote e ∷ h) s.1 s.0 k)
+      guard_free x w h (subst (λ z. Doing p (after_change x w) z (From f)) (sym (plain_birth x w h (Plain p) q)) (keeps p f (after_change x w) h s.1 (sane_still n w (after_change x w) h s.0 g) (subst (λ z. Kept f z) (sym (still_standing n w (after_change x w) s.0)) k)))
+  keeps (tick e p) f w h q g k = let s = sane_entry n e w h (Plain p) q g in (g, note_free e w h (keeps p f (with_entry e w) (Wrote e ∷ h) s.1 s.0 k))
   keeps (mark m p) f w h q g k = absurd q
   keeps (act b fields view p) f w h q g k = (g, λ a. keeps (p a) f (with_entry (entries.Did a) w) (Wrote (entries.Did a) ∷ h) (q a) (sane_entry n (entries.Did a) w h (Unit {0}) tt g).0 k)
   keeps (choose m p) f w h q g k = (g, λ i l. keeps (p i) f (with_entry (entries.Pick (candidates m) i) w) (Wrote (entries.Pick (candidates m) i) ∷ h) (q i) (sane_entry n (entries.Pick (candidates m) i) w h (Unit {0}) tt g).0 k)

@@ -1,1 +1,3 @@
 pub mod Ledger
+pub mod Stories
+pub mod Ends

@@ -1,6 +1,7 @@
-//! The law of the ledger. A call of it does nothing: its contract is the law.
+//! The laws of the ledger. A call of one does nothing: its contract is the law.
 ghost use Rattle.cdi_machine.specs.Tables.{Tables};
 ghost use Rattle.cdi_ledger.specs.Ledger.{KeepsOrder, KeepsOrderIfShort};
+ghost use Rattle.cdi_ledger.specs.Ends.{EndsNested, EndsNestedIfShort, LeavesTidy, LeavesNothing, OneInAContext, OneOfTheApplication, RefersOwn, BodiesAreFarewells, BodiesAreFarewellsIfShort, OneInAContextIfShort};
 
 use cdi_machine::Driver;
 
@@ -12,6 +13,65 @@ use cdi_machine::Driver;
 pub fn law_order<D: Driver>(driver: &D)
     ensures with_memory { (tables : Tables) → KeepsOrder tables (D.legal driver.now) }
     ensures short_of_memory { (tables : Tables) → KeepsOrderIfShort tables (D.legal driver.now) }
+{
+    let _driver = driver;
+}
+
+/// A command that isn't cut leaves nothing under way: each creation has come to its `ready` or `drop`, and each destruction
+/// to its `gone`. Each live instance is ready and stands where its owner says: in its context for its bean, or among the
+/// dependents of an instance that lives, which has a smaller number; and nothing stands anywhere else. A shutdown that
+/// isn't cut is answered that it is done, and leaves nothing: every number that was given is dropped or gone (Jakarta CDI 4.0,
+/// *Destruction of objects with scope @Dependent*, *Application context lifecycle*).
+#[tactic(auto, using(crate::proofs::Settled::leaves_tidy, crate::proofs::Settled::leaves_nothing))]
+pub fn law_ends<D: Driver>(driver: &D)
+    ensures tidy { (tables : Tables) → LeavesTidy tables (D.legal driver.now) }
+    ensures nothing { (tables : Tables) → LeavesNothing tables (D.legal driver.now) }
+{
+    let _driver = driver;
+}
+
+/// Destructions are nested: where an instance is gone, each destruction that began since its own is over, and those that
+/// were under way when its own began still are. So it is also if memory runs out.
+#[tactic(auto, using(crate::proofs::Nesting::ends_nested, crate::proofs::Nesting::nested_if_short))]
+pub fn law_nested<D: Driver>(driver: &D)
+    ensures with_memory { (tables : Tables) → EndsNested tables (D.legal driver.now) }
+    ensures short_of_memory { (tables : Tables) → EndsNestedIfShort tables (D.legal driver.now) }
+{
+    let _driver = driver;
+}
+
+/// An instance is born right behind its `new`, for an owner that its bean's scope allows, and of one bean a context has one
+/// instance at a time: where another is born, each earlier one is dropped, or its destruction has begun. In entries alone,
+/// where places tell beans apart: at a further `new` of an application-scoped bean each earlier one has its `drop` or `end`
+/// (Jakarta CDI 4.0, *Normal scopes and pseudo-scopes*).
+#[tactic(auto, using(crate::proofs::Births::one_in_a_context, crate::proofs::Births::one_of_the_application, crate::proofs::Births::one_if_short))]
+pub fn law_one_instance<D: Driver>(driver: &D)
+    ensures in_a_context { (tables : Tables) → OneInAContext tables (D.legal driver.now) }
+    ensures short_of_memory { (tables : Tables) → OneInAContextIfShort tables (D.legal driver.now) }
+    ensures of_the_application { (tables : Tables) →
+        OneOfTheApplication tables (D.legal driver.now) }
+{
+    let _driver = driver;
+}
+
+/// At the end of each command, cut or not, an injected field that refers to a live instance by itself, and not through a
+/// client proxy, refers to a dependent of its own instance: no other instance holds a dependent (Jakarta CDI 4.0, *Dependent
+/// objects*).
+#[tactic(auto, using(crate::proofs::Referred::refers_own))]
+pub fn law_references<D: Driver>(driver: &D)
+    ensures own { (tables : Tables) → RefersOwn tables (D.legal driver.now) }
+{
+    let _driver = driver;
+}
+
+/// Between the `end` of an instance and its `gone` only its farewell runs on it: a body that starts there is of a pre-destroy
+/// callback of its class, or of a method of its class that its own body called right before. So it is also if memory runs
+/// out (Jakarta Interceptors 2.1, *Interceptor Methods for Lifecycle Event Callbacks*).
+#[tactic(auto, using(crate::proofs::Farewells::bodies_are_farewells, crate::proofs::Farewells::farewells_if_short))]
+pub fn law_bodies<D: Driver>(driver: &D)
+    ensures with_memory { (tables : Tables) → BodiesAreFarewells tables (D.legal driver.now) }
+    ensures short_of_memory { (tables : Tables) →
+        BodiesAreFarewellsIfShort tables (D.legal driver.now) }
 {
     let _driver = driver;
 }

@@ -3,7 +3,7 @@ use Rattle.std.proofs.Common.{◌≡◌, ◌∙◌, ℕ, ◌+◌, ◌<◌, ◌||
 use Rattle.std.proofs.lemmas.Bool.{eqb-true}
 use Rattle.std.specs.HashSet.{HashSet, contains}
 use Rattle.std.specs.List.{Any}
-use Rattle.cdi_beanlist.specs.declared.bean.Bean.{Bean}
+use Rattle.cdi_beans.specs.declared.bean.Bean.{Bean}
 use Rattle.cdi_deployment.specs.declared.deployment.Class.{Class}
 use Rattle.cdi_live.specs.Live.{is_declared_class, IsBeanBelow, HasFieldsOf}
 use Rattle.cdi_live.specs.LiveSets.{HasThose}

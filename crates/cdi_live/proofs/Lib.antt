@@ -1,3 +1,10 @@
+pub mod Growing
+pub mod Members
+pub mod Needy
+pub mod NeedyProducts
+pub mod Paths
+pub mod Rows
+pub mod Within
 pub mod FieldSets
 pub mod MemberSets
 pub mod Pushing

@@ -1,3 +1,10 @@
+pub mod Cycles
+pub mod Graphs
+pub mod Needs
+pub mod OwnPoints
+pub mod Settings
 pub mod Enabled
 pub mod Live
 pub mod LiveSets
+pub mod Points
+pub mod PointProblems

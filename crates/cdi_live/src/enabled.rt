@@ -4,7 +4,7 @@ ghost use Rattle.cdi_live.specs.Live.{is_managed as kind_is_managed, is_bean_of}
 ghost use Rattle.cdi_resolve.specs.Filters.{is_enabled, enabled_beans};
 
 use cdi_base::{Name, Seq};
-use cdi_beanlist::{Bean, BeanKind, BeanMember};
+use cdi_beans::{Bean, BeanKind, BeanMember};
 use std::alloc::{AllocError, Global};
 use std::marker::Model;
 
@@ -17,7 +17,7 @@ pub struct EnabledBean<'a> {
 
 impl<'a> Model for EnabledBean<'a> {
     ghost use Rattle.std.specs.Prelude.{ℕ};
-    ghost use Rattle.cdi_beanlist.specs.declared.bean.Bean.{Bean};
+    ghost use Rattle.cdi_beans.specs.declared.bean.Bean.{Bean};
 
     ghost Value = { ℕ × Bean };
 

@@ -8,7 +8,7 @@ ghost use Rattle.cdi_name_check.specs.NameSets.{HasNames, HasPairs, same_pair};
 
 use crate::enabled::EnabledBean;
 use cdi_base::Name;
-use cdi_beanlist::EnabledInterceptor;
+use cdi_beans::EnabledInterceptor;
 use cdi_deployment::Class;
 use cdi_types::TypeTable;
 use std::alloc::{AllocError, Global};

@@ -12,8 +12,8 @@ use Rattle.cdi_base.specs.declared.place.Place.{Place}
 use Rattle.cdi_problems.specs.Elements.{Element, element_of, place_of, shown}
 use Rattle.cdi_problems.specs.declared.element.Element.{Element as Lent}
 use Rattle.cdi_problems.specs.Findings.{Placed, placed_after, placed}
-use Rattle.cdi_reach.specs.ListsThose.{ListsThose}
-use Rattle.cdi_reach.proofs.Listings.{keep_last, skip_last}
+use Rattle.cdi_types.specs.ListsThose.{ListsThose}
+use Rattle.cdi_types.proofs.Listings.{keep_last, skip_last}
 use Rattle.cdi_types.proofs.Listed.{not_in_none, first_or_later}
 
 -- a loop over the elements reads the next one

@@ -15,7 +15,7 @@ use Rattle.cdi_problems.specs.Elements.{Element, elements_of, place_of, class_el
 use Rattle.cdi_problems.specs.Findings.{ArePlacesOf, ArePlacesWhere}
 use Rattle.cdi_problems.specs.Places.{once, with_place}
 use Rattle.cdi_problems.specs.Words.{problems_at}
-use Rattle.cdi_reach.specs.ListsThose.{ListsThose}
+use Rattle.cdi_types.specs.ListsThose.{ListsThose}
 use Rattle.cdi_types.specs.Declarations.{declarations_of, of_built_in, of_interface, of_class}
 use Rattle.cdi_types.specs.Subtype.{IsBelow, IsCyclic, IsAcyclic, is_type, direct_supertypes, supertypes_of, knows_supertypes, object}
 use Rattle.cdi_types.specs.Table.{IsSound, IsRefused}

@@ -9,9 +9,10 @@ use Rattle.cdi_deployment.specs.declared.deployment.Member.{Member}
 use Rattle.cdi_deployment.specs.declared.deployment.Member.TheVariants as members
 use Rattle.cdi_name_check.specs.declared.claim.Claim.{Claim}
 use Rattle.cdi_name_check.specs.declared.claim.Claim.TheVariants as claims
-use Rattle.cdi_problems.specs.Elements.{Element, member_name, place_of}
+use Rattle.cdi_problems.specs.Elements.{Element, place_of}
+use Rattle.cdi_deployment.specs.Member.{member_name}
 use Rattle.cdi_problems.specs.Findings.{Placed, placed}
-use Rattle.cdi_reach.specs.ListsThose.{ListsThose}
+use Rattle.cdi_types.specs.ListsThose.{ListsThose}
 
 -- the name of a member within its class, and the place of a callback
 abbrev pub member_claims : ℕ → Member → List Claim

@@ -6,7 +6,6 @@ ghost use Rattle.cdi_problems.specs.Elements.{element_of};
 use cdi_base::Name;
 use cdi_deployment::Member;
 use cdi_problems::Element;
-use cdi_problems::element::member_name;
 
 /// What only one element may have: a name within its group, or the place of a callback in a class. Classes and interceptors come
 /// with their indices, since two of one name are two owners.
@@ -36,7 +35,7 @@ fn member_claims(class: usize, member: &Member) -> (Claim, Option<Claim>)
 {
     let name = Claim::ClassPart {
         class,
-        name: member_name(member),
+        name: member.name(),
     };
     match member {
         Member::PostConstruct(_) => (name, Some(Claim::PostConstruct(class))),

@@ -3,7 +3,7 @@ use Rattle.std.proofs.Common.{◌≡◌, ◌∙◌, ℕ, Bool, true, false, List
 use Rattle.std.proofs.lemmas.Bool.{true≢false}
 use Rattle.std.specs.List.{items_where_true}
 use Rattle.std.specs.List.Retain.{IsFiltered, ReturnsInTurn}
-use Rattle.cdi_reach.specs.ListsThose.{ListsThose}
+use Rattle.cdi_types.specs.ListsThose.{ListsThose}
 use Rattle.cdi_enable.specs.Enablement.{Enablement, IsEnabledClass, IsEnabledManaged, bean_of_class}
 use Rattle.cdi_enable.specs.declared.managed_bean.ManagedBean.{ManagedBean}
 use Rattle.cdi_enable.proofs.Free.{once}

@@ -4,8 +4,8 @@ use Rattle.std.specs.List.{AllByRecursion, Contains}
 use Rattle.std.proofs.lemmas.List.Elements.{Contains-append_right}
 use Rattle.std.proofs.lemmas.Bool.{true≢false}
 use Rattle.std.proofs.lemmas.List.{take_more}
-use Rattle.cdi_reach.specs.ListsThose.{ListsThose}
-use Rattle.cdi_reach.proofs.Listings.{keep_last, skip_last}
+use Rattle.cdi_types.specs.ListsThose.{ListsThose}
+use Rattle.cdi_types.proofs.Listings.{keep_last, skip_last}
 use Rattle.cdi_types.proofs.Listed.{not_in_none, first_or_later}
 
 module _ {X : Type 0} {P : X → Type 0} where

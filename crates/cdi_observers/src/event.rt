@@ -1,13 +1,13 @@
 //! An event.
 ghost use Rattle.std.specs.Prelude.{◌≡◌, ◌∷◌, ◌↔◌, IsTrue, IfOk};
 ghost use Rattle.cdi_quals.specs.Qualifiers as quals;
-ghost use Rattle.cdi_reach.specs.ListsThose.{ListsThose};
+ghost use Rattle.cdi_types.specs.ListsThose.{ListsThose};
 ghost use Rattle.cdi_observers.specs.Observers as spec;
 ghost use Rattle.cdi_observers.specs.Order.{HearsAt};
 
 use crate::order::RankedObserver;
 use cdi_base::{Name, Seq};
-use cdi_beanlist::ObserverMethod;
+use cdi_beans::ObserverMethod;
 use cdi_quals::{QualSet, Qualifier};
 use cdi_types::TypeTable;
 use std::alloc::{AllocError, Global};

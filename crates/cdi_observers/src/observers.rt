@@ -9,7 +9,7 @@ use crate::event::Event;
 use crate::group::{ObserverGroup, groups_of};
 use crate::order::{RankedObserver, order_of};
 use cdi_base::{BuiltIn, Name, Seq};
-use cdi_beanlist::ObserverMethod;
+use cdi_beans::ObserverMethod;
 use cdi_enable::EnabledSet;
 use cdi_quals::{QualSet, Qualifier};
 use cdi_types::TypeTable;

@@ -16,7 +16,7 @@ use Rattle.cdi_problems.specs.Findings.{Placed, placed_after, placed}
 use Rattle.cdi_problems.specs.Places.{once, with_place}
 use Rattle.cdi_problems.specs.Words.{problems_at}
 use Rattle.cdi_problems.specs.declared.problem.ProblemKind.TheVariants as kinds
-use Rattle.cdi_reach.specs.ListsThose.{ListsThose}
+use Rattle.cdi_types.specs.ListsThose.{ListsThose}
 use Rattle.cdi_plans.specs.Apart.{has_class, AreNamedApart}
 
 -- ---- lists of what was found that are empty

@@ -4,19 +4,19 @@ use Rattle.std.specs.Prelude.{IsSome, option_map, if◌then◌else◌}
 use Rattle.std.specs.List.{All, AllZip, find, list_any, flat_map}
 use Rattle.std.proofs.lemmas.Bool.{eqb-true, true≢false}
 use Rattle.std.proofs.lemmas.List.Elements.{All-cons, All-nil}
-use Rattle.cdi_bean_check.specs.Limits.{is_producer}
+use Rattle.cdi_bean_rules.specs.Limits.{is_producer}
 use Rattle.cdi_bean_check.specs.ManagedBeans.{is_bean}
-use Rattle.cdi_beanlist.specs.BeanLists.{IsBeanListOf}
-use Rattle.cdi_beanlist.specs.Beans.{Source, IsBeanOf, sources_in, products_in}
-use Rattle.cdi_beanlist.specs.declared.bean.Bean.{Bean}
-use Rattle.cdi_beanlist.specs.declared.bean.BeanKind.{BeanKind}
-use Rattle.cdi_beanlist.specs.declared.bean.BeanKind.TheVariants as kinds
-use Rattle.cdi_beanlist.specs.declared.bean.BeanList.{BeanList}
+use Rattle.cdi_beans.specs.BeanLists.{IsBeanListOf}
+use Rattle.cdi_beans.specs.Beans.{Source, IsBeanOf, sources_in, products_in}
+use Rattle.cdi_beans.specs.declared.bean.Bean.{Bean}
+use Rattle.cdi_beans.specs.declared.bean.BeanKind.{BeanKind}
+use Rattle.cdi_beans.specs.declared.bean.BeanKind.TheVariants as kinds
+use Rattle.cdi_beans.specs.declared.bean.BeanList.{BeanList}
 use Rattle.cdi_deployment.specs.declared.deployment.Class.{Class}
 use Rattle.cdi_deployment.specs.declared.deployment.Deployment.{Deployment}
 use Rattle.cdi_deployment.specs.declared.deployment.Member.{Member}
 use Rattle.cdi_deployment.specs.declared.deployment.Member.TheVariants as members
-use Rattle.cdi_members.specs.Line.{class_named}
+use Rattle.cdi_types.specs.Line.{class_named}
 use Rattle.cdi_quals.specs.declared.types.QualifierType.{QualifierType}
 use Rattle.cdi_plans.specs.Apart.{has_class, AreNamedApart}
 use Rattle.cdi_plans.specs.Plans.{IsDeclared, IsDeclaredAs}

@@ -5,7 +5,7 @@ use Rattle.std.proofs.lemmas.List.{take_at, drop_at}
 use Rattle.std.specs.List.{filter_map, prefix_len}
 use Rattle.cdi_deployment.specs.declared.deployment.Class.{Class}
 use Rattle.cdi_deployment.specs.declared.deployment.Member.{Member}
-use Rattle.cdi_members.specs.Members.{comes_down, parts_of, members_of}
+use Rattle.cdi_types.specs.Members.{comes_down, parts_of, members_of}
 use Rattle.cdi_quals.proofs.Pairs.{next}
 use Rattle.cdi_plans.specs.Apart.{has_class, is_of, AreNamedApart}
 use Rattle.cdi_plans.specs.Steps.{injection, initialization, injections}

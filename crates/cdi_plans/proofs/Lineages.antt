@@ -5,7 +5,7 @@ use Rattle.std.proofs.lemmas.List.Elements.{filter_map-append}
 use Rattle.std.proofs.lemmas.List.Folds.{list_any-append}
 use Rattle.std.specs.List.{find, list_any, filter_map, cons_option}
 use Rattle.cdi_deployment.specs.declared.deployment.Class.{Class}
-use Rattle.cdi_members.specs.Line.{IsLineOf, class_named}
+use Rattle.cdi_types.specs.Line.{IsLineOf, class_named}
 use Rattle.cdi_types.specs.Lineage.{IsLineage, superclass_of}
 use Rattle.cdi_types.specs.Subtype.{object}
 use Rattle.cdi_types.specs.declared.declaration.TypeDeclaration.{TypeDeclaration}

@@ -4,15 +4,15 @@ use Rattle.std.specs.Prelude.{IsSome, option_map}
 use Rattle.std.specs.List.{All, AllZip, list_any, filter_map, cons_option}
 use Rattle.std.proofs.lemmas.Bool.{eqb-true, true≢false}
 use Rattle.std.proofs.lemmas.List.Elements.{All-cons, All-nil}
-use Rattle.cdi_beanlist.specs.ObserverMethods.{AreObserversOf, IsObserverOf, observer}
-use Rattle.cdi_beanlist.specs.declared.bean.ObserverMethod.{ObserverMethod}
+use Rattle.cdi_beans.specs.ObserverMethods.{AreObserversOf, IsObserverOf, observer}
+use Rattle.cdi_beans.specs.declared.bean.ObserverMethod.{ObserverMethod}
 use Rattle.cdi_deployment.specs.declared.deployment.Class.{Class}
 use Rattle.cdi_deployment.specs.declared.deployment.Deployment.{Deployment}
 use Rattle.cdi_deployment.specs.declared.deployment.Member.{Member}
 use Rattle.cdi_deployment.specs.declared.deployment.Member.TheVariants as members
 use Rattle.cdi_deployment.specs.declared.deployment.Observer.{Observer}
-use Rattle.cdi_members.specs.Line.{class_named}
-use Rattle.cdi_members.specs.Members.{comes_down, members_of, parts_of}
+use Rattle.cdi_types.specs.Line.{class_named}
+use Rattle.cdi_types.specs.Members.{comes_down, members_of, parts_of}
 use Rattle.cdi_quals.specs.declared.types.QualifierType.{QualifierType}
 use Rattle.cdi_plans.specs.Observers.{as_observer, observer_named, observer_of}
 use Rattle.cdi_plans.proofs.Declared.{some_found}

@@ -1,15 +1,15 @@
 -- By which steps an instance of a bean is created (Jakarta CDI 4.0, Lifecycle of managed beans, Lifecycle of producer methods).
 use Rattle.std.specs.Prelude.{ℕ, ◌≡◌, List, map, Option, option_and_then, IsSome}
 use Rattle.std.specs.List.{filter_map}
-use Rattle.cdi_beanlist.specs.declared.bean.Bean.{Bean}
-use Rattle.cdi_beanlist.specs.declared.bean.BeanKind.{BeanKind}
-use Rattle.cdi_beanlist.specs.declared.bean.BeanKind.TheVariants as kinds
+use Rattle.cdi_beans.specs.declared.bean.Bean.{Bean}
+use Rattle.cdi_beans.specs.declared.bean.BeanKind.{BeanKind}
+use Rattle.cdi_beans.specs.declared.bean.BeanKind.TheVariants as kinds
 use Rattle.cdi_chains.specs.Chains.{ChainTables}
 use Rattle.cdi_deployment.specs.declared.deployment.Class.{Class}
 use Rattle.cdi_deployment.specs.declared.deployment.Constructor.{Constructor}
 use Rattle.cdi_deployment.specs.declared.deployment.Field.{Field}
-use Rattle.cdi_members.specs.Line.{IsLineOf, class_named}
-use Rattle.cdi_members.specs.Members.{fields_of, members_of}
+use Rattle.cdi_types.specs.Line.{IsLineOf, class_named}
+use Rattle.cdi_types.specs.Members.{fields_of, members_of}
 use Rattle.cdi_plans.specs.Codes.{business_method, destruction}
 use Rattle.cdi_plans.specs.Products.{producer_of, IsProductPlan}
 use Rattle.cdi_plans.specs.Steps.{steps_of}

@@ -1,16 +1,16 @@
 -- What a product comes from, and what disposes of it (Jakarta CDI 4.0, Lifecycle of producer methods, Lifecycle of producer fields).
 use Rattle.std.specs.Prelude.{ℕ, ◌≡◌, ◌==◌, Bool, false, List, Option, Some, None, option_map, option_and_then}
 use Rattle.std.specs.List.{find, filter_map}
-use Rattle.cdi_bean_check.specs.Disposers.{Disposes}
-use Rattle.cdi_beanlist.specs.declared.bean.BeanKind.{BeanKind}
-use Rattle.cdi_beanlist.specs.declared.bean.BeanKind.TheVariants as kinds
+use Rattle.cdi_bean_rules.specs.Disposers.{Disposes}
+use Rattle.cdi_beans.specs.declared.bean.BeanKind.{BeanKind}
+use Rattle.cdi_beans.specs.declared.bean.BeanKind.TheVariants as kinds
 use Rattle.cdi_chains.specs.Chains.{ChainTables}
 use Rattle.cdi_deployment.specs.declared.deployment.Class.{Class}
 use Rattle.cdi_deployment.specs.declared.deployment.Member.{Member}
 use Rattle.cdi_deployment.specs.declared.deployment.Member.TheVariants as members
-use Rattle.cdi_members.specs.Line.{class_named}
+use Rattle.cdi_types.specs.Line.{class_named}
 use Rattle.cdi_quals.specs.declared.types.QualifierType.{QualifierType}
-use Rattle.cdi_reach.specs.ListsThose.{ListsThose}
+use Rattle.cdi_types.specs.ListsThose.{ListsThose}
 use Rattle.cdi_types.specs.declared.declaration.TypeDeclaration.{TypeDeclaration}
 use Rattle.cdi_plans.specs.Codes.{injected_method}
 use Rattle.cdi_plans.specs.Tables.{PlanTables}

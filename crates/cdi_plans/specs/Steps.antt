@@ -2,14 +2,14 @@
 use Rattle.std.specs.Prelude.{ℕ, List, [], ◌∷◌, ◌++◌, map, filter, Option, Some, None}
 use Rattle.std.specs.List.{filter_map}
 use Rattle.cdi_base.specs.declared.place.InterceptorMethod.TheVariants as methods
-use Rattle.cdi_beanlist.specs.declared.bean.Bean.{Bean}
+use Rattle.cdi_beans.specs.declared.bean.Bean.{Bean}
 use Rattle.cdi_chains.specs.Chains.{ChainTables, interceptors_of}
 use Rattle.cdi_deployment.specs.declared.deployment.Class.{Class}
 use Rattle.cdi_deployment.specs.declared.deployment.Constructor.{Constructor}
 use Rattle.cdi_deployment.specs.declared.deployment.InjectedField.{InjectedField}
 use Rattle.cdi_deployment.specs.declared.deployment.Member.{Member}
 use Rattle.cdi_deployment.specs.declared.deployment.Member.TheVariants as members
-use Rattle.cdi_members.specs.Members.{comes_down, members_of, parts_of}
+use Rattle.cdi_types.specs.Members.{comes_down, members_of, parts_of}
 use Rattle.cdi_plans.specs.Codes.{member_code, constructor_body, lifecycle, completion}
 use Rattle.cdi_plans.specs.declared.plan.Step.{Step}
 use Rattle.cdi_plans.specs.declared.plan.Step.TheVariants as steps

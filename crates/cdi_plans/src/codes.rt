@@ -7,10 +7,10 @@ ghost use Rattle.cdi_plans.specs.Codes as spec;
 use crate::copies::copy_points;
 use crate::plan::{BusinessMethod, Code, InjectedMethod, Lifecycle};
 use cdi_base::{InterceptorMethod, Name, Place, Seq};
-use cdi_beanlist::BeanMember;
+use cdi_beans::BeanMember;
 use cdi_chains::Chains;
 use cdi_deployment::{Class, Member, Point};
-use cdi_members::ClassPart;
+use cdi_types::ClassPart;
 use std::alloc::{AllocError, Global};
 
 fn member_place(class: &Class, name: Name) -> Place

@@ -3,7 +3,7 @@ ghost use Rattle.std.specs.Prelude.{◌≡◌, map, IfOk};
 
 use cdi_base::{Name, Seq, Use};
 use cdi_deployment::{Field, Point};
-use cdi_members::ClassPart;
+use cdi_types::ClassPart;
 use std::alloc::{AllocError, Global};
 
 fn copy_uses(alloc: Global, uses: &[Use]) -> Result<Seq<Use>, AllocError>

@@ -9,10 +9,10 @@ use crate::copies::copy_fields;
 use crate::plan::ManagedPlan;
 use crate::steps::steps_of;
 use cdi_base::Seq;
-use cdi_beanlist::Bean;
+use cdi_beans::Bean;
 use cdi_chains::Chains;
 use cdi_deployment::{Constructor, Field};
-use cdi_members::ClassLine;
+use cdi_types::ClassLine;
 use std::alloc::{AllocError, Global};
 
 /// The fields of a new instance of the last class of a line.

@@ -5,7 +5,7 @@ ghost use Rattle.cdi_plans.specs.Observers as spec;
 
 use cdi_base::Name;
 use cdi_deployment::{Class, Member, Observer};
-use cdi_members::ClassPart;
+use cdi_types::ClassPart;
 
 /// A member, if it is an observer.
 fn as_observer(member: &Member) -> Option<&Observer>

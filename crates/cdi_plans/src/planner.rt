@@ -1,11 +1,11 @@
 //! What makes plans.
 ghost use Rattle.std.specs.Prelude.{◌≡◌, Some, option_map, IfOk, IsSome, IsTrue};
 ghost use Rattle.std.specs.Option.{option_copied};
-ghost use Rattle.cdi_members.specs.Line.{class_named};
+ghost use Rattle.cdi_types.specs.Line.{class_named};
 ghost use Rattle.cdi_plans.specs.Observers as observers;
 ghost use Rattle.cdi_plans.specs.Plans as spec;
 ghost use Rattle.cdi_plans.specs.Products.{producer_of, IsPlanBy, IsProductPlan};
-ghost use Rattle.cdi_bean_check.specs.Limits.{is_producer};
+ghost use Rattle.cdi_bean_rules.specs.Limits.{is_producer};
 
 use crate::codes::injected_method;
 use crate::managed::managed_plan;
@@ -13,12 +13,11 @@ use crate::observer::observer_in;
 use crate::plan::{InjectedMethod, ManagedPlan, Plan, ProductPlan};
 use crate::product::{disposers_of, producer_in, source_of};
 use cdi_base::Name;
-use cdi_beanlist::{Bean, BeanKind, ObserverMethod};
+use cdi_beans::{Bean, BeanKind, ObserverMethod};
 use cdi_chains::Chains;
 use cdi_deployment::{Class, Constructor, Deployment, Member, Observer};
-use cdi_members::{ClassIndex, ClassPart};
 use cdi_quals::QualifierTypes;
-use cdi_types::TypeTable;
+use cdi_types::{ClassIndex, ClassPart, TypeTable};
 use std::alloc::{AllocError, Global};
 use std::marker::Model;
 

@@ -1,21 +1,20 @@
 //! What a product comes from, and what disposes of it (Jakarta CDI 4.0, *Lifecycle of producer methods*, *Lifecycle of producer
 //! fields*).
 ghost use Rattle.std.specs.Prelude.{◌≡◌, ◌∷◌, [], Some, MatchOption, IfOk, IsTrue};
-ghost use Rattle.cdi_bean_check.specs.Disposers.{Serves, Disposes};
-ghost use Rattle.cdi_bean_check.specs.Limits.{is_producer};
+ghost use Rattle.cdi_bean_rules.specs.Disposers.{Serves, Disposes};
+ghost use Rattle.cdi_bean_rules.specs.Limits.{is_producer};
 ghost use Rattle.cdi_deployment.specs.declared.deployment.Member.TheVariants as members;
 ghost use Rattle.cdi_plans.specs.Products as spec;
 
 use crate::codes::injected_method;
 use crate::plan::{InjectedMethod, Source};
 use cdi_base::Seq;
-use cdi_bean_check::serves;
-use cdi_beanlist::BeanKind;
+use cdi_bean_rules::serves;
+use cdi_beans::BeanKind;
 use cdi_chains::Chains;
 use cdi_deployment::{Class, Disposer, Member};
-use cdi_members::ClassPart;
 use cdi_quals::QualifierTypes;
-use cdi_types::TypeTable;
+use cdi_types::{ClassPart, TypeTable};
 use std::alloc::{AllocError, Global};
 
 /// Whether a member is the producer of beans of this kind.

@@ -2,7 +2,7 @@
 ghost use Rattle.std.specs.Prelude.{◌≡◌, ◌++◌, ◌∷◌, [], map, IfOk, OnOk};
 ghost use Rattle.std.specs.List.{filter_map, prefix_len};
 ghost use Rattle.std.specs.Option.{option_copied};
-ghost use Rattle.cdi_members.specs.Members.{members_of};
+ghost use Rattle.cdi_types.specs.Members.{members_of};
 ghost use Rattle.cdi_plans.specs.Apart as apart;
 ghost use Rattle.cdi_plans.specs.Codes.{constructor_body as body_of};
 ghost use Rattle.cdi_plans.specs.Steps as spec;
@@ -12,10 +12,10 @@ use crate::codes::{completion, lifecycle, member_code};
 use crate::copies::{copy_points, point_of};
 use crate::plan::{Code, Step};
 use cdi_base::{InterceptorMethod, Name, Place, Seq};
-use cdi_beanlist::Bean;
+use cdi_beans::Bean;
 use cdi_chains::Chains;
 use cdi_deployment::{Class, Constructor, InjectedField, Member};
-use cdi_members::{ClassLine, ClassPart};
+use cdi_types::{ClassLine, ClassPart};
 use std::alloc::{AllocError, Global};
 
 /// Adds a step for each of these interceptors.

@@ -13,7 +13,7 @@ use Rattle.cdi_script.specs.declared.step.Step.{Step}
 use Rattle.cdi_script.specs.Build.{script_at}
 use Rattle.cdi_prepare.specs.declared.scripts.BadScript.{BadScript}
 use Rattle.cdi_prepare.specs.declared.scripts.NamedScript.{NamedScript}
-use Rattle.cdi_text.specs.Places.{name_text}
+use Rattle.cdi_problems.specs.Places.{name_text}
 use Rattle.cdi_prepare.specs.Scripts.{told, scripts_after, scripts_in}
 
 pub weaker : {A E : Type 0} (P Q : A → Type 0) (r : Result A E) → ((x : A) → P x → Q x) → IfOk r P → IfOk r Q

@@ -1,3 +1,9 @@
+pub mod HintText
+pub mod Position
+pub mod LongList
+pub mod BadStep
+pub mod Hint
+pub mod Kinds
 pub mod FaultText
 pub mod Ready
 pub mod Scripts

@@ -11,7 +11,7 @@ use Rattle.cdi_script.specs.Build.{script_at}
 use Rattle.cdi_script.specs.Listed.{shape_of}
 use Rattle.cdi_prepare.specs.declared.scripts.BadScript.{BadScript}
 use Rattle.cdi_prepare.specs.declared.scripts.NamedScript.{NamedScript}
-use Rattle.cdi_text.specs.Places.{name_text}
+use Rattle.cdi_problems.specs.Places.{name_text}
 
 -- what reading gives, and the table of names after it
 abbrev pub Reads : Type 0 → Type 0

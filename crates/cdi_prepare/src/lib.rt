@@ -1,9 +1,18 @@
-//! Makes a deployment ready: reads it with its scripts, or tells by a line why it can't be read.
+//! Makes a deployment ready: reads it with its scripts, or tells by a line why it can't be read, and by a hint what is wrong with one that
+//! is refused at a stage.
 #![tactic(auto)]
 
+mod bad_steps;
 pub mod fault_text;
+pub mod hint;
+pub mod hint_laws;
+pub mod hint_search;
+mod long_lists;
+mod position;
 pub mod reading;
 pub mod scripts;
 
+pub use hint::Hint;
+pub use hint_search::hint_for;
 pub use reading::{Prepared, prepare};
 pub use scripts::NamedScript;

@@ -5,9 +5,9 @@ ghost use Rattle.cdi_prepare.specs.Scripts as spec;
 
 use cdi_base::{Name, Names, OrMemory, Text};
 use cdi_deployment::deployment::Script as Declared;
+use cdi_problems::name_text;
 use cdi_script::{Script, ScriptFault};
 use cdi_stage::Stage;
-use cdi_text::places::name_text;
 use std::alloc::Global;
 
 /// A script under its name.

@@ -17,6 +17,7 @@ use Rattle.cdi_deployment.specs.declared.deployment.Member.TheVariants as member
 use Rattle.cdi_deployment.specs.declared.deployment.Script.{Script}
 use Rattle.cdi_problems.specs.declared.element.Element.{Element as Lent}
 use Rattle.cdi_problems.specs.declared.element.Element.TheVariants as lent
+use Rattle.cdi_deployment.specs.Member.{member_name}
 
 -- One thing that a deployment declares or lists. What stands inside a class or an interceptor comes with it, and with its index among
 -- the classes or the interceptors.
@@ -61,16 +62,6 @@ elements_of d =
     ++ flat_map interceptor_elements (enumerate_from 0 d.interceptors)
     ++ map Element.ASelectedName d.selected
     ++ map Element.AnOrderedName d.order ++ map Element.AScript d.scripts
-
-abbrev pub member_name : Member → ℕ
-member_name (members.Method m) = m.name
-member_name (members.Initializer i) = i.name
-member_name (members.PostConstruct c) = c.name
-member_name (members.PreDestroy c) = c.name
-member_name (members.Producer p) = p.name
-member_name (members.ProducerField p) = p.name
-member_name (members.Disposer d) = d.name
-member_name (members.Observer o) = o.name
 
 -- the place by which problems tell an element
 abbrev pub place_of : Element → Place

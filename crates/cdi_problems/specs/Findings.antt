@@ -1,7 +1,7 @@
 -- Where a problem holds.
 use Rattle.std.specs.Prelude.{◌≡◌, List, [], ◌∷◌, ◌++◌, map}
 use Rattle.cdi_base.specs.declared.place.Place.{Place}
-use Rattle.cdi_reach.specs.ListsThose.{ListsThose}
+use Rattle.cdi_types.specs.ListsThose.{ListsThose}
 use Rattle.cdi_problems.specs.Elements.{Element, place_of}
 use Rattle.cdi_problems.specs.Places.{once}
 

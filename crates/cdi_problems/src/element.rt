@@ -65,22 +65,6 @@ pub enum Element<'a> {
     Script(&'a Script),
 }
 
-/// The name of a member.
-pub fn member_name(member: &Member) -> Name
-    ensures { result ≡ spec.member_name member.now }
-{
-    match member {
-        Member::Method(method) => method.name,
-        Member::Initializer(initializer) => initializer.name,
-        Member::PostConstruct(callback) => callback.name,
-        Member::PreDestroy(callback) => callback.name,
-        Member::Producer(producer) => producer.name,
-        Member::ProducerField(producer) => producer.name,
-        Member::Disposer(disposer) => disposer.name,
-        Member::Observer(observer) => observer.name,
-    }
-}
-
 fn add_interfaces<'a>(
     interfaces: &'a [Interface],
     elements: &mut Vec<Element<'a>>,
@@ -205,7 +189,7 @@ impl Element<'_> {
             Element::Constructor { class, .. } => Place::Constructor(class.name),
             Element::Member { class, member, .. } => Place::Member {
                 class: class.name,
-                member: member_name(member),
+                member: member.name(),
             },
             Element::Interceptor { interceptor, .. } => Place::Class(interceptor.name),
             Element::InterceptorField {

@@ -9,5 +9,5 @@ pub mod problem;
 
 pub use element::{Element, elements_of};
 pub use finding::{Rule, places_where};
-pub use place::{PlaceText, once};
+pub use place::{PlaceText, name_text, once};
 pub use problem::{Problem, ProblemKind, ProblemText, problems_at};

@@ -17,7 +17,7 @@ pub struct PlaceText<'a> {
 }
 
 /// The text of a name, which is empty for a name that the table doesn't hold.
-fn name_text<'a>(names: &'a Names, name: Name) -> &'a str
+pub fn name_text<'a>(names: &'a Names, name: Name) -> &'a str
     ensures { result.now ≡ spec.name_text names.now name }
 {
     match names.get(name) {

@@ -9,7 +9,8 @@ use Rattle.cdi_deployment.specs.declared.deployment.Exception.{Exception}
 use Rattle.cdi_deployment.specs.declared.deployment.Field.{Field}
 use Rattle.cdi_deployment.specs.declared.deployment.Interceptor.{Interceptor}
 use Rattle.cdi_deployment.specs.declared.deployment.Script.{Script}
-use Rattle.cdi_problems.specs.Elements.{Element, class_elements, elements_of, interceptor_elements, member_name, place_of}
+use Rattle.cdi_problems.specs.Elements.{Element, class_elements, elements_of, interceptor_elements, place_of}
+use Rattle.cdi_deployment.specs.Member.{member_name}
 use Rattle.cdi_report.specs.PlaceNames.{HasName, HasNames}
 use Rattle.cdi_report.proofs.Having.{◌and◌, made, numbered}
 use Rattle.cdi_report.proofs.KnownNames.{known-named, member-known}

@@ -8,7 +8,7 @@ use Rattle.cdi_problems.specs.Places.{same_place, with_place}
 use Rattle.cdi_problems.specs.Words.{problems_at}
 use Rattle.cdi_problems.specs.declared.problem.Problem.{Problem}
 use Rattle.cdi_problems.specs.declared.problem.ProblemKind.{ProblemKind}
-use Rattle.cdi_reach.specs.ListsThose.{ListsThose}
+use Rattle.cdi_types.specs.ListsThose.{ListsThose}
 use Rattle.cdi_report.proofs.Having.{Having, each_made}
 use Rattle.cdi_serving.proofs.Each.{each_append}
 

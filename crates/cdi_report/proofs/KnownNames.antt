@@ -6,7 +6,7 @@ use Rattle.cdi_deployment.specs.KnownNames.{IsKnown, KnowsMember}
 use Rattle.cdi_deployment.specs.declared.deployment.Deployment.{Deployment}
 use Rattle.cdi_deployment.specs.declared.deployment.Member.{Member}
 use Rattle.cdi_deployment.specs.declared.deployment.Member.TheVariants as members
-use Rattle.cdi_problems.specs.Elements.{member_name}
+use Rattle.cdi_deployment.specs.Member.{member_name}
 use Rattle.cdi_report.specs.PlaceNames.{HasName}
 use Rattle.cdi_serving.proofs.TrueNames.{name-at}
 use Rattle.cdi_serving.specs.Facts.{HasFacts}

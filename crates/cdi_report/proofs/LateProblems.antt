@@ -3,7 +3,7 @@ use Rattle.std.proofs.Common.{ℕ, List, ◌++◌, Option, sym, subst}
 use Rattle.cdi_bodies.specs.declared.shape.Shape.{Shape}
 use Rattle.cdi_check.specs.Late.{AreBodyProblems, AreEnabledProblems, ArePointProblems, AreProblemsIn}
 use Rattle.cdi_check.specs.Problems.{AreProblemsOf}
-use Rattle.cdi_cycle_check.specs.OwnPoints.{Setting}
+use Rattle.cdi_live.specs.OwnPoints.{Setting}
 use Rattle.cdi_deployment.specs.declared.deployment.Deployment.{Deployment}
 use Rattle.cdi_enable.specs.Enablement.{Enablement}
 use Rattle.cdi_problems.specs.declared.problem.Problem.{Problem}

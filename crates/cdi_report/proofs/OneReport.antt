@@ -15,7 +15,7 @@ use Rattle.cdi_report.specs.OneReport.{IsSettled, OneReport, SameReport}
 use Rattle.cdi_report.specs.Reports.{AreFindings, AreProblemsWith, ReportsOn, TellsProblems, Told, Writes, verdict_of}
 use Rattle.cdi_report.specs.declared.verdict.Verdict.{Verdict}
 use Rattle.cdi_report.specs.declared.verdict.Verdict.TheVariants as verdicts
-use Rattle.cdi_uniqueness.proofs.Verdicts.{one_verdict}
+use Rattle.cdi_accepted.proofs.Verdicts.{one_verdict}
 
 -- ---- what is written
 

@@ -10,7 +10,7 @@ use Rattle.cdi_deployment.specs.declared.deployment.Constructor.{Constructor}
 use Rattle.cdi_deployment.specs.declared.deployment.Deployment.{Deployment}
 use Rattle.cdi_deployment.specs.declared.deployment.Interceptor.{Interceptor}
 use Rattle.cdi_deployment.specs.declared.deployment.Member.{Member}
-use Rattle.cdi_problems.specs.Elements.{member_name}
+use Rattle.cdi_deployment.specs.Member.{member_name}
 use Rattle.cdi_report.specs.PlaceNames.{HasName, HasNames}
 use Rattle.cdi_report.proofs.Having.{Having, ◌and◌, given, if_mapped, one_if, parted}
 use Rattle.cdi_report.proofs.KnownNames.{known-named, member-known}

@@ -1,7 +1,7 @@
 -- What resolves to one bean is eligible.
 use Rattle.std.proofs.Common.{◌≡◌, ◌∙◌, ℕ, zero, suc, ◌+◌, ◌<◌, Bool, true, false, List, [], ◌∷◌, length, get_or, filter, cond, Option, Some, None, refl, sym, ap, subst, arith}
 use Rattle.std.specs.Prelude.{ℤ, Contains}
-use Rattle.cdi_beanlist.specs.declared.bean.Bean.{Bean}
+use Rattle.cdi_beans.specs.declared.bean.Bean.{Bean}
 use Rattle.cdi_quals.specs.declared.qualifier.Qualifier.{Qualifier}
 use Rattle.cdi_resolve.specs.Filters.{fits}
 use Rattle.cdi_resolve.specs.Resolution.{sole, eligible, alternatives, without_priority, greatest_priority, with_greatest, highest, one_or_many, or_narrowed, if_nothing, among_priorities, among_alternatives, resolution, IsEligible}

@@ -2,7 +2,7 @@
 use Rattle.std.proofs.Common.{◌≡◌, ◌∙◌, ℕ, ◌&&◌, Bool, List, Option, Some, None, filter, refl, sym, ap}
 use Rattle.std.specs.Prelude.{ℤ, is_none}
 use Rattle.std.specs.List.{enumerate_from}
-use Rattle.cdi_beanlist.specs.declared.bean.Bean.{Bean}
+use Rattle.cdi_beans.specs.declared.bean.Bean.{Bean}
 use Rattle.cdi_quals.specs.declared.qualifier.Qualifier.{Qualifier}
 use Rattle.cdi_resolve.specs.Filters.{is_enabled, enabled_beans, fits, has_priority, passes, those_left}
 use Rattle.cdi_resolve.specs.Resolution.{eligible, alternatives, without_priority, with_greatest, if_nothing, one_or_many, or_narrowed}

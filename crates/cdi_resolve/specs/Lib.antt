@@ -1,3 +1,4 @@
 pub mod Counting
 pub mod Filters
 pub mod Resolution
+pub mod BeanTables

@@ -2,7 +2,7 @@
 -- with its index.
 use Rattle.std.specs.Prelude.{ℕ, ℤ, ◌≡◌, true, List, [], ◌∷◌, Option, Some, None, is_none, fold, filter, Contains}
 use Rattle.std.specs.Int.{int_max}
-use Rattle.cdi_beanlist.specs.declared.bean.Bean.{Bean}
+use Rattle.cdi_beans.specs.declared.bean.Bean.{Bean}
 use Rattle.cdi_quals.specs.declared.qualifier.Qualifier.{Qualifier}
 use Rattle.cdi_resolve.specs.Filters.{fits, has_priority}
 use Rattle.cdi_resolve.specs.declared.resolution.Resolution.{Resolution}

@@ -5,7 +5,7 @@ ghost use Rattle.cdi_resolve.specs.Filters as spec;
 
 use crate::required::Required;
 use cdi_base::Name;
-use cdi_beanlist::Bean;
+use cdi_beans::Bean;
 use cdi_quals::Qualifier;
 
 /// What beans are left, of those that have a type and required qualifiers.

@@ -1,11 +1,16 @@
-//! Typesafe resolution: which bean a type and qualifiers stand for (Jakarta CDI 4.0, *Typesafe resolution*).
+//! Typesafe resolution: which bean a type and qualifiers stand for (Jakarta CDI 4.0, *Typesafe resolution*); and the tables that a
+//! deployment and its bean list give: what it declares, which beans are enabled, what resolves to what, and the chains of interceptors.
 #![tactic(auto)]
 
+pub mod bean_tables;
+pub mod declared;
 mod filter;
 pub mod laws;
 mod required;
 pub mod resolution;
 pub mod resolver;
 
+pub use bean_tables::BeanTables;
+pub use declared::DeclaredTables;
 pub use resolution::Resolution;
 pub use resolver::Resolver;

@@ -10,7 +10,7 @@ use crate::filter::{Left, Wanted, passes};
 use crate::required::Required;
 use crate::resolution::Resolution;
 use cdi_base::{BuiltIn, Name, Seq, Use};
-use cdi_beanlist::Bean;
+use cdi_beans::Bean;
 use cdi_quals::{QualSet, Qualifier, QualifierTypes};
 use std::alloc::Global;
 use std::marker::Model;

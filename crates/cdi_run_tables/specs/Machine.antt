@@ -5,7 +5,7 @@ use Rattle.cdi_base.specs.Fields.{put}
 use Rattle.cdi_base.specs.Maps.{at}
 use Rattle.cdi_base.specs.declared.uses.Use.{Use}
 use Rattle.cdi_bean_check.specs.Qualifiers.{full_uses}
-use Rattle.cdi_beanlist.specs.declared.bean.Bean.{Bean}
+use Rattle.cdi_beans.specs.declared.bean.Bean.{Bean}
 use Rattle.cdi_bodies.specs.declared.entry.Entry.{Entry}
 use Rattle.cdi_deployment.specs.declared.deployment.Deployment.{Deployment}
 use Rattle.cdi_deployment.specs.declared.deployment.Field.{Field}

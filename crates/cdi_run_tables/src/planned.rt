@@ -5,7 +5,7 @@ ghost use Rattle.cdi_plans.specs.Plans.{IsDeclared};
 ghost use Rattle.cdi_run_tables.specs.Planned as spec;
 
 use cdi_base::{Place, Scope, Seq};
-use cdi_beanlist::{Bean, BeanKind};
+use cdi_beans::{Bean, BeanKind};
 use cdi_plans::{Plan, Planner};
 use std::alloc::{AllocError, Global};
 

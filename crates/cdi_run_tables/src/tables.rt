@@ -3,7 +3,7 @@ ghost use Rattle.std.specs.Prelude.{◌≡◌, slice_get, option_map, IfOk};
 ghost use Rattle.std.specs.List.{AllZip};
 ghost use Rattle.cdi_base.specs.Maps.{at};
 ghost use Rattle.cdi_bodies.specs.Table.{entries_of};
-ghost use Rattle.cdi_tables.specs.BeanTables.{AreTablesOf};
+ghost use Rattle.cdi_resolve.specs.BeanTables.{AreTablesOf};
 ghost use Rattle.cdi_run_tables.specs.Ids.{id_in};
 ghost use Rattle.cdi_run_tables.specs.Machine as spec;
 ghost use Rattle.cdi_run_tables.specs.Planned.{IsPlanned, IsTabled, plan_tables};
@@ -16,8 +16,7 @@ use cdi_bodies::{Bodies, BodyId};
 use cdi_deployment::Deployment;
 use cdi_plans::laws::law_beans_are_declared;
 use cdi_plans::{BusinessMethod, Plan, Planner};
-use cdi_resolve::Resolution;
-use cdi_tables::BeanTables;
+use cdi_resolve::{BeanTables, Resolution};
 use std::alloc::{AllocError, Global};
 
 /// A deployment with its tables and the plans of its beans. It never changes.

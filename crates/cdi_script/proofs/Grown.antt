@@ -9,8 +9,8 @@ use Rattle.cdi_base.specs.declared.uses.MemberValue.{MemberValue}
 use Rattle.cdi_base.specs.declared.uses.WrittenMember.{WrittenMember}
 use Rattle.cdi_base.specs.declared.uses.WrittenUse.{WrittenUse}
 use Rattle.cdi_base.specs.declared.act.Via.TheVariants.{Local, Param}
-use Rattle.cdi_json.specs.Forms.{use_in}
-use Rattle.cdi_json.specs.Json.{is_word}
+use Rattle.cdi_form.specs.ValueForms.{use_in}
+use Rattle.cdi_form.specs.Json.{is_word}
 use Rattle.cdi_stage.specs.declared.stage.Stage.{Stage}
 use Rattle.cdi_script.specs.declared.fault.ScriptFault.{ScriptFault}
 use Rattle.cdi_script.specs.Term as terms

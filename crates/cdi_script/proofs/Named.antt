@@ -11,8 +11,8 @@ use Rattle.cdi_base.specs.declared.act.Via.TheVariants.{Local, Param}
 use Rattle.cdi_base.specs.declared.uses.MemberValue.{MemberValue}
 use Rattle.cdi_base.specs.declared.uses.WrittenMember.{WrittenMember}
 use Rattle.cdi_base.specs.declared.uses.WrittenUse.{WrittenUse}
-use Rattle.cdi_json.specs.Forms.{use_in}
-use Rattle.cdi_json.specs.Json.{is_word}
+use Rattle.cdi_form.specs.ValueForms.{use_in}
+use Rattle.cdi_form.specs.Json.{is_word}
 use Rattle.cdi_script.specs.Build.{action_as, action_in, behind_word, script_at, step_at, steps_at}
 use Rattle.cdi_script.specs.Expression.{expression_of, pair_of}
 use Rattle.cdi_script.specs.Form.{are_steps_at, kind_of, plain_items}

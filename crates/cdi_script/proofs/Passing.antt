@@ -12,8 +12,8 @@ use Rattle.cdi_base.specs.declared.act.Via.TheVariants as vias
 use Rattle.cdi_stage.specs.declared.stage.Stage.{Stage}
 use Rattle.cdi_stage.specs.declared.stage.Stage.TheVariants.{Injection, Lifecycle, Lookups}
 use Rattle.cdi_base.specs.declared.uses.WrittenUse.{WrittenUse}
-use Rattle.cdi_json.specs.Forms.{use_in}
-use Rattle.cdi_json.specs.Json.{is_word}
+use Rattle.cdi_form.specs.ValueForms.{use_in}
+use Rattle.cdi_form.specs.Json.{is_word}
 use Rattle.serde_json.specs.Data.{Data, null, boolean, number, string, array, object, Items, no_items, item}
 use Rattle.serde_json.specs.Find.{as_i64}
 use Rattle.cdi_script.specs.declared.fault.ScriptFault.{ScriptFault}

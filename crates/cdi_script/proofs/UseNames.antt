@@ -8,7 +8,7 @@ use Rattle.cdi_base.specs.Uses.{has_name, has_names}
 use Rattle.cdi_base.specs.declared.uses.WrittenMember.{WrittenMember}
 use Rattle.cdi_base.specs.declared.uses.WrittenUse.{WrittenUse}
 use Rattle.cdi_base.specs.declared.value.Value.{Value}
-use Rattle.cdi_json.specs.Forms.{use_in, members_in, value_in}
+use Rattle.cdi_form.specs.ValueForms.{use_in, members_in, value_in}
 use Rattle.serde_json.specs.Data.{Data, null, boolean, number, string, array, object, no_items, item, Members, no_members, member}
 use Rattle.cdi_script.specs.Qualifier.{has_named_keys, has_use_names}
 

@@ -1,7 +1,7 @@
 -- How expressions are written.
 use Rattle.std.specs.Prelude.{ℕ, List, Bool, true, false, ◌&&◌, codes, is_some, Ok, Err, if◌then◌else◌}
 use Rattle.cdi_base.specs.Reading.{◌>>=◌}
-use Rattle.cdi_json.specs.Json.{is_word}
+use Rattle.cdi_form.specs.Json.{is_word}
 use Rattle.serde_json.specs.Data.{Data, null, boolean, number, string, array, object, no_items, item}
 use Rattle.serde_json.specs.Find.{as_i64}
 use Rattle.cdi_script.specs.declared.fault.ScriptFault.TheVariants.{BadStep}

@@ -3,7 +3,7 @@ use Rattle.std.specs.Prelude.{Bool, false, ◌&&◌, codes, nat_le, nat_lt, is_s
 use Rattle.cdi_stage.specs.Stage.{is_included, served}
 use Rattle.cdi_stage.specs.declared.stage.Stage.{Stage}
 use Rattle.cdi_stage.specs.declared.stage.Stage.TheVariants.{Injection}
-use Rattle.cdi_json.specs.Json.{is_word}
+use Rattle.cdi_form.specs.Json.{is_word}
 use Rattle.serde_json.specs.Data.{Data, array, Items, no_items, item}
 use Rattle.serde_json.specs.Events.{items_len}
 use Rattle.cdi_script.specs.declared.step.StepKind.{StepKind}

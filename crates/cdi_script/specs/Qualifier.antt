@@ -5,7 +5,7 @@ use Rattle.cdi_base.specs.Name.{is_name}
 use Rattle.cdi_base.specs.Uses.{has_names, numbered_use}
 use Rattle.cdi_base.specs.declared.uses.Use.{Use}
 use Rattle.cdi_base.specs.declared.uses.WrittenUse.{WrittenUse}
-use Rattle.cdi_json.specs.Forms.{use_in}
+use Rattle.cdi_form.specs.ValueForms.{use_in}
 use Rattle.serde_json.specs.Data.{Data, string, array, object, no_items, item, Members, no_members, member}
 use Rattle.cdi_script.specs.declared.fault.ScriptFault.TheVariants.{BadStep, Full}
 use Rattle.cdi_script.specs.Reading.{Reads, is_named}

@@ -6,7 +6,7 @@ use Rattle.cdi_base.specs.declared.act.Via.{Via}
 use Rattle.cdi_base.specs.declared.act.Via.TheVariants.{Field, Param, Local}
 use Rattle.cdi_stage.specs.declared.stage.Stage.{Stage}
 use Rattle.cdi_stage.specs.declared.stage.Stage.TheVariants.{Injection, Lifecycle, Lookups}
-use Rattle.cdi_json.specs.Json.{is_word}
+use Rattle.cdi_form.specs.Json.{is_word}
 use Rattle.serde_json.specs.Data.{Data, array, no_items, item}
 use Rattle.cdi_script.specs.declared.fault.ScriptFault.TheVariants.{BadStep}
 use Rattle.cdi_script.specs.Reading.{Reads, is_named, name_of, count_of, is_count, found}

@@ -9,7 +9,7 @@ use crate::expression::{Expression, Node};
 use crate::fault::ScriptFault;
 use crate::reading::{Item, bad, count_of, is_count, is_named, name_of};
 use cdi_base::{Names, OrMemory, Text};
-use cdi_json::is_word;
+use cdi_form::is_word;
 use cdi_stage::Stage;
 use serde_json::Value as Json;
 use std::alloc::Global;

@@ -12,7 +12,7 @@ use crate::part::{Parts, are_parts};
 use crate::reading::{Item, are_all, bad};
 use crate::step::{Action, Step, StepKind};
 use cdi_base::{Names, OrMemory};
-use cdi_json::is_word;
+use cdi_form::is_word;
 use cdi_stage::{SERVED, Stage};
 use serde_json::Value as Json;
 use std::alloc::Global;

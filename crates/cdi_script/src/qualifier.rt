@@ -8,7 +8,7 @@ ghost use Rattle.cdi_script.specs.Qualifier as spec;
 use crate::fault::ScriptFault;
 use crate::reading::{Item, bad, is_named};
 use cdi_base::{Names, OrMemory, TableFull, Use, WrittenUse, is_name};
-use cdi_json::{Form, is_use};
+use cdi_form::{Form, is_use};
 use cdi_stage::Stage;
 use serde_json::{Map, Value as Json};
 use std::alloc::Global;

@@ -8,7 +8,7 @@ ghost use Rattle.cdi_script.specs.Via as spec;
 use crate::fault::ScriptFault;
 use crate::reading::{bad, count_of, is_count, is_named, name_of};
 use cdi_base::{Names, OrMemory, Via};
-use cdi_json::is_word;
+use cdi_form::is_word;
 use cdi_stage::Stage;
 use serde_json::Value as Json;
 

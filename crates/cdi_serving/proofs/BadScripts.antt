@@ -21,7 +21,7 @@ use Rattle.cdi_script.proofs.Named.{AreNames, Named, script-named}
 use Rattle.cdi_script.specs.Reading.{Reads as ScriptReads}
 use Rattle.cdi_script.specs.declared.step.Step.{Step}
 use Rattle.cdi_stage.specs.declared.stage.Stage.{Stage}
-use Rattle.cdi_text.specs.Places.{name_text}
+use Rattle.cdi_problems.specs.Places.{name_text}
 use Rattle.cdi_serving.specs.BadScripts.{BadScriptsHaveNames}
 use Rattle.cdi_serving.proofs.TrueNames.{read-named}
 

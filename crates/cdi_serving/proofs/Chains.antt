@@ -2,8 +2,8 @@
 use Rattle.std.proofs.Common.{ℕ, ◌≡◌, ◌∙◌, List, [], Option, Some, None, refl, ap}
 use Rattle.cdi_base.specs.declared.place.InterceptorMethod.{InterceptorMethod}
 use Rattle.cdi_base.specs.declared.place.InterceptorMethod.TheVariants as methods
-use Rattle.cdi_beanlist.specs.declared.bean.Bean.{Bean}
-use Rattle.cdi_beanlist.specs.declared.bean.BeanMember.{BeanMember}
+use Rattle.cdi_beans.specs.declared.bean.Bean.{Bean}
+use Rattle.cdi_beans.specs.declared.bean.BeanMember.{BeanMember}
 use Rattle.cdi_chains.specs.Chains.{ChainTables, chain_of, chain_with, class_level, intercepts, interceptors_of, invoke_chain, life_chain, member_level, places_from}
 use Rattle.cdi_quals.specs.declared.qualifier.Qualifier.{Qualifier}
 

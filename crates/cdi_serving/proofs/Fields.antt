@@ -5,7 +5,7 @@ use Rattle.cdi_base.specs.Reading.{◌>>=◌}
 use Rattle.cdi_base.specs.declared.act.Via.TheVariants as vias
 use Rattle.cdi_stage.specs.Stage.{is_included, served}
 use Rattle.cdi_stage.specs.declared.stage.Stage.TheVariants.{Injection, Lifecycle, Lookups}
-use Rattle.cdi_json.specs.Json.{is_word}
+use Rattle.cdi_form.specs.Json.{is_word}
 use Rattle.serde_json.specs.Data.{Data, array, Items, no_items, item}
 use Rattle.cdi_script.specs.declared.fault.ScriptFault.TheVariants.{BadStep}
 use Rattle.cdi_script.specs.Expression.{expression_of}

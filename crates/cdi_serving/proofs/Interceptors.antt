@@ -1,8 +1,8 @@
 -- Where a deployment has no interceptors, none are enabled, and all chains are empty.
 use Rattle.std.proofs.Common.{ℕ, ◌≡◌, ◌∙◌, List, [], ◌∷◌, ◌++◌, filter, refl, ap, subst, arith}
 use Rattle.std.specs.List.{AllZip, enumerate_from, filter_map}
-use Rattle.cdi_beanlist.specs.Interceptors.{AreEnabled, AreInterceptorsOf, Indexed, IsEnabledInterceptor, compare_priorities, has_priority, listed}
-use Rattle.cdi_beanlist.specs.declared.bean.EnabledInterceptor.{EnabledInterceptor}
+use Rattle.cdi_beans.specs.Interceptors.{AreEnabled, AreInterceptorsOf, Indexed, IsEnabledInterceptor, compare_priorities, has_priority, listed}
+use Rattle.cdi_beans.specs.declared.bean.EnabledInterceptor.{EnabledInterceptor}
 use Rattle.cdi_deployment.specs.declared.deployment.Deployment.{Deployment}
 use Rattle.cdi_quals.specs.OrderedSet.{IsOrderedSet}
 use Rattle.cdi_quals.specs.declared.types.QualifierType.{QualifierType}

@@ -4,7 +4,7 @@ use Rattle.std.proofs.lemmas.List.Elements.{recursion_from_All}
 use Rattle.std.specs.List.{AllByRecursion}
 use Rattle.cdi_deployment.specs.declared.deployment.Class.{Class}
 use Rattle.cdi_deployment.specs.declared.deployment.Member.{Member}
-use Rattle.cdi_members.specs.Members.{comes_down, members_of, parts_of}
+use Rattle.cdi_types.specs.Members.{comes_down, members_of, parts_of}
 use Rattle.cdi_serving.proofs.Each.{each_append, each_filter}
 use Rattle.cdi_serving.specs.Parts.{HasServedParts, IsMethod}
 

@@ -15,7 +15,7 @@ use Rattle.cdi_form.specs.Numbers.{numbers_fit}
 use Rattle.cdi_form.specs.Shape.{wrong}
 use Rattle.cdi_form.specs.Words.{member_kind}
 use Rattle.cdi_form.proofs.Forms.{form-of}
-use Rattle.cdi_json.specs.Json.{json_in}
+use Rattle.cdi_form.specs.Json.{json_in}
 use Rattle.serde_json.specs.Data.{Data}
 use Rattle.serde_json.specs.Find.{get}
 use Rattle.cdi_deployment.specs.Limits.{is_within}

@@ -15,7 +15,7 @@ use Rattle.cdi_script.proofs.Grown.{Grows, script-grows}
 use Rattle.cdi_script.specs.Reading.{Reads as ScriptReads}
 use Rattle.cdi_script.specs.declared.step.Step.{Step}
 use Rattle.cdi_stage.specs.declared.stage.Stage.{Stage}
-use Rattle.cdi_text.specs.Places.{name_text}
+use Rattle.cdi_problems.specs.Places.{name_text}
 
 -- what was read left a table that begins with these names
 data Keeps {A : Type 0} (names : List (List ℕ)) : Reads A → Type 0 where

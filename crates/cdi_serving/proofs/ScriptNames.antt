@@ -9,7 +9,7 @@ use Rattle.cdi_prepare.specs.declared.scripts.NamedScript.{NamedScript}
 use Rattle.cdi_script.specs.Reading.{Reads}
 use Rattle.cdi_script.specs.declared.step.Step.{Step}
 use Rattle.cdi_stage.specs.declared.stage.Stage.{Stage}
-use Rattle.cdi_text.specs.Places.{name_text}
+use Rattle.cdi_problems.specs.Places.{name_text}
 use Rattle.cdi_serving.proofs.Readied.{IsMadeFrom, if_read}
 use Rattle.cdi_script.proofs.Named.{AreNames, Named, named-on, script-named}
 use Rattle.cdi_serving.proofs.TrueNames.{read-named}

@@ -15,7 +15,7 @@ use Rattle.cdi_prepare.specs.FaultText.{fault_line}
 use Rattle.cdi_prepare.specs.Ready.{bad_script_line, or_line, readied_at, with_scripts}
 use Rattle.cdi_prepare.specs.Scripts.{added, is_named, place_under, registered, script_in, scripts_after, scripts_in, shape_at, shape_under, told}
 use Rattle.cdi_prepare.specs.declared.scripts.NamedScript.{NamedScript}
-use Rattle.cdi_text.specs.Places.{name_text}
+use Rattle.cdi_problems.specs.Places.{name_text}
 use Rattle.cdi_run_tables.specs.Served.{is_served_body, is_served_shape}
 use Rattle.cdi_serving.proofs.Actions.{script_is_served}
 use Rattle.cdi_serving.proofs.ReadValues.{something, then}

@@ -5,11 +5,11 @@ use Rattle.std.proofs.lemmas.List.Elements.{recursion_from_All}
 use Rattle.std.proofs.lemmas.Option.{same_Some}
 use Rattle.std.specs.List.{All, AllByRecursion, AllZip, flat_map}
 use Rattle.cdi_base.specs.declared.scope.Scope.{Scope}
-use Rattle.cdi_bean_check.specs.Limits.{is_producer}
+use Rattle.cdi_bean_rules.specs.Limits.{is_producer}
 use Rattle.cdi_bean_check.specs.ManagedBeans.{is_bean}
-use Rattle.cdi_beanlist.specs.Beans.{IsBeanOf, Source, products_in, sources_in}
-use Rattle.cdi_beanlist.specs.declared.bean.Bean.{Bean}
-use Rattle.cdi_beanlist.specs.declared.bean.BeanKind.TheVariants as kinds
+use Rattle.cdi_beans.specs.Beans.{IsBeanOf, Source, products_in, sources_in}
+use Rattle.cdi_beans.specs.declared.bean.Bean.{Bean}
+use Rattle.cdi_beans.specs.declared.bean.BeanKind.TheVariants as kinds
 use Rattle.cdi_deployment.specs.declared.deployment.Bean.{Bean as DeclaredBean}
 use Rattle.cdi_deployment.specs.declared.deployment.Class.{Class}
 use Rattle.cdi_deployment.specs.declared.deployment.Deployment.{Deployment}

@@ -4,14 +4,14 @@ use Rattle.std.specs.Prelude.{option_and_then, option_map}
 use Rattle.std.proofs.lemmas.Bool.{and_from}
 use Rattle.std.proofs.lemmas.List.Elements.{recursion_from_All}
 use Rattle.std.specs.List.{AllByRecursion, AllZip, find, list_all}
-use Rattle.cdi_beanlist.specs.declared.bean.Bean.{Bean}
-use Rattle.cdi_beanlist.specs.declared.bean.BeanKind.{BeanKind}
-use Rattle.cdi_beanlist.specs.declared.bean.BeanKind.TheVariants as kinds
-use Rattle.cdi_beanlist.specs.declared.bean.BeanList.{BeanList}
+use Rattle.cdi_beans.specs.declared.bean.Bean.{Bean}
+use Rattle.cdi_beans.specs.declared.bean.BeanKind.{BeanKind}
+use Rattle.cdi_beans.specs.declared.bean.BeanKind.TheVariants as kinds
+use Rattle.cdi_beans.specs.declared.bean.BeanList.{BeanList}
 use Rattle.cdi_deployment.specs.declared.deployment.Class.{Class}
 use Rattle.cdi_deployment.specs.declared.deployment.Deployment.{Deployment}
 use Rattle.cdi_deployment.specs.declared.deployment.Member.{Member}
-use Rattle.cdi_members.specs.Line.{class_named}
+use Rattle.cdi_types.specs.Line.{class_named}
 use Rattle.cdi_plans.specs.Plans.{IsManagedPlan, IsPlanOf, constructor_of, managed_plan}
 use Rattle.cdi_plans.specs.Products.{is_producer_of, producer_in, producer_of}
 use Rattle.cdi_plans.specs.Tables.{PlanTables}
@@ -22,7 +22,7 @@ use Rattle.cdi_run_tables.specs.Planned.{IsPlanned, IsTabled, plan_tables}
 use Rattle.cdi_run_tables.specs.Served.{has_text, has_texts, is_served, is_served_bean, is_served_plan, is_served_scope}
 use Rattle.cdi_run_tables.specs.declared.planned.PlannedBean.{PlannedBean}
 use Rattle.cdi_run_tables.specs.declared.tables.RunTables.{RunTables}
-use Rattle.cdi_tables.specs.declared.bean_tables.BeanTables.{BeanTables}
+use Rattle.cdi_resolve.specs.declared.bean_tables.BeanTables.{BeanTables}
 use Rattle.cdi_serving.proofs.Each.{all_pass, each_zipped}
 use Rattle.cdi_serving.proofs.Interceptors.{no_interceptors}
 use Rattle.cdi_serving.proofs.Lines.{each_in_line, of_class_named}

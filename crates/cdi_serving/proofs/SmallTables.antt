@@ -4,10 +4,10 @@ use Rattle.std.specs.Prelude.{IsTrue}
 use Rattle.std.proofs.lemmas.Bool.{and_from, le-leb, lt-ltb}
 use Rattle.std.proofs.lemmas.Slice.Zip.{AllZip-long}
 use Rattle.std.specs.List.{AllByRecursion, AllZip, flat_map, list_all}
-use Rattle.cdi_bean_check.specs.Limits.{bean_count}
-use Rattle.cdi_beanlist.specs.Beans.{IsBeanOf, sources_in}
-use Rattle.cdi_beanlist.specs.declared.bean.Bean.{Bean}
-use Rattle.cdi_beanlist.specs.declared.bean.BeanList.{BeanList}
+use Rattle.cdi_bean_rules.specs.Limits.{bean_count}
+use Rattle.cdi_beans.specs.Beans.{IsBeanOf, sources_in}
+use Rattle.cdi_beans.specs.declared.bean.Bean.{Bean}
+use Rattle.cdi_beans.specs.declared.bean.BeanList.{BeanList}
 use Rattle.cdi_deployment.specs.Limits.{is_within}
 use Rattle.cdi_deployment.specs.declared.deployment.Deployment.{Deployment}
 use Rattle.cdi_plans.specs.Plans.{IsManagedPlan, IsPlanOf, constructor_of}
@@ -20,7 +20,7 @@ use Rattle.cdi_run_tables.specs.Planned.{IsPlanned, IsTabled, plan_tables}
 use Rattle.cdi_run_tables.specs.Sizes.{has_few_injections, is_small}
 use Rattle.cdi_run_tables.specs.declared.planned.PlannedBean.{PlannedBean}
 use Rattle.cdi_run_tables.specs.declared.tables.RunTables.{RunTables}
-use Rattle.cdi_tables.specs.declared.bean_tables.BeanTables.{BeanTables}
+use Rattle.cdi_resolve.specs.declared.bean_tables.BeanTables.{BeanTables}
 use Rattle.cdi_serving.proofs.BeanCounts.{as_many, few_beans}
 use Rattle.cdi_serving.proofs.Each.{all_pass, each_item, each_zipped}
 use Rattle.cdi_serving.proofs.Injections.{count, few_injections}

@@ -5,7 +5,7 @@ use Rattle.std.proofs.lemmas.List.{take_more, flat_map_more, map-append}
 use Rattle.std.specs.List.{flat_map}
 use Rattle.cdi_base.specs.declared.place.Place.{Place}
 use Rattle.cdi_problems.specs.Places.{once}
-use Rattle.cdi_reach.specs.ListsThose.{ListsThose}
+use Rattle.cdi_types.specs.ListsThose.{ListsThose}
 use Rattle.cdi_body_check.specs.Findings.{AddsPlacesOf, ArePlacesOf}
 use Rattle.cdi_body_check.specs.Sites.{Site, place_of}
 

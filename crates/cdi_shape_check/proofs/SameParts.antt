@@ -16,8 +16,8 @@ use Rattle.cdi_deployment.specs.declared.deployment.InjectedField.{InjectedField
 use Rattle.cdi_deployment.specs.declared.deployment.Interceptor.{Interceptor}
 use Rattle.cdi_deployment.specs.declared.deployment.Member.{Member}
 use Rattle.cdi_live.specs.Enabled.{Enabled}
-use Rattle.cdi_members.proofs.Lines.{one_line}
-use Rattle.cdi_reach.specs.ListsThose.{ListsThose}
+use Rattle.cdi_types.proofs.Lines.{one_line}
+use Rattle.cdi_types.specs.ListsThose.{ListsThose}
 use Rattle.cdi_types.specs.Declarations.{declarations_of}
 use Rattle.cdi_shape_check.specs.Application.{Application}
 use Rattle.cdi_shape_check.specs.BodyOutsideShape.{HasBodyOutsideShape, is_outside, is_outside_with}

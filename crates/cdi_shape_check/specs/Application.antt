@@ -1,6 +1,6 @@
 -- What the names of a shape are looked up in.
 use Rattle.std.specs.Prelude.{ℕ, List}
-use Rattle.cdi_beanlist.specs.declared.bean.Bean.{Bean}
+use Rattle.cdi_beans.specs.declared.bean.Bean.{Bean}
 use Rattle.cdi_deployment.specs.declared.deployment.Deployment.{Deployment}
 use Rattle.cdi_quals.specs.declared.types.QualifierType.{QualifierType}
 use Rattle.cdi_resolve.specs.Filters.{enabled_of}

@@ -9,7 +9,7 @@ use Rattle.cdi_deployment.specs.declared.deployment.Interceptor.{Interceptor}
 use Rattle.cdi_deployment.specs.declared.deployment.Member.{Member}
 use Rattle.cdi_deployment.specs.declared.deployment.Member.TheVariants as members
 use Rattle.cdi_body_check.specs.Sites.{Site}
-use Rattle.cdi_members.specs.Line.{IsLineOf}
+use Rattle.cdi_types.specs.Line.{IsLineOf}
 use Rattle.cdi_types.specs.Declarations.{declarations_of}
 
 -- whether it has a field, its injected fields, and whether it has a method with a number of values, all by their names

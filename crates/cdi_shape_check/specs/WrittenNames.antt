@@ -7,7 +7,7 @@ use Rattle.cdi_bodies.specs.declared.shape.Lookup.{Lookup}
 use Rattle.cdi_body_check.specs.Exceptions.{is_declared}
 use Rattle.cdi_deployment.specs.declared.deployment.Class.{Class}
 use Rattle.cdi_deployment.specs.declared.deployment.Deployment.{Deployment}
-use Rattle.cdi_members.specs.Line.{class_named}
+use Rattle.cdi_types.specs.Line.{class_named}
 use Rattle.cdi_name_check.specs.UnknownName.{is_built_in, is_type, are_qualifiers, is_event_qualifier_use}
 
 -- a class of which there are instances

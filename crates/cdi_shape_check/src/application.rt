@@ -5,11 +5,10 @@ ghost use Rattle.cdi_types.specs.Declarations.{declarations_of};
 use cdi_base::Name;
 use cdi_body_check::DeclaredExceptions;
 use cdi_deployment::Class;
-use cdi_members::ClassIndex;
 use cdi_name_check::DeclaredNames;
 use cdi_quals::QualifierTypes;
 use cdi_resolve::Resolver;
-use cdi_types::TypeTable;
+use cdi_types::{ClassIndex, TypeTable};
 
 /// The tables of a deployment in which the names of a shape are looked up.
 #[derive(Clone, Copy)]
@@ -27,7 +26,7 @@ pub struct ApplicationTables<'a> {
 
 impl<'a> ApplicationTables<'a> {
     ghost use Rattle.std.specs.Option.{option_copied};
-    ghost use Rattle.cdi_members.specs.Line.{class_named};
+    ghost use Rattle.cdi_types.specs.Line.{class_named};
     ghost use Rattle.cdi_shape_check.specs.Application.{application_of};
 
     /// The class of a name, if the deployment has it.

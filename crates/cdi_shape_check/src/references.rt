@@ -13,7 +13,7 @@ ghost use Rattle.cdi_shape_check.specs.Targets.{point_of};
 use crate::application::ApplicationTables;
 use crate::own::OwnTables;
 use cdi_base::{Name, Use, Via};
-use cdi_beanlist::{Bean, BeanKind, BeanMember};
+use cdi_beans::{Bean, BeanKind, BeanMember};
 use cdi_bodies::{Lookup, MethodCall, Shape};
 use cdi_deployment::{Class, InjectedField, Member, Point};
 use cdi_resolve::Resolution;

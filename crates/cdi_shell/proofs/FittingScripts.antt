@@ -19,11 +19,11 @@ use Rattle.cdi_run_tables.specs.Machine.{AreIdsOf, machine_tables}
 use Rattle.cdi_run_tables.specs.Served.{is_served, serves_shapes}
 use Rattle.cdi_run_tables.specs.Sizes.{is_small}
 use Rattle.cdi_run_tables.specs.declared.tables.RunTables.{RunTables}
-use Rattle.cdi_tables.specs.BeanTables.{AreTablesOf, bean_tables}
-use Rattle.cdi_tables.specs.declared.bean_tables.BeanTables.{BeanTables}
-use Rattle.cdi_tables.specs.declared.declared.DeclaredTables.{DeclaredTables}
+use Rattle.cdi_resolve.specs.BeanTables.{AreTablesOf, bean_tables}
+use Rattle.cdi_resolve.specs.declared.bean_tables.BeanTables.{BeanTables}
+use Rattle.cdi_resolve.specs.declared.declared.DeclaredTables.{DeclaredTables}
 use Rattle.cdi_types.specs.Declarations.{declarations_of}
-use Rattle.cdi_uniqueness.proofs.Tables.{one_tables}
+use Rattle.cdi_accepted.proofs.Tables.{one_tables}
 use Rattle.cdi_prepare.specs.declared.scripts.NamedScript.{NamedScript}
 use Rattle.cdi_prepare.specs.Scripts.{place_under, shape_under}
 use Rattle.cdi_prepare.proofs.Holding.{same_place, same_shape}

@@ -6,7 +6,7 @@ use Rattle.cdi_base.specs.declared.command.Command.{Command}
 use Rattle.cdi_base.specs.declared.reply.Reply.{Reply}
 use Rattle.cdi_base.specs.Name.{is_name}
 use Rattle.cdi_base.specs.Reading.{◌>>=◌}
-use Rattle.cdi_json.specs.Json.{json_in}
+use Rattle.cdi_form.specs.Json.{json_in}
 use Rattle.cdi_stage.specs.Stage.{served}
 use Rattle.cdi_stage.specs.declared.stage.Stage.{Stage}
 use Rattle.cdi_text.specs.declared.command.BadLine.{BadLine}

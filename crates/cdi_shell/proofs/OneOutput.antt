@@ -36,7 +36,7 @@ use Rattle.cdi_shell.specs.Laws.{IsSettled, SameOutput, OneOutput}
 use Rattle.cdi_lines.specs.Lines.{complete_lines, all_lines}
 use Rattle.cdi_text.specs.ReplyText.{reply_line}
 use Rattle.cdi_lines.specs.Served.{Replies, Serves}
-use Rattle.cdi_uniqueness.proofs.Verdicts.{one_verdict}
+use Rattle.cdi_accepted.proofs.Verdicts.{one_verdict}
 use Rattle.cdi_shell.proofs.Determined.{IsFed, answers_one, replies_one, replies_halted}
 use Rattle.cdi_shell.proofs.Tabled.{same_machine}
 

@@ -10,11 +10,11 @@ use Rattle.cdi_resolve.specs.Resolution.{resolution}
 use Rattle.cdi_run_tables.specs.Machine.{id_of, is_known, machine_bean, machine_resolution, machine_tables}
 use Rattle.cdi_run_tables.specs.Planned.{IsPlanned, plan_tables}
 use Rattle.cdi_run_tables.specs.declared.tables.RunTables.{RunTables}
-use Rattle.cdi_tables.specs.BeanTables.{AreTablesOf}
-use Rattle.cdi_tables.specs.declared.bean_tables.BeanTables.{BeanTables}
+use Rattle.cdi_resolve.specs.BeanTables.{AreTablesOf}
+use Rattle.cdi_resolve.specs.declared.bean_tables.BeanTables.{BeanTables}
 use Rattle.cdi_prepare.specs.declared.scripts.NamedScript.{NamedScript}
-use Rattle.cdi_uniqueness.proofs.Plans.{one_plan_list}
-use Rattle.cdi_uniqueness.proofs.Tables.{one_tables}
+use Rattle.cdi_accepted.proofs.Plans.{one_plan_list}
+use Rattle.cdi_accepted.proofs.Tables.{one_tables}
 use Rattle.cdi_shell.specs.Drive.{AreTablesWith}
 
 module _ (ss : List NamedScript) (d : Deployment) (t u : RunTables) (a : AreTablesWith ss d t) (b : AreTablesWith ss d u) where

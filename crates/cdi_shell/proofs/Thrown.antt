@@ -12,7 +12,7 @@ use Rattle.cdi_run_tables.specs.Machine.{machine_tables}
 use Rattle.cdi_run_tables.specs.declared.tables.RunTables.{RunTables}
 use Rattle.cdi_serving.proofs.TrueNames.{name-at}
 use Rattle.cdi_serving.specs.Facts.{HasFacts}
-use Rattle.cdi_text.specs.Places.{name_text}
+use Rattle.cdi_problems.specs.Places.{name_text}
 use Rattle.cdi_container.specs.Accepted.{IsAccepted}
 use Rattle.cdi_container.specs.Thrown.{Replies, TellsName, NamesThrown}
 use Rattle.cdi_shell.specs.Drive.{readied}

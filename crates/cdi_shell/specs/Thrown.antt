@@ -12,7 +12,7 @@ use Rattle.cdi_report.specs.Reports.{AreProblemsWith}
 use Rattle.cdi_run_tables.specs.Machine.{machine_tables}
 use Rattle.cdi_run_tables.specs.declared.tables.RunTables.{RunTables}
 use Rattle.cdi_text.specs.Command.{command_in}
-use Rattle.cdi_text.specs.Places.{name_text}
+use Rattle.cdi_problems.specs.Places.{name_text}
 use Rattle.cdi_text.specs.ReplyText.{reply_line}
 use Rattle.cdi_container.specs.Accepted.{IsAccepted}
 use Rattle.cdi_container.specs.Sessions.{AnswersRead, Served}

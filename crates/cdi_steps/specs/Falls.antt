@@ -86,9 +86,6 @@ weight (nexts.Needs p k) = max (rank p) (max (gave_rank p k) (thrown_rank k))
 abbrev pub entries_left : World → ℕ
 entries_left w = w.ticks - length w.trace
 
-abbrev pub cost : ℕ → World → ℕ
-cost n w = entries_left w * 2 ^ 40 + n
-
 pub record SameTrace (w v : World) : Type 0 where
   pub trace : v.trace ≡ w.trace
   pub ticks : v.ticks ≡ w.ticks
@@ -98,6 +95,12 @@ pub record Lowers (n : ℕ) (w : World) (next : Next) (v : World) : Type 0 where
   pub same : SameTrace w v
   pub rank : weight next < n
 
--- a step from this rank writes an entry, or lowers the rank
+-- one entry was written, within the budget
+pub record Adds (w v : World) : Type 0 where
+  pub room : length w.trace < w.ticks
+  pub trace : length v.trace ≡ length w.trace + 1
+  pub ticks : v.ticks ≡ w.ticks
+
+-- a step from this rank writes one entry, or lowers the rank
 abbrev pub Falls : ℕ → World → Next → World → Type 0
-Falls n w next v = (entries_left v < entries_left w) ⊎ Lowers n w next v
+Falls n w next v = Adds w v ⊎ Lowers n w next v

@@ -11,8 +11,8 @@ use Rattle.cdi_stage.specs.declared.stage.Stage.{Stage}
 use Rattle.cdi_stage.specs.declared.stage.Stage.TheVariants as stages
 use Rattle.cdi_base.specs.declared.uses.WrittenUse.{WrittenUse}
 use Rattle.cdi_base.specs.declared.value.Value.{Value}
-use Rattle.cdi_json.specs.Forms.{value_in, use_in, list_in}
-use Rattle.cdi_json.specs.Json.{is_word, json_in}
+use Rattle.cdi_form.specs.ValueForms.{value_in, use_in, list_in}
+use Rattle.cdi_form.specs.Json.{is_word, json_in}
 use Rattle.serde_json.specs.Data.{Data, null, string, array, Items, no_items, item}
 use Rattle.cdi_text.specs.declared.command.BadLine.{BadLine}
 

@@ -1,3 +1,2 @@
 pub mod Command
-pub mod Places
 pub mod ReplyText

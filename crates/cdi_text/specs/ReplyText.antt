@@ -9,7 +9,7 @@ use Rattle.serde_json.specs.Data.{Data, unsigned, null, number, string, array, n
 use Rattle.serde_json.specs.Find.{of_integer}
 use Rattle.serde_json.specs.View.{items_of}
 use Rattle.serde_json.specs.Written.{compact_text}
-use Rattle.cdi_text.specs.Places.{name_text}
+use Rattle.cdi_problems.specs.Places.{name_text}
 
 abbrev pub one : List ℕ → Data
 one word = array (item (string word) no_items)

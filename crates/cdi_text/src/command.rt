@@ -8,7 +8,7 @@ ghost use Rattle.serde_json.specs.View.{view, items_view};
 ghost use Rattle.cdi_text.specs.Command as spec;
 
 use cdi_base::{Command, OrMemory, Seq, Text, Value, WrittenUse, is_name};
-use cdi_json::{Form, is_word, list_of, read_json};
+use cdi_form::{Form, is_word, list_of, read_json};
 use cdi_stage::{SERVED, Stage};
 use serde_json::Value as Json;
 use std::alloc::Global;

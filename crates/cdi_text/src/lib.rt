@@ -2,7 +2,6 @@
 #![tactic(auto)]
 
 pub mod command;
-pub mod places;
 pub mod reply_text;
 
 pub use command::{BadLine, read_command, read_command_at};

@@ -9,8 +9,8 @@ ghost use Rattle.json.specs.Token.{string as string_token, number as number_toke
 ghost use Rattle.json.specs.Print.{print};
 ghost use Rattle.cdi_text.specs.ReplyText as spec;
 
-use crate::places::name_text;
 use cdi_base::{Names, Reply, Value};
+use cdi_problems::name_text;
 use json::Writer;
 use serde_json::{Value as Json, json};
 use std::alloc::{AllocError, Global};

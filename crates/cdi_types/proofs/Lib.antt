@@ -1,3 +1,12 @@
+pub mod Inherited
+pub mod Lines
+pub mod ClassPlaces
+pub mod Bits
+pub mod Paths
+pub mod Rows
+pub mod Heights
+pub mod Listings
+pub mod OneWay
 pub mod Cycles
 pub mod Listed
 pub mod Order

@@ -8,7 +8,7 @@ use Rattle.std.proofs.lemmas.List.Quantifiers.{position-Some}
 use Rattle.std.proofs.lemmas.Option.{slice_get_past}
 use Rattle.std.specs.Bool.{nat_lt}
 use Rattle.std.specs.List.{All, Contains, list_any, filter_map, find, position_or_len}
-use Rattle.cdi_reach.specs.Graph.{IsGraph, Path, ProperPath, targets_of}
+use Rattle.cdi_types.specs.Graph.{IsGraph, Path, ProperPath, targets_of}
 use Rattle.cdi_types.specs.declared.declaration.TypeDeclaration.{TypeDeclaration}
 use Rattle.cdi_types.specs.Nodes.{place_of, graph_of}
 use Rattle.cdi_types.specs.Subtype.{is_declared, supertypes_of, IsBelow}

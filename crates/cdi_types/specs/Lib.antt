@@ -1,3 +1,11 @@
+pub mod Line
+pub mod Lowest
+pub mod Members
+pub mod Graph
+pub mod Height
+pub mod ListsThose
+pub mod BitRow
+pub mod Stages
 pub mod Declarations
 pub mod Index
 pub mod Lineage

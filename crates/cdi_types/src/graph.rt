@@ -1,14 +1,14 @@
 //! The declared types with the graph of what stands above what.
 ghost use Rattle.std.specs.Prelude.{◌≡◌, ◌↔◌, ℕ, IsTrue, IfOk, MatchBool};
 ghost use Rattle.std.specs.List.{list_all};
-ghost use Rattle.cdi_reach.specs.ListsThose.{ListsThose};
+ghost use Rattle.cdi_types.specs.ListsThose.{ListsThose};
 
 use crate::declaration::{TypeDeclaration, declarations_of};
 use crate::edges::graph_of;
 use crate::index::TypeIndex;
+use crate::reachability::Reachability;
 use cdi_base::{BuiltIn, Name, Seq};
 use cdi_deployment::Deployment;
-use cdi_reach::Reachability;
 use std::alloc::{AllocError, Global};
 use std::marker::Model;
 

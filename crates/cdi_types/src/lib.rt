@@ -1,17 +1,30 @@
-//! The types of a deployment: which is a subtype of which (Jakarta CDI 4.0, *Bean types*), and what a class inherits
-//! (Jakarta CDI 4.0, *Inheritance and specialization*).
+//! The types of a deployment: which nodes of a graph reach which, which type is a subtype of which (Jakarta CDI 4.0, *Bean types*), and
+//! what a class has of what it and its superclasses declare (Jakarta CDI 4.0, *Inheritance and specialization*).
 #![tactic(auto)]
 
+mod bit_row;
+pub mod class_index;
 pub mod declaration;
 mod edges;
 pub mod fault;
 pub mod graph;
 mod index;
-pub mod laws;
+pub mod inheritance_laws;
+pub mod line;
 mod lineage;
+mod lowest;
+pub mod member;
+pub mod part;
+pub mod path_laws;
+pub mod reachability;
+pub mod subtype_laws;
 pub mod table;
 
+pub use class_index::ClassIndex;
 pub use declaration::{TypeDeclaration, declarations_of};
 pub use fault::TypesFault;
 pub use graph::TypeGraph;
+pub use line::ClassLine;
+pub use part::ClassPart;
+pub use reachability::Reachability;
 pub use table::TypeTable;

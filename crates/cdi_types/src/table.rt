@@ -1,6 +1,6 @@
 //! The table of the types.
 ghost use Rattle.std.specs.Prelude.{◌≡◌, ◌≢◌, ◌↔◌, IsTrue, IfOk, OnOk, IfErr};
-ghost use Rattle.cdi_reach.specs.ListsThose.{ListsThose};
+ghost use Rattle.cdi_types.specs.ListsThose.{ListsThose};
 ghost use Rattle.cdi_types.specs.Table.{IsSound, IsRefused};
 
 use crate::declaration::TypeDeclaration;

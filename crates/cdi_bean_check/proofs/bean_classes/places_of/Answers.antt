@@ -4,7 +4,7 @@ use Rattle.std.proofs.lemmas.Grind.{common_steps}
 use Rattle.std.specs.Option.{is_some}
 use Rattle.cdi_deployment.specs.declared.deployment.Class.{Class}
 use Rattle.cdi_types.proofs.Places.{or_here, gets_place, keeps_place}
-use Rattle.cdi_members.proofs.Places.{position-more}
+use Rattle.cdi_types.proofs.ClassPlaces.{position-more}
 use Rattle.cdi_bean_check.specs.ManagedBeans.{is_bean}
 use Rattle.cdi_bean_check.proofs.bean_classes.places_of.Goals as goal
 use Rattle.cdi_bean_check.proofs.bean_classes.places_of.Goals.{then-is_bean+then-not-contains_key+in_ok-insert, else-is_bean, else-is_bean-via-then-is_bean+else-not-contains_key, else-is_bean-via-else-is_bean}

@@ -1,5 +1,5 @@
 use Rattle.std.proofs.Common.{◌≡◌, ◌++◌, map, filter, drop}
-use Rattle.cdi_members.specs.Members.{member_name}
+use Rattle.cdi_deployment.specs.Member.{member_name}
 use Rattle.cdi_bean_check.specs.Repeated.{has_other_member}
 use Rattle.cdi_bean_check.proofs.repeated.add_members.Given as goal
 

@@ -1,6 +1,6 @@
 use Rattle.std.proofs.Common.{◌≡◌, ◌&&◌, not, nat_eq, drop}
 use Rattle.std.specs.List.{list_any}
-use Rattle.cdi_members.specs.Members.{member_name}
+use Rattle.cdi_deployment.specs.Member.{member_name}
 use Rattle.cdi_bean_check.specs.Repeated.{is_alike}
 use Rattle.cdi_bean_check.proofs.repeated.has_other_member.Given as goal
 

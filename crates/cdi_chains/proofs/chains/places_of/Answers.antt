@@ -3,7 +3,7 @@ use Rattle.std.proofs.lemmas.Bool.{eqb-true}
 use Rattle.std.specs.Option.{is_some}
 use Rattle.cdi_chains.specs.declared.bindings.ClassBindings.{ClassBindings}
 use Rattle.cdi_types.proofs.Places.{gets_place, keeps_place}
-use Rattle.cdi_members.proofs.Places.{position-more}
+use Rattle.cdi_types.proofs.ClassPlaces.{position-more}
 use Rattle.cdi_chains.proofs.chains.places_of.Goals as goal
 use Rattle.cdi_chains.proofs.chains.places_of.Goals.{then-not-contains_key+in_ok-insert, else-not-contains_key}
 

@@ -2,7 +2,7 @@ use Rattle.std.proofs.Common.{◌≡◌, ◌∙◌, ℕ, Bool, true, false, cond
 use Rattle.std.proofs.lemmas.Bool.{eqb-true}
 use Rattle.std.specs.Option.{is_some}
 use Rattle.cdi_types.proofs.Places.{gets_place, keeps_place}
-use Rattle.cdi_members.proofs.Places.{position-more}
+use Rattle.cdi_types.proofs.ClassPlaces.{position-more}
 use Rattle.cdi_enable.specs.Enablement.{bean_of_class}
 use Rattle.cdi_enable.proofs.class_places.places_of.Goals as goal
 use Rattle.cdi_enable.proofs.class_places.places_of.Goals.{then-not-contains_key+in_ok-insert, else-not-contains_key}

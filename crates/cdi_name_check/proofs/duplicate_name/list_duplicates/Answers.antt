@@ -3,7 +3,7 @@ use Rattle.cdi_name_check.specs.Claims.{HasClaims}
 use Rattle.cdi_name_check.specs.DuplicateName.{claims_after, ListDuplicates}
 use Rattle.cdi_name_check.proofs.Duplicates.{next_shown, is_duplicate, is_none, claimed_more, keep_duplicate, skip_duplicate}
 use Rattle.cdi_problems.specs.Elements.{Element, element_of, place_of, shown}
-use Rattle.cdi_reach.specs.ListsThose.{ListsThose}
+use Rattle.cdi_types.specs.ListsThose.{ListsThose}
 use Rattle.cdi_name_check.proofs.duplicate_name.list_duplicates.Goals as goal
 use Rattle.cdi_name_check.proofs.duplicate_name.list_duplicates.Goals.{then-again+in_ok-push, else-again}
 

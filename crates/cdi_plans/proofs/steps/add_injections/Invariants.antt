@@ -1,5 +1,5 @@
 use Rattle.std.proofs.Common.{◌≡◌, ◌++◌, ◌≤◌, length, map, drop}
-use Rattle.cdi_members.specs.Members.{members_of}
+use Rattle.cdi_types.specs.Members.{members_of}
 use Rattle.cdi_plans.specs.Apart.{AreNamedApart}
 use Rattle.cdi_plans.specs.Steps.{injections}
 use Rattle.cdi_plans.proofs.steps.add_injections.Given as goal

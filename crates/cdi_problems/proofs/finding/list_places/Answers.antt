@@ -1,7 +1,7 @@
 use Rattle.std.proofs.Common.{◌∙◌, [], ◌∷◌, ◌++◌, map, true≢false, sym, ap, refl}
 use Rattle.std.proofs.lemmas.List.{map-append}
-use Rattle.cdi_reach.specs.ListsThose.{ListsThose}
-use Rattle.cdi_reach.proofs.Listings.{keep_next, skip_next}
+use Rattle.cdi_types.specs.ListsThose.{ListsThose}
+use Rattle.cdi_types.proofs.Listings.{keep_next, skip_next}
 use Rattle.cdi_problems.specs.Elements.{element_of, place_of}
 use Rattle.cdi_problems.proofs.finding.list_places.Goals as goal
 use Rattle.cdi_problems.proofs.finding.list_places.Goals.{then-holds+in_ok-push, else-holds}

@@ -1,5 +1,5 @@
 use Rattle.std.proofs.Common.{◌≡◌, ◌∙◌, ℕ, Bool, sym}
-use Rattle.cdi_beanlist.specs.declared.bean.Bean.{Bean}
+use Rattle.cdi_beans.specs.declared.bean.Bean.{Bean}
 use Rattle.cdi_resolve.specs.Filters.{required_of, is_wanted}
 use Rattle.cdi_resolve.specs.declared.filter.Left.TheVariants as lefts
 use Rattle.cdi_resolve.proofs.Counting.{with_priority, counted, passed_over, at_end}

@@ -1,6 +1,6 @@
 use Rattle.std.proofs.Common.{◌≡◌, ◌∙◌, ℕ, Bool, drop, filter, true≢false, sym}
 use Rattle.std.specs.List.{enumerate_from}
-use Rattle.cdi_beanlist.specs.declared.bean.Bean.{Bean}
+use Rattle.cdi_beans.specs.declared.bean.Bean.{Bean}
 use Rattle.cdi_resolve.specs.Filters.{required_of, is_wanted, those_left}
 use Rattle.cdi_resolve.proofs.Counting.{with_found, counted, passed_over, at_end, found_none, many_already}
 use Rattle.cdi_resolve.proofs.resolver.sole.Goals as goal

@@ -1,6 +1,6 @@
 use Rattle.std.proofs.Common.{◌≡◌, true, is_some}
 use Rattle.serde_json.specs.View.{view}
-use Rattle.cdi_json.specs.Forms.{use_in}
+use Rattle.cdi_form.specs.ValueForms.{use_in}
 use Rattle.cdi_script.proofs.UseNames.{named_use}
 use Rattle.cdi_script.proofs.qualifier.is_qualifier.Goals as goal
 

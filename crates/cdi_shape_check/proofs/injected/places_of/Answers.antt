@@ -5,7 +5,7 @@ use Rattle.std.specs.HashMap.{get}
 use Rattle.std.specs.Option.{is_some}
 use Rattle.cdi_deployment.specs.declared.deployment.InjectedField.{InjectedField}
 use Rattle.cdi_types.proofs.Places.{gets_place, keeps_place}
-use Rattle.cdi_members.proofs.Places.{position-more}
+use Rattle.cdi_types.proofs.ClassPlaces.{position-more}
 use Rattle.cdi_shape_check.proofs.injected.places_of.Goals as goal
 use Rattle.cdi_shape_check.proofs.injected.places_of.Goals.{then-not-contains_key+in_ok-insert, else-not-contains_key}
 

@@ -3,7 +3,7 @@ use Rattle.std.specs.Option.{option_copied}
 use Rattle.std.specs.HashMap.{get}
 use Rattle.cdi_deployment.specs.declared.deployment.Class.{Class}
 use Rattle.cdi_types.proofs.Places.{no_place}
-use Rattle.cdi_members.proofs.Places.{found_at, got}
+use Rattle.cdi_types.proofs.ClassPlaces.{found_at, got}
 use Rattle.cdi_bean_check.specs.ManagedBeans.{is_bean, bean_class}
 use Rattle.cdi_bean_check.proofs.bean_classes.BeanClasses.class.Goals as goal
 

@@ -4,7 +4,7 @@ use Rattle.std.specs.HashMap.{get}
 use Rattle.cdi_chains.specs.declared.bindings.ClassBindings.{ClassBindings}
 use Rattle.cdi_chains.specs.Chains.{class_named}
 use Rattle.cdi_types.proofs.Places.{no_place}
-use Rattle.cdi_members.proofs.Places.{found_at}
+use Rattle.cdi_types.proofs.ClassPlaces.{found_at}
 use Rattle.cdi_chains.proofs.chains.Chains.class.Goals as goal
 
 pub returns-in_err-place : goal.returns-in_err-place

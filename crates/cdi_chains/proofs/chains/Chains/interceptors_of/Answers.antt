@@ -1,5 +1,5 @@
 use Rattle.std.proofs.Common.{◌≡◌, ◌∙◌, ◌++◌, ◌∷◌, ◌+◌, ℕ, Bool, true, false, List, [], drop, append_assoc, append-nil, ap, sym}
-use Rattle.cdi_beanlist.specs.declared.bean.EnabledInterceptor.{EnabledInterceptor}
+use Rattle.cdi_beans.specs.declared.bean.EnabledInterceptor.{EnabledInterceptor}
 use Rattle.cdi_chains.specs.Chains.{intercepts, places_from}
 use Rattle.cdi_chains.proofs.Places.{taken, passed_over, none_left}
 use Rattle.cdi_chains.proofs.chains.Chains.interceptors_of.Goals as goal

@@ -1,5 +1,5 @@
 use Rattle.std.proofs.Common.{subst}
-use Rattle.cdi_point_check.specs.PointProblems.{HasPointProblem}
+use Rattle.cdi_live.specs.PointProblems.{HasPointProblem}
 use Rattle.cdi_problems.specs.Findings.{ArePlacesOf}
 use Rattle.cdi_check.proofs.tables.LateTables.point_places.Goals as goal
 

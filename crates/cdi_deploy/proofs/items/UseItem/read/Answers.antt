@@ -2,7 +2,7 @@ use Rattle.std.proofs.Common.{◌≡◌, IfOk, None, Option, rules, subst}
 use Rattle.std.specs.Option.{unwrap_or}
 use Rattle.serde_json.specs.View.{view}
 use Rattle.cdi_base.specs.declared.uses.WrittenUse.{WrittenUse}
-use Rattle.cdi_json.specs.Forms.{use_in}
+use Rattle.cdi_form.specs.ValueForms.{use_in}
 use Rattle.cdi_deploy.specs.Items.{nameless, numbered}
 use Rattle.cdi_deploy.proofs.items.UseItem.read.Goals as goal
 

@@ -1,7 +1,7 @@
 use Rattle.std.proofs.Common.{◌≡◌, pos, List, get_or, take, true≢false, refl, sym, subst, arith}
 use Rattle.std.proofs.lemmas.Grind.{common_steps}
 use Rattle.std.proofs.lemmas.List.{get_or_default}
-use Rattle.cdi_reach.specs.ListsThose.{ListsThose}
+use Rattle.cdi_types.specs.ListsThose.{ListsThose}
 use Rattle.cdi_observers.specs.Order.{HearsAt}
 use Rattle.cdi_observers.specs.declared.order.RankedObserver.{RankedObserver}
 use Rattle.cdi_observers.proofs.Those.{one_more, no_more}

@@ -1,5 +1,5 @@
 use Rattle.std.proofs.Common.{take}
-use Rattle.cdi_reach.specs.ListsThose.{ListsThose}
+use Rattle.cdi_types.specs.ListsThose.{ListsThose}
 use Rattle.cdi_observers.specs.Order.{HearsAt}
 use Rattle.cdi_observers.proofs.event.Event.heard.Given as goal
 

@@ -1,5 +1,5 @@
 use Rattle.std.proofs.Common.{◌≡◌, ◌∙◌, ℕ, List, sym, ap}
-use Rattle.cdi_beanlist.specs.declared.bean.Bean.{Bean}
+use Rattle.cdi_beans.specs.declared.bean.Bean.{Bean}
 use Rattle.cdi_resolve.specs.Filters.{enabled_of, required_of}
 use Rattle.cdi_resolve.specs.Resolution.{sole, one_or_many, eligible, alternatives, without_priority, highest, if_nothing}
 use Rattle.cdi_resolve.proofs.Narrowing.{without_left, not_nothing}

@@ -1,6 +1,6 @@
 use Rattle.std.proofs.Common.{◌≡◌, ◌∙◌, ℕ, Some, None, List, SFits, w64, rules, sym, ap}
 use Rattle.std.proofs.lemmas.Int.{to_z-of_z}
-use Rattle.cdi_beanlist.specs.declared.bean.Bean.{Bean}
+use Rattle.cdi_beans.specs.declared.bean.Bean.{Bean}
 use Rattle.cdi_resolve.specs.Filters.{enabled_of, required_of}
 use Rattle.cdi_resolve.specs.Resolution.{sole, one_or_many, eligible, alternatives, greatest_priority, with_greatest}
 use Rattle.cdi_resolve.proofs.Narrowing.{with_left, alternatives_enabled}

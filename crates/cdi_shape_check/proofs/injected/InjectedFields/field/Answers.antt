@@ -3,7 +3,7 @@ use Rattle.std.specs.Option.{option_copied}
 use Rattle.std.specs.HashMap.{get}
 use Rattle.cdi_deployment.specs.declared.deployment.InjectedField.{InjectedField}
 use Rattle.cdi_types.proofs.Places.{no_place}
-use Rattle.cdi_members.proofs.Places.{found_at}
+use Rattle.cdi_types.proofs.ClassPlaces.{found_at}
 use Rattle.cdi_shape_check.specs.OwnParts.{injected_field}
 use Rattle.cdi_shape_check.proofs.injected.InjectedFields.field.Goals as goal
 

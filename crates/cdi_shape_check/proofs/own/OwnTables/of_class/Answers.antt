@@ -1,6 +1,6 @@
 use Rattle.std.proofs.Common.{◌≡◌, ◌∙◌, List, Result, Ok, Err, IfOk, ap, subst}
 use Rattle.cdi_deployment.specs.declared.deployment.Class.{Class}
-use Rattle.cdi_members.specs.Line.{IsLineOf}
+use Rattle.cdi_types.specs.Line.{IsLineOf}
 use Rattle.cdi_types.specs.Declarations.{declarations_of}
 use Rattle.cdi_types.specs.declared.declaration.TypeDeclaration.{TypeDeclaration}
 use Rattle.cdi_shape_check.specs.OwnParts.{AreClassParts, parts_of_line}

@@ -1,6 +1,6 @@
 use Rattle.std.proofs.Common.{true≢false, sym, refl}
-use Rattle.cdi_reach.specs.ListsThose.{ListsThose}
-use Rattle.cdi_reach.proofs.Listings.{keep_next, skip_next}
+use Rattle.cdi_types.specs.ListsThose.{ListsThose}
+use Rattle.cdi_types.proofs.Listings.{keep_next, skip_next}
 use Rattle.cdi_types.proofs.graph.TypeGraph.cyclic.Goals as goal
 use Rattle.cdi_types.proofs.graph.TypeGraph.cyclic.Goals.{then-is_cyclic+in_ok-push, else-is_cyclic}
 

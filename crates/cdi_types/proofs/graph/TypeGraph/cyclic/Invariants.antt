@@ -1,5 +1,5 @@
 use Rattle.std.proofs.Common.{take}
-use Rattle.cdi_reach.specs.ListsThose.{ListsThose}
+use Rattle.cdi_types.specs.ListsThose.{ListsThose}
 use Rattle.cdi_types.specs.Subtype.{IsCyclic, names_of}
 use Rattle.cdi_types.proofs.graph.TypeGraph.cyclic.Given as goal
 

@@ -1,7 +1,7 @@
 use Rattle.std.proofs.Common.{◌≡◌, List, take, true≢false, sym, subst, refl, arith}
 use Rattle.std.proofs.lemmas.Grind.{common_steps}
-use Rattle.cdi_reach.specs.ListsThose.{ListsThose}
-use Rattle.cdi_reach.proofs.Listings.{keep_next, skip_next, keep_last}
+use Rattle.cdi_types.specs.ListsThose.{ListsThose}
+use Rattle.cdi_types.proofs.Listings.{keep_next, skip_next, keep_last}
 use Rattle.cdi_types.specs.Subtype.{object, names_of, IsSubtype}
 use Rattle.cdi_types.specs.declared.declaration.TypeDeclaration.{TypeDeclaration}
 use Rattle.cdi_types.proofs.table.TypeTable.types_of.Goals as goal

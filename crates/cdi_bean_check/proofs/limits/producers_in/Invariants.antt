@@ -1,6 +1,0 @@
-use Rattle.std.proofs.Common.{◌≡◌, count_by, take}
-use Rattle.cdi_bean_check.specs.Limits.{is_producer}
-use Rattle.cdi_bean_check.proofs.limits.producers_in.Given as goal
-
-abbrev pub invariant-loop-member : goal.invariant-loop-member
-invariant-loop-member l = l.count ≡ count_by is_producer (take l.member-index l.members)

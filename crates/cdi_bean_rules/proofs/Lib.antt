@@ -1,0 +1,5 @@
+pub mod AllProblems
+pub mod ConditionalPlaces
+pub mod Counts
+pub mod Pairs
+pub mod SameRules

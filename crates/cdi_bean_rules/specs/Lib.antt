@@ -1,0 +1,4 @@
+pub mod Disposers
+pub mod Limits
+pub mod Observers
+pub mod Tiers

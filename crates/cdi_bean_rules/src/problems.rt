@@ -1,0 +1,239 @@
+//! All problems of beans, in their order.
+ghost use Rattle.std.specs.Prelude.{◌≡◌, ◌++◌, [], IfOk, OnOk};
+ghost use Rattle.cdi_problems.specs.Elements.{elements_of as all_elements, shown};
+ghost use Rattle.cdi_problems.specs.Words.{problems_at};
+ghost use Rattle.cdi_types.specs.Declarations.{declarations_of};
+ghost use Rattle.cdi_bean_check.specs.BeanTypes.{HasSpecializedTypeLost};
+ghost use Rattle.cdi_bean_check.specs.ManagedBeans.{bean_names, SpecializesNothing as HasNothing};
+ghost use Rattle.cdi_bean_rules.specs.Observers.{IsConditionalDependent};
+ghost use Rattle.cdi_bean_check.specs.Repeated.{RepeatsSuperclass as Repeats};
+ghost use Rattle.cdi_bean_rules.specs.Tiers.{AddsProblems, AddsExcess, AreBeanProblems};
+
+use crate::conditional::{ConditionalDependent, conditional_of_dependent};
+use crate::disposers::{TwoDisposers, UnmatchedDisposer};
+use crate::limits::has_too_many;
+use cdi_base::{Place, Seq};
+use cdi_bean_check::abstract_bean::AbstractBean;
+use cdi_bean_check::bean_classes::BeanClasses;
+use cdi_bean_check::bean_names::BeanNames;
+use cdi_bean_check::bindings::TwoBindingsOfOneType;
+use cdi_bean_check::lost_types::SpecializedTypeLost;
+use cdi_bean_check::repeated::{RepeatsSuperclass, repeated_of_superclasses};
+use cdi_bean_check::specialization::SpecializesNothing;
+use cdi_bean_check::typed::TypedNotAType;
+use cdi_deployment::{Class, Deployment};
+use cdi_problems::{Element, Problem, ProblemKind, Rule, elements_of, places_where};
+use cdi_quals::QualifierTypes;
+use cdi_types::TypeTable;
+use std::alloc::{AllocError, Global};
+
+/// Adds the problems of a kind at these places.
+fn add_at(
+    kind: ProblemKind,
+    places: &[Place],
+    problems: &mut Seq<Problem>,
+) -> Result<(), AllocError>
+    ensures { OnOk result (problems.new ≡ problems.old ++ problems_at kind places.now) }
+{
+    for place in places {
+        problems.push(Problem {
+            kind,
+            place: Some(*place),
+        })?;
+    }
+    Ok(())
+}
+
+/// Adds the problems of a kind where its rule holds.
+fn add_found<R: Rule>(
+    alloc: Global,
+    kind: ProblemKind,
+    rule: &R,
+    elements: &[Element<'_>],
+    problems: &mut Seq<Problem>,
+) -> Result<(), AllocError>
+    ensures { OnOk result
+        (AddsProblems (R.holds_at rule.now) (shown elements.now) kind problems.old problems.new) }
+{
+    let places = places_where(alloc, rule, elements)?;
+    add_at(kind, places.as_slice(), problems)
+}
+
+fn add_repeated(
+    alloc: Global,
+    classes: &[Class],
+    types: &TypeTable,
+    elements: &[Element<'_>],
+    problems: &mut Seq<Problem>,
+) -> Result<(), AllocError>
+    ensures { OnOk result (AddsProblems (Repeats classes.now types.now) (shown elements.now)
+        ProblemKind.DuplicateName problems.old problems.new) }
+{
+    let places = repeated_of_superclasses(alloc, classes, types)?;
+    let rule = RepeatsSuperclass { places: &places };
+    add_found(alloc, ProblemKind::DuplicateName, &rule, elements, problems)
+}
+
+fn add_specializing(
+    alloc: Global,
+    classes: &[Class],
+    elements: &[Element<'_>],
+    problems: &mut Seq<Problem>,
+) -> Result<(), AllocError>
+    ensures { OnOk result (AddsProblems (HasNothing (bean_names classes.now)) (shown elements.now)
+        ProblemKind.SpecializesNothing problems.old problems.new) }
+{
+    let beans = BeanNames::build(alloc, classes)?;
+    let rule = SpecializesNothing { beans: &beans };
+    add_found(
+        alloc,
+        ProblemKind::SpecializesNothing,
+        &rule,
+        elements,
+        problems,
+    )
+}
+
+fn add_losing(
+    alloc: Global,
+    classes: &[Class],
+    types: &TypeTable,
+    elements: &[Element<'_>],
+    problems: &mut Seq<Problem>,
+) -> Result<(), AllocError>
+    ensures { OnOk result (AddsProblems (HasSpecializedTypeLost classes.now types.now)
+        (shown elements.now) ProblemKind.SpecializedTypeLost problems.old problems.new) }
+{
+    let beans = BeanClasses::build(alloc, classes)?;
+    let rule = SpecializedTypeLost {
+        beans: &beans,
+        types,
+    };
+    add_found(
+        alloc,
+        ProblemKind::SpecializedTypeLost,
+        &rule,
+        elements,
+        problems,
+    )
+}
+
+fn add_conditional(
+    alloc: Global,
+    classes: &[Class],
+    types: &TypeTable,
+    elements: &[Element<'_>],
+    problems: &mut Seq<Problem>,
+) -> Result<(), AllocError>
+    ensures { OnOk result (AddsProblems (IsConditionalDependent classes.now types.now)
+        (shown elements.now) ProblemKind.ConditionalDependent problems.old problems.new) }
+{
+    let places = conditional_of_dependent(alloc, classes, types)?;
+    let rule = ConditionalDependent { places: &places };
+    add_found(
+        alloc,
+        ProblemKind::ConditionalDependent,
+        &rule,
+        elements,
+        problems,
+    )
+}
+
+/// Adds that there are too many beans or observers, if there are.
+fn add_excess(
+    alloc: Global,
+    deployment: &Deployment,
+    types: &TypeTable,
+    problems: &mut Seq<Problem>,
+) -> Result<(), AllocError>
+    requires { types.now ≡ declarations_of deployment.now }
+    ensures { OnOk result (AddsExcess deployment.now problems.old problems.new) }
+{
+    let too_many = has_too_many(alloc, deployment, types)?;
+    if too_many {
+        problems.push(Problem {
+            kind: ProblemKind::TooMany,
+            place: None,
+        })?;
+    }
+    Ok(())
+}
+
+/// Adds all problems of the elements, where there were none.
+fn add_all(
+    alloc: Global,
+    deployment: &Deployment,
+    types: &TypeTable,
+    qualifiers: &QualifierTypes,
+    elements: &[Element<'_>],
+    problems: &mut Seq<Problem>,
+) -> Result<(), AllocError>
+    requires declared { types.now ≡ declarations_of deployment.now }
+    requires all { shown elements.now ≡ all_elements deployment.now }
+    requires none { problems.old ≡ [] }
+    ensures { OnOk result (AreBeanProblems deployment.now qualifiers.now problems.new) }
+{
+    let classes = deployment.classes.as_slice();
+    let typed = TypedNotAType { types };
+    let unmatched = UnmatchedDisposer { types, qualifiers };
+    let two = TwoDisposers { types, qualifiers };
+    let bound = TwoBindingsOfOneType;
+    add_repeated(alloc, classes, types, elements, problems)?;
+    add_found(
+        alloc,
+        ProblemKind::AbstractBean,
+        &AbstractBean,
+        elements,
+        problems,
+    )?;
+    add_found(
+        alloc,
+        ProblemKind::TypedNotAType,
+        &typed,
+        elements,
+        problems,
+    )?;
+    add_specializing(alloc, classes, elements, problems)?;
+    add_losing(alloc, classes, types, elements, problems)?;
+    add_found(
+        alloc,
+        ProblemKind::UnmatchedDisposer,
+        &unmatched,
+        elements,
+        problems,
+    )?;
+    add_found(alloc, ProblemKind::TwoDisposers, &two, elements, problems)?;
+    add_conditional(alloc, classes, types, elements, problems)?;
+    add_found(
+        alloc,
+        ProblemKind::TwoBindingsOfOneType,
+        &bound,
+        elements,
+        problems,
+    )?;
+    add_excess(alloc, deployment, types, problems)
+}
+
+/// The problems of beans, in a deployment in which all names are known and no type is its own supertype (Jakarta CDI 4.0, *Problems
+/// detected automatically by the container*): by their numbers, and those of a number in the order of the places.
+pub fn bean_problems(
+    alloc: Global,
+    deployment: &Deployment,
+    types: &TypeTable,
+    qualifiers: &QualifierTypes,
+) -> Result<Seq<Problem>, AllocError>
+    requires { types.now ≡ declarations_of deployment.now }
+    ensures { IfOk result (AreBeanProblems deployment.now qualifiers.now) }
+{
+    let elements = elements_of(alloc, deployment)?;
+    let mut problems = Seq::empty(alloc);
+    add_all(
+        alloc,
+        deployment,
+        types,
+        qualifiers,
+        elements.as_slice(),
+        &mut problems,
+    )?;
+    Ok(problems)
+}

@@ -1,6 +1,0 @@
-use Rattle.std.proofs.Common.{◌≡◌, map, take}
-use Rattle.cdi_beanlist.specs.Beans.{bean_member}
-use Rattle.cdi_beanlist.proofs.beans.bean_members.Given as goal
-
-abbrev pub invariant-loop-member : goal.invariant-loop-member
-invariant-loop-member l = l.found ≡ map bean_member (take l.member-index l.members)

@@ -1,8 +1,0 @@
-use Rattle.std.proofs.Common.{[], take}
-use Rattle.std.specs.List.{flat_map}
-use Rattle.cdi_beanlist.specs.Adds.{Adds}
-use Rattle.cdi_beanlist.specs.Beans.{IsBeanOf, sources_in}
-use Rattle.cdi_beanlist.proofs.beans.beans_of.Given as goal
-
-abbrev pub invariant-loop-class : goal.invariant-loop-class
-invariant-loop-class l = Adds (IsBeanOf l.tables.deployment.now l.tables.qualifiers.now) (flat_map sources_in (take l.class-index l.class-items)) [] l.beans

@@ -1,7 +1,0 @@
-use Rattle.std.proofs.Common.{◌≡◌, ◌++◌, take}
-use Rattle.std.specs.List.{enumerate_from, filter_map}
-use Rattle.cdi_beanlist.specs.Interceptors.{listed}
-use Rattle.cdi_beanlist.proofs.interceptors.enabled.Given as goal
-
-abbrev pub invariant-loop-name : goal.invariant-loop-name
-invariant-loop-name l = l.enabled ≡ l.initial.enabled ++ filter_map (listed (enumerate_from 0 l.interceptors)) (take l.name-index l.name-items)

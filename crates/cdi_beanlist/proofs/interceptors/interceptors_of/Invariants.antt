@@ -1,7 +1,0 @@
-use Rattle.std.proofs.Common.{take}
-use Rattle.std.specs.List.{AllZip}
-use Rattle.cdi_beanlist.specs.Interceptors.{IsEnabledInterceptor}
-use Rattle.cdi_beanlist.proofs.interceptors.interceptors_of.Given as goal
-
-abbrev pub invariant-loop-indexed : goal.invariant-loop-indexed
-invariant-loop-indexed l = AllZip (IsEnabledInterceptor l.deployment.names l.bindings) (take l.indexed-index l.indexed-items) l.interceptors

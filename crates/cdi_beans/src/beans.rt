@@ -1,0 +1,205 @@
+//! The beans of a deployment.
+ghost use Rattle.std.specs.Prelude.{◌≡◌, [], ◌∷◌, map, Some, Contains, IfOk, OnOk};
+ghost use Rattle.std.specs.List.{flat_map, AllZip};
+ghost use Rattle.cdi_deployment.specs.declared.deployment.Member.TheVariants as members;
+ghost use Rattle.cdi_beans.specs.Adds.{Adds};
+ghost use Rattle.cdi_beans.specs.Beans as spec;
+
+use crate::bean::{Bean, BeanKind, BeanMember};
+use crate::tables::Tables;
+use crate::uses::uses_with_built_in;
+use cdi_base::Seq;
+use cdi_deployment::{Bean as DeclaredBean, Class, Member, ProducerField, ProducerMethod};
+use cdi_types::ClassPart;
+use std::alloc::{AllocError, Global};
+
+fn bean_member(member: &ClassPart<'_, Member>) -> BeanMember
+    ensures { result ≡ spec.bean_member member.now }
+{
+    BeanMember {
+        class: member.class.name,
+        name: member.part.name(),
+    }
+}
+
+/// Members by their classes and their names.
+fn bean_members(
+    alloc: Global,
+    members: &[ClassPart<'_, Member>],
+) -> Result<Seq<BeanMember>, AllocError>
+    ensures { IfOk result (λ found. found ≡ map spec.bean_member members.now) }
+{
+    let mut found = Seq::empty(alloc);
+    for member in members {
+        found.push(bean_member(member))?;
+    }
+    Ok(found)
+}
+
+/// The managed bean of a class.
+fn managed<'a>(
+    alloc: Global,
+    tables: &Tables<'a>,
+    class: &'a Class,
+    declared: &DeclaredBean,
+) -> Result<Bean, AllocError>
+    requires declared { class.now.bean ≡ Some declared.now }
+    requires listed { Contains tables.now.deployment.now.classes class.now }
+    ensures { IfOk result (λ bean. spec.IsBeanOf tables.now.deployment.now
+        tables.now.qualifiers.now (spec.Source.AClass class.now) bean) }
+{
+    let types = tables.types_of(alloc, class.name, &declared.typed)?;
+    let uses = tables.uses_of(alloc, class)?;
+    let qualifiers = tables.set_of(alloc, uses.as_slice())?;
+    let has = tables.members_of(alloc, class)?;
+    let members = bean_members(alloc, has.as_slice())?;
+    Ok(Bean {
+        kind: BeanKind::Managed,
+        class: class.name,
+        types,
+        qualifiers,
+        scope: declared.scope,
+        alternative: declared.alternative,
+        priority: declared.priority,
+        specializes: tables.specialized(class),
+        members,
+    })
+}
+
+/// The bean of a producer method.
+fn produced(
+    alloc: Global,
+    tables: &Tables<'_>,
+    class: &Class,
+    declared: &DeclaredBean,
+    producer: &ProducerMethod,
+) -> Result<Bean, AllocError>
+    requires { class.now.bean ≡ Some declared.now }
+    ensures { IfOk result (λ bean. spec.IsBeanOf tables.now.deployment.now
+        tables.now.qualifiers.now
+        (spec.Source.AProducer class.now (members.Producer producer.now)) bean) }
+{
+    let types = tables.types_of(alloc, producer.ty, &producer.typed)?;
+    let uses = uses_with_built_in(alloc, producer.quals.as_slice())?;
+    let qualifiers = tables.set_of(alloc, uses.as_slice())?;
+    Ok(Bean {
+        kind: BeanKind::ProducerMethod(producer.name),
+        class: class.name,
+        types,
+        qualifiers,
+        scope: producer.scope,
+        alternative: declared.alternative,
+        priority: declared.priority,
+        specializes: None,
+        members: Seq::empty(alloc),
+    })
+}
+
+/// The bean of a producer field.
+fn held(
+    alloc: Global,
+    tables: &Tables<'_>,
+    class: &Class,
+    declared: &DeclaredBean,
+    producer: &ProducerField,
+) -> Result<Bean, AllocError>
+    requires { class.now.bean ≡ Some declared.now }
+    ensures { IfOk result (λ bean. spec.IsBeanOf tables.now.deployment.now
+        tables.now.qualifiers.now
+        (spec.Source.AProducer class.now (members.ProducerField producer.now)) bean) }
+{
+    let types = tables.types_of(alloc, producer.ty, &producer.typed)?;
+    let uses = uses_with_built_in(alloc, producer.quals.as_slice())?;
+    let qualifiers = tables.set_of(alloc, uses.as_slice())?;
+    Ok(Bean {
+        kind: BeanKind::ProducerField(producer.name),
+        class: class.name,
+        types,
+        qualifiers,
+        scope: producer.scope,
+        alternative: declared.alternative,
+        priority: declared.priority,
+        specializes: None,
+        members: Seq::empty(alloc),
+    })
+}
+
+/// Adds the bean of a member, if it is a producer.
+fn add_product(
+    alloc: Global,
+    tables: &Tables<'_>,
+    class: &Class,
+    declared: &DeclaredBean,
+    member: &Member,
+    beans: &mut Seq<Bean>,
+) -> Result<(), AllocError>
+    requires { class.now.bean ≡ Some declared.now }
+    ensures { OnOk result
+        (Adds (spec.IsBeanOf tables.now.deployment.now tables.now.qualifiers.now)
+        (spec.products_in class.now (member.now ∷ [])) beans.old beans.new) }
+{
+    match member {
+        Member::Producer(producer) => {
+            beans.push(produced(alloc, tables, class, declared, producer)?)?;
+            Ok(())
+        }
+        Member::ProducerField(producer) => {
+            beans.push(held(alloc, tables, class, declared, producer)?)?;
+            Ok(())
+        }
+        _ => Ok(()),
+    }
+}
+
+/// Adds the beans of a class's producers.
+fn add_products(
+    alloc: Global,
+    tables: &Tables<'_>,
+    class: &Class,
+    declared: &DeclaredBean,
+    beans: &mut Seq<Bean>,
+) -> Result<(), AllocError>
+    requires { class.now.bean ≡ Some declared.now }
+    ensures { OnOk result
+        (Adds (spec.IsBeanOf tables.now.deployment.now tables.now.qualifiers.now)
+        (spec.products_in class.now class.now.members) beans.old beans.new) }
+{
+    for member in class.members.as_slice() {
+        add_product(alloc, tables, class, declared, member, beans)?;
+    }
+    Ok(())
+}
+
+/// Adds the beans of a class.
+fn add_beans<'a>(
+    alloc: Global,
+    tables: &Tables<'a>,
+    class: &'a Class,
+    beans: &mut Seq<Bean>,
+) -> Result<(), AllocError>
+    requires { Contains tables.now.deployment.now.classes class.now }
+    ensures { OnOk result
+        (Adds (spec.IsBeanOf tables.now.deployment.now tables.now.qualifiers.now)
+        (spec.sources_in class.now) beans.old beans.new) }
+{
+    match &class.bean {
+        Some(declared) => {
+            beans.push(managed(alloc, tables, class, declared)?)?;
+            add_products(alloc, tables, class, declared, beans)
+        }
+        None => Ok(()),
+    }
+}
+
+/// The beans of a deployment: class by class the managed bean, and then those of its producers.
+pub(crate) fn beans_of(alloc: Global, tables: &Tables<'_>) -> Result<Seq<Bean>, AllocError>
+    ensures { IfOk result (λ beans.
+        AllZip (spec.IsBeanOf tables.now.deployment.now tables.now.qualifiers.now)
+        (flat_map spec.sources_in tables.now.deployment.now.classes) beans) }
+{
+    let mut beans = Seq::empty(alloc);
+    for class in tables.deployment.classes.as_slice() {
+        add_beans(alloc, tables, class, &mut beans)?;
+    }
+    Ok(beans)
+}

@@ -1,8 +1,0 @@
-use Rattle.std.proofs.Common.{◌≡◌, ℕ, ◌<◌, length}
-use Rattle.std.specs.Prelude.{◌↔◌, IsTrue}
-use Rattle.cdi_cycle_check.specs.Cycles.{flag, BeanNeedsItself}
-use Rattle.cdi_cycle_check.specs.Settings.{setting_of}
-use Rattle.cdi_cycle_check.proofs.cycles.bean_flags.Given as goal
-
-abbrev pub invariant-loop-index : goal.invariant-loop-index
-invariant-loop-index l = record { len : length l.flags ≡ l.index; told : (i : ℕ) → i < l.index → IsTrue (flag l.flags i) ↔ BeanNeedsItself (setting_of l.tables) i }

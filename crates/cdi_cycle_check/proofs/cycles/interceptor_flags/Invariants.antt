@@ -1,8 +1,0 @@
-use Rattle.std.proofs.Common.{◌≡◌, ℕ, ◌<◌, length}
-use Rattle.std.specs.Prelude.{◌↔◌, IsTrue}
-use Rattle.cdi_cycle_check.specs.Cycles.{flag, InterceptorNeedsItself}
-use Rattle.cdi_cycle_check.specs.Settings.{setting_of}
-use Rattle.cdi_cycle_check.proofs.cycles.interceptor_flags.Given as goal
-
-abbrev pub invariant-loop-place : goal.invariant-loop-place
-invariant-loop-place l = record { len : length l.flags ≡ l.place; told : (i : ℕ) → i < l.place → IsTrue (flag l.flags i) ↔ InterceptorNeedsItself (setting_of l.tables) i }

@@ -1,7 +1,0 @@
-use Rattle.std.proofs.Common.{take}
-use Rattle.cdi_cycle_check.specs.Cycles.{has_needy_product}
-use Rattle.cdi_cycle_check.proofs.rule.needy_products.Given as goal
-use Rattle.cdi_name_check.specs.NameSets.{HasPairs}
-
-abbrev pub invariant-loop-bean : goal.invariant-loop-bean
-invariant-loop-bean l = HasPairs (has_needy_product l.flags (take l.bean-index l.beans)) l.set

@@ -1,5 +1,0 @@
-pub mod BodySteps
-pub mod CommandSteps
-pub mod Sound
-pub mod StaysKnown
-pub mod ResumeSteps

@@ -1,0 +1,214 @@
+-- Steps of a stack are runs of the program that it means.
+use Rattle.std.proofs.Common.{List, [], ◌∷◌, ◌≡◌, sym, true≢false}
+use Rattle.std.specs.Prelude.{Ok, Err, IsErr}
+use Rattle.std.specs.Prelude.{Result as Either}
+use Rattle.cdi_base.specs.declared.reply.Cause.TheVariants as causes
+use Rattle.cdi_machine.specs.declared.driver.Failure.{Failure}
+use Rattle.cdi_machine.specs.Tables.{Tables}
+use Rattle.cdi_machine.specs.World.{World}
+use Rattle.cdi_machine.specs.Programs.{Given, Completion, Gave, Threw, Prog, ret, throw, cut, miss, see, change, tick, mark, act, choose, nested}
+use Rattle.cdi_machine.specs.Runs as runs
+use Rattle.cdi_machine.specs.Runs.{Legal, Runs, rest_after}
+use Rattle.cdi_steps.specs.Setting.{Setting, Narrows}
+use Rattle.cdi_steps.specs.Words.{outcome_of}
+use Rattle.cdi_steps.specs.Meanings.{over, around, node, first, waits, after}
+use Rattle.cdi_steps.specs.Leads.{ComesTo, MovesTo, IsOnWay}
+use Rattle.cdi_steps.proofs.Narrowing.{comes_before}
+use Rattle.cdi_steps.specs.declared.task.Outcome.{Outcome}
+use Rattle.cdi_steps.specs.declared.task.Outcome.TheVariants as outcomes
+use Rattle.cdi_steps.specs.declared.task.Task.{Task}
+use Rattle.cdi_steps.specs.declared.task.Frame.{Frame}
+use Rattle.cdi_steps.specs.declared.task.Next.{Next}
+use Rattle.cdi_steps.specs.declared.task.Next.TheVariants as nexts
+use Rattle.cdi_frames.specs.declared.stack.Pending.{Pending}
+use Rattle.cdi_frames.specs.declared.stack.Pending.TheVariants as pendings
+use Rattle.cdi_frames.specs.declared.stack.Stack.{Stack}
+use Rattle.cdi_frames.specs.declared.stack.Turn.{Turn}
+use Rattle.cdi_frames.specs.declared.stack.Turn.TheVariants as turns
+use Rattle.cdi_frames.specs.Stacks.{program_ahead, program_within, program_of, frames_with, pending_for, Steps, StepsTo, TurnsTo}
+use Rattle.cdi_frames.proofs.Sound.{from_comes, around_runs, needed_runs, rest_runs, over_runs, runs_before}
+
+-- a run of what is inside, and one of what is around it
+pub record Then (A B : runs.Outcome → World → Type 0) : Type 0 where
+  pub outcome : runs.Outcome
+  pub world : World
+  pub inner : A outcome world
+  pub outer : B outcome world
+
+module _ (tables : Tables) (legal : Legal) (Starved : Type 0) where
+  abbrev R : Prog Given → World → runs.Outcome → World → Type 0
+  R p w o v = Runs tables legal Starved p w o v
+
+  -- the runs of what is next, and of what waits, one after the other
+  abbrev Left : List Frame → Prog Given → World → runs.Outcome → World → Type 0
+  Left [] p w o v = R p w o v
+  Left (k ∷ ks) p w o v = Then (λ a u. R p w a u) (λ a u. Left ks (rest_after a (waits k)) u o v)
+
+  -- what runs alike in front runs alike before what waits
+  left_map : (ks : List Frame) (p q : Prog Given) (w u : World) → ((o : runs.Outcome) (v : World) → R q u o v → R p w o v)
+      → (o : runs.Outcome) (v : World) → Left ks q u o v → Left ks p w o v
+  left_map [] p q w u f o v h = f o v h
+  left_map (k ∷ ks) p q w u f o v h = record { outcome = h.outcome; world = h.world; inner = f h.outcome h.world h.inner; outer = h.outer }
+
+  -- a run of a program with something around it is one of the program, and then one of that
+  around_splits : (p : Prog Given) (k : Completion Given → Prog Given) (w : World) (o : runs.Outcome) (v : World) → R (around p k) w o v
+      → Then (λ a u. R p w a u) (λ a u. R (rest_after a k) u o v)
+  around_splits (ret g) k w o v r = record { outcome = runs.Ends (Gave g); world = w; inner = Runs.returns; outer = r }
+  around_splits (throw x) k w o v r = record { outcome = runs.Ends (Threw x); world = w; inner = Runs.throws; outer = r }
+  around_splits (cut c) k w o v r = record { outcome = runs.Cut c; world = w; inner = Runs.cuts; outer = r }
+  around_splits (miss p) k w o v (Runs.misses r) =
+      let h = around_splits p k w o v r in record { outcome = h.outcome; world = h.world; inner = Runs.misses h.inner; outer = h.outer }
+  around_splits (miss p) k w o v (Runs.starves s) = record { outcome = runs.Cut causes.Memory; world = w; inner = Runs.starves s; outer = Runs.cuts }
+  around_splits (see f) k w o v (Runs.sees r) =
+      let h = around_splits (f tables w) k w o v r in record { outcome = h.outcome; world = h.world; inner = Runs.sees h.inner; outer = h.outer }
+  around_splits (see f) k w o v (Runs.starves s) = record { outcome = runs.Cut causes.Memory; world = w; inner = Runs.starves s; outer = Runs.cuts }
+  around_splits (change g p) k w o v (Runs.changes r) =
+      let h = around_splits p k _ o v r in record { outcome = h.outcome; world = h.world; inner = Runs.changes h.inner; outer = h.outer }
+  around_splits (change g p) k w o v (Runs.starves s) = record { outcome = runs.Cut causes.Memory; world = w; inner = Runs.starves s; outer = Runs.cuts }
+  around_splits (tick e p) k w o v (Runs.writes room r) =
+      let h = around_splits p k _ o v r in record { outcome = h.outcome; world = h.world; inner = Runs.writes room h.inner; outer = h.outer }
+  around_splits (tick e p) k w o v (Runs.is_full full) = record { outcome = runs.Cut causes.Ticks; world = w; inner = Runs.is_full full; outer = Runs.cuts }
+  around_splits (tick e p) k w o v (Runs.starves s) = record { outcome = runs.Cut causes.Memory; world = w; inner = Runs.starves s; outer = Runs.cuts }
+  around_splits (mark n p) k w o v (Runs.marks r) =
+      let h = around_splits p k w o v r in record { outcome = h.outcome; world = h.world; inner = Runs.marks h.inner; outer = h.outer }
+  around_splits (mark n p) k w o v (Runs.starves s) = record { outcome = runs.Cut causes.Memory; world = w; inner = Runs.starves s; outer = Runs.cuts }
+  around_splits (act b fields view f) k w o v (Runs.does a l (Runs.writes room r)) =
+      let h = around_splits (f a) k _ o v r in record { outcome = h.outcome; world = h.world; inner = Runs.does a l (Runs.writes room h.inner); outer = h.outer }
+  around_splits (act b fields view f) k w o v (Runs.does a l (Runs.is_full full)) = record { outcome = runs.Cut causes.Ticks; world = w; inner = Runs.does a l (Runs.is_full full); outer = Runs.cuts }
+  around_splits (act b fields view f) k w o v (Runs.does a l (Runs.starves s)) = record { outcome = runs.Cut causes.Memory; world = w; inner = Runs.starves s; outer = Runs.cuts }
+  around_splits (act b fields view f) k w o v (Runs.starves s) = record { outcome = runs.Cut causes.Memory; world = w; inner = Runs.starves s; outer = Runs.cuts }
+  around_splits (choose n f) k w o v (Runs.picks i b l (Runs.writes room r)) =
+      let h = around_splits (f i) k _ o v r in record { outcome = h.outcome; world = h.world; inner = Runs.picks i b l (Runs.writes room h.inner); outer = h.outer }
+  around_splits (choose n f) k w o v (Runs.picks i b l (Runs.is_full full)) = record { outcome = runs.Cut causes.Ticks; world = w; inner = Runs.picks i b l (Runs.is_full full); outer = Runs.cuts }
+  around_splits (choose n f) k w o v (Runs.picks i b l (Runs.starves s)) = record { outcome = runs.Cut causes.Memory; world = w; inner = Runs.starves s; outer = Runs.cuts }
+  around_splits (choose n f) k w o v (Runs.starves s) = record { outcome = runs.Cut causes.Memory; world = w; inner = Runs.starves s; outer = Runs.cuts }
+  around_splits (nested c f) k w o v (Runs.calls {u = u} {o1 = runs.Ends g} a b) =
+      let h = around_splits (f g) k u o v b in record { outcome = h.outcome; world = h.world; inner = Runs.calls a h.inner; outer = h.outer }
+  around_splits (nested c f) k w o v (Runs.calls {u = u} {o1 = runs.Cut cause} a b) = record { outcome = runs.Cut cause; world = u; inner = Runs.calls a Runs.cuts; outer = b }
+  around_splits (nested c f) k w o v (Runs.starves s) = record { outcome = runs.Cut causes.Memory; world = w; inner = Runs.starves s; outer = Runs.cuts }
+
+  -- the runs of a stack, one after the other, are those of the one program
+  pub to_within : (ks : List Frame) (p : Prog Given) (w : World) (o : runs.Outcome) (v : World) → Left ks p w o v → R (program_within ks p) w o v
+  to_within [] p w o v h = h
+  to_within (k ∷ ks) p w o v h =
+      to_within ks (around p (waits k)) w o v (left_map ks (around p (waits k)) (rest_after h.outcome (waits k)) w h.world (λ a u r. around_runs tables legal Starved (waits k) h.inner r) o v h.outer)
+
+  pub from_within : (ks : List Frame) (p : Prog Given) (w : World) (o : runs.Outcome) (v : World) → R (program_within ks p) w o v → Left ks p w o v
+  from_within [] p w o v r = r
+  from_within (k ∷ ks) p w o v r = by ks (from_within ks (around p (waits k)) w o v r)
+    where
+      by : (js : List Frame) → Left js (around p (waits k)) w o v → Left (k ∷ js) p w o v
+      by [] h = let s = around_splits p (waits k) w o v h in record { outcome = s.outcome; world = s.world; inner = s.inner; outer = s.outer }
+      by (j ∷ js) h =
+          let s = around_splits p (waits k) w h.outcome h.world h.inner in
+          record { outcome = s.outcome; world = s.world; inner = s.inner; outer = record { outcome = h.outcome; world = h.world; inner = s.outer; outer = h.outer } }
+
+  -- ---- one step
+
+  -- what a step needs is in front, and what waits for it behind
+  pushed : (ks : List Frame) (d : Task) (k : Frame) (w : World) (o : runs.Outcome) (v : World) → Left (k ∷ ks) (first d) w o v → Left ks (node (nexts.Needs d k)) w o v
+  pushed ks d k w o v h =
+      left_map ks (node (nexts.Needs d k)) (rest_after h.outcome (waits k)) w h.world (λ a u r. needed_runs tables legal Starved d k h.inner r) o v h.outer
+
+  popped : (ks : List Frame) (k : Frame) (a : Outcome) (w : World) (o : runs.Outcome) (v : World) → Left ks (after k a) w o v → Left (k ∷ ks) (over a) w o v
+  popped ks k (outcomes.Ends c) w o v h = record { outcome = outcome_of (outcomes.Ends c); world = w; inner = over_runs tables legal Starved (outcomes.Ends c); outer = h }
+  popped ks k (outcomes.Cut cause) w o v h = record { outcome = outcome_of (outcomes.Cut cause); world = w; inner = over_runs tables legal Starved (outcomes.Cut cause); outer = h }
+
+  placed : (ks : List Frame) (next : Next) (w : World) (o : runs.Outcome) (v : World) → Left (frames_with ks next) (program_ahead (pending_for next)) w o v → Left ks (node next) w o v
+  placed ks (nexts.Finished a) w o v h = h
+  placed ks (nexts.Goes t) w o v h = left_map ks (node (nexts.Goes t)) (first t) w w (λ a u r. rest_runs tables legal Starved t r) o v h
+  placed ks (nexts.Needs d k) w o v h = pushed ks d k w o v h
+
+  pub starved : Starved → (ks : List Frame) (p : Prog Given) (w : World) → Left ks p w (runs.Cut causes.Memory) w
+  starved s [] p w = Runs.starves s
+  starved s (k ∷ ks) p w = record { outcome = runs.Cut causes.Memory; world = w; inner = Runs.starves s; outer = starved s ks (cut causes.Memory) w }
+
+module _ (s : Setting) (Starved : Type 0) where
+  -- what a stack meant follows from what it means after its steps
+  steps_left : {ks js : List Frame} {d e : Pending} {w u : World} → Steps s ks d w js e u → (o : runs.Outcome) (v : World)
+      → Left s.tables s.legal Starved js (program_ahead e) u o v → Left s.tables s.legal Starved ks (program_ahead d) w o v
+  steps_left Steps.stays o v h = h
+  steps_left (Steps.does {ks = ks} {t = t} {w = w} {u = u} next m r) o v h =
+      left_map s.tables s.legal Starved ks (first t) (node next) w u (λ a x y. from_comes s.tables s.legal Starved m y) o v
+      (placed s.tables s.legal Starved ks next u o v (steps_left r o v h))
+  steps_left (Steps.gives {ks = ks} {k = k} {o = a} {w = w} {u = u} next m r) o v h =
+      popped s.tables s.legal Starved ks k a w o v
+      (left_map s.tables s.legal Starved ks (after k a) (node next) w u (λ b x y. from_comes s.tables s.legal Starved m y) o v
+      (placed s.tables s.legal Starved ks next u o v (steps_left r o v h)))
+
+  pub steps_run : (a b : Stack) (w u : World) → StepsTo s a w b u → (o : runs.Outcome) (v : World)
+      → Runs s.tables s.legal Starved (program_of b) u o v → Runs s.tables s.legal Starved (program_of a) w o v
+  steps_run a b w u r o v h =
+      to_within s.tables s.legal Starved a.frames (program_ahead a.pending) w o v
+      (steps_left r o v (from_within s.tables s.legal Starved b.frames (program_ahead b.pending) u o v h))
+
+-- ---- steps in a row
+
+pub steps_then : (s : Setting) {ks js is : List Frame} {d e f : Pending} {w u v : World} → Steps s ks d w js e u → Steps s js e u is f v → Steps s ks d w is f v
+steps_then s Steps.stays r = r
+steps_then s (Steps.does next m q) r = Steps.does next m (steps_then s q r)
+steps_then s (Steps.gives next m q) r = Steps.gives next m (steps_then s q r)
+
+module _ {r s : Setting} (n : Narrows r s) where
+  pub steps_before : {ks js : List Frame} {d e : Pending} {w v : World} → Steps s ks d w js e v → Steps r ks d w js e v
+  steps_before Steps.stays = Steps.stays
+  steps_before (Steps.does next m q) = Steps.does next (comes_before n m) (steps_before q)
+  steps_before (Steps.gives next m q) = Steps.gives next (comes_before n m) (steps_before q)
+
+  -- a turn after steps
+  pub turned_after : (a b : Stack) (w u : World) (x : Either Turn Failure) (v : World) → StepsTo r a w b u → TurnsTo s b u x v → TurnsTo r a w x v
+  turned_after a b w u (Ok (turns.Running c)) v q h = steps_then r q (steps_before h)
+  turned_after a b w u (Ok (turns.Finished o)) v q h = steps_run r ⊥ a b w u q (outcome_of o) v (runs_before n (program_of b) (λ x. x) h)
+  turned_after a b w u (Err failure) v q h = steps_run r (Unit {0}) a b w u q (runs.Cut causes.Memory) v (runs_before n (program_of b) (λ x. x) h)
+
+-- ---- what one step comes to
+
+-- a task's step, and the stack after it
+pub does_step : (s : Setting) (a b : Stack) (t : Task) (next : Next) (w v : World) → a.pending ≡ pendings.Does t → b.frames ≡ frames_with a.frames next → b.pending ≡ pending_for next
+    → MovesTo s t w next v → StepsTo s a w b v
+does_step s a b t next w v e f g m =
+    rw (e, f, g) (Steps.does next m Steps.stays)
+
+pub gives_step : (s : Setting) (a b : Stack) (k : Frame) (ks : List Frame) (o : Outcome) (next : Next) (w v : World) → a.frames ≡ k ∷ ks → a.pending ≡ pendings.Gives o
+    → b.frames ≡ frames_with ks next → b.pending ≡ pending_for next → ComesTo s (after k o) w next v → StepsTo s a w b v
+gives_step s a b k ks o next w v c e f g m =
+    rw (c, e, f, g) (Steps.gives next m Steps.stays)
+
+-- nothing waits for the outcome
+pub ends_step : (s : Setting) (a : Stack) (o : Outcome) (w : World) → a.frames ≡ [] → a.pending ≡ pendings.Gives o → Runs s.tables s.legal ⊥ (program_of a) w (outcome_of o) w
+ends_step s a o w c e = rw (c, e) (over_runs s.tables s.legal ⊥ o)
+
+-- ---- failures
+
+abbrev pub Starves : Setting → Stack → World → World → Type 0
+Starves s a w v = Runs s.tables s.legal (Unit {0}) (program_of a) w (runs.Cut causes.Memory) v
+
+pub turned_err : (s : Setting) (a : Stack) (w v : World) (x : Either Turn Failure) → IsErr x → Starves s a w v → TurnsTo s a w x v
+turned_err s a w v (Ok o) h r = absurd (true≢false (sym h))
+turned_err s a w v (Err e) h r = r
+
+pub starves_here : (s : Setting) (a : Stack) (w : World) → Starves s a w w
+starves_here s a w = Runs.starves tt
+
+-- on the way of a task
+pub starves_on_way : (s : Setting) (a : Stack) (t : Task) (w v : World) → a.pending ≡ pendings.Does t → IsOnWay s (first t) w v → Starves s a w v
+starves_on_way s a t w v e c =
+    to_within s.tables s.legal (Unit {0}) a.frames (program_ahead a.pending) w (runs.Cut causes.Memory) v
+    (rw e (left_map s.tables s.legal (Unit {0}) a.frames (first t) c.left w v (λ o x y. from_comes s.tables s.legal (Unit {0}) c.comes y) (runs.Cut causes.Memory) v (starved s.tables s.legal (Unit {0}) tt a.frames c.left v)))
+
+-- after a step
+pub starves_after : (s : Setting) (a b : Stack) (w v : World) → StepsTo s a w b v → Starves s a w v
+starves_after s a b w v q = steps_run s (Unit {0}) a b w v q (runs.Cut causes.Memory) v (Runs.starves tt)
+
+-- after a step that had no memory for what waits
+pub starves_moved : (s : Setting) (a : Stack) (t : Task) (next : Next) (w v : World) → a.pending ≡ pendings.Does t → MovesTo s t w next v → Starves s a w v
+starves_moved s a t next w v e m =
+    to_within s.tables s.legal (Unit {0}) a.frames (program_ahead a.pending) w (runs.Cut causes.Memory) v
+    (rw e (left_map s.tables s.legal (Unit {0}) a.frames (first t) (node next) w v (λ o x y. from_comes s.tables s.legal (Unit {0}) m y) (runs.Cut causes.Memory) v (starved s.tables s.legal (Unit {0}) tt a.frames (node next) v)))
+
+pub starves_went : (s : Setting) (a : Stack) (k : Frame) (ks : List Frame) (o : Outcome) (next : Next) (w v : World) → a.frames ≡ k ∷ ks → a.pending ≡ pendings.Gives o
+    → ComesTo s (after k o) w next v → Starves s a w v
+starves_went s a k ks o next w v c e m =
+    to_within s.tables s.legal (Unit {0}) a.frames (program_ahead a.pending) w (runs.Cut causes.Memory) v
+    (rw (c, e) (popped s.tables s.legal (Unit {0}) ks k o w (runs.Cut causes.Memory) v
+    (left_map s.tables s.legal (Unit {0}) ks (after k o) (node next) w v (λ b x y. from_comes s.tables s.legal (Unit {0}) m y) (runs.Cut causes.Memory) v (starved s.tables s.legal (Unit {0}) tt ks (node next) v))))

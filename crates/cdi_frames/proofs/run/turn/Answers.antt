@@ -1,0 +1,35 @@
+use Rattle.std.proofs.Common.{rules, arith}
+use Rattle.std.specs.Prelude.{Ok, Err}
+use Rattle.cdi_steps.proofs.Narrowing.{narrows_self, narrows_trans}
+use Rattle.cdi_frames.specs.Stacks.{Steps}
+use Rattle.cdi_frames.specs.declared.stack.Turn.TheVariants as turned
+use Rattle.cdi_frames.proofs.Stacks.{turned_after, turned_err}
+use Rattle.cdi_frames.proofs.Loads.{grown_none, grown_on}
+use Rattle.cdi_frames.proofs.run.turn.Goals as goal
+
+pub steps-init : goal.steps-init
+steps-init g c = record {
+  narrows = narrows_self (g.H.Host.setting c.args.host.now);
+  so_far = Steps.stays;
+  known = c.requires;
+  first = search rules;
+  grown = grown_none c.args.most (g.H.Host.world c.args.host.now);
+}
+
+pub returns-in_err-outcome-clause-turned : goal.returns-in_err-outcome-clause-turned
+returns-in_err-outcome-clause-turned g c =
+    turned_err (g.H.Host.setting c.args.host.now) c.args.stack (g.H.Host.world c.args.host.now) (g.H.Host.world c.advance.new.host) c.from_residual.result (search rules)
+    (turned_after c.steps.invariant.narrows c.args.stack c.steps.stack (g.H.Host.world c.args.host.now) (g.H.Host.world c.steps.host) (Err c.in_err-outcome.field-0.0) (g.H.Host.world c.advance.new.host) c.steps.invariant.so_far c.in_err-outcome.ensures.turned)
+
+pub returns-in-Finished-clause-turned : goal.returns-in-Finished-clause-turned
+returns-in-Finished-clause-turned g c =
+    turned_after c.steps.invariant.narrows c.args.stack c.steps.stack (g.H.Host.world c.args.host.now) (g.H.Host.world c.steps.host) (Ok (turned.Finished c.in-Finished.outcome)) (g.H.Host.world c.advance.new.host) c.steps.invariant.so_far (rw c.in-Finished.is at c.in_ok-outcome.ensures.turned)
+
+pub steps-preserved : goal.steps-preserved
+steps-preserved g c = record {
+  narrows = narrows_trans c.steps.invariant.narrows c.in_ok-outcome.ensures.narrows;
+  so_far = turned_after c.steps.invariant.narrows c.args.stack c.steps.stack (g.H.Host.world c.args.host.now) (g.H.Host.world c.steps.host) (Ok (turned.Running c.in-Running.then)) (g.H.Host.world c.advance.new.host) c.steps.invariant.so_far (rw c.in-Running.is at c.in_ok-outcome.ensures.turned);
+  known = rw c.in-Running.is at c.in_ok-outcome.ensures.known;
+  first = c.steps.invariant.first;
+  grown = grown_on c.args.most (g.H.Host.world c.args.host.now) (g.H.Host.world c.steps.host) (g.H.Host.world c.advance.new.host) c.steps.invariant.grown (omega (arith, c.written.ensures, c.steps.invariant.first, c.steps.invariant.grown.low, c.steps.invariant.grown.high, c.if-written-first.false)) c.in_ok-outcome.ensures.grown;
+}

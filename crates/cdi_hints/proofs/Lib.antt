@@ -1,5 +1,0 @@
-pub mod Options
-pub mod Items
-pub mod LongLists
-pub mod Full
-pub mod KindLemmas

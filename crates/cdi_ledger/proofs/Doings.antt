@@ -1,0 +1,532 @@
+-- Each program keeps where all stand: brackets, bodies, destruction, creation and events.
+use Rattle.std.proofs.Common.{ℕ, ◌≡◌, ◌<◌, ◌≤◌, List, [], ◌∷◌, inl, inr, Option, Some, None, Bool, true, false, refl, sym, ap, ◌∙◌, subst, arith}
+use Rattle.std.specs.Prelude.{nat_eq, length, ◌||◌, not, slice_get, remove, option_map}
+use Rattle.cdi_base.specs.declared.value.Value.{Value}
+use Rattle.cdi_base.specs.declared.value.Value.TheVariants as values
+use Rattle.cdi_base.specs.declared.act.Act.{Act}
+use Rattle.cdi_base.specs.declared.act.Act.TheVariants as acts
+use Rattle.cdi_base.specs.declared.act.Via.{Via}
+use Rattle.cdi_base.specs.declared.act.Via.TheVariants as vias
+use Rattle.cdi_base.specs.declared.act.Answer.TheVariants as answers
+use Rattle.cdi_base.specs.declared.entry.Entry.TheVariants as entries
+use Rattle.cdi_base.specs.declared.place.Place.TheVariants as places
+use Rattle.cdi_base.specs.declared.place.InterceptorMethod.{InterceptorMethod}
+use Rattle.cdi_base.specs.declared.place.InterceptorMethod.TheVariants as roles
+use Rattle.cdi_base.specs.declared.scope.Scope.{Scope}
+use Rattle.cdi_base.specs.declared.built_in.BuiltIn.{BuiltIn}
+use Rattle.cdi_base.specs.declared.built_in.BuiltIn.TheVariants as built_in
+use Rattle.cdi_base.specs.declared.uses.Use.{Use}
+use Rattle.cdi_base.specs.BuiltIn.{number_of}
+use Rattle.cdi_base.specs.Maps.{at}
+use Rattle.cdi_store.specs.declared.instance.Context.{Context}
+use Rattle.cdi_store.specs.declared.instance.Component.{Component}
+use Rattle.cdi_store.specs.declared.instance.Component.TheVariants as components
+use Rattle.cdi_store.specs.declared.instance.Instance.{Instance}
+use Rattle.cdi_store.specs.declared.instance.Owner.{Owner}
+use Rattle.cdi_store.specs.declared.instance.Owner.TheVariants as owners
+use Rattle.cdi_store.specs.declared.instance.Phase.TheVariants as phases
+use Rattle.cdi_store.specs.declared.references.Reference.{Reference}
+use Rattle.cdi_base.specs.declared.place.Place.{Place}
+use Rattle.std.specs.Prelude.{map}
+use Rattle.cdi_machine.specs.Tables.{Managed, Method}
+use Rattle.cdi_machine.specs.Words.{Name, Asked}
+use Rattle.cdi_machine.specs.Tables.{Tables, Code, Member, Lifecycle, Step, Source, Product, Kind, Bean, Observer}
+use Rattle.cdi_machine.specs.World.{World, Change, Invocation, instance_at, after_change, with_entry, below}
+use Rattle.cdi_machine.specs.Programs.{ActiveContext, cut, miss, change, tick, mark, act, choose, nested, Task, Given, Completion, Running, Prog, ret, throw, see, handle, quietly, attempt, require_present, require, expect, text_of, call, complete, finish, raise, do_nothing, alter, note, each, top, pick, active_or_raise, active_in, context, require_one, resolve, rethrow, require_number, bean_at, interceptor_at, lookup_at, instance, invocation}
+use Rattle.cdi_machine.specs.Contexts.{is_normal, refer_to, resolve_point, resolve_points, reach_instance}
+use Rattle.cdi_machine.specs.Bodies.{invoke_by, provide, invoke, call_back, given_by, body_at_start, interceptor_of, run_rest, reference_at, find_reference, method_in, bean_of, method_of, invoke_method, fits, replace_parameters, repeats, proceed, carry_out, find, answer_of, with_answer, after_act, answer_find, perform, carry_on}
+use Rattle.cdi_machine.specs.Destruction.{give_back, borrow_for, obtain_receiver, dispose, clean_up_bean, clean_up}
+use Rattle.cdi_machine.specs.Creation.{construct, inject, take_step, call_producer, accept, produce, make}
+use Rattle.cdi_machine.specs.Events.{fire, observe, deliver, notify, is_skipped, fire_context_event, fire_container_event, qualifier}
+use Rattle.cdi_ledger.specs.Ledger.{Item, Wrote}
+use Rattle.cdi_ownership.specs.Whose.{IsIn}
+use Rattle.cdi_ownership.proofs.Lists.{HasTop, TopEmpty, among_below, below_among}
+use Rattle.cdi_ownership.proofs.Cores.{Core, core_of, core_at}
+use Rattle.cdi_ownership.proofs.Homes.{codes, Inv, Rel, Grown, Placed, HeldIn, OnStack, Busy, IsFixed, targets, rel_self, rel_then, was_busy}
+use Rattle.cdi_ownership.proofs.Spans.{Still, inv_still, rel_still}
+use Rattle.cdi_ledger.proofs.Owed.{Ok, IsUsable, IsNewAt, MayEnter, MayRun, IsMember, usable_enters, usable_runs, new_then, new_usable, RefersTo, Pre, Post, IsTop, IsGiven, Anchored, anchored_then}
+use Rattle.cdi_ledger.proofs.Judge.{bind}
+use Rattle.cdi_ledger.proofs.Fine as fine
+use Rattle.cdi_ledger.proofs.Standing.{f_interceptor_of, CanHave, have_then, top_then, own_of, below_then, live_below, inside_still, invocation_still, f_bean, f_interceptor, f_instance, f_resolved, f_picked, f_reference, f_injected, f_all_injected, f_use, f_destroy_by, f_provide}
+
+abbrev IsTopOf : Invocation → List Invocation → Type 0
+IsTopOf v [] = ⊥
+IsTopOf v (u ∷ us) = u ≡ v
+
+top_kept : (v : Invocation) (us vs : List Invocation) → IsTopOf v us → targets vs ≡ targets us → codes vs ≡ codes us → (place : Place) → IsIn place (map (λ m. m.place) v.members) → IsMember v.target place vs
+top_kept v [] vs e p q place h = absurd e
+top_kept v (u ∷ us) [] e p q place h = absurd (cc)
+top_kept v (u ∷ us) (x ∷ vs) e p q place h =
+    let a : x.target ≡ u.target = cc in
+    let b : x.members ≡ u.members = cc in
+    (a ∙ ap (λ (z : Invocation). z.target) e, subst (λ z. IsIn place (map (λ m. m.place) z)) (sym (b ∙ ap (λ (z : Invocation). z.members) e)) h)
+
+in_places : (m : Code) (ms : List Code) → IsIn m ms → IsIn m.place (map (λ m. m.place) ms)
+in_places m [] h = h
+in_places m (n ∷ ms) (inl e) = inl (ap (λ (z : Code). z.place) e)
+in_places m (n ∷ ms) (inr h) = inr (in_places m ms h)
+
+grown_below : (k : ℕ) (x : List ℕ) (ts us : List (List ℕ)) → Grown k (x ∷ ts) us → Grown k ts (below us)
+grown_below k x ts [] q = absurd q
+grown_below k x ts (u ∷ us) q = q.1
+
+have_up : (w u : World) (owner : Owner) → u.instances ≡ w.instances → u.temporaries ≡ w.temporaries → ((b : ℕ) → OnStack w b → OnStack u b) → CanHave w owner → CanHave u owner
+have_up w u (owners.Context x) i t f h = absurd h
+have_up w u (owners.Instance m) i t f h = (h.0, subst (λ z. core_at m z ≡ Some h.0) (sym i) h.1, fixed h.2)
+  where
+    fixed : IsFixed w m h.0 → IsFixed u m h.0
+    fixed (inl e) = inl e
+    fixed (inr (inl e)) = inr (inl e)
+    fixed (inr (inr b)) = inr (inr (b.0, f b.0 b.1, subst (λ z. Rattle.cdi_ownership.proofs.Homes.Chain z b.0 m) (sym i) b.2))
+have_up w u owners.Borrower i t f h = subst HasTop (sym t) h
+
+abbrev pub Any : {A : Type 0} → A → World → Type 0
+Any a w = Unit {0}
+
+abbrev pub IsBelow : ℕ → World → Type 0
+IsBelow n w = IsUsable n w
+
+usable_below : (n : ℕ) (w : World) → Inv w → IsUsable n w → n < w.next
+usable_below n w g u = g.below n u.0 u.1
+
+module _ (t : Tables) where
+  module _ (w0 : World) where
+    abbrev Fine : {A : Type 0} → Prog A → (A → World → Type 0) → Type 0
+    Fine p V = fine.Fine t w0 p V
+
+    abbrev Goes : {A : Type 0} → Prog A → World → List Item → (A → World → Type 0) → Type 0
+    Goes p w h V = fine.Doing t p w h (fine.Left w0 V)
+
+    then : {A B : Type 0} (p : Prog A) (f : A → Prog B) → Fine p Any → ((a : A) → Fine (f a) Any) → Fine (handle p f throw) Any
+    then p f d k = fine.then t w0 p f Any d k
+
+    -- what is given is looked at in the world that it is given in
+    then_at : {A B : Type 0} (p : Prog A) (f : A → Prog B) (V : A → World → Type 0) → Fine p V → ((a : A) (w : World) (h : List Item) → Inv w → Rel w0 w → V a w → fine.Doing t (f a) w h (fine.Left w Any)) → Fine (handle p f throw) Any
+    then_at p f V d k = fine.then_with t w0 p f V Any d (λ a w h g r v. fine.rebased t w0 w (f a) h Any r (k a w h g r v))
+
+    gives : {A : Type 0} (a : A) → Fine (ret a) Any
+    gives a w h g r = (g, (r, tt))
+
+    calls : (c : Task) → ((w : World) (h : List Item) → Pre t c w h) → Fine (call c) Any
+    calls c q = fine.f_call t w0 c (λ w h g r. q w h)
+
+    -- ---- what is borrowed
+
+    behind : (w w2 : World) → Rel (after_change Change.Borrow w) w2 → Rel w (after_change Change.Return w2)
+    behind w w2 q = record {
+      next = q.next;
+      bodies = q.bodies;
+      targets = q.targets;
+      members = q.members;
+      lists = grown_below w.next [] w.temporaries w2.temporaries q.lists;
+      old = q.old;
+      new = q.new;
+      stay = λ k c e f. q.stay k c e (fixed k c f);
+      making = q.making;
+      absent = q.absent;
+    }
+      where
+        fixed : (k : ℕ) (c : Core) → IsFixed w k c → IsFixed (after_change Change.Borrow w) k c
+        fixed k c (inl e) = inl e
+        fixed k c (inr (inl e)) = inr (inl e)
+        fixed k c (inr (inr b)) = inr (inr b)
+
+    borrowed_inv : (w : World) → Inv w → Inv (after_change Change.Borrow w)
+    borrowed_inv w g = record {
+      below = g.below;
+      smaller = g.smaller;
+      stack = g.stack;
+      depends = g.depends;
+      borrowed = λ k h. elim h [ inl q ↦ absurd q | inr q ↦ g.borrowed k q ];
+      held = g.held;
+      placed = λ k c e r. by k c.component c.owner (g.placed k c e r);
+      made = g.made;
+      one = g.one;
+    }
+      where
+        by : (k : ℕ) (component : Component) (owner : Owner) → Placed w k component owner → Placed (after_change Change.Borrow w) k component owner
+        by k component (owners.Context x) h = h
+        by k component (owners.Instance m) h = h
+        by k component owners.Borrower h = inr h
+
+    returned_inv : (w : World) → Inv w → TopEmpty w.temporaries → Inv (after_change Change.Return w)
+    returned_inv w g e = record {
+      below = g.below;
+      smaller = g.smaller;
+      stack = g.stack;
+      depends = g.depends;
+      borrowed = λ k h. g.borrowed k (below_among k w.temporaries h);
+      held = g.held;
+      placed = λ k c f r. by k c.component c.owner (g.placed k c f r);
+      made = g.made;
+      one = g.one;
+    }
+      where
+        by : (k : ℕ) (component : Component) (owner : Owner) → Placed w k component owner → Placed (after_change Change.Return w) k component owner
+        by k component (owners.Context x) h = h
+        by k component (owners.Instance m) h = h
+        by k component owners.Borrower h = among_below k w.temporaries e h
+
+    top_fresh : (k d : ℕ) (ts us : List (List ℕ)) → Grown k ([] ∷ ts) us → IsTop d us → k ≤ d
+    top_fresh k d ts [] q h = absurd h
+    top_fresh k d ts (u ∷ us) q h = elim (q.0 d h) [ inl z ↦ absurd z | inr z ↦ z ]
+
+    dismissing : (w w1 : World) (h1 : List Item) → Inv w → Inv w1 → Rel (after_change Change.Borrow w) w1 → Pre t Task.Dismiss w1 h1
+    dismissing w w1 h1 g g1 q = (top_then w.next ([] ∷ w.temporaries) w1.temporaries q.lists tt, idle)
+      where
+        idle : (d : ℕ) → IsTop d w1.temporaries → Busy w1 d → ⊥
+        idle d h b =
+            let l = top_fresh w.next d w.temporaries w1.temporaries q.lists h in
+            let m = (was_busy (after_change Change.Borrow w) w1 d (borrowed_inv w g) q b).1 in
+            omega arith
+
+    pub f_borrowing : (p : Prog Given) → ((w : World) → Inv w → Rel w0 w → fine.Fine t (after_change Change.Borrow w) p Any) → Fine (borrow_for p) Any
+    f_borrowing p k w h g r =
+        let u : World = after_change Change.Borrow w in
+        bind t (Ok t) fine.G (Pre t) Post p (λ a. handle give_back (λ _. ret a) throw) (λ x. handle give_back (λ _. throw x) throw) u h (fine.Left u Any) (fine.Left w0 Any)
+        (k w g r u h (borrowed_inv w g) (rel_self u (borrowed_inv w g)))
+        (λ a w1 h1 g1 q. (g1, dismissing w w1 h1 g g1 q.0, gave a w1 q.0))
+        (λ x w1 h1 g1 q. (g1, dismissing w w1 h1 g g1 q.0, threw x w1 q.0))
+      where
+        gave : (a : Given) (w1 : World) → Rel (after_change Change.Borrow w) w1 → (c : Completion Given) (w2 : World) (h2 : List Item) → Inv w2 → Rel w1 w2 × IsGiven c × TopEmpty w2.temporaries
+            → Goes (handle (handle (complete c) (λ b. handle (alter Change.Return) (λ _. ret b) throw) (λ x. handle (alter Change.Return) (λ _. throw x) throw)) (λ _. ret a) throw) w2 h2 Any
+        gave a w1 q (Completion.Gave b) w2 h2 g2 p = (returned_inv w2 g2 p.2, (rel_then w0 w (after_change Change.Return w2) r (behind w w2 (rel_then (after_change Change.Borrow w) w1 w2 q p.0)), tt))
+        gave a w1 q (Completion.Threw b) w2 h2 g2 p = absurd p.1
+
+        threw : (x : Name) (w1 : World) → Rel (after_change Change.Borrow w) w1 → (c : Completion Given) (w2 : World) (h2 : List Item) → Inv w2 → Rel w1 w2 × IsGiven c × TopEmpty w2.temporaries
+            → Goes {A = Given} (handle (handle (complete c) (λ b. handle (alter Change.Return) (λ _. ret b) throw) (λ x. handle (alter Change.Return) (λ _. throw x) throw)) (λ _. throw x) throw) w2 h2 Any
+        threw x w1 q (Completion.Gave b) w2 h2 g2 p = (returned_inv w2 g2 p.2, (rel_then w0 w (after_change Change.Return w2) r (behind w w2 (rel_then (after_change Change.Borrow w) w1 w2 q p.0)), tt))
+        threw x w1 q (Completion.Threw b) w2 h2 g2 p = absurd p.1
+
+  -- ---- invocations
+
+  module _ (w0 : World) where
+    pub f_invoke : (n : ℕ) (m : Member) (args : List Value) (owner : Owner) (h : List Item) → Inv w0 → IsUsable n w0 → CanHave w0 owner → fine.Doing t (invoke n m args owner) w0 h (fine.Left w0 Any)
+    f_invoke n m args owner h g l k =
+        fine.f_invoked t w0 n roles.AroundInvoke (m.code ∷ []) args (handle (provide m.points owner) (λ _. call (Task.Rest m.chain)) throw) w0 h g (rel_self w0 g) (usable_below n w0 g l) (usable_enters t n (m.code ∷ []) w0 l)
+        (λ u gu i tm c x f. then u (provide m.points owner) (λ _. call (Task.Rest m.chain)) (f_provide t u m.points owner (have_up w0 u owner i tm f k)) (λ _. calls u (Task.Rest m.chain) (λ w h. tt)))
+
+    pub f_lifecycle : (n : ℕ) (role : InterceptorMethod) (callbacks : List Code) (chain : List ℕ) → n < w0.next → ((w : World) → Rel w0 w → MayEnter t n callbacks w) → Fine w0 (call_back n role callbacks chain) Any
+    f_lifecycle n role callbacks chain l ok w h g r = fine.f_invoked t w0 n role callbacks [] (call (Task.Rest chain)) w h g r (below_then w0 w n r l) (ok w r) (λ u gu i tm c x f. calls u (Task.Rest chain) (λ w h. tt))
+
+    pub f_receiver : (b : ℕ) → HasTop w0.temporaries → Fine w0 (obtain_receiver b) IsBelow
+    f_receiver b k = fine.then_with t w0 (refer_to b owners.Borrower) reach_instance Any IsBelow (f_reference t w0 b owners.Borrower k) (λ x w h g r v. f_use t w0 x w h g r)
+
+    -- ---- bodies
+
+    f_invocation : Fine w0 invocation Any
+    f_invocation w h g r = fine.f_top t w0 w.invocations w h g r
+
+    f_innermost : Fine w0 invocation (λ v u. IsTopOf v u.invocations)
+    f_innermost w h g r = by w.invocations refl
+      where
+        by : (vs : List Invocation) → w.invocations ≡ vs → Goes w0 (Rattle.cdi_machine.specs.Programs.top vs) w h (λ v u. IsTopOf v u.invocations)
+        by [] e = (g, (r, tt))
+        by (v ∷ vs) e = (g, (r, subst (IsTopOf v) (sym e) refl))
+
+    -- the bodies at a chain's end, one after the other
+    f_members : (v : Invocation) → IsTopOf v w0.invocations → (ms : List Code) → ((m : Code) → IsIn m ms → IsIn m.place (map (λ m. m.place) v.members)) → Fine w0 (each ms (λ m. call (Task.Body (body_at_start v.target m.place m.body v.parameters v.references [])))) Any
+    f_members v top [] f = λ w h g r. (g, (r, tt))
+    f_members v top (m ∷ []) f = fine.f_call t w0 (Task.Body (body_at_start v.target m.place m.body v.parameters v.references [])) (λ w h g r c e l. inl (top_kept v w0.invocations w.invocations top r.targets r.members m.place (f m (inl refl))))
+    f_members v top (m ∷ n ∷ ms) f = then w0 (call (Task.Body (body_at_start v.target m.place m.body v.parameters v.references []))) (λ _. each (n ∷ ms) (λ m. call (Task.Body (body_at_start v.target m.place m.body v.parameters v.references []))))
+        (fine.f_call t w0 (Task.Body (body_at_start v.target m.place m.body v.parameters v.references [])) (λ w h g r c e l. inl (top_kept v w0.invocations w.invocations top r.targets r.members m.place (f m (inl refl)))))
+        (λ _. f_members v top (n ∷ ms) (λ k z. f k (inr z)))
+
+  module _ (w0 : World) where
+    -- a body on one whose destruction hasn't begun
+    body_on : (y : Running) (f : Given → Prog Given) → ((a : Given) → Fine w0 (f a) Any) → (w : World) (h : List Item) → Inv w → Rel w0 w → IsUsable y.instance w → fine.Doing t (handle (call (Task.Body y)) f throw) w h (fine.Left w0 Any)
+    body_on y f d w h g r l = (g, usable_runs t y.instance y.place w h l, after)
+      where
+        after : (c : Completion Given) (w1 : World) (h1 : List Item) → Inv w1 → Rel w w1 × Unit {0} → fine.Doing t (handle (complete c) f throw) w1 h1 (fine.Left w0 Any)
+        after (Completion.Gave a) w1 h1 g1 p = d a w1 h1 g1 (rel_then w0 w w1 r p.0)
+        after (Completion.Threw x) w1 h1 g1 p = (g1, (rel_then w0 w w1 r p.0, tt))
+
+    pub f_rest : (chain : List ℕ) → Fine w0 (run_rest chain) Any
+    f_rest [] = fine.then_with t w0 invocation (λ v. handle (each v.members (λ m. call (Task.Body (body_at_start v.target m.place m.body v.parameters v.references [])))) (λ x. handle (alter Change.Reach) (λ _. ret (given_by v.role x)) throw) throw) (λ v u. IsTopOf v u.invocations) Any (f_innermost w0)
+        (λ v w h g r top. fine.rebased t w0 w (handle (each v.members (λ m. call (Task.Body (body_at_start v.target m.place m.body v.parameters v.references [])))) (λ x. handle (alter Change.Reach) (λ _. ret (given_by v.role x)) throw) throw) h Any r
+        (then w (each v.members (λ m. call (Task.Body (body_at_start v.target m.place m.body v.parameters v.references [])))) (λ x. handle (alter Change.Reach) (λ _. ret (given_by v.role x)) throw) (f_members w v top v.members (λ m z. in_places m v.members z))
+        (λ x. then w (alter Change.Reach) (λ _. ret (given_by v.role x)) (fine.f_alter t w Change.Reach tt (λ w. invocation_still w (λ i. record i { completed = true }) (λ i. refl) (λ i. refl))) (λ _. (λ w h g q. (g, (q, tt)))))
+        w h g (rel_self w g)))
+    f_rest (i ∷ chain) =
+        then w0 invocation _ (f_invocation w0) λ v.
+        then w0 (interceptor_at i) _ (f_interceptor t w0 i) λ x.
+        then w0 (require_present (x.body v.role)) _ (fine.f_present t w0 (x.body v.role)) λ b.
+        fine.then_with t w0 (interceptor_of v.target i) _ (λ n u. IsUsable n u) Any (f_interceptor_of t w0 v.target i)
+        (λ n w h g r l. body_on (body_at_start n (places.Interceptor x.name v.role) b v.parameters [] chain) (λ a. ret (given_by v.role a)) (λ a w h g q. (g, (q, tt))) w h g r l)
+
+    -- ---- acts
+
+    f_referred : (r : Running) (via : Via) → Fine w0 (find_reference r via) Any
+    f_referred r (vias.Field name) = then w0 (instance r.instance) _ (f_instance t w0 r.instance) (λ _. (λ w h g q. (g, (q, tt))))
+    f_referred r (vias.Param k) = (λ w h g q. (g, (q, tt)))
+    f_referred r (vias.Local k) = (λ w h g q. (g, (q, tt)))
+
+    f_method_in : (k : Kind) (name : Name) → Fine w0 (method_in k name) Any
+    f_method_in (Kind.Class c) name = fine.f_present t w0 (at c.methods name)
+    f_method_in (Kind.Producer p) name = λ w h g r. (g, (r, tt))
+
+    f_bean_of : (component : Component) → Fine w0 (bean_of component) Any
+    f_bean_of (components.Bean b) = f_bean t w0 b
+    f_bean_of (components.Interceptor i) = λ w h g r. (g, (r, tt))
+
+    f_method_of : (n : ℕ) (name : Name) → Fine w0 (method_of n name) Any
+    f_method_of n name = then w0 (instance n) _ (f_instance t w0 n) λ o. then w0 (bean_of o.component) _ (f_bean_of o.component) λ bean. f_method_in bean.kind name
+
+    looks_method : (n : ℕ) (name : Name) → fine.Looks (method_of n name)
+    looks_method n name = fine.looks_handle (instance n) _ throw (λ t w. fine.looks_present (instance_at w n)) (λ o. fine.looks_handle (bean_of o.component) (λ bean. method_in bean.kind name) throw (of_component o.component) (λ b. in_kind b.kind) (λ x. tt)) (λ x. tt)
+      where
+        of_component : (c : Component) → fine.Looks (bean_of c)
+        of_component (components.Bean b) = λ t w. fine.looks_present (t.bean b)
+        of_component (components.Interceptor i) = tt
+
+        in_kind : (k : Kind) → fine.Looks (method_in k name)
+        in_kind (Kind.Class c) = fine.looks_present (at c.methods name)
+        in_kind (Kind.Producer p) = tt
+
+    looks_expect : (b : Bool) → fine.Looks (expect b)
+    looks_expect true = tt
+    looks_expect false = tt
+
+    pub f_method : (n : ℕ) (name : Name) (args : List Value) (h : List Item) → Inv w0 → IsUsable n w0 → fine.Doing t (invoke_method n name args) w0 h (fine.Left w0 Any)
+    f_method n name args h g l =
+        bind t (Ok t) fine.G (Pre t) Post (method_of n name) (λ m. handle (expect (nat_eq (length args) m.count)) (λ _. invoke_by n roles.AroundInvoke (m.code ∷ []) args (call (Task.Rest m.chain))) throw) throw w0 h (fine.Left w0 (λ m u. IsUsable n u)) (fine.Left w0 Any)
+        (fine.f_looks t w0 (method_of n name) (IsUsable n) w0 h (looks_method n name) g (rel_self w0 g) l)
+        (λ m w1 h1 g1 q. bind t (Ok t) fine.G (Pre t) Post (expect (nat_eq (length args) m.count)) (λ _. invoke_by n roles.AroundInvoke (m.code ∷ []) args (call (Task.Rest m.chain))) throw w1 h1 (fine.Left w0 (λ m u. IsUsable n u)) (fine.Left w0 Any)
+        (fine.f_looks t w0 (expect (nat_eq (length args) m.count)) (IsUsable n) w1 h1 (looks_expect (nat_eq (length args) m.count)) g1 q.0 q.1)
+        (λ a w2 h2 g2 p. fine.f_invoked t w0 n roles.AroundInvoke (m.code ∷ []) args (call (Task.Rest m.chain)) w2 h2 g2 p.0 (usable_below n w2 g2 p.1) (usable_enters t n (m.code ∷ []) w2 p.1) (λ u gu i tm c x f. calls u (Task.Rest m.chain) (λ w h. tt)))
+        (λ x w2 h2 g2 p. (g2, (p.0, tt))))
+        (λ x w1 h1 g1 q. (g1, (q.0, tt)))
+
+    f_replace : (args : Option (List Value)) → Fine w0 (replace_parameters args) Any
+    f_replace None = (λ w h g q. (g, (q, tt)))
+    f_replace (Some args) = fine.f_alter t w0 (Change.Replace args) tt (λ w. invocation_still w (λ i. record i { parameters = args }) (λ i. refl) (λ i. refl))
+
+    f_proceed : (r : Running) (args : Option (List Value)) → Fine w0 (proceed r args) Any
+    f_proceed r args =
+        then w0 invocation _ (f_invocation w0) λ v.
+        then w0 (require (fits v.parameters args) built_in.IllegalArgumentException) _ (fine.f_require t w0 _ _) λ _.
+        then w0 (require (repeats v.role || not r.proceeded) built_in.IllegalStateException) _ (fine.f_require t w0 _ _) λ _.
+        then w0 (replace_parameters args) (λ _. call (Task.Rest r.rest)) (f_replace args) (λ _. calls w0 (Task.Rest r.rest) (λ w h. tt))
+
+  abbrev IsNotOwn : Act → Type 0
+  IsNotOwn (acts.Own name args) = ⊥
+  IsNotOwn _ = Unit {0}
+
+  module _ (w0 : World) where
+    pub f_does : (r : Running) (a : Act) → IsNotOwn a → Fine w0 (carry_out r a) Any
+    f_does r (acts.Set field v) nq = then w0 (instance r.instance) _ (f_instance t w0 r.instance) λ o. then w0 (require_present (at o.fields field)) _ (fine.f_present t w0 (at o.fields field)) (λ _. then w0 (alter (Change.Assign r.instance field v)) (λ _. finish) (fine.f_alter t w0 (Change.Assign r.instance field v) tt (λ w. inside_still w r.instance _ (λ o. refl) (λ o. refl))) (λ _. (λ w h g q. (g, (q, tt)))))
+    f_does r (acts.Call via name args) nq = then w0 (find_reference r via) _ (f_referred w0 r via) λ x. then_at w0 (reach_instance x) (λ n. invoke_method n name args) IsBelow (f_use t w0 x) (λ n w h g q l. f_method w n name args h g l)
+    f_does r (acts.Own name args) nq = absurd nq
+    f_does r (acts.Read via) nq = then w0 (find_reference r via) _ (f_referred w0 r via) λ x. then_at w0 (reach_instance x) (λ n. handle (instance n) (λ o. ret (Given.Result o.value)) throw) IsBelow (f_use t w0 x) (λ n w h g q l. then w (instance n) _ (f_instance t w n) (λ _. (λ w h g q. (g, (q, tt)))) w h g (rel_self w g))
+    f_does r (acts.Write via v) nq = then w0 (find_reference r via) _ (f_referred w0 r via) λ x. then_at w0 (reach_instance x) (λ n. handle (alter (Change.Hold n v)) (λ _. finish) throw) IsBelow (f_use t w0 x) (λ n w h g q l. then w (alter (Change.Hold n v)) (λ _. finish) (fine.f_alter t w (Change.Hold n v) tt (λ w. inside_still w n _ (λ o. refl) (λ o. refl))) (λ _. (λ w h g q. (g, (q, tt)))) w h g (rel_self w g))
+    f_does r (acts.Fire class qualifiers v) nq = calls w0 (Task.Fire class qualifiers v) (λ w h. tt)
+    f_does r (acts.Proceed args) nq = f_proceed w0 r args
+    f_does r (acts.Find k) nq = λ w h g q. (g, (q, tt))
+    f_does r (acts.Keep key v) nq = then w0 (alter (Change.Keep key v)) (λ _. finish) (fine.f_alter t w0 (Change.Keep key v) tt (λ w. invocation_still w _ (λ i. refl) (λ i. refl))) (λ _. (λ w h g q. (g, (q, tt))))
+    f_does r (acts.Peek key) nq = then w0 invocation _ (f_invocation w0) (λ _. (λ w h g q. (g, (q, tt))))
+    f_does r (acts.Destroy k) nq = f_destroy_by t w0 (reference_at (at r.locals k))
+    f_does r (acts.Give v) nq = λ w h g q. (g, (q, tt))
+    f_does r (acts.Throw x) nq = λ w h g q. (g, (q, tt))
+
+    f_find : (r : Running) (k : ℕ) → Anchored w0 r.instance → Fine w0 (find r k) Any
+    f_find r k a = then w0 (lookup_at r.body k) _ (λ w h g q. fine.f_present t w0 (t.lookup r.body k) w h g q) λ asked. then w0 (resolve asked) _ (f_resolved t w0 asked) λ b. f_reference t w0 b (owners.Instance r.instance) a
+
+    f_answer : (c : Completion Given) → Fine w0 (answer_of c) Any
+    f_answer (Completion.Gave (Given.Result v)) = (λ w h g q. (g, (q, tt)))
+    f_answer (Completion.Gave (Given.Number n)) = (λ w h g q. (g, (q, tt)))
+    f_answer (Completion.Gave Given.Empty) = (λ w h g q. (g, (q, tt)))
+    f_answer (Completion.Threw x) = then w0 (text_of x) _ (λ w h g q. fine.f_present t w0 (t.text x) w h g q) (λ _. (λ w h g q. (g, (q, tt))))
+
+    f_again : (r : Running) → Anchored w0 r.instance → Fine w0 (call (Task.Acts r)) Any
+    f_again r a = fine.f_call t w0 (Task.Acts r) (λ w h g q. anchored_then w0 w r.instance q a)
+
+    f_found : (r : Running) (k : ℕ) (c : Completion Reference) → Anchored w0 r.instance → Fine w0 (answer_find r k c) Any
+    f_found r k (Completion.Gave x) a = f_again (with_answer (record r { locals = Rattle.cdi_base.specs.Maps.put k x r.locals }) (answers.Found k)) a
+    f_found r k (Completion.Threw x) a = then w0 (answer_of (Completion.Threw x)) (λ answer. call (Task.Acts (with_answer r answer))) (f_answer (Completion.Threw x)) (λ answer. f_again (with_answer r answer) a)
+
+    same_instance : (r : Running) (a : Act) → (after_act r a).instance ≡ r.instance
+    same_instance r (acts.Proceed args) = refl
+    same_instance r (acts.Set field v) = refl
+    same_instance r (acts.Call via name args) = refl
+    same_instance r (acts.Own name args) = refl
+    same_instance r (acts.Read via) = refl
+    same_instance r (acts.Write via v) = refl
+    same_instance r (acts.Fire class qualifiers v) = refl
+    same_instance r (acts.Find k) = refl
+    same_instance r (acts.Keep key v) = refl
+    same_instance r (acts.Peek key) = refl
+    same_instance r (acts.Destroy k) = refl
+    same_instance r (acts.Give v) = refl
+    same_instance r (acts.Throw x) = refl
+
+    f_told : (r : Running) (a : Act) → IsNotOwn a → Anchored w0 r.instance → Fine w0 (handle (attempt (carry_out r a)) (λ c. handle (answer_of c) (λ answer. call (Task.Acts (with_answer (after_act r a) answer))) throw) throw) Any
+    f_told r a nq k = then w0 (attempt (carry_out r a)) _ (fine.caught t w0 (carry_out r a) _ _ Any Any (f_does r a nq) (λ _. (λ w h g q. (g, (q, tt)))) (λ _. (λ w h g q. (g, (q, tt))))) λ c. then w0 (answer_of c) (λ answer. call (Task.Acts (with_answer (after_act r a) answer))) (f_answer c) (λ answer. f_again (with_answer (after_act r a) answer) (subst (Anchored w0) (sym (same_instance r a)) k))
+
+    -- a call of its own method: its `did` stands right before
+    own_does : (r : Running) (name : Name) (args : List Value) (w : World) (h : List Item) → Inv w → Rel w0 w → Goes w0 (carry_out r (acts.Own name args)) w (Wrote (entries.Did (acts.Own name args)) ∷ h) Any
+    own_does r name args w h g q = by (instance_at w r.instance) refl
+      where
+        k : List Item
+        k = Wrote (entries.Did (acts.Own name args)) ∷ h
+
+        called : (m : Method) → MayRun t r.instance m.code.place w (Wrote (entries.Did (acts.Own name args)) ∷ h) → (b : Bool) → Goes w0 (handle (expect b) (λ _. call (Task.Body (body_at_start r.instance m.code.place m.code.body args [] []))) throw) w (Wrote (entries.Did (acts.Own name args)) ∷ h) Any
+        called m ok true = fine.calling t w0 (Task.Body (body_at_start r.instance m.code.place m.code.body args [] [])) w (Wrote (entries.Did (acts.Own name args)) ∷ h) g q ok
+        called m ok false = (g, (q, tt))
+
+        then_call : Method → Prog Given
+        then_call m = handle (expect (nat_eq (length args) m.count)) (λ _. call (Task.Body (body_at_start r.instance m.code.place m.code.body args [] []))) throw
+
+        found : (o : Instance) (b : ℕ) (x : Bean) (c : Managed) → instance_at w r.instance ≡ Some o → o.component ≡ components.Bean b → t.bean b ≡ Some x → x.kind ≡ Kind.Class c → (m : Option Method) → at c.methods name ≡ m
+            → Goes w0 (handle (require_present m) (λ m. handle (expect (nat_eq (length args) m.count)) (λ _. call (Task.Body (body_at_start r.instance m.code.place m.code.body args [] []))) throw) throw) w (Wrote (entries.Did (acts.Own name args)) ∷ h) Any
+        found o b x c e i f y None z = (g, (q, tt))
+        found o b x c e i f y (Some m) z = called m (λ d u l. inr (record {
+          index = b;
+          is = (let v : Some (core_of o) ≡ Some d = sym (ap (option_map core_of) e) ∙ u in let s : core_of o ≡ d = cc in ap (λ (z : Core). z.component) (sym s) ∙ i);
+          bean = x;
+          known = f;
+          class = c;
+          kind = y;
+          own = (m, z, refl);
+        })) (nat_eq (length args) m.count)
+
+        of_kind : (o : Instance) (b : ℕ) (x : Bean) → instance_at w r.instance ≡ Some o → o.component ≡ components.Bean b → t.bean b ≡ Some x → (kind : Kind) → x.kind ≡ kind
+            → Goes w0 (handle (method_in kind name) (λ m. handle (expect (nat_eq (length args) m.count)) (λ _. call (Task.Body (body_at_start r.instance m.code.place m.code.body args [] []))) throw) throw) w (Wrote (entries.Did (acts.Own name args)) ∷ h) Any
+        of_kind o b x e i f (Kind.Class c) y = found o b x c e i f y (at c.methods name) refl
+        of_kind o b x e i f (Kind.Producer p) y = (g, (q, tt))
+
+        of_bean : (o : Instance) (b : ℕ) → instance_at w r.instance ≡ Some o → o.component ≡ components.Bean b → (x : Option Bean) → t.bean b ≡ x
+            → Goes w0 (handle (handle (require_present x) (λ bean. method_in bean.kind name) throw) (λ m. handle (expect (nat_eq (length args) m.count)) (λ _. call (Task.Body (body_at_start r.instance m.code.place m.code.body args [] []))) throw) throw) w (Wrote (entries.Did (acts.Own name args)) ∷ h) Any
+        of_bean o b e i None f = (g, (q, tt))
+        of_bean o b e i (Some x) f = of_kind o b x e i f x.kind refl
+
+        of_component : (o : Instance) → instance_at w r.instance ≡ Some o → (c : Component) → o.component ≡ c
+            → Goes w0 (handle (handle (bean_of c) (λ bean. method_in bean.kind name) throw) (λ m. handle (expect (nat_eq (length args) m.count)) (λ _. call (Task.Body (body_at_start r.instance m.code.place m.code.body args [] []))) throw) throw) w (Wrote (entries.Did (acts.Own name args)) ∷ h) Any
+        of_component o e (components.Bean b) i = of_bean o b e i (t.bean b) refl
+        of_component o e (components.Interceptor j) i = (g, (q, tt))
+
+        by : (x : Option Instance) → instance_at w r.instance ≡ x
+            → Goes w0 (handle (handle (require_present x) (λ o. handle (bean_of o.component) (λ bean. method_in bean.kind name) throw) throw) (λ m. handle (expect (nat_eq (length args) m.count)) (λ _. call (Task.Body (body_at_start r.instance m.code.place m.code.body args [] []))) throw) throw) w (Wrote (entries.Did (acts.Own name args)) ∷ h) Any
+        by None e = (g, (q, tt))
+        by (Some o) e = of_component o e o.component refl
+
+    own_told : (r : Running) (name : Name) (args : List Value) → Anchored w0 r.instance → (w : World) (h : List Item) → Inv w → Rel w0 w
+        → Goes w0 (handle (attempt (carry_out r (acts.Own name args))) (λ c. handle (answer_of c) (λ answer. call (Task.Acts (with_answer (after_act r (acts.Own name args)) answer))) throw) throw) w (Wrote (entries.Did (acts.Own name args)) ∷ h) Any
+    own_told r name args k w h g q =
+        bind t (Ok t) fine.G (Pre t) Post (attempt (carry_out r (acts.Own name args))) (λ c. handle (answer_of c) (λ answer. call (Task.Acts (with_answer (after_act r (acts.Own name args)) answer))) throw) throw w (Wrote (entries.Did (acts.Own name args)) ∷ h) (fine.Left w0 Any) (fine.Left w0 Any)
+        (bind t (Ok t) fine.G (Pre t) Post (carry_out r (acts.Own name args)) (λ a. ret (Completion.Gave a)) (λ x. ret (Completion.Threw x)) w (Wrote (entries.Did (acts.Own name args)) ∷ h) (fine.Left w0 Any) (fine.Left w0 Any) (own_does r name args w h g q) (λ a w1 h1 g1 p. (g1, (p.0, tt))) (λ x w1 h1 g1 p. (g1, (p.0, tt))))
+        (λ c w1 h1 g1 p. then w0 (answer_of c) (λ answer. call (Task.Acts (with_answer (after_act r (acts.Own name args)) answer))) (f_answer c) (λ answer. f_again (with_answer (after_act r (acts.Own name args)) answer) k) w1 h1 g1 p.0)
+        (λ x w1 h1 g1 p. (g1, (p.0, tt)))
+
+    f_perform : (r : Running) (a : Act) → Anchored w0 r.instance → (w : World) (h : List Item) → Inv w → Rel w0 w → Goes w0 (perform r a) w (Wrote (entries.Did a) ∷ h) Any
+    f_perform r (acts.Give v) k w h g q = (g, (q, tt))
+    f_perform r (acts.Throw x) k w h g q = (g, (q, tt))
+    f_perform r (acts.Find i) k w h g q = then w0 (attempt (find r i)) _ (fine.caught t w0 (find r i) _ _ Any Any (f_find r i k) (λ _. (λ w h g q. (g, (q, tt)))) (λ _. (λ w h g q. (g, (q, tt))))) (λ c. f_found r i c k) w (Wrote (entries.Did (acts.Find i)) ∷ h) g q
+    f_perform r (acts.Set field v) k w h g q = f_told r (acts.Set field v) tt k w (Wrote (entries.Did (acts.Set field v)) ∷ h) g q
+    f_perform r (acts.Call via name args) k w h g q = f_told r (acts.Call via name args) tt k w (Wrote (entries.Did (acts.Call via name args)) ∷ h) g q
+    f_perform r (acts.Own name args) k w h g q = own_told r name args k w h g q
+    f_perform r (acts.Read via) k w h g q = f_told r (acts.Read via) tt k w (Wrote (entries.Did (acts.Read via)) ∷ h) g q
+    f_perform r (acts.Write via v) k w h g q = f_told r (acts.Write via v) tt k w (Wrote (entries.Did (acts.Write via v)) ∷ h) g q
+    f_perform r (acts.Fire class qualifiers v) k w h g q = f_told r (acts.Fire class qualifiers v) tt k w (Wrote (entries.Did (acts.Fire class qualifiers v)) ∷ h) g q
+    f_perform r (acts.Proceed args) k w h g q = f_told r (acts.Proceed args) tt k w (Wrote (entries.Did (acts.Proceed args)) ∷ h) g q
+    f_perform r (acts.Keep key v) k w h g q = f_told r (acts.Keep key v) tt k w (Wrote (entries.Did (acts.Keep key v)) ∷ h) g q
+    f_perform r (acts.Peek key) k w h g q = f_told r (acts.Peek key) tt k w (Wrote (entries.Did (acts.Peek key)) ∷ h) g q
+    f_perform r (acts.Destroy i) k w h g q = f_told r (acts.Destroy i) tt k w (Wrote (entries.Did (acts.Destroy i)) ∷ h) g q
+
+    pub f_acts : (r : Running) → Anchored w0 r.instance → Fine w0 (carry_on r) Any
+    f_acts r k = then w0 (instance r.instance) _ (f_instance t w0 r.instance) (λ o w h g q. (g, λ a. f_perform r a k (with_entry (entries.Did a) w) h (fine.inv_entry (entries.Did a) w g) (fine.rel_entry (entries.Did a) w0 w g q)))
+
+  -- ---- destruction
+
+  module _ (w0 : World) where
+    served : (b : ℕ) (m : Member) (args : List Value) → Fine w0 (borrow_for (handle (obtain_receiver b) (λ n. invoke n m args owners.Borrower) throw)) Any
+    served b m args = f_borrowing w0 (handle (obtain_receiver b) (λ n. invoke n m args owners.Borrower) throw)
+        (λ w g r. then_at (after_change Change.Borrow w) (obtain_receiver b) (λ n. invoke n m args owners.Borrower) IsBelow (f_receiver (after_change Change.Borrow w) b tt)
+        (λ n v h g1 r1 l. f_invoke v n m args owners.Borrower h g1 l (have_then (after_change Change.Borrow w) v owners.Borrower r1 tt)))
+
+    pub f_farewell : (n : ℕ) (v : Value) (component : Component) (d : Core) → n < w0.next → core_at n w0.instances ≡ Some d → d.phase ≡ phases.Leaving → d.component ≡ component → Fine w0 (clean_up n v component) Any
+    f_farewell n v (components.Interceptor i) d l e p q = (λ w h g q. (g, (q, tt)))
+    f_farewell n v (components.Bean b) d l e p q = fine.then_with t w0 (bean_at b) (λ bean. clean_up_bean n v bean.kind) (λ x u. t.bean b ≡ Some x) Any (Rattle.cdi_ledger.proofs.Standing.f_known t w0 b) (λ bean w h g r f. by bean f bean.kind refl w h g r)
+      where
+        by : (bean : Bean) → t.bean b ≡ Some bean → (k : Kind) → bean.kind ≡ k → Fine w0 (clean_up_bean n v k) Any
+        by bean f (Kind.Class c) y = f_lifecycle w0 n roles.PreDestroy c.pre_destroy.callbacks c.pre_destroy.chain l
+            (λ w r x u m. record { index = b; is = (let z : Some d ≡ Some x = sym (r.stay n d e (inr (inl p))) ∙ u in let s : d ≡ x = cc in ap (λ (z : Core). z.component) (sym s) ∙ q); bean = bean; known = f; class = c; kind = y; all = λ place i. i })
+        by bean f (Kind.Producer p) y = fine.f_each t w0 p.disposers (dispose p v) (λ d. served p.declaring d (v ∷ []))
+
+    -- ---- creation
+
+    pub f_construct : (n : ℕ) (points : List Asked) (chain : Lifecycle) → n < w0.next → Anchored w0 n → IsNewAt n w0 → Fine w0 (construct n points chain) Any
+    f_construct n points chain l k new w h g r =
+        fine.f_invoked t w0 n roles.AroundConstruct chain.callbacks [] (handle (provide points (owners.Instance n)) (λ _. handle (call (Task.Rest chain.chain)) (λ _. handle invocation (λ v. handle (require v.completed built_in.CreationException) (λ _. finish) throw) throw) throw) throw) w h g r (below_then w0 w n r l) (usable_enters t n chain.callbacks w (new_usable w n (new_then w0 w n r new)))
+        (λ u gu i tm c x f.
+        then u (provide points (owners.Instance n)) _ (f_provide t u points (owners.Instance n) (have_up w u (owners.Instance n) i tm f (have_then w0 w (owners.Instance n) r k))) λ _.
+        then u (call (Task.Rest chain.chain)) _ (calls u (Task.Rest chain.chain) (λ w h. tt)) λ _.
+        then u invocation _ (f_invocation u) λ v. then u (require v.completed built_in.CreationException) _ (fine.f_require t u _ _) (λ _. (λ w h g q. (g, (q, tt)))))
+
+    pub f_inject : (n : ℕ) (field : Name) (point : Asked) → Anchored w0 n → Fine w0 (inject n field point) Any
+    f_inject n field point k = fine.then_with t w0 (resolve_point point (owners.Instance n)) _ (RefersTo (owners.Instance n)) Any (Rattle.cdi_ledger.proofs.Standing.f_pointing t w0 point (owners.Instance n) k)
+        (λ x w h g r v. (v, (let s = still x w in (inv_still w _ s g, (rel_then w0 w _ r (rel_still w _ s g), tt)))))
+      where
+        still : (x : Reference) (w : World) → Still w (after_change (Change.Refer n field x) w)
+        still x w = inside_still w n _ (λ o. refl) (λ o. refl)
+
+    f_step : (n : ℕ) (s : Step) → n < w0.next → Anchored w0 n → IsNewAt n w0 → Fine w0 (take_step n s) Any
+    f_step n (Step.Intercept i) l k new = fine.f_call t w0 (Task.Intercept i n) (λ w h g r. anchored_then w0 w n r k)
+    f_step n (Step.Construct points chain) l k new = f_construct n points chain l k new
+    f_step n (Step.Inject field point) l k new = f_inject n field point k
+    f_step n (Step.Initialize m points) l k new = then w0 (resolve_points points (owners.Instance n)) (λ rs. call (Task.Body (body_at_start n m.place m.body [] rs []))) (f_all_injected t w0 points (owners.Instance n) k) (λ rs. fine.f_call t w0 (Task.Body (body_at_start n m.place m.body [] rs [])) (λ w h g r. usable_runs t n m.place w h (new_usable w n (new_then w0 w n r new))))
+    f_step n (Step.Complete chain) l k new = f_lifecycle w0 n roles.PostConstruct chain.callbacks chain.chain l (λ w r. usable_enters t n chain.callbacks w (new_usable w n (new_then w0 w n r new)))
+
+    f_accept : (b : Bool) (n : ℕ) (x : Given) → Fine w0 (accept b n x) Any
+    f_accept true n (Given.Result values.Null) = λ w h g r. (g, (r, tt))
+    f_accept true n (Given.Result (values.Int i)) = then w0 (alter (Change.Hold n (values.Int i))) (λ _. ret (Given.Result (values.Int i))) (fine.f_alter t w0 (Change.Hold n (values.Int i)) tt (λ w. inside_still w n _ (λ o. refl) (λ o. refl))) (λ _. (λ w h g q. (g, (q, tt))))
+    f_accept true n (Given.Result (values.Text x)) = then w0 (alter (Change.Hold n (values.Text x))) (λ _. ret (Given.Result (values.Text x))) (fine.f_alter t w0 (Change.Hold n (values.Text x)) tt (λ w. inside_still w n _ (λ o. refl) (λ o. refl))) (λ _. (λ w h g q. (g, (q, tt))))
+    f_accept true n (Given.Number m) = (λ w h g q. (g, (q, tt)))
+    f_accept true n Given.Empty = (λ w h g q. (g, (q, tt)))
+    f_accept false n (Given.Result v) = then w0 (alter (Change.Hold n v)) (λ _. ret (Given.Result v)) (fine.f_alter t w0 (Change.Hold n v) tt (λ w. inside_still w n _ (λ o. refl) (λ o. refl))) (λ _. (λ w h g q. (g, (q, tt))))
+    f_accept false n (Given.Number m) = (λ w h g q. (g, (q, tt)))
+    f_accept false n Given.Empty = (λ w h g q. (g, (q, tt)))
+
+  module _ (w0 : World) where
+    f_produced : (n m : ℕ) (s : Source) (h : List Item) → Inv w0 → IsUsable m w0 → Anchored w0 n → fine.Doing t (call_producer n m s) w0 h (fine.Left w0 Any)
+    f_produced n m (Source.ProducerMethod producer) h g l k = f_invoke w0 m producer [] (owners.Instance n) h g l k
+    f_produced n m (Source.ProducerField field) h g l k = then w0 (instance m) _ (f_instance t w0 m) (λ o. then w0 (require_present (at o.fields field)) _ (fine.f_present t w0 _) (λ _. (λ w h g q. (g, (q, tt))))) w0 h g (rel_self w0 g)
+
+  module _ (w0 : World) where
+    f_produce : (n : ℕ) (scope : Scope) (p : Product) → Anchored w0 n → Fine w0 (produce n scope p) Any
+    f_produce n scope p k =
+        then w0 (borrow_for (handle (obtain_receiver p.declaring) (λ m. call_producer n m p.source) throw)) _
+        (f_borrowing w0 (handle (obtain_receiver p.declaring) (λ m. call_producer n m p.source) throw)
+        (λ w g r. then_at (after_change Change.Borrow w) (obtain_receiver p.declaring) (λ m. call_producer n m p.source) IsBelow (f_receiver (after_change Change.Borrow w) p.declaring tt)
+        (λ m v h g1 r1 l. f_produced v n m p.source h g1 l (have_then (after_change Change.Borrow w) v (owners.Instance n) r1 (anchored_then w0 w n r k)))))
+        (λ v. f_accept w0 (is_normal scope) n v)
+
+    pub f_made : (n : ℕ) (bean : Bean) (kind : Kind) → n < w0.next → Anchored w0 n → IsNewAt n w0 → Fine w0 (make n bean kind) Any
+    f_made n bean (Kind.Class c) l k new = then w0 (each c.plan (take_step n)) _ (fine.f_each t w0 c.plan (take_step n) (λ s. f_step w0 n s l k new)) (λ _. (λ w h g q. (g, (q, tt))))
+    f_made n bean (Kind.Producer p) l k new = f_produce n bean.scope p k
+
+    -- ---- events
+
+    pub f_fire : (class : Name) (qualifiers : List Use) (v : Value) → Fine w0 (fire class qualifiers v) Any
+    f_fire class qualifiers v w h g r = (
+      g,
+      then w0 (each (t.observers class qualifiers) (λ group. call (Task.Notify group v))) _ (fine.f_each t w0 (t.observers class qualifiers) _ (λ group. calls w0 (Task.Notify group v) (λ w h. tt))) (λ _. (λ w h g q. (g, (q, tt))))
+          _ _ (fine.inv_entry (entries.Event class qualifiers) w g) (fine.rel_entry (entries.Event class qualifiers) w0 w g r),
+    )
+
+    f_deliver : (o : Observer) (v : Value) → Fine w0 (deliver o v) Any
+    f_deliver o v =
+        then w0 (bean_at o.bean) _ (f_bean t w0 o.bean) λ bean w h g r.
+        fine.f_if t w0 (is_skipped w o bean) finish (handle (observe o v) (λ _. finish) (λ x. rethrow x built_in.ObserverException)) Any ((λ w h g q. (g, (q, tt))))
+        (fine.caught t w0 (observe o v) _ _ Any Any (served w0 o.bean o.member (v ∷ [])) (λ _. (λ w h g q. (g, (q, tt)))) (λ x. fine.f_rethrow t w0 _ x built_in.ObserverException Any)) w h g r
+
+    pub f_notify : (os : List Observer) (v : Value) → Fine w0 (notify os v) Any
+    f_notify [] v = (λ w h g q. (g, (q, tt)))
+    f_notify (o ∷ os) v =
+        then w0 (pick (o ∷ os)) _ (f_picked t w0 (o ∷ os)) λ i. then w0 (require_present (slice_get (o ∷ os) i)) _ (fine.f_present t w0 _) λ x.
+        then w0 (deliver x v) (λ _. call (Task.Notify (remove (o ∷ os) i) v)) (f_deliver x v) (λ _. calls w0 (Task.Notify (remove (o ∷ os) i) v) (λ w h. tt))
+
+    pub f_event : (what : BuiltIn) (c : Context) → Fine w0 (fire_context_event what c) Any
+    f_event what c = let y = Task.Fire (number_of built_in.Object) (qualifier what c ∷ []) values.Null in fine.f_quietly t w0 (call y) (calls w0 y (λ w h. tt))
+
+    pub f_container : (class : BuiltIn) → Fine w0 (fire_container_event class) Any
+    f_container class = let y = Task.Fire (number_of class) [] values.Null in fine.f_quietly t w0 (call y) (calls w0 y (λ w h. tt))

@@ -1,9 +1,0 @@
-use Rattle.std.proofs.Common.{◌≡◌, ◌++◌, filter, drop}
-use Rattle.cdi_members.specs.Lowest.{place_in, is_had}
-use Rattle.cdi_members.specs.Members as spec
-use Rattle.cdi_members.proofs.line.add_members.Given as goal
-
-abbrev pub invariant-loop-part : goal.invariant-loop-part
-invariant-loop-part l =
-    l.found ++ spec.parts_of l.class (filter (is_had (place_in l.lowest) l.place l.is_last) (drop l.part-index l.part-items))
-    ≡ l.initial.found ++ spec.parts_of l.class (filter (is_had (place_in l.lowest) l.place l.is_last) l.part-items)

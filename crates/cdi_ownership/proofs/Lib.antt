@@ -1,0 +1,10 @@
+pub mod Maps
+pub mod Lists
+pub mod Holdings
+pub mod Cores
+pub mod Places
+pub mod Homes
+pub mod Idle
+pub mod Changes
+pub mod Makings
+pub mod Spans

@@ -1,6 +1,0 @@
-pub mod Bits
-pub mod Paths
-pub mod Rows
-pub mod Heights
-pub mod Listings
-pub mod OneWay

@@ -1,5 +1,0 @@
-pub mod Graph
-pub mod Height
-pub mod ListsThose
-pub mod BitRow
-pub mod Stages

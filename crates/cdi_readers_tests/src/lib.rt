@@ -1,5 +1,0 @@
-//! A test of bodies that run scripts.
-#![tactic(auto)]
-
-#[cfg(test)]
-mod script;

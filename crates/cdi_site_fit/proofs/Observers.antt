@@ -1,0 +1,321 @@
+-- The observers of enabled beans fit.
+use Rattle.std.proofs.Common.{ℕ, zero, suc, ◌≡◌, ◌<◌, ◌∙◌, ◌+◌, ◌⊎◌, ◌&&◌, inl, inr, Bool, true, false, cond, nat_eq, List, [], ◌∷◌, ◌++◌, map, filter, length, get_or, Option, Some, None, refl, sym, ap, subst, arith}
+use Rattle.std.specs.Prelude.{int_lt, option_and_then, option_map, position, slice_get, if◌then◌else◌}
+use Rattle.std.specs.Ordering.{int_eq}
+use Rattle.std.proofs.lemmas.Bool.{and_parts, eqb-true, true≢false}
+use Rattle.std.proofs.lemmas.List.Quantifiers.{position-Some}
+use Rattle.std.proofs.lemmas.Option.{same_Some}
+use Rattle.std.specs.List.{AllByRecursion, AllZip, enumerate_from, filter_map}
+use Rattle.cdi_base.specs.declared.uses.Use.{Use}
+use Rattle.cdi_bean_check.specs.Inherited.{AreMembersOf}
+use Rattle.cdi_bean_check.specs.ManagedBeans.{is_bean}
+use Rattle.cdi_beans.specs.ObserverMethods.{AreObserversOf, IsObserverOf, observer}
+use Rattle.cdi_beans.specs.declared.bean.Bean.{Bean}
+use Rattle.cdi_beans.specs.declared.bean.BeanKind.{BeanKind}
+use Rattle.cdi_beans.specs.declared.bean.BeanKind.TheVariants as kinds
+use Rattle.cdi_beans.specs.declared.bean.ObserverMethod.{ObserverMethod}
+use Rattle.cdi_bodies.specs.Gives.{LieInShape}
+use Rattle.cdi_bodies.specs.declared.entry.Entry.{Entry}
+use Rattle.cdi_body_check.specs.Shapes.{shape_of}
+use Rattle.cdi_check.specs.Accepted.{AreBodiesSound}
+use Rattle.cdi_check.specs.Tables.{setting_by}
+use Rattle.cdi_deployment.specs.declared.deployment.Class.{Class}
+use Rattle.cdi_deployment.specs.declared.deployment.Deployment.{Deployment}
+use Rattle.cdi_deployment.specs.declared.deployment.Member.{Member}
+use Rattle.cdi_deployment.specs.declared.deployment.Member.TheVariants as members
+use Rattle.cdi_deployment.specs.declared.deployment.Observer.{Observer}
+use Rattle.cdi_enable.specs.Enablement.{is_managed as is_managed_kind}
+use Rattle.cdi_live.specs.Live.{is_managed}
+use Rattle.cdi_machine.specs.Registered.{legal_of}
+use Rattle.cdi_machine.specs.Runs.{Legal}
+use Rattle.cdi_machine.specs.Tables as machine
+use Rattle.cdi_machine.specs.Words.{Name}
+use Rattle.cdi_types.proofs.Lines.{one_line}
+use Rattle.cdi_types.specs.Line.{IsLineOf, class_named}
+use Rattle.cdi_types.specs.Members.{members_of}
+use Rattle.cdi_plans.specs.Codes.{injected_method}
+use Rattle.cdi_plans.specs.Observers.{as_observer, observer_in, observer_named, observer_of}
+use Rattle.cdi_quals.specs.declared.types.QualifierType.{QualifierType}
+use Rattle.cdi_resolve.specs.Filters.{enabled_of, is_enabled}
+use Rattle.cdi_run_tables.specs.Machine.{AreIdsOf, bean_with, id_of, machine_member, managed_bean}
+use Rattle.cdi_run_tables.specs.Served.{has_texts}
+use Rattle.cdi_run_tables.specs.declared.tables.RunTables.{RunTables}
+use Rattle.cdi_types.specs.Declarations.{declarations_of}
+use Rattle.cdi_worlds_fit.specs.Fits.{FitsManaged, FitsMember, FitsObserver}
+use Rattle.cdi_whole_tables.specs.Events.{Group, groups_of, new_group, with_observer}
+use Rattle.cdi_whole_tables.specs.Whole.{AreWhole, WholeTables, has_some, hearers, machine_observer, observer_of_bean, observer_with, observers_of, whole_tables}
+use Rattle.cdi_accepted.proofs.Lists.{Among, among_filter, found_among, given, mapped, of_filter}
+use Rattle.cdi_accepted.proofs.Members.{IsOfLine, of_line}
+use Rattle.cdi_site_fit.proofs.Methods.{apart, front, known, managed}
+use Rattle.cdi_site_fit.proofs.Plans.{HasPlan, has_plan, kind_of}
+use Rattle.cdi_site_fit.proofs.Ready.{all_of, class_fits, member_is_fit}
+
+-- ---- groups
+
+-- an observer of a group is the one that was added, or stood in one before
+data IsOld (x o : ObserverMethod) (gs : List Group) : Type 0 where
+  new : o ≡ x → IsOld x o gs
+  old : (h : Group) → Among h gs → Among o h.observers → IsOld x o gs
+
+of_new : (x o : ObserverMethod) (g : Group) (gs : List Group) → g ≡ new_group x → Among o g.observers → IsOld x o gs
+of_new x o g gs e a = by (subst (λ (h : Group). Among o h.observers) e a)
+  where
+    by : Among o (x ∷ []) → IsOld x o gs
+    by (inl same) = IsOld.new same
+    by (inr never) = absurd never
+
+one_added : (x o : ObserverMethod) (g : Group) (gs : List Group) → Among g (with_observer x gs) → Among o g.observers → IsOld x o gs
+one_added x o g [] (inl e) a = of_new x o g [] e a
+one_added x o g [] (inr never) a = absurd never
+one_added x o g (h ∷ more) s a = by (int_eq x.priority h.priority) (int_lt x.priority h.priority) (λ q. one_added x o g more q a) s
+  where
+    merged : Group
+    merged = record { priority = h.priority; observers = x ∷ h.observers }
+
+    in_merged : Among o (x ∷ h.observers) → IsOld x o (h ∷ more)
+    in_merged (inl e) = IsOld.new e
+    in_merged (inr q) = IsOld.old h (inl refl) q
+
+    later : IsOld x o more → IsOld x o (h ∷ more)
+    later (IsOld.new e) = IsOld.new e
+    later (IsOld.old k q r) = IsOld.old k (inr q) r
+
+    by : (b c : Bool) → (Among g (with_observer x more) → IsOld x o more)
+        → Among g (cond b (record { priority = h.priority; observers = x ∷ h.observers } ∷ more) (cond c (new_group x ∷ h ∷ more) (h ∷ with_observer x more))) → IsOld x o (h ∷ more)
+    by true c rec (inl e) = in_merged (subst (λ (k : Group). Among o k.observers) e a)
+    by true c rec (inr q) = IsOld.old g (inr q) a
+    by false true rec (inl e) = of_new x o g (h ∷ more) e a
+    by false true rec (inr q) = IsOld.old g q a
+    by false false rec (inl e) = IsOld.old g (inl e) a
+    by false false rec (inr q) = later (rec q)
+
+in_groups : (os : List ObserverMethod) (g : Group) (o : ObserverMethod) → Among g (groups_of os) → Among o g.observers → Among o os
+in_groups [] g o s a = absurd s
+in_groups (x ∷ os) g o s a = by (λ h. in_groups os h o) (one_added x o g (groups_of os) s a)
+  where
+    by : ((h : Group) → Among h (groups_of os) → Among o h.observers → Among o os) → IsOld x o (groups_of os) → Among o (x ∷ os)
+    by rec (IsOld.new e) = inl e
+    by rec (IsOld.old h q r) = inr (rec h q r)
+
+-- ---- the observers of a bean list
+
+record IsObserverIn (d : Deployment) (qualifiers : List QualifierType) (o : ObserverMethod) : Type 0 where
+  bean : Class
+  has : List (Class × Member)
+  are : AreMembersOf d.classes (declarations_of d) bean has
+  declared : Class × Observer
+  stands : Among declared (filter_map observer has)
+  is : IsObserverOf d qualifiers bean declared o
+
+beside_one : {A B : Type 0} (R : A → B → Type 0) (xs : List A) (ys : List B) (y : B) → AllZip R xs ys → Among y ys → (x : A) × Among x xs × R x y
+beside_one R [] [] y zip a = absurd a
+beside_one R [] (z ∷ ys) y zip a = absurd zip
+beside_one R (x ∷ xs) [] y zip a = absurd zip
+beside_one {A} {B} R (x ∷ xs) (z ∷ ys) y zip (inl e) = (x, inl refl, subst (λ (k : B). R x k) (sym e) zip.0)
+beside_one R (x ∷ xs) (z ∷ ys) y zip (inr a) = let more = beside_one R xs ys y zip.1 a in (more.0, inr more.1, more.2)
+
+parted : {A : Type 0} (xs ys : List A) (x : A) → Among x (xs ++ ys) → Among x xs ⊎ Among x ys
+parted [] ys x a = inr a
+parted (z ∷ xs) ys x (inl e) = inl (inl e)
+parted {A} (z ∷ xs) ys x (inr a) = by (parted xs ys x a)
+  where
+    by : Among x xs ⊎ Among x ys → Among x (z ∷ xs) ⊎ Among x ys
+    by (inl q) = inl (inr q)
+    by (inr q) = inr q
+
+observer_in_list : (d : Deployment) (qualifiers : List QualifierType) (cs : List Class) (os : List ObserverMethod) → AreObserversOf d qualifiers cs os → (o : ObserverMethod) → Among o os → IsObserverIn d qualifiers o
+observer_in_list d qualifiers cs os AreObserversOf.none o a = absurd a
+observer_in_list d qualifiers cs os (AreObserversOf.next {c = c} {cs = rest_cs} {has = has} {rest = rest} first are zip more) o a =
+    by (observer_in_list d qualifiers rest_cs rest more o) (parted first rest o a)
+  where
+    by : (Among o rest → IsObserverIn d qualifiers o) → Among o first ⊎ Among o rest → IsObserverIn d qualifiers o
+    by rec (inl q) =
+        let x = beside_one (IsObserverOf d qualifiers c) (filter_map observer has) first o zip q in
+        record { bean = c; has = has; are = are; declared = x.0; stands = x.1; is = x.2 }
+    by rec (inr q) = rec q
+
+as_member : (p : Class × Member) (declared : Class × Observer) → observer p ≡ Some declared → p ≡ (declared.0, members.Observer declared.1)
+as_member (c, members.Observer o) declared e = ap (λ (x : Class × Observer). (x.0, members.Observer x.1)) (same_Some (c, o) declared e)
+as_member (c, members.Method m) declared e = absurd cc
+as_member (c, members.Initializer m) declared e = absurd cc
+as_member (c, members.PostConstruct m) declared e = absurd cc
+as_member (c, members.PreDestroy m) declared e = absurd cc
+as_member (c, members.Producer m) declared e = absurd cc
+as_member (c, members.ProducerField m) declared e = absurd cc
+as_member (c, members.Disposer m) declared e = absurd cc
+
+of_as_observer : (m : Member) (o : Observer) → as_observer m ≡ Some o → m ≡ members.Observer o
+of_as_observer (members.Observer x) o e = ap (λ k. members.Observer k) (same_Some x o e)
+of_as_observer (members.Method m) o e = absurd cc
+of_as_observer (members.Initializer m) o e = absurd cc
+of_as_observer (members.PostConstruct m) o e = absurd cc
+of_as_observer (members.PreDestroy m) o e = absurd cc
+of_as_observer (members.Producer m) o e = absurd cc
+of_as_observer (members.ProducerField m) o e = absurd cc
+of_as_observer (members.Disposer m) o e = absurd cc
+
+-- ---- managed beans by their classes
+
+-- what stands at a position passes
+pub record IsFound {A : Type 0} (p : A → Bool) (xs : List A) (n : ℕ) : Type 0 where
+  pub item : A
+  pub has : slice_get xs n ≡ Some item
+  pub passes : p item ≡ true
+
+got : {A : Type 0} (xs : List A) (n : ℕ) (d : A) → n < length xs → slice_get xs n ≡ Some (get_or xs n d)
+got [] n d lt = absurd (omega arith)
+got (x ∷ xs) zero d lt = refl
+got (x ∷ xs) (suc n) d lt = got xs n d (omega arith)
+
+pub found_at : {A : Type 0} (p : A → Bool) (xs : List A) (n : ℕ) → position p xs ≡ Some n → IsFound p xs n
+found_at p [] n e = absurd cc
+found_at {A} p (x ∷ xs) n e =
+    let at = position-Some p (x ∷ xs) n x e in
+    record { item = get_or (x ∷ xs) n x; has = got (x ∷ xs) n x at.0; passes = at.1 }
+
+pub numbered_at : {A : Type 0} (first : ℕ) (xs : List A) (i : ℕ) (x : A) → slice_get xs i ≡ Some x → Among (first + i, x) (enumerate_from first xs)
+numbered_at first [] i x e = absurd cc
+numbered_at {A} first (y ∷ ys) zero x e = let one : first + 0 ≡ first = omega arith in inl (ap (λ (n : ℕ). (n, x)) one ∙ ap (λ (z : A). (first, z)) (sym (same_Some y x e)))
+numbered_at {A} first (y ∷ ys) (suc i) x e =
+    let one : (first + 1) + i ≡ first + suc i = omega arith in
+    inr (subst (λ (n : ℕ). Among (n, x) (enumerate_from (first + 1) ys)) one (numbered_at (first + 1) ys i x e))
+
+pub one_kind : (k : BeanKind) → is_managed_kind k ≡ true → is_managed k ≡ true
+one_kind kinds.Managed e = refl
+one_kind (kinds.ProducerMethod name) e = absurd (true≢false (sym e))
+one_kind (kinds.ProducerField name) e = absurd (true≢false (sym e))
+
+module _ {X : Type 0} {F : X → Type 0} {g : _} (entries : List (Entry X F g)) (lies : LieInShape entries) (w : WholeTables) (whole : AreWhole entries w) (ids : AreIdsOf entries w.run)
+    (sound : AreBodiesSound w.run.deployment (shape_of entries) (setting_by w.run.deployment w.run.tables)) (texts : has_texts w.run.deployment ≡ true) where
+  abbrev t : RunTables
+  t = w.run
+
+  abbrev d : Deployment
+  d = t.deployment
+
+  abbrev T : machine.Tables
+  T = whole_tables w
+
+  abbrev L : Legal
+  L = legal_of entries
+
+  -- an enabled managed bean by its place
+  pub record IsManagedAt (n : ℕ) (class : ℕ) : Type 0 where
+    pub listed : Bean
+    pub enabled : Among (n, listed) (enabled_of t.tables.resolver)
+    pub kind : is_managed listed.kind ≡ true
+    pub of_class : listed.class ≡ class
+    pub plan : HasPlan t n listed
+
+  pub managed_at : (n class : ℕ) → managed_bean t.tables.resolver.beans class ≡ Some n → is_enabled t.tables.resolver.flags n ≡ true → IsManagedAt n class
+  managed_at n class e on =
+      let beans = t.tables.resolver.beans in
+      let found = found_at (λ (b : Bean). is_managed_kind b.kind && nat_eq b.class class) beans n e in
+      let both = and_parts (is_managed_kind found.item.kind) (nat_eq found.item.class class) found.passes in
+      let kind = one_kind found.item.kind both.0 in
+      let zero_is : 0 + n ≡ n = omega arith in
+      let placed : Among (n, found.item) (enumerate_from 0 beans) = subst (λ (k : ℕ). Among (k, found.item) (enumerate_from 0 beans)) zero_is (numbered_at 0 beans n found.item found.has) in
+      record {
+        listed = found.item;
+        enabled = among_filter (λ p. is_enabled t.tables.resolver.flags p.0) (enumerate_from 0 beans) (n, found.item) placed on;
+        kind = kind;
+        of_class = eqb-true found.item.class class both.1;
+        plan = has_plan t whole.tabled n found.item found.has (kind_of found.item.kind kind);
+      }
+
+  pub class_at : (n class : ℕ) (at : IsManagedAt n class) → FitsManaged T L n (managed entries t whole.tabled ids sound n at.listed at.enabled at.plan)
+  class_at n class at =
+      record {
+        is =
+            record {
+              bean = bean_with at.plan.planned (machine.Kind.Class (managed entries t whole.tabled ids sound n at.listed at.enabled at.plan));
+              known = known entries t whole.tabled ids sound n at.listed at.enabled at.plan;
+              is = refl;
+            };
+        fits = class_fits entries lies w whole ids sound texts n at.listed at.enabled at.plan at.kind;
+      }
+
+  module _ (o : ObserverMethod) (n : ℕ) (at : IsManagedAt n o.bean) (inside : IsObserverIn d whole.tabled.tables.made.qualifiers o) where
+    -- it stands among the members of the bean
+    stands : Among (inside.declared.0, members.Observer inside.declared.1) (members_of at.plan.line)
+    stands =
+        let from = given observer inside.has inside.declared inside.stands in
+        let P : ℕ → Type 0 = λ k. IsLineOf (declarations_of d) d.classes k inside.are.line in
+        let mine = subst P (sym (at.of_class ∙ inside.is.of_bean)) inside.are.is_line in
+        let same : inside.are.line ≡ at.plan.line = one_line (declarations_of d) d.classes at.listed.class inside.are.line at.plan.line mine at.plan.is_line in
+        let Q : List (Class × Member) → Type 0 = λ ms. Among from.item ms in
+        let R : Class × Member → Type 0 = λ p. Among p (members_of at.plan.line) in
+        subst R (as_member from.item inside.declared from.is) (subst Q (inside.are.are ∙ ap members_of same) from.stands)
+
+    -- the one that its class declares is that one
+    declared_is : (found : Class × Observer) → observer_of d.classes o ≡ Some found → found ≡ inside.declared
+    declared_is found e = by (observer_named o.name inside.declared.0.members) refl (sym at_class ∙ e)
+      where
+        of : IsOfLine at.plan.line inside.declared.0 (members.Observer inside.declared.1)
+        of = of_line at.plan.line inside.declared.0 (members.Observer inside.declared.1) stands
+
+        at_class : observer_of d.classes o ≡ observer_in o.name inside.declared.0
+        at_class =
+            ap (λ (k : ℕ). option_and_then (observer_in o.name) (class_named d.classes k)) inside.is.of_class
+            ∙ ap (option_and_then (observer_in o.name)) (front entries t whole.tabled ids sound n at.listed at.enabled at.plan inside.declared.0 of.class).named
+
+        by : (k : Option Observer) → observer_named o.name inside.declared.0.members ≡ k → option_map (λ (x : Observer). (inside.declared.0, x)) k ≡ Some found → found ≡ inside.declared
+        by None is h = absurd cc
+        by (Some x) is h =
+            let first = found_among (λ (k : Observer). nat_eq k.name o.name) (filter_map as_observer inside.declared.0.members) x is in
+            let member = given as_observer inside.declared.0.members x first.0 in
+            let P : Member → Type 0 = λ m. Among m inside.declared.0.members in
+            let there : Among (members.Observer x) inside.declared.0.members = subst P (of_as_observer member.item x member.is) member.stands in
+            let name : x.name ≡ inside.declared.1.name = eqb-true x.name o.name first.1 ∙ inside.is.name in
+            let one = (apart entries t whole.tabled ids sound n at.listed at.enabled at.plan inside.declared.0 of.class).members (members.Observer x) (members.Observer inside.declared.1) there of.member name in
+            let same : x ≡ inside.declared.1 = same_observer x inside.declared.1 one in
+            sym (same_Some (inside.declared.0, x) found h) ∙ ap (λ (k : Observer). (inside.declared.0, k)) same
+          where
+            same_observer : (x y : Observer) → members.Observer x ≡ members.Observer y → x ≡ y
+            same_observer x y e = cc
+
+    observer_at : (found : Class × Observer) → observer_of d.classes o ≡ Some found → FitsObserver T L (observer_with t o n found)
+    observer_at found e =
+        let own = managed entries t whole.tabled ids sound n at.listed at.enabled at.plan in
+        let c = inside.declared.0 in
+        let x = inside.declared.1 in
+        let fit = member_is_fit entries lies w whole ids sound texts n at.listed at.enabled at.plan c (members.Observer x) x.body refl stands in
+        let P : ℕ → Type 0 = λ k. FitsMember T L own (machine_member (id_of t) (injected_method t.tables.chains k c x.name x.body x.params)) in
+        let Q : Class × Observer → Type 0 = λ p. FitsObserver T L (observer_with t o n p) in
+        subst Q (sym (declared_is found e)) (record { class = own; observes = class_at n o.bean at; member = subst P at.of_class fit })
+
+  one_observer : (o : ObserverMethod) → Among o w.observers → (x : machine.Observer) → machine_observer t o ≡ Some x → FitsObserver T L x
+  one_observer o stands x e = by (managed_bean t.tables.resolver.beans o.bean) refl e
+    where
+      inside : IsObserverIn d whole.tabled.tables.made.qualifiers o
+      inside =
+          let P : List ObserverMethod → Type 0 = λ os. Among o os in
+          observer_in_list d whole.tabled.tables.made.qualifiers (filter is_bean d.classes) whole.tabled.tables.list.observers whole.tabled.tables.made.is.observers o (subst P whole.observers stands)
+
+      found : (n : ℕ) → IsManagedAt n o.bean → (k : Option (Class × Observer)) → observer_of d.classes o ≡ k → option_map (observer_with t o n) k ≡ Some x → FitsObserver T L x
+      found n at None is h = absurd cc
+      found n at (Some p) is h = subst (λ y. FitsObserver T L y) (same_Some (observer_with t o n p) x h) (observer_at o n at inside p is)
+
+      enabled : (n : ℕ) → managed_bean t.tables.resolver.beans o.bean ≡ Some n → (b : Bool) → is_enabled t.tables.resolver.flags n ≡ b
+          → (if b then option_map (observer_with t o n) (observer_of d.classes o) else None) ≡ Some x → FitsObserver T L x
+      enabled n is false on h = absurd cc
+      enabled n is true on h = found n (managed_at n o.bean is on) (observer_of d.classes o) refl h
+
+      by : (k : Option ℕ) → managed_bean t.tables.resolver.beans o.bean ≡ k → option_and_then (observer_of_bean t o) k ≡ Some x → FitsObserver T L x
+      by None is h = absurd cc
+      by (Some n) is h = enabled n is (is_enabled t.tables.resolver.flags n) refl h
+
+  pub observed : (class : Name) (qualifiers : List Use) → AllByRecursion (AllByRecursion (FitsObserver T L)) (observers_of w class qualifiers)
+  observed class qualifiers =
+      all_of (AllByRecursion (FitsObserver T L)) (observers_of w class qualifiers) (λ xs a. in_group xs a)
+    where
+      in_group : (xs : List machine.Observer) → Among xs (observers_of w class qualifiers) → AllByRecursion (FitsObserver T L) xs
+      in_group xs a =
+          let kept = of_filter has_some (map (λ (g : Group). filter_map (machine_observer t) g.observers) (groups_of (hearers w class qualifiers))) xs a in
+          let group = mapped (λ (g : Group). filter_map (machine_observer t) g.observers) (groups_of (hearers w class qualifiers)) xs kept.0 in
+          all_of (FitsObserver T L) xs
+          (λ x b.
+          let P : List machine.Observer → Type 0 = λ l. Among x l in
+          let from = given (machine_observer t) group.item.observers x (subst P group.is b) in
+          let there = in_groups (hearers w class qualifiers) group.item from.item group.stands from.stands in
+          one_observer from.item (of_filter _ w.observers from.item there).0 x from.is)

@@ -1,0 +1,27 @@
+//! Laws on what an accepted deployment gives the whole machine. A call of one of these does nothing: its contract is the law.
+ghost use Rattle.cdi_bodies.specs.Table.{entries_of};
+ghost use Rattle.cdi_site_fit.specs.Accepted.{ManagedFit, WholeFits};
+ghost use Rattle.cdi_site_fit.specs.Chains.{InvokesPlanned, LivesPlanned};
+
+use cdi_bodies::Bodies;
+
+/// In an accepted deployment each managed bean to which something resolves fits.
+pub fn law_managed_fit(bodies: &Bodies)
+    ensures { ManagedFit (entries_of bodies.now) }
+{
+    Bodies::gives_in_shape(bodies);
+}
+
+/// The tables of an accepted deployment, answered whole, fit its bodies.
+pub fn law_whole_fits(bodies: &Bodies)
+    ensures { WholeFits (entries_of bodies.now) }
+{
+    Bodies::gives_in_shape(bodies);
+}
+
+/// In each chain of a bean stand enabled interceptors that have the method, and of each of them the bean's plan makes an
+/// instance (Jakarta Interceptors 2.1, Interceptor Life Cycle).
+pub fn law_chains_planned()
+    ensures members { InvokesPlanned }
+    ensures lifecycle { LivesPlanned }
+{}

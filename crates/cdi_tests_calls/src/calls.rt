@@ -1,0 +1,40 @@
+//! Calls that no run of the program makes, by the first word of a run.
+//!
+//! | Words | What is called | Module |
+//! |---|---|---|
+//! | `jobs ..` | the engine, with bodies that are closures or scripts | `report` |
+//! | `store FIRST` | a store whose first instance has this number | `store` |
+//! | `contexts` | the contexts at the boot | `contexts` |
+//! | `choices` | a chooser | `choices` |
+use crate::choices::choices_answers;
+use crate::contexts::contexts_answers;
+use crate::report::report;
+use crate::store::store_answers;
+use crate::words::number;
+use cdi_tests_player::{Played, Player, Scene};
+use std::alloc::{AllocError, Global};
+
+/// What is answered by the words of a run.
+fn answers(alloc: Global, words: &[&str], scene: &Scene) -> Result<String, AllocError> {
+    let input = scene.input.as_str();
+    match words {
+        ["jobs", words @ ..] => {
+            let deployment = scene.whole_deployment(alloc)?;
+            report(alloc, words, deployment.as_str().as_bytes(), input)
+        }
+        ["store", first] => store_answers(alloc, number(first), input),
+        ["contexts"] => contexts_answers(alloc, input),
+        ["choices"] => choices_answers(alloc, input),
+        _ => String::from_str(alloc, "no such run\n"),
+    }
+}
+
+/// Calls of public functions, each with what it answers.
+pub struct Calls;
+
+impl Player for Calls {
+    fn play(&self, alloc: Global, words: &[&str], scene: &Scene) -> Result<Played, AllocError> {
+        let text = answers(alloc, words, scene)?;
+        Ok(Played::well(alloc, text.into_bytes()))
+    }
+}

@@ -1,0 +1,73 @@
+//! The functions that own the tables of a deployment. The proof of each drops all tables, so that there are few.
+ghost use Rattle.std.specs.Prelude.{IfOk};
+ghost use Rattle.cdi_run_tables.specs.Machine.{machine_tables};
+ghost use Rattle.cdi_runtime.specs.Standing.{IsServable, KnowsMethods};
+
+use crate::jobs::answers;
+use cdi_base::{Limits, OrMemory};
+use cdi_container::Unaccepted;
+use cdi_machine::Driver;
+use cdi_problems::Problem;
+use cdi_run_tables::RunTables;
+use cdi_runtime::Runtime;
+use std::alloc::{AllocError, Global};
+
+/// What is asked of a runtime: its limits, and the lines.
+#[derive(Clone, Copy)]
+pub(crate) struct Asking<'a> {
+    pub(crate) limits: Limits,
+    pub(crate) input: &'a str,
+}
+
+/// How many names came back, and a line for the kind of each problem.
+fn problem_lines(alloc: Global, names: usize, problems: &[Problem]) -> Result<String, AllocError> {
+    let mut text = format!(in alloc; "{names} names\n")?;
+    for problem in problems {
+        let kind = problem.kind;
+        writeln!(text, "{kind:?}")?;
+    }
+    Ok(text)
+}
+
+/// Why a deployment isn't accepted.
+fn refusal_lines(alloc: Global, unaccepted: &OrMemory<Unaccepted>) -> Result<String, AllocError> {
+    match unaccepted {
+        OrMemory::Fault(Unaccepted::Problems { names, problems }) => {
+            problem_lines(alloc, names.len(), problems.as_slice())
+        }
+        OrMemory::Fault(Unaccepted::Unserved) => String::from_str(alloc, "not served\n"),
+        OrMemory::Memory => Err(AllocError),
+    }
+}
+
+/// What a runtime answers that nothing has been done with.
+fn answers_by<D: Driver + Drop>(
+    alloc: Global,
+    tables: RunTables,
+    driver: D,
+    asking: Asking,
+) -> Result<String, AllocError>
+    requires knows { KnowsMethods (D.knows driver) (D.legal driver) (machine_tables tables) }
+    requires servable { IsServable tables }
+{
+    let mut runtime = Runtime::new(alloc, tables, driver, asking.limits);
+    answers(alloc, &mut runtime, asking.input)
+}
+
+/// What is told of a deployment that was looked at with bodies, which this driver has: what its runtime answers, or why it isn't
+/// accepted.
+pub(crate) fn told_by<D: Driver + Drop>(
+    alloc: Global,
+    accepted: Result<RunTables, OrMemory<Unaccepted>>,
+    driver: D,
+    asking: Asking,
+) -> Result<String, AllocError>
+    requires knows { IfOk accepted (λ tables.
+        KnowsMethods (D.knows driver) (D.legal driver) (machine_tables tables)) }
+    requires servable { IfOk accepted IsServable }
+{
+    match accepted {
+        Ok(tables) => answers_by(alloc, tables, driver, asking),
+        Err(unaccepted) => refusal_lines(alloc, &unaccepted),
+    }
+}

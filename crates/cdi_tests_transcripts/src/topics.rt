@@ -1,0 +1,28 @@
+//! The topics of transcripts. A run whose words begin with one of these is about what stands below the program; all others are runs of
+//! the program: see the module `words`.
+//!
+//! | Word | What is played | Where the words behind it are told |
+//! |---|---|---|
+//! | `tables` | chains, plans and observers | `cdi_tests_tables`: `asked` |
+//! | `jobs`, `store`, `contexts`, `choices` | calls that no run of the program makes | `cdi_tests_calls`: `calls` |
+use crate::words::Program;
+use cdi_tests_calls::Calls;
+use cdi_tests_player::{Played, Player, Scene};
+use cdi_tests_tables::Tables;
+use std::alloc::{AllocError, Global};
+
+/// All that transcripts are of.
+#[derive(Drop)]
+pub(crate) struct Topics<'a> {
+    pub(crate) program: Program<'a>,
+}
+
+impl Player for Topics<'_> {
+    fn play(&self, alloc: Global, words: &[&str], scene: &Scene) -> Result<Played, AllocError> {
+        match words {
+            ["tables", words @ ..] => Tables.play(alloc, words, scene),
+            ["jobs" | "store" | "contexts" | "choices", ..] => Calls.play(alloc, words, scene),
+            _ => self.program.play(alloc, words, scene),
+        }
+    }
+}

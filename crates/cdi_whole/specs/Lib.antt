@@ -1,0 +1,3 @@
+pub mod Missing
+pub mod Thrown
+pub mod Worked

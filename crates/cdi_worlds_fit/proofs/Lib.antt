@@ -1,0 +1,10 @@
+pub mod Contexts
+pub mod Whole
+pub mod Remains
+pub mod Busy
+pub mod Terms
+pub mod Moves
+pub mod Passing
+pub mod Shifts
+pub mod Changes
+pub mod Quiet
