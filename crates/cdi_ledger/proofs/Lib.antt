@@ -1,10 +1,10 @@
-mod Judge
-mod Stages
+pub mod Judge
+pub mod Stages
 mod Plain
 mod Steps
 mod Fronts
 pub mod Ledgered
-mod Owed
+pub mod Owed
 mod Fine
 mod Standing
 mod Doings
