@@ -12,6 +12,7 @@ mod Tasks
 mod Creations
 mod Tops
 pub mod Settled
+pub mod Marks
 pub mod Nesting
 pub mod Births
 pub mod Referred

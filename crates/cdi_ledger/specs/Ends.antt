@@ -1,5 +1,5 @@
 -- How destructions and creations end, and what runs in a destruction.
-use Rattle.std.specs.Prelude.{ℕ, ◌≡◌, ◌⊎◌, List, [], ◌∷◌, map, Bool, true, false, Some, None, nat_eq}
+use Rattle.std.specs.Prelude.{ℕ, ◌+◌, ◌≡◌, ◌≤◌, ◌⊎◌, List, [], ◌∷◌, map, Bool, true, false, Some, None, nat_eq}
 use Rattle.cdi_base.specs.declared.act.Act.TheVariants as acts
 use Rattle.cdi_base.specs.declared.entry.Entry.TheVariants as entries
 use Rattle.cdi_base.specs.declared.place.Place.{Place}
@@ -19,7 +19,7 @@ use Rattle.cdi_machine.specs.Programs.{Given, Completion, Gave}
 use Rattle.cdi_machine.specs.Commands.{Command, task}
 use Rattle.cdi_machine.specs.Runs.{Legal, Outcome, Ends, Runs}
 use Rattle.cdi_machine.specs.Container.{State, refusal}
-use Rattle.cdi_ledger.specs.Ledger.{Item, Wrote, Born, items_of, Fate, Unborn, Made, Ended, Left, Lost, fate}
+use Rattle.cdi_ledger.specs.Ledger.{Item, Wrote, Between, Born, items_of, Fate, Unborn, Made, Ended, Left, Lost, fate}
 use Rattle.cdi_ledger.specs.Stories.{Story}
 use Rattle.cdi_ownership.specs.Whose.{IsIn, IsTidy, RefersToItsOwn}
 
@@ -231,6 +231,35 @@ LeavesTidy tables legal =
 abbrev pub RefersOwn : Tables → Legal → Type 0
 RefersOwn tables legal =
     (s : State) (h : List Item) → Story tables legal s h → RefersToItsOwn s.world
+
+-- ---- marks
+
+abbrev pub one_more_if : Bool → ℕ → ℕ
+one_more_if true k = k + 1
+one_more_if false k = k
+
+-- how often the mark of n stands
+abbrev pub marks : ℕ → List Item → ℕ
+marks n [] = 0
+marks n (Between m ∷ h) = one_more_if (nat_eq m n) (marks n h)
+marks n (_ ∷ h) = marks n h
+
+-- Each mark stands at most once, and once where the instance is gone.
+abbrev pub MarksOnce : Tables → Legal → Type 0
+MarksOnce tables legal =
+    (s : State) (h : List Item) → Story tables legal s h
+    → (n : ℕ) → (marks n h ≤ 1) × (IsIn (Wrote (entries.Gone n)) h → marks n h ≡ 1)
+
+-- Also if memory runs out in one more command.
+abbrev pub MarksOnceIfShort : Tables → Legal → Type 0
+MarksOnceIfShort tables legal =
+    (s : State) (h : List Item) (c : Command) (o : Outcome) (v : World)
+    → Story tables legal s h
+    → refusal tables s c ≡ None
+    → (r : Runs tables legal (Unit {0}) (task c) (at_begin s.world) o v)
+    → (n : ℕ) → (marks n (items_of h r) ≤ 1) × (IsIn (Wrote (entries.Gone n)) (items_of h r) → marks n (items_of h r) ≡ 1)
+
+-- ---- after a shutdown
 
 -- A shutdown that isn't cut is answered that it is done, and every number that was given is lost.
 abbrev pub LeavesNothing : Tables → Legal → Type 0

@@ -1,7 +1,7 @@
 //! The laws of the ledger. A call of one does nothing: its contract is the law.
 ghost use Rattle.cdi_machine.specs.Tables.{Tables};
 ghost use Rattle.cdi_ledger.specs.Ledger.{KeepsOrder, KeepsOrderIfShort};
-ghost use Rattle.cdi_ledger.specs.Ends.{EndsNested, EndsNestedIfShort, LeavesTidy, LeavesNothing, OneInAContext, OneOfTheApplication, RefersOwn, BodiesAreFarewells, BodiesAreFarewellsIfShort, OneInAContextIfShort};
+ghost use Rattle.cdi_ledger.specs.Ends.{EndsNested, EndsNestedIfShort, LeavesTidy, LeavesNothing, MarksOnce, MarksOnceIfShort, OneInAContext, OneOfTheApplication, RefersOwn, BodiesAreFarewells, BodiesAreFarewellsIfShort, OneInAContextIfShort};
 
 use cdi_machine::Driver;
 
@@ -36,6 +36,15 @@ pub fn law_ends<D: Driver>(driver: &D)
 pub fn law_nested<D: Driver>(driver: &D)
     ensures with_memory { (tables : Tables) → EndsNested tables (D.legal driver.now) }
     ensures short_of_memory { (tables : Tables) → EndsNestedIfShort tables (D.legal driver.now) }
+{
+    let _driver = driver;
+}
+
+/// The mark of a destruction stands at most once, and once where the instance is gone. So it is also if memory runs out.
+#[tactic(auto, using(crate::proofs::Marks::marks_once, crate::proofs::Marks::marks_if_short))]
+pub fn law_marks<D: Driver>(driver: &D)
+    ensures with_memory { (tables : Tables) → MarksOnce tables (D.legal driver.now) }
+    ensures short_of_memory { (tables : Tables) → MarksOnceIfShort tables (D.legal driver.now) }
 {
     let _driver = driver;
 }
