@@ -1,5 +1,5 @@
 -- Each program keeps where all stand: brackets, bodies, destruction, creation and events.
-use Rattle.std.proofs.Common.{ℕ, ◌≡◌, ◌<◌, ◌≤◌, List, [], ◌∷◌, inl, inr, Option, Some, None, Bool, true, false, refl, sym, ap, ◌∙◌, subst, arith}
+use Rattle.std.proofs.Common.{ℕ, zero, suc, ◌≡◌, ◌<◌, ◌≤◌, List, [], ◌∷◌, inl, inr, Option, Some, None, Bool, true, false, refl, sym, ap, ◌∙◌, subst, arith}
 use Rattle.std.specs.Prelude.{nat_eq, length, ◌||◌, not, slice_get, remove, option_map}
 use Rattle.cdi_base.specs.declared.value.Value.{Value}
 use Rattle.cdi_base.specs.declared.value.Value.TheVariants as values
@@ -30,21 +30,24 @@ use Rattle.cdi_base.specs.declared.place.Place.{Place}
 use Rattle.std.specs.Prelude.{map}
 use Rattle.cdi_machine.specs.Tables.{Managed, Method}
 use Rattle.cdi_machine.specs.Words.{Name, Asked}
-use Rattle.cdi_machine.specs.Tables.{Tables, Code, Member, Lifecycle, Step, Source, Product, Kind, Bean, Observer}
+use Rattle.cdi_machine.specs.Tables.{Tables, Code, Member, Lifecycle, Step, Source, Product, Kind, Bean, Observer, Interceptor}
 use Rattle.cdi_machine.specs.World.{World, Change, Invocation, instance_at, after_change, with_entry, below}
 use Rattle.cdi_machine.specs.Programs.{ActiveContext, cut, miss, change, tick, mark, act, choose, nested, Task, Given, Completion, Running, Prog, ret, throw, see, handle, quietly, attempt, require_present, require, expect, text_of, call, complete, finish, raise, do_nothing, alter, note, each, top, pick, active_or_raise, active_in, context, require_one, resolve, rethrow, require_number, bean_at, interceptor_at, lookup_at, instance, invocation}
 use Rattle.cdi_machine.specs.Contexts.{is_normal, refer_to, resolve_point, resolve_points, reach_instance}
-use Rattle.cdi_machine.specs.Bodies.{invoke_by, provide, invoke, call_back, given_by, body_at_start, interceptor_of, run_rest, reference_at, find_reference, method_in, bean_of, method_of, invoke_method, fits, replace_parameters, repeats, proceed, carry_out, find, answer_of, with_answer, after_act, answer_find, perform, carry_on}
+use Rattle.cdi_machine.specs.Bodies.{is_of, first_of, invoke_by, provide, invoke, call_back, given_by, body_at_start, interceptor_of, run_rest, reference_at, find_reference, method_in, bean_of, method_of, invoke_method, fits, replace_parameters, repeats, proceed, carry_out, find, answer_of, with_answer, after_act, answer_find, perform, carry_on}
 use Rattle.cdi_machine.specs.Destruction.{give_back, borrow_for, obtain_receiver, dispose, clean_up_bean, clean_up}
 use Rattle.cdi_machine.specs.Creation.{construct, inject, take_step, call_producer, accept, produce, make}
 use Rattle.cdi_machine.specs.Events.{fire, observe, deliver, notify, is_skipped, fire_context_event, fire_container_event, qualifier}
-use Rattle.cdi_ledger.specs.Ledger.{Item, Wrote}
+use Rattle.cdi_ledger.specs.Ledger.{Item, Wrote, fate}
+use Rattle.cdi_ledger.proofs.Past.{Past}
+use Rattle.cdi_ledger.specs.Callbacks.{IsOrdinary, codes_in}
+use Rattle.cdi_store.specs.Live.{Instances}
 use Rattle.cdi_ownership.specs.Whose.{IsIn}
-use Rattle.cdi_ownership.proofs.Lists.{HasTop, TopEmpty, among_below, below_among}
-use Rattle.cdi_ownership.proofs.Cores.{Core, core_of, core_at}
+use Rattle.cdi_ownership.proofs.Lists.{HasTop, TopEmpty, among_below, below_among, in_got}
+use Rattle.cdi_ownership.proofs.Cores.{Core, core_of, core_at, deps_at}
 use Rattle.cdi_ownership.proofs.Homes.{codes, Inv, Rel, Grown, Placed, HeldIn, OnStack, Busy, IsFixed, targets, rel_self, rel_then, was_busy}
 use Rattle.cdi_ownership.proofs.Spans.{Still, inv_still, rel_still}
-use Rattle.cdi_ledger.proofs.Owed.{Ok, IsUsable, IsNewAt, MayEnter, MayRun, IsMember, usable_enters, usable_runs, new_then, new_usable, RefersTo, Pre, Post, IsTop, IsGiven, Anchored, anchored_then}
+use Rattle.cdi_ledger.proofs.Owed.{Ok, EntersSo, IsKnown, IsAttending, one_ordinary, IsUsable, IsNewAt, MayEnter, MayRun, IsMember, usable_enters, usable_runs, new_then, new_usable, RefersTo, Pre, Post, IsTop, IsGiven, Anchored, anchored_then}
 use Rattle.cdi_ledger.proofs.Judge.{bind}
 use Rattle.cdi_ledger.proofs.Fine as fine
 use Rattle.cdi_ledger.proofs.Standing.{f_interceptor_of, CanHave, have_then, top_then, own_of, below_then, live_below, inside_still, invocation_still, f_bean, f_interceptor, f_instance, f_resolved, f_picked, f_reference, f_injected, f_all_injected, f_use, f_destroy_by, f_provide}
@@ -82,6 +85,19 @@ have_up w u owners.Borrower i t f h = subst HasTop (sym t) h
 
 abbrev pub Any : {A : Type 0} → A → World → Type 0
 Any a w = Unit {0}
+
+listed_there : (m : ℕ) (live : Instances) (n : ℕ) → IsIn n (deps_at m live) → (c : Core) × (core_at m live ≡ Some c)
+listed_there m live n h = by (at live m) refl h
+  where
+    by : (o : Option Instance) → at live m ≡ o → IsIn n (Rattle.cdi_ownership.proofs.Cores.list_of o) → (c : Core) × (core_at m live ≡ Some c)
+    by None e h = absurd h
+    by (Some o) e h = (core_of o, ap (option_map core_of) e)
+
+in_removed : {X : Type 0} (x : X) (xs : List X) (i : ℕ) → IsIn x (remove xs i) → IsIn x xs
+in_removed x [] zero h = h
+in_removed x [] (suc i) h = h
+in_removed x (y ∷ ys) zero h = inr h
+in_removed x (y ∷ ys) (suc i) h = elim h [ inl e ↦ inl e | inr z ↦ inr (in_removed x ys i z) ]
 
 abbrev pub IsBelow : ℕ → World → Type 0
 IsBelow n w = IsUsable n w
@@ -201,13 +217,13 @@ module _ (t : Tables) where
   -- ---- invocations
 
   module _ (w0 : World) where
-    pub f_invoke : (n : ℕ) (m : Member) (args : List Value) (owner : Owner) (h : List Item) → Inv w0 → IsUsable n w0 → CanHave w0 owner → fine.Doing t (invoke n m args owner) w0 h (fine.Left w0 Any)
-    f_invoke n m args owner h g l k =
-        fine.f_invoked t w0 n roles.AroundInvoke (m.code ∷ []) args (handle (provide m.points owner) (λ _. call (Task.Rest m.chain)) throw) w0 h g (rel_self w0 g) (usable_below n w0 g l) (usable_enters t n (m.code ∷ []) w0 l)
+    pub f_invoke : (n : ℕ) (m : Member) (args : List Value) (owner : Owner) (h : List Item) → IsOrdinary t m.code.place → Inv w0 → IsUsable n w0 → CanHave w0 owner → fine.Doing t (invoke n m args owner) w0 h (fine.Left w0 Any)
+    f_invoke n m args owner h ord g l k =
+        fine.f_invoked t w0 n roles.AroundInvoke (m.code ∷ []) args (handle (provide m.points owner) (λ _. call (Task.Rest m.chain)) throw) w0 h g (rel_self w0 g) (usable_below n w0 g l) (usable_enters t n (m.code ∷ []) w0 l, inr (one_ordinary t roles.AroundInvoke m.code (λ e. cc) ord))
         (λ u gu i tm c x f. then u (provide m.points owner) (λ _. call (Task.Rest m.chain)) (f_provide t u m.points owner (have_up w0 u owner i tm f k)) (λ _. calls u (Task.Rest m.chain) (λ w h. tt)))
 
-    pub f_lifecycle : (n : ℕ) (role : InterceptorMethod) (callbacks : List Code) (chain : List ℕ) → n < w0.next → ((w : World) → Rel w0 w → MayEnter t n callbacks w) → Fine w0 (call_back n role callbacks chain) Any
-    f_lifecycle n role callbacks chain l ok w h g r = fine.f_invoked t w0 n role callbacks [] (call (Task.Rest chain)) w h g r (below_then w0 w n r l) (ok w r) (λ u gu i tm c x f. calls u (Task.Rest chain) (λ w h. tt))
+    pub f_lifecycle : (n : ℕ) (role : InterceptorMethod) (callbacks : List Code) (chain : List ℕ) → n < w0.next → ((w : World) (h : List Item) → Rel w0 w → MayEnter t n callbacks w × EntersSo t n role callbacks w h) → Fine w0 (call_back n role callbacks chain) Any
+    f_lifecycle n role callbacks chain l ok w h g r = fine.f_invoked t w0 n role callbacks [] (call (Task.Rest chain)) w h g r (below_then w0 w n r l) (ok w h r) (λ u gu i tm c x f. calls u (Task.Rest chain) (λ w h. tt))
 
     pub f_receiver : (b : ℕ) → HasTop w0.temporaries → Fine w0 (obtain_receiver b) IsBelow
     f_receiver b k = fine.then_with t w0 (refer_to b owners.Borrower) reach_instance Any IsBelow (f_reference t w0 b owners.Borrower k) (λ x w h g r v. f_use t w0 x w h g r)
@@ -227,32 +243,62 @@ module _ (t : Tables) where
     -- the bodies at a chain's end, one after the other
     f_members : (v : Invocation) → IsTopOf v w0.invocations → (ms : List Code) → ((m : Code) → IsIn m ms → IsIn m.place (map (λ m. m.place) v.members)) → Fine w0 (each ms (λ m. call (Task.Body (body_at_start v.target m.place m.body v.parameters v.references [])))) Any
     f_members v top [] f = λ w h g r. (g, (r, tt))
-    f_members v top (m ∷ []) f = fine.f_call t w0 (Task.Body (body_at_start v.target m.place m.body v.parameters v.references [])) (λ w h g r c e l. inl (top_kept v w0.invocations w.invocations top r.targets r.members m.place (f m (inl refl))))
+    f_members v top (m ∷ []) f = fine.f_call t w0 (Task.Body (body_at_start v.target m.place m.body v.parameters v.references [])) (λ w h g r. (let k = top_kept v w0.invocations w.invocations top r.targets r.members m.place (f m (inl refl)) in (λ c e l. inl k, inr (inl k))))
     f_members v top (m ∷ n ∷ ms) f = then w0 (call (Task.Body (body_at_start v.target m.place m.body v.parameters v.references []))) (λ _. each (n ∷ ms) (λ m. call (Task.Body (body_at_start v.target m.place m.body v.parameters v.references []))))
-        (fine.f_call t w0 (Task.Body (body_at_start v.target m.place m.body v.parameters v.references [])) (λ w h g r c e l. inl (top_kept v w0.invocations w.invocations top r.targets r.members m.place (f m (inl refl)))))
+        (fine.f_call t w0 (Task.Body (body_at_start v.target m.place m.body v.parameters v.references [])) (λ w h g r. (let k = top_kept v w0.invocations w.invocations top r.targets r.members m.place (f m (inl refl)) in (λ c e l. inl k, inr (inl k)))))
         (λ _. f_members v top (n ∷ ms) (λ k z. f k (inr z)))
 
   module _ (w0 : World) where
     -- a body on one whose destruction hasn't begun
-    body_on : (y : Running) (f : Given → Prog Given) → ((a : Given) → Fine w0 (f a) Any) → (w : World) (h : List Item) → Inv w → Rel w0 w → IsUsable y.instance w → fine.Doing t (handle (call (Task.Body y)) f throw) w h (fine.Left w0 Any)
-    body_on y f d w h g r l = (g, usable_runs t y.instance y.place w h l, after)
+    body_on : (y : Running) (f : Given → Prog Given) → ((a : Given) → Fine w0 (f a) Any) → (w : World) (h : List Item) → Inv w → Rel w0 w → IsUsable y.instance w → IsKnown t y.instance y.place w → fine.Doing t (handle (call (Task.Body y)) f throw) w h (fine.Left w0 Any)
+    body_on y f d w h g r l known = (g, (usable_runs t y.instance y.place w h l, known), after)
       where
         after : (c : Completion Given) (w1 : World) (h1 : List Item) → Inv w1 → Rel w w1 × Unit {0} → fine.Doing t (handle (complete c) f throw) w1 h1 (fine.Left w0 Any)
         after (Completion.Gave a) w1 h1 g1 p = d a w1 h1 g1 (rel_then w0 w w1 r p.0)
         after (Completion.Threw x) w1 h1 g1 p = (g1, (rel_then w0 w w1 r p.0, tt))
 
     pub f_rest : (chain : List ℕ) → Fine w0 (run_rest chain) Any
-    f_rest [] = fine.then_with t w0 invocation (λ v. handle (each v.members (λ m. call (Task.Body (body_at_start v.target m.place m.body v.parameters v.references [])))) (λ x. handle (alter Change.Reach) (λ _. ret (given_by v.role x)) throw) throw) (λ v u. IsTopOf v u.invocations) Any (f_innermost w0)
+    f_rest [] w h g r = fine.then_with t w0 invocation (λ v. handle (each v.members (λ m. call (Task.Body (body_at_start v.target m.place m.body v.parameters v.references [])))) (λ x. handle (alter Change.Reach) (λ _. ret (given_by v.role x)) throw) throw) (λ v u. IsTopOf v u.invocations) Any (f_innermost w0)
         (λ v w h g r top. fine.rebased t w0 w (handle (each v.members (λ m. call (Task.Body (body_at_start v.target m.place m.body v.parameters v.references [])))) (λ x. handle (alter Change.Reach) (λ _. ret (given_by v.role x)) throw) throw) h Any r
         (then w (each v.members (λ m. call (Task.Body (body_at_start v.target m.place m.body v.parameters v.references [])))) (λ x. handle (alter Change.Reach) (λ _. ret (given_by v.role x)) throw) (f_members w v top v.members (λ m z. in_places m v.members z))
         (λ x. then w (alter Change.Reach) (λ _. ret (given_by v.role x)) (fine.f_alter t w Change.Reach tt (λ w. invocation_still w (λ i. record i { completed = true }) (λ i. refl) (λ i. refl))) (λ _. (λ w h g q. (g, (q, tt)))))
-        w h g (rel_self w g)))
-    f_rest (i ∷ chain) =
-        then w0 invocation _ (f_invocation w0) λ v.
-        then w0 (interceptor_at i) _ (f_interceptor t w0 i) λ x.
-        then w0 (require_present (x.body v.role)) _ (fine.f_present t w0 (x.body v.role)) λ b.
-        fine.then_with t w0 (interceptor_of v.target i) _ (λ n u. IsUsable n u) Any (f_interceptor_of t w0 v.target i)
-        (λ n w h g r l. body_on (body_at_start n (places.Interceptor x.name v.role) b v.parameters [] chain) (λ a. ret (given_by v.role a)) (λ a w h g q. (g, (q, tt))) w h g r l)
+        w h g (rel_self w g))) w h g r
+    f_rest (i ∷ chain) w h g r = on_top w.invocations refl
+      where
+        behind : Invocation → Interceptor → ℕ → ℕ → Prog Given
+        behind v x b n = handle (call (Task.Body (body_at_start n (places.Interceptor x.name v.role) b v.parameters [] chain))) (λ a. ret (given_by v.role a)) throw
+
+        -- one of the target's dependents
+        runs : (v : Invocation) (vs : List Invocation) → w.invocations ≡ v ∷ vs → (x : Interceptor) → t.interceptor i ≡ Some x → (b n : ℕ) → IsIn n (deps_at v.target w.instances) → Goes w0 (behind v x b n) w h Any
+        runs v vs e x f b n z =
+            let q = g.depends v.target n z in
+            let o = listed_there v.target w.instances n z in
+            body_on (body_at_start n (places.Interceptor x.name v.role) b v.parameters [] chain) (λ a. ret (given_by v.role a)) (λ a w h g q. (g, (q, tt))) w h g r (_, q.1, tt)
+            (inr (inr (subst (IsAttending t n (places.Interceptor x.name v.role) w) (sym e) (record { index = i; interceptor = x; known = f; stands = refl; core = record { component = q.0; owner = owners.Instance v.target; phase = phases.Ready }; there = q.1; owner = refl; target = o.0; lives = o.1 }))))
+
+        among : (v : Invocation) (vs : List Invocation) → w.invocations ≡ v ∷ vs → (x : Interceptor) → t.interceptor i ≡ Some x → (b : ℕ) (ns : List ℕ) → ((k : ℕ) → IsIn k ns → IsIn k (deps_at v.target w.instances)) → Goes w0 (handle (first_of w i ns) (λ n. behind v x b n) throw) w h Any
+        among v vs e x f b [] z = (g, (r, tt))
+        among v vs e x f b (n ∷ ns) z = by (is_of i (instance_at w n)) (runs v vs e x f b n (z n (inl refl))) (among v vs e x f b ns (λ k y. z k (inr y)))
+          where
+            by : (c : Bool) → Goes w0 (behind v x b n) w h Any → Goes w0 (handle (first_of w i ns) (λ n. behind v x b n) throw) w h Any → Goes w0 (handle (elim c as (λ _. Prog ℕ) [ true ↦ ret n | false ↦ first_of w i ns ]) (λ n. behind v x b n) throw) w h Any
+            by true d k = d
+            by false d k = k
+
+        of_target : (v : Invocation) (vs : List Invocation) → w.invocations ≡ v ∷ vs → (x : Interceptor) → t.interceptor i ≡ Some x → (b : ℕ) (o : Option Instance) → instance_at w v.target ≡ o → Goes w0 (handle (handle (require_present o) (λ o. see (λ t w. first_of w i o.dependents)) throw) (λ n. behind v x b n) throw) w h Any
+        of_target v vs e x f b None y = (g, (r, tt))
+        of_target v vs e x f b (Some o) y = among v vs e x f b o.dependents (λ k z. subst (IsIn k) (sym (ap Rattle.cdi_ownership.proofs.Cores.list_of y)) z)
+
+        coded : (v : Invocation) (vs : List Invocation) → w.invocations ≡ v ∷ vs → (x : Interceptor) → t.interceptor i ≡ Some x → (b : Option ℕ) → Goes w0 (handle (require_present b) (λ b. handle (interceptor_of v.target i) (λ n. behind v x b n) throw) throw) w h Any
+        coded v vs e x f None = (g, (r, tt))
+        coded v vs e x f (Some b) = of_target v vs e x f b (instance_at w v.target) refl
+
+        known : (v : Invocation) (vs : List Invocation) → w.invocations ≡ v ∷ vs → (x : Option Interceptor) → t.interceptor i ≡ x → Goes w0 (handle (require_present x) (λ x. handle (require_present (x.body v.role)) (λ b. handle (interceptor_of v.target i) (λ n. behind v x b n) throw) throw) throw) w h Any
+        known v vs e None f = (g, (r, tt))
+        known v vs e (Some x) f = coded v vs e x f (x.body v.role)
+
+        on_top : (vs : List Invocation) → w.invocations ≡ vs → Goes w0 (handle (Rattle.cdi_machine.specs.Programs.top vs) (λ v. handle (interceptor_at i) (λ x. handle (require_present (x.body v.role)) (λ b. handle (interceptor_of v.target i) (λ n. behind v x b n) throw) throw) throw) throw) w h Any
+        on_top [] e = (g, (r, tt))
+        on_top (v ∷ vs) e = known v vs e (t.interceptor i) refl
 
     -- ---- acts
 
@@ -272,28 +318,41 @@ module _ (t : Tables) where
     f_method_of : (n : ℕ) (name : Name) → Fine w0 (method_of n name) Any
     f_method_of n name = then w0 (instance n) _ (f_instance t w0 n) λ o. then w0 (bean_of o.component) _ (f_bean_of o.component) λ bean. f_method_in bean.kind name
 
-    looks_method : (n : ℕ) (name : Name) → fine.Looks (method_of n name)
-    looks_method n name = fine.looks_handle (instance n) _ throw (λ t w. fine.looks_present (instance_at w n)) (λ o. fine.looks_handle (bean_of o.component) (λ bean. method_in bean.kind name) throw (of_component o.component) (λ b. in_kind b.kind) (λ x. tt)) (λ x. tt)
-      where
-        of_component : (c : Component) → fine.Looks (bean_of c)
-        of_component (components.Bean b) = λ t w. fine.looks_present (t.bean b)
-        of_component (components.Interceptor i) = tt
-
-        in_kind : (k : Kind) → fine.Looks (method_in k name)
-        in_kind (Kind.Class c) = fine.looks_present (at c.methods name)
-        in_kind (Kind.Producer p) = tt
-
     looks_expect : (b : Bool) → fine.Looks (expect b)
     looks_expect true = tt
     looks_expect false = tt
 
+    -- a method that is found is one of a bean
+    f_found_method : (n : ℕ) (name : Name) (h : List Item) → Inv w0 → IsUsable n w0 → fine.Doing t (method_of n name) w0 h (fine.Left w0 (λ m u. IsUsable n u × IsOrdinary t m.code.place))
+    f_found_method n name h g l = by (instance_at w0 n)
+      where
+        found : (b : ℕ) (x : Bean) (c : Managed) → t.bean b ≡ Some x → x.kind ≡ Kind.Class c → (m : Option Method) → at c.methods name ≡ m → fine.Doing t (require_present m) w0 h (fine.Left w0 (λ m u. IsUsable n u × IsOrdinary t m.code.place))
+        found b x c e k None z = (g, (rel_self w0 g, tt))
+        found b x c e k (Some m) z = (g, (rel_self w0 g, (l, IsOrdinary.method b x c name m e k z)))
+
+        of_kind : (b : ℕ) (x : Bean) → t.bean b ≡ Some x → (k : Kind) → x.kind ≡ k → fine.Doing t (method_in k name) w0 h (fine.Left w0 (λ m u. IsUsable n u × IsOrdinary t m.code.place))
+        of_kind b x e (Kind.Class c) k = found b x c e k (at c.methods name) refl
+        of_kind b x e (Kind.Producer p) k = (g, (rel_self w0 g, tt))
+
+        of_bean : (b : ℕ) (x : Option Bean) → t.bean b ≡ x → fine.Doing t (handle (require_present x) (λ bean. method_in bean.kind name) throw) w0 h (fine.Left w0 (λ m u. IsUsable n u × IsOrdinary t m.code.place))
+        of_bean b None e = (g, (rel_self w0 g, tt))
+        of_bean b (Some x) e = of_kind b x e x.kind refl
+
+        of_component : (c : Component) → fine.Doing t (handle (bean_of c) (λ bean. method_in bean.kind name) throw) w0 h (fine.Left w0 (λ m u. IsUsable n u × IsOrdinary t m.code.place))
+        of_component (components.Bean b) = of_bean b (t.bean b) refl
+        of_component (components.Interceptor i) = (g, (rel_self w0 g, tt))
+
+        by : (o : Option Instance) → fine.Doing t (handle (require_present o) (λ o. handle (bean_of o.component) (λ bean. method_in bean.kind name) throw) throw) w0 h (fine.Left w0 (λ m u. IsUsable n u × IsOrdinary t m.code.place))
+        by None = (g, (rel_self w0 g, tt))
+        by (Some o) = of_component o.component
+
     pub f_method : (n : ℕ) (name : Name) (args : List Value) (h : List Item) → Inv w0 → IsUsable n w0 → fine.Doing t (invoke_method n name args) w0 h (fine.Left w0 Any)
     f_method n name args h g l =
-        bind t (Ok t) fine.G (Pre t) Post (method_of n name) (λ m. handle (expect (nat_eq (length args) m.count)) (λ _. invoke_by n roles.AroundInvoke (m.code ∷ []) args (call (Task.Rest m.chain))) throw) throw w0 h (fine.Left w0 (λ m u. IsUsable n u)) (fine.Left w0 Any)
-        (fine.f_looks t w0 (method_of n name) (IsUsable n) w0 h (looks_method n name) g (rel_self w0 g) l)
+        bind t (Ok t) fine.G (Pre t) Post (method_of n name) (λ m. handle (expect (nat_eq (length args) m.count)) (λ _. invoke_by n roles.AroundInvoke (m.code ∷ []) args (call (Task.Rest m.chain))) throw) throw w0 h (fine.Left w0 (λ m u. IsUsable n u × IsOrdinary t m.code.place)) (fine.Left w0 Any)
+        (f_found_method n name h g l)
         (λ m w1 h1 g1 q. bind t (Ok t) fine.G (Pre t) Post (expect (nat_eq (length args) m.count)) (λ _. invoke_by n roles.AroundInvoke (m.code ∷ []) args (call (Task.Rest m.chain))) throw w1 h1 (fine.Left w0 (λ m u. IsUsable n u)) (fine.Left w0 Any)
-        (fine.f_looks t w0 (expect (nat_eq (length args) m.count)) (IsUsable n) w1 h1 (looks_expect (nat_eq (length args) m.count)) g1 q.0 q.1)
-        (λ a w2 h2 g2 p. fine.f_invoked t w0 n roles.AroundInvoke (m.code ∷ []) args (call (Task.Rest m.chain)) w2 h2 g2 p.0 (usable_below n w2 g2 p.1) (usable_enters t n (m.code ∷ []) w2 p.1) (λ u gu i tm c x f. calls u (Task.Rest m.chain) (λ w h. tt)))
+        (fine.f_looks t w0 (expect (nat_eq (length args) m.count)) (IsUsable n) w1 h1 (looks_expect (nat_eq (length args) m.count)) g1 q.0 q.1.0)
+        (λ a w2 h2 g2 p. fine.f_invoked t w0 n roles.AroundInvoke (m.code ∷ []) args (call (Task.Rest m.chain)) w2 h2 g2 p.0 (usable_below n w2 g2 p.1) (usable_enters t n (m.code ∷ []) w2 p.1, inr (one_ordinary t roles.AroundInvoke m.code (λ e. cc) q.1.1)) (λ u gu i tm c x f. calls u (Task.Rest m.chain) (λ w h. tt)))
         (λ x w2 h2 g2 p. (g2, (p.0, tt))))
         (λ x w1 h1 g1 q. (g1, (q.0, tt)))
 
@@ -369,7 +428,7 @@ module _ (t : Tables) where
         k : List Item
         k = Wrote (entries.Did (acts.Own name args)) ∷ h
 
-        called : (m : Method) → MayRun t r.instance m.code.place w (Wrote (entries.Did (acts.Own name args)) ∷ h) → (b : Bool) → Goes w0 (handle (expect b) (λ _. call (Task.Body (body_at_start r.instance m.code.place m.code.body args [] []))) throw) w (Wrote (entries.Did (acts.Own name args)) ∷ h) Any
+        called : (m : Method) → MayRun t r.instance m.code.place w (Wrote (entries.Did (acts.Own name args)) ∷ h) × IsKnown t r.instance m.code.place w → (b : Bool) → Goes w0 (handle (expect b) (λ _. call (Task.Body (body_at_start r.instance m.code.place m.code.body args [] []))) throw) w (Wrote (entries.Did (acts.Own name args)) ∷ h) Any
         called m ok true = fine.calling t w0 (Task.Body (body_at_start r.instance m.code.place m.code.body args [] [])) w (Wrote (entries.Did (acts.Own name args)) ∷ h) g q ok
         called m ok false = (g, (q, tt))
 
@@ -379,15 +438,18 @@ module _ (t : Tables) where
         found : (o : Instance) (b : ℕ) (x : Bean) (c : Managed) → instance_at w r.instance ≡ Some o → o.component ≡ components.Bean b → t.bean b ≡ Some x → x.kind ≡ Kind.Class c → (m : Option Method) → at c.methods name ≡ m
             → Goes w0 (handle (require_present m) (λ m. handle (expect (nat_eq (length args) m.count)) (λ _. call (Task.Body (body_at_start r.instance m.code.place m.code.body args [] []))) throw) throw) w (Wrote (entries.Did (acts.Own name args)) ∷ h) Any
         found o b x c e i f y None z = (g, (q, tt))
-        found o b x c e i f y (Some m) z = called m (λ d u l. inr (record {
-          index = b;
-          is = (let v : Some (core_of o) ≡ Some d = sym (ap (option_map core_of) e) ∙ u in let s : core_of o ≡ d = cc in ap (λ (z : Core). z.component) (sym s) ∙ i);
-          bean = x;
-          known = f;
-          class = c;
-          kind = y;
-          own = (m, z, refl);
-        })) (nat_eq (length args) m.count)
+        found o b x c e i f y (Some m) z = called m (
+          (λ d u l. inr (record {
+            index = b;
+            is = (let v : Some (core_of o) ≡ Some d = sym (ap (option_map core_of) e) ∙ u in let s : core_of o ≡ d = cc in ap (λ (z : Core). z.component) (sym s) ∙ i);
+            bean = x;
+            known = f;
+            class = c;
+            kind = y;
+            own = (m, z, refl);
+          })),
+          inl (IsOrdinary.method b x c name m f y z),
+        ) (nat_eq (length args) m.count)
 
         of_kind : (o : Instance) (b : ℕ) (x : Bean) → instance_at w r.instance ≡ Some o → o.component ≡ components.Bean b → t.bean b ≡ Some x → (kind : Kind) → x.kind ≡ kind
             → Goes w0 (handle (method_in kind name) (λ m. handle (expect (nat_eq (length args) m.count)) (λ _. call (Task.Body (body_at_start r.instance m.code.place m.code.body args [] []))) throw) throw) w (Wrote (entries.Did (acts.Own name args)) ∷ h) Any
@@ -438,25 +500,30 @@ module _ (t : Tables) where
   -- ---- destruction
 
   module _ (w0 : World) where
-    served : (b : ℕ) (m : Member) (args : List Value) → Fine w0 (borrow_for (handle (obtain_receiver b) (λ n. invoke n m args owners.Borrower) throw)) Any
-    served b m args = f_borrowing w0 (handle (obtain_receiver b) (λ n. invoke n m args owners.Borrower) throw)
+    served : (b : ℕ) (m : Member) (args : List Value) → IsOrdinary t m.code.place → Fine w0 (borrow_for (handle (obtain_receiver b) (λ n. invoke n m args owners.Borrower) throw)) Any
+    served b m args ord = f_borrowing w0 (handle (obtain_receiver b) (λ n. invoke n m args owners.Borrower) throw)
         (λ w g r. then_at (after_change Change.Borrow w) (obtain_receiver b) (λ n. invoke n m args owners.Borrower) IsBelow (f_receiver (after_change Change.Borrow w) b tt)
-        (λ n v h g1 r1 l. f_invoke v n m args owners.Borrower h g1 l (have_then (after_change Change.Borrow w) v owners.Borrower r1 tt)))
+        (λ n v h g1 r1 l. f_invoke v n m args owners.Borrower h ord g1 l (have_then (after_change Change.Borrow w) v owners.Borrower r1 tt)))
 
-    pub f_farewell : (n : ℕ) (v : Value) (component : Component) (d : Core) → n < w0.next → core_at n w0.instances ≡ Some d → d.phase ≡ phases.Leaving → d.component ≡ component → Fine w0 (clean_up n v component) Any
-    f_farewell n v (components.Interceptor i) d l e p q = (λ w h g q. (g, (q, tt)))
-    f_farewell n v (components.Bean b) d l e p q = fine.then_with t w0 (bean_at b) (λ bean. clean_up_bean n v bean.kind) (λ x u. t.bean b ≡ Some x) Any (Rattle.cdi_ledger.proofs.Standing.f_known t w0 b) (λ bean w h g r f. by bean f bean.kind refl w h g r)
+    pub f_farewell : (n : ℕ) (v : Value) (component : Component) (d : Core) (h : List Item) → Inv w0 → n < w0.next → core_at n w0.instances ≡ Some d → d.phase ≡ phases.Leaving → d.component ≡ component → Past (fate n h) → fine.Doing t (clean_up n v component) w0 h (fine.Left w0 Any)
+    f_farewell n v (components.Interceptor i) d h g l e p q z = (g, (rel_self w0 g, tt))
+    f_farewell n v (components.Bean b) d h g l e p q z = of_bean (t.bean b) refl
       where
-        by : (bean : Bean) → t.bean b ≡ Some bean → (k : Kind) → bean.kind ≡ k → Fine w0 (clean_up_bean n v k) Any
-        by bean f (Kind.Class c) y = f_lifecycle w0 n roles.PreDestroy c.pre_destroy.callbacks c.pre_destroy.chain l
-            (λ w r x u m. record { index = b; is = (let z : Some d ≡ Some x = sym (r.stay n d e (inr (inl p))) ∙ u in let s : d ≡ x = cc in ap (λ (z : Core). z.component) (sym s) ∙ q); bean = bean; known = f; class = c; kind = y; all = λ place i. i })
-        by bean f (Kind.Producer p) y = fine.f_each t w0 p.disposers (dispose p v) (λ d. served p.declaring d (v ∷ []))
+        by : (bean : Bean) → t.bean b ≡ Some bean → (k : Kind) → bean.kind ≡ k → fine.Doing t (clean_up_bean n v k) w0 h (fine.Left w0 Any)
+        by bean f (Kind.Class c) y = fine.f_invoked t w0 n roles.PreDestroy c.pre_destroy.callbacks [] (call (Task.Rest c.pre_destroy.chain)) w0 h g (rel_self w0 g) l
+            ((λ x u m. record { index = b; is = (let z : Some d ≡ Some x = sym e ∙ u in let s : d ≡ x = cc in ap (λ (z : Core). z.component) (sym s) ∙ q); bean = bean; known = f; class = c; kind = y; all = λ place i. i }), inl ((d, e, p), z))
+            (λ u gu i tm k x f. calls u (Task.Rest c.pre_destroy.chain) (λ w h. tt))
+        by bean f (Kind.Producer p) y = fine.f_each_in t w0 p.disposers (dispose p v) (λ d i. served p.declaring d (v ∷ []) (IsOrdinary.disposer b bean p d f y i)) w0 h g (rel_self w0 g)
+
+        of_bean : (x : Option Bean) → t.bean b ≡ x → fine.Doing t (handle (require_present x) (λ bean. clean_up_bean n v bean.kind) throw) w0 h (fine.Left w0 Any)
+        of_bean None f = (g, (rel_self w0 g, tt))
+        of_bean (Some x) f = by x f x.kind refl
 
     -- ---- creation
 
-    pub f_construct : (n : ℕ) (points : List Asked) (chain : Lifecycle) → n < w0.next → Anchored w0 n → IsNewAt n w0 → Fine w0 (construct n points chain) Any
-    f_construct n points chain l k new w h g r =
-        fine.f_invoked t w0 n roles.AroundConstruct chain.callbacks [] (handle (provide points (owners.Instance n)) (λ _. handle (call (Task.Rest chain.chain)) (λ _. handle invocation (λ v. handle (require v.completed built_in.CreationException) (λ _. finish) throw) throw) throw) throw) w h g r (below_then w0 w n r l) (usable_enters t n chain.callbacks w (new_usable w n (new_then w0 w n r new)))
+    pub f_construct : (n : ℕ) (points : List Asked) (chain : Lifecycle) → ((m : Code) → IsIn m chain.callbacks → IsOrdinary t m.place) → n < w0.next → Anchored w0 n → IsNewAt n w0 → Fine w0 (construct n points chain) Any
+    f_construct n points chain ord l k new w h g r =
+        fine.f_invoked t w0 n roles.AroundConstruct chain.callbacks [] (handle (provide points (owners.Instance n)) (λ _. handle (call (Task.Rest chain.chain)) (λ _. handle invocation (λ v. handle (require v.completed built_in.CreationException) (λ _. finish) throw) throw) throw) throw) w h g r (below_then w0 w n r l) (usable_enters t n chain.callbacks w (new_usable w n (new_then w0 w n r new)), inr (λ e. cc, ord))
         (λ u gu i tm c x f.
         then u (provide points (owners.Instance n)) _ (f_provide t u points (owners.Instance n) (have_up w u (owners.Instance n) i tm f (have_then w0 w (owners.Instance n) r k))) λ _.
         then u (call (Task.Rest chain.chain)) _ (calls u (Task.Rest chain.chain) (λ w h. tt)) λ _.
@@ -469,12 +536,12 @@ module _ (t : Tables) where
         still : (x : Reference) (w : World) → Still w (after_change (Change.Refer n field x) w)
         still x w = inside_still w n _ (λ o. refl) (λ o. refl)
 
-    f_step : (n : ℕ) (s : Step) → n < w0.next → Anchored w0 n → IsNewAt n w0 → Fine w0 (take_step n s) Any
-    f_step n (Step.Intercept i) l k new = fine.f_call t w0 (Task.Intercept i n) (λ w h g r. anchored_then w0 w n r k)
-    f_step n (Step.Construct points chain) l k new = f_construct n points chain l k new
-    f_step n (Step.Inject field point) l k new = f_inject n field point k
-    f_step n (Step.Initialize m points) l k new = then w0 (resolve_points points (owners.Instance n)) (λ rs. call (Task.Body (body_at_start n m.place m.body [] rs []))) (f_all_injected t w0 points (owners.Instance n) k) (λ rs. fine.f_call t w0 (Task.Body (body_at_start n m.place m.body [] rs [])) (λ w h g r. usable_runs t n m.place w h (new_usable w n (new_then w0 w n r new))))
-    f_step n (Step.Complete chain) l k new = f_lifecycle w0 n roles.PostConstruct chain.callbacks chain.chain l (λ w r. usable_enters t n chain.callbacks w (new_usable w n (new_then w0 w n r new)))
+    f_step : (n : ℕ) (s : Step) → ((m : Code) → IsIn m (codes_in s) → IsOrdinary t m.place) → n < w0.next → Anchored w0 n → IsNewAt n w0 → Fine w0 (take_step n s) Any
+    f_step n (Step.Intercept i) ord l k new = fine.f_call t w0 (Task.Intercept i n) (λ w h g r. anchored_then w0 w n r k)
+    f_step n (Step.Construct points chain) ord l k new = f_construct n points chain ord l k new
+    f_step n (Step.Inject field point) ord l k new = f_inject n field point k
+    f_step n (Step.Initialize m points) ord l k new = then w0 (resolve_points points (owners.Instance n)) (λ rs. call (Task.Body (body_at_start n m.place m.body [] rs []))) (f_all_injected t w0 points (owners.Instance n) k) (λ rs. fine.f_call t w0 (Task.Body (body_at_start n m.place m.body [] rs [])) (λ w h g r. (usable_runs t n m.place w h (new_usable w n (new_then w0 w n r new)), inl (ord m (inl refl)))))
+    f_step n (Step.Complete chain) ord l k new = f_lifecycle w0 n roles.PostConstruct chain.callbacks chain.chain l (λ w h r. (usable_enters t n chain.callbacks w (new_usable w n (new_then w0 w n r new)), inr (λ e. cc, ord)))
 
     f_accept : (b : Bool) (n : ℕ) (x : Given) → Fine w0 (accept b n x) Any
     f_accept true n (Given.Result values.Null) = λ w h g r. (g, (r, tt))
@@ -487,43 +554,43 @@ module _ (t : Tables) where
     f_accept false n Given.Empty = (λ w h g q. (g, (q, tt)))
 
   module _ (w0 : World) where
-    f_produced : (n m : ℕ) (s : Source) (h : List Item) → Inv w0 → IsUsable m w0 → Anchored w0 n → fine.Doing t (call_producer n m s) w0 h (fine.Left w0 Any)
-    f_produced n m (Source.ProducerMethod producer) h g l k = f_invoke w0 m producer [] (owners.Instance n) h g l k
-    f_produced n m (Source.ProducerField field) h g l k = then w0 (instance m) _ (f_instance t w0 m) (λ o. then w0 (require_present (at o.fields field)) _ (fine.f_present t w0 _) (λ _. (λ w h g q. (g, (q, tt))))) w0 h g (rel_self w0 g)
+    f_produced : (n m : ℕ) (s : Source) (h : List Item) → ((x : Member) → s ≡ Source.ProducerMethod x → IsOrdinary t x.code.place) → Inv w0 → IsUsable m w0 → Anchored w0 n → fine.Doing t (call_producer n m s) w0 h (fine.Left w0 Any)
+    f_produced n m (Source.ProducerMethod producer) h ord g l k = f_invoke w0 m producer [] (owners.Instance n) h (ord producer refl) g l k
+    f_produced n m (Source.ProducerField field) h ord g l k = then w0 (instance m) _ (f_instance t w0 m) (λ o. then w0 (require_present (at o.fields field)) _ (fine.f_present t w0 _) (λ _. (λ w h g q. (g, (q, tt))))) w0 h g (rel_self w0 g)
 
   module _ (w0 : World) where
-    f_produce : (n : ℕ) (scope : Scope) (p : Product) → Anchored w0 n → Fine w0 (produce n scope p) Any
-    f_produce n scope p k =
+    f_produce : (n : ℕ) (scope : Scope) (p : Product) → ((x : Member) → p.source ≡ Source.ProducerMethod x → IsOrdinary t x.code.place) → Anchored w0 n → Fine w0 (produce n scope p) Any
+    f_produce n scope p ord k =
         then w0 (borrow_for (handle (obtain_receiver p.declaring) (λ m. call_producer n m p.source) throw)) _
         (f_borrowing w0 (handle (obtain_receiver p.declaring) (λ m. call_producer n m p.source) throw)
         (λ w g r. then_at (after_change Change.Borrow w) (obtain_receiver p.declaring) (λ m. call_producer n m p.source) IsBelow (f_receiver (after_change Change.Borrow w) p.declaring tt)
-        (λ m v h g1 r1 l. f_produced v n m p.source h g1 l (have_then (after_change Change.Borrow w) v (owners.Instance n) r1 (anchored_then w0 w n r k)))))
+        (λ m v h g1 r1 l. f_produced v n m p.source h ord g1 l (have_then (after_change Change.Borrow w) v (owners.Instance n) r1 (anchored_then w0 w n r k)))))
         (λ v. f_accept w0 (is_normal scope) n v)
 
-    pub f_made : (n : ℕ) (bean : Bean) (kind : Kind) → n < w0.next → Anchored w0 n → IsNewAt n w0 → Fine w0 (make n bean kind) Any
-    f_made n bean (Kind.Class c) l k new = then w0 (each c.plan (take_step n)) _ (fine.f_each t w0 c.plan (take_step n) (λ s. f_step w0 n s l k new)) (λ _. (λ w h g q. (g, (q, tt))))
-    f_made n bean (Kind.Producer p) l k new = f_produce n bean.scope p k
+    pub f_made : (n b : ℕ) (bean : Bean) (kind : Kind) → t.bean b ≡ Some bean → bean.kind ≡ kind → n < w0.next → Anchored w0 n → IsNewAt n w0 → Fine w0 (make n bean kind) Any
+    f_made n b bean (Kind.Class c) known is l k new = then w0 (each c.plan (take_step n)) _ (fine.f_each_in t w0 c.plan (take_step n) (λ s i. f_step w0 n s (λ m j. IsOrdinary.planned b bean c s m known is i j) l k new)) (λ _. (λ w h g q. (g, (q, tt))))
+    f_made n b bean (Kind.Producer p) known is l k new = f_produce n bean.scope p (λ x e. IsOrdinary.producer b bean p x known is e) k
 
     -- ---- events
 
     pub f_fire : (class : Name) (qualifiers : List Use) (v : Value) → Fine w0 (fire class qualifiers v) Any
     f_fire class qualifiers v w h g r = (
       g,
-      then w0 (each (t.observers class qualifiers) (λ group. call (Task.Notify group v))) _ (fine.f_each t w0 (t.observers class qualifiers) _ (λ group. calls w0 (Task.Notify group v) (λ w h. tt))) (λ _. (λ w h g q. (g, (q, tt))))
+      then w0 (each (t.observers class qualifiers) (λ group. call (Task.Notify group v))) _ (fine.f_each_in t w0 (t.observers class qualifiers) _ (λ group i. calls w0 (Task.Notify group v) (λ w h o j. IsOrdinary.observer class qualifiers group o i j))) (λ _. (λ w h g q. (g, (q, tt))))
           _ _ (fine.inv_entry (entries.Event class qualifiers) w g) (fine.rel_entry (entries.Event class qualifiers) w0 w g r),
     )
 
-    f_deliver : (o : Observer) (v : Value) → Fine w0 (deliver o v) Any
-    f_deliver o v =
+    f_deliver : (o : Observer) (v : Value) → IsOrdinary t o.member.code.place → Fine w0 (deliver o v) Any
+    f_deliver o v ord =
         then w0 (bean_at o.bean) _ (f_bean t w0 o.bean) λ bean w h g r.
         fine.f_if t w0 (is_skipped w o bean) finish (handle (observe o v) (λ _. finish) (λ x. rethrow x built_in.ObserverException)) Any ((λ w h g q. (g, (q, tt))))
-        (fine.caught t w0 (observe o v) _ _ Any Any (served w0 o.bean o.member (v ∷ [])) (λ _. (λ w h g q. (g, (q, tt)))) (λ x. fine.f_rethrow t w0 _ x built_in.ObserverException Any)) w h g r
+        (fine.caught t w0 (observe o v) _ _ Any Any (served w0 o.bean o.member (v ∷ []) ord) (λ _. (λ w h g q. (g, (q, tt)))) (λ x. fine.f_rethrow t w0 _ x built_in.ObserverException Any)) w h g r
 
-    pub f_notify : (os : List Observer) (v : Value) → Fine w0 (notify os v) Any
-    f_notify [] v = (λ w h g q. (g, (q, tt)))
-    f_notify (o ∷ os) v =
-        then w0 (pick (o ∷ os)) _ (f_picked t w0 (o ∷ os)) λ i. then w0 (require_present (slice_get (o ∷ os) i)) _ (fine.f_present t w0 _) λ x.
-        then w0 (deliver x v) (λ _. call (Task.Notify (remove (o ∷ os) i) v)) (f_deliver x v) (λ _. calls w0 (Task.Notify (remove (o ∷ os) i) v) (λ w h. tt))
+    pub f_notify : (os : List Observer) (v : Value) → ((o : Observer) → IsIn o os → IsOrdinary t o.member.code.place) → Fine w0 (notify os v) Any
+    f_notify [] v ord = (λ w h g q. (g, (q, tt)))
+    f_notify (o ∷ os) v ord =
+        then w0 (pick (o ∷ os)) _ (f_picked t w0 (o ∷ os)) λ i. fine.then_with t w0 (require_present (slice_get (o ∷ os) i)) _ (λ x u. slice_get (o ∷ os) i ≡ Some x) Any (fine.f_present_as t w0 (slice_get (o ∷ os) i)) λ x w h g r e.
+        then w0 (deliver x v) (λ _. call (Task.Notify (remove (o ∷ os) i) v)) (f_deliver x v (ord x (in_got (o ∷ os) i x e))) (λ _. calls w0 (Task.Notify (remove (o ∷ os) i) v) (λ w h y z. ord y (in_removed y (o ∷ os) i z))) w h g r
 
     pub f_event : (what : BuiltIn) (c : Context) → Fine w0 (fire_context_event what c) Any
     f_event what c = let y = Task.Fire (number_of built_in.Object) (qualifier what c ∷ []) values.Null in fine.f_quietly t w0 (call y) (calls w0 y (λ w h. tt))

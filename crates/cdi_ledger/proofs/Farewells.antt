@@ -160,7 +160,7 @@ module _ (tables : Tables) where
   parted_change h (Change.Assign m field v) w X p x = parted_map w.instances _ w.invocations (λ k c i e l. was_same w.instances k c _ (core_same w.instances m _ (λ o. refl) k) e l) p
   parted_change h (Change.Refer m field v) w X p x = parted_map w.instances _ w.invocations (λ k c i e l. was_same w.instances k c _ (core_same w.instances m _ (λ o. refl) k) e l) p
   parted_change h (Change.Hold m v) w X p x = parted_map w.instances _ w.invocations (λ k c i e l. was_same w.instances k c _ (core_same w.instances m _ (λ o. refl) k) e l) p
-  parted_change h (Change.Enter v) w X p x = parted_enter w.instances v w.invocations x.0 p
+  parted_change h (Change.Enter v) w X p x = parted_enter w.instances v w.invocations x.0.0 p
   parted_change h (Change.Provide rs) w X p x = parted_on_top w.instances _ (λ v. refl) (λ v. refl) w.invocations p
   parted_change h (Change.Replace vs) w X p x = parted_on_top w.instances _ (λ v. refl) (λ v. refl) w.invocations p
   parted_change h (Change.Keep key v) w X p x = parted_on_top w.instances _ (λ v. refl) (λ v. refl) w.invocations p
@@ -197,7 +197,7 @@ module _ (tables : Tables) where
   each_birth _ w h e = e
 
   one_more : (e : Entry) (w : World) (h : List Item) (X : Type 0) → KG tables w h → Parted w → Note (Ok tables) e w h X → IsFarewell tables (Wrote e) h
-  one_more (entries.Run n place) w h X g p x = farewell n place w h g p x.0
+  one_more (entries.Run n place) w h X g p x = farewell n place w h g p x.0.0
   one_more _ w h X g p x = tt
 
   with_farewells : {A : Type 0} (p : Prog A) (w : World) (h : List Item) (Q : Completion A → World → List Item → Type 0) → Does tables (Ok tables) (KG tables) (Pre tables) (BothPost tables) p w h Q → Parted w → Each (IsFarewell tables) h → Does tables (Ok tables) FG (Pre tables) (BothPost tables) p w h Q

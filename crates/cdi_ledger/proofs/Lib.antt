@@ -1,5 +1,6 @@
 pub mod Judge
 pub mod Stages
+mod Past
 mod Plain
 mod Steps
 mod Fronts
@@ -17,3 +18,4 @@ pub mod Nesting
 pub mod Births
 pub mod Referred
 pub mod Farewells
+pub mod Callbacks

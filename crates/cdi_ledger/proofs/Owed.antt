@@ -1,5 +1,5 @@
 -- What each task asks of a world, and what it leaves.
-use Rattle.std.proofs.Common.{ℕ, ◌≡◌, ◌<◌, List, [], ◌∷◌, ◌⊎◌, inl, Some, sym, ap, subst, ◌∙◌}
+use Rattle.std.proofs.Common.{ℕ, ◌≡◌, ◌<◌, List, [], ◌∷◌, ◌⊎◌, inl, inr, Some, sym, ap, subst, ◌∙◌}
 use Rattle.cdi_store.specs.declared.instance.Owner.{Owner}
 use Rattle.cdi_store.specs.declared.instance.Owner.TheVariants as owners
 use Rattle.cdi_store.specs.declared.instance.Phase.TheVariants as phases
@@ -8,14 +8,19 @@ use Rattle.cdi_store.specs.declared.references.Reference.{Reference}
 use Rattle.cdi_store.specs.declared.references.Reference.TheVariants.{Direct}
 use Rattle.std.specs.Prelude.{map}
 use Rattle.cdi_base.specs.declared.place.Place.{Place}
+use Rattle.cdi_base.specs.declared.place.Place.TheVariants as places
+use Rattle.cdi_base.specs.declared.place.InterceptorMethod.{InterceptorMethod}
+use Rattle.cdi_base.specs.declared.place.InterceptorMethod.TheVariants as roles
 use Rattle.cdi_store.specs.declared.instance.Component.TheVariants as components
-use Rattle.cdi_machine.specs.Tables.{Tables, Bean, Code, Managed, Kind}
+use Rattle.cdi_machine.specs.Tables.{Tables, Bean, Code, Managed, Kind, Interceptor, Observer}
 use Rattle.cdi_machine.specs.World.{World, Change, Invocation}
 use Rattle.cdi_ledger.proofs.Judge.{Changing, Running, Asked}
 use Rattle.cdi_machine.specs.Programs.{Task, Given, Completion, Gave, Threw}
-use Rattle.cdi_ledger.specs.Ledger.{Item}
+use Rattle.cdi_ledger.specs.Ledger.{Item, fate}
+use Rattle.cdi_ledger.proofs.Past.{Past}
 use Rattle.cdi_ownership.specs.Whose.{IsIn}
 use Rattle.cdi_ledger.specs.Ends.{Suits, IsOwn}
+use Rattle.cdi_ledger.specs.Callbacks.{IsOrdinary}
 use Rattle.cdi_ownership.proofs.Lists.{HasTop, TopEmpty}
 use Rattle.cdi_ownership.proofs.Holdings.{IsFree, NoneHeld}
 use Rattle.cdi_ownership.proofs.Cores.{Core, core_at, deps_at}
@@ -49,6 +54,9 @@ IsSuited tables b owner = (x : Bean) → tables.bean b ≡ Some x → Suits x.sc
 -- it is there, and its destruction hasn't begun
 abbrev pub IsUsable : ℕ → World → Type 0
 IsUsable n w = (c : Core) × (core_at n w.instances ≡ Some c) × IsStaying c.phase
+
+abbrev pub IsThere : ℕ → World → Type 0
+IsThere n w = (c : Core) × (core_at n w.instances ≡ Some c)
 
 abbrev pub IsNewAt : ℕ → World → Type 0
 IsNewAt n w = (c : Core) × (core_at n w.instances ≡ Some c) × (c.phase ≡ phases.New)
@@ -84,6 +92,37 @@ MayEnter tables n members w = (c : Core) → core_at n w.instances ≡ Some c �
 abbrev pub MayRun : Tables → ℕ → Place → World → List Item → Type 0
 MayRun tables n place w h = (c : Core) → core_at n w.instances ≡ Some c → c.phase ≡ phases.Leaving → IsMember n place w.invocations ⊎ IsOwnOf tables c place h
 
+-- its destruction is under way
+abbrev pub IsLeavingAt : ℕ → World → Type 0
+IsLeavingAt n w = (c : Core) × (core_at n w.instances ≡ Some c) × (c.phase ≡ phases.Leaving)
+
+-- the bodies of an invocation that is no destruction's
+abbrev pub AreOrdinary : Tables → InterceptorMethod → List Code → Type 0
+AreOrdinary tables role members = (role ≡ roles.PreDestroy → ⊥) × ((m : Code) → IsIn m members → IsOrdinary tables m.place)
+
+abbrev pub EntersSo : Tables → ℕ → InterceptorMethod → List Code → World → List Item → Type 0
+EntersSo tables n role members w h = (IsLeavingAt n w × Past (fate n h)) ⊎ AreOrdinary tables role members
+
+-- an interceptor's instance, whose body has its place by the role of the invocation of its owner
+pub record IsAttendant (tables : Tables) (m : ℕ) (place : Place) (w : World) (v : Invocation) : Type 0 where
+  pub index : ℕ
+  pub interceptor : Interceptor
+  pub known : tables.interceptor index ≡ Some interceptor
+  pub stands : place ≡ places.Interceptor interceptor.name v.role
+  pub core : Core
+  pub there : core_at m w.instances ≡ Some core
+  pub owner : core.owner ≡ owners.Instance v.target
+  pub target : Core
+  pub lives : core_at v.target w.instances ≡ Some target
+
+abbrev pub IsAttending : Tables → ℕ → Place → World → List Invocation → Type 0
+IsAttending tables m place w [] = ⊥
+IsAttending tables m place w (v ∷ vs) = IsAttendant tables m place w v
+
+-- where a body comes from
+abbrev pub IsKnown : Tables → ℕ → Place → World → Type 0
+IsKnown tables n place w = IsOrdinary tables place ⊎ (IsMember n place w.invocations ⊎ IsAttending tables n place w w.invocations)
+
 -- whoever has the number is the owner's
 abbrev pub IsOwned : Owner → ℕ → World → Type 0
 IsOwned owner m w = (m < w.next) × ((c : Core) → core_at m w.instances ≡ Some c → c.owner ≡ owner)
@@ -93,19 +132,20 @@ abbrev pub RefersTo : Owner → Reference → World → Type 0
 RefersTo owner r w = (m : ℕ) → r ≡ Direct m → IsOwned owner m w
 
 abbrev pub Ok : Tables → Asked
-Ok tables (Running n place) w h = MayRun tables n place w h
+Ok tables (Running n place) w h = MayRun tables n place w h × (IsKnown tables n place w × IsThere n w)
 Ok tables (Changing (Change.Refer n field r)) w h = RefersTo (owners.Instance n) r w
-Ok tables (Changing (Change.Enter i)) w h = MayEnter tables i.target i.members w
+Ok tables (Changing (Change.Enter i)) w h = MayEnter tables i.target i.members w × EntersSo tables i.target i.role i.members w h
 Ok tables (Changing (Change.Leave n)) w h = OnStack w n → ⊥
 Ok tables (Changing _) w h = Unit {0}
 
 abbrev pub Pre : Tables → Task → World → List Item → Type 0
 Pre tables (Task.Create b owner) w h = CanOwn w b owner × IsSuited tables b owner
 Pre tables (Task.Intercept i n) w h = Anchored w n
-Pre tables (Task.Body r) w h = Ok tables (Running r.instance r.place) w h
+Pre tables (Task.Body r) w h = MayRun tables r.instance r.place w h × IsKnown tables r.instance r.place w
 Pre tables (Task.Acts r) w h = Anchored w r.instance
 Pre tables (Task.Destroy n) w h = IsIdle w n
 Pre tables (Task.Release n) w h = (c : Core) × (core_at n w.instances ≡ Some c) × ((c.phase ≡ phases.New) ⊎ (c.phase ≡ phases.Leaving)) × IsFreeBelow w n
+Pre tables (Task.Notify os x) w h = (o : Observer) → IsIn o os → IsOrdinary tables o.member.code.place
 Pre tables Task.Dismiss w h = HasTop w.temporaries × ((d : ℕ) → IsTop d w.temporaries → Busy w d → ⊥)
 Pre tables (Task.Clear x) w h = (b : ℕ) → OnStack w b → ⊥
 Pre tables _ w h = Unit {0}
@@ -179,3 +219,7 @@ new_then w v n r a = (a.0, r.stay n a.0 a.1 (inl a.2), a.2)
 
 pub new_usable : (w : World) (n : ℕ) → IsNewAt n w → IsUsable n w
 new_usable w n a = (a.0, a.1, subst IsStaying (sym a.2) tt)
+
+-- the one body of an invocation
+pub one_ordinary : (tables : Tables) (role : InterceptorMethod) (m : Code) → (role ≡ roles.PreDestroy → ⊥) → IsOrdinary tables m.place → AreOrdinary tables role (m ∷ [])
+one_ordinary tables role m f q = (f, λ k i. elim i [ inl e ↦ subst (λ (z : Code). IsOrdinary tables z.place) e q | inr z ↦ absurd z ])

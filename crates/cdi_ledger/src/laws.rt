@@ -2,6 +2,7 @@
 ghost use Rattle.cdi_machine.specs.Tables.{Tables};
 ghost use Rattle.cdi_ledger.specs.Ledger.{KeepsOrder, KeepsOrderIfShort};
 ghost use Rattle.cdi_ledger.specs.Ends.{EndsNested, EndsNestedIfShort, LeavesTidy, LeavesNothing, MarksOnce, MarksOnceIfShort, OneInAContext, OneOfTheApplication, RefersOwn, BodiesAreFarewells, BodiesAreFarewellsIfShort, OneInAContextIfShort};
+ghost use Rattle.cdi_ledger.specs.Callbacks.{FarewellsInDestruction, FarewellsInDestructionIfShort};
 
 use cdi_machine::Driver;
 
@@ -81,6 +82,19 @@ pub fn law_bodies<D: Driver>(driver: &D)
     ensures with_memory { (tables : Tables) → BodiesAreFarewells tables (D.legal driver.now) }
     ensures short_of_memory { (tables : Tables) →
         BodiesAreFarewellsIfShort tables (D.legal driver.now) }
+{
+    let _driver = driver;
+}
+
+/// The bodies of a pre-destroy chain, and the callbacks, run in the destruction of their instance alone: if a callback's
+/// place is no other body's, and an interceptor's places are its own, such a body starts only between the instance's `end`
+/// and its `gone`. So it is also if memory runs out (Jakarta Interceptors 2.1, *Interceptor Methods for Lifecycle Event
+/// Callbacks*).
+#[tactic(auto, using(crate::proofs::Callbacks::farewells_in_destruction, crate::proofs::Callbacks::farewells_in_short))]
+pub fn law_callbacks<D: Driver>(driver: &D)
+    ensures with_memory { (tables : Tables) → FarewellsInDestruction tables (D.legal driver.now) }
+    ensures short_of_memory { (tables : Tables) →
+        FarewellsInDestructionIfShort tables (D.legal driver.now) }
 {
     let _driver = driver;
 }
