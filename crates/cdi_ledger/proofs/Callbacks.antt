@@ -35,7 +35,7 @@ use Rattle.cdi_ledger.proofs.Ledgered as ledgered
 use Rattle.cdi_ledger.proofs.Fronts.{anything, also_short}
 use Rattle.cdi_ownership.proofs.Cores.{core_of}
 use Rattle.cdi_ownership.proofs.Homes.{targets}
-use Rattle.cdi_ledger.proofs.Owed.{Ok, Pre, AreOrdinary, IsAttendant, IsKnown, IsThere, IsMember, IsAttending, MayEnter, EntersSo}
+use Rattle.cdi_ledger.proofs.Owed.{Ok, Pre, AreOrdinary, IsAttendant, IsKnown, IsThere, IsAttending, MayEnter, EntersSo, AtMember, IsMemberAt}
 use Rattle.cdi_ledger.proofs.Tops.{Tidy}
 use Rattle.cdi_ledger.proofs.Settled.{tidy_story, sane_story, begin_tidy, not_halted}
 use Rattle.cdi_ledger.proofs.Nesting.{BothPost}
@@ -53,6 +53,11 @@ module _ (tables : Tables) where
     code : Code
     is_in : IsIn code class.pre_destroy.callbacks
     stands : code.place ≡ place
+
+  at_in : (place : Place) (ms : List Code) (w : World) (h : List Item) → AtMember tables place ms w h → IsIn place (map (λ m. m.place) ms)
+  at_in place [] w h a = absurd a
+  at_in place (m ∷ ms) w h (inl a) = inl a.0
+  at_in place (m ∷ ms) w h (inr a) = inr a
 
   code_of : (place : Place) (ms : List Code) → IsIn place (map (λ m. m.place) ms) → (m : Code) × IsIn m ms × (m.place ≡ place)
   code_of place [] i = absurd i
@@ -165,7 +170,7 @@ module _ (tables : Tables) where
       of_ordinary m place (IsFarewellOf.callback k j) o = apart.callbacks is.index is.bean c k is.known is.is j o
 
       -- a member of the innermost invocation
-      of_member : (m : ℕ) (place : Place) (vs : List Invocation) → AllOneOf h vs → IsThere m w → IsFarewellOf tables h n c m place → IsMember m place vs → IsEnding (fate n h)
+      of_member : (m : ℕ) (place : Place) (vs : List Invocation) → AllOneOf h vs → IsThere m w → IsFarewellOf tables h n c m place → IsMemberAt tables m place w h vs → IsEnding (fate n h)
       of_member m place [] a l f i = absurd i
       of_member m place (v ∷ vs) a l f i = by a.0
         where
@@ -174,15 +179,15 @@ module _ (tables : Tables) where
           in_destruction m place p k l (IsFarewellOf.callback q j) = past_ending n w h (g.0.1 n) l p
 
           by : IsOneOf h v → IsEnding (fate n h)
-          by (inl p) = in_destruction m place (subst (λ z. Past (fate z h)) i.0 p.0) (p.1 place i.1) l f
-          by (inr o) = let k = code_of place v.members i.1 in absurd (of_ordinary m place f (subst (IsOrdinary tables) k.2 (o.1 k.0 k.1)))
+          by (inl p) = in_destruction m place (subst (λ z. Past (fate z h)) i.0 p.0) (p.1 place (at_in place v.members w h i.1)) l f
+          by (inr o) = let k = code_of place v.members (at_in place v.members w h i.1) in absurd (of_ordinary m place f (subst (IsOrdinary tables) k.2 (o.1 k.0 k.1)))
 
       -- an instance of an interceptor
-      of_attendant : (m : ℕ) (place : Place) (vs : List Invocation) → AllOneOf h vs → IsFarewellOf tables h n c m place → IsAttending tables m place w vs → IsEnding (fate n h)
+      of_attendant : (m : ℕ) (place : Place) (vs : List Invocation) → AllOneOf h vs → IsFarewellOf tables h n c m place → IsAttending tables m place w h vs → IsEnding (fate n h)
       of_attendant m place [] a f i = absurd i
       of_attendant m place (v ∷ vs) a f x = by m place f x
         where
-          by : (m : ℕ) (place : Place) → IsFarewellOf tables h n c m place → IsAttendant tables m place w v → IsEnding (fate n h)
+          by : (m : ℕ) (place : Place) → IsFarewellOf tables h n c m place → IsAttendant tables m place w h v → IsEnding (fate n h)
           by m place (IsFarewellOf.callback q j) x = absurd (apart.not_interceptors is.index is.bean c q x.interceptor.name v.role is.known is.is j x.stands)
           by m place (IsFarewellOf.interceptor _ i y j b e) x =
               let o : owners.Instance v.target ≡ owners.Instance n = sym x.owner ∙ (g.1.once m x.core.component (components.Interceptor i) x.core.owner (owners.Instance n) (g.1.lives m x.core x.there) b).1 in
@@ -197,7 +202,7 @@ module _ (tables : Tables) where
               over s r (inl p) = past_ending n w h (g.0.1 n) (subst (λ z. IsThere z w) s (x.target, x.lives)) (subst (λ z. Past (fate z h)) s p.0)
               over s r (inr o) = absurd (o.0 (sym r))
 
-    starts : (m : ℕ) (place : Place) (w : World) (h : List Item) → KG tables w h → AllOneOf h w.invocations → IsKnown tables m place w → IsThere m w → IsInDestruction tables (Wrote (entries.Run m place)) h
+    starts : (m : ℕ) (place : Place) (w : World) (h : List Item) → KG tables w h → AllOneOf h w.invocations → IsKnown tables m place w h → IsThere m w → IsInDestruction tables (Wrote (entries.Run m place)) h
     starts m place w h g a (inl o) l n c is f = absurd (of_ordinary n c w h g is m place f o)
     starts m place w h g a (inr (inl i)) l n c is f = of_member n c w h g is m place w.invocations a l f i
     starts m place w h g a (inr (inr i)) l n c is f = of_attendant n c w h g is m place w.invocations a f i

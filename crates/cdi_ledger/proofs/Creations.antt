@@ -235,7 +235,7 @@ module _ (t : Tables) where
   task_does (Task.Obtain b) w h g q = numbered (obtain b) w h (Rattle.cdi_ledger.proofs.Standing.f_obtain t w b w h g (rel_self w g))
   task_does (Task.Create b owner) w h g q = fine.loosen t (create b owner) w h (Created owner w) (λ c v k. Rel w v × AreMadeFor owner c v) (create_does b owner w h g q.0) (λ c v k gv z. made_of owner w c v k z)
   task_does (Task.Intercept i n) w h g q = fine.loosen t (intercept i n) w h (Created (owners.Instance n) w) (λ c v k. Rel w v × Unit {0}) (intercept_does i n w h g q) (λ c v k gv z. (z.0, tt))
-  task_does (Task.Rest chain) w h g q = plain (run_rest chain) w h g (f_rest t w chain)
+  task_does (Task.Rest chain) w h g q = fine.loosen t (run_rest chain) w h (fine.Left w Any) (λ c v k. Rel w v × Unit {0}) (f_rest t chain w h g q) (λ c v k gv z. (z.0, tt))
   task_does (Task.Body r) w h g q = fine.loosen t (run_body r) w h (fine.Left w Any) (λ c v k. Rel w v × Unit {0}) (body_does t r w h g q) (λ c v k gv z. (z.0, tt))
   task_does (Task.Acts r) w h g q = plain (carry_on r) w h g (f_acts t w r q)
   task_does (Task.Destroy n) w h g q = destroy_does t n w h g q

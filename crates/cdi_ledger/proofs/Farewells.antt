@@ -93,7 +93,7 @@ module _ (tables : Tables) where
   Parted w = AllParted w.instances w.invocations
 
   alike : (c d : Core) (members : List Code) → d.component ≡ c.component → AreParting tables d members → AreParting tables c members
-  alike c d members e p = record { index = p.index; is = sym e ∙ p.is; bean = p.bean; known = p.known; class = p.class; kind = p.kind; all = p.all }
+  alike c d members e p = record { index = p.index; is = sym e ∙ p.is; bean = p.bean; known = p.known; class = p.class; kind = p.kind; same = p.same; all = p.all }
 
   parted_map : (a b : Instances) (vs : List Invocation) → ((k : ℕ) (c : Core) → IsIn k (targets vs) → core_at k b ≡ Some c → c.phase ≡ phases.Leaving → WasLeaving a k c) → AllParted a vs → AllParted b vs
   parted_map a b [] f p = tt
@@ -173,17 +173,15 @@ module _ (tables : Tables) where
   of_class : (n : ℕ) (c : Core) (w : World) (h : List Item) → Known tables w h → core_at n w.instances ≡ Some c → (index : ℕ) → c.component ≡ components.Bean index → (bean : _) → tables.bean index ≡ Some bean → (class : Managed) → bean.kind ≡ Rattle.cdi_machine.specs.Tables.Kind.Class class → IsOfClass tables h n class
   of_class n c w h k e index is bean known class kind = record { index = index; owner = c.owner; born = subst (λ z. IsIn (Born n z c.owner) h) is (k.lives n c e); bean = bean; known = known; is = kind }
 
-  in_member : (n : ℕ) (place : Place) (a : Instances) (vs : List Invocation) (c : Core) → AllParted a vs → core_at n a ≡ Some c → c.phase ≡ phases.Leaving → IsMember n place vs → (p : AreParting tables c []) × IsIn place (map (λ m. m.place) p.class.pre_destroy.callbacks)
+  in_member : (n : ℕ) (place : Place) (a : Instances) (vs : List Invocation) (c : Core) → AllParted a vs → core_at n a ≡ Some c → c.phase ≡ phases.Leaving → IsMember n place vs → (ms : List Code) × ((p : AreParting tables c ms) × IsIn place (map (λ m. m.place) p.class.pre_destroy.callbacks))
   in_member n place a [] c p e l m = absurd m
-  in_member n place a (v ∷ vs) c p e l m =
-      let q = p.0 c (subst (λ z. core_at z a ≡ Some c) (sym m.0) e) l in
-      (record { index = q.index; is = q.is; bean = q.bean; known = q.known; class = q.class; kind = q.kind; all = λ x i. absurd i }, q.all place m.1)
+  in_member n place a (v ∷ vs) c p e l m = let q = p.0 c (subst (λ z. core_at z a ≡ Some c) (sym m.0) e) l in (v.members, (q, q.all place m.1))
 
   farewell : (n : ℕ) (place : Place) (w : World) (h : List Item) → KG tables w h → Parted w → MayRun tables n place w h → IsFarewell tables (Wrote (entries.Run n place)) h
   farewell n place w h g p ok ending =
       let c = leaving_core n w (ending_leaving (nat_lt n w.next) (phase_at n w.instances) (subst IsEnding (g.0.1 n).fate ending)) in
       elim (ok c.0 c.1 c.2) [
-        | inl m ↦ (let q = in_member n place w.instances w.invocations c.0 p c.1 c.2 m in (q.0.class, (of_class n c.0 w h g.1 c.1 q.0.index q.0.is q.0.bean q.0.known q.0.class q.0.kind, inl q.1)))
+        | inl m ↦ (let q = (in_member n place w.instances w.invocations c.0 p c.1 c.2 m).1 in (q.0.class, (of_class n c.0 w h g.1 c.1 q.0.index q.0.is q.0.bean q.0.known q.0.class q.0.kind, inl q.1)))
         | inr o ↦ (o.class, (of_class n c.0 w h g.1 c.1 o.index o.is o.bean o.known o.class o.kind, inr o.own))
       ]
 

@@ -252,14 +252,14 @@ module _ (tables : Tables) where
   module _ (w0 : World) where
     -- an invocation
     pub f_invoked : (n : ℕ) (role : InterceptorMethod) (members : List Code) (args : List Value) (p : Prog Given) (w : World) (h : List Item) → Inv w → Rel w0 w → n < w.next → MayEnter tables n members w × EntersSo tables n role members w h
-        → ((u : World) → Inv u → u.instances ≡ w.instances → u.temporaries ≡ w.temporaries → u.contexts ≡ w.contexts → u.next ≡ w.next → ((b : ℕ) → OnStack w b → OnStack u b) → Fine u p Any)
+        → ((u : World) → Inv u → u.instances ≡ w.instances → u.temporaries ≡ w.temporaries → u.contexts ≡ w.contexts → u.next ≡ w.next → ((b : ℕ) → OnStack w b → OnStack u b) → targets u.invocations ≡ n ∷ targets w.invocations → Doing p u h (Left u Any))
         → Doing (invoke_by n role members args p) w h (Left w0 Any)
     f_invoked n role members args p w h g r l ok k =
         let u : World = after_change (Change.Enter (invocation_at_start n role members args)) w in
         let gu : Inv u = stacked_inv w u (record { next = refl; temporaries = refl; core = λ k. refl; deps = λ k. refl; contexts = λ c. refl; stack = stack }) g in (
           ok,
           bind tables (Ok tables) G (Pre tables) Post p (λ a. handle (alter Change.Exit) (λ _. ret a) throw) (λ x. handle (alter Change.Exit) (λ _. throw x) throw) u h (Left u Any) (Left w0 Any)
-              (k u gu refl refl refl refl (λ b. on b) u h gu (rel_self u gu))
+              (k u gu refl refl refl refl (λ b. on b) refl)
               (λ a w1 h1 g1 q. (behind_inv w1 g1 q.0, (rel_then w0 w (after_change Change.Exit w1) r (behind w1 q.0), tt)))
               (λ x w1 h1 g1 q. (behind_inv w1 g1 q.0, (rel_then w0 w (after_change Change.Exit w1) r (behind w1 q.0), tt))),
         )

@@ -1,5 +1,6 @@
 -- The bodies of pre-destroy chains and callbacks: that they run in the destruction of their instance alone.
 use Rattle.std.specs.Prelude.{ℕ, ◌≡◌, List, [], ◌∷◌, Some, None}
+use Rattle.cdi_base.specs.declared.act.Act.TheVariants as acts
 use Rattle.cdi_base.specs.declared.entry.Entry.TheVariants as entries
 use Rattle.cdi_base.specs.declared.place.Place.{Place}
 use Rattle.cdi_base.specs.declared.place.Place.TheVariants as places
@@ -16,7 +17,7 @@ use Rattle.cdi_machine.specs.Commands.{Command, task}
 use Rattle.cdi_machine.specs.Runs.{Legal, Outcome, Runs}
 use Rattle.cdi_machine.specs.Container.{State, refusal}
 use Rattle.cdi_ownership.specs.Whose.{IsIn}
-use Rattle.cdi_ledger.specs.Ledger.{Item, Wrote, Born, items_of, fate}
+use Rattle.cdi_ledger.specs.Ledger.{Item, Wrote, Between, Born, items_of, fate}
 use Rattle.cdi_ledger.specs.Stories.{Story}
 use Rattle.cdi_ledger.specs.Ends.{Each, IsEnding, IsOfClass}
 
@@ -98,3 +99,15 @@ FarewellsInDestructionIfShort tables legal =
     → refusal tables s c ≡ None
     → (r : Runs tables legal (Unit {0}) (task c) (at_begin s.world) o v)
     → Each (IsInDestruction tables) (items_of h r)
+
+-- ---- the first of these bodies
+
+-- the latest item is the mark of n
+abbrev pub IsMark : ℕ → List Item → Type 0
+IsMark n (Between m ∷ h) = m ≡ n
+IsMark n _ = ⊥
+
+-- the latest item is that a body proceeded
+abbrev pub IsProceed : List Item → Type 0
+IsProceed (Wrote (entries.Did (acts.Proceed args)) ∷ h) = Unit {0}
+IsProceed _ = ⊥
