@@ -16,7 +16,7 @@ use Rattle.cdi_store.specs.declared.instance.Phase.{Phase}
 use Rattle.cdi_store.specs.declared.instance.Phase.TheVariants as phases
 use Rattle.cdi_store.specs.Live.{with_ready, with_leaving}
 use Rattle.cdi_base.specs.Maps.{without}
-use Rattle.cdi_machine.specs.Tables.{Tables, Code, Managed, Kind}
+use Rattle.cdi_machine.specs.Tables.{Tables, Code, Managed, Kind, Bean}
 use Rattle.cdi_machine.specs.World.{World, Change, Invocation, after_change, with_entry, instance_at, at_begin, for_instance, with_owned, without_owned, without_making, with_instances, on_top, below}
 use Rattle.cdi_machine.specs.Programs.{Task, Completion, Prog, ret, throw, cut, miss, see, change, tick, mark, act, choose, nested, candidates}
 use Rattle.cdi_machine.specs.Commands.{Command, task}
@@ -44,22 +44,22 @@ use Rattle.cdi_ledger.proofs.Births.{Known, KG, all_born, born_command, known_st
 
 module _ (tables : Tables) where
   -- the place is a callback's
-  record IsCallback (place : Place) : Type 0 where
-    index : ℕ
-    bean : _
-    known : tables.bean index ≡ Some bean
-    class : Managed
-    kind : bean.kind ≡ Kind.Class class
-    code : Code
-    is_in : IsIn code class.pre_destroy.callbacks
-    stands : code.place ≡ place
+  pub record IsCallback (place : Place) : Type 0 where
+    pub index : ℕ
+    pub bean : Bean
+    pub known : tables.bean index ≡ Some bean
+    pub class : Managed
+    pub kind : bean.kind ≡ Kind.Class class
+    pub code : Code
+    pub is_in : IsIn code class.pre_destroy.callbacks
+    pub stands : code.place ≡ place
 
-  at_in : (place : Place) (ms : List Code) (w : World) (h : List Item) → AtMember tables place ms w h → IsIn place (map (λ m. m.place) ms)
+  pub at_in : (place : Place) (ms : List Code) (w : World) (h : List Item) → AtMember tables place ms w h → IsIn place (map (λ m. m.place) ms)
   at_in place [] w h a = absurd a
   at_in place (m ∷ ms) w h (inl a) = inl a.0
   at_in place (m ∷ ms) w h (inr a) = inr a
 
-  code_of : (place : Place) (ms : List Code) → IsIn place (map (λ m. m.place) ms) → (m : Code) × IsIn m ms × (m.place ≡ place)
+  pub code_of : (place : Place) (ms : List Code) → IsIn place (map (λ m. m.place) ms) → (m : Code) × IsIn m ms × (m.place ≡ place)
   code_of place [] i = absurd i
   code_of place (m ∷ ms) (inl e) = (m, inl refl, e)
   code_of place (m ∷ ms) (inr i) = let c = code_of place ms i in (c.0, inr c.1, c.2)
@@ -70,18 +70,18 @@ module _ (tables : Tables) where
   place_of m (k ∷ ms) (inr i) = inr (place_of m ms i)
 
   -- an invocation of a destruction, or another
-  abbrev IsOneOf : List Item → Invocation → Type 0
+  abbrev pub IsOneOf : List Item → Invocation → Type 0
   IsOneOf h v = (Past (fate v.target h) × ((place : Place) → IsIn place (map (λ m. m.place) v.members) → IsCallback place)) ⊎ AreOrdinary tables v.role v.members
 
-  abbrev AllOneOf : List Item → List Invocation → Type 0
+  abbrev pub AllOneOf : List Item → List Invocation → Type 0
   AllOneOf h [] = Unit {0}
   AllOneOf h (v ∷ vs) = IsOneOf h v × AllOneOf h vs
 
-  later : (x : Item) (h : List Item) (vs : List Invocation) → AllOneOf h vs → AllOneOf (x ∷ h) vs
+  pub later : (x : Item) (h : List Item) (vs : List Invocation) → AllOneOf h vs → AllOneOf (x ∷ h) vs
   later x h [] a = tt
   later x h (v ∷ vs) a = (elim a.0 [ inl p ↦ inl (past_step v.target x (fate v.target h) p.0, p.1) | inr o ↦ inr o ], later x h vs a.1)
 
-  later_birth : (g : Change) (w : World) (h : List Item) (vs : List Invocation) → AllOneOf h vs → AllOneOf (with_birth g w h) vs
+  pub later_birth : (g : Change) (w : World) (h : List Item) (vs : List Invocation) → AllOneOf h vs → AllOneOf (with_birth g w h) vs
   later_birth (Change.Make component owner fields) w h vs a = later (Born w.next component owner) h vs a
   later_birth _ w h vs a = a
 
@@ -100,7 +100,7 @@ module _ (tables : Tables) where
   ended h (v ∷ vs) a = a.1
 
   -- what has had its end, and is there, is in its destruction
-  past_ending : (n : ℕ) (w : World) (h : List Item) → Sane n w h → IsThere n w → Past (fate n h) → IsEnding (fate n h)
+  pub past_ending : (n : ℕ) (w : World) (h : List Item) → Sane n w h → IsThere n w → Past (fate n h) → IsEnding (fate n h)
   past_ending n w h s l p = subst IsEnding (sym s.fate) (by (at w.instances n) (nat_lt n w.next) l.1 (subst Past s.fate p))
     where
       over : (b : Bool) (p : Phase) → Past (stands b (Some p)) → IsEnding (stands b (Some p))
@@ -119,7 +119,7 @@ module _ (tables : Tables) where
       let p = m l.0.0 l.0.1 l.0.2 in
       inl (l.1, λ place z. (let c = code_of place p.class.pre_destroy.callbacks (p.all place z) in record { index = p.index; bean = p.bean; known = p.known; class = p.class; kind = p.kind; code = c.0; is_in = c.1; stands = c.2 }))
 
-  one_change : (h : List Item) (g : Change) (w : World) (X : Type 0) → AllOneOf h w.invocations → Guard (Ok tables) g w h X → AllOneOf h (after_change g w).invocations
+  pub one_change : (h : List Item) (g : Change) (w : World) (X : Type 0) → AllOneOf h w.invocations → Guard (Ok tables) g w h X → AllOneOf h (after_change g w).invocations
   one_change h (Change.Make component (owners.Context c) fields) w X a x = a
   one_change h (Change.Make component (owners.Instance m) fields) w X a x = a
   one_change h (Change.Make component owners.Borrower fields) w X a x = a
@@ -236,7 +236,7 @@ module _ (tables : Tables) where
     all_callbacks : (t : Task) (w : World) (h : List Item) → CG w h → Pre tables t w h → Does tables (Ok tables) CG (Pre tables) (BothPost tables) (machine t) w h (BothPost tables t w h)
     all_callbacks t w h g q = with_callbacks (machine t) w h (BothPost tables t w h) (all_born tables t w h g.0 q) g.1.0 g.1.1
 
-    nobody : (h : List Item) (vs : List Invocation) → targets vs ≡ [] → AllOneOf h vs
+    pub nobody : (h : List Item) (vs : List Invocation) → targets vs ≡ [] → AllOneOf h vs
     nobody h [] e = tt
     nobody h (v ∷ vs) e = absurd (cc)
 

@@ -85,11 +85,11 @@ was_before a n k x c new e l = old (at a k) refl
 -- ---- the invocations
 
 module _ (tables : Tables) where
-  abbrev AllParted : Instances → List Invocation → Type 0
+  abbrev pub AllParted : Instances → List Invocation → Type 0
   AllParted a [] = Unit {0}
   AllParted a (v ∷ vs) = ((c : Core) → core_at v.target a ≡ Some c → c.phase ≡ phases.Leaving → AreParting tables c v.members) × AllParted a vs
 
-  abbrev Parted : World → Type 0
+  abbrev pub Parted : World → Type 0
   Parted w = AllParted w.instances w.invocations
 
   alike : (c d : Core) (members : List Code) → d.component ≡ c.component → AreParting tables d members → AreParting tables c members
@@ -113,7 +113,7 @@ module _ (tables : Tables) where
   parted_enter : (a : Instances) (v : Invocation) (vs : List Invocation) → ((c : Core) → core_at v.target a ≡ Some c → c.phase ≡ phases.Leaving → AreParting tables c v.members) → AllParted a vs → AllParted a (v ∷ vs)
   parted_enter a v vs f p = (f, p)
 
-  parted_change : (h : List Item) (g : Change) (w : World) (X : Type 0) → Parted w → Guard (Ok tables) g w h X → Parted (after_change g w)
+  pub parted_change : (h : List Item) (g : Change) (w : World) (X : Type 0) → Parted w → Guard (Ok tables) g w h X → Parted (after_change g w)
   parted_change h (Change.Make component (owners.Context c) fields) w X p x = parted_map w.instances _ w.invocations (λ k c i e l. was_before w.instances w.next k _ c refl e l) p
   parted_change h (Change.Make component (owners.Instance m) fields) w X p x = parted_map w.instances _ w.invocations (λ k c i e l. was_before w.instances w.next k _ c refl e l) p
   parted_change h (Change.Make component owners.Borrower fields) w X p x = parted_map w.instances _ w.invocations (λ k c i e l. was_before w.instances w.next k _ c refl e l) p
@@ -217,7 +217,7 @@ module _ (tables : Tables) where
   nobody : (a : Instances) → AllParted a []
   nobody a = tt
 
-  nobody_of : (a : Instances) (vs : List Invocation) → targets vs ≡ [] → AllParted a vs
+  pub nobody_of : (a : Instances) (vs : List Invocation) → targets vs ≡ [] → AllParted a vs
   nobody_of a [] e = nobody a
   nobody_of a (v ∷ vs) e = absurd (cc)
 

@@ -19,3 +19,4 @@ pub mod Births
 pub mod Referred
 pub mod Farewells
 pub mod Callbacks
+pub mod Firsts

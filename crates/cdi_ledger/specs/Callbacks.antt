@@ -1,5 +1,5 @@
 -- The bodies of pre-destroy chains and callbacks: that they run in the destruction of their instance alone.
-use Rattle.std.specs.Prelude.{ℕ, ◌≡◌, List, [], ◌∷◌, Some, None}
+use Rattle.std.specs.Prelude.{ℕ, ◌≡◌, ◌⊎◌, List, [], ◌∷◌, map, Some, None}
 use Rattle.cdi_base.specs.declared.act.Act.TheVariants as acts
 use Rattle.cdi_base.specs.declared.entry.Entry.TheVariants as entries
 use Rattle.cdi_base.specs.declared.place.Place.{Place}
@@ -111,3 +111,57 @@ IsMark n _ = ⊥
 abbrev pub IsProceed : List Item → Type 0
 IsProceed (Wrote (entries.Did (acts.Proceed args)) ∷ h) = Unit {0}
 IsProceed _ = ⊥
+
+-- the body is the first of the pre-destroy chain and callbacks of n
+abbrev pub IsFirstOf : Tables → List Item → ℕ → List ℕ → List Code → ℕ → Place → Type 0
+IsFirstOf tables h n (i ∷ chain) callbacks m place =
+    (y : Interceptor) × IsIn (Born m (components.Interceptor i) (owners.Instance n)) h
+    × (tables.interceptor i ≡ Some y)
+    × (place ≡ places.Interceptor y.name roles.PreDestroy)
+IsFirstOf tables h n [] (k ∷ callbacks) m place = (m ≡ n) × (k.place ≡ place)
+IsFirstOf tables h n [] [] m place = ⊥
+
+-- Right behind the mark. A callback without an interceptor before it may also be run again, by a body that proceeds: then a
+-- `did proceed` stands right before it.
+abbrev pub IsBegun : ℕ → List ℕ → List Item → Type 0
+IsBegun n [] h = IsMark n h ⊎ IsProceed h
+IsBegun n (i ∷ chain) h = IsMark n h
+
+-- the first body starts nowhere else
+abbrev pub IsBegunOnly : Tables → Item → List Item → Type 0
+IsBegunOnly tables (Wrote (entries.Run m place)) h =
+    (n : ℕ) (c : Managed) → IsOfClass tables h n c
+    → IsFirstOf tables h n c.pre_destroy.chain c.pre_destroy.callbacks m place
+    → IsBegun n c.pre_destroy.chain h
+IsBegunOnly tables _ h = Unit {0}
+
+-- The first interceptor stands in its chain once, and the first callback's place is no further one's.
+pub record FirstsStandOnce (tables : Tables) : Type 0 where
+  pub interceptors : (b : ℕ) (x : Bean) (c : Managed) (i : ℕ) (chain : List ℕ)
+      → tables.bean b ≡ Some x
+      → x.kind ≡ Kind.Class c
+      → c.pre_destroy.chain ≡ i ∷ chain
+      → IsIn i chain
+      → ⊥
+  pub callbacks : (b : ℕ) (x : Bean) (c : Managed) (m : Code) (more : List Code)
+      → tables.bean b ≡ Some x
+      → x.kind ≡ Kind.Class c
+      → c.pre_destroy.callbacks ≡ m ∷ more
+      → IsIn m.place (map (λ k. k.place) more)
+      → ⊥
+
+abbrev pub BeginsOnlyAtMark : Tables → Legal → Type 0
+BeginsOnlyAtMark tables legal =
+    PlacesOfBodiesAreApart tables → FirstsStandOnce tables
+    → (s : State) (h : List Item) → Story tables legal s h
+    → Each (IsBegunOnly tables) h
+
+-- Also if memory runs out in one more command.
+abbrev pub BeginsOnlyAtMarkIfShort : Tables → Legal → Type 0
+BeginsOnlyAtMarkIfShort tables legal =
+    PlacesOfBodiesAreApart tables → FirstsStandOnce tables
+    → (s : State) (h : List Item) (c : Command) (o : Outcome) (v : World)
+    → Story tables legal s h
+    → refusal tables s c ≡ None
+    → (r : Runs tables legal (Unit {0}) (task c) (at_begin s.world) o v)
+    → Each (IsBegunOnly tables) (items_of h r)
