@@ -20,3 +20,4 @@ pub mod Referred
 pub mod Farewells
 pub mod Callbacks
 pub mod Firsts
+pub mod Traces

@@ -1,5 +1,5 @@
 -- How destructions and creations end, and what runs in a destruction.
-use Rattle.std.specs.Prelude.{ℕ, ◌+◌, ◌≡◌, ◌≤◌, ◌⊎◌, List, [], ◌∷◌, map, Bool, true, false, Some, None, nat_eq}
+use Rattle.std.specs.Prelude.{ℕ, ◌+◌, ◌≡◌, ◌<◌, ◌≤◌, ◌⊎◌, List, [], ◌∷◌, map, Bool, true, false, Some, None, nat_eq}
 use Rattle.cdi_base.specs.declared.act.Act.TheVariants as acts
 use Rattle.cdi_base.specs.declared.entry.Entry.TheVariants as entries
 use Rattle.cdi_base.specs.declared.place.Place.{Place}
@@ -9,12 +9,13 @@ use Rattle.cdi_base.specs.declared.scope.Scope.TheVariants as scopes
 use Rattle.cdi_base.specs.Maps.{at}
 use Rattle.cdi_store.specs.declared.instance.Component.{Component}
 use Rattle.cdi_store.specs.declared.instance.Component.TheVariants as components
+use Rattle.cdi_store.specs.declared.instance.Instance.{Instance}
 use Rattle.cdi_store.specs.declared.instance.Context.{Context}
 use Rattle.cdi_store.specs.declared.instance.Context.TheVariants.{Application, Session, Request}
 use Rattle.cdi_store.specs.declared.instance.Owner.{Owner}
 use Rattle.cdi_store.specs.declared.instance.Owner.TheVariants as owners
 use Rattle.cdi_machine.specs.Tables.{Tables, Method, Managed, Kind, Bean, Interceptor}
-use Rattle.cdi_machine.specs.World.{World, at_begin}
+use Rattle.cdi_machine.specs.World.{World, at_begin, instance_at}
 use Rattle.cdi_machine.specs.Programs.{Given, Completion, Gave}
 use Rattle.cdi_machine.specs.Commands.{Command, task}
 use Rattle.cdi_machine.specs.Runs.{Legal, Outcome, Ends, Runs}
@@ -258,6 +259,15 @@ MarksOnceIfShort tables legal =
     → refusal tables s c ≡ None
     → (r : Runs tables legal (Unit {0}) (task c) (at_begin s.world) o v)
     → (n : ℕ) → (marks n (items_of h r) ≤ 1) × (IsIn (Wrote (entries.Gone n)) (items_of h r) → marks n (items_of h r) ≡ 1)
+
+-- ---- owners
+
+-- At the end of each command, cut or not, an owner's number is smaller than what it owns.
+abbrev pub OwnersAreSmaller : Tables → Legal → Type 0
+OwnersAreSmaller tables legal =
+    (s : State) (h : List Item) → Story tables legal s h
+    → (n m : ℕ) (o : Instance) → instance_at s.world n ≡ Some o → o.owner ≡ owners.Instance m
+    → m < n
 
 -- ---- after a shutdown
 

@@ -1,8 +1,9 @@
 //! The laws of the ledger. A call of one does nothing: its contract is the law.
 ghost use Rattle.cdi_machine.specs.Tables.{Tables};
 ghost use Rattle.cdi_ledger.specs.Ledger.{KeepsOrder, KeepsOrderIfShort};
-ghost use Rattle.cdi_ledger.specs.Ends.{EndsNested, EndsNestedIfShort, LeavesTidy, LeavesNothing, MarksOnce, MarksOnceIfShort, OneInAContext, OneOfTheApplication, RefersOwn, BodiesAreFarewells, BodiesAreFarewellsIfShort, OneInAContextIfShort};
+ghost use Rattle.cdi_ledger.specs.Ends.{EndsNested, EndsNestedIfShort, LeavesTidy, LeavesNothing, MarksOnce, MarksOnceIfShort, OwnersAreSmaller, OneInAContext, OneOfTheApplication, RefersOwn, BodiesAreFarewells, BodiesAreFarewellsIfShort, OneInAContextIfShort};
 ghost use Rattle.cdi_ledger.specs.Callbacks.{FarewellsInDestruction, FarewellsInDestructionIfShort, BeginsOnlyAtMark, BeginsOnlyAtMarkIfShort};
+ghost use Rattle.cdi_ledger.specs.Stories.{AddsItsTrace};
 
 use cdi_machine::Driver;
 
@@ -107,6 +108,25 @@ pub fn law_firsts<D: Driver>(driver: &D)
     ensures with_memory { (tables : Tables) → BeginsOnlyAtMark tables (D.legal driver.now) }
     ensures short_of_memory { (tables : Tables) →
         BeginsOnlyAtMarkIfShort tables (D.legal driver.now) }
+{
+    let _driver = driver;
+}
+
+/// An owner is older than what it owns: at the end of each command, cut or not, its number is smaller (Jakarta CDI 4.0,
+/// *Dependent objects*).
+#[tactic(auto, using(crate::proofs::Settled::owners_are_smaller))]
+pub fn law_owners<D: Driver>(driver: &D)
+    ensures smaller { (tables : Tables) → OwnersAreSmaller tables (D.legal driver.now) }
+{
+    let _driver = driver;
+}
+
+/// The entries that a command adds to the items are its trace. So it is also if memory runs out.
+#[tactic(auto, using(crate::proofs::Traces::adds_its_trace))]
+pub fn law_traces<D: Driver>(driver: &D)
+    ensures with_memory { (tables : Tables) → AddsItsTrace tables (D.legal driver.now) ⊥ }
+    ensures short_of_memory { (tables : Tables) →
+        AddsItsTrace tables (D.legal driver.now) (Unit {0}) }
 {
     let _driver = driver;
 }
