@@ -16,7 +16,10 @@ use Rattle.cdi_ledger.proofs.Births.{born_command, known_begin, known_story}
 use Rattle.cdi_worlds_fit.specs.Fits.{Fits}
 use Rattle.cdi_whole.specs.Missing.{NothingMissing}
 use Rattle.cdi_whole.proofs.Presence.{misses_nothing}
-use Rattle.cdi_farewells.specs.Beginnings.{BeginsAtMark, BeginsAtMarkIfShort}
+use Rattle.cdi_farewells.specs.Beginnings.{BeginsAtMark, BeginsAtMarkIfShort, DestructionsBeginOnce, DestructionsBeginOnceIfShort}
+use Rattle.cdi_ledger.proofs.Marks.{marks_once, marks_if_short}
+use Rattle.cdi_ledger.proofs.Callbacks.{farewells_in_destruction, farewells_in_short}
+use Rattle.cdi_ledger.proofs.Firsts.{begins_only_at_mark, begins_only_if_short}
 use Rattle.cdi_farewells.proofs.Without.{Told, tells}
 use Rattle.cdi_farewells.proofs.Calm.{bare, E, Calm, G, Asks, Leaves, unmarked_of, calm, all_tell}
 
@@ -72,3 +75,19 @@ begins_at_mark tables legal fits s h l = let b = begun tables legal fits l in b.
 
 pub begins_if_short : (tables : Tables) (legal : Legal) → BeginsAtMarkIfShort tables legal
 begins_if_short tables legal fits s h c o v l q r = (run_tells tables legal fits (Unit {0}) l (begun tables legal fits l) c q o v r).0
+
+pub begin_once : (tables : Tables) (legal : Legal) → DestructionsBeginOnce tables legal
+begin_once tables legal fits apart once s h l = record {
+  marked = marks_once tables legal s h l;
+  begins = begins_at_mark tables legal fits s h l;
+  only = begins_only_at_mark tables legal apart once s h l;
+  within = farewells_in_destruction tables legal apart s h l;
+}
+
+pub begin_once_if_short : (tables : Tables) (legal : Legal) → DestructionsBeginOnceIfShort tables legal
+begin_once_if_short tables legal fits apart once s h c o v l q r = record {
+  marked = marks_if_short tables legal s h c o v l q r;
+  begins = begins_if_short tables legal fits s h c o v l q r;
+  only = begins_only_if_short tables legal apart once s h c o v l q r;
+  within = farewells_in_short tables legal apart s h c o v l q r;
+}

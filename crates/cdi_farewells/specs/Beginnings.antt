@@ -1,5 +1,5 @@
 -- How a destruction begins: what stands right behind its mark.
-use Rattle.std.specs.Prelude.{ℕ, ◌≡◌, List, [], ◌∷◌, Some, None}
+use Rattle.std.specs.Prelude.{ℕ, ◌≡◌, ◌≤◌, List, [], ◌∷◌, Some, None}
 use Rattle.cdi_base.specs.declared.entry.Entry.TheVariants as entries
 use Rattle.cdi_base.specs.declared.place.Place.TheVariants as places
 use Rattle.cdi_base.specs.declared.place.InterceptorMethod.TheVariants as roles
@@ -13,7 +13,8 @@ use Rattle.cdi_machine.specs.Container.{State, refusal}
 use Rattle.cdi_ownership.specs.Whose.{IsIn}
 use Rattle.cdi_ledger.specs.Ledger.{Item, Wrote, Between, Born, items_of}
 use Rattle.cdi_ledger.specs.Stories.{Story}
-use Rattle.cdi_ledger.specs.Ends.{Each, IsOfClass}
+use Rattle.cdi_ledger.specs.Ends.{Each, IsOfClass, marks}
+use Rattle.cdi_ledger.specs.Callbacks.{PlacesOfBodiesAreApart, FirstsStandOnce, IsBegunOnly, IsInDestruction}
 use Rattle.cdi_worlds_fit.specs.Fits.{Fits}
 
 -- The first body of a pre-destroy chain, and of the callbacks at its end, starts: that of the first interceptor, on the
@@ -47,3 +48,32 @@ BeginsAtMarkIfShort tables legal =
     → refusal tables s c ≡ None
     → (r : Runs tables legal (Unit {0}) (task c) (at_begin s.world) o v)
     → Each (IsRightBehindMark tables) (items_of h r)
+
+-- ---- each destruction begins its callbacks exactly once
+
+pub record BeginsOnce (tables : Tables) (h : List Item) : Type 0 where
+  -- its mark stands at most once, and once where the instance is gone
+  pub marked : (n : ℕ) → (marks n h ≤ 1) × (IsIn (Wrote (entries.Gone n)) h → marks n h ≡ 1)
+  -- what stands right behind the mark is the start of the first body
+  pub begins : Each (IsRightBehindMark tables) h
+  -- which starts nowhere else
+  pub only : Each (IsBegunOnly tables) h
+  -- and each of the bodies only between the end of the instance and its `gone`
+  pub within : Each (IsInDestruction tables) h
+
+-- If the tables and the bodies fit one another, and the tables tell the bodies of a destruction from all others.
+abbrev pub DestructionsBeginOnce : Tables → Legal → Type 0
+DestructionsBeginOnce tables legal =
+    Fits tables legal → PlacesOfBodiesAreApart tables → FirstsStandOnce tables
+    → (s : State) (h : List Item) → Story tables legal s h
+    → BeginsOnce tables h
+
+-- Also if memory runs out in one more command.
+abbrev pub DestructionsBeginOnceIfShort : Tables → Legal → Type 0
+DestructionsBeginOnceIfShort tables legal =
+    Fits tables legal → PlacesOfBodiesAreApart tables → FirstsStandOnce tables
+    → (s : State) (h : List Item) (c : Command) (o : Outcome) (v : World)
+    → Story tables legal s h
+    → refusal tables s c ≡ None
+    → (r : Runs tables legal (Unit {0}) (task c) (at_begin s.world) o v)
+    → BeginsOnce tables (items_of h r)
