@@ -20,12 +20,12 @@ use Rattle.cdi_machine.specs.Commands.{Command, task}
 use Rattle.cdi_machine.specs.Machine.{machine}
 use Rattle.cdi_machine.specs.Runs.{Legal, Outcome, Runs}
 use Rattle.cdi_machine.specs.Container.{State}
-use Rattle.cdi_ledger.specs.Ledger.{Item, Wrote, Between, Born, with_birth, items_of}
+use Rattle.cdi_ledger.specs.Ledger.{Item, Wrote, Between, Born, with_birth, items_of, Fate, Unborn, Made, Readied, Ended, Left, Lost, Wrong, fate, if_is, by_run, InOrder}
 use Rattle.cdi_ledger.specs.Stories.{Story}
 use Rattle.cdi_ownership.specs.Whose.{IsIn}
-use Rattle.cdi_ledger.specs.Ends.{Each, IsEnding, IsOfClass, IsFarewell, BodiesAreFarewells, BodiesAreFarewellsIfShort}
+use Rattle.cdi_ledger.specs.Ends.{Each, IsEnding, IsOfClass, IsFarewell, BodiesAreFarewells, BodiesAreFarewellsIfShort, IsAlive, IsOnLiving}
 use Rattle.cdi_ledger.proofs.Judge.{Does, sound, Guard, guard_map, Note, note_map}
-use Rattle.cdi_ledger.proofs.Stages.{phase_at, eq_true}
+use Rattle.cdi_ledger.proofs.Stages.{phase_at, eq_true, eq_same}
 use Rattle.cdi_ledger.proofs.Plain.{Sane}
 use Rattle.cdi_ledger.proofs.Ledgered as ledgered
 use Rattle.cdi_ownership.proofs.Maps.{at_added, at_before}
@@ -81,6 +81,25 @@ was_before a n k x c new e l = old (at a k) refl
           let t : phases.New ≡ phases.Leaving = sym new ∙ (ap (λ (u : Core). u.phase) y ∙ l) in absurd (cc))
       | inr s ↦ (let f : ◌≡◌ {A = Option Core} None (Some c) = sym (ap (option_map core_of) q) ∙ (sym (ap (option_map core_of) (at_before a n k x s.1)) ∙ e) in absurd (cc))
     ]
+
+-- ---- what is alive
+
+living : (h : List Item) → InOrder h → Each IsOnLiving h
+living [] q = tt
+living (x ∷ h) q = (by x q, living h (ledgered.shorter x h q))
+  where
+    over : (f : Fate) (b : Bool) → b ≡ true → (if_is b (by_run f) f ≡ Wrong → ⊥) → IsAlive f
+    over Made b e r = tt
+    over Readied b e r = tt
+    over Ended b e r = tt
+    over Left b e r = tt
+    over Unborn b e r = absurd (r (ap (λ z. if_is z Wrong Unborn) e))
+    over Lost b e r = absurd (r (ap (λ z. if_is z Wrong Lost) e))
+    over Wrong b e r = absurd (r (ap (λ z. if_is z Wrong Wrong) e))
+
+    by : (x : Item) → InOrder (x ∷ h) → IsOnLiving x h
+    by (Wrote (entries.Run n place)) q = over (fate n h) (nat_eq n n) (eq_same n) (q.each_way n)
+    by _ q = tt
 
 -- ---- the invocations
 
@@ -233,12 +252,15 @@ module _ (tables : Tables) where
         run_farewells c (at_begin s.world) v o h r (begin_tidy s.world (tidy_story tables legal l (not_halted s.halted _ _ q))) (λ n. ledgered.at_rest n s.world h (sane_story tables legal n l)) (Rattle.cdi_ledger.proofs.Births.known_begin tables s.world h (known_story tables legal l)) (farewell_story l)
 
     pub bodies_are_farewells : BodiesAreFarewells tables legal
-    bodies_are_farewells s h l = farewell_story l
+    bodies_are_farewells s h l = (living h (ledgered.in_order s.world h (λ n. sane_story tables legal n l)), farewell_story l)
 
   module _ (legal : Legal) where
     pub farewells_if_short : BodiesAreFarewellsIfShort tables legal
-    farewells_if_short s h c o v l q r = also_short tables (Each (IsFarewell tables)) (λ x k e. e.1) legal (task c) (at_begin s.world) v o h all r
+    farewells_if_short s h c o v l q r = (living (items_of h r) (also_short tables InOrder ledgered.shorter legal (task c) (at_begin s.world) v o h ordered r), also_short tables (Each (IsFarewell tables)) (λ x k e. e.1) legal (task c) (at_begin s.world) v o h all r)
       where
+        ordered : (o' : Outcome) (v' : World) (z : Runs tables anything ⊥ (task c) (at_begin s.world) o' v') → InOrder (items_of h z)
+        ordered o' v' z = ledgered.in_order v' (items_of h z) (λ k. ledgered.command_keeps tables k anything c (at_begin s.world) v' o' h z (ledgered.at_rest k s.world h (sane_story tables legal k l)))
+
         all : (o' : Outcome) (v' : World) (z : Runs tables anything ⊥ (task c) (at_begin s.world) o' v') → Each (IsFarewell tables) (items_of h z)
         all o' v' z = run_farewells anything c (at_begin s.world) v' o' h z (begin_tidy s.world (tidy_story tables legal l (not_halted s.halted _ _ q))) (λ n. ledgered.at_rest n s.world h (sane_story tables legal n l))
             (Rattle.cdi_ledger.proofs.Births.known_begin tables s.world h (known_story tables legal l)) (farewell_story legal l)

@@ -21,3 +21,4 @@ pub mod Farewells
 pub mod Callbacks
 pub mod Firsts
 pub mod Traces
+pub mod Orders

@@ -20,7 +20,7 @@ use Rattle.cdi_machine.specs.Programs.{Given, Completion, Gave}
 use Rattle.cdi_machine.specs.Commands.{Command, task}
 use Rattle.cdi_machine.specs.Runs.{Legal, Outcome, Ends, Runs}
 use Rattle.cdi_machine.specs.Container.{State, refusal}
-use Rattle.cdi_ledger.specs.Ledger.{Item, Wrote, Between, Born, items_of, Fate, Unborn, Made, Ended, Left, Lost, fate}
+use Rattle.cdi_ledger.specs.Ledger.{Item, Wrote, Between, Born, items_of, Fate, Unborn, Made, Readied, Ended, Left, Lost, Wrong, fate, InSequence}
 use Rattle.cdi_ledger.specs.Stories.{Story}
 use Rattle.cdi_ownership.specs.Whose.{IsIn, IsTidy, RefersToItsOwn}
 
@@ -185,6 +185,20 @@ OneOfTheApplication tables legal =
     PlacesAreApart tables → (s : State) (h : List Item) → Story tables legal s h
     → Each (OnceByPlace tables) h
 
+-- ---- order
+
+-- Numbers are given from 1 without a gap; each goes its way; of an application-scoped bean there is one instance at a time,
+-- where places tell beans apart; destructions are nested.
+pub record IsOrdered (tables : Tables) (h : List Item) : Type 0 where
+  pub numbered : InSequence h
+  pub each_way : (n : ℕ) → fate n h ≡ Wrong → ⊥
+  pub one_at_a_time : PlacesAreApart tables → Each (OnceByPlace tables) h
+  pub nested : Each IsNestedEnd h
+
+abbrev pub OrdersAll : Tables → Legal → Type 0
+OrdersAll tables legal =
+    (s : State) (h : List Item) → Story tables legal s h → IsOrdered tables h
+
 -- ---- bodies on an instance whose destruction has begun
 
 -- the method was called by the body's own act, which stands right before it
@@ -201,10 +215,23 @@ IsFarewell tables (Wrote (entries.Run n place)) h =
     × (IsIn place (map (λ m. m.place) c.pre_destroy.callbacks) ⊎ IsOwn c place h))
 IsFarewell tables _ h = Unit {0}
 
+-- it is being made, is ready, or is being destroyed
+abbrev pub IsAlive : Fate → Type 0
+IsAlive Made = Unit {0}
+IsAlive Readied = Unit {0}
+IsAlive Ended = Unit {0}
+IsAlive Left = Unit {0}
+IsAlive _ = ⊥
+
+-- a body starts only on what is alive
+abbrev pub IsOnLiving : Item → List Item → Type 0
+IsOnLiving (Wrote (entries.Run n place)) h = IsAlive (fate n h)
+IsOnLiving _ h = Unit {0}
+
 abbrev pub BodiesAreFarewells : Tables → Legal → Type 0
 BodiesAreFarewells tables legal =
     (s : State) (h : List Item) → Story tables legal s h
-    → Each (IsFarewell tables) h
+    → Each IsOnLiving h × Each (IsFarewell tables) h
 
 -- Also if memory runs out in one more command.
 abbrev pub BodiesAreFarewellsIfShort : Tables → Legal → Type 0
@@ -213,7 +240,7 @@ BodiesAreFarewellsIfShort tables legal =
     → Story tables legal s h
     → refusal tables s c ≡ None
     → (r : Runs tables legal (Unit {0}) (task c) (at_begin s.world) o v)
-    → Each (IsFarewell tables) (items_of h r)
+    → Each IsOnLiving (items_of h r) × Each (IsFarewell tables) (items_of h r)
 
 -- ---- nothing is left under way, and what is left after a shutdown
 
