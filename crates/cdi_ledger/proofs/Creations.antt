@@ -187,23 +187,23 @@ module _ (t : Tables) where
   anchored_below w g m a = g.below m a.0 a.1
 
   pub create_does : (b : ℕ) (owner : Owner) (w : World) (h : List Item) → Inv w → CanOwn w b owner → Does (create b owner) w h (Created owner w)
-  create_does b owner w h g can = by (t.bean b)
+  create_does b owner w h g can = by (t.bean b) refl
     where
-      with_bean : (x : Bean) (o : Owner) → CanOwn w b o → Does (handle (begin_creation x.place (components.Bean b) o (first_fields x.kind)) (λ n. create_by n (make n x x.kind)) throw) w h (Created o w)
-      with_bean x (owners.Context y) can =
+      with_bean : (x : Bean) → t.bean b ≡ Some x → (o : Owner) → CanOwn w b o → Does (handle (begin_creation x.place (components.Bean b) o (first_fields x.kind)) (λ n. create_by n (make n x x.kind)) throw) w h (Created o w)
+      with_bean x known (owners.Context y) can =
           let can0 : CanBegin (with_entry (entries.New w.next x.place) w) (components.Bean b) (owners.Context y) = (b, refl, can) in
           let bg = begins (with_entry (entries.New w.next x.place) w) (fine.inv_entry (entries.New w.next x.place) w g) (components.Bean b) (first_fields x.kind) (owners.Context y) can0 in
-          begins_with x.place b (first_fields x.kind) (λ n. make n x x.kind) (components.Bean b) (owners.Context y) w h g (λ w1 l a b. f_made t w1 w.next x x.kind l a b) can0 (λ v r. stands_with _ v (components.Bean b) (owners.Context y) bg.making (inr (y, refl)) r)
-      with_bean x (owners.Instance m) can =
+          begins_with x.place b (first_fields x.kind) (λ n. make n x x.kind) (components.Bean b) (owners.Context y) w h g (λ w1 l a z. f_made t w1 w.next b x x.kind known refl l a z) can0 (λ v r. stands_with _ v (components.Bean b) (owners.Context y) bg.making (inr (y, refl)) r)
+      with_bean x known (owners.Instance m) can =
           let can0 : CanBegin (with_entry (entries.New w.next x.place) w) (components.Bean b) (owners.Instance m) = anchored_below w g m can in
           let bg = begins (with_entry (entries.New w.next x.place) w) (fine.inv_entry (entries.New w.next x.place) w g) (components.Bean b) (first_fields x.kind) (owners.Instance m) can0 in
-          begins_with x.place b (first_fields x.kind) (λ n. make n x x.kind) (components.Bean b) (owners.Instance m) w h g (λ w1 l a b. f_made t w1 w.next x x.kind l a b) can0 (λ v r. stands_with _ v (components.Bean b) (owners.Instance m) tt (inl (anchored_begun x.place (components.Bean b) (owners.Instance m) (first_fields x.kind) w g m bg can)) r)
-      with_bean x owners.Borrower can =
-          begins_with x.place b (first_fields x.kind) (λ n. make n x x.kind) (components.Bean b) owners.Borrower w h g (λ w1 l a b. f_made t w1 w.next x x.kind l a b) tt (λ v r. stands_with _ v (components.Bean b) owners.Borrower tt (inl can) r)
+          begins_with x.place b (first_fields x.kind) (λ n. make n x x.kind) (components.Bean b) (owners.Instance m) w h g (λ w1 l a z. f_made t w1 w.next b x x.kind known refl l a z) can0 (λ v r. stands_with _ v (components.Bean b) (owners.Instance m) tt (inl (anchored_begun x.place (components.Bean b) (owners.Instance m) (first_fields x.kind) w g m bg can)) r)
+      with_bean x known owners.Borrower can =
+          begins_with x.place b (first_fields x.kind) (λ n. make n x x.kind) (components.Bean b) owners.Borrower w h g (λ w1 l a z. f_made t w1 w.next b x x.kind known refl l a z) tt (λ v r. stands_with _ v (components.Bean b) owners.Borrower tt (inl can) r)
 
-      by : (x : Option Bean) → Does (handle (require_present x) (λ x. handle (begin_creation x.place (components.Bean b) owner (first_fields x.kind)) (λ n. create_by n (make n x x.kind)) throw) throw) w h (Created owner w)
-      by None = (g, (rel_self w g, tt))
-      by (Some x) = with_bean x owner can
+      by : (x : Option Bean) → t.bean b ≡ x → Does (handle (require_present x) (λ x. handle (begin_creation x.place (components.Bean b) owner (first_fields x.kind)) (λ n. create_by n (make n x x.kind)) throw) throw) w h (Created owner w)
+      by None e = (g, (rel_self w g, tt))
+      by (Some x) e = with_bean x e owner can
 
   pub intercept_does : (i m : ℕ) (w : World) (h : List Item) → Inv w → Anchored w m → Does (intercept i m) w h (Created (owners.Instance m) w)
   intercept_does i m w h g can = by (t.interceptor i)
@@ -235,12 +235,12 @@ module _ (t : Tables) where
   task_does (Task.Obtain b) w h g q = numbered (obtain b) w h (Rattle.cdi_ledger.proofs.Standing.f_obtain t w b w h g (rel_self w g))
   task_does (Task.Create b owner) w h g q = fine.loosen t (create b owner) w h (Created owner w) (λ c v k. Rel w v × AreMadeFor owner c v) (create_does b owner w h g q.0) (λ c v k gv z. made_of owner w c v k z)
   task_does (Task.Intercept i n) w h g q = fine.loosen t (intercept i n) w h (Created (owners.Instance n) w) (λ c v k. Rel w v × Unit {0}) (intercept_does i n w h g q) (λ c v k gv z. (z.0, tt))
-  task_does (Task.Rest chain) w h g q = plain (run_rest chain) w h g (f_rest t w chain)
+  task_does (Task.Rest chain) w h g q = fine.loosen t (run_rest chain) w h (fine.Left w Any) (λ c v k. Rel w v × Unit {0}) (f_rest t chain w h g q) (λ c v k gv z. (z.0, tt))
   task_does (Task.Body r) w h g q = fine.loosen t (run_body r) w h (fine.Left w Any) (λ c v k. Rel w v × Unit {0}) (body_does t r w h g q) (λ c v k gv z. (z.0, tt))
   task_does (Task.Acts r) w h g q = plain (carry_on r) w h g (f_acts t w r q)
   task_does (Task.Destroy n) w h g q = destroy_does t n w h g q
   task_does (Task.Release n) w h g q = release_does t n w h g q
   task_does (Task.Fire class qualifiers v) w h g q = plain (fire class qualifiers v) w h g (f_fire t w class qualifiers v)
-  task_does (Task.Notify os v) w h g q = plain (notify os v) w h g (f_notify t w os v)
+  task_does (Task.Notify os v) w h g q = plain (notify os v) w h g (f_notify t w os v q)
   task_does Task.Dismiss w h g q = dismiss_does t w h g q
   task_does (Task.Clear x) w h g q = clear_does t x w h g q

@@ -1,5 +1,5 @@
 -- Each program keeps where all stand: brackets, bodies, destruction, creation and events.
-use Rattle.std.proofs.Common.{ℕ, ◌≡◌, ◌<◌, ◌≤◌, List, [], ◌∷◌, inl, inr, Option, Some, None, Bool, true, false, refl, sym, ap, ◌∙◌, subst, arith}
+use Rattle.std.proofs.Common.{ℕ, zero, suc, ◌≡◌, ◌<◌, ◌≤◌, List, [], ◌∷◌, inl, inr, Option, Some, None, Bool, true, false, refl, sym, ap, ◌∙◌, subst, arith}
 use Rattle.std.specs.Prelude.{nat_eq, length, ◌||◌, not, slice_get, remove, option_map}
 use Rattle.cdi_base.specs.declared.value.Value.{Value}
 use Rattle.cdi_base.specs.declared.value.Value.TheVariants as values
@@ -30,21 +30,25 @@ use Rattle.cdi_base.specs.declared.place.Place.{Place}
 use Rattle.std.specs.Prelude.{map}
 use Rattle.cdi_machine.specs.Tables.{Managed, Method}
 use Rattle.cdi_machine.specs.Words.{Name, Asked}
-use Rattle.cdi_machine.specs.Tables.{Tables, Code, Member, Lifecycle, Step, Source, Product, Kind, Bean, Observer}
+use Rattle.cdi_machine.specs.Tables.{Tables, Code, Member, Lifecycle, Step, Source, Product, Kind, Bean, Observer, Interceptor}
 use Rattle.cdi_machine.specs.World.{World, Change, Invocation, instance_at, after_change, with_entry, below}
 use Rattle.cdi_machine.specs.Programs.{ActiveContext, cut, miss, change, tick, mark, act, choose, nested, Task, Given, Completion, Running, Prog, ret, throw, see, handle, quietly, attempt, require_present, require, expect, text_of, call, complete, finish, raise, do_nothing, alter, note, each, top, pick, active_or_raise, active_in, context, require_one, resolve, rethrow, require_number, bean_at, interceptor_at, lookup_at, instance, invocation}
 use Rattle.cdi_machine.specs.Contexts.{is_normal, refer_to, resolve_point, resolve_points, reach_instance}
-use Rattle.cdi_machine.specs.Bodies.{invoke_by, provide, invoke, call_back, given_by, body_at_start, interceptor_of, run_rest, reference_at, find_reference, method_in, bean_of, method_of, invoke_method, fits, replace_parameters, repeats, proceed, carry_out, find, answer_of, with_answer, after_act, answer_find, perform, carry_on}
+use Rattle.cdi_machine.specs.Bodies.{is_of, first_of, invoke_by, provide, invoke, call_back, given_by, body_at_start, interceptor_of, run_rest, reference_at, find_reference, method_in, bean_of, method_of, invoke_method, fits, replace_parameters, repeats, proceed, carry_out, find, answer_of, with_answer, after_act, answer_find, perform, carry_on}
 use Rattle.cdi_machine.specs.Destruction.{give_back, borrow_for, obtain_receiver, dispose, clean_up_bean, clean_up}
 use Rattle.cdi_machine.specs.Creation.{construct, inject, take_step, call_producer, accept, produce, make}
 use Rattle.cdi_machine.specs.Events.{fire, observe, deliver, notify, is_skipped, fire_context_event, fire_container_event, qualifier}
-use Rattle.cdi_ledger.specs.Ledger.{Item, Wrote}
+use Rattle.cdi_ledger.specs.Ledger.{Item, Wrote, fate}
+use Rattle.cdi_ledger.proofs.Past.{Past}
+use Rattle.cdi_ledger.proofs.Stages.{eq_true}
+use Rattle.cdi_ledger.specs.Callbacks.{IsOrdinary, codes_in, IsMark}
+use Rattle.cdi_store.specs.Live.{Instances}
 use Rattle.cdi_ownership.specs.Whose.{IsIn}
-use Rattle.cdi_ownership.proofs.Lists.{HasTop, TopEmpty, among_below, below_among}
-use Rattle.cdi_ownership.proofs.Cores.{Core, core_of, core_at}
+use Rattle.cdi_ownership.proofs.Lists.{HasTop, TopEmpty, among_below, below_among, in_got}
+use Rattle.cdi_ownership.proofs.Cores.{Core, core_of, core_at, deps_at}
 use Rattle.cdi_ownership.proofs.Homes.{codes, Inv, Rel, Grown, Placed, HeldIn, OnStack, Busy, IsFixed, targets, rel_self, rel_then, was_busy}
 use Rattle.cdi_ownership.proofs.Spans.{Still, inv_still, rel_still}
-use Rattle.cdi_ledger.proofs.Owed.{Ok, IsUsable, IsNewAt, MayEnter, MayRun, IsMember, usable_enters, usable_runs, new_then, new_usable, RefersTo, Pre, Post, IsTop, IsGiven, Anchored, anchored_then}
+use Rattle.cdi_ledger.proofs.Owed.{IsSet, set_then, Within, within_none, within_first, CanStart, StartsSo, LeftSo, AtMember, IsMemberAt, none_start, in_farewell, farewell_map, farewell_then, usable_same, one_class, Ok, EntersSo, IsKnown, IsAttending, one_ordinary, IsUsable, IsNewAt, MayEnter, MayRun, IsMember, usable_enters, usable_runs, new_then, new_usable, RefersTo, Pre, Post, IsTop, IsGiven, Anchored, anchored_then}
 use Rattle.cdi_ledger.proofs.Judge.{bind}
 use Rattle.cdi_ledger.proofs.Fine as fine
 use Rattle.cdi_ledger.proofs.Standing.{f_interceptor_of, CanHave, have_then, top_then, own_of, below_then, live_below, inside_still, invocation_still, f_bean, f_interceptor, f_instance, f_resolved, f_picked, f_reference, f_injected, f_all_injected, f_use, f_destroy_by, f_provide}
@@ -60,6 +64,14 @@ top_kept v (u ∷ us) (x ∷ vs) e p q place h =
     let a : x.target ≡ u.target = cc in
     let b : x.members ≡ u.members = cc in
     (a ∙ ap (λ (z : Invocation). z.target) e, subst (λ z. IsIn place (map (λ m. m.place) z)) (sym (b ∙ ap (λ (z : Invocation). z.members) e)) h)
+
+kept_at : (t : Tables) (v : Invocation) (us vs : List Invocation) → IsTopOf v us → targets vs ≡ targets us → codes vs ≡ codes us → (place : Place) (w : World) (h : List Item) → AtMember t place v.members w h → IsMemberAt t v.target place w h vs
+kept_at t v [] vs e p q place w h i = absurd e
+kept_at t v (u ∷ us) [] e p q place w h i = absurd (cc)
+kept_at t v (u ∷ us) (x ∷ vs) e p q place w h i =
+    let a : x.target ≡ u.target = cc in
+    let b : x.members ≡ u.members = cc in
+    (a ∙ ap (λ (z : Invocation). z.target) e, subst (λ z. AtMember t place z w h) (sym (b ∙ ap (λ (z : Invocation). z.members) e)) i)
 
 in_places : (m : Code) (ms : List Code) → IsIn m ms → IsIn m.place (map (λ m. m.place) ms)
 in_places m [] h = h
@@ -82,6 +94,31 @@ have_up w u owners.Borrower i t f h = subst HasTop (sym t) h
 
 abbrev pub Any : {A : Type 0} → A → World → Type 0
 Any a w = Unit {0}
+
+listed_there : (m : ℕ) (live : Instances) (n : ℕ) → IsIn n (deps_at m live) → (c : Core) × (core_at m live ≡ Some c)
+listed_there m live n h = by (at live m) refl h
+  where
+    by : (o : Option Instance) → at live m ≡ o → IsIn n (Rattle.cdi_ownership.proofs.Cores.list_of o) → (c : Core) × (core_at m live ≡ Some c)
+    by None e h = absurd h
+    by (Some o) e h = (core_of o, ap (option_map core_of) e)
+
+in_removed : {X : Type 0} (x : X) (xs : List X) (i : ℕ) → IsIn x (remove xs i) → IsIn x xs
+in_removed x [] zero h = h
+in_removed x [] (suc i) h = h
+in_removed x (y ∷ ys) zero h = inr h
+in_removed x (y ∷ ys) (suc i) h = elim h [ inl e ↦ inl e | inr z ↦ inr (in_removed x ys i z) ]
+
+-- an instance of the interceptor
+of_interceptor : (i n : ℕ) (w : World) → is_of i (instance_at w n) ≡ true → (c : Core) × (core_at n w.instances ≡ Some c) × (c.component ≡ components.Interceptor i)
+of_interceptor i n w e = by (instance_at w n) refl e
+  where
+    over : (o : Instance) → instance_at w n ≡ Some o → (k : Component) → o.component ≡ k → elim k as (λ _. Bool) [ components.Bean b ↦ false | components.Interceptor j ↦ nat_eq i j ] ≡ true → (c : Core) × (core_at n w.instances ≡ Some c) × (c.component ≡ components.Interceptor i)
+    over o q (components.Bean b) s f = absurd (cc)
+    over o q (components.Interceptor j) s f = (core_of o, ap (option_map core_of) q, s ∙ ap components.Interceptor (sym (eq_true i j f)))
+
+    by : (o : Option Instance) → instance_at w n ≡ o → is_of i o ≡ true → (c : Core) × (core_at n w.instances ≡ Some c) × (c.component ≡ components.Interceptor i)
+    by None q f = absurd (cc)
+    by (Some o) q f = over o q o.component refl f
 
 abbrev pub IsBelow : ℕ → World → Type 0
 IsBelow n w = IsUsable n w
@@ -201,13 +238,18 @@ module _ (t : Tables) where
   -- ---- invocations
 
   module _ (w0 : World) where
-    pub f_invoke : (n : ℕ) (m : Member) (args : List Value) (owner : Owner) (h : List Item) → Inv w0 → IsUsable n w0 → CanHave w0 owner → fine.Doing t (invoke n m args owner) w0 h (fine.Left w0 Any)
-    f_invoke n m args owner h g l k =
-        fine.f_invoked t w0 n roles.AroundInvoke (m.code ∷ []) args (handle (provide m.points owner) (λ _. call (Task.Rest m.chain)) throw) w0 h g (rel_self w0 g) (usable_below n w0 g l) (usable_enters t n (m.code ∷ []) w0 l)
-        (λ u gu i tm c x f. then u (provide m.points owner) (λ _. call (Task.Rest m.chain)) (f_provide t u m.points owner (have_up w0 u owner i tm f k)) (λ _. calls u (Task.Rest m.chain) (λ w h. tt)))
+    -- the chain of an invocation whose target stays
+    f_ordinary : (n : ℕ) (ts chain : List ℕ) → targets w0.invocations ≡ n ∷ ts → IsUsable n w0 → Fine w0 (call (Task.Rest chain)) Any
+    f_ordinary n ts chain e l = fine.f_call t w0 (Task.Rest chain) (λ w h g r. none_start t chain w0 w h n ts r e l)
 
-    pub f_lifecycle : (n : ℕ) (role : InterceptorMethod) (callbacks : List Code) (chain : List ℕ) → n < w0.next → ((w : World) → Rel w0 w → MayEnter t n callbacks w) → Fine w0 (call_back n role callbacks chain) Any
-    f_lifecycle n role callbacks chain l ok w h g r = fine.f_invoked t w0 n role callbacks [] (call (Task.Rest chain)) w h g r (below_then w0 w n r l) (ok w r) (λ u gu i tm c x f. calls u (Task.Rest chain) (λ w h. tt))
+  module _ (w0 : World) where
+    pub f_invoke : (n : ℕ) (m : Member) (args : List Value) (owner : Owner) (h : List Item) → IsOrdinary t m.code.place → Inv w0 → IsUsable n w0 → CanHave w0 owner → fine.Doing t (invoke n m args owner) w0 h (fine.Left w0 Any)
+    f_invoke n m args owner h ord g l k =
+        fine.f_invoked t w0 n roles.AroundInvoke (m.code ∷ []) args (handle (provide m.points owner) (λ _. call (Task.Rest m.chain)) throw) w0 h g (rel_self w0 g) (usable_below n w0 g l) (usable_enters t n (m.code ∷ []) w0 l, inr (one_ordinary t roles.AroundInvoke m.code (λ e. cc) ord))
+        (λ u gu i tm c x f s. then u (provide m.points owner) (λ _. call (Task.Rest m.chain)) (f_provide t u m.points owner (have_up w0 u owner i tm f k)) (λ _. f_ordinary u n (targets w0.invocations) m.chain s (usable_same w0 u n i l)) u h gu (rel_self u gu))
+
+    pub f_lifecycle : (n : ℕ) (role : InterceptorMethod) (callbacks : List Code) (chain : List ℕ) → n < w0.next → ((w : World) → Rel w0 w → IsUsable n w) → ((w : World) (h : List Item) → Rel w0 w → MayEnter t n callbacks w × EntersSo t n role callbacks w h) → Fine w0 (call_back n role callbacks chain) Any
+    f_lifecycle n role callbacks chain l usable ok w h g r = fine.f_invoked t w0 n role callbacks [] (call (Task.Rest chain)) w h g r (below_then w0 w n r l) (ok w h r) (λ u gu i tm c x f s. f_ordinary u n (targets w.invocations) chain s (usable_same w u n i (usable w r)) u h gu (rel_self u gu))
 
     pub f_receiver : (b : ℕ) → HasTop w0.temporaries → Fine w0 (obtain_receiver b) IsBelow
     f_receiver b k = fine.then_with t w0 (refer_to b owners.Borrower) reach_instance Any IsBelow (f_reference t w0 b owners.Borrower k) (λ x w h g r v. f_use t w0 x w h g r)
@@ -224,36 +266,108 @@ module _ (t : Tables) where
         by [] e = (g, (r, tt))
         by (v ∷ vs) e = (g, (r, subst (IsTopOf v) (sym e) refl))
 
-    -- the bodies at a chain's end, one after the other
-    f_members : (v : Invocation) → IsTopOf v w0.invocations → (ms : List Code) → ((m : Code) → IsIn m ms → IsIn m.place (map (λ m. m.place) v.members)) → Fine w0 (each ms (λ m. call (Task.Body (body_at_start v.target m.place m.body v.parameters v.references [])))) Any
-    f_members v top [] f = λ w h g r. (g, (r, tt))
-    f_members v top (m ∷ []) f = fine.f_call t w0 (Task.Body (body_at_start v.target m.place m.body v.parameters v.references [])) (λ w h g r c e l. inl (top_kept v w0.invocations w.invocations top r.targets r.members m.place (f m (inl refl))))
-    f_members v top (m ∷ n ∷ ms) f = then w0 (call (Task.Body (body_at_start v.target m.place m.body v.parameters v.references []))) (λ _. each (n ∷ ms) (λ m. call (Task.Body (body_at_start v.target m.place m.body v.parameters v.references []))))
-        (fine.f_call t w0 (Task.Body (body_at_start v.target m.place m.body v.parameters v.references [])) (λ w h g r c e l. inl (top_kept v w0.invocations w.invocations top r.targets r.members m.place (f m (inl refl)))))
-        (λ _. f_members v top (n ∷ ms) (λ k z. f k (inr z)))
+    -- what is asked for one of them
+    further : (v : Invocation) → IsTopOf v w0.invocations → (first : Code) (more : List Code) → v.members ≡ first ∷ more → (m : Code) (w : World) (h : List Item) → Rel w0 w → IsIn m.place (map (λ m. m.place) more) → Pre t (Task.Body (body_at_start v.target m.place m.body v.parameters v.references [])) w h
+    further v top first more e m w h r i =
+        let k = top_kept v w0.invocations w.invocations top r.targets r.members m.place (subst (λ z. IsIn m.place (map (λ m. m.place) z)) (sym e) (inr i)) in
+        (((λ c e l. inl k), inr (inl (kept_at t v w0.invocations w.invocations top r.targets r.members m.place w h (subst (λ z. AtMember t m.place z w h) (sym e) (inr i))))), within_none t w)
+
+    -- the further bodies at a chain's end, one after the other
+    f_more : (v : Invocation) → IsTopOf v w0.invocations → (first : Code) (more : List Code) → v.members ≡ first ∷ more → (ms : List Code) → ((m : Code) → IsIn m ms → IsIn m.place (map (λ m. m.place) more)) → Fine w0 (each ms (λ m. call (Task.Body (body_at_start v.target m.place m.body v.parameters v.references [])))) Any
+    f_more v top first more e [] f = λ w h g r. (g, (r, tt))
+    f_more v top first more e (m ∷ []) f = fine.f_call t w0 (Task.Body (body_at_start v.target m.place m.body v.parameters v.references [])) (λ w h g r. further v top first more e m w h r (f m (inl refl)))
+    f_more v top first more e (m ∷ n ∷ ms) f = then w0 (call (Task.Body (body_at_start v.target m.place m.body v.parameters v.references []))) (λ _. each (n ∷ ms) (λ m. call (Task.Body (body_at_start v.target m.place m.body v.parameters v.references []))))
+        (fine.f_call t w0 (Task.Body (body_at_start v.target m.place m.body v.parameters v.references [])) (λ w h g r. further v top first more e m w h r (f m (inl refl))))
+        (λ _. f_more v top first more e (n ∷ ms) (λ k z. f k (inr z)))
 
   module _ (w0 : World) where
     -- a body on one whose destruction hasn't begun
-    body_on : (y : Running) (f : Given → Prog Given) → ((a : Given) → Fine w0 (f a) Any) → (w : World) (h : List Item) → Inv w → Rel w0 w → IsUsable y.instance w → fine.Doing t (handle (call (Task.Body y)) f throw) w h (fine.Left w0 Any)
-    body_on y f d w h g r l = (g, usable_runs t y.instance y.place w h l, after)
+    body_on : (y : Running) (f : Given → Prog Given) → ((a : Given) → Fine w0 (f a) Any) → (w : World) (h : List Item) → Inv w → Rel w0 w → IsUsable y.instance w → IsKnown t y.instance y.place w h → Within t y.rest w → fine.Doing t (handle (call (Task.Body y)) f throw) w h (fine.Left w0 Any)
+    body_on y f d w h g r l known left = (g, ((usable_runs t y.instance y.place w h l, known), left), after)
       where
         after : (c : Completion Given) (w1 : World) (h1 : List Item) → Inv w1 → Rel w w1 × Unit {0} → fine.Doing t (handle (complete c) f throw) w1 h1 (fine.Left w0 Any)
         after (Completion.Gave a) w1 h1 g1 p = d a w1 h1 g1 (rel_then w0 w w1 r p.0)
         after (Completion.Threw x) w1 h1 g1 p = (g1, (rel_then w0 w w1 r p.0, tt))
 
-    pub f_rest : (chain : List ℕ) → Fine w0 (run_rest chain) Any
-    f_rest [] = fine.then_with t w0 invocation (λ v. handle (each v.members (λ m. call (Task.Body (body_at_start v.target m.place m.body v.parameters v.references [])))) (λ x. handle (alter Change.Reach) (λ _. ret (given_by v.role x)) throw) throw) (λ v u. IsTopOf v u.invocations) Any (f_innermost w0)
-        (λ v w h g r top. fine.rebased t w0 w (handle (each v.members (λ m. call (Task.Body (body_at_start v.target m.place m.body v.parameters v.references [])))) (λ x. handle (alter Change.Reach) (λ _. ret (given_by v.role x)) throw) throw) h Any r
-        (then w (each v.members (λ m. call (Task.Body (body_at_start v.target m.place m.body v.parameters v.references [])))) (λ x. handle (alter Change.Reach) (λ _. ret (given_by v.role x)) throw) (f_members w v top v.members (λ m z. in_places m v.members z))
-        (λ x. then w (alter Change.Reach) (λ _. ret (given_by v.role x)) (fine.f_alter t w Change.Reach tt (λ w. invocation_still w (λ i. record i { completed = true }) (λ i. refl) (λ i. refl))) (λ _. (λ w h g q. (g, (q, tt)))))
-        w h g (rel_self w g)))
-    f_rest (i ∷ chain) =
-        then w0 invocation _ (f_invocation w0) λ v.
-        then w0 (interceptor_at i) _ (f_interceptor t w0 i) λ x.
-        then w0 (require_present (x.body v.role)) _ (fine.f_present t w0 (x.body v.role)) λ b.
-        fine.then_with t w0 (interceptor_of v.target i) _ (λ n u. IsUsable n u) Any (f_interceptor_of t w0 v.target i)
-        (λ n w h g r l. body_on (body_at_start n (places.Interceptor x.name v.role) b v.parameters [] chain) (λ a. ret (given_by v.role a)) (λ a w h g q. (g, (q, tt))) w h g r l)
+    f_reached : (v : Invocation) (x : Given) → Fine w0 (handle (alter Change.Reach) (λ _. ret (given_by v.role x)) throw) Any
+    f_reached v x = then w0 (alter Change.Reach) (λ _. ret (given_by v.role x)) (fine.f_alter t w0 Change.Reach tt (λ w. invocation_still w (λ i. record i { completed = true }) (λ i. refl) (λ i. refl))) (λ _. (λ w h g q. (g, (q, tt))))
 
+  -- the bodies at a chain's end
+  f_end : (v : Invocation) (w : World) (h : List Item) → Inv w → IsTopOf v w.invocations → CanStart t [] w h → (ms : List Code) → v.members ≡ ms
+      → fine.Doing t (handle (each ms (λ m. call (Task.Body (body_at_start v.target m.place m.body v.parameters v.references [])))) (λ x. handle (alter Change.Reach) (λ _. ret (given_by v.role x)) throw) throw) w h (fine.Left w Any)
+  f_end v w h g top start [] e = f_reached w v (Given.Result values.Null) w h g (rel_self w g)
+  f_end v w h g top start (m ∷ more) e = by more e
+    where
+      body : Code → Prog Given
+      body m = call (Task.Body (body_at_start v.target m.place m.body v.parameters v.references []))
+
+      reach : Given → Prog Given
+      reach x = handle (alter Change.Reach) (λ _. ret (given_by v.role x)) throw
+
+      asked : (more : List Code) → v.members ≡ m ∷ more → Pre t (Task.Body (body_at_start v.target m.place m.body v.parameters v.references [])) w h
+      asked more e =
+          let k = top_kept v w.invocations w.invocations top refl refl m.place (subst (λ z. IsIn m.place (map (λ m. m.place) z)) (sym e) (inl refl)) in
+          (((λ c e l. inl k), inr (inl (kept_at t v w.invocations w.invocations top refl refl m.place w h (subst (λ z. AtMember t m.place z w h) (sym e) (inl (refl, start)))))), within_none t w)
+
+      first : (more : List Code) → v.members ≡ m ∷ more → fine.Doing t (body m) w h (fine.Left w Any)
+      first more e = fine.calling t w (Task.Body (body_at_start v.target m.place m.body v.parameters v.references [])) w h g (rel_self w g) (asked more e)
+
+      reached : (p : Prog Given) → fine.Doing t p w h (fine.Left w Any) → fine.Doing t (handle p (λ x. handle (alter Change.Reach) (λ _. ret (given_by v.role x)) throw) throw) w h (fine.Left w Any)
+      reached p d = bind t (Ok t) fine.G (Pre t) Post p (λ x. handle (alter Change.Reach) (λ _. ret (given_by v.role x)) throw) throw w h (fine.Left w Any) (fine.Left w Any) d (λ a w1 h1 g1 q. f_reached w v a w1 h1 g1 q.0) (λ x w1 h1 g1 q. (g1, (q.0, tt)))
+
+      by : (more : List Code) → v.members ≡ m ∷ more
+          → fine.Doing t (handle (each (m ∷ more) (λ m. call (Task.Body (body_at_start v.target m.place m.body v.parameters v.references [])))) (λ x. handle (alter Change.Reach) (λ _. ret (given_by v.role x)) throw) throw) w h (fine.Left w Any)
+      by [] e = reached (body m) (first [] e)
+      by (n ∷ ms) e = reached (handle (body m) (λ _. each (n ∷ ms) (λ m. body m)) throw)
+          (bind t (Ok t) fine.G (Pre t) Post (body m) (λ _. each (n ∷ ms) (λ m. body m)) throw w h (fine.Left w Any) (fine.Left w Any) (first (n ∷ ms) e) (λ a w1 h1 g1 q. f_more w v top m (n ∷ ms) e (n ∷ ms) (λ k z. in_places k (n ∷ ms) z) w1 h1 g1 q.0) (λ x w1 h1 g1 q. (g1, (q.0, tt))))
+
+  pub f_rest : (chain : List ℕ) (w : World) (h : List Item) → Inv w → CanStart t chain w h → fine.Doing t (run_rest chain) w h (fine.Left w Any)
+  f_rest [] w h g start = by w.invocations refl
+    where
+      by : (vs : List Invocation) → w.invocations ≡ vs → fine.Doing t (handle (Rattle.cdi_machine.specs.Programs.top vs) (λ v. handle (each v.members (λ m. call (Task.Body (body_at_start v.target m.place m.body v.parameters v.references [])))) (λ x. handle (alter Change.Reach) (λ _. ret (given_by v.role x)) throw) throw) throw) w h (fine.Left w Any)
+      by [] e = (g, (rel_self w g, tt))
+      by (v ∷ vs) e = f_end v w h g (subst (IsTopOf v) (sym e) refl) start v.members refl
+  f_rest (i ∷ chain) w h g start = on_top w.invocations refl
+    where
+      behind : Invocation → Interceptor → ℕ → ℕ → Prog Given
+      behind v x b n = handle (call (Task.Body (body_at_start n (places.Interceptor x.name v.role) b v.parameters [] chain))) (λ a. ret (given_by v.role a)) throw
+
+      -- one of the target's dependents
+      runs : (v : Invocation) (vs : List Invocation) → w.invocations ≡ v ∷ vs → (x : Interceptor) → t.interceptor i ≡ Some x → (b n : ℕ) → IsIn n (deps_at v.target w.instances) → is_of i (instance_at w n) ≡ true → Goes w (behind v x b n) w h Any
+      runs v vs e x f b n z y =
+          let c = of_interceptor i n w y in
+          let q = g.depends v.target n z in
+          let a : Some (record { component = q.0; owner = owners.Instance v.target; phase = phases.Ready }) ≡ Some c.0 = sym q.1 ∙ c.1 in
+          let k : record { component = q.0; owner = owners.Instance v.target; phase = phases.Ready } ≡ c.0 = cc in
+          let o = listed_there v.target w.instances n z in
+          body_on w (body_at_start n (places.Interceptor x.name v.role) b v.parameters [] chain) (λ a. ret (given_by v.role a)) (λ a w h g q. (g, (q, tt))) w h g (rel_self w g) (_, q.1, tt)
+          (inr (inr (subst (IsAttending t n (places.Interceptor x.name v.role) w h) (sym e) (record { index = i; interceptor = x; known = f; rest = chain; starts = start; stands = refl; core = c.0; there = c.1; of = c.2; owner = ap (λ (z : Core). z.owner) (sym k); target = o.0; lives = o.1 })))) (within_first t i chain w h start)
+
+      among : (v : Invocation) (vs : List Invocation) → w.invocations ≡ v ∷ vs → (x : Interceptor) → t.interceptor i ≡ Some x → (b : ℕ) (ns : List ℕ) → ((k : ℕ) → IsIn k ns → IsIn k (deps_at v.target w.instances)) → Goes w (handle (first_of w i ns) (λ n. behind v x b n) throw) w h Any
+      among v vs e x f b [] z = (g, (rel_self w g, tt))
+      among v vs e x f b (n ∷ ns) z = by (is_of i (instance_at w n)) refl (λ y. runs v vs e x f b n (z n (inl refl)) y) (among v vs e x f b ns (λ k y. z k (inr y)))
+        where
+          by : (c : Bool) → is_of i (instance_at w n) ≡ c → (is_of i (instance_at w n) ≡ true → Goes w (behind v x b n) w h Any) → Goes w (handle (first_of w i ns) (λ n. behind v x b n) throw) w h Any → Goes w (handle (elim c as (λ _. Prog ℕ) [ true ↦ ret n | false ↦ first_of w i ns ]) (λ n. behind v x b n) throw) w h Any
+          by true q d k = d q
+          by false q d k = k
+
+      of_target : (v : Invocation) (vs : List Invocation) → w.invocations ≡ v ∷ vs → (x : Interceptor) → t.interceptor i ≡ Some x → (b : ℕ) (o : Option Instance) → instance_at w v.target ≡ o → Goes w (handle (handle (require_present o) (λ o. see (λ t w. first_of w i o.dependents)) throw) (λ n. behind v x b n) throw) w h Any
+      of_target v vs e x f b None y = (g, (rel_self w g, tt))
+      of_target v vs e x f b (Some o) y = among v vs e x f b o.dependents (λ k z. subst (IsIn k) (sym (ap Rattle.cdi_ownership.proofs.Cores.list_of y)) z)
+
+      coded : (v : Invocation) (vs : List Invocation) → w.invocations ≡ v ∷ vs → (x : Interceptor) → t.interceptor i ≡ Some x → (b : Option ℕ) → Goes w (handle (require_present b) (λ b. handle (interceptor_of v.target i) (λ n. behind v x b n) throw) throw) w h Any
+      coded v vs e x f None = (g, (rel_self w g, tt))
+      coded v vs e x f (Some b) = of_target v vs e x f b (instance_at w v.target) refl
+
+      known : (v : Invocation) (vs : List Invocation) → w.invocations ≡ v ∷ vs → (x : Option Interceptor) → t.interceptor i ≡ x → Goes w (handle (require_present x) (λ x. handle (require_present (x.body v.role)) (λ b. handle (interceptor_of v.target i) (λ n. behind v x b n) throw) throw) throw) w h Any
+      known v vs e None f = (g, (rel_self w g, tt))
+      known v vs e (Some x) f = coded v vs e x f (x.body v.role)
+
+      on_top : (vs : List Invocation) → w.invocations ≡ vs → Goes w (handle (Rattle.cdi_machine.specs.Programs.top vs) (λ v. handle (interceptor_at i) (λ x. handle (require_present (x.body v.role)) (λ b. handle (interceptor_of v.target i) (λ n. behind v x b n) throw) throw) throw) throw) w h Any
+      on_top [] e = (g, (rel_self w g, tt))
+      on_top (v ∷ vs) e = known v vs e (t.interceptor i) refl
+
+  module _ (w0 : World) where
     -- ---- acts
 
     f_referred : (r : Running) (via : Via) → Fine w0 (find_reference r via) Any
@@ -272,55 +386,88 @@ module _ (t : Tables) where
     f_method_of : (n : ℕ) (name : Name) → Fine w0 (method_of n name) Any
     f_method_of n name = then w0 (instance n) _ (f_instance t w0 n) λ o. then w0 (bean_of o.component) _ (f_bean_of o.component) λ bean. f_method_in bean.kind name
 
-    looks_method : (n : ℕ) (name : Name) → fine.Looks (method_of n name)
-    looks_method n name = fine.looks_handle (instance n) _ throw (λ t w. fine.looks_present (instance_at w n)) (λ o. fine.looks_handle (bean_of o.component) (λ bean. method_in bean.kind name) throw (of_component o.component) (λ b. in_kind b.kind) (λ x. tt)) (λ x. tt)
-      where
-        of_component : (c : Component) → fine.Looks (bean_of c)
-        of_component (components.Bean b) = λ t w. fine.looks_present (t.bean b)
-        of_component (components.Interceptor i) = tt
-
-        in_kind : (k : Kind) → fine.Looks (method_in k name)
-        in_kind (Kind.Class c) = fine.looks_present (at c.methods name)
-        in_kind (Kind.Producer p) = tt
-
     looks_expect : (b : Bool) → fine.Looks (expect b)
     looks_expect true = tt
     looks_expect false = tt
 
+    -- a method that is found is one of a bean
+    f_found_method : (n : ℕ) (name : Name) (h : List Item) → Inv w0 → IsUsable n w0 → fine.Doing t (method_of n name) w0 h (fine.Left w0 (λ m u. IsUsable n u × IsOrdinary t m.code.place))
+    f_found_method n name h g l = by (instance_at w0 n)
+      where
+        found : (b : ℕ) (x : Bean) (c : Managed) → t.bean b ≡ Some x → x.kind ≡ Kind.Class c → (m : Option Method) → at c.methods name ≡ m → fine.Doing t (require_present m) w0 h (fine.Left w0 (λ m u. IsUsable n u × IsOrdinary t m.code.place))
+        found b x c e k None z = (g, (rel_self w0 g, tt))
+        found b x c e k (Some m) z = (g, (rel_self w0 g, (l, IsOrdinary.method b x c name m e k z)))
+
+        of_kind : (b : ℕ) (x : Bean) → t.bean b ≡ Some x → (k : Kind) → x.kind ≡ k → fine.Doing t (method_in k name) w0 h (fine.Left w0 (λ m u. IsUsable n u × IsOrdinary t m.code.place))
+        of_kind b x e (Kind.Class c) k = found b x c e k (at c.methods name) refl
+        of_kind b x e (Kind.Producer p) k = (g, (rel_self w0 g, tt))
+
+        of_bean : (b : ℕ) (x : Option Bean) → t.bean b ≡ x → fine.Doing t (handle (require_present x) (λ bean. method_in bean.kind name) throw) w0 h (fine.Left w0 (λ m u. IsUsable n u × IsOrdinary t m.code.place))
+        of_bean b None e = (g, (rel_self w0 g, tt))
+        of_bean b (Some x) e = of_kind b x e x.kind refl
+
+        of_component : (c : Component) → fine.Doing t (handle (bean_of c) (λ bean. method_in bean.kind name) throw) w0 h (fine.Left w0 (λ m u. IsUsable n u × IsOrdinary t m.code.place))
+        of_component (components.Bean b) = of_bean b (t.bean b) refl
+        of_component (components.Interceptor i) = (g, (rel_self w0 g, tt))
+
+        by : (o : Option Instance) → fine.Doing t (handle (require_present o) (λ o. handle (bean_of o.component) (λ bean. method_in bean.kind name) throw) throw) w0 h (fine.Left w0 (λ m u. IsUsable n u × IsOrdinary t m.code.place))
+        by None = (g, (rel_self w0 g, tt))
+        by (Some o) = of_component o.component
+
     pub f_method : (n : ℕ) (name : Name) (args : List Value) (h : List Item) → Inv w0 → IsUsable n w0 → fine.Doing t (invoke_method n name args) w0 h (fine.Left w0 Any)
     f_method n name args h g l =
-        bind t (Ok t) fine.G (Pre t) Post (method_of n name) (λ m. handle (expect (nat_eq (length args) m.count)) (λ _. invoke_by n roles.AroundInvoke (m.code ∷ []) args (call (Task.Rest m.chain))) throw) throw w0 h (fine.Left w0 (λ m u. IsUsable n u)) (fine.Left w0 Any)
-        (fine.f_looks t w0 (method_of n name) (IsUsable n) w0 h (looks_method n name) g (rel_self w0 g) l)
+        bind t (Ok t) fine.G (Pre t) Post (method_of n name) (λ m. handle (expect (nat_eq (length args) m.count)) (λ _. invoke_by n roles.AroundInvoke (m.code ∷ []) args (call (Task.Rest m.chain))) throw) throw w0 h (fine.Left w0 (λ m u. IsUsable n u × IsOrdinary t m.code.place)) (fine.Left w0 Any)
+        (f_found_method n name h g l)
         (λ m w1 h1 g1 q. bind t (Ok t) fine.G (Pre t) Post (expect (nat_eq (length args) m.count)) (λ _. invoke_by n roles.AroundInvoke (m.code ∷ []) args (call (Task.Rest m.chain))) throw w1 h1 (fine.Left w0 (λ m u. IsUsable n u)) (fine.Left w0 Any)
-        (fine.f_looks t w0 (expect (nat_eq (length args) m.count)) (IsUsable n) w1 h1 (looks_expect (nat_eq (length args) m.count)) g1 q.0 q.1)
-        (λ a w2 h2 g2 p. fine.f_invoked t w0 n roles.AroundInvoke (m.code ∷ []) args (call (Task.Rest m.chain)) w2 h2 g2 p.0 (usable_below n w2 g2 p.1) (usable_enters t n (m.code ∷ []) w2 p.1) (λ u gu i tm c x f. calls u (Task.Rest m.chain) (λ w h. tt)))
+        (fine.f_looks t w0 (expect (nat_eq (length args) m.count)) (IsUsable n) w1 h1 (looks_expect (nat_eq (length args) m.count)) g1 q.0 q.1.0)
+        (λ a w2 h2 g2 p. fine.f_invoked t w0 n roles.AroundInvoke (m.code ∷ []) args (call (Task.Rest m.chain)) w2 h2 g2 p.0 (usable_below n w2 g2 p.1) (usable_enters t n (m.code ∷ []) w2 p.1, inr (one_ordinary t roles.AroundInvoke m.code (λ e. cc) q.1.1)) (λ u gu i tm c x f s. f_ordinary u n (targets w2.invocations) m.chain s (usable_same w2 u n i p.1) u h2 gu (rel_self u gu)))
         (λ x w2 h2 g2 p. (g2, (p.0, tt))))
         (λ x w1 h1 g1 q. (g1, (q.0, tt)))
 
-    f_replace : (args : Option (List Value)) → Fine w0 (replace_parameters args) Any
-    f_replace None = (λ w h g q. (g, (q, tt)))
-    f_replace (Some args) = fine.f_alter t w0 (Change.Replace args) tt (λ w. invocation_still w (λ i. record i { parameters = args }) (λ i. refl) (λ i. refl))
+    -- it goes on with what is left of the chain
+    proceed_does : (r : Running) (args : Option (List Value)) → IsSet t r w0 → (w : World) (h : List Item) → Inv w → Rel w0 w → Goes w0 (proceed r args) w (Wrote (entries.Did (acts.Proceed args)) ∷ h) Any
+    proceed_does r args k w h g q = by w.invocations
+      where
+        start : (w : World) → Rel w0 w → CanStart t r.rest w (Wrote (entries.Did (acts.Proceed args)) ∷ h)
+        start w q = farewell_map t (LeftSo r.rest) (StartsSo r.rest (Wrote (entries.Did (acts.Proceed args)) ∷ h)) w.invocations w (λ n c e. inr (e, tt)) (farewell_then t (LeftSo r.rest) w0 w q k.1)
 
-    f_proceed : (r : Running) (args : Option (List Value)) → Fine w0 (proceed r args) Any
-    f_proceed r args =
-        then w0 invocation _ (f_invocation w0) λ v.
-        then w0 (require (fits v.parameters args) built_in.IllegalArgumentException) _ (fine.f_require t w0 _ _) λ _.
-        then w0 (require (repeats v.role || not r.proceeded) built_in.IllegalStateException) _ (fine.f_require t w0 _ _) λ _.
-        then w0 (replace_parameters args) (λ _. call (Task.Rest r.rest)) (f_replace args) (λ _. calls w0 (Task.Rest r.rest) (λ w h. tt))
+        still : (xs : List Value) → Still w (after_change (Change.Replace xs) w)
+        still xs = invocation_still w (λ i. record i { parameters = xs }) (λ i. refl) (λ i. refl)
 
-  abbrev IsNotOwn : Act → Type 0
-  IsNotOwn (acts.Own name args) = ⊥
-  IsNotOwn _ = Unit {0}
+        replaced : (x : Option (List Value)) → Goes w0 (handle (replace_parameters x) (λ _. call (Task.Rest r.rest)) throw) w (Wrote (entries.Did (acts.Proceed args)) ∷ h) Any
+        replaced None = fine.calling t w0 (Task.Rest r.rest) w (Wrote (entries.Did (acts.Proceed args)) ∷ h) g q (start w q)
+        replaced (Some xs) =
+            let u : World = after_change (Change.Replace xs) w in
+            let ru : Rel w0 u = rel_then w0 w u q (rel_still w u (still xs) g) in
+            fine.calling t w0 (Task.Rest r.rest) u (Wrote (entries.Did (acts.Proceed args)) ∷ h) (inv_still w u (still xs) g) ru (start u ru)
+
+        once : (b : Bool) → Goes w0 (handle (require b built_in.IllegalStateException) (λ _. handle (replace_parameters args) (λ _. call (Task.Rest r.rest)) throw) throw) w (Wrote (entries.Did (acts.Proceed args)) ∷ h) Any
+        once true = replaced args
+        once false = (g, (q, tt))
+
+        fitting : (v : Invocation) (b : Bool) → Goes w0 (handle (require b built_in.IllegalArgumentException) (λ _. handle (require (repeats v.role || not r.proceeded) built_in.IllegalStateException) (λ _. handle (replace_parameters args) (λ _. call (Task.Rest r.rest)) throw) throw) throw) w (Wrote (entries.Did (acts.Proceed args)) ∷ h) Any
+        fitting v true = once (repeats v.role || not r.proceeded)
+        fitting v false = (g, (q, tt))
+
+        by : (vs : List Invocation) → Goes w0 (handle (Rattle.cdi_machine.specs.Programs.top vs) (λ v. handle (require (fits v.parameters args) built_in.IllegalArgumentException) (λ _. handle (require (repeats v.role || not r.proceeded) built_in.IllegalStateException) (λ _. handle (replace_parameters args) (λ _. call (Task.Rest r.rest)) throw) throw) throw) throw) w (Wrote (entries.Did (acts.Proceed args)) ∷ h) Any
+        by [] = (g, (q, tt))
+        by (v ∷ vs) = fitting v (fits v.parameters args)
+
+  -- neither a call of its own method nor a proceed
+  abbrev IsOther : Act → Type 0
+  IsOther (acts.Own name args) = ⊥
+  IsOther (acts.Proceed args) = ⊥
+  IsOther _ = Unit {0}
 
   module _ (w0 : World) where
-    pub f_does : (r : Running) (a : Act) → IsNotOwn a → Fine w0 (carry_out r a) Any
+    pub f_does : (r : Running) (a : Act) → IsOther a → Fine w0 (carry_out r a) Any
     f_does r (acts.Set field v) nq = then w0 (instance r.instance) _ (f_instance t w0 r.instance) λ o. then w0 (require_present (at o.fields field)) _ (fine.f_present t w0 (at o.fields field)) (λ _. then w0 (alter (Change.Assign r.instance field v)) (λ _. finish) (fine.f_alter t w0 (Change.Assign r.instance field v) tt (λ w. inside_still w r.instance _ (λ o. refl) (λ o. refl))) (λ _. (λ w h g q. (g, (q, tt)))))
     f_does r (acts.Call via name args) nq = then w0 (find_reference r via) _ (f_referred w0 r via) λ x. then_at w0 (reach_instance x) (λ n. invoke_method n name args) IsBelow (f_use t w0 x) (λ n w h g q l. f_method w n name args h g l)
     f_does r (acts.Own name args) nq = absurd nq
     f_does r (acts.Read via) nq = then w0 (find_reference r via) _ (f_referred w0 r via) λ x. then_at w0 (reach_instance x) (λ n. handle (instance n) (λ o. ret (Given.Result o.value)) throw) IsBelow (f_use t w0 x) (λ n w h g q l. then w (instance n) _ (f_instance t w n) (λ _. (λ w h g q. (g, (q, tt)))) w h g (rel_self w g))
     f_does r (acts.Write via v) nq = then w0 (find_reference r via) _ (f_referred w0 r via) λ x. then_at w0 (reach_instance x) (λ n. handle (alter (Change.Hold n v)) (λ _. finish) throw) IsBelow (f_use t w0 x) (λ n w h g q l. then w (alter (Change.Hold n v)) (λ _. finish) (fine.f_alter t w (Change.Hold n v) tt (λ w. inside_still w n _ (λ o. refl) (λ o. refl))) (λ _. (λ w h g q. (g, (q, tt)))) w h g (rel_self w g))
     f_does r (acts.Fire class qualifiers v) nq = calls w0 (Task.Fire class qualifiers v) (λ w h. tt)
-    f_does r (acts.Proceed args) nq = f_proceed w0 r args
+    f_does r (acts.Proceed args) nq = absurd nq
     f_does r (acts.Find k) nq = λ w h g q. (g, (q, tt))
     f_does r (acts.Keep key v) nq = then w0 (alter (Change.Keep key v)) (λ _. finish) (fine.f_alter t w0 (Change.Keep key v) tt (λ w. invocation_still w _ (λ i. refl) (λ i. refl))) (λ _. (λ w h g q. (g, (q, tt))))
     f_does r (acts.Peek key) nq = then w0 invocation _ (f_invocation w0) (λ _. (λ w h g q. (g, (q, tt))))
@@ -337,30 +484,30 @@ module _ (t : Tables) where
     f_answer (Completion.Gave Given.Empty) = (λ w h g q. (g, (q, tt)))
     f_answer (Completion.Threw x) = then w0 (text_of x) _ (λ w h g q. fine.f_present t w0 (t.text x) w h g q) (λ _. (λ w h g q. (g, (q, tt))))
 
-    f_again : (r : Running) → Anchored w0 r.instance → Fine w0 (call (Task.Acts r)) Any
-    f_again r a = fine.f_call t w0 (Task.Acts r) (λ w h g q. anchored_then w0 w r.instance q a)
+    f_again : (r : Running) → IsSet t r w0 → Fine w0 (call (Task.Acts r)) Any
+    f_again r a = fine.f_call t w0 (Task.Acts r) (λ w h g q. set_then t r w0 w q a)
 
-    f_found : (r : Running) (k : ℕ) (c : Completion Reference) → Anchored w0 r.instance → Fine w0 (answer_find r k c) Any
+    f_found : (r : Running) (k : ℕ) (c : Completion Reference) → IsSet t r w0 → Fine w0 (answer_find r k c) Any
     f_found r k (Completion.Gave x) a = f_again (with_answer (record r { locals = Rattle.cdi_base.specs.Maps.put k x r.locals }) (answers.Found k)) a
     f_found r k (Completion.Threw x) a = then w0 (answer_of (Completion.Threw x)) (λ answer. call (Task.Acts (with_answer r answer))) (f_answer (Completion.Threw x)) (λ answer. f_again (with_answer r answer) a)
 
-    same_instance : (r : Running) (a : Act) → (after_act r a).instance ≡ r.instance
-    same_instance r (acts.Proceed args) = refl
-    same_instance r (acts.Set field v) = refl
-    same_instance r (acts.Call via name args) = refl
-    same_instance r (acts.Own name args) = refl
-    same_instance r (acts.Read via) = refl
-    same_instance r (acts.Write via v) = refl
-    same_instance r (acts.Fire class qualifiers v) = refl
-    same_instance r (acts.Find k) = refl
-    same_instance r (acts.Keep key v) = refl
-    same_instance r (acts.Peek key) = refl
-    same_instance r (acts.Destroy k) = refl
-    same_instance r (acts.Give v) = refl
-    same_instance r (acts.Throw x) = refl
+    set_after : (r : Running) (a : Act) → IsSet t r w0 → IsSet t (after_act r a) w0
+    set_after r (acts.Proceed args) s = s
+    set_after r (acts.Set field v) s = s
+    set_after r (acts.Call via name args) s = s
+    set_after r (acts.Own name args) s = s
+    set_after r (acts.Read via) s = s
+    set_after r (acts.Write via v) s = s
+    set_after r (acts.Fire class qualifiers v) s = s
+    set_after r (acts.Find k) s = s
+    set_after r (acts.Keep key v) s = s
+    set_after r (acts.Peek key) s = s
+    set_after r (acts.Destroy k) s = s
+    set_after r (acts.Give v) s = s
+    set_after r (acts.Throw x) s = s
 
-    f_told : (r : Running) (a : Act) → IsNotOwn a → Anchored w0 r.instance → Fine w0 (handle (attempt (carry_out r a)) (λ c. handle (answer_of c) (λ answer. call (Task.Acts (with_answer (after_act r a) answer))) throw) throw) Any
-    f_told r a nq k = then w0 (attempt (carry_out r a)) _ (fine.caught t w0 (carry_out r a) _ _ Any Any (f_does r a nq) (λ _. (λ w h g q. (g, (q, tt)))) (λ _. (λ w h g q. (g, (q, tt))))) λ c. then w0 (answer_of c) (λ answer. call (Task.Acts (with_answer (after_act r a) answer))) (f_answer c) (λ answer. f_again (with_answer (after_act r a) answer) (subst (Anchored w0) (sym (same_instance r a)) k))
+    f_told : (r : Running) (a : Act) → IsOther a → IsSet t r w0 → Fine w0 (handle (attempt (carry_out r a)) (λ c. handle (answer_of c) (λ answer. call (Task.Acts (with_answer (after_act r a) answer))) throw) throw) Any
+    f_told r a nq k = then w0 (attempt (carry_out r a)) _ (fine.caught t w0 (carry_out r a) _ _ Any Any (f_does r a nq) (λ _. (λ w h g q. (g, (q, tt)))) (λ _. (λ w h g q. (g, (q, tt))))) λ c. then w0 (answer_of c) (λ answer. call (Task.Acts (with_answer (after_act r a) answer))) (f_answer c) (λ answer. f_again (with_answer (after_act r a) answer) (set_after r a k))
 
     -- a call of its own method: its `did` stands right before
     own_does : (r : Running) (name : Name) (args : List Value) (w : World) (h : List Item) → Inv w → Rel w0 w → Goes w0 (carry_out r (acts.Own name args)) w (Wrote (entries.Did (acts.Own name args)) ∷ h) Any
@@ -369,8 +516,8 @@ module _ (t : Tables) where
         k : List Item
         k = Wrote (entries.Did (acts.Own name args)) ∷ h
 
-        called : (m : Method) → MayRun t r.instance m.code.place w (Wrote (entries.Did (acts.Own name args)) ∷ h) → (b : Bool) → Goes w0 (handle (expect b) (λ _. call (Task.Body (body_at_start r.instance m.code.place m.code.body args [] []))) throw) w (Wrote (entries.Did (acts.Own name args)) ∷ h) Any
-        called m ok true = fine.calling t w0 (Task.Body (body_at_start r.instance m.code.place m.code.body args [] [])) w (Wrote (entries.Did (acts.Own name args)) ∷ h) g q ok
+        called : (m : Method) → MayRun t r.instance m.code.place w (Wrote (entries.Did (acts.Own name args)) ∷ h) × IsKnown t r.instance m.code.place w (Wrote (entries.Did (acts.Own name args)) ∷ h) → (b : Bool) → Goes w0 (handle (expect b) (λ _. call (Task.Body (body_at_start r.instance m.code.place m.code.body args [] []))) throw) w (Wrote (entries.Did (acts.Own name args)) ∷ h) Any
+        called m ok true = fine.calling t w0 (Task.Body (body_at_start r.instance m.code.place m.code.body args [] [])) w (Wrote (entries.Did (acts.Own name args)) ∷ h) g q (ok, within_none t w)
         called m ok false = (g, (q, tt))
 
         then_call : Method → Prog Given
@@ -379,15 +526,18 @@ module _ (t : Tables) where
         found : (o : Instance) (b : ℕ) (x : Bean) (c : Managed) → instance_at w r.instance ≡ Some o → o.component ≡ components.Bean b → t.bean b ≡ Some x → x.kind ≡ Kind.Class c → (m : Option Method) → at c.methods name ≡ m
             → Goes w0 (handle (require_present m) (λ m. handle (expect (nat_eq (length args) m.count)) (λ _. call (Task.Body (body_at_start r.instance m.code.place m.code.body args [] []))) throw) throw) w (Wrote (entries.Did (acts.Own name args)) ∷ h) Any
         found o b x c e i f y None z = (g, (q, tt))
-        found o b x c e i f y (Some m) z = called m (λ d u l. inr (record {
-          index = b;
-          is = (let v : Some (core_of o) ≡ Some d = sym (ap (option_map core_of) e) ∙ u in let s : core_of o ≡ d = cc in ap (λ (z : Core). z.component) (sym s) ∙ i);
-          bean = x;
-          known = f;
-          class = c;
-          kind = y;
-          own = (m, z, refl);
-        })) (nat_eq (length args) m.count)
+        found o b x c e i f y (Some m) z = called m (
+          (λ d u l. inr (record {
+            index = b;
+            is = (let v : Some (core_of o) ≡ Some d = sym (ap (option_map core_of) e) ∙ u in let s : core_of o ≡ d = cc in ap (λ (z : Core). z.component) (sym s) ∙ i);
+            bean = x;
+            known = f;
+            class = c;
+            kind = y;
+            own = (m, z, refl);
+          })),
+          inl (IsOrdinary.method b x c name m f y z),
+        ) (nat_eq (length args) m.count)
 
         of_kind : (o : Instance) (b : ℕ) (x : Bean) → instance_at w r.instance ≡ Some o → o.component ≡ components.Bean b → t.bean b ≡ Some x → (kind : Kind) → x.kind ≡ kind
             → Goes w0 (handle (method_in kind name) (λ m. handle (expect (nat_eq (length args) m.count)) (λ _. call (Task.Body (body_at_start r.instance m.code.place m.code.body args [] []))) throw) throw) w (Wrote (entries.Did (acts.Own name args)) ∷ h) Any
@@ -409,58 +559,66 @@ module _ (t : Tables) where
         by None e = (g, (q, tt))
         by (Some o) e = of_component o e o.component refl
 
-    own_told : (r : Running) (name : Name) (args : List Value) → Anchored w0 r.instance → (w : World) (h : List Item) → Inv w → Rel w0 w
-        → Goes w0 (handle (attempt (carry_out r (acts.Own name args))) (λ c. handle (answer_of c) (λ answer. call (Task.Acts (with_answer (after_act r (acts.Own name args)) answer))) throw) throw) w (Wrote (entries.Did (acts.Own name args)) ∷ h) Any
-    own_told r name args k w h g q =
-        bind t (Ok t) fine.G (Pre t) Post (attempt (carry_out r (acts.Own name args))) (λ c. handle (answer_of c) (λ answer. call (Task.Acts (with_answer (after_act r (acts.Own name args)) answer))) throw) throw w (Wrote (entries.Did (acts.Own name args)) ∷ h) (fine.Left w0 Any) (fine.Left w0 Any)
-        (bind t (Ok t) fine.G (Pre t) Post (carry_out r (acts.Own name args)) (λ a. ret (Completion.Gave a)) (λ x. ret (Completion.Threw x)) w (Wrote (entries.Did (acts.Own name args)) ∷ h) (fine.Left w0 Any) (fine.Left w0 Any) (own_does r name args w h g q) (λ a w1 h1 g1 p. (g1, (p.0, tt))) (λ x w1 h1 g1 p. (g1, (p.0, tt))))
-        (λ c w1 h1 g1 p. then w0 (answer_of c) (λ answer. call (Task.Acts (with_answer (after_act r (acts.Own name args)) answer))) (f_answer c) (λ answer. f_again (with_answer (after_act r (acts.Own name args)) answer) k) w1 h1 g1 p.0)
+    told_at : (r : Running) (a : Act) → IsSet t r w0 → (w : World) (h : List Item) → Goes w0 (carry_out r a) w h Any
+        → Goes w0 (handle (attempt (carry_out r a)) (λ c. handle (answer_of c) (λ answer. call (Task.Acts (with_answer (after_act r a) answer))) throw) throw) w h Any
+    told_at r a k w h d =
+        bind t (Ok t) fine.G (Pre t) Post (attempt (carry_out r a)) (λ c. handle (answer_of c) (λ answer. call (Task.Acts (with_answer (after_act r a) answer))) throw) throw w h (fine.Left w0 Any) (fine.Left w0 Any)
+        (bind t (Ok t) fine.G (Pre t) Post (carry_out r a) (λ a. ret (Completion.Gave a)) (λ x. ret (Completion.Threw x)) w h (fine.Left w0 Any) (fine.Left w0 Any) d (λ a w1 h1 g1 p. (g1, (p.0, tt))) (λ x w1 h1 g1 p. (g1, (p.0, tt))))
+        (λ c w1 h1 g1 p. then w0 (answer_of c) (λ answer. call (Task.Acts (with_answer (after_act r a) answer))) (f_answer c) (λ answer. f_again (with_answer (after_act r a) answer) (set_after r a k)) w1 h1 g1 p.0)
         (λ x w1 h1 g1 p. (g1, (p.0, tt)))
 
-    f_perform : (r : Running) (a : Act) → Anchored w0 r.instance → (w : World) (h : List Item) → Inv w → Rel w0 w → Goes w0 (perform r a) w (Wrote (entries.Did a) ∷ h) Any
+    f_perform : (r : Running) (a : Act) → IsSet t r w0 → (w : World) (h : List Item) → Inv w → Rel w0 w → Goes w0 (perform r a) w (Wrote (entries.Did a) ∷ h) Any
     f_perform r (acts.Give v) k w h g q = (g, (q, tt))
     f_perform r (acts.Throw x) k w h g q = (g, (q, tt))
-    f_perform r (acts.Find i) k w h g q = then w0 (attempt (find r i)) _ (fine.caught t w0 (find r i) _ _ Any Any (f_find r i k) (λ _. (λ w h g q. (g, (q, tt)))) (λ _. (λ w h g q. (g, (q, tt))))) (λ c. f_found r i c k) w (Wrote (entries.Did (acts.Find i)) ∷ h) g q
+    f_perform r (acts.Find i) k w h g q = then w0 (attempt (find r i)) _ (fine.caught t w0 (find r i) _ _ Any Any (f_find r i k.0) (λ _. (λ w h g q. (g, (q, tt)))) (λ _. (λ w h g q. (g, (q, tt))))) (λ c. f_found r i c k) w (Wrote (entries.Did (acts.Find i)) ∷ h) g q
     f_perform r (acts.Set field v) k w h g q = f_told r (acts.Set field v) tt k w (Wrote (entries.Did (acts.Set field v)) ∷ h) g q
     f_perform r (acts.Call via name args) k w h g q = f_told r (acts.Call via name args) tt k w (Wrote (entries.Did (acts.Call via name args)) ∷ h) g q
-    f_perform r (acts.Own name args) k w h g q = own_told r name args k w h g q
+    f_perform r (acts.Own name args) k w h g q = told_at r (acts.Own name args) k w (Wrote (entries.Did (acts.Own name args)) ∷ h) (own_does r name args w h g q)
     f_perform r (acts.Read via) k w h g q = f_told r (acts.Read via) tt k w (Wrote (entries.Did (acts.Read via)) ∷ h) g q
     f_perform r (acts.Write via v) k w h g q = f_told r (acts.Write via v) tt k w (Wrote (entries.Did (acts.Write via v)) ∷ h) g q
     f_perform r (acts.Fire class qualifiers v) k w h g q = f_told r (acts.Fire class qualifiers v) tt k w (Wrote (entries.Did (acts.Fire class qualifiers v)) ∷ h) g q
-    f_perform r (acts.Proceed args) k w h g q = f_told r (acts.Proceed args) tt k w (Wrote (entries.Did (acts.Proceed args)) ∷ h) g q
+    f_perform r (acts.Proceed args) k w h g q = told_at r (acts.Proceed args) k w (Wrote (entries.Did (acts.Proceed args)) ∷ h) (proceed_does w0 r args k w h g q)
     f_perform r (acts.Keep key v) k w h g q = f_told r (acts.Keep key v) tt k w (Wrote (entries.Did (acts.Keep key v)) ∷ h) g q
     f_perform r (acts.Peek key) k w h g q = f_told r (acts.Peek key) tt k w (Wrote (entries.Did (acts.Peek key)) ∷ h) g q
     f_perform r (acts.Destroy i) k w h g q = f_told r (acts.Destroy i) tt k w (Wrote (entries.Did (acts.Destroy i)) ∷ h) g q
 
-    pub f_acts : (r : Running) → Anchored w0 r.instance → Fine w0 (carry_on r) Any
+    pub f_acts : (r : Running) → IsSet t r w0 → Fine w0 (carry_on r) Any
     f_acts r k = then w0 (instance r.instance) _ (f_instance t w0 r.instance) (λ o w h g q. (g, λ a. f_perform r a k (with_entry (entries.Did a) w) h (fine.inv_entry (entries.Did a) w g) (fine.rel_entry (entries.Did a) w0 w g q)))
 
   -- ---- destruction
 
   module _ (w0 : World) where
-    served : (b : ℕ) (m : Member) (args : List Value) → Fine w0 (borrow_for (handle (obtain_receiver b) (λ n. invoke n m args owners.Borrower) throw)) Any
-    served b m args = f_borrowing w0 (handle (obtain_receiver b) (λ n. invoke n m args owners.Borrower) throw)
+    served : (b : ℕ) (m : Member) (args : List Value) → IsOrdinary t m.code.place → Fine w0 (borrow_for (handle (obtain_receiver b) (λ n. invoke n m args owners.Borrower) throw)) Any
+    served b m args ord = f_borrowing w0 (handle (obtain_receiver b) (λ n. invoke n m args owners.Borrower) throw)
         (λ w g r. then_at (after_change Change.Borrow w) (obtain_receiver b) (λ n. invoke n m args owners.Borrower) IsBelow (f_receiver (after_change Change.Borrow w) b tt)
-        (λ n v h g1 r1 l. f_invoke v n m args owners.Borrower h g1 l (have_then (after_change Change.Borrow w) v owners.Borrower r1 tt)))
+        (λ n v h g1 r1 l. f_invoke v n m args owners.Borrower h ord g1 l (have_then (after_change Change.Borrow w) v owners.Borrower r1 tt)))
 
-    pub f_farewell : (n : ℕ) (v : Value) (component : Component) (d : Core) → n < w0.next → core_at n w0.instances ≡ Some d → d.phase ≡ phases.Leaving → d.component ≡ component → Fine w0 (clean_up n v component) Any
-    f_farewell n v (components.Interceptor i) d l e p q = (λ w h g q. (g, (q, tt)))
-    f_farewell n v (components.Bean b) d l e p q = fine.then_with t w0 (bean_at b) (λ bean. clean_up_bean n v bean.kind) (λ x u. t.bean b ≡ Some x) Any (Rattle.cdi_ledger.proofs.Standing.f_known t w0 b) (λ bean w h g r f. by bean f bean.kind refl w h g r)
+    pub f_farewell : (n : ℕ) (v : Value) (component : Component) (d : Core) (h : List Item) → Inv w0 → n < w0.next → core_at n w0.instances ≡ Some d → d.phase ≡ phases.Leaving → d.component ≡ component → Past (fate n h) → IsMark n h → fine.Doing t (clean_up n v component) w0 h (fine.Left w0 Any)
+    f_farewell n v (components.Interceptor i) d h g l e p q z begun = (g, (rel_self w0 g, tt))
+    f_farewell n v (components.Bean b) d h g l e p q z begun = of_bean (t.bean b) refl
       where
-        by : (bean : Bean) → t.bean b ≡ Some bean → (k : Kind) → bean.kind ≡ k → Fine w0 (clean_up_bean n v k) Any
-        by bean f (Kind.Class c) y = f_lifecycle w0 n roles.PreDestroy c.pre_destroy.callbacks c.pre_destroy.chain l
-            (λ w r x u m. record { index = b; is = (let z : Some d ≡ Some x = sym (r.stay n d e (inr (inl p))) ∙ u in let s : d ≡ x = cc in ap (λ (z : Core). z.component) (sym s) ∙ q); bean = bean; known = f; class = c; kind = y; all = λ place i. i })
-        by bean f (Kind.Producer p) y = fine.f_each t w0 p.disposers (dispose p v) (λ d. served p.declaring d (v ∷ []))
+        by : (bean : Bean) → t.bean b ≡ Some bean → (k : Kind) → bean.kind ≡ k → fine.Doing t (clean_up_bean n v k) w0 h (fine.Left w0 Any)
+        by bean f (Kind.Class c) y = fine.f_invoked t w0 n roles.PreDestroy c.pre_destroy.callbacks [] (call (Task.Rest c.pre_destroy.chain)) w0 h g (rel_self w0 g) l
+            ((λ x u m. record { index = b; is = (let z : Some d ≡ Some x = sym e ∙ u in let s : d ≡ x = cc in ap (λ (z : Core). z.component) (sym s) ∙ q); bean = bean; known = f; class = c; kind = y; same = refl; all = λ place i. i }), inl ((d, e, p), z))
+            (λ u gu i tm k x on s. fine.calling t u (Task.Rest c.pre_destroy.chain) u h gu (rel_self u gu) (in_farewell t (StartsSo c.pre_destroy.chain h) u.invocations u n (targets w0.invocations) s (λ m a r o j. inl (
+              (let v : Some d ≡ Some m = sym e ∙ subst (λ z. core_at n z ≡ Some m) i r in let y2 : d ≡ m = cc in ap (λ (z : Managed). z.pre_destroy.chain) (one_class t m b bean c a (ap (λ (z : Core). z.component) (sym y2) ∙ q) f y j)),
+              begun,
+            ))))
+        by bean f (Kind.Producer p) y = fine.f_each_in t w0 p.disposers (dispose p v) (λ d i. served p.declaring d (v ∷ []) (IsOrdinary.disposer b bean p d f y i)) w0 h g (rel_self w0 g)
+
+        of_bean : (x : Option Bean) → t.bean b ≡ x → fine.Doing t (handle (require_present x) (λ bean. clean_up_bean n v bean.kind) throw) w0 h (fine.Left w0 Any)
+        of_bean None f = (g, (rel_self w0 g, tt))
+        of_bean (Some x) f = by x f x.kind refl
 
     -- ---- creation
 
-    pub f_construct : (n : ℕ) (points : List Asked) (chain : Lifecycle) → n < w0.next → Anchored w0 n → IsNewAt n w0 → Fine w0 (construct n points chain) Any
-    f_construct n points chain l k new w h g r =
-        fine.f_invoked t w0 n roles.AroundConstruct chain.callbacks [] (handle (provide points (owners.Instance n)) (λ _. handle (call (Task.Rest chain.chain)) (λ _. handle invocation (λ v. handle (require v.completed built_in.CreationException) (λ _. finish) throw) throw) throw) throw) w h g r (below_then w0 w n r l) (usable_enters t n chain.callbacks w (new_usable w n (new_then w0 w n r new)))
-        (λ u gu i tm c x f.
+    pub f_construct : (n : ℕ) (points : List Asked) (chain : Lifecycle) → ((m : Code) → IsIn m chain.callbacks → IsOrdinary t m.place) → n < w0.next → Anchored w0 n → IsNewAt n w0 → Fine w0 (construct n points chain) Any
+    f_construct n points chain ord l k new w h g r =
+        fine.f_invoked t w0 n roles.AroundConstruct chain.callbacks [] (handle (provide points (owners.Instance n)) (λ _. handle (call (Task.Rest chain.chain)) (λ _. handle invocation (λ v. handle (require v.completed built_in.CreationException) (λ _. finish) throw) throw) throw) throw) w h g r (below_then w0 w n r l) (usable_enters t n chain.callbacks w (new_usable w n (new_then w0 w n r new)), inr (λ e. cc, ord))
+        (λ u gu i tm c x f s. (
         then u (provide points (owners.Instance n)) _ (f_provide t u points (owners.Instance n) (have_up w u (owners.Instance n) i tm f (have_then w0 w (owners.Instance n) r k))) λ _.
-        then u (call (Task.Rest chain.chain)) _ (calls u (Task.Rest chain.chain) (λ w h. tt)) λ _.
-        then u invocation _ (f_invocation u) λ v. then u (require v.completed built_in.CreationException) _ (fine.f_require t u _ _) (λ _. (λ w h g q. (g, (q, tt)))))
+        then u (call (Task.Rest chain.chain)) _ (f_ordinary u n (targets w.invocations) chain.chain s (usable_same w u n i (new_usable w n (new_then w0 w n r new)))) λ _.
+        then u invocation _ (f_invocation u) λ v. then u (require v.completed built_in.CreationException) _ (fine.f_require t u _ _) (λ _. (λ w h g q. (g, (q, tt))))) u h gu (rel_self u gu))
 
     pub f_inject : (n : ℕ) (field : Name) (point : Asked) → Anchored w0 n → Fine w0 (inject n field point) Any
     f_inject n field point k = fine.then_with t w0 (resolve_point point (owners.Instance n)) _ (RefersTo (owners.Instance n)) Any (Rattle.cdi_ledger.proofs.Standing.f_pointing t w0 point (owners.Instance n) k)
@@ -469,12 +627,12 @@ module _ (t : Tables) where
         still : (x : Reference) (w : World) → Still w (after_change (Change.Refer n field x) w)
         still x w = inside_still w n _ (λ o. refl) (λ o. refl)
 
-    f_step : (n : ℕ) (s : Step) → n < w0.next → Anchored w0 n → IsNewAt n w0 → Fine w0 (take_step n s) Any
-    f_step n (Step.Intercept i) l k new = fine.f_call t w0 (Task.Intercept i n) (λ w h g r. anchored_then w0 w n r k)
-    f_step n (Step.Construct points chain) l k new = f_construct n points chain l k new
-    f_step n (Step.Inject field point) l k new = f_inject n field point k
-    f_step n (Step.Initialize m points) l k new = then w0 (resolve_points points (owners.Instance n)) (λ rs. call (Task.Body (body_at_start n m.place m.body [] rs []))) (f_all_injected t w0 points (owners.Instance n) k) (λ rs. fine.f_call t w0 (Task.Body (body_at_start n m.place m.body [] rs [])) (λ w h g r. usable_runs t n m.place w h (new_usable w n (new_then w0 w n r new))))
-    f_step n (Step.Complete chain) l k new = f_lifecycle w0 n roles.PostConstruct chain.callbacks chain.chain l (λ w r. usable_enters t n chain.callbacks w (new_usable w n (new_then w0 w n r new)))
+    f_step : (n : ℕ) (s : Step) → ((m : Code) → IsIn m (codes_in s) → IsOrdinary t m.place) → n < w0.next → Anchored w0 n → IsNewAt n w0 → Fine w0 (take_step n s) Any
+    f_step n (Step.Intercept i) ord l k new = fine.f_call t w0 (Task.Intercept i n) (λ w h g r. anchored_then w0 w n r k)
+    f_step n (Step.Construct points chain) ord l k new = f_construct n points chain ord l k new
+    f_step n (Step.Inject field point) ord l k new = f_inject n field point k
+    f_step n (Step.Initialize m points) ord l k new = then w0 (resolve_points points (owners.Instance n)) (λ rs. call (Task.Body (body_at_start n m.place m.body [] rs []))) (f_all_injected t w0 points (owners.Instance n) k) (λ rs. fine.f_call t w0 (Task.Body (body_at_start n m.place m.body [] rs [])) (λ w h g r. ((usable_runs t n m.place w h (new_usable w n (new_then w0 w n r new)), inl (ord m (inl refl))), within_none t w)))
+    f_step n (Step.Complete chain) ord l k new = f_lifecycle w0 n roles.PostConstruct chain.callbacks chain.chain l (λ w r. new_usable w n (new_then w0 w n r new)) (λ w h r. (usable_enters t n chain.callbacks w (new_usable w n (new_then w0 w n r new)), inr (λ e. cc, ord)))
 
     f_accept : (b : Bool) (n : ℕ) (x : Given) → Fine w0 (accept b n x) Any
     f_accept true n (Given.Result values.Null) = λ w h g r. (g, (r, tt))
@@ -487,43 +645,43 @@ module _ (t : Tables) where
     f_accept false n Given.Empty = (λ w h g q. (g, (q, tt)))
 
   module _ (w0 : World) where
-    f_produced : (n m : ℕ) (s : Source) (h : List Item) → Inv w0 → IsUsable m w0 → Anchored w0 n → fine.Doing t (call_producer n m s) w0 h (fine.Left w0 Any)
-    f_produced n m (Source.ProducerMethod producer) h g l k = f_invoke w0 m producer [] (owners.Instance n) h g l k
-    f_produced n m (Source.ProducerField field) h g l k = then w0 (instance m) _ (f_instance t w0 m) (λ o. then w0 (require_present (at o.fields field)) _ (fine.f_present t w0 _) (λ _. (λ w h g q. (g, (q, tt))))) w0 h g (rel_self w0 g)
+    f_produced : (n m : ℕ) (s : Source) (h : List Item) → ((x : Member) → s ≡ Source.ProducerMethod x → IsOrdinary t x.code.place) → Inv w0 → IsUsable m w0 → Anchored w0 n → fine.Doing t (call_producer n m s) w0 h (fine.Left w0 Any)
+    f_produced n m (Source.ProducerMethod producer) h ord g l k = f_invoke w0 m producer [] (owners.Instance n) h (ord producer refl) g l k
+    f_produced n m (Source.ProducerField field) h ord g l k = then w0 (instance m) _ (f_instance t w0 m) (λ o. then w0 (require_present (at o.fields field)) _ (fine.f_present t w0 _) (λ _. (λ w h g q. (g, (q, tt))))) w0 h g (rel_self w0 g)
 
   module _ (w0 : World) where
-    f_produce : (n : ℕ) (scope : Scope) (p : Product) → Anchored w0 n → Fine w0 (produce n scope p) Any
-    f_produce n scope p k =
+    f_produce : (n : ℕ) (scope : Scope) (p : Product) → ((x : Member) → p.source ≡ Source.ProducerMethod x → IsOrdinary t x.code.place) → Anchored w0 n → Fine w0 (produce n scope p) Any
+    f_produce n scope p ord k =
         then w0 (borrow_for (handle (obtain_receiver p.declaring) (λ m. call_producer n m p.source) throw)) _
         (f_borrowing w0 (handle (obtain_receiver p.declaring) (λ m. call_producer n m p.source) throw)
         (λ w g r. then_at (after_change Change.Borrow w) (obtain_receiver p.declaring) (λ m. call_producer n m p.source) IsBelow (f_receiver (after_change Change.Borrow w) p.declaring tt)
-        (λ m v h g1 r1 l. f_produced v n m p.source h g1 l (have_then (after_change Change.Borrow w) v (owners.Instance n) r1 (anchored_then w0 w n r k)))))
+        (λ m v h g1 r1 l. f_produced v n m p.source h ord g1 l (have_then (after_change Change.Borrow w) v (owners.Instance n) r1 (anchored_then w0 w n r k)))))
         (λ v. f_accept w0 (is_normal scope) n v)
 
-    pub f_made : (n : ℕ) (bean : Bean) (kind : Kind) → n < w0.next → Anchored w0 n → IsNewAt n w0 → Fine w0 (make n bean kind) Any
-    f_made n bean (Kind.Class c) l k new = then w0 (each c.plan (take_step n)) _ (fine.f_each t w0 c.plan (take_step n) (λ s. f_step w0 n s l k new)) (λ _. (λ w h g q. (g, (q, tt))))
-    f_made n bean (Kind.Producer p) l k new = f_produce n bean.scope p k
+    pub f_made : (n b : ℕ) (bean : Bean) (kind : Kind) → t.bean b ≡ Some bean → bean.kind ≡ kind → n < w0.next → Anchored w0 n → IsNewAt n w0 → Fine w0 (make n bean kind) Any
+    f_made n b bean (Kind.Class c) known is l k new = then w0 (each c.plan (take_step n)) _ (fine.f_each_in t w0 c.plan (take_step n) (λ s i. f_step w0 n s (λ m j. IsOrdinary.planned b bean c s m known is i j) l k new)) (λ _. (λ w h g q. (g, (q, tt))))
+    f_made n b bean (Kind.Producer p) known is l k new = f_produce n bean.scope p (λ x e. IsOrdinary.producer b bean p x known is e) k
 
     -- ---- events
 
     pub f_fire : (class : Name) (qualifiers : List Use) (v : Value) → Fine w0 (fire class qualifiers v) Any
     f_fire class qualifiers v w h g r = (
       g,
-      then w0 (each (t.observers class qualifiers) (λ group. call (Task.Notify group v))) _ (fine.f_each t w0 (t.observers class qualifiers) _ (λ group. calls w0 (Task.Notify group v) (λ w h. tt))) (λ _. (λ w h g q. (g, (q, tt))))
+      then w0 (each (t.observers class qualifiers) (λ group. call (Task.Notify group v))) _ (fine.f_each_in t w0 (t.observers class qualifiers) _ (λ group i. calls w0 (Task.Notify group v) (λ w h o j. IsOrdinary.observer class qualifiers group o i j))) (λ _. (λ w h g q. (g, (q, tt))))
           _ _ (fine.inv_entry (entries.Event class qualifiers) w g) (fine.rel_entry (entries.Event class qualifiers) w0 w g r),
     )
 
-    f_deliver : (o : Observer) (v : Value) → Fine w0 (deliver o v) Any
-    f_deliver o v =
+    f_deliver : (o : Observer) (v : Value) → IsOrdinary t o.member.code.place → Fine w0 (deliver o v) Any
+    f_deliver o v ord =
         then w0 (bean_at o.bean) _ (f_bean t w0 o.bean) λ bean w h g r.
         fine.f_if t w0 (is_skipped w o bean) finish (handle (observe o v) (λ _. finish) (λ x. rethrow x built_in.ObserverException)) Any ((λ w h g q. (g, (q, tt))))
-        (fine.caught t w0 (observe o v) _ _ Any Any (served w0 o.bean o.member (v ∷ [])) (λ _. (λ w h g q. (g, (q, tt)))) (λ x. fine.f_rethrow t w0 _ x built_in.ObserverException Any)) w h g r
+        (fine.caught t w0 (observe o v) _ _ Any Any (served w0 o.bean o.member (v ∷ []) ord) (λ _. (λ w h g q. (g, (q, tt)))) (λ x. fine.f_rethrow t w0 _ x built_in.ObserverException Any)) w h g r
 
-    pub f_notify : (os : List Observer) (v : Value) → Fine w0 (notify os v) Any
-    f_notify [] v = (λ w h g q. (g, (q, tt)))
-    f_notify (o ∷ os) v =
-        then w0 (pick (o ∷ os)) _ (f_picked t w0 (o ∷ os)) λ i. then w0 (require_present (slice_get (o ∷ os) i)) _ (fine.f_present t w0 _) λ x.
-        then w0 (deliver x v) (λ _. call (Task.Notify (remove (o ∷ os) i) v)) (f_deliver x v) (λ _. calls w0 (Task.Notify (remove (o ∷ os) i) v) (λ w h. tt))
+    pub f_notify : (os : List Observer) (v : Value) → ((o : Observer) → IsIn o os → IsOrdinary t o.member.code.place) → Fine w0 (notify os v) Any
+    f_notify [] v ord = (λ w h g q. (g, (q, tt)))
+    f_notify (o ∷ os) v ord =
+        then w0 (pick (o ∷ os)) _ (f_picked t w0 (o ∷ os)) λ i. fine.then_with t w0 (require_present (slice_get (o ∷ os) i)) _ (λ x u. slice_get (o ∷ os) i ≡ Some x) Any (fine.f_present_as t w0 (slice_get (o ∷ os) i)) λ x w h g r e.
+        then w0 (deliver x v) (λ _. call (Task.Notify (remove (o ∷ os) i) v)) (f_deliver x v (ord x (in_got (o ∷ os) i x e))) (λ _. calls w0 (Task.Notify (remove (o ∷ os) i) v) (λ w h y z. ord y (in_removed y (o ∷ os) i z))) w h g r
 
     pub f_event : (what : BuiltIn) (c : Context) → Fine w0 (fire_context_event what c) Any
     f_event what c = let y = Task.Fire (number_of built_in.Object) (qualifier what c ∷ []) values.Null in fine.f_quietly t w0 (call y) (calls w0 y (λ w h. tt))

@@ -20,12 +20,12 @@ use Rattle.cdi_machine.specs.Commands.{Command, task}
 use Rattle.cdi_machine.specs.Machine.{machine}
 use Rattle.cdi_machine.specs.Runs.{Legal, Outcome, Runs}
 use Rattle.cdi_machine.specs.Container.{State}
-use Rattle.cdi_ledger.specs.Ledger.{Item, Wrote, Between, Born, with_birth, items_of}
+use Rattle.cdi_ledger.specs.Ledger.{Item, Wrote, Between, Born, with_birth, items_of, Fate, Unborn, Made, Readied, Ended, Left, Lost, Wrong, fate, if_is, by_run, InOrder}
 use Rattle.cdi_ledger.specs.Stories.{Story}
 use Rattle.cdi_ownership.specs.Whose.{IsIn}
-use Rattle.cdi_ledger.specs.Ends.{Each, IsEnding, IsOfClass, IsFarewell, BodiesAreFarewells, BodiesAreFarewellsIfShort}
+use Rattle.cdi_ledger.specs.Ends.{Each, IsEnding, IsOfClass, IsFarewell, BodiesAreFarewells, BodiesAreFarewellsIfShort, IsAlive, IsOnLiving}
 use Rattle.cdi_ledger.proofs.Judge.{Does, sound, Guard, guard_map, Note, note_map}
-use Rattle.cdi_ledger.proofs.Stages.{phase_at, eq_true}
+use Rattle.cdi_ledger.proofs.Stages.{phase_at, eq_true, eq_same}
 use Rattle.cdi_ledger.proofs.Plain.{Sane}
 use Rattle.cdi_ledger.proofs.Ledgered as ledgered
 use Rattle.cdi_ownership.proofs.Maps.{at_added, at_before}
@@ -82,18 +82,37 @@ was_before a n k x c new e l = old (at a k) refl
       | inr s ↦ (let f : ◌≡◌ {A = Option Core} None (Some c) = sym (ap (option_map core_of) q) ∙ (sym (ap (option_map core_of) (at_before a n k x s.1)) ∙ e) in absurd (cc))
     ]
 
+-- ---- what is alive
+
+living : (h : List Item) → InOrder h → Each IsOnLiving h
+living [] q = tt
+living (x ∷ h) q = (by x q, living h (ledgered.shorter x h q))
+  where
+    over : (f : Fate) (b : Bool) → b ≡ true → (if_is b (by_run f) f ≡ Wrong → ⊥) → IsAlive f
+    over Made b e r = tt
+    over Readied b e r = tt
+    over Ended b e r = tt
+    over Left b e r = tt
+    over Unborn b e r = absurd (r (ap (λ z. if_is z Wrong Unborn) e))
+    over Lost b e r = absurd (r (ap (λ z. if_is z Wrong Lost) e))
+    over Wrong b e r = absurd (r (ap (λ z. if_is z Wrong Wrong) e))
+
+    by : (x : Item) → InOrder (x ∷ h) → IsOnLiving x h
+    by (Wrote (entries.Run n place)) q = over (fate n h) (nat_eq n n) (eq_same n) (q.each_way n)
+    by _ q = tt
+
 -- ---- the invocations
 
 module _ (tables : Tables) where
-  abbrev AllParted : Instances → List Invocation → Type 0
+  abbrev pub AllParted : Instances → List Invocation → Type 0
   AllParted a [] = Unit {0}
   AllParted a (v ∷ vs) = ((c : Core) → core_at v.target a ≡ Some c → c.phase ≡ phases.Leaving → AreParting tables c v.members) × AllParted a vs
 
-  abbrev Parted : World → Type 0
+  abbrev pub Parted : World → Type 0
   Parted w = AllParted w.instances w.invocations
 
   alike : (c d : Core) (members : List Code) → d.component ≡ c.component → AreParting tables d members → AreParting tables c members
-  alike c d members e p = record { index = p.index; is = sym e ∙ p.is; bean = p.bean; known = p.known; class = p.class; kind = p.kind; all = p.all }
+  alike c d members e p = record { index = p.index; is = sym e ∙ p.is; bean = p.bean; known = p.known; class = p.class; kind = p.kind; same = p.same; all = p.all }
 
   parted_map : (a b : Instances) (vs : List Invocation) → ((k : ℕ) (c : Core) → IsIn k (targets vs) → core_at k b ≡ Some c → c.phase ≡ phases.Leaving → WasLeaving a k c) → AllParted a vs → AllParted b vs
   parted_map a b [] f p = tt
@@ -113,7 +132,7 @@ module _ (tables : Tables) where
   parted_enter : (a : Instances) (v : Invocation) (vs : List Invocation) → ((c : Core) → core_at v.target a ≡ Some c → c.phase ≡ phases.Leaving → AreParting tables c v.members) → AllParted a vs → AllParted a (v ∷ vs)
   parted_enter a v vs f p = (f, p)
 
-  parted_change : (h : List Item) (g : Change) (w : World) (X : Type 0) → Parted w → Guard (Ok tables) g w h X → Parted (after_change g w)
+  pub parted_change : (h : List Item) (g : Change) (w : World) (X : Type 0) → Parted w → Guard (Ok tables) g w h X → Parted (after_change g w)
   parted_change h (Change.Make component (owners.Context c) fields) w X p x = parted_map w.instances _ w.invocations (λ k c i e l. was_before w.instances w.next k _ c refl e l) p
   parted_change h (Change.Make component (owners.Instance m) fields) w X p x = parted_map w.instances _ w.invocations (λ k c i e l. was_before w.instances w.next k _ c refl e l) p
   parted_change h (Change.Make component owners.Borrower fields) w X p x = parted_map w.instances _ w.invocations (λ k c i e l. was_before w.instances w.next k _ c refl e l) p
@@ -160,7 +179,7 @@ module _ (tables : Tables) where
   parted_change h (Change.Assign m field v) w X p x = parted_map w.instances _ w.invocations (λ k c i e l. was_same w.instances k c _ (core_same w.instances m _ (λ o. refl) k) e l) p
   parted_change h (Change.Refer m field v) w X p x = parted_map w.instances _ w.invocations (λ k c i e l. was_same w.instances k c _ (core_same w.instances m _ (λ o. refl) k) e l) p
   parted_change h (Change.Hold m v) w X p x = parted_map w.instances _ w.invocations (λ k c i e l. was_same w.instances k c _ (core_same w.instances m _ (λ o. refl) k) e l) p
-  parted_change h (Change.Enter v) w X p x = parted_enter w.instances v w.invocations x.0 p
+  parted_change h (Change.Enter v) w X p x = parted_enter w.instances v w.invocations x.0.0 p
   parted_change h (Change.Provide rs) w X p x = parted_on_top w.instances _ (λ v. refl) (λ v. refl) w.invocations p
   parted_change h (Change.Replace vs) w X p x = parted_on_top w.instances _ (λ v. refl) (λ v. refl) w.invocations p
   parted_change h (Change.Keep key v) w X p x = parted_on_top w.instances _ (λ v. refl) (λ v. refl) w.invocations p
@@ -173,17 +192,15 @@ module _ (tables : Tables) where
   of_class : (n : ℕ) (c : Core) (w : World) (h : List Item) → Known tables w h → core_at n w.instances ≡ Some c → (index : ℕ) → c.component ≡ components.Bean index → (bean : _) → tables.bean index ≡ Some bean → (class : Managed) → bean.kind ≡ Rattle.cdi_machine.specs.Tables.Kind.Class class → IsOfClass tables h n class
   of_class n c w h k e index is bean known class kind = record { index = index; owner = c.owner; born = subst (λ z. IsIn (Born n z c.owner) h) is (k.lives n c e); bean = bean; known = known; is = kind }
 
-  in_member : (n : ℕ) (place : Place) (a : Instances) (vs : List Invocation) (c : Core) → AllParted a vs → core_at n a ≡ Some c → c.phase ≡ phases.Leaving → IsMember n place vs → (p : AreParting tables c []) × IsIn place (map (λ m. m.place) p.class.pre_destroy.callbacks)
+  in_member : (n : ℕ) (place : Place) (a : Instances) (vs : List Invocation) (c : Core) → AllParted a vs → core_at n a ≡ Some c → c.phase ≡ phases.Leaving → IsMember n place vs → (ms : List Code) × ((p : AreParting tables c ms) × IsIn place (map (λ m. m.place) p.class.pre_destroy.callbacks))
   in_member n place a [] c p e l m = absurd m
-  in_member n place a (v ∷ vs) c p e l m =
-      let q = p.0 c (subst (λ z. core_at z a ≡ Some c) (sym m.0) e) l in
-      (record { index = q.index; is = q.is; bean = q.bean; known = q.known; class = q.class; kind = q.kind; all = λ x i. absurd i }, q.all place m.1)
+  in_member n place a (v ∷ vs) c p e l m = let q = p.0 c (subst (λ z. core_at z a ≡ Some c) (sym m.0) e) l in (v.members, (q, q.all place m.1))
 
   farewell : (n : ℕ) (place : Place) (w : World) (h : List Item) → KG tables w h → Parted w → MayRun tables n place w h → IsFarewell tables (Wrote (entries.Run n place)) h
   farewell n place w h g p ok ending =
       let c = leaving_core n w (ending_leaving (nat_lt n w.next) (phase_at n w.instances) (subst IsEnding (g.0.1 n).fate ending)) in
       elim (ok c.0 c.1 c.2) [
-        | inl m ↦ (let q = in_member n place w.instances w.invocations c.0 p c.1 c.2 m in (q.0.class, (of_class n c.0 w h g.1 c.1 q.0.index q.0.is q.0.bean q.0.known q.0.class q.0.kind, inl q.1)))
+        | inl m ↦ (let q = (in_member n place w.instances w.invocations c.0 p c.1 c.2 m).1 in (q.0.class, (of_class n c.0 w h g.1 c.1 q.0.index q.0.is q.0.bean q.0.known q.0.class q.0.kind, inl q.1)))
         | inr o ↦ (o.class, (of_class n c.0 w h g.1 c.1 o.index o.is o.bean o.known o.class o.kind, inr o.own))
       ]
 
@@ -197,7 +214,7 @@ module _ (tables : Tables) where
   each_birth _ w h e = e
 
   one_more : (e : Entry) (w : World) (h : List Item) (X : Type 0) → KG tables w h → Parted w → Note (Ok tables) e w h X → IsFarewell tables (Wrote e) h
-  one_more (entries.Run n place) w h X g p x = farewell n place w h g p x.0
+  one_more (entries.Run n place) w h X g p x = farewell n place w h g p x.0.0
   one_more _ w h X g p x = tt
 
   with_farewells : {A : Type 0} (p : Prog A) (w : World) (h : List Item) (Q : Completion A → World → List Item → Type 0) → Does tables (Ok tables) (KG tables) (Pre tables) (BothPost tables) p w h Q → Parted w → Each (IsFarewell tables) h → Does tables (Ok tables) FG (Pre tables) (BothPost tables) p w h Q
@@ -219,7 +236,7 @@ module _ (tables : Tables) where
   nobody : (a : Instances) → AllParted a []
   nobody a = tt
 
-  nobody_of : (a : Instances) (vs : List Invocation) → targets vs ≡ [] → AllParted a vs
+  pub nobody_of : (a : Instances) (vs : List Invocation) → targets vs ≡ [] → AllParted a vs
   nobody_of a [] e = nobody a
   nobody_of a (v ∷ vs) e = absurd (cc)
 
@@ -235,12 +252,15 @@ module _ (tables : Tables) where
         run_farewells c (at_begin s.world) v o h r (begin_tidy s.world (tidy_story tables legal l (not_halted s.halted _ _ q))) (λ n. ledgered.at_rest n s.world h (sane_story tables legal n l)) (Rattle.cdi_ledger.proofs.Births.known_begin tables s.world h (known_story tables legal l)) (farewell_story l)
 
     pub bodies_are_farewells : BodiesAreFarewells tables legal
-    bodies_are_farewells s h l = farewell_story l
+    bodies_are_farewells s h l = (living h (ledgered.in_order s.world h (λ n. sane_story tables legal n l)), farewell_story l)
 
   module _ (legal : Legal) where
     pub farewells_if_short : BodiesAreFarewellsIfShort tables legal
-    farewells_if_short s h c o v l q r = also_short tables (Each (IsFarewell tables)) (λ x k e. e.1) legal (task c) (at_begin s.world) v o h all r
+    farewells_if_short s h c o v l q r = (living (items_of h r) (also_short tables InOrder ledgered.shorter legal (task c) (at_begin s.world) v o h ordered r), also_short tables (Each (IsFarewell tables)) (λ x k e. e.1) legal (task c) (at_begin s.world) v o h all r)
       where
+        ordered : (o' : Outcome) (v' : World) (z : Runs tables anything ⊥ (task c) (at_begin s.world) o' v') → InOrder (items_of h z)
+        ordered o' v' z = ledgered.in_order v' (items_of h z) (λ k. ledgered.command_keeps tables k anything c (at_begin s.world) v' o' h z (ledgered.at_rest k s.world h (sane_story tables legal k l)))
+
         all : (o' : Outcome) (v' : World) (z : Runs tables anything ⊥ (task c) (at_begin s.world) o' v') → Each (IsFarewell tables) (items_of h z)
         all o' v' z = run_farewells anything c (at_begin s.world) v' o' h z (begin_tidy s.world (tidy_story tables legal l (not_halted s.halted _ _ q))) (λ n. ledgered.at_rest n s.world h (sane_story tables legal n l))
             (Rattle.cdi_ledger.proofs.Births.known_begin tables s.world h (known_story tables legal l)) (farewell_story legal l)

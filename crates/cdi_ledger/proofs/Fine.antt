@@ -21,7 +21,7 @@ use Rattle.cdi_ownership.proofs.Cores.{Core, core_at, deps_at}
 use Rattle.cdi_ownership.proofs.Homes.{codes, Inv, Rel, Grown, Placed, HeldIn, IsReadyOf, OnStack, Busy, IsFixed, targets, rel_self, rel_then, was_busy}
 use Rattle.cdi_ownership.proofs.Spans.{Still, inv_still, rel_still}
 use Rattle.cdi_ledger.proofs.Judge.{Does, bind, guard_map, guard_none, note_map, NoGuard}
-use Rattle.cdi_ledger.proofs.Owed.{Ok, MayEnter, Pre, Post, post_rel}
+use Rattle.cdi_ledger.proofs.Owed.{Ok, MayEnter, EntersSo, Pre, Post, post_rel}
 
 abbrev pub G : World → List Item → Type 0
 G w h = Inv w
@@ -171,12 +171,23 @@ module _ (tables : Tables) where
     f_each (x ∷ []) f q w h g r = q x w h g r
     f_each (x ∷ y ∷ xs) f q w h g r = then (f x) (λ _. each (y ∷ xs) f) Any (q x) (λ _. f_each (y ∷ xs) f q) w h g r
 
+    -- also if it is told of which they are
+    pub f_each_in : {X : Type 0} (xs : List X) (f : X → Prog Given) → ((x : X) → IsIn x xs → Fine (f x) Any) → Fine (each xs f) Any
+    f_each_in [] f q w h g r = (g, (r, tt))
+    f_each_in (x ∷ []) f q w h g r = q x (inl refl) w h g r
+    f_each_in (x ∷ y ∷ xs) f q w h g r = then (f x) (λ _. each (y ∷ xs) f) Any (q x (inl refl)) (λ _. f_each_in (y ∷ xs) f (λ z i. q z (inr i))) w h g r
+
+    -- what is there is told
+    pub f_present_as : {A : Type 0} (o : Option A) → Fine (require_present o) (λ a w. o ≡ Some a)
+    f_present_as None w h g r = (g, (r, tt))
+    f_present_as (Some a) w h g r = (g, (r, refl))
+
     pub f_quietly : (p : Prog Given) → Fine p Any → Fine (quietly p) Any
     f_quietly p d = caught p (λ _. do_nothing) (λ _. do_nothing) Any Any d (λ _ w h g r. (g, (r, tt))) (λ _ w h g r. (g, (r, tt)))
 
     -- and it throws nothing
-    pub f_silent : (p : Prog Given) → Fine p Any → (w : World) (h : List Item) → Inv w → Rel w0 w → Doing (quietly p) w h (Silent w0)
-    f_silent p d w h g r = bind tables (Ok tables) G (Pre tables) Post p (λ _. do_nothing) (λ _. do_nothing) w h (Left w0 Any) (Silent w0) (d w h g r) (λ a w1 h1 g1 q. (g1, (q.0, tt))) (λ x w1 h1 g1 q. (g1, (q.0, tt)))
+    pub f_silent : (p : Prog Given) (w : World) (h : List Item) → Doing p w h (Left w0 Any) → Doing (quietly p) w h (Silent w0)
+    f_silent p w h d = bind tables (Ok tables) G (Pre tables) Post p (λ _. do_nothing) (λ _. do_nothing) w h (Left w0 Any) (Silent w0) d (λ a w1 h1 g1 q. (g1, (q.0, tt))) (λ x w1 h1 g1 q. (g1, (q.0, tt)))
 
     -- a change in which nobody moves
     pub f_alter : (g : Change) → NoGuard g → ((w : World) → Still w (after_change g w)) → Fine (alter g) Any
@@ -240,15 +251,15 @@ module _ (tables : Tables) where
 
   module _ (w0 : World) where
     -- an invocation
-    pub f_invoked : (n : ℕ) (role : InterceptorMethod) (members : List Code) (args : List Value) (p : Prog Given) (w : World) (h : List Item) → Inv w → Rel w0 w → n < w.next → MayEnter tables n members w
-        → ((u : World) → Inv u → u.instances ≡ w.instances → u.temporaries ≡ w.temporaries → u.contexts ≡ w.contexts → u.next ≡ w.next → ((b : ℕ) → OnStack w b → OnStack u b) → Fine u p Any)
+    pub f_invoked : (n : ℕ) (role : InterceptorMethod) (members : List Code) (args : List Value) (p : Prog Given) (w : World) (h : List Item) → Inv w → Rel w0 w → n < w.next → MayEnter tables n members w × EntersSo tables n role members w h
+        → ((u : World) → Inv u → u.instances ≡ w.instances → u.temporaries ≡ w.temporaries → u.contexts ≡ w.contexts → u.next ≡ w.next → ((b : ℕ) → OnStack w b → OnStack u b) → targets u.invocations ≡ n ∷ targets w.invocations → Doing p u h (Left u Any))
         → Doing (invoke_by n role members args p) w h (Left w0 Any)
     f_invoked n role members args p w h g r l ok k =
         let u : World = after_change (Change.Enter (invocation_at_start n role members args)) w in
         let gu : Inv u = stacked_inv w u (record { next = refl; temporaries = refl; core = λ k. refl; deps = λ k. refl; contexts = λ c. refl; stack = stack }) g in (
           ok,
           bind tables (Ok tables) G (Pre tables) Post p (λ a. handle (alter Change.Exit) (λ _. ret a) throw) (λ x. handle (alter Change.Exit) (λ _. throw x) throw) u h (Left u Any) (Left w0 Any)
-              (k u gu refl refl refl refl (λ b. on b) u h gu (rel_self u gu))
+              (k u gu refl refl refl refl (λ b. on b) refl)
               (λ a w1 h1 g1 q. (behind_inv w1 g1 q.0, (rel_then w0 w (after_change Change.Exit w1) r (behind w1 q.0), tt)))
               (λ x w1 h1 g1 q. (behind_inv w1 g1 q.0, (rel_then w0 w (after_change Change.Exit w1) r (behind w1 q.0), tt))),
         )

@@ -1,10 +1,11 @@
-mod Judge
-mod Stages
+pub mod Judge
+pub mod Stages
+mod Past
 mod Plain
 mod Steps
 mod Fronts
 pub mod Ledgered
-mod Owed
+pub mod Owed
 mod Fine
 mod Standing
 mod Doings
@@ -12,7 +13,12 @@ mod Tasks
 mod Creations
 mod Tops
 pub mod Settled
+pub mod Marks
 pub mod Nesting
 pub mod Births
 pub mod Referred
 pub mod Farewells
+pub mod Callbacks
+pub mod Firsts
+pub mod Traces
+pub mod Orders

@@ -24,7 +24,7 @@ use Rattle.cdi_machine.specs.Container.{State, refusal, state_after}
 use Rattle.cdi_ledger.specs.Ledger.{Item, items_of, Unborn, Lost, fate}
 use Rattle.cdi_ledger.specs.Stories.{Story}
 use Rattle.cdi_ownership.specs.Whose.{IsIn, IsHeld, DependsOn, StandsAtHome, IsTidy}
-use Rattle.cdi_ledger.specs.Ends.{IsUnderWay, LeavesTidy, LeavesNothing}
+use Rattle.cdi_ledger.specs.Ends.{OwnersAreSmaller, IsUnderWay, LeavesTidy, LeavesNothing}
 use Rattle.cdi_ledger.proofs.Stages.{phase_at, phase_of}
 use Rattle.cdi_ledger.proofs.Plain.{Sane, stands}
 use Rattle.cdi_ledger.proofs.Ledgered.{before, at_rest, command_keeps}
@@ -94,6 +94,15 @@ module _ (tables : Tables) (legal : Legal) where
   tidy_story (Story.begins ticks depth) e = first_tidy ticks depth
   tidy_story (Story.refuses {s = s} c r l q) e = begin_tidy s.world (tidy_story l e)
   tidy_story (Story.goes {s = s} {h = h} {o = o} {v = v} c l q r) e = tidy_run c (at_begin s.world) v o h r (begin_tidy s.world (tidy_story l (not_halted s.halted _ _ q))) e
+
+  -- where all stand, also behind a command that is cut
+  pub inv_story : {s : State} {h : List Item} → Story tables legal s h → Inv s.world
+  inv_story (Story.begins ticks depth) = (first_tidy ticks depth).inv
+  inv_story (Story.refuses {s = s} c r l q) = inv_still s.world (at_begin s.world) (begin_still s.world) (inv_story l)
+  inv_story (Story.goes {s = s} {h = h} {o = o} {v = v} c l q r) = (sound tables (Ok tables) fine.G (Pre tables) Post legal steps h (LeftTidy tables) r (command_does tables c (at_begin s.world) h (begin_tidy s.world (tidy_story l (not_halted s.halted _ _ q))))).0
+
+  pub owners_are_smaller : OwnersAreSmaller tables legal
+  owners_are_smaller s h l n m o e q = (inv_story l).smaller n m (core_of o) (ap (option_map core_of) e) q
 
   pub sane_story : (n : ℕ) {s : State} {h : List Item} → Story tables legal s h → Sane n s.world h
   sane_story n (Story.begins ticks depth) = before ticks depth n

@@ -22,8 +22,9 @@ use Rattle.cdi_ownership.proofs.Lists.{IsAmong, HasTop, TopEmpty}
 use Rattle.cdi_ownership.proofs.Holdings.{IsFree, AllHeld}
 use Rattle.cdi_ownership.proofs.Cores.{Core, core_of, core_at, deps_at, core_same, deps_same}
 use Rattle.cdi_ownership.proofs.Homes.{Inv, Rel, Grown, HeldIn, OnStack, Busy, IsFixed, targets, rel_self, rel_then, was_busy}
-use Rattle.cdi_ledger.proofs.Owed.{Ok, MayRun, Pre, Post, IsTop, IsGiven, IsIdle}
+use Rattle.cdi_ledger.proofs.Owed.{Ok, MayRun, IsKnown, Within, LeftSo, farewell_same, Pre, Post, IsTop, IsGiven, IsIdle}
 use Rattle.cdi_ledger.proofs.Judge.{bind}
+use Rattle.cdi_ledger.proofs.Past.{past_begun}
 use Rattle.cdi_ledger.proofs.Fine as fine
 use Rattle.cdi_ledger.proofs.Fine.{Stacked, stacked_inv, unstacked, targets_below, list_below}
 use Rattle.cdi_ledger.proofs.Doings.{Any, f_farewell}
@@ -94,7 +95,7 @@ module _ (t : Tables) where
 
   -- ---- bodies
 
-  pub body_does : (r : Running) (w : World) (h : List Item) → Inv w → MayRun t r.instance r.place w h → Does (run_body r) w h (fine.Left w Any)
+  pub body_does : (r : Running) (w : World) (h : List Item) → Inv w → (MayRun t r.instance r.place w h × IsKnown t r.instance r.place w h) × Within t r.rest w → Does (run_body r) w h (fine.Left w Any)
   body_does r w h g ok = by (nat_lt (length w.bodies) w.depth)
     where
       n : ℕ
@@ -109,7 +110,7 @@ module _ (t : Tables) where
           let u : World = after_change (Change.Start r.instance) w1 in
           let l : r.instance < w.next = live_below w g r.instance o e in
           let gu : Inv u = stacked_inv t w1 u (record { next = refl; temporaries = refl; core = λ k. refl; deps = λ k. refl; contexts = λ c. refl; stack = λ b z. stack l b z }) g1 in
-          (g, (ok, (gu, (core_of o, ap (option_map core_of) e, inr (inr (r.instance, inl (inl refl), Chain.here))), after)))
+          (g, ((ok.0.0, (ok.0.1, (core_of o, ap (option_map core_of) e))), (gu, ((core_of o, ap (option_map core_of) e, inr (inr (r.instance, inl (inl refl), Chain.here))), farewell_same t (LeftSo r.rest) w.invocations w (after_change (Change.Start r.instance) (with_entry (entries.Run r.instance r.place) w)) refl ok.1), after)))
         where
           stack : r.instance < w.next → (b : ℕ) → OnStack (after_change (Change.Start r.instance) (with_entry (entries.Run r.instance r.place) w)) b → b < w.next
           stack l b (inl (inl z)) = subst (λ y. y < w.next) z l
@@ -211,7 +212,7 @@ module _ (t : Tables) where
       (
         (λ z. idle (n, z, Chain.here)),
         bind t (Ok t) fine.G (Pre t) Post (quietly (clean_up n o.value o.component)) (λ _. handle (call (Task.Release n)) (λ _. handle (note (entries.Gone n)) (λ _. handle (alter (Change.Remove n)) (λ _. finish) throw) throw) throw) throw w1 (Between n ∷ Wrote (entries.End n) ∷ h) (fine.Silent w1) (Destroyed w n)
-            (fine.f_silent t w1 (clean_up n o.value o.component) (f_farewell t w1 n o.value o.component left n_below left_world.1.own refl same) w1 _ left_world.0 (rel_self w1 left_world.0))
+            (fine.f_silent t w1 (clean_up n o.value o.component) w1 (Between n ∷ Wrote (entries.End n) ∷ h) (f_farewell t w1 n o.value o.component left (Between n ∷ Wrote (entries.End n) ∷ h) left_world.0 n_below left_world.1.own refl same (past_begun n h) refl))
             (λ a w2 h2 g2 q. (g2, released w2 h2 g2 q.0, after w2 q.0))
             (λ x w2 h2 g2 q. absurd q),
       ),

@@ -189,7 +189,7 @@ module _ (t : Tables) where
 
   -- what keeps where all stand, and throws nothing
   t_silent : (p : Prog Given) → ((w : World) → fine.Fine t w p Any) → Tops (quietly p)
-  t_silent p f w0 w h g q = fine.loosen t (quietly p) w h (fine.Silent w) (Ends w0) (fine.f_silent t w p (f w) w h g.inv (rel_self w g.inv)) by
+  t_silent p f w0 w h g q = fine.loosen t (quietly p) w h (fine.Silent w) (Ends w0) (fine.f_silent t w p w h (f w w h g.inv (rel_self w g.inv))) by
     where
       by : (c : Completion (Unit {0})) (v : World) (k : List Item) → Inv v → fine.Silent w c v k → Ends w0 c v k
       by (Gave a) v k gv r = (tidy_then w v g gv r.0, λ c e. r.0.absent c (q c e))

@@ -1,5 +1,5 @@
 -- How destructions and creations end, and what runs in a destruction.
-use Rattle.std.specs.Prelude.{ℕ, ◌≡◌, ◌⊎◌, List, [], ◌∷◌, map, Bool, true, false, Some, None, nat_eq}
+use Rattle.std.specs.Prelude.{ℕ, ◌+◌, ◌≡◌, ◌<◌, ◌≤◌, ◌⊎◌, List, [], ◌∷◌, map, Bool, true, false, Some, None, nat_eq}
 use Rattle.cdi_base.specs.declared.act.Act.TheVariants as acts
 use Rattle.cdi_base.specs.declared.entry.Entry.TheVariants as entries
 use Rattle.cdi_base.specs.declared.place.Place.{Place}
@@ -9,17 +9,18 @@ use Rattle.cdi_base.specs.declared.scope.Scope.TheVariants as scopes
 use Rattle.cdi_base.specs.Maps.{at}
 use Rattle.cdi_store.specs.declared.instance.Component.{Component}
 use Rattle.cdi_store.specs.declared.instance.Component.TheVariants as components
+use Rattle.cdi_store.specs.declared.instance.Instance.{Instance}
 use Rattle.cdi_store.specs.declared.instance.Context.{Context}
 use Rattle.cdi_store.specs.declared.instance.Context.TheVariants.{Application, Session, Request}
 use Rattle.cdi_store.specs.declared.instance.Owner.{Owner}
 use Rattle.cdi_store.specs.declared.instance.Owner.TheVariants as owners
 use Rattle.cdi_machine.specs.Tables.{Tables, Method, Managed, Kind, Bean, Interceptor}
-use Rattle.cdi_machine.specs.World.{World, at_begin}
+use Rattle.cdi_machine.specs.World.{World, at_begin, instance_at}
 use Rattle.cdi_machine.specs.Programs.{Given, Completion, Gave}
 use Rattle.cdi_machine.specs.Commands.{Command, task}
 use Rattle.cdi_machine.specs.Runs.{Legal, Outcome, Ends, Runs}
 use Rattle.cdi_machine.specs.Container.{State, refusal}
-use Rattle.cdi_ledger.specs.Ledger.{Item, Wrote, Born, items_of, Fate, Unborn, Made, Ended, Left, Lost, fate}
+use Rattle.cdi_ledger.specs.Ledger.{Item, Wrote, Between, Born, items_of, Fate, Unborn, Made, Readied, Ended, Left, Lost, Wrong, fate, InSequence}
 use Rattle.cdi_ledger.specs.Stories.{Story}
 use Rattle.cdi_ownership.specs.Whose.{IsIn, IsTidy, RefersToItsOwn}
 
@@ -184,6 +185,20 @@ OneOfTheApplication tables legal =
     PlacesAreApart tables → (s : State) (h : List Item) → Story tables legal s h
     → Each (OnceByPlace tables) h
 
+-- ---- order
+
+-- Numbers are given from 1 without a gap; each goes its way; of an application-scoped bean there is one instance at a time,
+-- where places tell beans apart; destructions are nested.
+pub record IsOrdered (tables : Tables) (h : List Item) : Type 0 where
+  pub numbered : InSequence h
+  pub each_way : (n : ℕ) → fate n h ≡ Wrong → ⊥
+  pub one_at_a_time : PlacesAreApart tables → Each (OnceByPlace tables) h
+  pub nested : Each IsNestedEnd h
+
+abbrev pub OrdersAll : Tables → Legal → Type 0
+OrdersAll tables legal =
+    (s : State) (h : List Item) → Story tables legal s h → IsOrdered tables h
+
 -- ---- bodies on an instance whose destruction has begun
 
 -- the method was called by the body's own act, which stands right before it
@@ -200,10 +215,23 @@ IsFarewell tables (Wrote (entries.Run n place)) h =
     × (IsIn place (map (λ m. m.place) c.pre_destroy.callbacks) ⊎ IsOwn c place h))
 IsFarewell tables _ h = Unit {0}
 
+-- it is being made, is ready, or is being destroyed
+abbrev pub IsAlive : Fate → Type 0
+IsAlive Made = Unit {0}
+IsAlive Readied = Unit {0}
+IsAlive Ended = Unit {0}
+IsAlive Left = Unit {0}
+IsAlive _ = ⊥
+
+-- a body starts only on what is alive
+abbrev pub IsOnLiving : Item → List Item → Type 0
+IsOnLiving (Wrote (entries.Run n place)) h = IsAlive (fate n h)
+IsOnLiving _ h = Unit {0}
+
 abbrev pub BodiesAreFarewells : Tables → Legal → Type 0
 BodiesAreFarewells tables legal =
     (s : State) (h : List Item) → Story tables legal s h
-    → Each (IsFarewell tables) h
+    → Each IsOnLiving h × Each (IsFarewell tables) h
 
 -- Also if memory runs out in one more command.
 abbrev pub BodiesAreFarewellsIfShort : Tables → Legal → Type 0
@@ -212,7 +240,7 @@ BodiesAreFarewellsIfShort tables legal =
     → Story tables legal s h
     → refusal tables s c ≡ None
     → (r : Runs tables legal (Unit {0}) (task c) (at_begin s.world) o v)
-    → Each (IsFarewell tables) (items_of h r)
+    → Each IsOnLiving (items_of h r) × Each (IsFarewell tables) (items_of h r)
 
 -- ---- nothing is left under way, and what is left after a shutdown
 
@@ -231,6 +259,44 @@ LeavesTidy tables legal =
 abbrev pub RefersOwn : Tables → Legal → Type 0
 RefersOwn tables legal =
     (s : State) (h : List Item) → Story tables legal s h → RefersToItsOwn s.world
+
+-- ---- marks
+
+abbrev pub one_more_if : Bool → ℕ → ℕ
+one_more_if true k = k + 1
+one_more_if false k = k
+
+-- how often the mark of n stands
+abbrev pub marks : ℕ → List Item → ℕ
+marks n [] = 0
+marks n (Between m ∷ h) = one_more_if (nat_eq m n) (marks n h)
+marks n (_ ∷ h) = marks n h
+
+-- Each mark stands at most once, and once where the instance is gone.
+abbrev pub MarksOnce : Tables → Legal → Type 0
+MarksOnce tables legal =
+    (s : State) (h : List Item) → Story tables legal s h
+    → (n : ℕ) → (marks n h ≤ 1) × (IsIn (Wrote (entries.Gone n)) h → marks n h ≡ 1)
+
+-- Also if memory runs out in one more command.
+abbrev pub MarksOnceIfShort : Tables → Legal → Type 0
+MarksOnceIfShort tables legal =
+    (s : State) (h : List Item) (c : Command) (o : Outcome) (v : World)
+    → Story tables legal s h
+    → refusal tables s c ≡ None
+    → (r : Runs tables legal (Unit {0}) (task c) (at_begin s.world) o v)
+    → (n : ℕ) → (marks n (items_of h r) ≤ 1) × (IsIn (Wrote (entries.Gone n)) (items_of h r) → marks n (items_of h r) ≡ 1)
+
+-- ---- owners
+
+-- At the end of each command, cut or not, an owner's number is smaller than what it owns.
+abbrev pub OwnersAreSmaller : Tables → Legal → Type 0
+OwnersAreSmaller tables legal =
+    (s : State) (h : List Item) → Story tables legal s h
+    → (n m : ℕ) (o : Instance) → instance_at s.world n ≡ Some o → o.owner ≡ owners.Instance m
+    → m < n
+
+-- ---- after a shutdown
 
 -- A shutdown that isn't cut is answered that it is done, and every number that was given is lost.
 abbrev pub LeavesNothing : Tables → Legal → Type 0

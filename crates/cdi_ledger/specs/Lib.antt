@@ -1,3 +1,4 @@
 pub mod Ledger
 pub mod Stories
 pub mod Ends
+pub mod Callbacks

@@ -1,18 +1,23 @@
 //! The laws of the ledger. A call of one does nothing: its contract is the law.
 ghost use Rattle.cdi_machine.specs.Tables.{Tables};
 ghost use Rattle.cdi_ledger.specs.Ledger.{KeepsOrder, KeepsOrderIfShort};
-ghost use Rattle.cdi_ledger.specs.Ends.{EndsNested, EndsNestedIfShort, LeavesTidy, LeavesNothing, OneInAContext, OneOfTheApplication, RefersOwn, BodiesAreFarewells, BodiesAreFarewellsIfShort, OneInAContextIfShort};
+ghost use Rattle.cdi_ledger.specs.Ends.{EndsNested, EndsNestedIfShort, LeavesTidy, LeavesNothing, OrdersAll, MarksOnce, MarksOnceIfShort, OwnersAreSmaller, OneInAContext, OneOfTheApplication, RefersOwn, BodiesAreFarewells, BodiesAreFarewellsIfShort, OneInAContextIfShort};
+ghost use Rattle.cdi_ledger.specs.Callbacks.{FarewellsInDestruction, FarewellsInDestructionIfShort, BeginsOnlyAtMark, BeginsOnlyAtMarkIfShort};
+ghost use Rattle.cdi_ledger.specs.Stories.{AddsItsTrace};
 
 use cdi_machine::Driver;
 
 /// At the end of each command, cut or not, the entries and marks of every number stand in order: `new`, `ready`,
 /// `end`, a mark, `gone`, or `new`, `drop`, or the front of one of these. Numbers are given from 1, one after another, and
 /// a body runs on an instance only from its `new` to its `gone` or `drop`. So it is also if memory runs out in a command,
-/// at any point of it; that command is the last one, since it halts the container.
-#[tactic(auto, using(crate::proofs::Ledgered::keeps_order, crate::proofs::Ledgered::if_short))]
+/// at any point of it; that command is the last one, since it halts the container. With memory also: at a further `new` of an
+/// application-scoped bean each earlier one has its `drop` or `end`, where places tell beans apart; and where an instance is
+/// gone, each destruction that began since its `end` is over.
+#[tactic(auto, using(crate::proofs::Ledgered::keeps_order, crate::proofs::Ledgered::if_short, crate::proofs::Orders::orders_all))]
 pub fn law_order<D: Driver>(driver: &D)
     ensures with_memory { (tables : Tables) → KeepsOrder tables (D.legal driver.now) }
     ensures short_of_memory { (tables : Tables) → KeepsOrderIfShort tables (D.legal driver.now) }
+    ensures all { (tables : Tables) → OrdersAll tables (D.legal driver.now) }
 {
     let _driver = driver;
 }
@@ -22,10 +27,13 @@ pub fn law_order<D: Driver>(driver: &D)
 /// dependents of an instance that lives, which has a smaller number; and nothing stands anywhere else. A shutdown that
 /// isn't cut is answered that it is done, and leaves nothing: every number that was given is dropped or gone (Jakarta CDI 4.0,
 /// *Destruction of objects with scope @Dependent*, *Application context lifecycle*).
-#[tactic(auto, using(crate::proofs::Settled::leaves_tidy, crate::proofs::Settled::leaves_nothing))]
+/// The mark of a destruction stands at most once, and once where the instance is gone, also if memory runs out.
+#[tactic(auto, using(crate::proofs::Settled::leaves_tidy, crate::proofs::Settled::leaves_nothing, crate::proofs::Marks::marks_once, crate::proofs::Marks::marks_if_short))]
 pub fn law_ends<D: Driver>(driver: &D)
     ensures tidy { (tables : Tables) → LeavesTidy tables (D.legal driver.now) }
     ensures nothing { (tables : Tables) → LeavesNothing tables (D.legal driver.now) }
+    ensures marked { (tables : Tables) → MarksOnce tables (D.legal driver.now) }
+    ensures marked_short_of_memory { (tables : Tables) → MarksOnceIfShort tables (D.legal driver.now) }
 {
     let _driver = driver;
 }
@@ -64,7 +72,7 @@ pub fn law_references<D: Driver>(driver: &D)
     let _driver = driver;
 }
 
-/// Between the `end` of an instance and its `gone` only its farewell runs on it: a body that starts there is of a pre-destroy
+/// A body starts on an instance only from its `new` to its `gone` or `drop`; and between its `end` and its `gone` only its farewell runs on it: a body that starts there is of a pre-destroy
 /// callback of its class, or of a method of its class that its own body called right before. So it is also if memory runs
 /// out (Jakarta Interceptors 2.1, *Interceptor Methods for Lifecycle Event Callbacks*).
 #[tactic(auto, using(crate::proofs::Farewells::bodies_are_farewells, crate::proofs::Farewells::farewells_if_short))]
@@ -72,6 +80,50 @@ pub fn law_bodies<D: Driver>(driver: &D)
     ensures with_memory { (tables : Tables) → BodiesAreFarewells tables (D.legal driver.now) }
     ensures short_of_memory { (tables : Tables) →
         BodiesAreFarewellsIfShort tables (D.legal driver.now) }
+{
+    let _driver = driver;
+}
+
+/// The bodies of a pre-destroy chain, and the callbacks, run in the destruction of their instance alone: if a callback's
+/// place is no other body's, and an interceptor's places are its own, such a body starts only between the instance's `end`
+/// and its `gone`. So it is also if memory runs out (Jakarta Interceptors 2.1, *Interceptor Methods for Lifecycle Event
+/// Callbacks*).
+#[tactic(auto, using(crate::proofs::Callbacks::farewells_in_destruction, crate::proofs::Callbacks::farewells_in_short))]
+pub fn law_callbacks<D: Driver>(driver: &D)
+    ensures with_memory { (tables : Tables) → FarewellsInDestruction tables (D.legal driver.now) }
+    ensures short_of_memory { (tables : Tables) →
+        FarewellsInDestructionIfShort tables (D.legal driver.now) }
+{
+    let _driver = driver;
+}
+
+/// The first body of a pre-destroy chain and its callbacks starts nowhere but right behind the mark of the destruction, if
+/// also the first interceptor stands in the chain once, and the first callback's place is no further one's. Only where no
+/// interceptor stands before the callbacks may a body that proceeds run them again. So it is also if memory runs out.
+#[tactic(auto, using(crate::proofs::Firsts::begins_only_at_mark, crate::proofs::Firsts::begins_only_if_short))]
+pub fn law_firsts<D: Driver>(driver: &D)
+    ensures with_memory { (tables : Tables) → BeginsOnlyAtMark tables (D.legal driver.now) }
+    ensures short_of_memory { (tables : Tables) →
+        BeginsOnlyAtMarkIfShort tables (D.legal driver.now) }
+{
+    let _driver = driver;
+}
+
+/// An owner is older than what it owns: at the end of each command, cut or not, its number is smaller (Jakarta CDI 4.0,
+/// *Dependent objects*).
+#[tactic(auto, using(crate::proofs::Settled::owners_are_smaller))]
+pub fn law_owners<D: Driver>(driver: &D)
+    ensures smaller { (tables : Tables) → OwnersAreSmaller tables (D.legal driver.now) }
+{
+    let _driver = driver;
+}
+
+/// The entries that a command adds to the items are its trace. So it is also if memory runs out.
+#[tactic(auto, using(crate::proofs::Traces::adds_its_trace))]
+pub fn law_traces<D: Driver>(driver: &D)
+    ensures with_memory { (tables : Tables) → AddsItsTrace tables (D.legal driver.now) ⊥ }
+    ensures short_of_memory { (tables : Tables) →
+        AddsItsTrace tables (D.legal driver.now) (Unit {0}) }
 {
     let _driver = driver;
 }

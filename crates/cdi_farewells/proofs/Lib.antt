@@ -1,0 +1,3 @@
+mod Without
+mod Calm
+pub mod Beginning

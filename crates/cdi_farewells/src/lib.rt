@@ -1,0 +1,4 @@
+//! What runs in the destruction of an instance.
+#![tactic(auto)]
+
+pub mod laws;
