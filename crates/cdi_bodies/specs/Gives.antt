@@ -1,12 +1,12 @@
 -- What the registered bodies may give.
-use Rattle.std.specs.Prelude.{◌≡◌, ℕ, ◌==◌, List, Bool, Option, is_some, Ok, true, slice_get, option_map, position, MatchOption, IfSome}
+use Rattle.std.specs.Prelude.{◌≡◌, ℕ, ◌==◌, List, Bool, Option, Some, None, is_some, Ok, true, slice_get, option_map, position, MatchOption}
 use Rattle.std.specs.Borrow.{Bor}
 use Rattle.cdi_base.specs.declared.act.Act.{Act}
 use Rattle.cdi_base.specs.declared.fields.Fields.{Fields}
 use Rattle.cdi_bodies.specs.declared.entry.Entry.{Entry}
 use Rattle.cdi_bodies.specs.declared.shape.Shape.{Shape}
 use Rattle.cdi_bodies.specs.declared.view.View.{View}
-use Rattle.cdi_bodies.specs.Shape.{in_shape}
+use Rattle.cdi_bodies.specs.Shape.{in_shape, no_acts}
 
 -- the entry's closure promises that it may answer this act where it is shown these fields and this view
 pub record Promises {X : Type 0} {F : X → Type 0} {g : _} (e : Entry X F g) (fields : Fields)
@@ -36,11 +36,15 @@ place_of entries name = position (λ e. e.name == name) entries
 abbrev pub is_named : {X : Type 0} {F : X → Type 0} {g : _} → List (Entry X F g) → ℕ → Bool
 is_named entries name = is_some (place_of entries name)
 
+-- where there is no body, nothing is listed
+abbrev pub shape_or_none : Option Shape → Shape
+shape_or_none None = no_acts
+shape_or_none (Some shape) = shape
+
 -- the act lies in the shape of the body under this number
 abbrev pub LiesInShape : {X : Type 0} {F : X → Type 0} {g : _} → List (Entry X F g) → ℕ → View → Act
     → Type 0
-LiesInShape entries id view act =
-    IfSome (shape_at entries id) (λ shape. in_shape shape view act ≡ true)
+LiesInShape entries id view act = in_shape (shape_or_none (shape_at entries id)) view act ≡ true
 
 -- whatever a body may give lies in its shape
 abbrev pub LieInShape : {X : Type 0} {F : X → Type 0} {g : _} → List (Entry X F g) → Type 0

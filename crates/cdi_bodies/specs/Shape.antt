@@ -43,7 +43,7 @@ in_shape shape view (acts.Proceed args) = shape.chain
 in_shape shape view (acts.Find lookup) = nat_lt lookup (length shape.lookups)
 in_shape shape view (acts.Keep key value) = shape.chain
 in_shape shape view (acts.Peek key) = shape.chain
-in_shape shape view (acts.Destroy local) = nat_lt local (length shape.lookups)
+in_shape shape view (acts.Destroy local) = list_any (λ k. k == local) shape.destroys
 in_shape shape view (acts.Give value) = true
 in_shape shape view (acts.Throw exception) =
     list_any (λ x. x == exception) shape.throws || is_thrown exception (last_answer view)
@@ -58,6 +58,7 @@ no_acts =
       cells = [];
       fires = [];
       lookups = [];
+      destroys = [];
       throws = [];
       chain = false;
     }

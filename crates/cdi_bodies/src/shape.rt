@@ -51,6 +51,9 @@ pub struct Shape {
     pub fires: Seq<FiredEvent>,
     /// The lookups that it may make. The lookup at index k gives its reference to the local k.
     pub lookups: Seq<Lookup>,
+    /// The locals behind which it may destroy an instance (Jakarta CDI 4.0, *The Instance interface*). A deployment whose
+    /// lookups don't give each of them has a problem.
+    pub destroys: Seq<u32>,
     /// The exceptions that it may throw of its own accord.
     pub throws: Seq<Name>,
     /// Whether it may go on with an interceptor chain, and keep or read context data of the invocation
@@ -70,6 +73,7 @@ impl Shape {
             cells: Seq::empty(alloc),
             fires: Seq::empty(alloc),
             lookups: Seq::empty(alloc),
+            destroys: Seq::empty(alloc),
             throws: Seq::empty(alloc),
             chain: false,
         }

@@ -5,6 +5,7 @@ use Rattle.std.specs.List.{AllByRecursion}
 use Rattle.cdi_base.specs.declared.value.Value.{Value}
 use Rattle.cdi_base.specs.declared.value.Value.TheVariants as values
 use Rattle.cdi_base.specs.declared.act.Act.{Act}
+use Rattle.cdi_bodies.specs.declared.view.View.{View}
 use Rattle.cdi_base.specs.declared.act.Act.TheVariants as acts
 use Rattle.cdi_base.specs.declared.act.Via.TheVariants as vias
 use Rattle.cdi_base.specs.declared.act.Answer.{Answer}
@@ -21,7 +22,7 @@ use Rattle.cdi_store.specs.declared.references.Reference.{Reference}
 use Rattle.cdi_store.specs.declared.references.Reference.TheVariants.{Direct, Proxy}
 use Rattle.cdi_store.specs.declared.references.Reference.TheVariants.{Empty as NoReference}
 use Rattle.cdi_machine.specs.Words.{Name, Fields}
-use Rattle.cdi_machine.specs.Tables.{Tables, Code, Method, Managed, Kind}
+use Rattle.cdi_machine.specs.Tables.{Tables, Code, Method, Managed, Kind, written_act}
 use Rattle.cdi_machine.specs.World.{World, Change, Invocation, after_change, with_entry, instance_at}
 use Rattle.cdi_machine.specs.Programs.{Task, Given, Completion, Gave, Threw, Running, Prog, ret, throw, handle, attempt, alter, call, each, finally}
 use Rattle.cdi_machine.specs.Contexts.{reach_instance}
@@ -221,10 +222,16 @@ module _ (tables : Tables) (legal : Legal) (fits : Fits tables legal) where
   perform_safe r (acts.Peek key) w g h q = absurd q
   perform_safe r (acts.Destroy k) w g h q = absurd q
 
+  -- an act that is served is so in its written form
+  written_served : (c : Managed) (view : View) (a : Act) → IsServedAct tables c view a → IsServedAct tables c view (written_act tables a)
+  written_served c view (acts.Fire class qualifiers v) h = h
+  written_served c view a h = h
+
   pub acts_safe : (r : Running) (w : World) → Good tables legal w → Runs tables legal w.instances r → Does (carry_on r) w (AfterBody w)
   acts_safe r w g h =
       let s = h.0 in
       found tables legal fits (instance_at w r.instance) s.lives.instance _ w _ s.lives.there (
-      λ count a given. perform_safe r a (with_entry (entries.Did a) w) g h
+      λ count a given. perform_safe r (written_act tables a) (with_entry (entries.Did (written_act tables a)) w) g h
+      (written_served s.served.class r.view a
       (s.served.gives s.name count s.method s.lives.instance.fields r.view a s.has
-      (subst (λ b. legal.gives b count s.lives.instance.fields r.view a) (sym s.is) given)))
+      (subst (λ b. legal.gives b count s.lives.instance.fields r.view a) (sym s.is) given))))

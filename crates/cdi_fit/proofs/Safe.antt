@@ -3,7 +3,7 @@ use Rattle.std.proofs.Common.{ℕ, ◌<◌}
 use Rattle.cdi_base.specs.declared.act.Act.{Act}
 use Rattle.cdi_base.specs.declared.entry.Entry.TheVariants as entries
 use Rattle.cdi_machine.specs.Words.{Name}
-use Rattle.cdi_machine.specs.Tables.{Tables}
+use Rattle.cdi_machine.specs.Tables.{Tables, written_act}
 use Rattle.cdi_machine.specs.World.{World, after_change, with_entry}
 use Rattle.cdi_machine.specs.Programs.{Task, Given, Completion, Gave, Threw, Prog, ret, throw, cut, miss, see, change, tick, mark, act, choose, nested, candidates, handle}
 use Rattle.cdi_machine.specs.Machine.{machine}
@@ -25,7 +25,7 @@ module _ (tables : Tables) (legal : Legal) (Pre : Task → World → Type 0) (Po
   Safe (change g p) w Q = Safe p (after_change g w) Q
   Safe (tick e p) w Q = Safe p (with_entry e w) Q
   Safe (mark n p) w Q = Safe p w Q
-  Safe (act b fields view k) w Q = (count : ℕ) (a : Act) → legal.gives b count fields view a → Safe (k a) (with_entry (entries.Did a) w) Q
+  Safe (act b fields view k) w Q = (count : ℕ) (a : Act) → legal.gives b count fields view a → Safe (k (written_act tables a)) (with_entry (entries.Did (written_act tables a)) w) Q
   Safe (choose n k) w Q = (i : ℕ) → i < candidates n → Safe (k i) (with_entry (entries.Pick (candidates n) i) w) Q
   Safe (nested t k) w Q = Pre t w × ((c : Completion Given) (u : World) → Post t w c u → Safe (k c) u Q)
 
@@ -41,7 +41,7 @@ module _ (tables : Tables) (legal : Legal) (Pre : Task → World → Type 0) (Po
   bind (change x p) f g w R Q d kf kg = bind p f g (after_change x w) R Q d kf kg
   bind (tick e p) f g w R Q d kf kg = bind p f g (with_entry e w) R Q d kf kg
   bind (mark n p) f g w R Q d kf kg = bind p f g w R Q d kf kg
-  bind (act b fields view k) f g w R Q d kf kg = λ n a l. bind (k a) f g (with_entry (entries.Did a) w) R Q (d n a l) kf kg
+  bind (act b fields view k) f g w R Q d kf kg = λ n a l. bind (k (written_act tables a)) f g (with_entry (entries.Did (written_act tables a)) w) R Q (d n a l) kf kg
   bind (choose n k) f g w R Q d kf kg = λ i l. bind (k i) f g (with_entry (entries.Pick (candidates n) i) w) R Q (d i l) kf kg
   bind (nested t k) f g w R Q d kf kg = (d.0, λ c u q. bind (k c) f g u R Q (d.1 c u q) kf kg)
 
@@ -55,7 +55,7 @@ module _ (tables : Tables) (legal : Legal) (Pre : Task → World → Type 0) (Po
   weaker (change x p) w R Q d f = weaker p (after_change x w) R Q d f
   weaker (tick e p) w R Q d f = weaker p (with_entry e w) R Q d f
   weaker (mark n p) w R Q d f = weaker p w R Q d f
-  weaker (act b fields view k) w R Q d f = λ n a l. weaker (k a) (with_entry (entries.Did a) w) R Q (d n a l) f
+  weaker (act b fields view k) w R Q d f = λ n a l. weaker (k (written_act tables a)) (with_entry (entries.Did (written_act tables a)) w) R Q (d n a l) f
   weaker (choose n k) w R Q d f = λ i l. weaker (k i) (with_entry (entries.Pick (candidates n) i) w) R Q (d i l) f
   weaker (nested t k) w R Q d f = (d.0, λ c u q. weaker (k c) u R Q (d.1 c u q) f)
 

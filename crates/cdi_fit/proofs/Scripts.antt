@@ -12,7 +12,7 @@ use Rattle.cdi_bodies.specs.Shape.{is_thrown, last_answer}
 use Rattle.cdi_machine.specs.Words.{Fields}
 use Rattle.cdi_machine.specs.Tables.{Managed}
 use Rattle.cdi_machine.specs.Scripts.{Step, set, call, own, read, write, fire, proceed, proceed_with, find, keep, peek, destroy, give, throw, catch, last_of, value_by, act_of, is_catch, from_next, steps_behind, steps_left, at_the_end, next_step, next}
-use Rattle.cdi_machine.specs.Deployments.{Deployment, tables_of, as_written}
+use Rattle.cdi_machine.specs.Deployments.{Deployment, tables_of}
 use Rattle.cdi_fit.specs.Fits.{HasMethod, AnswersThrough, HasText, IsServedAct}
 use Rattle.cdi_ownership.proofs.Lists.{map_length}
 
@@ -39,7 +39,7 @@ module _ (d : Deployment) (c : Managed) where
 
   module _ (fields : Fields) (view : View) where
     abbrev Serves : Act → Type 0
-    Serves a = IsServedAct (tables_of d) c view (as_written d a)
+    Serves a = IsServedAct (tables_of d) c view a
 
     step_served : (s : Step) → IsServedStep s → Serves (act_of fields view s)
     step_served (set name e) h = h

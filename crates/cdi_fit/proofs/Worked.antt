@@ -14,7 +14,7 @@ use Rattle.cdi_machine.specs.Words.{Name, Fields, Asked}
 use Rattle.cdi_machine.specs.Tables.{Tables, Method, Managed, Step, One}
 use Rattle.cdi_machine.specs.Runs.{Legal}
 use Rattle.cdi_machine.specs.Scripts.{Expression, Plain, next}
-use Rattle.cdi_machine.specs.Deployments.{Deployment, tables_of, steps_of, as_written, played_by, first_chosen, of_type, managed_bean, method, resolution}
+use Rattle.cdi_machine.specs.Deployments.{Deployment, tables_of, steps_of, played_by, first_chosen, of_type, managed_bean, method, resolution}
 use Rattle.cdi_machine.specs.Evaluator.{legal_in}
 use Rattle.cdi_fit.specs.Fits.{HasMethod, IsClassOf, AnswersThrough, IsServedAct, GivesServed, IsServedBean}
 use Rattle.cdi_ownership.specs.Whose.{IsIn}
@@ -40,7 +40,7 @@ right_legal = legal_in (played_by right first_chosen)
 of_script : (c : Managed) (body : ℕ) (m own : Method) (entries : ℕ) (fields : Fields) (view : View) (a : Act) → own ≡ m → own.code.body ≡ body
     → right_legal.gives m.code.body entries fields view a → AllByRecursion (IsServedStep right c) (steps_of (slice_get right.scripts body)) → IsServedAct right_tables c view a
 of_script c body m own entries fields view a same is given h =
-    let e : a ≡ as_written right (next (steps_of (slice_get right.scripts body)) fields view) =
+    let e : a ≡ next (steps_of (slice_get right.scripts body)) fields view =
     subst (λ i. right_legal.gives i entries fields view a) (ap (λ (x : Method). x.code.body) (sym same) ∙ is) given in
     subst (IsServedAct right_tables c view) (sym e) (script_served right c fields view (steps_of (slice_get right.scripts body)) h)
 

@@ -4,7 +4,7 @@ use Rattle.std.specs.Prelude.{Ok, Err, IsErr}
 use Rattle.std.specs.Prelude.{Result as Either}
 use Rattle.cdi_base.specs.declared.reply.Cause.TheVariants as causes
 use Rattle.cdi_machine.specs.declared.driver.Failure.{Failure}
-use Rattle.cdi_machine.specs.Tables.{Tables}
+use Rattle.cdi_machine.specs.Tables.{Tables, written_act}
 use Rattle.cdi_machine.specs.World.{World}
 use Rattle.cdi_machine.specs.Programs.{Given, Completion, Gave, Threw, Prog, ret, throw, cut, miss, see, change, tick, mark, act, choose, nested}
 use Rattle.cdi_machine.specs.Runs as runs
@@ -73,7 +73,7 @@ module _ (tables : Tables) (legal : Legal) (Starved : Type 0) where
       let h = around_splits p k w o v r in record { outcome = h.outcome; world = h.world; inner = Runs.marks h.inner; outer = h.outer }
   around_splits (mark n p) k w o v (Runs.starves s) = record { outcome = runs.Cut causes.Memory; world = w; inner = Runs.starves s; outer = Runs.cuts }
   around_splits (act b fields view f) k w o v (Runs.does a l (Runs.writes room r)) =
-      let h = around_splits (f a) k _ o v r in record { outcome = h.outcome; world = h.world; inner = Runs.does a l (Runs.writes room h.inner); outer = h.outer }
+      let h = around_splits (f (written_act tables a)) k _ o v r in record { outcome = h.outcome; world = h.world; inner = Runs.does a l (Runs.writes room h.inner); outer = h.outer }
   around_splits (act b fields view f) k w o v (Runs.does a l (Runs.is_full full)) = record { outcome = runs.Cut causes.Ticks; world = w; inner = Runs.does a l (Runs.is_full full); outer = Runs.cuts }
   around_splits (act b fields view f) k w o v (Runs.does a l (Runs.starves s)) = record { outcome = runs.Cut causes.Memory; world = w; inner = Runs.starves s; outer = Runs.cuts }
   around_splits (act b fields view f) k w o v (Runs.starves s) = record { outcome = runs.Cut causes.Memory; world = w; inner = Runs.starves s; outer = Runs.cuts }

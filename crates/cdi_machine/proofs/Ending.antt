@@ -25,7 +25,7 @@ module _ (tables : Tables) (legal : Legal) (served : IsServed legal) where
   halts p w = free tables legal served (suc (room w)) (tasks_halt (suc (room w))) p w (omega arith)
 
 module _ (tables : Tables) (legal : Legal) where
-  pub ends : Ends tables legal
+  pub ends : IsServed legal → Ends tables legal
   ends served p w = halts tables legal served p w
 
 module _ (tables : Tables) (legal loose : Legal) where
@@ -98,5 +98,5 @@ module _ (tables : Tables) (legal loose : Legal) where
   answer {w = w} {v = v} {o = o} (whole r) = (o, v, widens tables legal (followed_by (length v.trace) legal loose) (within (length v.trace)) _ w v o r, goes_self v)
   answer (short e o' v' s g) = (o', v', s, g)
 
-  pub on_its_way : OnItsWay tables legal loose
+  pub on_its_way : IsServed loose → OnItsWay tables legal loose
   on_its_way served p w v o r = let a = answer (way served r) in (a.0, a.1, a.2, a.3)

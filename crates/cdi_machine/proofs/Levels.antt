@@ -9,7 +9,7 @@ use Rattle.cdi_store.specs.declared.instance.Owner.TheVariants as owners
 use Rattle.cdi_store.specs.declared.instance.Instance.{Instance}
 use Rattle.cdi_store.specs.Live.{all_but}
 use Rattle.cdi_machine.specs.Words.{Name}
-use Rattle.cdi_machine.specs.Tables.{Tables}
+use Rattle.cdi_machine.specs.Tables.{Tables, written_act}
 use Rattle.cdi_machine.specs.World.{World, Change, after_change, instance_at, for_instance, with_making, with_owned, without_owned, without_making, on_top, below}
 use Rattle.cdi_machine.specs.Programs.{Task, Given, Completion, Prog, ret, throw, cut, miss, see, change, tick, mark, act, choose, nested, handle}
 use Rattle.cdi_machine.specs.Machine.{machine}
@@ -145,7 +145,7 @@ module _ (tables : Tables) (legal : Legal) (tasks : TasksLevel) where
   ends_at {w = w} e (Runs.changes {g = g} {p = p} r) q = ends_at e r (subst (λ z. Steady e z p) (sym (shifted g w)) q)
   ends_at e (Runs.writes h r) q = ends_at e r q
   ends_at e (Runs.marks r) q = ends_at e r q
-  ends_at e (Runs.does a h r) q = ends_at e r (q a)
+  ends_at e (Runs.does a h r) q = ends_at e r (q (written_act tables a))
   ends_at e (Runs.picks i l c r) q = ends_at e r (q i)
   ends_at {w = w} e (Runs.calls {t = t} {k = k} {u = u} {o1 = Completes d} r1 r) q =
       let a : height u ≡ height w = ends_at (height w) r1 (tasks t (height w)) in

@@ -1,6 +1,7 @@
 pub mod Total
 pub mod Ranks
 pub mod Ending
+pub mod InShapes
 pub mod Sound
 pub mod Order
 pub mod Worked

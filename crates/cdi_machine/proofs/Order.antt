@@ -1,12 +1,13 @@
 -- What runs of one program from one world have in common.
 use Rattle.std.proofs.Common.{ℕ, ◌≡◌, ◌<◌, ◌+◌, List, [], ◌∷◌, ◌++◌, length, append_assoc, append-nil, refl, sym, ◌∙◌, subst, arith, Option, Some, None}
+use Rattle.cdi_base.specs.declared.act.Act.{Act}
 use Rattle.cdi_base.specs.declared.entry.Entry.{Entry}
 use Rattle.cdi_base.specs.declared.entry.Entry.TheVariants as entries
 use Rattle.cdi_store.specs.declared.instance.Component.{Component}
 use Rattle.cdi_store.specs.declared.instance.Owner.{Owner}
 use Rattle.cdi_store.specs.declared.instance.Owner.TheVariants as owners
 use Rattle.cdi_store.specs.declared.instance.Instance.{Instance}
-use Rattle.cdi_machine.specs.Tables.{Tables}
+use Rattle.cdi_machine.specs.Tables.{Tables, written_act}
 use Rattle.cdi_machine.specs.World.{World, Change, after_change, with_entry, instance_at, for_instance, with_making, with_owned, without_owned, without_making}
 use Rattle.cdi_machine.specs.Programs.{Given, Prog, candidates}
 use Rattle.cdi_machine.specs.Runs.{Legal, Outcome, Runs, rest_after}
@@ -149,7 +150,7 @@ module _ (tables : Tables) (legal : Legal) where
   same zs (Runs.is_full h) (Runs.is_full h') a b = record { outcome = refl; world = refl }
   same zs (Runs.marks r) (Runs.marks r') a b = same zs r r' a b
   same {w = w} {v' = v'} {o' = o'} zs (Runs.does {k = k} x g (Runs.writes h r)) (Runs.does y g' (Runs.writes h' r')) a b =
-      let q = wrote w zs r' r b a in let e : y ≡ x = cc in
+      let q = wrote w zs r' r b a in let e : written_act tables y ≡ written_act tables x = cc in
       same zs r (subst (λ z. Runs tables legal ⊥ (k z) (with_entry (entries.Did z) w) o' v') e r') a b
   same zs (Runs.does x g (Runs.writes h r)) (Runs.does y g' (Runs.is_full h')) a b = absurd (omega arith)
   same zs (Runs.does x g (Runs.is_full h)) (Runs.does y g' (Runs.writes h' r')) a b = absurd (omega arith)
@@ -184,7 +185,7 @@ module _ (tables : Tables) (legal : Legal) where
   one i (Runs.marks r) (Runs.marks r') = one i r r'
   one i {w = w} {v' = v'} {o' = o'} (Runs.does {b = b} {fields = fields} {view = view} {k = k} x g r) (Runs.does y g' r') =
       let e : y ≡ x = i.act b (length w.trace) fields view y x g' g in
-      one i r (subst (λ (z : _). Runs tables legal ⊥ (Prog.tick (entries.Did z) (k z)) w o' v') e r')
+      one i r (subst (λ (z : Act). Runs tables legal ⊥ (Prog.tick (entries.Did (written_act tables z)) (k (written_act tables z))) w o' v') e r')
   one i {w = w} {v' = v'} {o' = o'} (Runs.picks {n = n} {k = k} x l c r) (Runs.picks y l' c' r') =
       let e : y ≡ x = i.pick (candidates n) (length w.trace) y x c' c in
       one i r (subst (λ (z : ℕ). Runs tables legal ⊥ (Prog.tick (entries.Pick (candidates n) z) (k z)) w o' v') e r')

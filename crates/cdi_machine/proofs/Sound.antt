@@ -6,6 +6,7 @@ use Rattle.cdi_base.specs.declared.entry.Entry.TheVariants as entries
 use Rattle.cdi_base.specs.declared.reply.Cause.TheVariants as causes
 use Rattle.cdi_base.specs.declared.reply.Reply.{Reply}
 use Rattle.cdi_base.specs.declared.reply.Refusal.{Refusal}
+use Rattle.cdi_machine.specs.Tables.{written_act}
 use Rattle.cdi_machine.specs.World.{World, after_change, with_entry}
 use Rattle.cdi_machine.specs.Programs.{Task, Given, Completion, Prog, ret, throw, cut, miss, see, change, tick, mark, act, choose, nested, candidates}
 use Rattle.cdi_machine.specs.Machine.{machine}
@@ -60,8 +61,8 @@ module _ (s : Setting) where
   sound rec tells (tick x p) w o v e = wrote x p (λ u. steps s rec p u) w (λ u o1 v1 q. sound rec tells p u o1 v1 q) o v e
   sound rec tells (mark n p) w o v e = Runs.marks (sound rec tells p w o v e)
   sound rec tells (act b fields view k) w o v e =
-      let a = s.acts b (length w.trace) fields view in
-      Runs.does a refl (wrote (entries.Did a) (k a) (λ u. steps s rec (k a) u) w (λ u o1 v1 q. sound rec tells (k a) u o1 v1 q) o v e)
+      let a = written_act s.tables (s.acts b (length w.trace) fields view) in
+      Runs.does (s.acts b (length w.trace) fields view) refl (wrote (entries.Did a) (k a) (λ u. steps s rec (k a) u) w (λ u o1 v1 q. sound rec tells (k a) u o1 v1 q) o v e)
   sound rec tells (choose n k) w o v e =
       let i = s.chooses (candidates n) (length w.trace) in
       elim (nat_lt i (candidates n)) as (λ b. nat_lt i (candidates n) ≡ b → ◌≡◌ {A = Came} (elim b [ true ↦ after_entry (entries.Pick (candidates n) i) w (λ u. steps s rec (k i) u) | false ↦ None ]) (Some (o, v)) → Leads (choose n k) w o v) [

@@ -8,7 +8,7 @@ use Rattle.cdi_base.specs.declared.entry.Entry.TheVariants as entries
 use Rattle.cdi_base.specs.declared.reply.Cause.TheVariants as causes
 use Rattle.cdi_store.specs.declared.instance.Instance.{Instance}
 use Rattle.cdi_machine.specs.Words.{Name}
-use Rattle.cdi_machine.specs.Tables.{Tables}
+use Rattle.cdi_machine.specs.Tables.{Tables, written_act}
 use Rattle.cdi_machine.specs.World.{World, instance_at, after_change, with_entry}
 use Rattle.cdi_machine.specs.Destruction.{only_ready, destroy_ready}
 use Rattle.cdi_machine.specs.Programs.{Task, Given, Completion, Gave, Threw, require_present, Prog, ret, throw, cut, miss, see, change, tick, mark, act, choose, nested, candidates, handle}
@@ -111,7 +111,7 @@ module _ (tables : Tables) (legal : Legal) (served : IsServed legal) where
       by_test false q = (Cut causes.Ticks, w, Runs.is_full (grind arith))
 
   acted : (b : ℕ) (fields : _) (view : _) (k : Act → Prog Given) (w : World) → ((a : Act) → Halts (tick (entries.Did a) (k a)) w) → Halts (act b fields view k) w
-  acted b fields view k w f = let a = served.act b (length w.trace) fields view in let r = f a.0 in (r.0, r.1, Runs.does a.0 a.1 r.2)
+  acted b fields view k w f = let a = served.act b (length w.trace) fields view in let r = f (written_act tables a.0) in (r.0, r.1, Runs.does a.0 a.1 r.2)
 
   chose : (n : ℕ) (k : ℕ → Prog Given) (w : World) → ((i : ℕ) → Halts (tick (entries.Pick (candidates n) i) (k i)) w) → Halts (choose n k) w
   chose n k w f = let i = served.pick (candidates n) (length w.trace) (omega arith) in let r = f i.0 in (r.0, r.1, Runs.picks i.0 i.1 i.2 r.2)

@@ -1,8 +1,6 @@
 -- Small deployments for worked runs.
 use Rattle.std.specs.Prelude.{ℕ, ◌-◌, List, [], ◌∷◌, Bool, true, false, ◌&&◌, Option, Some, None, slice_get, nat_eq}
 use Rattle.cdi_base.specs.declared.value.Value.TheVariants as values
-use Rattle.cdi_base.specs.declared.act.Act.{Act}
-use Rattle.cdi_base.specs.declared.act.Act.TheVariants as acts
 use Rattle.cdi_base.specs.declared.entry.Entry.{Entry}
 use Rattle.cdi_base.specs.declared.entry.Entry.TheVariants as entries
 use Rattle.cdi_base.specs.declared.place.Place.TheVariants as places
@@ -94,17 +92,12 @@ first_chosen n entries = 0
 abbrev pub last_chosen : ℕ → ℕ → ℕ
 last_chosen n entries = n - 1
 
-abbrev pub as_written : Deployment → Act → Act
-as_written d (acts.Fire class uses v) = acts.Fire class (rewriting d.written uses) v
-as_written d a = a
-
 -- the bodies are the scripts
 abbrev pub played_by : Deployment → (ℕ → ℕ → ℕ) → Setting
 played_by d chooses =
     record {
       tables = tables_of d;
-      acts = λ body entries fields view.
-          as_written d (next (steps_of (slice_get d.scripts body)) fields view);
+      acts = λ body entries fields view. next (steps_of (slice_get d.scripts body)) fields view;
       chooses = chooses;
     }
 

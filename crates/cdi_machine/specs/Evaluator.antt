@@ -9,7 +9,7 @@ use Rattle.cdi_base.specs.declared.reply.Reply.TheVariants as replies
 use Rattle.cdi_base.specs.declared.reply.Refusal.{Refusal}
 use Rattle.cdi_bodies.specs.declared.view.View.{View}
 use Rattle.cdi_machine.specs.Words.{Fields}
-use Rattle.cdi_machine.specs.Tables.{Tables}
+use Rattle.cdi_machine.specs.Tables.{Tables, written_act}
 use Rattle.cdi_machine.specs.World.{World, after_change, with_entry}
 use Rattle.cdi_machine.specs.Programs.{Task, Given, Completion, Gave, Threw, Prog, ret, throw, cut, miss, see, change, tick, mark, act, choose, nested, candidates}
 use Rattle.cdi_machine.specs.Machine.{machine}
@@ -58,7 +58,7 @@ module _ (s : Setting) where
   steps rec (tick e p) w = after_entry e w (λ u. steps rec p u)
   steps rec (mark n p) w = steps rec p w
   steps rec (act b fields view k) w =
-      let a = s.acts b (length w.trace) fields view in
+      let a = written_act s.tables (s.acts b (length w.trace) fields view) in
       after_entry (entries.Did a) w (λ u. steps rec (k a) u)
   steps rec (choose n k) w =
       let i = s.chooses (candidates n) (length w.trace) in

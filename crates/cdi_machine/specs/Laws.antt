@@ -67,8 +67,7 @@ pub record IsServed (legal : Legal) : Type 0 where
 -- every program has a run from every world: it ends, and its rules leave no gap
 abbrev pub Ends : Tables → Legal → Type 0
 Ends tables legal =
-    IsServed legal → (p : Prog Given) (w : World)
-    → (o : Outcome) × (v : World) × Runs tables legal ⊥ p w o v
+    (p : Prog Given) (w : World) → (o : Outcome) × (v : World) × Runs tables legal ⊥ p w o v
 
 -- so many entries as the one, and from then on as the other
 abbrev pub followed_by : ℕ → Legal → Legal → Legal
@@ -86,8 +85,7 @@ followed_by n first then =
 -- such as `loose` has it.
 abbrev pub OnItsWay : Tables → Legal → Legal → Type 0
 OnItsWay tables legal loose =
-    IsServed loose → (p : Prog Given) (w v : World) (o : Outcome)
-    → Runs tables legal (Unit {0}) p w o v
+    (p : Prog Given) (w v : World) (o : Outcome) → Runs tables legal (Unit {0}) p w o v
     → (o' : Outcome) × (v' : World)
     × Runs tables (followed_by (length v.trace) legal loose) ⊥ p w o' v' × Goes v v'
 

@@ -7,14 +7,14 @@ use Rattle.cdi_base.specs.declared.reply.Cause.{Cause}
 use Rattle.cdi_base.specs.declared.reply.Cause.TheVariants as causes
 use Rattle.cdi_bodies.specs.declared.view.View.{View}
 use Rattle.cdi_machine.specs.Words.{Name, Fields}
-use Rattle.cdi_machine.specs.Tables.{Tables}
+use Rattle.cdi_machine.specs.Tables.{Tables, written_act}
 use Rattle.cdi_machine.specs.World.{World, Change, after_change, with_entry}
 use Rattle.cdi_machine.specs.Programs.{Task, Given, Completion, Gave, Threw, Prog, ret, throw, cut, miss, see, change, tick, mark, act, choose, nested, candidates}
 use Rattle.cdi_machine.specs.Machine.{machine}
 
 -- What is legal if the rules leave it open. Both are told how many entries the command has so far.
 pub record Legal : Type 1 where
-  -- which act a body may give, in its written form, by its number, the fields of its instance and its view
+  -- which act a body may give, by its number, the fields of its instance and its view
   pub gives : ℕ → ℕ → Fields → View → Act → Type 0
   -- of so many candidates, which one may be picked
   pub picks : ℕ → ℕ → ℕ → Type 0
@@ -55,11 +55,13 @@ pub data Runs (tables : Tables) (legal : Legal) (Starved : Type 0)
   marks : {n : ℕ} {p : Prog Given} {w v : World} {o : Outcome}
       → Runs tables legal Starved p w o v
       → Runs tables legal Starved (mark n p) w o v
-  -- a body gives an act that is legal, and a candidate is picked that is; the entry is written next
+  -- A body gives an act that is legal, and it is taken in its written form: a body may give uses in any order, with Any,
+  -- and without null members. A candidate is picked that is legal. The entry is written next.
   does : {b : ℕ} {fields : Fields} {view : View} {k : Act → Prog Given}
       {w v : World} {o : Outcome} (a : Act)
       → legal.gives b (length w.trace) fields view a
-      → Runs tables legal Starved (tick (entries.Did a) (k a)) w o v
+      → Runs tables legal Starved
+      (tick (entries.Did (written_act tables a)) (k (written_act tables a))) w o v
       → Runs tables legal Starved (act b fields view k) w o v
   picks : {n : ℕ} {k : ℕ → Prog Given} {w v : World} {o : Outcome} (i : ℕ)
       → i < candidates n

@@ -1,6 +1,8 @@
 -- What the machine asks of a deployment: look-ups of beans, interceptors and observers, and resolution (Jakarta CDI 4.0,
 -- *Typesafe resolution* and *Observer resolution*).
 use Rattle.std.specs.Prelude.{ℕ, List, Option, Bool}
+use Rattle.cdi_base.specs.declared.act.Act.{Act}
+use Rattle.cdi_base.specs.declared.act.Act.TheVariants as acts
 use Rattle.cdi_base.specs.declared.place.Place.{Place}
 use Rattle.cdi_base.specs.declared.place.InterceptorMethod.{InterceptorMethod}
 use Rattle.cdi_base.specs.declared.scope.Scope.{Scope}
@@ -101,3 +103,8 @@ pub record Tables : Type 0 where
   -- whether the type and the qualifiers are known; whether it is a class that can be fired
   pub is_known : Asked → Bool
   pub is_event : Name → List Use → Bool
+
+-- an act as it is written: the uses that it names are in their written form
+abbrev pub written_act : Tables → Act → Act
+written_act t (acts.Fire class qualifiers v) = acts.Fire class (t.written qualifiers) v
+written_act t a = a

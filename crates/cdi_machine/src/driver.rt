@@ -2,11 +2,11 @@
 ghost use Rattle.std.specs.Prelude.{◌≡◌, ◌<◌, ℕ, length, IfOk};
 ghost use Rattle.cdi_bodies.specs.Table.{entries_of};
 ghost use Rattle.cdi_machine.specs.Laws.{IsWithin};
-ghost use Rattle.cdi_machine.specs.Registered.{legal_of};
+ghost use Rattle.cdi_machine.specs.Registered.{chosen_by};
 ghost use Rattle.cdi_machine.specs.declared.driver.Failure.TheVariants.{Memory};
 
 use cdi_base::{Act, Fields};
-use cdi_bodies::{Bodies, BodyId, View};
+use cdi_bodies::{Bodies, BodyId, Chooser, View};
 use std::alloc::AllocError;
 
 /// Why a driver gives nothing. The command ends there, either way by the definition's rule for want of memory.
@@ -42,7 +42,7 @@ pub trait Driver {
     /// It may have nothing to give, now or later.
     ghost may_end: { Self → Type 0 };
 
-    /// The next act of a body, in its written form.
+    /// The next act of a body. Its uses need not be in their written form.
     fn act(
         &mut self,
         body: BodyId,
@@ -69,13 +69,22 @@ pub trait Driver {
         ensures still_known { (other : ℕ) → knows self.old other → knows self.new other };
 }
 
-/// The registered bodies. Of several candidates the first is picked.
-impl Driver for Bodies {
-    ghost knows = { λ bodies body. body < length (entries_of bodies) };
+/// The registered bodies, and beside them the chooser, which picks where the rules leave an order open.
+#[derive(Drop)]
+pub struct Registered {
+    /// What the bodies may give is what their closures promise.
+    pub bodies: Bodies,
+    /// What may be picked is what the choice promises.
+    pub chooser: Chooser,
+}
 
-    ghost legal = { λ bodies. legal_of (entries_of bodies) };
+impl Driver for Registered {
+    ghost knows = { λ registered body. body < length (entries_of registered.bodies) };
 
-    ghost may_end = { λ bodies. ⊥ };
+    ghost legal = { λ registered.
+        chosen_by (entries_of registered.bodies) registered.chooser };
+
+    ghost may_end = { λ registered. ⊥ };
 
     fn act(
         &mut self,
@@ -84,10 +93,10 @@ impl Driver for Bodies {
         fields: &Fields,
         view: &View,
     ) -> Result<Act, Failure> {
-        Ok(self.next(body, fields, view)?)
+        Ok(self.bodies.next(body, fields, view)?)
     }
 
-    fn pick(&mut self, _count: u32, _entries: u64) -> Result<u32, Failure> {
-        Ok(0)
+    fn pick(&mut self, count: u32, entries: u64) -> Result<u32, Failure> {
+        Ok(self.chooser.choose(count, entries))
     }
 }

@@ -9,11 +9,11 @@ use Rattle.cdi_store.specs.declared.instance.Owner.{Owner}
 use Rattle.cdi_store.specs.declared.instance.Owner.TheVariants as owners
 use Rattle.cdi_store.specs.declared.instance.Instance.{Instance}
 use Rattle.cdi_store.specs.declared.key.Key.{Key}
-use Rattle.cdi_store.specs.Live.{Kept, is_live, all_but, newborn, with_dependent, without_dependent, for_owner, with_owner, owner_at, other_owner_at}
+use Rattle.cdi_store.specs.Live.{Kept, is_live, all_but, newborn, without_dependent, for_owner, with_owner, owner_at}
 use Rattle.cdi_store.specs.Slots.{Slots, slot_at, instances_in, kept_in, AreBelow, IsSound, IsKept, Changes, ChangesAt}
 use Rattle.cdi_store.proofs.Numbers.{equal_or_not, All-at}
-use Rattle.cdi_store.proofs.Owners.{taken_from, leaves-taken, moves}
-use Rattle.cdi_store.proofs.Owned.{put_last, relisted, owned_now, owned-same, owned-joined, owned-taken, owned-adopted, owned-born, owned-gone, owned-none}
+use Rattle.cdi_store.proofs.Owners.{taken_from, leaves-taken}
+use Rattle.cdi_store.proofs.Owned.{put_last, relisted, owned_now, owned-same, owned-joined, owned-taken, owned-released, owned-adopted, owned-born, owned-gone, owned-none}
 use Rattle.cdi_store.proofs.Slots.{Others, Taking, lying, at-instances_in, slot_of_live, occupied_at, instances_in-changed, instances_in-same, instances_in-taken, instances_in-left, sound-changed, sound-same, sound-taken, sound-left}
 
 -- ---- no instance
@@ -89,50 +89,52 @@ left-view old new m n next o s view e changes is sound =
     rw (instances-taken old new m n next o e changes sound, leaves-taken n s.instances, ← is)
     (ap (λ k. let r : Kept = record k { instances = taken_from (numbered o) n k.instances } in r) view)
 
--- ---- an instance goes from one owner to another
+-- ---- an instance leaves the list of any owner
 
-pub record Adopting (old put between new : Slab Instance) (m : Map ℕ) (owner key : Key) (before : Option Key) : Type 0 where
+pub released-kept : (old new : Slab Instance) (m : Map ℕ) (n slot next : ℕ) (owner : Key) → Changes old new owner.slot (relisted (all_but n)) → at m owner.number ≡ Some owner.slot → at m n ≡ Some slot → IsKept old.slots m next → IsKept new.slots m next
+released-kept old new m n slot next owner changes e there_is k =
+    let x = there old.slots m n slot next k.sound there_is in
+    let y = there old.slots m owner.number owner.slot next k.sound e in
+    record {
+      sound = sound-changed (relisted (all_but n)) old new m owner.slot next changes k.sound;
+      owned = rw (instances_in-changed (relisted (all_but n)) old.slots new.slots m owner.number owner.slot changes.changed changes.others k.sound.occupied k.sound.apart e) (owned-released (instances_in old.slots m) next n owner.number x.0 y.0 x.1 y.1 (below-next old.slots m n slot next k.sound there_is) k.owned);
+    }
+
+-- ---- an instance gets an owner
+
+pub record Adopting (old put new : Slab Instance) (m : Map ℕ) (owner key : Key) : Type 0 where
   pub joins : Changes old put owner.slot (relisted (put_last key.number))
-  pub leaves : ChangesAt put between before (relisted (all_but key.number))
-  pub owned : Changes between new key.slot (owned_now (owners.Instance owner.number))
+  pub owned : Changes put new key.slot (owned_now (owners.Instance owner.number))
   pub owner_there : HasSlot m owner
   pub there : HasSlot m key
-  pub before_there : IfSome before (HasSlot m)
-  pub other : numbered before ≡ other_owner_at owner.number key.number (instances_in old.slots m)
 
-module _ (old put between new : Slab Instance) (m : Map ℕ) (next : ℕ) (owner key : Key) (before : Option Key) (a : Adopting old put between new m owner key before) (s : IsSound old.slots m next) where
+module _ (old put new : Slab Instance) (m : Map ℕ) (next : ℕ) (owner key : Key) (a : Adopting old put new m owner key) (s : IsSound old.slots m next) where
   sound-put : IsSound put.slots m next
   sound-put = sound-changed (relisted (put_last key.number)) old put m owner.slot next a.joins s
 
-  sound-between : IsSound between.slots m next
-  sound-between = sound-at put between m key.number next before a.leaves sound-put
-
   sound-adopted : IsSound new.slots m next
-  sound-adopted = sound-changed (owned_now (owners.Instance owner.number)) between new m key.slot next a.owned sound-between
+  sound-adopted = sound-changed (owned_now (owners.Instance owner.number)) put new m key.slot next a.owned sound-put
 
   instances-adopted : instances_in new.slots m ≡ with_owner key.number (owners.Instance owner.number) (instances_in old.slots m)
   instances-adopted =
       let n = key.number in
       let w = owners.Instance owner.number in
-      let live = instances_in old.slots m in
       let first = instances_in-changed (relisted (put_last n)) old.slots put.slots m owner.number owner.slot a.joins.changed a.joins.others s.occupied s.apart a.owner_there in
-      let second = instances-taken put between m n next before a.before_there a.leaves sound-put in
-      let third = instances_in-changed (owned_now w) between.slots new.slots m n key.slot a.owned.changed a.owned.others sound-between.occupied sound-between.apart a.there in
-      let last : taken_from (numbered before) n (with_dependent n w live) ≡ with_dependent n w (taken_from (owner_at n live) n live) = rw a.other (moves n owner.number live (owner_at n live)) in
-      third ∙ ap (adjusted n (owned_now w)) (second ∙ ap (taken_from (numbered before) n) first ∙ last ∙ ap (with_dependent n w) (sym (leaves-taken n live)))
+      let second = instances_in-changed (owned_now w) put.slots new.slots m n key.slot a.owned.changed a.owned.others sound-put.occupied sound-put.apart a.there in
+      second ∙ ap (adjusted n (owned_now w)) first
 
-pub adopted-kept : (old put between new : Slab Instance) (m : Map ℕ) (next : ℕ) (owner key : Key) (before : Option Key) → Adopting old put between new m owner key before → IsKept old.slots m next → IsKept new.slots m next
-adopted-kept old put between new m next owner key before a k =
+pub adopted-kept : (old put new : Slab Instance) (m : Map ℕ) (next : ℕ) (owner key : Key) → Adopting old put new m owner key → None ≡ owner_at key.number (instances_in old.slots m) → IsKept old.slots m next → IsKept new.slots m next
+adopted-kept old put new m next owner key a alone k =
     let x = there old.slots m key.number key.slot next k.sound a.there in
     let y = there old.slots m owner.number owner.slot next k.sound a.owner_there in
     record {
-      sound = sound-adopted old put between new m next owner key before a k.sound;
-      owned = rw (instances-adopted old put between new m next owner key before a k.sound) (owned-adopted (instances_in old.slots m) next key.number owner.number x.0 y.0 x.1 y.1 (below-next old.slots m key.number key.slot next k.sound a.there) k.owned);
+      sound = sound-adopted old put new m next owner key a k.sound;
+      owned = rw (instances-adopted old put new m next owner key a k.sound) (owned-adopted (instances_in old.slots m) next key.number owner.number x.0 y.0 x.1 y.1 alone (below-next old.slots m key.number key.slot next k.sound a.there) k.owned);
     }
 
-pub adopted-view : (old put between new : Slab Instance) (m : Map ℕ) (next : ℕ) (owner key : Key) (before : Option Key) (s : Kept) → kept_in old.slots m next ≡ s → Adopting old put between new m owner key before → IsSound old.slots m next → kept_in new.slots m next ≡ record s { instances = with_owner key.number (owners.Instance owner.number) s.instances }
-adopted-view old put between new m next owner key before s view a sound =
-    rw (instances-adopted old put between new m next owner key before a sound)
+pub adopted-view : (old put new : Slab Instance) (m : Map ℕ) (next : ℕ) (owner key : Key) (s : Kept) → kept_in old.slots m next ≡ s → Adopting old put new m owner key → IsSound old.slots m next → kept_in new.slots m next ≡ record s { instances = with_owner key.number (owners.Instance owner.number) s.instances }
+adopted-view old put new m next owner key s view a sound =
+    rw (instances-adopted old put new m next owner key a sound)
     (ap (λ k. let r : Kept = record k { instances = with_owner key.number (owners.Instance owner.number) k.instances } in r) view)
 
 -- ---- an instance comes, or goes

@@ -9,7 +9,7 @@ use Rattle.cdi_store.specs.declared.instance.Component.{Component}
 use Rattle.cdi_store.specs.declared.instance.Owner.{Owner}
 use Rattle.cdi_store.specs.declared.instance.Owner.TheVariants as owners
 use Rattle.cdi_store.specs.declared.instance.Instance.{Instance}
-use Rattle.cdi_store.specs.Live.{Instances, all_but, newborn, with_newborn, with_dependent, owned_by, with_owner, number_of, owner_at}
+use Rattle.cdi_store.specs.Live.{Instances, all_but, newborn, with_newborn, with_dependent, without_dependent, owned_by, with_owner, number_of, owner_at}
 use Rattle.cdi_store.specs.Owned.{times, dependents_in, dependents_of, all_dependents, AreOwned}
 use Rattle.cdi_store.proofs.Numbers.{equal_or_not}
 use Rattle.cdi_store.proofs.Owners.{absent-cond, taken_from, leaves-taken, Owns, owns-by, owner-lives}
@@ -319,32 +319,19 @@ owned-taken live next n (Some m) e given h =
     let y = owner-lives n m live e in
     owned-relisted live next n m (all_but n) y.0 (relists-all_but n) y.1 (owns-by n m live e) given h
 
--- ---- an instance goes from one owner to another
+-- ---- an instance gets an owner
 
 no-list : (live : Instances) (w : Owner) → None ≡ number_of live w → dependents_of live w ≡ []
 no-list live (owners.Instance k) h = ap dependents_in (absent-cond (at live k) k (sym h))
 no-list live (owners.Context context) h = refl
 no-list live owners.Borrower h = refl
 
--- where it was taken out it stands nowhere
-total-taken : (live : Instances) (next n : ℕ) (x : Instance) (o : Option ℕ) → o ≡ owner_at n live → at live n ≡ Some x → AreOwned live next → total n (taken_from o n live) ≡ 0
-total-taken live next n x None e there h =
+-- one that no live instance owns stands nowhere
+total-alone : (live : Instances) (next n : ℕ) (x : Instance) → None ≡ owner_at n live → at live n ≡ Some x → AreOwned live next → total n live ≡ 0
+total-alone live next n x e there h =
     let none : dependents_of live x.owner ≡ [] = no-list live x.owner (rw there at e) in
     let is : times n [] ≡ total n live = rw none at (owner-is live next n x h there) in
     sym is ∙ times-none n
-total-taken live next n x (Some m) e there h =
-    let y = owner-lives n m live e in
-    let o = owns-by n m live e in
-    let is : times n (dependents_of live o.0.owner) ≡ total n live = owner-is live next n o.0 h o.1 in
-    let alone : times n y.0.dependents ≡ total n live = rw (o.2, y.1) at is in
-    total-new live m (all_but n) y.0 y.1 n alone ∙ times-all_but n y.0.dependents
-
-at-taken : (live : Instances) (n m : ℕ) (y : Instance) (o : Option ℕ) → at live m ≡ Some y → (z : Instance) × (at (taken_from o n live) m ≡ Some z)
-at-taken live n m y None e = (y, e)
-at-taken live n m y (Some k) e = elim (equal_or_not m k) [
-  | inl s ↦ (relisted (all_but n) y, rw (s.1, at-adjusted k (relisted (all_but n)) live, ← s.1, e) refl)
-  | inr s ↦ (y, at-adjusted_other m k (relisted (all_but n)) live s.1 ∙ e)
-]
 
 abbrev pub owned_now : Owner → Instance → Instance
 owned_now w o = record o { owner = w }
@@ -385,12 +372,74 @@ owned-given live next n m y none there given h =
     given-to new n m f is None all = tt
     given-to new n m f is (Some x) all = rw (is x) all
 
-pub owned-adopted : (live : Instances) (next n m : ℕ) (x y : Instance) → at live n ≡ Some x → at live m ≡ Some y → (0 < n) × (n < next) → AreOwned live next → AreOwned (with_owner n (owners.Instance m) live) next
-owned-adopted live next n m x y there to given h =
-    let o = owner_at n live in
-    let z = at-taken live n m y o to in
-    rw (leaves-taken n live)
-    (owned-given (taken_from o n live) next n m z.0 (total-taken live next n x o refl there h) z.1 given (owned-taken live next n o refl given h))
+pub owned-adopted : (live : Instances) (next n m : ℕ) (x y : Instance) → at live n ≡ Some x → at live m ≡ Some y → None ≡ owner_at n live → (0 < n) × (n < next) → AreOwned live next → AreOwned (with_owner n (owners.Instance m) live) next
+owned-adopted live next n m x y there to alone given h = owned-given live next n m y (total-alone live next n x alone there h) to given h
+
+-- ---- an instance leaves the list of any owner
+
+all_but-absent : (n : ℕ) (ms : List ℕ) → times n ms ≡ 0 → all_but n ms ≡ ms
+all_but-absent n [] h = refl
+all_but-absent n (m ∷ ms) h = elim (equal_or_not m n) [
+  | inl s ↦ absurd (let first : times n (m ∷ ms) ≡ 1 + times n ms = rw s.0 at (times-cons n m ms) in omega arith)
+  | inr s ↦
+      let first : times n (m ∷ ms) ≡ 0 + times n ms = rw s.0 at (times-cons n m ms) in
+      rw s.0 (ap (λ (r : List ℕ). m ∷ r) (all_but-absent n ms (omega arith)))
+]
+
+adjusted-still : (m : ℕ) (f : Instance → Instance) (live : Instances) (y : Instance) → at live m ≡ Some y → f y ≡ y → adjusted m f live ≡ live
+adjusted-still m f [] y e h = refl
+adjusted-still m f (p ∷ more) y e h = elim (equal_or_not m p.0) [
+  | inl s ↦
+      let t : Some p.1 ≡ Some y = rw s.0 at e in
+      let same : p.1 ≡ y = cc in
+      let stays : f p.1 ≡ p.1 = subst (λ (z : Instance). f z ≡ z) (sym same) h in
+      rw s.0 (ap (λ (z : Instance). (p.0, z) ∷ more) stays)
+  | inr s ↦ rw s.0 (ap (λ (r : Instances). p ∷ r) (adjusted-still m f more y (rw s.0 at e) h))
+]
+
+-- it stands in no list but that of its owner
+in-no_other : (live : Instances) (next n m : ℕ) (x y : Instance) → at live n ≡ Some x → at live m ≡ Some y → AreOwned live next → (w : Owner) → x.owner ≡ w → (w ≡ owners.Instance m → ⊥) → times n y.dependents ≡ 0
+in-no_other live next n m x y there to h (owners.Instance k) is apart =
+    let all : times n (dependents_of live x.owner) ≡ total n live = owner-is live next n x h there in
+    let lists : times n (dependents_in (at live k)) ≡ total n live = rw is at all in
+    let other : k ≢ m = λ e. apart (ap (λ j. owners.Instance j) e) in
+    let two : total n (without m live) + times n (dependents_in (at live m)) ≤ total n live = total-without n m live in
+    let both : total n (without m live) + times n y.dependents ≤ total n live = rw to at two in
+    let one : times n (dependents_in (at (without m live) k)) ≤ total n (without m live) = in-total n k (without m live) in
+    let first : times n (dependents_in (at live k)) ≤ total n (without m live) = rw (at-without_other k m live other) at one in
+    omega arith
+in-no_other live next n m x y there to h (owners.Context context) is apart =
+    let all : times n (dependents_of live x.owner) ≡ total n live = owner-is live next n x h there in
+    let none : times n [] ≡ total n live = rw is at all in
+    let some : times n (dependents_in (at live m)) ≤ total n live = in-total n m live in
+    let few : times n y.dependents ≤ total n live = rw to at some in
+    let zero_times = times-none n in
+    omega arith
+in-no_other live next n m x y there to h owners.Borrower is apart =
+    let all : times n (dependents_of live x.owner) ≡ total n live = owner-is live next n x h there in
+    let none : times n [] ≡ total n live = rw is at all in
+    let some : times n (dependents_in (at live m)) ≤ total n live = in-total n m live in
+    let few : times n y.dependents ≤ total n live = rw to at some in
+    let zero_times = times-none n in
+    omega arith
+
+released-by : (live : Instances) (next n m : ℕ) (x y : Instance) → at live n ≡ Some x → at live m ≡ Some y → (0 < n) × (n < next) → AreOwned live next → (w : Owner) → x.owner ≡ w → AreOwned (without_dependent n (owners.Instance m) live) next
+released-by live next n m x y there to given h (owners.Instance k) is = elim (equal_or_not k m) [
+  | inl s ↦ owned-relisted live next n m (all_but n) y (relists-all_but n) to (x, there, is ∙ ap (λ j. owners.Instance j) s.1) given h
+  | inr s ↦ stays (in-no_other live next n m x y there to h (owners.Instance k) is (λ (e : owners.Instance k ≡ owners.Instance m). s.1 (cc)))
+]
+  where
+    stays : times n y.dependents ≡ 0 → AreOwned (without_dependent n (owners.Instance m) live) next
+    stays none = rw (adjusted-still m (relisted (all_but n)) live y to (ap (λ (ms : List ℕ). let r : Instance = record y { dependents = ms } in r) (all_but-absent n y.dependents none))) h
+released-by live next n m x y there to given h (owners.Context context) is =
+    let none = in-no_other live next n m x y there to h (owners.Context context) is (λ (e : owners.Context context ≡ owners.Instance m). cc) in
+    rw (adjusted-still m (relisted (all_but n)) live y to (ap (λ (ms : List ℕ). let r : Instance = record y { dependents = ms } in r) (all_but-absent n y.dependents none))) h
+released-by live next n m x y there to given h owners.Borrower is =
+    let none = in-no_other live next n m x y there to h owners.Borrower is (λ (e : owners.Borrower ≡ owners.Instance m). cc) in
+    rw (adjusted-still m (relisted (all_but n)) live y to (ap (λ (ms : List ℕ). let r : Instance = record y { dependents = ms } in r) (all_but-absent n y.dependents none))) h
+
+pub owned-released : (live : Instances) (next n m : ℕ) (x y : Instance) → at live n ≡ Some x → at live m ≡ Some y → (0 < n) × (n < next) → AreOwned live next → AreOwned (without_dependent n (owners.Instance m) live) next
+owned-released live next n m x y there to given h = released-by live next n m x y there to given h x.owner refl
 
 -- ---- an instance comes, or goes
 

@@ -4,7 +4,7 @@ use Rattle.cdi_base.specs.Maps.{Map, at, adjusted}
 use Rattle.cdi_store.specs.declared.instance.Instance.{Instance}
 use Rattle.cdi_store.specs.declared.instance.Owner.{Owner}
 use Rattle.cdi_store.specs.declared.instance.Owner.TheVariants as owners
-use Rattle.cdi_store.specs.Live.{Instances, all_but, with_dependent, without_dependent, for_owner, number_of, owner_in, owner_at, other_than, reference_in}
+use Rattle.cdi_store.specs.Live.{Instances, all_but, with_dependent, without_dependent, for_owner, number_of, owner_in, owner_at, reference_in}
 use Rattle.cdi_store.proofs.Numbers.{equal_or_not}
 
 -- ---- changes of instances
@@ -111,23 +111,6 @@ leaves-taken n live = by (owner_at n live) refl
     by : (o : Option ℕ) → o ≡ owner_at n live → for_owner (at live n) (without_dependent n) live ≡ taken_from o n live
     by None e = leaves-no_owner n live e
     by (Some m) e = leaves-owner n m live e
-
-all_but-twice : (n : ℕ) (ms : List ℕ) → all_but n (all_but n ms) ≡ all_but n ms
-all_but-twice n [] = refl
-all_but-twice n (m ∷ ms) = elim (equal_or_not m n) [
-  | inl s ↦ rw s.0 (all_but-twice n ms)
-  | inr s ↦ rw (s.0, s.0) (ap (λ r. m ∷ r) (all_but-twice n ms))
-]
-
--- It may join the new list first, if it then only leaves the list of another.
-pub moves : (n m : ℕ) (live : Instances) (o : Option ℕ) → taken_from (other_than m o) n (with_dependent n (owners.Instance m) live) ≡ with_dependent n (owners.Instance m) (taken_from o n live)
-moves n m live None = refl
-moves n m live (Some k) = elim (equal_or_not k m) [
-  | inl s ↦
-      rw (s.0, s.1, adjusted-twice m _ _ live)
-      (adjusted-agree m _ _ live (λ o. ap (λ ms. let is : Instance = record o { dependents = ms ++ n ∷ [] } in is) (sym (all_but-twice n o.dependents))))
-  | inr s ↦ rw s.0 (adjusted-apart k m _ _ live s.1)
-]
 
 -- ---- who owns an instance
 

@@ -106,10 +106,9 @@ with_ready n live = in_phase Ready n (for_owner (at live n) (with_dependent n) l
 abbrev pub with_leaving : ℕ → Instances → Instances
 with_leaving n live = in_phase Leaving n (for_owner (at live n) (without_dependent n) live)
 
--- the instance goes from its owner to another, which has it as its last dependent
+-- the instance gets an owner, which has it as its last dependent
 abbrev pub with_owner : ℕ → Owner → Instances → Instances
-with_owner n owner live =
-    owned_by owner n (with_dependent n owner (for_owner (at live n) (without_dependent n) live))
+with_owner n owner live = owned_by owner n (with_dependent n owner live)
 
 -- the number of an owner, if it is a live instance
 abbrev pub number_of : Instances → Owner → Option ℕ
@@ -124,14 +123,6 @@ owner_in live (Some o) = number_of live o.owner
 -- the number of the live instance that owns an instance, if one does
 abbrev pub owner_at : ℕ → Instances → Option ℕ
 owner_at n live = owner_in live (at live n)
-
-abbrev pub other_than : ℕ → Option ℕ → Option ℕ
-other_than m None = None
-other_than m (Some k) = if k == m then None else Some k
-
--- the number of the live instance that owns an instance, if one does and it isn't m
-abbrev pub other_owner_at : ℕ → ℕ → Instances → Option ℕ
-other_owner_at m n live = other_than m (owner_at n live)
 
 -- the reference of an injected field, if the instance lives and the field has one
 abbrev pub reference_in : Option Instance → ℕ → Option Reference

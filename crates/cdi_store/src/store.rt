@@ -1,7 +1,7 @@
 //! The live instances of a container, each under a key.
 ghost use Rattle.std.specs.Prelude.{◌≡◌, ◌≢◌, ◌+◌, ◌<◌, ◌≤◌, ◌^◌, ◌++◌, ◌∷◌, ◌↔◌, [], length, IfOk, OnOk, OnErr, IfSome, IsTrue, IsOk, IsSome, IsNone, Some, Err, IsSomeAnd, IfErr, false, ◌&&◌, map, option_map};
 ghost use Rattle.cdi_base.specs.Maps.{at};
-ghost use Rattle.cdi_store.specs.Live.{is_live, key_at, owner_at, other_owner_at, reference_at};
+ghost use Rattle.cdi_store.specs.Live.{is_live, key_at, owner_at, reference_at};
 ghost use Rattle.cdi_store.specs.Live.{for_owner, in_phase, with_dependent, without_dependent};
 ghost use Rattle.cdi_store.specs.Live.{with_ready, with_leaving, with_owner};
 ghost use Rattle.cdi_store.specs.Live.{with_newborn, with_field, with_value, with_reference, without_instance};
@@ -181,6 +181,20 @@ impl Store {
         Ok(instance.dependents.as_slice())
     }
 
+    /// The key of the live instance that owns a live instance, if one does.
+    pub fn owner(&self, key: Key) -> Result<Option<Key>, Stale>
+        ensures live { IsOk result ↔ IsTrue (is_live self.now key) }
+        ensures number { IfOk result (λ owner.
+            option_map (λ k. k.number) owner ≡ owner_at key.number self.now.instances) }
+        ensures owner_lives { IfOk result (λ owner.
+            IfSome owner (λ k. IsTrue (is_live self.now k))) }
+    {
+        match &self.instance(key)?.owner {
+            Owner::Instance(number) => Ok(self.key(*number)),
+            _ => Ok(None),
+        }
+    }
+
     /// Takes a live instance out of the store and gives it out. Its number is never given again. On an error nothing
     /// changes.
     pub fn free(&mut self, key: Key) -> Result<Instance, Stale>
@@ -274,10 +288,11 @@ impl Store {
         Ok(())
     }
 
-    /// Gives a live instance another owner: it leaves the dependents of the old one and becomes the last dependent of
-    /// the new one, in one step; under the owner that it has it becomes the last dependent. `Stale` if either key isn't
-    /// that of a live instance; else memory can be wanting. On an error nothing changes.
+    /// Gives an instance that no live instance owns an owner, whose last dependent it becomes (Jakarta CDI 4.0, *Dependent
+    /// objects*). `Stale` if either key isn't that of a live instance; else memory can be wanting. On an error nothing
+    /// changes.
     pub fn adopt(&mut self, owner: Key, key: Key) -> Result<(), ChangeError>
+        requires { IsTrue (is_live self.old key) → owner_at key.number self.old.instances ≡ None }
         ensures stale { (result ≡ Err ChangeError.Stale)
             ↔ ((is_live self.old owner && is_live self.old key) ≡ false) }
         ensures ok { OnOk result (self.new ≡ record self.old {
@@ -289,10 +304,31 @@ impl Store {
         if !self.is_live(owner) {
             return Err(ChangeError::Stale);
         }
-        let before = self.other_owner(owner, key)?;
+        if !self.is_live(key) {
+            return Err(ChangeError::Stale);
+        }
         put_dependent_last_in(&mut self.slots, owner.slot, key.number, self.alloc)?;
-        remove_dependent_from(&mut self.slots, before, key.number, self.alloc);
         set_owner_in(&mut self.slots, key.slot, Owner::Instance(owner.number));
+        Ok(())
+    }
+
+    /// Takes a live instance out of the dependents of an owner: that has it no longer (Jakarta CDI 4.0, *Dependent objects*).
+    /// One that isn't among them stays as it is. `Stale` if either key isn't that of a live instance; nothing changes then.
+    pub fn release(&mut self, owner: Key, key: Key) -> Result<(), Stale>
+        ensures live { IsOk result ↔ IsTrue (is_live self.old owner && is_live self.old key) }
+        ensures ok { OnOk result (self.new ≡ record self.old {
+          instances = without_dependent
+              key.number (Owner.Instance owner.number) self.old.instances;
+        }) }
+        ensures err { OnErr result (self.new ≡ self.old) }
+    {
+        if !self.is_live(owner) {
+            return Err(Stale);
+        }
+        if !self.is_live(key) {
+            return Err(Stale);
+        }
+        remove_dependent_from(&mut self.slots, Some(owner), key.number, self.alloc);
         Ok(())
     }
 
@@ -324,35 +360,6 @@ impl Store {
         ensures { length (dependents_in (at self.now.instances number)) < 2 ^ 32 }
     {
         let _next = self.next;
-    }
-
-    /// The key of the live instance that owns a live instance, if one does.
-    fn owner(&self, key: Key) -> Result<Option<Key>, Stale>
-        ensures live { IsOk result ↔ IsTrue (is_live self.now key) }
-        ensures number { IfOk result (λ owner.
-            option_map (λ k. k.number) owner ≡ owner_at key.number self.now.instances) }
-        ensures owner_lives { IfOk result (λ owner.
-            IfSome owner (λ k. IsTrue (is_live self.now k))) }
-    {
-        match &self.instance(key)?.owner {
-            Owner::Instance(number) => Ok(self.key(*number)),
-            _ => Ok(None),
-        }
-    }
-
-    /// The key of the live instance that owns a live instance, if one does and it is another than this.
-    fn other_owner(&self, owner: Key, key: Key) -> Result<Option<Key>, Stale>
-        ensures live { IsOk result ↔ IsTrue (is_live self.now key) }
-        ensures number { IfOk result (λ other.
-            option_map (λ k. k.number) other
-            ≡ other_owner_at owner.number key.number self.now.instances) }
-        ensures other_lives { IfOk result (λ other.
-            IfSome other (λ k. IsTrue (is_live self.now k))) }
-    {
-        match self.owner(key)? {
-            Some(other) if other.number != owner.number => Ok(Some(other)),
-            _ => Ok(None),
-        }
     }
 
     /// Makes a live instance the last dependent of the live instance that owns it, if one does.

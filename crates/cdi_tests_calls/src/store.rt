@@ -7,14 +7,15 @@
 //! | `hold KEY VALUE` | gives the product its value, a number | the same |
 //! | `leave KEY` | the destruction of the instance begins | the same |
 //! | `settle KEY` | the instance is ready | the same |
-//! | `adopt KEY KEY` | makes the first instance the owner of the second | the same |
+//! | `adopt KEY KEY` | makes the first instance the owner of the second | the same, or `owned` if a live instance owns that |
+//! | `release KEY KEY` | takes the second instance out of the dependents of the first | `Ok(())` or `Err(Stale)` |
 //! | `next` | the number of the next instance | it |
 //! | `length` | how many instances live | the number |
 //! | `state KEY` | the phase, the owner and the value of the instance | these, or `Err(Stale)` |
 //! | `dependents KEY` | the numbers of its dependents | `Ok(..)` or `Err(Stale)` |
 use crate::words::{key_of, number, owner_of};
 use cdi_base::{Fields, Value};
-use cdi_store::{Component, Instance, Key, MakeError, Owner, Stale, Store};
+use cdi_store::{ChangeError, Component, Instance, Key, MakeError, Owner, Stale, Store};
 use std::alloc::{AllocError, Global};
 
 /// Makes an instance with no fields.
@@ -26,6 +27,15 @@ fn free(store: &mut Store, key: Key) -> Result<(), Stale> {
     match store.free(key) {
         Ok(_instance) => Ok(()),
         Err(stale) => Err(stale),
+    }
+}
+
+/// Makes an instance the owner of another, unless a live instance owns that.
+fn adopt(store: &mut Store, owner: Key, key: Key) -> Option<Result<(), ChangeError>> {
+    match store.owner(key) {
+        Ok(Some(_)) => None,
+        Ok(None) => Some(store.adopt(owner, key)),
+        Err(_) => Some(store.adopt(owner, key)),
     }
 }
 
@@ -75,6 +85,9 @@ fn answer_instance(store: &mut Store, words: &[&str], text: &mut String) -> Resu
         ["free", slot, number] => free(store, key_of(slot, number)),
         ["hold", slot, number, value] => store.hold(key_of(slot, number), value_of(value)),
         ["leave", slot, number] => store.leave(key_of(slot, number)),
+        ["release", owner_slot, owner, slot, number] => {
+            store.release(key_of(owner_slot, owner), key_of(slot, number))
+        }
         _ => return push_look(store, words, text),
     };
     write!(text, "{answer:?}")
@@ -83,13 +96,16 @@ fn answer_instance(store: &mut Store, words: &[&str], text: &mut String) -> Resu
 /// Makes a change for which memory may be wanting, and adds what the store answers; other words are those of other changes.
 fn answer_joining(store: &mut Store, words: &[&str], text: &mut String) -> Result<(), AllocError> {
     let answer = match words {
-        ["settle", slot, number] => store.settle(key_of(slot, number)),
+        ["settle", slot, number] => Some(store.settle(key_of(slot, number))),
         ["adopt", owner_slot, owner, slot, number] => {
-            store.adopt(key_of(owner_slot, owner), key_of(slot, number))
+            adopt(store, key_of(owner_slot, owner), key_of(slot, number))
         }
         _ => return answer_instance(store, words, text),
     };
-    write!(text, "{answer:?}")
+    match answer {
+        Some(answer) => write!(text, "{answer:?}"),
+        None => text.push_str("owned"),
+    }
 }
 
 /// Makes the call of a line, and adds what the store answers.

@@ -5,6 +5,7 @@ use Rattle.std.specs.List.{AllByRecursion}
 use Rattle.cdi_base.specs.declared.value.Value.{Value}
 use Rattle.cdi_base.specs.declared.value.Value.TheVariants as values
 use Rattle.cdi_base.specs.declared.act.Act.{Act}
+use Rattle.cdi_bodies.specs.declared.view.View.{View}
 use Rattle.cdi_base.specs.declared.act.Act.TheVariants as acts
 use Rattle.cdi_base.specs.declared.act.Via.{Via}
 use Rattle.cdi_base.specs.declared.act.Via.TheVariants as vias
@@ -27,7 +28,7 @@ use Rattle.cdi_store.specs.declared.references.Reference.TheVariants.{Empty as N
 use Rattle.cdi_store.specs.Live.{Instances}
 use Rattle.cdi_store.proofs.Numbers.{equal_or_not}
 use Rattle.cdi_machine.specs.Words.{Name, Asked}
-use Rattle.cdi_machine.specs.Tables.{Tables, Method, Managed, Kind, Bean, One}
+use Rattle.cdi_machine.specs.Tables.{Tables, Method, Managed, Kind, Bean, One, written_act}
 use Rattle.cdi_machine.specs.World.{World, Change, after_change, with_entry, instance_at}
 use Rattle.cdi_machine.specs.Programs.{Task, Given, Completion, Gave, Threw, Running, Prog, ret, throw, handle, attempt, call, require}
 use Rattle.cdi_machine.specs.Contexts.{reach_instance}
@@ -424,9 +425,15 @@ module _ (t : Tables) (legal : Legal) (fits : Fits t legal) (moves : Moves t leg
   perform_safe r (acts.Give v) w g h on q = (after_self t legal Any Each w g, (tt, tt))
   perform_safe r (acts.Throw x) w g h on q = (after_self t legal Any Each w g, (tt, elim q [ inl text ↦ text | inr e ↦ thrown_text t x r.view h.told e ]))
 
+  -- an act that fits does so in its written form
+  written_fits : (site : Site) (view : View) (a : Act) → FitsAct t site view a → FitsAct t site view (written_act t a)
+  written_fits site view (acts.Fire class qualifiers v) h = h
+  written_fits site view a h = h
+
   pub acts_safe : (r : Running) (w : World) → Good t legal w → IsAble w r → IsIn r.instance w.bodies → Does (carry_on r) w (Ends w)
   acts_safe r w g h on =
       let there = site_there h.stood.home in
       found t legal fits (instance_at w r.instance) there.0 _ w _ there.1 (
-      λ count a given. perform_safe r a (with_entry (entries.Did a) w) g h on
-      (h.stood.fits count there.0.fields r.view a (subst (λ b. legal.gives b count there.0.fields r.view a) (sym h.stood.is) given)))
+      λ count a given. perform_safe r (written_act t a) (with_entry (entries.Did (written_act t a)) w) g h on
+      (written_fits h.stood.site r.view a
+      (h.stood.fits count there.0.fields r.view a (subst (λ b. legal.gives b count there.0.fields r.view a) (sym h.stood.is) given))))
