@@ -12,12 +12,14 @@
 //! | `live` | how many instances live | the number |
 //! | `next` | the next number of an instance | it, or `none` |
 use crate::entries::{push_entries, push_name, push_value};
+use crate::heard::{beans_of, hear};
 use cdi_base::{Names, Seq, Value};
 use cdi_frames::run::{run, turn};
 use cdi_frames::stack::{Stack, Turn};
 use cdi_machine::Driver;
 use cdi_runtime::Runtime;
 use cdi_steps::task::Task;
+use cdi_tests_player::Ledger;
 use cdi_steps::{BeanCall, Completion, Given, Job, Outcome};
 use cdi_world::World;
 use std::alloc::{AllocError, Global};
@@ -86,11 +88,16 @@ fn push_end(text: &mut String, names: &Names, outcome: &Outcome) -> Result<(), A
 fn carry_out<D: Driver>(
     text: &mut String,
     runtime: &mut Runtime<D>,
+    ledger: &mut Ledger,
     job: Job,
 ) -> Result<(), AllocError> {
+    let ends_all = matches!(job, Job::Shutdown);
     runtime.begin();
     match run(runtime, job) {
-        Ok(outcome) => push_end(text, &runtime.tables().deployment().names, &outcome),
+        Ok(outcome) => {
+            hear(ledger, runtime.world(), ends_all, &outcome)?;
+            push_end(text, &runtime.tables().deployment().names, &outcome)
+        }
         Err(_) => text.push_str("no end"),
     }
 }
@@ -104,9 +111,11 @@ fn carry_out_in_turns<D: Driver>(
     alloc: Global,
     text: &mut String,
     runtime: &mut Runtime<D>,
+    ledger: &mut Ledger,
     most: usize,
     job: Job,
 ) -> Result<(), AllocError> {
+    let ends_all = matches!(job, Job::Shutdown);
     runtime.begin();
     let mut stack = Stack::start(alloc, Task::Begin(job));
     'turns: for _ in 0..MOST_TURNS {
@@ -116,6 +125,7 @@ fn carry_out_in_turns<D: Driver>(
         match turned {
             Ok(Turn::Running(then)) => stack = then,
             Ok(Turn::Finished(outcome)) => {
+                hear(ledger, runtime.world(), ends_all, &outcome)?;
                 return push_end(text, &runtime.tables().deployment().names, &outcome);
             }
             Err(_) => return text.push_str("no end"),
@@ -167,10 +177,11 @@ fn push_told<D: Driver>(
     alloc: Global,
     text: &mut String,
     runtime: &mut Runtime<D>,
+    ledger: &mut Ledger,
     words: &[&str],
 ) -> Result<(), AllocError> {
     match job_of(alloc, &runtime.tables().deployment().names, words)? {
-        Some(job) => carry_out(text, runtime, job),
+        Some(job) => carry_out(text, runtime, ledger, job),
         None => push_answer(alloc, text, runtime, words.first().unwrap_or(&"")),
     }
 }
@@ -180,11 +191,12 @@ fn push_turns<D: Driver>(
     alloc: Global,
     text: &mut String,
     runtime: &mut Runtime<D>,
+    ledger: &mut Ledger,
     most: usize,
     words: &[&str],
 ) -> Result<(), AllocError> {
     match job_of(alloc, &runtime.tables().deployment().names, words)? {
-        Some(job) => carry_out_in_turns(alloc, text, runtime, most, job),
+        Some(job) => carry_out_in_turns(alloc, text, runtime, ledger, most, job),
         None => text.push_str("no job"),
     }
 }
@@ -194,13 +206,14 @@ fn push_again<D: Driver>(
     alloc: Global,
     text: &mut String,
     runtime: &mut Runtime<D>,
+    ledger: &mut Ledger,
     times: u32,
     words: &[&str],
 ) -> Result<(), AllocError> {
     let mut told = String::new(alloc);
     for _ in 0..times {
         told.clear();
-        push_told(alloc, &mut told, runtime, words)?;
+        push_told(alloc, &mut told, runtime, ledger, words)?;
     }
     text.push_str(told.as_str())
 }
@@ -209,30 +222,36 @@ fn push_line<D: Driver>(
     alloc: Global,
     text: &mut String,
     runtime: &mut Runtime<D>,
+    ledger: &mut Ledger,
     line: &str,
 ) -> Result<(), AllocError> {
     let words: Vec<&str> = line.split_whitespace().collect(alloc)?;
     match words.as_slice() {
         ["again", times, job @ ..] => {
-            push_again(alloc, text, runtime, times.parse().unwrap_or(0), job)
+            push_again(alloc, text, runtime, ledger, times.parse().unwrap_or(0), job)
         }
         ["turns", most, job @ ..] => {
-            push_turns(alloc, text, runtime, most.parse().unwrap_or(0), job)
+            push_turns(alloc, text, runtime, ledger, most.parse().unwrap_or(0), job)
         }
-        words => push_told(alloc, text, runtime, words),
+        words => push_told(alloc, text, runtime, ledger, words),
     }
 }
 
-/// What a runtime answers to each line.
+/// What a runtime answers to each line; and behind that the sentence of the ledger that the entries of all jobs broke first, if they
+/// broke one.
 pub(crate) fn answers<D: Driver>(
     alloc: Global,
     runtime: &mut Runtime<D>,
     input: &str,
 ) -> Result<String, AllocError> {
     let mut text = String::new(alloc);
+    let mut ledger = Ledger::new(alloc, beans_of(alloc, runtime.tables().deployment())?);
     for line in input.lines() {
-        push_line(alloc, &mut text, runtime, line)?;
+        push_line(alloc, &mut text, runtime, &mut ledger, line)?;
         text.push('\n')?;
+    }
+    if let Some(sentence) = ledger.broken() {
+        writeln!(text, "ledger: {sentence}")?;
     }
     Ok(text)
 }

@@ -13,6 +13,7 @@ mod contexts;
 mod counting;
 mod entries;
 mod environments;
+mod heard;
 mod jobs;
 mod report;
 mod runtimes;

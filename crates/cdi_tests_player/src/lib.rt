@@ -4,10 +4,14 @@
 //! it is written, or as a wrong number of runs.
 #![tactic(auto)]
 
+pub mod ledger;
 pub mod limits;
 pub mod marks;
 pub mod playing;
 pub mod scene;
+pub mod stories;
 
+pub use ledger::{Beans, Ledger};
 pub use playing::{Played, Player, play_files};
 pub use scene::Scene;
+pub use stories::Stories;

@@ -4,10 +4,11 @@
 //! | Word | What is played | Where the words behind it are told |
 //! |---|---|---|
 //! | `tables` | chains, plans and observers | `cdi_tests_tables`: `asked` |
+//! | `ledger` | stories of instances, and what they break | `cdi_tests_player`: `stories` |
 //! | `jobs`, `store`, `contexts`, `choices` | calls that no run of the program makes | `cdi_tests_calls`: `calls` |
 use crate::words::Program;
 use cdi_tests_calls::Calls;
-use cdi_tests_player::{Played, Player, Scene};
+use cdi_tests_player::{Played, Player, Scene, Stories};
 use cdi_tests_tables::Tables;
 use std::alloc::{AllocError, Global};
 
@@ -21,6 +22,7 @@ impl Player for Topics<'_> {
     fn play(&self, alloc: Global, words: &[&str], scene: &Scene) -> Result<Played, AllocError> {
         match words {
             ["tables", words @ ..] => Tables.play(alloc, words, scene),
+            ["ledger"] => Stories.play(alloc, words, scene),
             ["jobs" | "store" | "contexts" | "choices", ..] => Calls.play(alloc, words, scene),
             _ => self.program.play(alloc, words, scene),
         }
