@@ -19,11 +19,11 @@ use Rattle.cdi_machine.specs.Tables as machine
 use Rattle.cdi_types.specs.Members.{comes_down, fields_of, members_of, parts_of}
 use Rattle.cdi_plans.proofs.Fronts.{same}
 use Rattle.cdi_plans.specs.Codes.{completion}
-use Rattle.cdi_plans.specs.Plans.{first_fields as fields_first}
+use Rattle.cdi_plans.specs.Plans.{initial_fields}
 use Rattle.cdi_plans.specs.Steps.{class_steps, construction, initialization, injection, injections, steps_of}
 use Rattle.cdi_plans.specs.declared.plan.Step.{Step}
 use Rattle.cdi_plans.specs.declared.plan.Step.TheVariants as steps
-use Rattle.cdi_run_tables.specs.Machine.{asked_by, does_something, first_fields, machine_step, machine_steps}
+use Rattle.cdi_run_tables.specs.Machine.{asked_by, does_something, first_values, machine_step, machine_steps}
 use Rattle.cdi_shape_check.specs.OwnParts.{has_field}
 use Rattle.cdi_shape_check.specs.References.{point_of_field}
 use Rattle.cdi_accepted.proofs.Duplicates.{IsNamedApart}
@@ -68,15 +68,15 @@ fold_has before (g ∷ fields) f (inl one) =
 fold_has before (g ∷ fields) f (inr a) = fold_has (with_field before g) fields f a
 
 -- a field that some class of the line declares
-pub has_first : (line : List Class) (name : ℕ) → list_any (λ c. has_field name c.fields) line ≡ true → has (first_fields (fields_first line)) name ≡ true
+pub has_first : (line : List Class) (name : ℕ) → list_any (λ c. has_field name c.fields) line ≡ true → has (first_values (initial_fields line)) name ≡ true
 has_first line name e =
     let class = passing (λ (c : Class). has_field name c.fields) line e in
     let field = passing (λ (f : Field). nat_eq f.name name) class.item.fields class.passes in
     let part : Among (class.item, field.item) (fields_of line) =
     among_flat_map (λ (c : Class). parts_of c c.fields) line class.item (class.item, field.item) class.stands
     (among_map (λ part. (class.item, part)) class.item.fields field.item field.stands) in
-    let listed : Among field.item (fields_first line) = among_map (λ (f : Class × Field). f.1) (fields_of line) (class.item, field.item) part in
-    subst (λ n. has (first_fields (fields_first line)) n ≡ true) (eqb-true field.item.name name field.passes) (fold_has [] (fields_first line) field.item listed)
+    let listed : Among field.item (initial_fields line) = among_map (λ (f : Class × Field). f.1) (fields_of line) (class.item, field.item) part in
+    subst (λ n. has (first_values (initial_fields line)) n ≡ true) (eqb-true field.item.name name field.passes) (fold_has [] (initial_fields line) field.item listed)
 
 -- ---- injected fields
 

@@ -2,7 +2,7 @@
 use Rattle.std.proofs.Common.{◌≡◌, ◌∙◌, ℕ, List, [], ◌∷◌, ◌++◌, map, refl, sym, ap, subst}
 use Rattle.cdi_base.specs.declared.place.Place.{Place}
 use Rattle.cdi_bean_rules.specs.Tiers.{AreBeanProblems, AreTooMany}
-use Rattle.cdi_beans.specs.Problems.{AreAllProblemsOf, AreProblemsOf, IsMadeOf}
+use Rattle.cdi_beans.specs.Problems.{AreAllProblemsOf, AreEarlyProblemsOf, IsMadeOf}
 use Rattle.cdi_beans.specs.declared.bean.BeanList.{BeanList}
 use Rattle.cdi_deployment.specs.declared.deployment.Deployment.{Deployment}
 use Rattle.cdi_name_check.specs.NameProblems.{AreNameProblems}
@@ -60,11 +60,11 @@ one_bean_problems d qualifiers these those a b =
 pub one_early : (d : Deployment) (these those : List Problem) → AreAllProblemsOf d these → AreAllProblemsOf d those → these ≡ those
 one_early d these those a b = by a.are b.are
   where
-    by : AreProblemsOf d these → AreProblemsOf d those → these ≡ those
-    by (AreProblemsOf.of_names h) (AreProblemsOf.of_names k) = one_name_list d these those h k
-    by (AreProblemsOf.of_names h) (AreProblemsOf.of_beans q none k) = absurd (a.some (one_name_list d these [] h none))
-    by (AreProblemsOf.of_beans q none h) (AreProblemsOf.of_names k) = absurd (b.some (one_name_list d those [] k none))
-    by (AreProblemsOf.of_beans {qualifiers = qs} q none h) (AreProblemsOf.of_beans {qualifiers = rs} r nothing k) =
+    by : AreEarlyProblemsOf d these → AreEarlyProblemsOf d those → these ≡ those
+    by (AreEarlyProblemsOf.of_names h) (AreEarlyProblemsOf.of_names k) = one_name_list d these those h k
+    by (AreEarlyProblemsOf.of_names h) (AreEarlyProblemsOf.of_beans q none k) = absurd (a.some (one_name_list d these [] h none))
+    by (AreEarlyProblemsOf.of_beans q none h) (AreEarlyProblemsOf.of_names k) = absurd (b.some (one_name_list d those [] k none))
+    by (AreEarlyProblemsOf.of_beans {qualifiers = qs} q none h) (AreEarlyProblemsOf.of_beans {qualifiers = rs} r nothing k) =
         let same : rs ≡ qs = one_qualifier_list d rs qs r q in
         one_bean_problems d qs these those h (subst (λ l. AreBeanProblems d l those) same k)
 
@@ -72,8 +72,8 @@ one_early d these those a b = by a.are b.are
 pub no_early : (d : Deployment) (list : BeanList) (problems : List Problem) → IsMadeOf d list → AreAllProblemsOf d problems → ⊥
 no_early d list problems made h = by h.are
   where
-    by : AreProblemsOf d problems → ⊥
-    by (AreProblemsOf.of_names k) = h.some (one_name_list d problems [] k made.names_well)
-    by (AreProblemsOf.of_beans {qualifiers = qs} q none k) =
+    by : AreEarlyProblemsOf d problems → ⊥
+    by (AreEarlyProblemsOf.of_names k) = h.some (one_name_list d problems [] k made.names_well)
+    by (AreEarlyProblemsOf.of_beans {qualifiers = qs} q none k) =
         let same : qs ≡ made.qualifiers = one_qualifier_list d qs made.qualifiers q made.are_qualifiers in
         h.some (one_bean_problems d made.qualifiers problems [] (subst (λ l. AreBeanProblems d l problems) same k) made.beans_well)

@@ -36,7 +36,7 @@ use Rattle.cdi_plans.specs.declared.plan.Plan.TheVariants as plans
 use Rattle.cdi_plans.specs.declared.plan.Step.{Step}
 use Rattle.cdi_plans.specs.declared.plan.Step.TheVariants as steps
 use Rattle.cdi_resolve.specs.Filters.{enabled_of}
-use Rattle.cdi_run_tables.specs.Machine.{AreIdsOf, bean_with, does_something, first_fields, has_none, id_of, is_idle, machine_code, machine_step, machine_steps, machine_tables}
+use Rattle.cdi_run_tables.specs.Machine.{AreIdsOf, bean_with, does_something, first_values, has_none, id_of, is_idle, machine_code, machine_step, machine_steps, machine_tables}
 use Rattle.cdi_run_tables.specs.Planned.{IsTabled}
 use Rattle.cdi_run_tables.specs.Served.{has_texts, is_served, is_served_bean, is_served_body, is_served_plan, is_served_scope, is_served_shape, is_served_step, serves_methods, serves_shapes}
 use Rattle.cdi_run_tables.specs.declared.tables.RunTables.{RunTables}
@@ -117,7 +117,7 @@ module _ {X : Type 0} {F : X → Type 0} {g : _} (entries : List (Entry X F g)) 
 
     serve : (fronts rest : List Class) → plan.line ≡ fronts ++ rest → (s : Shape) (view : View) (a : Act) → Needs (app_of t) fronts s view a → IsServedAct (machine_tables t) own view a
     serve fronts rest are s view (acts.Set field v) n =
-        ap (λ (p : ManagedPlan). has (first_fields p.fields) field) plan.is ∙ has_first plan.line field (on_line (λ c. has_field field c.fields) fronts rest are n)
+        ap (λ (p : ManagedPlan). has (first_values p.fields) field) plan.is ∙ has_first plan.line field (on_line (λ c. has_field field c.fields) fronts rest are n)
     serve fronts rest are s view (acts.Own name args) n =
         has_method entries t tabled ids sound b listed enabled plan name (length args) (on_line (declares_method name (length args)) fronts rest are n)
     serve fronts rest are s view (acts.Call (vias.Field field) name args) n =

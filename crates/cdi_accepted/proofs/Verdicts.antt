@@ -4,7 +4,7 @@ use Rattle.cdi_beans.specs.declared.bean.BeanList.{BeanList}
 use Rattle.cdi_bodies.specs.declared.shape.Shape.{Shape}
 use Rattle.cdi_check.specs.Late.{AreBodyProblems, AreEnabledProblems, AreLateProblems, ArePointProblems, AreProblemsIn, setting_of}
 use Rattle.cdi_check.specs.Problems.{AreProblemsOf}
-use Rattle.cdi_live.specs.OwnPoints.{Setting}
+use Rattle.cdi_live.specs.OwnPoints.{Inventory}
 use Rattle.cdi_deployment.specs.declared.deployment.Deployment.{Deployment}
 use Rattle.cdi_enable.specs.Enablement.{Enablement, AreFlags, enablement_of}
 use Rattle.cdi_problems.specs.Words.{problems_at}
@@ -17,7 +17,7 @@ use Rattle.cdi_accepted.proofs.Tables.{one_flags}
 use Rattle.cdi_accepted.proofs.Types.{one_qualifier_list, one_type_list}
 
 module _ (d : Deployment) (shape_of : ℕ → Option Shape) where
-  one_body_list : (s : Setting) (these those : List Problem) → AreBodyProblems d shape_of s these → AreBodyProblems d shape_of s those → these ≡ those
+  one_body_list : (s : Inventory) (these those : List Problem) → AreBodyProblems d shape_of s these → AreBodyProblems d shape_of s those → these ≡ those
   one_body_list s these those a b =
       let unknown : a.unknown ≡ b.unknown = one_place_list _ _ _ a.unknown b.unknown a.are_unknown b.are_unknown in
       let outside : a.outside ≡ b.outside = one_place_list _ _ _ a.outside b.outside a.are_outside b.are_outside in
@@ -31,7 +31,7 @@ module _ (d : Deployment) (shape_of : ℕ → Option Shape) where
       )
       ∙ sym b.are
 
-  one_point_list : (s : Setting) (these those : List Problem) → ArePointProblems d s these → ArePointProblems d s those → these ≡ those
+  one_point_list : (s : Inventory) (these those : List Problem) → ArePointProblems d s these → ArePointProblems d s those → these ≡ those
   one_point_list s these those a b =
       let unsatisfied : a.unsatisfied ≡ b.unsatisfied = one_place_list _ _ _ a.unsatisfied b.unsatisfied a.are_unsatisfied b.are_unsatisfied in
       let ambiguous : a.ambiguous ≡ b.ambiguous = one_place_list _ _ _ a.ambiguous b.ambiguous a.are_ambiguous b.are_ambiguous in
@@ -43,7 +43,7 @@ module _ (d : Deployment) (shape_of : ℕ → Option Shape) where
       )
       ∙ sym b.are
 
-  one_enabled_list : (e : Enablement) (s : Setting) (these those : List Problem) → AreEnabledProblems d e s these → AreEnabledProblems d e s those → these ≡ those
+  one_enabled_list : (e : Enablement) (s : Inventory) (these those : List Problem) → AreEnabledProblems d e s these → AreEnabledProblems d e s those → these ≡ those
   one_enabled_list e s these those a b =
       let inconsistent : a.inconsistent ≡ b.inconsistent =
       one_place_list _ _ _ a.inconsistent b.inconsistent a.are_inconsistent b.are_inconsistent in
@@ -57,7 +57,7 @@ module _ (d : Deployment) (shape_of : ℕ → Option Shape) where
       )
       ∙ sym b.are
 
-  one_in : (e : Enablement) (s : Setting) (these those : List Problem) → AreProblemsIn d shape_of e s these → AreProblemsIn d shape_of e s those → these ≡ those
+  one_in : (e : Enablement) (s : Inventory) (these those : List Problem) → AreProblemsIn d shape_of e s these → AreProblemsIn d shape_of e s those → these ≡ those
   one_in e s these those a b =
       let bodies : a.of_bodies ≡ b.of_bodies = one_body_list s a.of_bodies b.of_bodies a.are_of_bodies b.are_of_bodies in
       let points : a.of_points ≡ b.of_points = one_point_list s a.of_points b.of_points a.are_of_points b.are_of_points in

@@ -4,7 +4,7 @@ use Rattle.std.proofs.lemmas.List.{take_more, map-append}
 use Rattle.std.proofs.lemmas.List.Elements.{filter-append}
 use Rattle.std.proofs.lemmas.List.Folds.{list_any-append}
 use Rattle.std.specs.HashSet.{HashSet, contains}
-use Rattle.cdi_bean_check.specs.ManagedBeans.{stands_in}
+use Rattle.cdi_deployment.specs.Lists.{stands_in}
 use Rattle.cdi_bean_check.specs.NameSets.{HasNames}
 
 module _ {X Y : Type 0} (p : X → Bool) (f : X → Y) (xs : List X) (i : ℕ) (x : X) (lt : i < length xs) (is : x ≡ get_or xs i x) where

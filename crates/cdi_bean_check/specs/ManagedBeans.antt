@@ -5,6 +5,7 @@ use Rattle.cdi_base.specs.declared.scope.Scope.{Scope}
 use Rattle.cdi_base.specs.declared.scope.Scope.TheVariants as scopes
 use Rattle.cdi_deployment.specs.declared.deployment.Bean.{Bean}
 use Rattle.cdi_deployment.specs.declared.deployment.Class.{Class}
+use Rattle.cdi_deployment.specs.Lists.{stands_in}
 use Rattle.cdi_problems.specs.Elements.{Element}
 
 abbrev pub is_bean : Class → Bool
@@ -25,9 +26,6 @@ extended_bean classes c = option_and_then (bean_class classes) c.extends
 -- the names of the classes that are beans
 abbrev pub bean_names : List Class → List ℕ
 bean_names classes = map (λ c. c.name) (filter is_bean classes)
-
-abbrev pub stands_in : List ℕ → ℕ → Bool
-stands_in names name = list_any (λ n. n == name) names
 
 abbrev pub is_one_of : List ℕ → Option ℕ → Bool
 is_one_of names None = false

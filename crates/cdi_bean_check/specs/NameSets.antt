@@ -1,7 +1,7 @@
 -- Sets of names.
 use Rattle.std.specs.Prelude.{ℕ, ◌≡◌, nat_eq, List}
 use Rattle.std.specs.HashSet.{HashSet, contains}
-use Rattle.cdi_bean_check.specs.ManagedBeans.{stands_in}
+use Rattle.cdi_deployment.specs.Lists.{stands_in}
 
 -- a set has the names of a list
 pub record HasNames {S : Type 0} (names : List ℕ) (set : HashSet ℕ S) : Type 0 where

@@ -1,6 +1,7 @@
 //! The names of the classes that are beans.
 ghost use Rattle.std.specs.Prelude.{◌≡◌, IfOk};
 ghost use Rattle.cdi_bean_check.specs.ManagedBeans as spec;
+ghost use Rattle.cdi_deployment.specs.Lists.{stands_in};
 
 use cdi_base::{Name, Seq};
 use cdi_deployment::Class;
@@ -51,7 +52,7 @@ impl BeanNames {
 
     /// Whether a name is that of a bean's class.
     pub fn contains(&self, name: Name) -> bool
-        ensures { result ≡ spec.stands_in self.now name }
+        ensures { result ≡ stands_in self.now name }
     {
         self.set.contains(&name)
     }

@@ -3,7 +3,7 @@ use Rattle.std.specs.Prelude.{◌≡◌, ◌++◌, List, [], ◌∷◌, None}
 use Rattle.cdi_base.specs.declared.place.Place.{Place}
 use Rattle.cdi_deployment.specs.declared.deployment.Deployment.{Deployment}
 use Rattle.cdi_problems.specs.Elements.{Element, elements_of}
-use Rattle.cdi_problems.specs.Findings.{ArePlacesOf}
+use Rattle.cdi_problems.specs.Findings.{ArePlacesOf, PlacesIn}
 use Rattle.cdi_problems.specs.Words.{problems_at}
 use Rattle.cdi_problems.specs.declared.problem.Problem.{Problem}
 use Rattle.cdi_problems.specs.declared.problem.ProblemKind.{ProblemKind}
@@ -17,10 +17,6 @@ use Rattle.cdi_bean_rules.specs.Limits.{HasTooMany}
 use Rattle.cdi_bean_check.specs.ManagedBeans.{bean_names, IsAbstractBean, SpecializesNothing}
 use Rattle.cdi_bean_rules.specs.Observers.{IsConditionalDependent}
 use Rattle.cdi_bean_check.specs.Repeated.{RepeatsSuperclass}
-
--- the elements of a deployment of which P holds
-abbrev pub PlacesIn : Deployment → (Element → Type 0) → List Place → Type 0
-PlacesIn d P found = ArePlacesOf P (elements_of d) found
 
 -- there are too many, and the one problem says so; or there aren't, and nothing does
 pub data AreTooMany (d : Deployment) : List Problem → Type 0 where

@@ -22,27 +22,10 @@ use cdi_bean_check::repeated::{RepeatsSuperclass, repeated_of_superclasses};
 use cdi_bean_check::specialization::SpecializesNothing;
 use cdi_bean_check::typed::TypedNotAType;
 use cdi_deployment::{Class, Deployment};
-use cdi_problems::{Element, Problem, ProblemKind, Rule, elements_of, places_where};
+use cdi_problems::{Element, Problem, ProblemKind, Rule, add_problems_at, elements_of, places_where};
 use cdi_quals::QualifierTypes;
 use cdi_types::TypeTable;
 use std::alloc::{AllocError, Global};
-
-/// Adds the problems of a kind at these places.
-fn add_at(
-    kind: ProblemKind,
-    places: &[Place],
-    problems: &mut Seq<Problem>,
-) -> Result<(), AllocError>
-    ensures { OnOk result (problems.new ≡ problems.old ++ problems_at kind places.now) }
-{
-    for place in places {
-        problems.push(Problem {
-            kind,
-            place: Some(*place),
-        })?;
-    }
-    Ok(())
-}
 
 /// Adds the problems of a kind where its rule holds.
 fn add_found<R: Rule>(
@@ -56,7 +39,7 @@ fn add_found<R: Rule>(
         (AddsProblems (R.holds_at rule.now) (shown elements.now) kind problems.old problems.new) }
 {
     let places = places_where(alloc, rule, elements)?;
-    add_at(kind, places.as_slice(), problems)
+    add_problems_at(kind, places.as_slice(), problems)
 }
 
 fn add_repeated(

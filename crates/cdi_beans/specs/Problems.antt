@@ -23,16 +23,16 @@ pub record IsMadeOf (d : Deployment) (list : BeanList) : Type 0 where
   pub is : IsBeanListOf d qualifiers bindings list
 
 -- problems of names or, if there are none, of beans
-pub data AreProblemsOf (d : Deployment) (problems : List Problem) : Type 0 where
-  of_names : AreNameProblems d problems → AreProblemsOf d problems
+pub data AreEarlyProblemsOf (d : Deployment) (problems : List Problem) : Type 0 where
+  of_names : AreNameProblems d problems → AreEarlyProblemsOf d problems
   of_beans : {qualifiers : List QualifierType} → AreQualifiersOf d qualifiers → AreNameProblems d []
       → AreBeanProblems d qualifiers problems
-      → AreProblemsOf d problems
+      → AreEarlyProblemsOf d problems
 
 -- the problems of a deployment that has some
 pub record AreAllProblemsOf (d : Deployment) (problems : List Problem) : Type 0 where
   pub some : problems ≢ []
-  pub are : AreProblemsOf d problems
+  pub are : AreEarlyProblemsOf d problems
 
 -- the fault is the problems of a deployment that has some, or memory ran out
 abbrev pub IsRefusedWith : Deployment → OrMemory (List Problem) → Type 0

@@ -1,4 +1,7 @@
 //! Beans.
+ghost use Rattle.std.specs.Prelude.{◌≡◌};
+ghost use Rattle.cdi_beans.specs.Kinds as kinds;
+
 use cdi_base::{Name, Scope, Seq};
 use cdi_quals::QualSet;
 
@@ -40,6 +43,19 @@ pub struct Bean {
     pub specializes: Option<Name>,
     /// The members of a managed bean, those of the topmost superclass first; a product has none.
     pub members: Seq<BeanMember>,
+}
+
+impl Bean {
+    /// Whether it is a managed bean, and no product (Jakarta CDI 4.0, *Managed beans*).
+    pub fn is_managed(&self) -> bool
+        ensures { result ≡ kinds.is_managed self.now.kind }
+    {
+        match self.kind {
+            BeanKind::Managed => true,
+            BeanKind::ProducerMethod(_) => false,
+            BeanKind::ProducerField(_) => false,
+        }
+    }
 }
 
 /// An enabled interceptor (Jakarta Interceptors 2.1, *Enabling Interceptors*).

@@ -14,7 +14,7 @@ use Rattle.cdi_deployment.specs.declared.deployment.Member.TheVariants as member
 use Rattle.cdi_deployment.specs.declared.deployment.Point.{Point}
 use Rattle.cdi_live.specs.Enabled.{Enabled}
 use Rattle.cdi_live.specs.Live.{is_live_class, is_live_member, is_live_interceptor}
-use Rattle.cdi_deployment.specs.Member.{member_name}
+use Rattle.cdi_deployment.specs.Member.{member_name, member_params}
 use Rattle.cdi_body_check.specs.declared.site.BodySite.{BodySite}
 use Rattle.cdi_body_check.specs.declared.site.BodySite.TheVariants as lent
 
@@ -84,17 +84,9 @@ place_of (Site.AConstructor c k body) = places.Constructor c.name
 place_of (Site.AMember c m body) = places.Member c.name (member_name m)
 place_of (Site.AnInterceptorMethod j method body) = places.Interceptor j.name method
 
--- what is injected into the parameters of a member; those of a business method are values
-abbrev pub params_of_member : Member → List Point
-params_of_member (members.Initializer i) = i.params
-params_of_member (members.Producer p) = p.params
-params_of_member (members.Disposer m) = m.params
-params_of_member (members.Observer o) = o.params
-params_of_member _ = []
-
 abbrev pub params_of : Site → List Point
 params_of (Site.AConstructor c k body) = k.params
-params_of (Site.AMember c m body) = params_of_member m
+params_of (Site.AMember c m body) = member_params m
 params_of (Site.AnInterceptorMethod j method body) = []
 
 -- the container runs the body as long as the deployment runs

@@ -184,18 +184,6 @@ pub fn sites_of(alloc: Global, deployment: &Deployment) -> Result<Vec<BodySite<'
     Ok(sites)
 }
 
-fn params_of_member(member: &Member) -> &[Point]
-    ensures { result.now ≡ spec.params_of_member member.now }
-{
-    match member {
-        Member::Initializer(initializer) => initializer.params.as_slice(),
-        Member::Producer(producer) => producer.params.as_slice(),
-        Member::Disposer(disposer) => disposer.params.as_slice(),
-        Member::Observer(observer) => observer.params.as_slice(),
-        _ => &[],
-    }
-}
-
 impl<'a> BodySite<'a> {
     /// The name of the body.
     pub fn body(&self) -> Name
@@ -236,7 +224,7 @@ impl<'a> BodySite<'a> {
     {
         match self {
             BodySite::Constructor { constructor, .. } => constructor.params.as_slice(),
-            BodySite::Member { member, .. } => params_of_member(member),
+            BodySite::Member { member, .. } => member.params(),
             BodySite::InterceptorMethod { .. } => &[],
         }
     }

@@ -8,7 +8,7 @@ use Rattle.cdi_beans.specs.Problems.{AreAllProblemsOf}
 use Rattle.cdi_bodies.specs.declared.shape.Shape.{Shape}
 use Rattle.cdi_body_check.specs.Sites.{Site, sites_of, is_live, body_of}
 use Rattle.cdi_body_check.specs.UnknownBody.{HasUnknownBody}
-use Rattle.cdi_live.specs.OwnPoints.{Setting}
+use Rattle.cdi_live.specs.OwnPoints.{Inventory}
 use Rattle.cdi_deployment.specs.declared.deployment.Deployment.{Deployment}
 use Rattle.cdi_deployment.specs.declared.deployment.Point.{Point}
 use Rattle.cdi_enable.specs.Enablement.{Enablement, enablement_of}
@@ -95,7 +95,7 @@ points_resolve qualifiers e x satisfied unambiguous live = λ k d lt. at k (get_
         by Nothing h = absurd (satisfied (record { live = live; point = (k, p, lt, is, h) }))
         by Many h = absurd (unambiguous (record { live = live; point = (k, p, lt, is, h) }))
 
-pub bodies_sound : (d : Deployment) (shape_of : ℕ → Option Shape) (s : Setting) (problems : List _) → [] ≡ problems → AreBodyProblems d shape_of s problems → AreBodiesSound d shape_of s
+pub bodies_sound : (d : Deployment) (shape_of : ℕ → Option Shape) (s : Inventory) (problems : List _) → [] ≡ problems → AreBodyProblems d shape_of s problems → AreBodiesSound d shape_of s
 bodies_sound d shape_of s problems e h =
     let all = append_none _ _ (e ∙ h.are) in
     let three = append_none _ _ all.0 in
@@ -107,7 +107,7 @@ bodies_sound d shape_of s problems e h =
       none_checked = none_told _ _ (sites_of d) _ h.checked all.1 h.are_checked;
     }
 
-points_sound : (d : Deployment) (s : Setting) (problems : List _) → [] ≡ problems → ArePointProblems d s problems → ArePointsSound d s
+points_sound : (d : Deployment) (s : Inventory) (problems : List _) → [] ≡ problems → ArePointProblems d s problems → ArePointsSound d s
 points_sound d s problems e h =
     let all = append_none _ _ (e ∙ h.are) in
     let two = append_none _ _ all.0 in
@@ -118,7 +118,7 @@ points_sound d s problems e h =
       proxyable = none_told _ _ (elements_of d) _ h.unproxyable all.1 h.are_unproxyable;
     }
 
-beans_sound : (d : Deployment) (e : Enablement) (s : Setting) (problems : List _) → [] ≡ problems → AreEnabledProblems d e s problems → AreBeansSound d e s
+beans_sound : (d : Deployment) (e : Enablement) (s : Inventory) (problems : List _) → [] ≡ problems → AreEnabledProblems d e s problems → AreBeansSound d e s
 beans_sound d e s problems none h =
     let all = append_none _ _ (none ∙ h.are) in
     let two = append_none _ _ all.0 in

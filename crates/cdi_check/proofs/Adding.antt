@@ -6,7 +6,7 @@ use Rattle.cdi_body_check.specs.CheckedLifecycle.{HasCheckedLifecycle}
 use Rattle.cdi_body_check.specs.ProceedNotAllowed.{HasProceedNotAllowed}
 use Rattle.cdi_body_check.specs.UnknownBody.{HasUnknownBody}
 use Rattle.cdi_live.specs.Cycles.{HasDependentCycle}
-use Rattle.cdi_live.specs.OwnPoints.{Setting}
+use Rattle.cdi_live.specs.OwnPoints.{Inventory}
 use Rattle.cdi_deployment.specs.declared.deployment.Deployment.{Deployment}
 use Rattle.cdi_enable.specs.Enablement.{Enablement}
 use Rattle.cdi_live.specs.declared.point_problem.PointProblem.TheVariants as points
@@ -28,7 +28,7 @@ pub four : (old p q r s first second third fourth : List Problem) → first ≡ 
 four old p q r s first second third fourth a b c d =
     d ∙ ap (λ ps. ps ++ s) (three old p q r first second third a b c) ∙ append_assoc old (p ++ q ++ r) s
 
-pub adds_bodies : (d : Deployment) (shape_of : ℕ → Option Shape) (s : Setting) (old first second third new : List Problem)
+pub adds_bodies : (d : Deployment) (shape_of : ℕ → Option Shape) (s : Inventory) (old first second third new : List Problem)
     (unknown outside proceeding checked : List Place)
     → SitesIn d (HasUnknownBody s.enabled shape_of) unknown
     → AreOutsideShape d shape_of s outside
@@ -62,7 +62,7 @@ adds_bodies d shape_of s old first second third new unknown outside proceeding c
           (problems_at kinds.ProceedNotAllowed proceeding) (problems_at kinds.CheckedLifecycle checked) first second third new a b e f;
     }
 
-pub adds_points : (d : Deployment) (s : Setting) (old first second new : List Problem) (unsatisfied ambiguous unproxyable : List Place)
+pub adds_points : (d : Deployment) (s : Inventory) (old first second new : List Problem) (unsatisfied ambiguous unproxyable : List Place)
     → ArePointPlaces points.Unsatisfied d s unsatisfied
     → ArePointPlaces points.Ambiguous d s ambiguous
     → ArePointPlaces points.Unproxyable d s unproxyable
@@ -90,7 +90,7 @@ adds_points d s old first second new unsatisfied ambiguous unproxyable u v w a b
           (problems_at kinds.Unproxyable unproxyable) first second new a b c;
     }
 
-pub adds_enabled : (d : Deployment) (e : Enablement) (s : Setting) (elements : List Element) → elements ≡ elements_of d
+pub adds_enabled : (d : Deployment) (e : Enablement) (s : Inventory) (elements : List Element) → elements ≡ elements_of d
     → (old first second new : List Problem) (inconsistent cyclic intercepted : List Place)
     → ArePlacesOf (HasInconsistentSpecialization e) elements inconsistent
     → ArePlacesOf (HasDependentCycle s) elements cyclic
@@ -120,7 +120,7 @@ adds_enabled d e s elements all old first second new inconsistent cyclic interce
           (problems_at kinds.FinalIntercepted intercepted) first second new a b c;
     }
 
-pub all_added : (d : Deployment) (shape_of : ℕ → Option Shape) (e : Enablement) (s : Setting) (old first second new : List Problem)
+pub all_added : (d : Deployment) (shape_of : ℕ → Option Shape) (e : Enablement) (s : Inventory) (old first second new : List Problem)
     → old ≡ []
     → AddsBodyProblems d shape_of s old first
     → AddsPointProblems d s first second

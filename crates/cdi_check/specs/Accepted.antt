@@ -8,7 +8,7 @@ use Rattle.cdi_body_check.specs.CheckedLifecycle.{HasCheckedLifecycle}
 use Rattle.cdi_body_check.specs.ProceedNotAllowed.{HasProceedNotAllowed}
 use Rattle.cdi_body_check.specs.Sites.{Site, sites_of, is_live, body_of}
 use Rattle.cdi_live.specs.Cycles.{HasDependentCycle}
-use Rattle.cdi_live.specs.OwnPoints.{Setting}
+use Rattle.cdi_live.specs.OwnPoints.{Inventory}
 use Rattle.cdi_deployment.specs.declared.deployment.Deployment.{Deployment}
 use Rattle.cdi_deployment.specs.declared.deployment.Point.{Point}
 use Rattle.cdi_enable.specs.Enablement.{Enablement, enablement_of, AreFlags}
@@ -42,7 +42,7 @@ IsRegistered e shape_of s = IsTrue (is_live e s) → IsSome (shape_of (body_of s
 
 -- What is live has its bodies. They name nothing in their shapes that isn't there, go on with a chain in methods of interceptors alone,
 -- and throw no checked exception in a callback.
-pub record AreBodiesSound (d : Deployment) (shape_of : ℕ → Option Shape) (s : Setting)
+pub record AreBodiesSound (d : Deployment) (shape_of : ℕ → Option Shape) (s : Inventory)
     : Type 0 where
   pub registered : All (IsRegistered s.enabled shape_of) (sites_of d)
   pub in_shape :
@@ -51,13 +51,13 @@ pub record AreBodiesSound (d : Deployment) (shape_of : ℕ → Option Shape) (s 
   pub none_checked : HoldsOfNone (HasCheckedLifecycle d.exceptions s.enabled shape_of) (sites_of d)
 
 -- Each live point resolves to one bean, for which there can be a proxy if it needs one.
-pub record ArePointsSound (d : Deployment) (s : Setting) : Type 0 where
+pub record ArePointsSound (d : Deployment) (s : Inventory) : Type 0 where
   pub resolved : All (AreResolved s.qualifiers s.enabled) (elements_of d)
   pub proxyable :
       HoldsOfNone (HasPointProblem points.Unproxyable s.qualifiers s.enabled) (elements_of d)
 
 -- No two enabled beans specialize one, no dependent bean needs itself, and no bean of a final class is intercepted.
-pub record AreBeansSound (d : Deployment) (e : Enablement) (s : Setting) : Type 0 where
+pub record AreBeansSound (d : Deployment) (e : Enablement) (s : Inventory) : Type 0 where
   pub consistent : HoldsOfNone (HasInconsistentSpecialization e) (elements_of d)
   pub acyclic : HoldsOfNone (HasDependentCycle s) (elements_of d)
   pub interceptable : HoldsOfNone (HasFinalIntercepted s.enabled s.chains) (elements_of d)

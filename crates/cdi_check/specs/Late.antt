@@ -11,14 +11,14 @@ use Rattle.cdi_body_check.specs.Sites.{Site, sites_of}
 use Rattle.cdi_body_check.specs.UnknownBody.{HasUnknownBody}
 use Rattle.cdi_chains.specs.Bindings.{class_bindings}
 use Rattle.cdi_live.specs.Cycles.{HasDependentCycle}
-use Rattle.cdi_live.specs.OwnPoints.{Setting}
+use Rattle.cdi_live.specs.OwnPoints.{Inventory}
 use Rattle.cdi_deployment.specs.declared.deployment.Deployment.{Deployment}
 use Rattle.cdi_enable.specs.Enablement.{Enablement, enablement_of, AreFlags}
 use Rattle.cdi_live.specs.PointProblems.{HasPointProblem}
 use Rattle.cdi_live.specs.declared.point_problem.PointProblem.{PointProblem}
 use Rattle.cdi_live.specs.declared.point_problem.PointProblem.TheVariants as points
 use Rattle.cdi_problems.specs.Elements.{Element, elements_of}
-use Rattle.cdi_problems.specs.Findings.{ArePlacesOf}
+use Rattle.cdi_problems.specs.Findings.{PlacesIn}
 use Rattle.cdi_problems.specs.Words.{problems_at}
 use Rattle.cdi_problems.specs.declared.problem.Problem.{Problem}
 use Rattle.cdi_problems.specs.declared.problem.ProblemKind.TheVariants as kinds
@@ -32,7 +32,7 @@ use Rattle.cdi_check.specs.BeanRules.{HasInconsistentSpecialization, HasFinalInt
 
 -- what a deployment with this bean list is, where these flags tell which beans are enabled
 abbrev pub setting_of : Deployment → BeanList → List Bool → List QualifierType → List QualifierType
-    → Setting
+    → Inventory
 setting_of d list flags qualifiers bindings =
     record {
       qualifiers = qualifiers;
@@ -54,21 +54,18 @@ setting_of d list flags qualifiers bindings =
 abbrev pub SitesIn : Deployment → (Site → Type 0) → List Place → Type 0
 SitesIn d P found = AreSitesOf P (sites_of d) found
 
-abbrev pub PlacesIn : Deployment → (Element → Type 0) → List Place → Type 0
-PlacesIn d P found = ArePlacesOf P (elements_of d) found
-
 -- what the shapes of bodies may name
-abbrev pub application_in : Deployment → Setting → Application
+abbrev pub application_in : Deployment → Inventory → Application
 application_in d s =
     record { deployment = d; qualifiers = s.qualifiers; enabled = s.enabled.beans }
 
 -- P13 BodyOutsideShape, at the places where it holds
-abbrev pub AreOutsideShape : Deployment → (ℕ → Option Shape) → Setting → List Place → Type 0
+abbrev pub AreOutsideShape : Deployment → (ℕ → Option Shape) → Inventory → List Place → Type 0
 AreOutsideShape d shape_of s found =
     SitesIn d (HasBodyOutsideShape (application_in d s) s.enabled shape_of) found
 
 -- the problems of bodies
-pub record AreBodyProblems (d : Deployment) (shape_of : ℕ → Option Shape) (s : Setting)
+pub record AreBodyProblems (d : Deployment) (shape_of : ℕ → Option Shape) (s : Inventory)
     (problems : List Problem) : Type 0 where
   pub unknown : List Place
   pub are_unknown : SitesIn d (HasUnknownBody s.enabled shape_of) unknown
@@ -85,17 +82,17 @@ pub record AreBodyProblems (d : Deployment) (shape_of : ℕ → Option Shape) (s
       ++ problems_at kinds.CheckedLifecycle checked
 
 -- to a list are added the problems of bodies
-pub record AddsBodyProblems (d : Deployment) (shape_of : ℕ → Option Shape) (s : Setting)
+pub record AddsBodyProblems (d : Deployment) (shape_of : ℕ → Option Shape) (s : Inventory)
     (old new : List Problem) : Type 0 where
   pub added : List Problem
   pub are : AreBodyProblems d shape_of s added
   pub adds : new ≡ old ++ added
 
-abbrev pub ArePointPlaces : PointProblem → Deployment → Setting → List Place → Type 0
+abbrev pub ArePointPlaces : PointProblem → Deployment → Inventory → List Place → Type 0
 ArePointPlaces problem d s found = PlacesIn d (HasPointProblem problem s.qualifiers s.enabled) found
 
 -- the problems of injection points
-pub record ArePointProblems (d : Deployment) (s : Setting) (problems : List Problem) : Type 0 where
+pub record ArePointProblems (d : Deployment) (s : Inventory) (problems : List Problem) : Type 0 where
   pub unsatisfied : List Place
   pub are_unsatisfied : ArePointPlaces points.Unsatisfied d s unsatisfied
   pub ambiguous : List Place
@@ -107,13 +104,13 @@ pub record ArePointProblems (d : Deployment) (s : Setting) (problems : List Prob
       ≡ problems_at kinds.Unsatisfied unsatisfied ++ problems_at kinds.Ambiguous ambiguous
       ++ problems_at kinds.Unproxyable unproxyable
 
-pub record AddsPointProblems (d : Deployment) (s : Setting) (old new : List Problem) : Type 0 where
+pub record AddsPointProblems (d : Deployment) (s : Inventory) (old new : List Problem) : Type 0 where
   pub added : List Problem
   pub are : ArePointProblems d s added
   pub adds : new ≡ old ++ added
 
 -- the problems of enabled beans and interceptors
-pub record AreEnabledProblems (d : Deployment) (e : Enablement) (s : Setting)
+pub record AreEnabledProblems (d : Deployment) (e : Enablement) (s : Inventory)
     (problems : List Problem) : Type 0 where
   pub inconsistent : List Place
   pub are_inconsistent : PlacesIn d (HasInconsistentSpecialization e) inconsistent
@@ -127,7 +124,7 @@ pub record AreEnabledProblems (d : Deployment) (e : Enablement) (s : Setting)
       ++ problems_at kinds.DependentCycle cyclic
       ++ problems_at kinds.FinalIntercepted intercepted
 
-pub record AddsEnabledProblems (d : Deployment) (e : Enablement) (s : Setting)
+pub record AddsEnabledProblems (d : Deployment) (e : Enablement) (s : Inventory)
     (old new : List Problem) : Type 0 where
   pub added : List Problem
   pub are : AreEnabledProblems d e s added
@@ -135,7 +132,7 @@ pub record AddsEnabledProblems (d : Deployment) (e : Enablement) (s : Setting)
 
 -- all of them, by number and then in the order of the places
 pub record AreProblemsIn (d : Deployment) (shape_of : ℕ → Option Shape) (e : Enablement)
-    (s : Setting) (problems : List Problem) : Type 0 where
+    (s : Inventory) (problems : List Problem) : Type 0 where
   pub of_bodies : List Problem
   pub are_of_bodies : AreBodyProblems d shape_of s of_bodies
   pub of_points : List Problem

@@ -18,26 +18,11 @@ use cdi_body_check::{
 };
 use cdi_live::{PointProblem, PointRule, dependent_cycles};
 use cdi_name_check::DeclaredNames;
-use cdi_problems::{Element, Problem, ProblemKind, elements_of as all_elements, places_where};
+use cdi_problems::{
+    Element, Problem, ProblemKind, add_problems_at, elements_of as all_elements, places_where,
+};
 use cdi_shape_check::{ApplicationTables, ShapeTables, bodies_outside_shape};
 use std::alloc::{AllocError, Global};
-
-/// Adds the problems of a kind at these places.
-fn add_at(
-    kind: ProblemKind,
-    places: &[Place],
-    problems: &mut Seq<Problem>,
-) -> Result<(), AllocError>
-    ensures { OnOk result (problems.new ≡ problems.old ++ problems_at kind places.now) }
-{
-    for place in places {
-        problems.push(Problem {
-            kind,
-            place: Some(*place),
-        })?;
-    }
-    Ok(())
-}
 
 impl LateTables<'_> {
     /// Where the shape of a live body names something that isn't there.
@@ -82,17 +67,17 @@ impl LateTables<'_> {
             bodies,
         };
         let unknown = unknown_bodies(alloc, &tables)?;
-        add_at(ProblemKind::UnknownBody, unknown.as_slice(), problems)?;
+        add_problems_at(ProblemKind::UnknownBody, unknown.as_slice(), problems)?;
         let outside = self.outside_shape(alloc, bodies)?;
-        add_at(ProblemKind::BodyOutsideShape, outside.as_slice(), problems)?;
+        add_problems_at(ProblemKind::BodyOutsideShape, outside.as_slice(), problems)?;
         let proceeding = proceeds_not_allowed(alloc, &tables)?;
-        add_at(
+        add_problems_at(
             ProblemKind::ProceedNotAllowed,
             proceeding.as_slice(),
             problems,
         )?;
         let checked = checked_lifecycles(alloc, &tables)?;
-        add_at(ProblemKind::CheckedLifecycle, checked.as_slice(), problems)?;
+        add_problems_at(ProblemKind::CheckedLifecycle, checked.as_slice(), problems)?;
         Ok(())
     }
 
@@ -127,11 +112,11 @@ impl LateTables<'_> {
             (setting_of self.now.cycles) problems.old problems.new) }
     {
         let unsatisfied = self.point_places(alloc, PointProblem::Unsatisfied, elements)?;
-        add_at(ProblemKind::Unsatisfied, unsatisfied.as_slice(), problems)?;
+        add_problems_at(ProblemKind::Unsatisfied, unsatisfied.as_slice(), problems)?;
         let ambiguous = self.point_places(alloc, PointProblem::Ambiguous, elements)?;
-        add_at(ProblemKind::Ambiguous, ambiguous.as_slice(), problems)?;
+        add_problems_at(ProblemKind::Ambiguous, ambiguous.as_slice(), problems)?;
         let unproxyable = self.point_places(alloc, PointProblem::Unproxyable, elements)?;
-        add_at(ProblemKind::Unproxyable, unproxyable.as_slice(), problems)?;
+        add_problems_at(ProblemKind::Unproxyable, unproxyable.as_slice(), problems)?;
         Ok(())
     }
 
@@ -150,19 +135,19 @@ impl LateTables<'_> {
             enabled: self.enabled,
         };
         let inconsistent = places_where(alloc, &specialized, elements)?;
-        add_at(
+        add_problems_at(
             ProblemKind::InconsistentSpecialization,
             inconsistent.as_slice(),
             problems,
         )?;
         let cyclic = dependent_cycles(alloc, &self.cycles, elements)?;
-        add_at(ProblemKind::DependentCycle, cyclic.as_slice(), problems)?;
+        add_problems_at(ProblemKind::DependentCycle, cyclic.as_slice(), problems)?;
         let intercepted = FinalIntercepted {
             live: self.cycles.points.live,
             chains: self.cycles.chains,
         };
         let finals = places_where(alloc, &intercepted, elements)?;
-        add_at(ProblemKind::FinalIntercepted, finals.as_slice(), problems)?;
+        add_problems_at(ProblemKind::FinalIntercepted, finals.as_slice(), problems)?;
         Ok(())
     }
 

@@ -2,3 +2,4 @@ pub mod DataCode
 pub mod Limits
 pub mod KnownNames
 pub mod Member
+pub mod Lists

@@ -1,6 +1,6 @@
 //! A deployment: what an application declares (Jakarta CDI 4.0, *Concepts*).
 ghost use Rattle.std.specs.Prelude.{◌≡◌};
-ghost use Rattle.cdi_deployment.specs.Member.{member_name};
+ghost use Rattle.cdi_deployment.specs.Member.{member_name, member_params};
 
 use crate::steps::Steps;
 use cdi_base::{Name, Names, Scope, Seq, Use, Value};
@@ -231,6 +231,20 @@ impl Member {
             Member::ProducerField(producer) => producer.name,
             Member::Disposer(disposer) => disposer.name,
             Member::Observer(observer) => observer.name,
+        }
+    }
+
+    /// Its injected parameters (Jakarta CDI 4.0, *Injection points*): the disposed parameter and the event parameter are none, and
+    /// those of a business method are values.
+    pub fn params(&self) -> &[Point]
+        ensures { result.now ≡ member_params self.now }
+    {
+        match self {
+            Member::Initializer(initializer) => initializer.params.as_slice(),
+            Member::Producer(producer) => producer.params.as_slice(),
+            Member::Disposer(disposer) => disposer.params.as_slice(),
+            Member::Observer(observer) => observer.params.as_slice(),
+            _ => &[],
         }
     }
 }

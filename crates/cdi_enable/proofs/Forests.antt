@@ -25,7 +25,8 @@ use Rattle.cdi_beans.specs.declared.bean.BeanList.{BeanList}
 use Rattle.cdi_beans.proofs.Specialized.{acyclic_classes, steps-fall_specialized}
 use Rattle.cdi_enable.specs.declared.managed_bean.ManagedBean.{ManagedBean}
 use Rattle.cdi_enable.specs.Enabled.{graph_of, IsForest}
-use Rattle.cdi_enable.specs.Enablement.{is_managed, managed_beans, classes_of, bean_of_class, managed_bean, enablement_of}
+use Rattle.cdi_beans.specs.Kinds.{is_managed}
+use Rattle.cdi_enable.specs.Enablement.{managed_beans, classes_of, bean_of_class, managed_bean, enablement_of}
 
 -- a class that is a bean's, with what the bean specializes
 record IsOfClass (classes : List Class) (b : Bean) : Type 0 where

@@ -5,7 +5,7 @@ use Rattle.std.proofs.lemmas.Option.{slice_get_past}
 use Rattle.cdi_types.proofs.Paths.{proper_join, proper_decided}
 use Rattle.cdi_enable.specs.declared.managed_bean.ManagedBean.{ManagedBean}
 use Rattle.cdi_enable.specs.Enabled.{graph_of, is_candidate, may_be_enabled, Specializes, IsForest, Enabled}
-use Rattle.cdi_enable.specs.Free.{flag, IsFree, IsSetOf}
+use Rattle.cdi_enable.specs.Free.{flag, IsFree, IsEnabledSetOf}
 
 pub once : {beans : List ManagedBean} (b : ℕ) (r s : Bool) → Enabled beans b r → Enabled beans b s → r ≡ s
 once b true true _ _ = refl
@@ -94,7 +94,7 @@ module _ (beans : List ManagedBean) where
       ]
 
   -- what a flag says
-  pub enabled_flag : {graph : List (List ℕ)} {flags : List Bool} → IsSetOf beans graph flags → (b : ℕ) → Enabled beans b (flag flags b)
+  pub enabled_flag : {graph : List (List ℕ)} {flags : List Bool} → IsEnabledSetOf beans graph flags → (b : ℕ) → Enabled beans b (flag flags b)
   enabled_flag {graph} {flags} ok b = by (flag flags b) (ok.flagged b)
     where
       by : (r : Bool) → IsTrue r ↔ IsFree beans b → Enabled beans b r

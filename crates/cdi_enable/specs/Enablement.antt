@@ -2,9 +2,8 @@
 use Rattle.std.specs.Prelude.{ℕ, ◌≡◌, ◌==◌, ◌||◌, Bool, true, false, List, filter, length, map, position, slice_get, slice_index_or, Option, Some, None, is_some, option_and_then, if◌then◌else◌}
 use Rattle.std.specs.List.{list_any}
 use Rattle.cdi_beans.specs.declared.bean.Bean.{Bean}
-use Rattle.cdi_beans.specs.declared.bean.BeanKind.{BeanKind}
-use Rattle.cdi_beans.specs.declared.bean.BeanKind.TheVariants as kinds
 use Rattle.cdi_beans.specs.declared.bean.BeanList.{BeanList}
+use Rattle.cdi_beans.specs.Kinds.{is_managed}
 use Rattle.cdi_enable.specs.Enabled.{Enabled, IsInconsistent as IsInconsistentManaged}
 use Rattle.cdi_enable.specs.declared.listed_bean.ListedBean.{ListedBean}
 use Rattle.cdi_enable.specs.declared.managed_bean.ManagedBean.{ManagedBean}
@@ -14,11 +13,6 @@ pub record Enablement : Type 0 where
   pub classes : List ℕ
   pub managed : List ManagedBean
   pub beans : List ListedBean
-
-abbrev pub is_managed : BeanKind → Bool
-is_managed kinds.Managed = true
-is_managed (kinds.ProducerMethod name) = false
-is_managed (kinds.ProducerField name) = false
 
 abbrev pub managed_beans : List Bean → List Bean
 managed_beans beans = filter (λ b. is_managed b.kind) beans

@@ -12,7 +12,7 @@ IsFree beans b =
 abbrev pub flag : List Bool → ℕ → Bool
 flag flags b = slice_index_or flags b false
 
-pub record IsSetOf (beans : List ManagedBean) (graph : List (List ℕ)) (flags : List Bool)
+pub record IsEnabledSetOf (beans : List ManagedBean) (graph : List (List ℕ)) (flags : List Bool)
     : Type 0 where
   pub forest : IsForest beans
   pub edges : graph ≡ graph_of beans

@@ -22,13 +22,13 @@ pub struct EnabledManaged {
 impl Model for EnabledManaged {
     ghost use Rattle.std.specs.Prelude.{List};
     ghost use Rattle.cdi_enable.specs.declared.managed_bean.ManagedBean.{ManagedBean};
-    ghost use Rattle.cdi_enable.specs.Free.{IsSetOf};
+    ghost use Rattle.cdi_enable.specs.Free.{IsEnabledSetOf};
 
     ghost Value = { List ManagedBean };
 
     ghost view = { λ s. s.beans };
 
-    ghost invariant = { λ s. IsSetOf s.beans s.reach s.flags };
+    ghost invariant = { λ s. IsEnabledSetOf s.beans s.reach s.flags };
 }
 
 /// Each bean with the one that it directly specializes.

@@ -3,7 +3,7 @@ ghost use Rattle.std.specs.Prelude.{◌≡◌};
 ghost use Rattle.cdi_enable.specs.Enablement as spec;
 
 use cdi_base::Name;
-use cdi_beans::{Bean, BeanKind};
+use cdi_beans::Bean;
 
 /// Where a bean is declared.
 #[derive(Clone, Copy, Debug, PartialEq, Eq)]
@@ -14,23 +14,12 @@ pub struct ListedBean {
     pub is_managed: bool,
 }
 
-/// Whether a bean is a managed bean.
-pub(crate) fn is_managed(bean: &Bean) -> bool
-    ensures { result ≡ spec.is_managed bean.now.kind }
-{
-    match bean.kind {
-        BeanKind::Managed => true,
-        BeanKind::ProducerMethod(_) => false,
-        BeanKind::ProducerField(_) => false,
-    }
-}
-
 /// Where a bean of a bean list is declared.
 pub(crate) fn listed_bean(bean: &Bean) -> ListedBean
     ensures { result ≡ spec.listed_bean bean.now }
 {
     ListedBean {
         class: bean.class,
-        is_managed: is_managed(bean),
+        is_managed: bean.is_managed(),
     }
 }

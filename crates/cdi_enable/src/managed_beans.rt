@@ -4,7 +4,7 @@ ghost use Rattle.std.specs.List.{list_any};
 ghost use Rattle.cdi_enable.specs.Enablement as spec;
 
 use crate::class_places::ClassPlaces;
-use crate::listed_bean::{ListedBean, is_managed, listed_bean};
+use crate::listed_bean::{ListedBean, listed_bean};
 use crate::managed_bean::ManagedBean;
 use cdi_base::{Name, Seq};
 use cdi_beans::Bean;
@@ -16,7 +16,7 @@ pub(crate) fn managed_classes(alloc: Global, beans: &[Bean]) -> Result<Seq<Name>
 {
     let mut classes = Seq::empty(alloc);
     for bean in beans {
-        if is_managed(bean) {
+        if bean.is_managed() {
             classes.push(bean.class)?;
         }
     }
@@ -69,7 +69,7 @@ pub(crate) fn managed_beans(
 {
     let mut managed = Seq::empty(alloc);
     for bean in beans {
-        if is_managed(bean) {
+        if bean.is_managed() {
             managed.push(managed_bean(classes, selected, bean))?;
         }
     }

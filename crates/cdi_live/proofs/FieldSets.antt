@@ -5,7 +5,8 @@ use Rattle.std.specs.HashSet.{HashSet, contains}
 use Rattle.std.specs.List.{Any}
 use Rattle.cdi_beans.specs.declared.bean.Bean.{Bean}
 use Rattle.cdi_deployment.specs.declared.deployment.Class.{Class}
-use Rattle.cdi_live.specs.Live.{is_declared_class, IsBeanBelow, HasFieldsOf}
+use Rattle.cdi_live.specs.Live.{IsBeanBelow, HasFieldsOf}
+use Rattle.cdi_deployment.specs.Lists.{is_declared_class}
 use Rattle.cdi_live.specs.LiveSets.{HasThose}
 use Rattle.cdi_live.proofs.MemberSets.{any_next}
 use Rattle.cdi_types.specs.declared.declaration.TypeDeclaration.{TypeDeclaration}

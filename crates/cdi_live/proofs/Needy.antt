@@ -12,7 +12,7 @@ use Rattle.cdi_problems.specs.Elements.{Element}
 use Rattle.cdi_problems.specs.Findings.{ArePlacesOf}
 use Rattle.cdi_types.specs.ListsThose.{ListsThose}
 use Rattle.cdi_live.specs.Cycles.{flag, AreNeedy, HasFlaggedCycle, HasDependentCycle, IsNeedyBean, IsNeedyProduct, IsNeedyInterceptor, is_product_of}
-use Rattle.cdi_live.specs.OwnPoints.{Setting}
+use Rattle.cdi_live.specs.OwnPoints.{Inventory}
 use Rattle.cdi_live.specs.declared.cycles.NeedyFlags.{NeedyFlags}
 
 any_same : {X : Type 0} (p : X → Bool) (P : X → Type 0) → ((x : X) → IsTrue (p x) ↔ P x) → (xs : List X) → IsTrue (list_any p xs) ↔ Any P xs
@@ -33,7 +33,7 @@ both a b x y = ap (λ c. c && b) x ∙ y
 nothing : ⊥ ↔ ⊥
 nothing = (λ a. a, λ a. a)
 
-module _ (s : Setting) (flags : NeedyFlags) (needy : AreNeedy s flags) where
+module _ (s : Inventory) (flags : NeedyFlags) (needy : AreNeedy s flags) where
   pub same_cycle : (x : Element) → HasFlaggedCycle s.enabled flags x ↔ HasDependentCycle s x
   same_cycle (Element.AClass i c) =
       any_same (λ b. is_bean_of c.name b && flag flags.beans b.0) (IsNeedyBean s c.name) (λ b. (λ h. record { is = both_left (is_bean_of c.name b) (flag flags.beans b.0) h; itself = (needy.beans b.0).0 (both_right (is_bean_of c.name b) (flag flags.beans b.0) h) }, λ n. both (is_bean_of c.name b) (flag flags.beans b.0) n.is ((needy.beans b.0).1 n.itself))) s.enabled.beans

@@ -21,7 +21,7 @@ use Rattle.cdi_resolve.specs.declared.resolution.Resolution.{Resolution}
 use Rattle.cdi_resolve.specs.declared.resolution.Resolution.TheVariants.{Nothing, One, Many}
 use Rattle.cdi_live.specs.Graphs.{Counts, number_of, node_of, IsRowOf, HasRows}
 use Rattle.cdi_live.specs.Needs.{is_dependent_bean, dependent_bean, needed_at, declaring_bean, NeedsThose, Needs, NeedsInTurn}
-use Rattle.cdi_live.specs.OwnPoints.{Setting, AreManagedPoints, constructor_points, line_points, product_points, product_name, interceptor_points, fields_of_some}
+use Rattle.cdi_live.specs.OwnPoints.{Inventory, AreManagedPoints, constructor_points, line_points, product_points, product_name, interceptor_points, fields_of_some}
 use Rattle.cdi_live.specs.declared.node.Node.{Node}
 use Rattle.cdi_live.specs.declared.node.Node.TheVariants as nodes
 use Rattle.cdi_live.proofs.Members.{in_either, found_in, stands_in, image_in}
@@ -47,7 +47,7 @@ node_of_number n (nodes.Interceptor k) x e = by (nat_lt k n.interceptors) e
     by false h = absurd cc
 
 -- what is needed at a node is determined
-module _ (s : Setting) where
+module _ (s : Inventory) where
   one_points : (b : Bean) (ps qs : List Point) → AreManagedPoints s b ps → AreManagedPoints s b qs → ps ≡ qs
   one_points b ps qs p q =
       p.are ∙ ap (λ line. constructor_points (class_named s.enabled.classes b.class) ++ line_points line) (one_line s.enabled.types s.enabled.classes b.class p.line q.line p.is_line q.is_line) ∙ sym q.are
@@ -79,7 +79,7 @@ module _ (s : Setting) where
   one_list x ys zs NeedsThose.interceptor NeedsThose.interceptor = refl
 
 -- what is needed is a node of the graph
-module _ (s : Setting) (n : Counts) (beans : List Bean) (flags : List Bool) (enabled : s.enabled.beans ≡ enabled_beans beans flags) (all_beans : n.beans ≡ length beans) (all_interceptors : n.interceptors ≡ length s.enabled.interceptors) (same_interceptors : s.chains.interceptors ≡ s.enabled.interceptors) where
+module _ (s : Inventory) (n : Counts) (beans : List Bean) (flags : List Bool) (enabled : s.enabled.beans ≡ enabled_beans beans flags) (all_beans : n.beans ≡ length beans) (all_interceptors : n.interceptors ≡ length s.enabled.interceptors) (same_interceptors : s.chains.interceptors ≡ s.enabled.interceptors) where
   record Numbered (y : Node) : Type 0 where
     pub number : ℕ
     pub is : number_of n y ≡ Some number

@@ -7,7 +7,7 @@ use Rattle.std.proofs.lemmas.List.{get_or_append_left, get_or_default}
 use Rattle.std.specs.Prelude.{All, Contains}
 use Rattle.cdi_types.specs.Graph.{targets_of, IsGraph}
 use Rattle.cdi_live.specs.Graphs.{Counts, number_of, IsRowOf, HasBeanRows, HasRows}
-use Rattle.cdi_live.specs.OwnPoints.{Setting}
+use Rattle.cdi_live.specs.OwnPoints.{Inventory}
 use Rattle.cdi_live.specs.declared.node.Node.{Node}
 use Rattle.cdi_live.specs.declared.node.Node.TheVariants.{Bean, Interceptor}
 use Rattle.cdi_live.proofs.Members.{found_in}
@@ -22,7 +22,7 @@ module _ (g : List (List ℕ)) (row : List ℕ) where
   longer : length (g ++ row ∷ []) ≡ length g + 1
   longer = length-append g (row ∷ [])
 
-  module _ (s : Setting) (n : Counts) (i : ℕ) where
+  module _ (s : Inventory) (n : Counts) (i : ℕ) where
     pub bean_row_more : HasBeanRows s n i g → IsRowOf s n (Bean i) row → HasBeanRows s n (i + 1) (g ++ row ∷ [])
     bean_row_more h r =
         let P : ℕ → Type 0 = λ j. IsRowOf s n (Bean j) (targets_of (g ++ row ∷ []) j) in
@@ -40,7 +40,7 @@ module _ (g : List (List ℕ)) (row : List ℕ) where
           interceptor_rows = below_more P i (λ k lt. let within : n.beans + k < length g = omega (arith, h.len) in let Q : List ℕ → Type 0 = IsRowOf s n (Interceptor k) in subst Q (sym (old_row (n.beans + k) within)) (h.interceptor_rows k lt)) (let Q : List ℕ → Type 0 = IsRowOf s n (Interceptor i) in subst Q (sym (new_row (n.beans + i) (sym h.len))) r);
         }
 
-pub no_interceptors : (s : Setting) (n : Counts) (g : List (List ℕ)) → HasBeanRows s n n.beans g → HasRows s n 0 g
+pub no_interceptors : (s : Inventory) (n : Counts) (g : List (List ℕ)) → HasBeanRows s n n.beans g → HasRows s n 0 g
 no_interceptors s n g h = record { len = omega (arith, h.len); bean_rows = h.rows; interceptor_rows = λ k lt. absurd (omega arith) }
 
 -- ---- the rows are those of a graph
@@ -57,7 +57,7 @@ number_below n (Interceptor k) x e = by (nat_lt k n.interceptors) refl e
     by true h e = let same : n.beans + k ≡ x = cc in let lt : k < n.interceptors = grind (arith, nat_tests) in omega arith
     by false h e = absurd cc
 
-row_below : (s : Setting) (n : Counts) (x : Node) (row : List ℕ) → IsRowOf s n x row → All (λ b. b < n.beans + n.interceptors) row
+row_below : (s : Inventory) (n : Counts) (x : Node) (row : List ℕ) → IsRowOf s n x row → All (λ b. b < n.beans + n.interceptors) row
 row_below s n x row (IsRowOf.needing those t is) = λ k d lt.
     let b = get_or row k d in
     let listed : Contains row b = (k, lt, get_or_default row k b d lt) in
@@ -66,7 +66,7 @@ row_below s n x row (IsRowOf.needing those t is) = λ k d lt.
     number_below n found.item b found.is
 row_below s n x row (IsRowOf.unknown none is) = λ k d lt. let P : List ℕ → Type 0 = λ r. k < length r in let past : k < length {A = ℕ} [] = subst P is lt in absurd (omega arith)
 
-row_of : (s : Setting) (n : Counts) (g : List (List ℕ)) → HasRows s n n.interceptors g → (x : ℕ) → x < length g → All (λ b. b < n.beans + n.interceptors) (targets_of g x)
+row_of : (s : Inventory) (n : Counts) (g : List (List ℕ)) → HasRows s n n.interceptors g → (x : ℕ) → x < length g → All (λ b. b < n.beans + n.interceptors) (targets_of g x)
 row_of s n g rows x lt = by (cases_lt x n.beans)
   where
     by : (x < n.beans) ⊎ (n.beans ≤ x) → All (λ b. b < n.beans + n.interceptors) (targets_of g x)
@@ -78,7 +78,7 @@ row_of s n g rows x lt = by (cases_lt x n.beans)
         let P : ℕ → Type 0 = λ y. IsRowOf s n (Interceptor k) (targets_of g y) in
         row_below s n (Interceptor k) (targets_of g x) (subst P e (rows.interceptor_rows k within))
 
-pub are_graph : (s : Setting) (n : Counts) (g : List (List ℕ)) → HasRows s n n.interceptors g → IsGraph g
+pub are_graph : (s : Inventory) (n : Counts) (g : List (List ℕ)) → HasRows s n n.interceptors g → IsGraph g
 are_graph s n g rows = λ x d lt.
     let same : targets_of g x ≡ get_or g x d = get_or_default g x [] d lt in
     let P : List ℕ → Type 0 = All (λ b. b < n.beans + n.interceptors) in

@@ -8,7 +8,7 @@ use Rattle.cdi_live.specs.Live.{is_bean_of}
 use Rattle.cdi_deployment.specs.Member.{member_name}
 use Rattle.cdi_problems.specs.Elements.{Element}
 use Rattle.cdi_live.specs.Needs.{NeedsInTurn}
-use Rattle.cdi_live.specs.OwnPoints.{Setting, product_name}
+use Rattle.cdi_live.specs.OwnPoints.{Inventory, product_name}
 use Rattle.cdi_live.specs.declared.cycles.NeedyFlags.{NeedyFlags}
 use Rattle.cdi_live.specs.declared.node.Node.TheVariants as nodes
 
@@ -20,28 +20,28 @@ is_name name (Some n) = n == name
 abbrev pub is_product_of : ℕ → ℕ → ℕ × Bean → Bool
 is_product_of class name b = is_name name (product_name b.1.kind) && (b.1.class == class)
 
-abbrev pub BeanNeedsItself : Setting → ℕ → Type 0
+abbrev pub BeanNeedsItself : Inventory → ℕ → Type 0
 BeanNeedsItself s i = NeedsInTurn s (nodes.Bean i) (nodes.Bean i)
 
-abbrev pub InterceptorNeedsItself : Setting → ℕ → Type 0
+abbrev pub InterceptorNeedsItself : Inventory → ℕ → Type 0
 InterceptorNeedsItself s k = NeedsInTurn s (nodes.Interceptor k) (nodes.Interceptor k)
 
 -- an enabled managed bean of a class needs itself
-pub record IsNeedyBean (s : Setting) (class : ℕ) (b : ℕ × Bean) : Type 0 where
+pub record IsNeedyBean (s : Inventory) (class : ℕ) (b : ℕ × Bean) : Type 0 where
   pub is : IsTrue (is_bean_of class b)
   pub itself : BeanNeedsItself s b.0
 
 -- the enabled product of a class's producer needs itself
-pub record IsNeedyProduct (s : Setting) (class name : ℕ) (b : ℕ × Bean) : Type 0 where
+pub record IsNeedyProduct (s : Inventory) (class name : ℕ) (b : ℕ × Bean) : Type 0 where
   pub is : IsTrue (is_product_of class name b)
   pub itself : BeanNeedsItself s b.0
 
-pub record IsNeedyInterceptor (s : Setting) (name : ℕ) (j : ℕ × EnabledInterceptor) : Type 0 where
+pub record IsNeedyInterceptor (s : Inventory) (name : ℕ) (j : ℕ × EnabledInterceptor) : Type 0 where
   pub is : j.1.name ≡ name
   pub itself : InterceptorNeedsItself s j.0
 
 -- P20 DependentCycle: an enabled dependent bean or interceptor lies on a cycle of such alone
-abbrev pub HasDependentCycle : Setting → Element → Type 0
+abbrev pub HasDependentCycle : Inventory → Element → Type 0
 HasDependentCycle s (Element.AClass i c) = Any (IsNeedyBean s c.name) s.enabled.beans
 HasDependentCycle s (Element.AMember i c m) =
     Any (IsNeedyProduct s c.name (member_name m)) s.enabled.beans
@@ -54,7 +54,7 @@ abbrev pub flag : List Bool → ℕ → Bool
 flag flags i = slice_index_or flags i false
 
 -- flags tell which beans and interceptors need themselves
-pub record AreNeedy (s : Setting) (flags : NeedyFlags) : Type 0 where
+pub record AreNeedy (s : Inventory) (flags : NeedyFlags) : Type 0 where
   pub beans : (i : ℕ) → IsTrue (flag flags.beans i) ↔ BeanNeedsItself s i
   pub interceptors : (k : ℕ) → IsTrue (flag flags.interceptors k) ↔ InterceptorNeedsItself s k
 

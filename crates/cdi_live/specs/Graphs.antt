@@ -3,7 +3,7 @@ use Rattle.std.specs.Prelude.{ℕ, ◌≡◌, ◌+◌, ◌-◌, ◌<◌, List, [
 use Rattle.std.specs.List.{filter_map}
 use Rattle.cdi_types.specs.Graph.{targets_of}
 use Rattle.cdi_live.specs.Needs.{NeedsThose}
-use Rattle.cdi_live.specs.OwnPoints.{Setting}
+use Rattle.cdi_live.specs.OwnPoints.{Inventory}
 use Rattle.cdi_live.specs.declared.node.Node.{Node}
 use Rattle.cdi_live.specs.declared.node.Node.TheVariants as nodes
 
@@ -22,18 +22,18 @@ abbrev pub node_of : Counts → ℕ → Node
 node_of n x = if nat_lt x n.beans then nodes.Bean x else nodes.Interceptor (x - n.beans)
 
 -- a row lists the numbers of what a node needs
-pub data IsRowOf (s : Setting) (n : Counts) (x : Node) (row : List ℕ) : Type 0 where
+pub data IsRowOf (s : Inventory) (n : Counts) (x : Node) (row : List ℕ) : Type 0 where
   needing : (those : List Node) → NeedsThose s x those → row ≡ filter_map (number_of n) those
       → IsRowOf s n x row
   unknown : ((those : List Node) → NeedsThose s x those → ⊥) → row ≡ [] → IsRowOf s n x row
 
 -- rows for the first beans
-pub record HasBeanRows (s : Setting) (n : Counts) (count : ℕ) (graph : List (List ℕ)) : Type 0 where
+pub record HasBeanRows (s : Inventory) (n : Counts) (count : ℕ) (graph : List (List ℕ)) : Type 0 where
   pub len : length graph ≡ count
   pub rows : (i : ℕ) → i < count → IsRowOf s n (nodes.Bean i) (targets_of graph i)
 
 -- rows for all beans and for the first interceptors
-pub record HasRows (s : Setting) (n : Counts) (count : ℕ) (graph : List (List ℕ)) : Type 0 where
+pub record HasRows (s : Inventory) (n : Counts) (count : ℕ) (graph : List (List ℕ)) : Type 0 where
   pub len : length graph ≡ n.beans + count
   pub bean_rows : (i : ℕ) → i < n.beans → IsRowOf s n (nodes.Bean i) (targets_of graph i)
   pub interceptor_rows : (k : ℕ) → k < count

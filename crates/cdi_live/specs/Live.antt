@@ -1,17 +1,13 @@
 -- What is live: what the container calls, and where it injects, by the enabled beans, each with its index, and the enabled interceptors.
-use Rattle.std.specs.Prelude.{ℕ, Bool, true, false, ◌==◌, ◌&&◌, List, IsTrue}
+use Rattle.std.specs.Prelude.{ℕ, Bool, ◌==◌, ◌&&◌, List, IsTrue}
 use Rattle.std.specs.List.{list_any, Any}
 use Rattle.cdi_beans.specs.declared.bean.Bean.{Bean}
-use Rattle.cdi_beans.specs.declared.bean.BeanKind.{BeanKind}
-use Rattle.cdi_beans.specs.declared.bean.BeanKind.TheVariants as kinds
 use Rattle.cdi_beans.specs.declared.bean.EnabledInterceptor.{EnabledInterceptor}
+use Rattle.cdi_beans.specs.Kinds.{is_managed}
 use Rattle.cdi_deployment.specs.declared.deployment.Class.{Class}
+use Rattle.cdi_deployment.specs.Lists.{is_declared_class}
 use Rattle.cdi_types.specs.Subtype.{IsSubtype}
 use Rattle.cdi_types.specs.declared.declaration.TypeDeclaration.{TypeDeclaration}
-
-abbrev pub is_managed : BeanKind → Bool
-is_managed kinds.Managed = true
-is_managed _ = false
 
 -- a managed bean of this class
 abbrev pub is_bean_of : ℕ → ℕ × Bean → Bool
@@ -33,9 +29,6 @@ is_live_member enabled class name = list_any (has_member class name) enabled
 pub record IsBeanBelow (types : List TypeDeclaration) (class : ℕ) (b : ℕ × Bean) : Type 0 where
   pub managed : IsTrue (is_managed b.1.kind)
   pub below : IsSubtype types b.1.class class
-
-abbrev pub is_declared_class : List Class → ℕ → Bool
-is_declared_class classes name = list_any (λ c. c.name == name) classes
 
 -- a class of the deployment is that of an enabled managed bean, or stands above it, so that its injected fields are set
 pub record HasFieldsOf (classes : List Class) (types : List TypeDeclaration)

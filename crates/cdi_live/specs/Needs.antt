@@ -12,7 +12,7 @@ use Rattle.cdi_live.specs.Live.{is_bean_of}
 use Rattle.cdi_live.specs.PointProblems.{resolved}
 use Rattle.cdi_resolve.specs.declared.resolution.Resolution.{Resolution}
 use Rattle.cdi_resolve.specs.declared.resolution.Resolution.TheVariants.{Nothing, One, Many}
-use Rattle.cdi_live.specs.OwnPoints.{Setting, AreManagedPoints, product_points, product_name, interceptor_points}
+use Rattle.cdi_live.specs.OwnPoints.{Inventory, AreManagedPoints, product_points, product_name, interceptor_points}
 use Rattle.cdi_live.specs.declared.node.Node.{Node}
 use Rattle.cdi_live.specs.declared.node.Node.TheVariants as nodes
 
@@ -27,11 +27,11 @@ dependent_bean e (One bean) =
 dependent_bean e Many = None
 
 -- what a point needs an instance of: a dependent bean that it resolves to
-abbrev pub needed_at : Setting → Point → Option Node
+abbrev pub needed_at : Inventory → Point → Option Node
 needed_at s p = dependent_bean s.enabled (resolved s.qualifiers s.enabled p)
 
 -- to a list is added what the points of a managed bean need
-pub record AddsManaged (s : Setting) (b : Bean) (old new : List Node) : Type 0 where
+pub record AddsManaged (s : Inventory) (b : Bean) (old new : List Node) : Type 0 where
   pub points : List Point
   pub are : AreManagedPoints s b points
   pub adds : new ≡ old ++ filter_map (needed_at s) points
@@ -43,7 +43,7 @@ declaring_bean class b =
 
 -- What an instance of a bean or of an interceptor needs: dependent beans at its points; a managed bean also its interceptors, and a
 -- product the bean that declares it.
-pub data NeedsThose (s : Setting) : Node → List Node → Type 0 where
+pub data NeedsThose (s : Inventory) : Node → List Node → Type 0 where
   managed : {i : ℕ} {b : Bean} {points : List Point} → at s.enabled.beans i ≡ Some b
       → b.kind ≡ kinds.Managed → AreManagedPoints s b points
       → NeedsThose s (nodes.Bean i)
@@ -57,12 +57,12 @@ pub data NeedsThose (s : Setting) : Node → List Node → Type 0 where
   interceptor : {k : ℕ}
       → NeedsThose s (nodes.Interceptor k) (filter_map (needed_at s) (interceptor_points s k))
 
-pub record Needs (s : Setting) (x y : Node) : Type 0 where
+pub record Needs (s : Inventory) (x y : Node) : Type 0 where
   pub those : List Node
   pub needs : NeedsThose s x those
   pub listed : Contains those y
 
 -- directly, or through others
-pub data NeedsInTurn (s : Setting) : Node → Node → Type 0 where
+pub data NeedsInTurn (s : Inventory) : Node → Node → Type 0 where
   directly : {x y : Node} → Needs s x y → NeedsInTurn s x y
   further : {x y z : Node} → Needs s x y → NeedsInTurn s y z → NeedsInTurn s x z

@@ -16,12 +16,12 @@ use Rattle.cdi_deployment.specs.declared.deployment.Point.{Point}
 use Rattle.cdi_live.specs.Enabled.{Enabled}
 use Rattle.cdi_types.specs.Line.{class_named, IsLineOf}
 use Rattle.cdi_types.specs.Members.{members_of, injected_fields_of}
-use Rattle.cdi_deployment.specs.Member.{member_name}
-use Rattle.cdi_live.specs.Points.{field_point, params_of}
+use Rattle.cdi_deployment.specs.Member.{member_name, member_params}
+use Rattle.cdi_live.specs.Points.{field_point}
 use Rattle.cdi_quals.specs.declared.types.QualifierType.{QualifierType}
 
 -- what is looked at: the qualifier types and the interceptors of a deployment, what is enabled in it, its chains, and its disposers
-pub record Setting : Type 0 where
+pub record Inventory : Type 0 where
   pub qualifiers : List QualifierType
   pub interceptors : List Interceptor
   pub enabled : Enabled
@@ -49,7 +49,7 @@ line_points line =
 
 -- the points of a managed bean: the parameters of its constructor, its injected fields, and the parameters of its initializers, also
 -- those that it inherits
-pub record AreManagedPoints (s : Setting) (b : Bean) (points : List Point) : Type 0 where
+pub record AreManagedPoints (s : Inventory) (b : Bean) (points : List Point) : Type 0 where
   pub line : List Class
   pub is_line : IsLineOf s.enabled.types s.enabled.classes b.class line
   pub are : points ≡ constructor_points (class_named s.enabled.classes b.class) ++ line_points line
@@ -59,7 +59,7 @@ member_in name c = find (λ m. member_name m == name) c.members
 
 abbrev pub points_of_some : Option Member → List Point
 points_of_some None = []
-points_of_some (Some m) = params_of m
+points_of_some (Some m) = member_params m
 
 -- the parameters of a member of a class
 abbrev pub member_points : List Class → ℕ → ℕ → List Point
@@ -73,7 +73,7 @@ abbrev pub disposer_points : List Class → DisposerMethod → List Point
 disposer_points classes m = member_points classes m.class m.name
 
 -- the points of a product: the parameters of its producer, and those of its disposer
-abbrev pub product_points : Setting → Bean → ℕ → List Point
+abbrev pub product_points : Inventory → Bean → ℕ → List Point
 product_points s b name =
     member_points s.enabled.classes b.class name
     ++ flat_map (disposer_points s.enabled.classes) (filter (serves b.class name) s.disposers)
@@ -89,7 +89,7 @@ fields_of_some None = []
 fields_of_some (Some j) = j.inject
 
 -- the injected fields of an enabled interceptor, by its place
-abbrev pub interceptor_points : Setting → ℕ → List Point
+abbrev pub interceptor_points : Inventory → ℕ → List Point
 interceptor_points s k =
     map field_point (fields_of_some
     (option_and_then (λ j. slice_get s.interceptors j.index)

@@ -2,11 +2,9 @@
 use Rattle.std.specs.Prelude.{List, [], ◌∷◌, IsTrue}
 use Rattle.std.specs.List.{Any}
 use Rattle.cdi_deployment.specs.declared.deployment.InjectedField.{InjectedField}
-use Rattle.cdi_deployment.specs.declared.deployment.Member.{Member}
-use Rattle.cdi_deployment.specs.declared.deployment.Member.TheVariants as members
 use Rattle.cdi_deployment.specs.declared.deployment.Point.{Point}
 use Rattle.cdi_problems.specs.Elements.{Element}
-use Rattle.cdi_deployment.specs.Member.{member_name}
+use Rattle.cdi_deployment.specs.Member.{member_name, member_params}
 use Rattle.cdi_live.specs.Enabled.{Enabled}
 use Rattle.cdi_live.specs.Live.{is_live_class, is_live_member, is_live_interceptor, HasFieldsOf}
 
@@ -14,19 +12,11 @@ use Rattle.cdi_live.specs.Live.{is_live_class, is_live_member, is_live_intercept
 abbrev pub field_point : InjectedField → Point
 field_point f = record { ty = f.ty; quals = f.quals }
 
--- the injected parameters of a member: the disposed parameter and the event parameter are none
-abbrev pub params_of : Member → List Point
-params_of (members.Initializer i) = i.params
-params_of (members.Producer p) = p.params
-params_of (members.Disposer d) = d.params
-params_of (members.Observer o) = o.params
-params_of _ = []
-
 -- the points of an element
 abbrev pub points_of : Element → List Point
 points_of (Element.AnInjectedField i c f) = field_point f ∷ []
 points_of (Element.AConstructor i c k) = k.params
-points_of (Element.AMember i c m) = params_of m
+points_of (Element.AMember i c m) = member_params m
 points_of (Element.AnInterceptorInjectedField i j f) = field_point f ∷ []
 points_of _ = []
 

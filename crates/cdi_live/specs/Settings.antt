@@ -1,10 +1,10 @@
 -- What the tables of the code show.
 use Rattle.std.specs.Prelude.{length}
 use Rattle.cdi_live.specs.Graphs.{Counts}
-use Rattle.cdi_live.specs.OwnPoints.{Setting}
+use Rattle.cdi_live.specs.OwnPoints.{Inventory}
 use Rattle.cdi_live.specs.declared.cycle_tables.CycleTables.{CycleTables}
 
-abbrev pub setting_of : CycleTables → Setting
+abbrev pub setting_of : CycleTables → Inventory
 setting_of t =
     record {
       qualifiers = t.points.qualifiers.now;

@@ -1,6 +1,7 @@
 //! The enabled ones of a list of beans.
 ghost use Rattle.std.specs.Prelude.{◌≡◌, IfOk};
-ghost use Rattle.cdi_live.specs.Live.{is_managed as kind_is_managed, is_bean_of};
+ghost use Rattle.cdi_live.specs.Live.{is_bean_of};
+ghost use Rattle.cdi_beans.specs.Kinds.{is_managed as kind_is_managed};
 ghost use Rattle.cdi_resolve.specs.Filters.{is_enabled, enabled_beans};
 
 use cdi_base::{Name, Seq};
@@ -77,7 +78,7 @@ impl<'a> EnabledBean<'a> {
     pub fn is_managed(&self) -> bool
         ensures { result ≡ kind_is_managed self.now.1.kind }
     {
-        matches!(self.bean.kind, BeanKind::Managed)
+        self.bean.is_managed()
     }
 
     /// The class that declares it.

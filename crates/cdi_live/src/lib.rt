@@ -23,5 +23,5 @@ pub use enabled::EnabledBean;
 pub use live_tables::LiveTables;
 pub use node::Node;
 pub use point_problem::PointProblem;
-pub use point_rule::{PointRule, params_of};
+pub use point_rule::PointRule;
 pub use point_tables::PointTables;

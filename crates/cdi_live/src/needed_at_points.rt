@@ -2,7 +2,7 @@
 ghost use Rattle.std.specs.Prelude.{◌≡◌, ◌++◌, ◌∷◌, [], map, OnOk};
 ghost use Rattle.std.specs.List.{filter_map, flat_map};
 ghost use Rattle.std.specs.Option.{option_copied};
-ghost use Rattle.cdi_live.specs.Points.{field_point, params_of as params_of_member};
+ghost use Rattle.cdi_live.specs.Points.{field_point};
 ghost use Rattle.cdi_live.specs.Needs as spec;
 ghost use Rattle.cdi_live.specs.OwnPoints as own;
 ghost use Rattle.cdi_live.specs.Settings.{setting_of};

@@ -13,7 +13,6 @@ use crate::cycle_tables::CycleTables;
 use crate::enabled::EnabledBean;
 use crate::needed_at_points::{add_fields, add_initializers, add_injected, add_params};
 use crate::node::Node;
-use crate::point_rule::params_of;
 use cdi_base::{Name, Scope, Seq};
 use cdi_beans::{Bean, BeanKind, DisposerMethod};
 use cdi_deployment::{Class, InjectedField, Member, Point};
@@ -49,7 +48,7 @@ fn member_points(class: Option<&Class>, name: Name) -> &[Point]
         return &[];
     };
     match member_in(class, name) {
-        Some(member) => params_of(member),
+        Some(member) => member.params(),
         None => &[],
     }
 }

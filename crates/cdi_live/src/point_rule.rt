@@ -4,7 +4,6 @@ ghost use Rattle.cdi_live.specs.Points as spec;
 
 use crate::point_problem::PointProblem;
 use crate::point_tables::PointTables;
-use cdi_deployment::{Member, Point};
 use cdi_problems::{Element, Rule};
 
 /// A live injection point has a problem. It stands at the injected field, or at the constructor or the member that has the parameter.
@@ -12,19 +11,6 @@ use cdi_problems::{Element, Rule};
 pub struct PointRule<'a> {
     pub problem: PointProblem,
     pub tables: PointTables<'a>,
-}
-
-/// The injected parameters of a member: the disposed parameter and the event parameter are none (Jakarta CDI 4.0, *Injection points*).
-pub fn params_of(member: &Member) -> &[Point]
-    ensures { result.now ≡ spec.params_of member.now }
-{
-    match member {
-        Member::Initializer(initializer) => initializer.params.as_slice(),
-        Member::Producer(producer) => producer.params.as_slice(),
-        Member::Disposer(disposer) => disposer.params.as_slice(),
-        Member::Observer(observer) => observer.params.as_slice(),
-        _ => &[],
-    }
 }
 
 impl Rule for PointRule<'_> {
@@ -53,7 +39,7 @@ impl Rule for PointRule<'_> {
                 live.has_member(class.name, member.name())
                     && self
                         .tables
-                        .has_problem_among(self.problem, params_of(member))
+                        .has_problem_among(self.problem, member.params())
             }
             Element::InterceptorInjectedField {
                 interceptor,

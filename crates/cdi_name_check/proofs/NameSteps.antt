@@ -6,7 +6,8 @@ use Rattle.std.specs.HashSet.{HashSet, contains}
 use Rattle.std.specs.List.{list_any}
 use Rattle.cdi_deployment.specs.declared.deployment.AnnotationType.{AnnotationType}
 use Rattle.cdi_name_check.specs.NameSets.{HasNames, HasPairs, same_pair}
-use Rattle.cdi_name_check.specs.UnknownName.{has_member, stands_in}
+use Rattle.cdi_name_check.specs.UnknownName.{has_member}
+use Rattle.cdi_deployment.specs.Lists.{stands_in}
 
 or_last : (a b : Bool) → (b || (a || false)) ≡ cond a true b
 or_last true true = refl

@@ -3,7 +3,8 @@ use Rattle.std.specs.Prelude.{ℕ, ◌≡◌, ◌&&◌, nat_eq, Bool, List}
 use Rattle.std.specs.HashSet.{HashSet, contains}
 use Rattle.cdi_deployment.specs.declared.deployment.AnnotationType.{AnnotationType}
 use Rattle.cdi_deployment.specs.declared.deployment.Deployment.{Deployment}
-use Rattle.cdi_name_check.specs.UnknownName.{is_interface, is_declared_class, is_open_class, is_bean_class, is_interceptor, is_declared, has_member}
+use Rattle.cdi_deployment.specs.Lists.{is_declared_class}
+use Rattle.cdi_name_check.specs.UnknownName.{is_interface, is_open_class, is_bean_class, is_interceptor, is_declared, has_member}
 use Rattle.cdi_name_check.specs.declared.unknown_name.name_sets.AnnotationSets.{AnnotationSets}
 use Rattle.cdi_name_check.specs.declared.unknown_name.name_sets.NameSets.{NameSets}
 
@@ -27,7 +28,7 @@ pub record HasTypes (types : List AnnotationType) (sets : AnnotationSets) : Type
 -- the names of each kind that a deployment declares
 pub record HasDeclared (d : Deployment) (sets : NameSets) : Type 0 where
   pub interfaces : HasNames (is_interface d) sets.interfaces
-  pub classes : HasNames (is_declared_class d) sets.classes
+  pub classes : HasNames (is_declared_class d.classes) sets.classes
   pub open_classes : HasNames (is_open_class d) sets.open_classes
   pub bean_classes : HasNames (is_bean_class d) sets.bean_classes
   pub interceptors : HasNames (is_interceptor d) sets.interceptors

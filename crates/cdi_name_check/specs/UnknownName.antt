@@ -13,10 +13,8 @@ use Rattle.cdi_deployment.specs.declared.deployment.Field.{Field}
 use Rattle.cdi_deployment.specs.declared.deployment.Member.{Member}
 use Rattle.cdi_deployment.specs.declared.deployment.Member.TheVariants as members
 use Rattle.cdi_deployment.specs.declared.deployment.Point.{Point}
+use Rattle.cdi_deployment.specs.Lists.{stands_in, is_declared_class}
 use Rattle.cdi_problems.specs.Elements.{Element}
-
-abbrev pub stands_in : List ℕ → ℕ → Bool
-stands_in listed name = list_any (λ n. n == name) listed
 
 abbrev pub is_built_in : BuiltIn → ℕ → Bool
 is_built_in n name = number_of n == name
@@ -32,13 +30,10 @@ is_extensible d name = is_built_in names.Object name || is_open_class d name
 abbrev pub is_interface : Deployment → ℕ → Bool
 is_interface d name = list_any (λ i. i.name == name) d.interfaces
 
-abbrev pub is_declared_class : Deployment → ℕ → Bool
-is_declared_class d name = list_any (λ c. c.name == name) d.classes
-
 abbrev pub is_class : Deployment → ℕ → Bool
 is_class d name =
     is_built_in names.Object name || is_built_in names.Startup name
-    || is_built_in names.Shutdown name || is_declared_class d name
+    || is_built_in names.Shutdown name || is_declared_class d.classes name
 
 abbrev pub is_type : Deployment → ℕ → Bool
 is_type d name = is_class d name || is_interface d name

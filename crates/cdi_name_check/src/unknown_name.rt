@@ -1,6 +1,7 @@
 //! Names that aren't declared, or are of the wrong kind.
 ghost use Rattle.std.specs.Prelude.{◌≡◌};
 ghost use Rattle.std.specs.List.{list_all};
+ghost use Rattle.cdi_deployment.specs.Lists as lists;
 ghost use Rattle.cdi_name_check.specs.UnknownName as spec;
 ghost use Rattle.cdi_problems.specs.Elements.{element_of};
 
@@ -36,13 +37,13 @@ fn are_types(known: &DeclaredNames<'_>, names: &[Name]) -> bool
 }
 
 fn stands_in(names: &[Name], name: Name) -> bool
-    ensures { result ≡ spec.stands_in names.now name }
+    ensures { result ≡ lists.stands_in names.now name }
 {
     names.iter().any(|other| *other == name)
 }
 
 fn are_members(declared: &AnnotationType) -> bool
-    ensures { result ≡ list_all (spec.stands_in declared.now.members) declared.now.nonbinding }
+    ensures { result ≡ list_all (lists.stands_in declared.now.members) declared.now.nonbinding }
 {
     declared
         .nonbinding

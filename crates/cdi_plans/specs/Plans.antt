@@ -24,14 +24,14 @@ abbrev pub constructor_of : List Class → ℕ → Option Constructor
 constructor_of classes name = option_and_then (λ c. c.constructor) (class_named classes name)
 
 -- the fields of a new instance with the values that they begin with
-abbrev pub first_fields : List Class → List Field
-first_fields line = map (λ f. f.1) (fields_of line)
+abbrev pub initial_fields : List Class → List Field
+initial_fields line = map (λ f. f.1) (fields_of line)
 
 -- the plan of a managed bean by the constructor and the line of its class
 abbrev pub managed_plan : ChainTables → Option Constructor → Bean → List Class → ManagedPlan
 managed_plan t constructor b line =
     record {
-      fields = first_fields line;
+      fields = initial_fields line;
       steps = steps_of t constructor b line;
       methods = filter_map (business_method t b.class) (members_of line);
       pre_destroy = destruction t b.class (members_of line);

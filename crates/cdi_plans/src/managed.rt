@@ -16,8 +16,8 @@ use cdi_types::ClassLine;
 use std::alloc::{AllocError, Global};
 
 /// The fields of a new instance of the last class of a line.
-fn first_fields(alloc: Global, line: &ClassLine<'_>) -> Result<Seq<Field>, AllocError>
-    ensures { IfOk result (λ fields. fields ≡ spec.first_fields line.now) }
+fn initial_fields(alloc: Global, line: &ClassLine<'_>) -> Result<Seq<Field>, AllocError>
+    ensures { IfOk result (λ fields. fields ≡ spec.initial_fields line.now) }
 {
     let fields = line.fields(alloc)?;
     copy_fields(alloc, fields.as_slice())
@@ -38,7 +38,7 @@ pub(crate) fn managed_plan(
     let has = line.members(alloc)?;
     let members = has.as_slice();
     Ok(ManagedPlan {
-        fields: first_fields(alloc, line)?,
+        fields: initial_fields(alloc, line)?,
         steps: steps_of(alloc, chains, constructor, bean, line, members)?,
         methods: business_methods(alloc, chains, bean.class, members)?,
         pre_destroy: destruction(alloc, chains, bean.class, members)?,

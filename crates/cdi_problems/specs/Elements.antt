@@ -1,5 +1,6 @@
 -- What stands in a deployment, in the order of its places.
-use Rattle.std.specs.Prelude.{ℕ, List, ◌∷◌, ◌++◌, map, option_to_list}
+use Rattle.std.specs.Prelude.{ℕ, ◌≡◌, List, ◌∷◌, ◌++◌, map, option_to_list}
+use Rattle.std.specs.Borrow.{Bor}
 use Rattle.std.specs.List.{flat_map, enumerate_from}
 use Rattle.cdi_base.specs.declared.place.Place.{Place}
 use Rattle.cdi_base.specs.declared.place.Place.TheVariants as places
@@ -101,3 +102,11 @@ element_of (lent.Script s) = Element.AScript s.now
 
 abbrev pub shown : List Lent → List Element
 shown = map element_of
+
+-- to some elements is added one for each item of a list: what tells of each item which element is made of it, tells what is added
+abbrev pub AddsEach : {X : Type 0} → (Bor X → Lent → Type 0) → List X → List Element → List Element
+    → Type 0
+AddsEach {X} makes items old new =
+    (f : X → Element)
+    → ((item : Bor X) (made : Lent) → makes item made → element_of made ≡ f item.now)
+    → new ≡ old ++ map f items

@@ -2,7 +2,8 @@
 use Rattle.std.specs.Prelude.{◌≡◌, List, [], ◌∷◌, ◌++◌, map}
 use Rattle.cdi_base.specs.declared.place.Place.{Place}
 use Rattle.cdi_types.specs.ListsThose.{ListsThose}
-use Rattle.cdi_problems.specs.Elements.{Element, place_of}
+use Rattle.cdi_deployment.specs.declared.deployment.Deployment.{Deployment}
+use Rattle.cdi_problems.specs.Elements.{Element, elements_of, place_of}
 use Rattle.cdi_problems.specs.Places.{once}
 
 -- The places of those items for which P holds, in their order, each place once. P is a sentence, and need be no test.
@@ -14,6 +15,10 @@ pub record ArePlacesWhere {X : Type 0} (P : X → Type 0) (place : X → Place) 
 
 abbrev pub ArePlacesOf : (Element → Type 0) → List Element → List Place → Type 0
 ArePlacesOf P elements found = ArePlacesWhere P place_of elements found
+
+-- the places of those elements of a deployment of which P holds
+abbrev pub PlacesIn : Deployment → (Element → Type 0) → List Place → Type 0
+PlacesIn d P found = ArePlacesOf P (elements_of d) found
 
 -- the same places before each is kept once
 pub record ListPlacesWhere (P : Element → Type 0) (elements : List Element) (found : List Place)

@@ -65,84 +65,18 @@ pub enum Element<'a> {
     Script(&'a Script),
 }
 
-fn add_interfaces<'a>(
-    interfaces: &'a [Interface],
+/// Adds an element for each item of a list.
+fn add_each<'a, X, F: Fn(&'a X) -> Element<'a>>(
+    items: &'a [X],
+    element: F,
     elements: &mut Vec<Element<'a>>,
 ) -> Result<(), AllocError>
-    ensures { OnOk result (spec.shown elements.new.items
-        ≡ spec.shown elements.old.items ++ map spec.Element.AnInterface interfaces.now) }
+    requires { F.IsAlwaysCallable element }
+    ensures { OnOk result (spec.AddsEach (F.post element) items.now
+        (spec.shown elements.old.items) (spec.shown elements.new.items)) }
 {
-    for interface in interfaces {
-        elements.push(Element::Interface(interface))?;
-    }
-    Ok(())
-}
-
-fn add_qualifiers<'a>(
-    qualifiers: &'a [AnnotationType],
-    elements: &mut Vec<Element<'a>>,
-) -> Result<(), AllocError>
-    ensures { OnOk result (spec.shown elements.new.items
-        ≡ spec.shown elements.old.items ++ map spec.Element.AQualifier qualifiers.now) }
-{
-    for qualifier in qualifiers {
-        elements.push(Element::Qualifier(qualifier))?;
-    }
-    Ok(())
-}
-
-fn add_bindings<'a>(
-    bindings: &'a [AnnotationType],
-    elements: &mut Vec<Element<'a>>,
-) -> Result<(), AllocError>
-    ensures { OnOk result (spec.shown elements.new.items
-        ≡ spec.shown elements.old.items ++ map spec.Element.ABinding bindings.now) }
-{
-    for binding in bindings {
-        elements.push(Element::Binding(binding))?;
-    }
-    Ok(())
-}
-
-fn add_exceptions<'a>(
-    exceptions: &'a [Exception],
-    elements: &mut Vec<Element<'a>>,
-) -> Result<(), AllocError>
-    ensures { OnOk result (spec.shown elements.new.items
-        ≡ spec.shown elements.old.items ++ map spec.Element.AnException exceptions.now) }
-{
-    for exception in exceptions {
-        elements.push(Element::Exception(exception))?;
-    }
-    Ok(())
-}
-
-fn add_selected<'a>(names: &'a [Name], elements: &mut Vec<Element<'a>>) -> Result<(), AllocError>
-    ensures { OnOk result (spec.shown elements.new.items
-        ≡ spec.shown elements.old.items ++ map spec.Element.ASelectedName names.now) }
-{
-    for name in names {
-        elements.push(Element::SelectedName(name))?;
-    }
-    Ok(())
-}
-
-fn add_order<'a>(names: &'a [Name], elements: &mut Vec<Element<'a>>) -> Result<(), AllocError>
-    ensures { OnOk result (spec.shown elements.new.items
-        ≡ spec.shown elements.old.items ++ map spec.Element.AnOrderedName names.now) }
-{
-    for name in names {
-        elements.push(Element::OrderedName(name))?;
-    }
-    Ok(())
-}
-
-fn add_scripts<'a>(scripts: &'a [Script], elements: &mut Vec<Element<'a>>) -> Result<(), AllocError>
-    ensures { OnOk result (spec.shown elements.new.items
-        ≡ spec.shown elements.old.items ++ map spec.Element.AScript scripts.now) }
-{
-    for script in scripts {
-        elements.push(Element::Script(script))?;
+    for item in items {
+        elements.push(element(item))?;
     }
     Ok(())
 }
@@ -155,15 +89,43 @@ pub fn elements_of(alloc: Global, deployment: &Deployment) -> Result<Vec<Element
         spec.shown elements.items ≡ spec.elements_of deployment.now) }
 {
     let mut elements = Vec::new(alloc);
-    add_interfaces(deployment.interfaces.as_slice(), &mut elements)?;
-    add_qualifiers(deployment.qualifiers.as_slice(), &mut elements)?;
-    add_bindings(deployment.bindings.as_slice(), &mut elements)?;
-    add_exceptions(deployment.exceptions.as_slice(), &mut elements)?;
+    add_each(
+        deployment.interfaces.as_slice(),
+        |i| Element::Interface(i),
+        &mut elements,
+    )?;
+    add_each(
+        deployment.qualifiers.as_slice(),
+        |q| Element::Qualifier(q),
+        &mut elements,
+    )?;
+    add_each(
+        deployment.bindings.as_slice(),
+        |b| Element::Binding(b),
+        &mut elements,
+    )?;
+    add_each(
+        deployment.exceptions.as_slice(),
+        |x| Element::Exception(x),
+        &mut elements,
+    )?;
     owned::add_classes(deployment.classes.as_slice(), &mut elements)?;
     owned::add_interceptors(deployment.interceptors.as_slice(), &mut elements)?;
-    add_selected(deployment.selected.as_slice(), &mut elements)?;
-    add_order(deployment.order.as_slice(), &mut elements)?;
-    add_scripts(deployment.scripts.as_slice(), &mut elements)?;
+    add_each(
+        deployment.selected.as_slice(),
+        |name| Element::SelectedName(name),
+        &mut elements,
+    )?;
+    add_each(
+        deployment.order.as_slice(),
+        |name| Element::OrderedName(name),
+        &mut elements,
+    )?;
+    add_each(
+        deployment.scripts.as_slice(),
+        |script| Element::Script(script),
+        &mut elements,
+    )?;
     Ok(elements)
 }
 

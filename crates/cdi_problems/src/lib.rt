@@ -10,4 +10,4 @@ pub mod problem;
 pub use element::{Element, elements_of};
 pub use finding::{Rule, places_where};
 pub use place::{PlaceText, name_text, once};
-pub use problem::{Problem, ProblemKind, ProblemText, problems_at};
+pub use problem::{Problem, ProblemKind, ProblemText, add_problems_at, problems_at};

@@ -1,5 +1,5 @@
 //! The problems of a deployment.
-ghost use Rattle.std.specs.Prelude.{◌≡◌, Some, IfOk};
+ghost use Rattle.std.specs.Prelude.{◌≡◌, ◌++◌, Some, IfOk, OnOk};
 ghost use Rattle.cdi_problems.specs.Words as spec;
 ghost use Rattle.cdi_problems.specs.Words.{kind_text, problem_text};
 
@@ -131,6 +131,23 @@ impl fmt::Display for ProblemText<'_> {
     }
 }
 
+/// Adds the problems of a kind at these places.
+pub fn add_problems_at(
+    kind: ProblemKind,
+    places: &[Place],
+    problems: &mut Seq<Problem>,
+) -> Result<(), AllocError>
+    ensures { OnOk result (problems.new ≡ problems.old ++ spec.problems_at kind places.now) }
+{
+    for place in places {
+        problems.push(Problem {
+            kind,
+            place: Some(*place),
+        })?;
+    }
+    Ok(())
+}
+
 /// The problems of a kind at these places.
 pub fn problems_at(
     alloc: Global,
@@ -140,11 +157,6 @@ pub fn problems_at(
     ensures { IfOk result (λ problems. problems ≡ spec.problems_at kind places.now) }
 {
     let mut problems = Seq::empty(alloc);
-    for place in places {
-        problems.push(Problem {
-            kind,
-            place: Some(*place),
-        })?;
-    }
+    add_problems_at(kind, places, &mut problems)?;
     Ok(problems)
 }

@@ -1,7 +1,7 @@
 -- The problems of names and of beans, of a deployment with these facts, are told by names.
 use Rattle.std.proofs.Common.{List, sym, subst}
 use Rattle.cdi_bean_rules.specs.Tiers.{AreBeanProblems, AreTooMany}
-use Rattle.cdi_beans.specs.Problems.{AreProblemsOf}
+use Rattle.cdi_beans.specs.Problems.{AreEarlyProblemsOf}
 use Rattle.cdi_deployment.specs.declared.deployment.Deployment.{Deployment}
 use Rattle.cdi_name_check.specs.NameProblems.{AreNameProblems}
 use Rattle.cdi_problems.specs.declared.problem.Problem.{Problem}
@@ -45,6 +45,6 @@ module _ (d : Deployment) (facts : HasFacts d) where
       and excess a.are_excess
       ).each
 
-  pub early-told : (problems : List Problem) → AreProblemsOf d problems → AreTold d problems
-  early-told problems (AreProblemsOf.of_names h) = names-told problems h
-  early-told problems (AreProblemsOf.of_beans q none h) = beans-told problems h
+  pub early-told : (problems : List Problem) → AreEarlyProblemsOf d problems → AreTold d problems
+  early-told problems (AreEarlyProblemsOf.of_names h) = names-told problems h
+  early-told problems (AreEarlyProblemsOf.of_beans q none h) = beans-told problems h

@@ -3,7 +3,7 @@ use Rattle.std.proofs.Common.{ℕ, List, ◌++◌, Option, sym, subst}
 use Rattle.cdi_bodies.specs.declared.shape.Shape.{Shape}
 use Rattle.cdi_check.specs.Late.{AreBodyProblems, AreEnabledProblems, ArePointProblems, AreProblemsIn}
 use Rattle.cdi_check.specs.Problems.{AreProblemsOf}
-use Rattle.cdi_live.specs.OwnPoints.{Setting}
+use Rattle.cdi_live.specs.OwnPoints.{Inventory}
 use Rattle.cdi_deployment.specs.declared.deployment.Deployment.{Deployment}
 use Rattle.cdi_enable.specs.Enablement.{Enablement}
 use Rattle.cdi_problems.specs.declared.problem.Problem.{Problem}
@@ -15,7 +15,7 @@ use Rattle.cdi_serving.proofs.Each.{each_append}
 use Rattle.cdi_serving.specs.Facts.{HasFacts}
 
 module _ (d : Deployment) (facts : HasFacts d) (shape_of : ℕ → Option Shape) where
-  bodies-told : {s : Setting} (problems : List Problem) → AreBodyProblems d shape_of s problems → AreTold d problems
+  bodies-told : {s : Inventory} (problems : List Problem) → AreBodyProblems d shape_of s problems → AreTold d problems
   bodies-told problems a =
       subst (AreTold d) (sym a.are)
       (
@@ -25,7 +25,7 @@ module _ (d : Deployment) (facts : HasFacts d) (shape_of : ℕ → Option Shape)
       and at_sites d facts kinds.CheckedLifecycle a.are_checked
       ).each
 
-  points-told : {s : Setting} (problems : List Problem) → ArePointProblems d s problems → AreTold d problems
+  points-told : {s : Inventory} (problems : List Problem) → ArePointProblems d s problems → AreTold d problems
   points-told problems a =
       subst (AreTold d) (sym a.are)
       (
@@ -34,7 +34,7 @@ module _ (d : Deployment) (facts : HasFacts d) (shape_of : ℕ → Option Shape)
       and at_elements d facts kinds.Unproxyable a.are_unproxyable
       ).each
 
-  enabled-told : {e : Enablement} {s : Setting} (problems : List Problem) → AreEnabledProblems d e s problems → AreTold d problems
+  enabled-told : {e : Enablement} {s : Inventory} (problems : List Problem) → AreEnabledProblems d e s problems → AreTold d problems
   enabled-told problems a =
       subst (AreTold d) (sym a.are)
       (
@@ -43,7 +43,7 @@ module _ (d : Deployment) (facts : HasFacts d) (shape_of : ℕ → Option Shape)
       and at_elements d facts kinds.FinalIntercepted a.are_intercepted
       ).each
 
-  in-told : {e : Enablement} {s : Setting} (problems : List Problem) → AreProblemsIn d shape_of e s problems → AreTold d problems
+  in-told : {e : Enablement} {s : Inventory} (problems : List Problem) → AreProblemsIn d shape_of e s problems → AreTold d problems
   in-told problems a =
       subst (AreTold d) (sym a.are)
       (each_append (IsTold d) (a.of_bodies ++ a.of_points) a.of_enabled

@@ -10,7 +10,7 @@ use Rattle.cdi_bodies.specs.declared.entry.Entry.{Entry}
 use Rattle.cdi_deployment.specs.declared.deployment.Deployment.{Deployment}
 use Rattle.cdi_deployment.specs.declared.deployment.Field.{Field}
 use Rattle.cdi_deployment.specs.declared.deployment.Point.{Point}
-use Rattle.cdi_enable.specs.Enablement.{is_managed}
+use Rattle.cdi_beans.specs.Kinds.{is_managed}
 use Rattle.cdi_machine.specs.Words.{Name, Asked, Fields}
 use Rattle.cdi_machine.specs.Tables as machine
 use Rattle.cdi_name_check.specs.UnknownName.{is_type, are_qualifiers}
@@ -95,13 +95,13 @@ abbrev pub machine_steps : (ℕ → Option ℕ) → List Step → List machine.S
 machine_steps ids all = map (machine_step ids) (filter does_something all)
 
 -- each with its first value, in their order
-abbrev pub first_fields : List Field → Fields
-first_fields fields = fold (λ all f. put all f.name f.value) [] fields
+abbrev pub first_values : List Field → Fields
+first_values fields = fold (λ all f. put all f.name f.value) [] fields
 
 abbrev pub machine_managed : (ℕ → Option ℕ) → ManagedPlan → machine.Managed
 machine_managed ids p =
     record {
-      fields = first_fields p.fields;
+      fields = first_values p.fields;
       plan = machine_steps ids p.steps;
       methods = machine_methods ids p.methods;
       pre_destroy = machine_lifecycle ids p.pre_destroy;

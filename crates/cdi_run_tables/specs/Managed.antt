@@ -8,7 +8,7 @@ use Rattle.cdi_plans.specs.declared.plan.Plan.{Plan}
 use Rattle.cdi_plans.specs.declared.plan.Plan.TheVariants as plans
 use Rattle.cdi_plans.specs.declared.plan.Step.{Step}
 use Rattle.cdi_plans.specs.declared.plan.Step.TheVariants as steps
-use Rattle.cdi_run_tables.specs.Machine.{first_fields}
+use Rattle.cdi_run_tables.specs.Machine.{first_values}
 use Rattle.cdi_run_tables.specs.declared.planned.PlannedBean.{PlannedBean}
 
 abbrev pub managed_of : Plan → Option ManagedPlan
@@ -21,7 +21,7 @@ managed_plan b = managed_of b.plan
 -- a product has no fields
 abbrev pub fields_of : Option ManagedPlan → Fields
 fields_of None = []
-fields_of (Some p) = first_fields p.fields
+fields_of (Some p) = first_values p.fields
 
 -- an injected field, and what is asked for at its injection point
 abbrev pub injected : Step → Option (Name × Point)

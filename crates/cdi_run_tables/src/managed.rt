@@ -1,7 +1,7 @@
 //! What is asked of a managed bean, by its plan.
 ghost use Rattle.std.specs.Prelude.{◌≡◌, ◌<◌, ◌^◌, length, slice_get, option_map, option_and_then, IfOk};
 ghost use Rattle.std.specs.List.{filter_map};
-ghost use Rattle.cdi_run_tables.specs.Machine.{first_fields};
+ghost use Rattle.cdi_run_tables.specs.Machine.{first_values};
 ghost use Rattle.cdi_run_tables.specs.Managed as spec;
 
 use crate::planned::PlannedBean;
@@ -29,7 +29,7 @@ fn managed_plan(bean: &PlannedBean) -> Option<&ManagedPlan>
 
 /// The fields, each with its first value.
 fn fields_of(alloc: Global, fields: &[Field]) -> Result<Fields, AllocError>
-    ensures { IfOk result (λ all. all ≡ first_fields fields.now) }
+    ensures { IfOk result (λ all. all ≡ first_values fields.now) }
 {
     let mut all = Fields::new(alloc);
     for field in fields {

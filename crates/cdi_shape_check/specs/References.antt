@@ -12,7 +12,7 @@ use Rattle.cdi_bodies.specs.declared.shape.MethodCall.{MethodCall}
 use Rattle.cdi_deployment.specs.declared.deployment.Class.{Class}
 use Rattle.cdi_deployment.specs.declared.deployment.InjectedField.{InjectedField}
 use Rattle.cdi_deployment.specs.declared.deployment.Point.{Point}
-use Rattle.cdi_live.specs.Live.{is_managed}
+use Rattle.cdi_beans.specs.Kinds.{is_managed}
 use Rattle.cdi_types.specs.Line.{class_named}
 use Rattle.cdi_resolve.specs.Resolution.{resolution}
 use Rattle.cdi_resolve.specs.declared.resolution.Resolution.{Resolution}

@@ -2,7 +2,6 @@
 ghost use Rattle.std.specs.Prelude.{◌≡◌, option_map};
 ghost use Rattle.std.specs.List.{list_any};
 ghost use Rattle.std.specs.Option.{option_copied};
-ghost use Rattle.cdi_live.specs.Live.{is_managed as kind_is_managed};
 ghost use Rattle.cdi_shape_check.specs.Application.{application_of};
 ghost use Rattle.cdi_shape_check.specs.BodyOutsideShape as outside;
 ghost use Rattle.cdi_shape_check.specs.OwnParts as parts;
@@ -84,12 +83,6 @@ fn bean_at<'a>(application: &ApplicationTables<'a>, target: &Target<'_>) -> Opti
     }
 }
 
-fn is_managed(bean: &Bean) -> bool
-    ensures { result ≡ kind_is_managed bean.now.kind }
-{
-    matches!(bean.kind, BeanKind::Managed)
-}
-
 /// Whether a member is a method with the name and the number of values of a call.
 fn is_method(member: &Member, call: &MethodCall) -> bool
     ensures { result ≡ parts.is_method call.now.method call.now.count member.now }
@@ -144,7 +137,7 @@ fn answers_call(application: &ApplicationTables<'_>, bean: &Bean, call: &MethodC
     ensures { result ≡ spec.answers_call
         (application_of application.now).deployment.classes call.now bean.now }
 {
-    is_managed(bean) && is_one_called(application, bean.members.as_slice(), call)
+    bean.is_managed() && is_one_called(application, bean.members.as_slice(), call)
 }
 
 fn refuses_call(application: &ApplicationTables<'_>, bean: Option<&Bean>, call: &MethodCall) -> bool
@@ -176,7 +169,7 @@ fn holds_none(bean: Option<&Bean>) -> bool
     ensures { result ≡ spec.holds_none (option_copied bean.entry) }
 {
     match bean {
-        Some(bean) => is_managed(bean),
+        Some(bean) => bean.is_managed(),
         None => false,
     }
 }

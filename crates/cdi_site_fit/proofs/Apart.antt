@@ -22,7 +22,7 @@ use Rattle.cdi_problems.specs.Findings.{Placed, placed_after, placed}
 use Rattle.cdi_problems.specs.Words.{problems_at}
 use Rattle.cdi_problems.specs.declared.problem.ProblemKind.TheVariants as kinds
 use Rattle.cdi_types.specs.ListsThose.{ListsThose}
-use Rattle.cdi_run_tables.specs.Machine.{first_fields}
+use Rattle.cdi_run_tables.specs.Machine.{first_values}
 use Rattle.cdi_shape_check.specs.OwnParts.{has_field}
 use Rattle.cdi_check.proofs.Accepted.{append_none, map_none, no_places}
 use Rattle.cdi_accepted.proofs.Lists.{Among, passing}
@@ -191,7 +191,7 @@ fold_has before (g ∷ fields) f (inl one) =
     fold_keeps (with_field before g) fields f.name (subst P (sym one) (put_has before g.name g.value))
 fold_has before (g ∷ fields) f (inr a) = fold_has (with_field before g) fields f a
 
-pub field_has : (fields : List Field) (name : ℕ) → has_field name fields ≡ true → has (first_fields fields) name ≡ true
+pub field_has : (fields : List Field) (name : ℕ) → has_field name fields ≡ true → has (first_values fields) name ≡ true
 field_has fields name e =
     let field = passing (λ (f : Field). nat_eq f.name name) fields e in
-    subst (λ n. has (first_fields fields) n ≡ true) (eqb-true field.item.name name field.passes) (fold_has [] fields field.item field.stands)
+    subst (λ n. has (first_values fields) n ≡ true) (eqb-true field.item.name name field.passes) (fold_has [] fields field.item field.stands)

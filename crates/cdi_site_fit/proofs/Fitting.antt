@@ -10,7 +10,7 @@ use Rattle.cdi_body_check.specs.Shapes.{shape_of}
 use Rattle.cdi_check.proofs.Accepted.{append_none, bodies_sound}
 use Rattle.cdi_check.specs.Accepted.{AreBodiesSound}
 use Rattle.cdi_check.specs.Tables.{setting_by}
-use Rattle.cdi_live.specs.Live.{is_managed}
+use Rattle.cdi_beans.specs.Kinds.{is_managed}
 use Rattle.cdi_machine.specs.Registered.{legal_of}
 use Rattle.cdi_machine.specs.Tables as machine
 use Rattle.cdi_plans.specs.Plans.{IsPlanOf}

@@ -24,8 +24,7 @@ use Rattle.cdi_deployment.specs.declared.deployment.Deployment.{Deployment}
 use Rattle.cdi_deployment.specs.declared.deployment.Member.{Member}
 use Rattle.cdi_deployment.specs.declared.deployment.Member.TheVariants as members
 use Rattle.cdi_deployment.specs.declared.deployment.Observer.{Observer}
-use Rattle.cdi_enable.specs.Enablement.{is_managed as is_managed_kind}
-use Rattle.cdi_live.specs.Live.{is_managed}
+use Rattle.cdi_beans.specs.Kinds.{is_managed}
 use Rattle.cdi_machine.specs.Registered.{legal_of}
 use Rattle.cdi_machine.specs.Runs.{Legal}
 use Rattle.cdi_machine.specs.Tables as machine
@@ -180,11 +179,6 @@ numbered_at {A} first (y ∷ ys) (suc i) x e =
     let one : (first + 1) + i ≡ first + suc i = omega arith in
     inr (subst (λ (n : ℕ). Among (n, x) (enumerate_from (first + 1) ys)) one (numbered_at (first + 1) ys i x e))
 
-pub one_kind : (k : BeanKind) → is_managed_kind k ≡ true → is_managed k ≡ true
-one_kind kinds.Managed e = refl
-one_kind (kinds.ProducerMethod name) e = absurd (true≢false (sym e))
-one_kind (kinds.ProducerField name) e = absurd (true≢false (sym e))
-
 module _ {X : Type 0} {F : X → Type 0} {g : _} (entries : List (Entry X F g)) (lies : LieInShape entries) (w : WholeTables) (whole : AreWhole entries w) (ids : AreIdsOf entries w.run)
     (sound : AreBodiesSound w.run.deployment (shape_of entries) (setting_by w.run.deployment w.run.tables)) (texts : has_texts w.run.deployment ≡ true) where
   abbrev t : RunTables
@@ -210,9 +204,9 @@ module _ {X : Type 0} {F : X → Type 0} {g : _} (entries : List (Entry X F g)) 
   pub managed_at : (n class : ℕ) → managed_bean t.tables.resolver.beans class ≡ Some n → is_enabled t.tables.resolver.flags n ≡ true → IsManagedAt n class
   managed_at n class e on =
       let beans = t.tables.resolver.beans in
-      let found = found_at (λ (b : Bean). is_managed_kind b.kind && nat_eq b.class class) beans n e in
-      let both = and_parts (is_managed_kind found.item.kind) (nat_eq found.item.class class) found.passes in
-      let kind = one_kind found.item.kind both.0 in
+      let found = found_at (λ (b : Bean). is_managed b.kind && nat_eq b.class class) beans n e in
+      let both = and_parts (is_managed found.item.kind) (nat_eq found.item.class class) found.passes in
+      let kind = both.0 in
       let zero_is : 0 + n ≡ n = omega arith in
       let placed : Among (n, found.item) (enumerate_from 0 beans) = subst (λ (k : ℕ). Among (k, found.item) (enumerate_from 0 beans)) zero_is (numbered_at 0 beans n found.item found.has) in
       record {

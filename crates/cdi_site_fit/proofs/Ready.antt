@@ -12,7 +12,8 @@ use Rattle.cdi_beans.specs.declared.bean.BeanMember.{BeanMember}
 use Rattle.cdi_bodies.specs.Gives.{LieInShape}
 use Rattle.cdi_bodies.specs.declared.entry.Entry.{Entry}
 use Rattle.cdi_body_check.specs.Shapes.{shape_of}
-use Rattle.cdi_body_check.specs.Sites.{member_body, params_of_member}
+use Rattle.cdi_body_check.specs.Sites.{member_body}
+use Rattle.cdi_deployment.specs.Member.{member_params}
 use Rattle.cdi_site_fit.proofs.Planned.{first_of_all, life_of, member_chain, placed}
 use Rattle.cdi_site_fit.specs.Chains.{IsLifecycle}
 use Rattle.cdi_chains.specs.Chains.{intercepts, interceptors_of, invoke_chain, life_chain}
@@ -24,7 +25,7 @@ use Rattle.cdi_deployment.specs.declared.deployment.Deployment.{Deployment}
 use Rattle.cdi_deployment.specs.declared.deployment.Member.{Member}
 use Rattle.cdi_deployment.specs.declared.deployment.Member.TheVariants as members
 use Rattle.cdi_deployment.specs.declared.deployment.Point.{Point}
-use Rattle.cdi_live.specs.Live.{is_managed}
+use Rattle.cdi_beans.specs.Kinds.{is_managed}
 use Rattle.cdi_machine.specs.Registered.{legal_of}
 use Rattle.cdi_machine.specs.Runs.{Legal}
 use Rattle.cdi_machine.specs.Tables as machine
@@ -177,7 +178,7 @@ module _ {X : Type 0} {F : X → Type 0} {g : _} (entries : List (Entry X F g)) 
     -- ---- callbacks and initializers
 
     body_of_member : (c : Class) (m : Member) (body : ℕ) → member_body m ≡ Some body → Among (c, m) (members_of plan.line)
-        → FitsBody T L (class_site own (map asked_by (params_of_member m)) (body_number (id_of t) body))
+        → FitsBody T L (class_site own (map asked_by (member_params m)) (body_number (id_of t) body))
     body_of_member = member_fits entries lies w whole ids sound texts b listed enabled plan
 
     abbrev FitsCode : Code → Type 0
@@ -244,7 +245,7 @@ module _ {X : Type 0} {F : X → Type 0} {g : _} (entries : List (Entry X F g)) 
 
     -- a producer, a disposer or an observer among the members
     pub member_is_fit : (c : Class) (m : Member) (body : ℕ) → member_body m ≡ Some body → Among (c, m) (members_of plan.line)
-        → FitsMember T L own (machine_member (id_of t) (injected_method t.tables.chains listed.class c (member_name m) body (params_of_member m)))
+        → FitsMember T L own (machine_member (id_of t) (injected_method t.tables.chains listed.class c (member_name m) body (member_params m)))
     member_is_fit c m body is stands = record { chain = invoke_fits c m stands; body = body_of_member c m body is stands }
 
     -- ---- the plan

@@ -11,7 +11,8 @@ use Rattle.cdi_bodies.specs.Shape.{in_shape}
 use Rattle.cdi_bodies.specs.declared.entry.Entry.{Entry}
 use Rattle.cdi_bodies.specs.declared.shape.Shape.{Shape}
 use Rattle.cdi_body_check.specs.Shapes.{shape_of}
-use Rattle.cdi_body_check.specs.Sites.{Site, body_of, is_live, member_body, params_of, params_of_member, sites_of}
+use Rattle.cdi_body_check.specs.Sites.{Site, body_of, is_live, member_body, params_of, sites_of}
+use Rattle.cdi_deployment.specs.Member.{member_params}
 use Rattle.cdi_check.specs.Accepted.{AreBodiesSound}
 use Rattle.cdi_check.specs.Tables.{setting_by}
 use Rattle.cdi_deployment.specs.declared.deployment.Class.{Class}
@@ -20,7 +21,7 @@ use Rattle.cdi_deployment.specs.declared.deployment.Deployment.{Deployment}
 use Rattle.cdi_deployment.specs.declared.deployment.InjectedField.{InjectedField}
 use Rattle.cdi_deployment.specs.declared.deployment.Member.{Member}
 use Rattle.cdi_deployment.specs.declared.deployment.Point.{Point}
-use Rattle.cdi_live.specs.Live.{is_managed}
+use Rattle.cdi_beans.specs.Kinds.{is_managed}
 use Rattle.cdi_machine.specs.Registered.{legal_of}
 use Rattle.cdi_machine.specs.Tables as machine
 use Rattle.cdi_machine.specs.Words.{Asked}
@@ -30,7 +31,7 @@ use Rattle.cdi_plans.specs.declared.plan.ManagedPlan.{ManagedPlan}
 use Rattle.cdi_plans.specs.declared.plan.Step.{Step}
 use Rattle.cdi_plans.specs.declared.plan.Step.TheVariants as steps
 use Rattle.cdi_resolve.specs.Filters.{enabled_of}
-use Rattle.cdi_run_tables.specs.Machine.{AreIdsOf, asked_by, body_number, first_fields, id_of}
+use Rattle.cdi_run_tables.specs.Machine.{AreIdsOf, asked_by, body_number, first_values, id_of}
 use Rattle.cdi_run_tables.specs.Served.{has_texts}
 use Rattle.cdi_run_tables.specs.declared.tables.RunTables.{RunTables}
 use Rattle.cdi_shape_check.specs.OwnParts.{ArePartsOf, OwnParts, declares_method, has_field, parts_of_line}
@@ -109,7 +110,7 @@ module _ {X : Type 0} {F : X → Type 0} {g : _} (entries : List (Entry X F g)) 
         → Covers w (parts_of_line fronts) params shape (class_site own (map asked_by params) n)
     class_covers fronts rest are params n shape there never =
         record {
-          sets = λ field e. ap (λ (p : ManagedPlan). has (first_fields p.fields) field) plan.is ∙ has_first plan.line field (on_line (λ c. has_field field c.fields) fronts rest are e);
+          sets = λ field e. ap (λ (p : ManagedPlan). has (first_values p.fields) field) plan.is ∙ has_first plan.line field (on_line (λ c. has_field field c.fields) fronts rest are e);
           owns = λ name count e. has_method entries t whole.tabled ids sound b listed enabled plan name count (on_line (declares_method name count) fronts rest are e);
           injected = λ field asked a f e.
               let found = found_among (λ (k : InjectedField). nat_eq k.name field) (flat_map (λ (c : Class). c.inject) fronts) f e in
@@ -124,7 +125,7 @@ module _ {X : Type 0} {F : X → Type 0} {g : _} (entries : List (Entry X F g)) 
 
     -- the body of a member of the bean: of a method, an initializer, a callback, an observer; also of a producer or a disposer
     pub member_fits : (c : Class) (m : Member) (body : ℕ) → member_body m ≡ Some body → Among (c, m) (members_of plan.line)
-        → FitsBody (whole_tables w) (legal_of entries) (class_site own (map asked_by (params_of_member m)) (body_number (id_of t) body))
+        → FitsBody (whole_tables w) (legal_of entries) (class_site own (map asked_by (member_params m)) (body_number (id_of t) body))
     member_fits c m body is stands =
         let s = Site.AMember c m body in
         let of = of_line plan.line c m stands in
@@ -133,8 +134,8 @@ module _ {X : Type 0} {F : X → Type 0} {g : _} (entries : List (Entry X F g)) 
         let fronts = front entries t whole.tabled ids sound b listed enabled plan c of.class in
         let shape = (registered entries t ids sound s there live).shape in
         fits_body s there live (parts_of_line fronts.front) (record { line = fronts.front; is_line = fronts.is_line; are = refl })
-        (class_site own (map asked_by (params_of_member m)) (body_number (id_of t) body)) refl
-        (class_covers fronts.front fronts.rest fronts.are (params_of_member m) (body_number (id_of t) body) shape (shape_there s there live)
+        (class_site own (map asked_by (member_params m)) (body_number (id_of t) body)) refl
+        (class_covers fronts.front fronts.rest fronts.are (member_params m) (body_number (id_of t) body) shape (shape_there s there live)
         (λ e. true≢false (sym (proceeds entries t ids sound s there live e))))
 
     -- the body of the constructor

@@ -16,8 +16,8 @@ use Rattle.cdi_deployment.specs.declared.deployment.Class.{Class}
 use Rattle.cdi_deployment.specs.declared.deployment.Deployment.{Deployment}
 use Rattle.cdi_deployment.specs.declared.deployment.Member.{Member}
 use Rattle.cdi_deployment.specs.declared.deployment.Member.TheVariants as members
-use Rattle.cdi_enable.specs.Enablement.{is_managed as is_managed_kind, enablement_of, listed_bean}
-use Rattle.cdi_live.specs.Live.{is_managed}
+use Rattle.cdi_enable.specs.Enablement.{enablement_of, listed_bean}
+use Rattle.cdi_beans.specs.Kinds.{is_managed}
 use Rattle.cdi_machine.specs.Registered.{legal_of}
 use Rattle.cdi_machine.specs.Runs.{Legal}
 use Rattle.cdi_machine.specs.Tables as machine
@@ -35,7 +35,7 @@ use Rattle.cdi_plans.specs.declared.plan.ProductPlan.{ProductPlan}
 use Rattle.cdi_plans.specs.declared.plan.Source.{Source}
 use Rattle.cdi_plans.specs.declared.plan.Source.TheVariants as sources
 use Rattle.cdi_resolve.specs.Filters.{enabled_of, is_enabled}
-use Rattle.cdi_run_tables.specs.Machine.{AreIdsOf, bean_with, first_fields, id_of, machine_bean, machine_kind, machine_member, machine_source, managed_bean, product_with}
+use Rattle.cdi_run_tables.specs.Machine.{AreIdsOf, bean_with, first_values, id_of, machine_bean, machine_kind, machine_member, machine_source, managed_bean, product_with}
 use Rattle.cdi_run_tables.specs.Planned.{IsPlanned, plan_tables}
 use Rattle.cdi_run_tables.specs.Served.{has_texts}
 use Rattle.cdi_run_tables.specs.declared.planned.PlannedBean.{PlannedBean}
@@ -72,8 +72,8 @@ first_below {A} p (y ∷ ys) x a e = by (p y) refl a (first_below p ys x)
 some_position : {A : Type 0} (p : A → Bool) (xs : List A) (x : A) → Among x xs → p x ≡ true → position p xs ≡ Some (position_or_len p xs)
 some_position p xs x a e = ap (λ b. cond b (Some (position_or_len p xs)) None) (lt-ltb (position_or_len p xs) (length xs) (first_below p xs x a e))
 
-of_kind : (b : Bean) → b.kind ≡ kinds.Managed → is_managed_kind b.kind ≡ true
-of_kind b e = ap is_managed_kind e
+of_kind : (b : Bean) → b.kind ≡ kinds.Managed → is_managed b.kind ≡ true
+of_kind b e = ap is_managed e
 
 module _ {X : Type 0} {F : X → Type 0} {g : _} (entries : List (Entry X F g)) (lies : LieInShape entries) (w : WholeTables) (whole : AreWhole entries w) (ids : AreIdsOf entries w.run)
     (sound_bodies : AreBodiesSound w.run.deployment (shape_of entries) (setting_by w.run.deployment w.run.tables)) (texts : has_texts w.run.deployment ≡ true) where
@@ -122,7 +122,7 @@ module _ {X : Type 0} {F : X → Type 0} {g : _} (entries : List (Entry X F g)) 
         let there : list_any (λ (c : Class). has_field x.field c.fields) at.plan.line ≡ true =
         any_passes (λ (c : Class). has_field x.field c.fields) at.plan.line declared.0 (own_class d well at.listed.class at.plan.line at.plan.is_line declared.0 of_bean) here in
         subst P (same_Some (sources.ProducerField x.field) s e)
-        (ap (λ (p : ManagedPlan). has (first_fields p.fields) x.field) at.plan.is ∙ has_first at.plan.line x.field there)
+        (ap (λ (p : ManagedPlan). has (first_values p.fields) x.field) at.plan.is ∙ has_first at.plan.line x.field there)
     source_fits (members.Method x) a s e = absurd cc
     source_fits (members.Initializer x) a s e = absurd cc
     source_fits (members.PostConstruct x) a s e = absurd cc
@@ -163,7 +163,7 @@ module _ {X : Type 0} {F : X → Type 0} {g : _} (entries : List (Entry X F g)) 
         name = is_of_name d whole.tabled.tables.made.names_well listed.class is.declared.0 producer.named
 
         test : Bean → Bool
-        test x = is_managed_kind x.kind && nat_eq x.class p.declaring
+        test x = is_managed x.kind && nat_eq x.class p.declaring
 
         -- its class has a managed bean
         there : HasManaged t.tables.resolver.beans listed.class
@@ -176,8 +176,8 @@ module _ {X : Type 0} {F : X → Type 0} {g : _} (entries : List (Entry X F g)) 
 
         fits_at : (n : ℕ) → managed_bean t.tables.resolver.beans p.declaring ≡ Some n → FitsBean T L b
         fits_at n e =
-            let found = found_at (λ (x : Bean). is_managed_kind x.kind && nat_eq x.class p.declaring) t.tables.resolver.beans n e in
-            let class : found.item.class ≡ p.declaring = eqb-true found.item.class p.declaring (and_parts (is_managed_kind found.item.kind) (nat_eq found.item.class p.declaring) found.passes).1 in
+            let found = found_at (λ (x : Bean). is_managed x.kind && nat_eq x.class p.declaring) t.tables.resolver.beans n e in
+            let class : found.item.class ≡ p.declaring = eqb-true found.item.class p.declaring (and_parts (is_managed found.item.kind) (nat_eq found.item.class p.declaring) found.passes).1 in
             let same : listed.class ≡ found.item.class = sym name ∙ sym is.by.declaring ∙ sym class in
             let P : List Bean → Type 0 = λ l. slice_get l b ≡ Some listed in
             let Q : List Bean → Type 0 = λ l. slice_get l n ≡ Some found.item in
@@ -219,7 +219,7 @@ module _ {X : Type 0} {F : X → Type 0} {g : _} (entries : List (Entry X F g)) 
         by =
             let m = there in
             let yes : test m.bean ≡ true =
-            and_from (is_managed_kind m.bean.kind) (nat_eq m.bean.class p.declaring) (of_kind m.bean m.kind) (eq-eqb m.bean.class p.declaring (m.of_class ∙ sym name ∙ sym is.by.declaring)) in
+            and_from (is_managed m.bean.kind) (nat_eq m.bean.class p.declaring) (of_kind m.bean m.kind) (eq-eqb m.bean.class p.declaring (m.of_class ∙ sym name ∙ sym is.by.declaring)) in
             fits_at (position_or_len test t.tables.resolver.beans) (some_position test t.tables.resolver.beans m.bean m.stands yes)
 
     bean_fits : (plan : Plan) → planned.plan ≡ plan → IsPlanOf (plan_tables d t.tables) listed plan → FitsBean T L b

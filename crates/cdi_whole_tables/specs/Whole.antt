@@ -19,7 +19,7 @@ use Rattle.cdi_machine.specs.Words.{Name, Asked}
 use Rattle.cdi_machine.specs.Tables as machine
 use Rattle.cdi_plans.specs.Observers.{observer_of, observer_method}
 use Rattle.cdi_resolve.specs.Filters.{is_enabled}
-use Rattle.cdi_run_tables.specs.Machine.{asked_by, bean_at, body_number, first_fields, id_of, is_known, machine_member, machine_resolution, managed_bean, resolution_of}
+use Rattle.cdi_run_tables.specs.Machine.{asked_by, bean_at, body_number, first_values, id_of, is_known, machine_member, machine_resolution, managed_bean, resolution_of}
 use Rattle.cdi_run_tables.specs.Planned.{IsTabled}
 use Rattle.cdi_run_tables.specs.declared.tables.RunTables.{RunTables}
 use Rattle.cdi_shape_check.specs.References.{point_of_field, point_of_lookup}
@@ -42,7 +42,7 @@ abbrev pub machine_interceptor : (ℕ → Option ℕ) → Interceptor → machin
 machine_interceptor ids j =
     record {
       name = j.name;
-      fields = first_fields j.fields;
+      fields = first_values j.fields;
       injected = map injection j.inject;
       body = λ role. option_map (body_number ids) (method_body j role);
     }

@@ -2,6 +2,7 @@
 ghost use Rattle.std.specs.Prelude.{◌≡◌, ◌==◌, ◌&&◌, ◌||◌, ℕ, not, is_some, IfOk, OnOk};
 ghost use Rattle.std.specs.HashSet.{contains};
 ghost use Rattle.std.specs.List.{list_any};
+ghost use Rattle.cdi_deployment.specs.Lists as lists;
 ghost use Rattle.cdi_name_check.specs.NameSets as sets;
 ghost use Rattle.cdi_name_check.specs.UnknownName as spec;
 
@@ -106,7 +107,7 @@ fn annotation_names(alloc: Global, types: &[AnnotationType]) -> Result<HashSet<N
 fn add_members(declared: &AnnotationType, set: &mut HashSet<(Name, Name)>) -> Result<(), AllocError>
     ensures { OnOk result ((owner name : ℕ) → contains sets.same_pair set.new (owner, name)
         ≡ (contains sets.same_pair set.old (owner, name)
-        || (declared.now.name == owner && spec.stands_in declared.now.members name))) }
+        || (declared.now.name == owner && lists.stands_in declared.now.members name))) }
 {
     for name in declared.members.as_slice() {
         set.insert((declared.name, *name))?;

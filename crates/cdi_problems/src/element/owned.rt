@@ -3,47 +3,9 @@ ghost use Rattle.std.specs.Prelude.{◌≡◌, ◌++◌, map, OnOk, option_to_li
 ghost use Rattle.std.specs.List.{flat_map, enumerate_from};
 ghost use Rattle.cdi_problems.specs.Elements as spec;
 
-use crate::element::Element;
+use crate::element::{Element, add_each};
 use cdi_deployment::{Class, Interceptor};
 use std::alloc::AllocError;
-
-fn add_fields<'a>(
-    index: usize,
-    class: &'a Class,
-    elements: &mut Vec<Element<'a>>,
-) -> Result<(), AllocError>
-    ensures { OnOk result (spec.shown elements.new.items
-        ≡ spec.shown elements.old.items
-        ++ map (spec.Element.AField index class.now) class.now.fields) }
-{
-    for field in class.fields.as_slice() {
-        elements.push(Element::Field {
-            index,
-            class,
-            field,
-        })?;
-    }
-    Ok(())
-}
-
-fn add_injected<'a>(
-    index: usize,
-    class: &'a Class,
-    elements: &mut Vec<Element<'a>>,
-) -> Result<(), AllocError>
-    ensures { OnOk result (spec.shown elements.new.items
-        ≡ spec.shown elements.old.items
-        ++ map (spec.Element.AnInjectedField index class.now) class.now.inject) }
-{
-    for field in class.inject.as_slice() {
-        elements.push(Element::InjectedField {
-            index,
-            class,
-            field,
-        })?;
-    }
-    Ok(())
-}
 
 fn add_constructor<'a>(
     index: usize,
@@ -64,25 +26,6 @@ fn add_constructor<'a>(
     Ok(())
 }
 
-fn add_members<'a>(
-    index: usize,
-    class: &'a Class,
-    elements: &mut Vec<Element<'a>>,
-) -> Result<(), AllocError>
-    ensures { OnOk result (spec.shown elements.new.items
-        ≡ spec.shown elements.old.items
-        ++ map (spec.Element.AMember index class.now) class.now.members) }
-{
-    for member in class.members.as_slice() {
-        elements.push(Element::Member {
-            index,
-            class,
-            member,
-        })?;
-    }
-    Ok(())
-}
-
 fn add_class<'a>(
     index: usize,
     class: &'a Class,
@@ -92,10 +35,34 @@ fn add_class<'a>(
         ≡ spec.shown elements.old.items ++ spec.class_elements (index, class.now)) }
 {
     elements.push(Element::Class { index, class })?;
-    add_fields(index, class, elements)?;
-    add_injected(index, class, elements)?;
+    add_each(
+        class.fields.as_slice(),
+        |field| Element::Field {
+            index,
+            class,
+            field,
+        },
+        elements,
+    )?;
+    add_each(
+        class.inject.as_slice(),
+        |field| Element::InjectedField {
+            index,
+            class,
+            field,
+        },
+        elements,
+    )?;
     add_constructor(index, class, elements)?;
-    add_members(index, class, elements)
+    add_each(
+        class.members.as_slice(),
+        |member| Element::Member {
+            index,
+            class,
+            member,
+        },
+        elements,
+    )
 }
 
 /// Adds the elements of classes.
@@ -113,45 +80,6 @@ pub(super) fn add_classes<'a>(
     Ok(())
 }
 
-fn add_interceptor_fields<'a>(
-    index: usize,
-    interceptor: &'a Interceptor,
-    elements: &mut Vec<Element<'a>>,
-) -> Result<(), AllocError>
-    ensures { OnOk result (spec.shown elements.new.items
-        ≡ spec.shown elements.old.items
-        ++ map (spec.Element.AnInterceptorField index interceptor.now) interceptor.now.fields) }
-{
-    for field in interceptor.fields.as_slice() {
-        elements.push(Element::InterceptorField {
-            index,
-            interceptor,
-            field,
-        })?;
-    }
-    Ok(())
-}
-
-fn add_interceptor_injected<'a>(
-    index: usize,
-    interceptor: &'a Interceptor,
-    elements: &mut Vec<Element<'a>>,
-) -> Result<(), AllocError>
-    ensures { OnOk result (spec.shown elements.new.items
-        ≡ spec.shown elements.old.items
-        ++ map (spec.Element.AnInterceptorInjectedField index interceptor.now)
-        interceptor.now.inject) }
-{
-    for field in interceptor.inject.as_slice() {
-        elements.push(Element::InterceptorInjectedField {
-            index,
-            interceptor,
-            field,
-        })?;
-    }
-    Ok(())
-}
-
 fn add_interceptor<'a>(
     index: usize,
     interceptor: &'a Interceptor,
@@ -161,8 +89,24 @@ fn add_interceptor<'a>(
         ≡ spec.shown elements.old.items ++ spec.interceptor_elements (index, interceptor.now)) }
 {
     elements.push(Element::Interceptor { index, interceptor })?;
-    add_interceptor_fields(index, interceptor, elements)?;
-    add_interceptor_injected(index, interceptor, elements)
+    add_each(
+        interceptor.fields.as_slice(),
+        |field| Element::InterceptorField {
+            index,
+            interceptor,
+            field,
+        },
+        elements,
+    )?;
+    add_each(
+        interceptor.inject.as_slice(),
+        |field| Element::InterceptorInjectedField {
+            index,
+            interceptor,
+            field,
+        },
+        elements,
+    )
 }
 
 /// Adds the elements of interceptors.

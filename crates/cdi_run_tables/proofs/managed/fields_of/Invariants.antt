@@ -1,10 +1,10 @@
 use Rattle.std.proofs.Common.{◌≡◌, drop}
 use Rattle.std.specs.Prelude.{fold}
 use Rattle.cdi_base.specs.Fields.{put}
-use Rattle.cdi_run_tables.specs.Machine.{first_fields}
+use Rattle.cdi_run_tables.specs.Machine.{first_values}
 use Rattle.cdi_run_tables.proofs.managed.fields_of.Given as goal
 
 -- those that were put, and those that are left
 abbrev pub invariant-loop-field : goal.invariant-loop-field
 invariant-loop-field l =
-    fold (λ all f. put all f.name f.value) l.all (drop l.field-index l.fields) ≡ first_fields l.fields
+    fold (λ all f. put all f.name f.value) l.all (drop l.field-index l.fields) ≡ first_values l.fields

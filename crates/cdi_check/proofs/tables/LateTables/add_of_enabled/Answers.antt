@@ -7,11 +7,11 @@ pub returns : goal.returns
 returns c =
     adds_enabled c.args.self.now.deployment.now c.args.self.now.enabled.now (setting_of c.args.self.now.cycles) (shown c.args.elements.now)
     c.requires
-    c.args.problems.now c.add_at.new.problems c.add_at-2.new.problems c.add_at-3.new.problems
+    c.args.problems.now c.add_problems_at.new.problems c.add_problems_at-2.new.problems c.add_problems_at-3.new.problems
     c.in_ok-inconsistent.inconsistent c.in_ok-cyclic.cyclic c.in_ok-finals.finals
     c.in_ok-inconsistent.ensures
     c.in_ok-cyclic.ensures
     c.in_ok-finals.ensures
-    (rw c.as_slice.ensures at c.in_ok-add_at.ensures)
-    (rw c.as_slice-2.ensures at c.in_ok-add_at-2.ensures)
-    (rw c.as_slice-3.ensures at c.in_ok-add_at-3.ensures)
+    (rw c.as_slice.ensures at c.in_ok-add_problems_at.ensures)
+    (rw c.as_slice-2.ensures at c.in_ok-add_problems_at-2.ensures)
+    (rw c.as_slice-3.ensures at c.in_ok-add_problems_at-3.ensures)

@@ -5,11 +5,11 @@ use Rattle.cdi_check.proofs.tables.LateTables.add_of_points.Goals as goal
 pub returns : goal.returns
 returns c =
     adds_points c.args.self.now.deployment.now (setting_of c.args.self.now.cycles)
-    c.args.problems.now c.add_at.new.problems c.add_at-2.new.problems c.add_at-3.new.problems
+    c.args.problems.now c.add_problems_at.new.problems c.add_problems_at-2.new.problems c.add_problems_at-3.new.problems
     c.in_ok-unsatisfied.unsatisfied c.in_ok-ambiguous.ambiguous c.in_ok-unproxyable.unproxyable
     c.in_ok-unsatisfied.ensures
     c.in_ok-ambiguous.ensures
     c.in_ok-unproxyable.ensures
-    (rw c.as_slice.ensures at c.in_ok-add_at.ensures)
-    (rw c.as_slice-2.ensures at c.in_ok-add_at-2.ensures)
-    (rw c.as_slice-3.ensures at c.in_ok-add_at-3.ensures)
+    (rw c.as_slice.ensures at c.in_ok-add_problems_at.ensures)
+    (rw c.as_slice-2.ensures at c.in_ok-add_problems_at-2.ensures)
+    (rw c.as_slice-3.ensures at c.in_ok-add_problems_at-3.ensures)
