@@ -5,6 +5,7 @@ pub mod Passing
 pub mod Rests
 pub mod UseNames
 pub mod Within
+mod Course
 pub mod Boxed
 pub mod Following
 pub mod Grown

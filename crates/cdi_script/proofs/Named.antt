@@ -26,7 +26,6 @@ use Rattle.cdi_script.specs.declared.fault.ScriptFault.TheVariants.{BadStep}
 use Rattle.cdi_script.specs.declared.part.PartKind.{PartKind}
 use Rattle.cdi_script.specs.declared.part.PartKind.TheVariants.{Name, Via, Qualifiers, Value, Values}
 use Rattle.cdi_script.specs.declared.part.Parts.{Parts}
-use Rattle.cdi_script.specs.declared.step.Step.{Step}
 use Rattle.cdi_script.specs.declared.step.StepKind.{StepKind}
 use Rattle.cdi_stage.specs.declared.stage.Stage.{Stage}
 use Rattle.serde_json.specs.Data.{Data, null, boolean, number, string, array, object, Items, no_items, item}

@@ -27,7 +27,8 @@ use Rattle.cdi_script.specs.declared.step.Action.TheVariants as actions
 use Rattle.cdi_script.specs.declared.step.Step.{Step}
 use Rattle.cdi_script.specs.Listed.{shape_of}
 use Rattle.cdi_script.specs.Next.{end_act, act_at, lookups_in, next_of}
-use Rattle.cdi_script.specs.Reached.{is_wanted, from_next, passed, after_answer, reached, threw}
+use Rattle.cdi_bodies.specs.Answers.{threw}
+use Rattle.cdi_script.specs.Reached.{is_wanted, from_next, passed, after_answer, reached}
 use Rattle.cdi_script.specs.Step.{act_of, is_lookup, with_action}
 use Rattle.cdi_script.specs.Term.{Term}
 use Rattle.cdi_script.specs.Value.{values_of}

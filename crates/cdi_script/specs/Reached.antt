@@ -1,12 +1,8 @@
 -- The step that a script reaches.
 use Rattle.std.specs.Prelude.{◌≡◌, List, [], ◌∷◌, Bool, true, false, not, fold, if◌then◌else◌}
 use Rattle.cdi_base.specs.declared.act.Answer.{Answer}
-use Rattle.cdi_base.specs.declared.act.Answer.TheVariants.{Threw}
+use Rattle.cdi_bodies.specs.Answers.{threw}
 use Rattle.cdi_script.specs.declared.step.Step.{Step}
-
-abbrev pub threw : Answer → Bool
-threw (Threw exception text) = true
-threw _ = false
 
 -- a catch step where one is wanted, and else a step that is none
 abbrev pub is_wanted : Bool → Step → Bool

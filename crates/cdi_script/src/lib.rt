@@ -8,6 +8,7 @@ mod form;
 pub mod laws;
 pub mod next;
 mod part;
+mod places;
 mod qualifier;
 mod reading;
 pub mod script;

@@ -8,12 +8,13 @@ ghost use Rattle.cdi_script.specs.Form as form;
 ghost use Rattle.cdi_script.specs.declared.fault.ScriptFault.TheVariants.{BadStep, TooLong};
 
 use crate::fault::ScriptFault;
+use crate::places::Places;
 use crate::reading::{Item, are_all, bad, each};
 use crate::step::Step;
 use cdi_base::{Names, OrMemory, Seq};
 use cdi_stage::{SERVED, Stage};
 use serde_json::Value as Json;
-use std::alloc::Global;
+use std::alloc::{AllocError, Global};
 use std::marker::Model;
 
 /// The most steps that a script has.
@@ -23,11 +24,16 @@ pub const MAX_STEPS: usize = 256;
 #[derive(Debug, Drop)]
 pub struct Script {
     pub(crate) steps: Seq<Step>,
+    /// Where the steps stand that are no catch.
+    pub(crate) plain: Places,
+    /// Where the catch steps stand.
+    pub(crate) catches: Places,
 }
 
 impl Model for Script {
-    ghost use Rattle.std.specs.Prelude.{List, ◌≤◌, length};
+    ghost use Rattle.std.specs.Prelude.{List, ◌≤◌, length, true, false};
     ghost use Rattle.std.specs.Coded.{codes};
+    ghost use Rattle.cdi_script.specs.Places as places;
     ghost use Rattle.cdi_script.specs.contracts.step.Step as step;
     ghost use Rattle.cdi_script.specs.declared.step.Step.{Step as AnyStep};
 
@@ -37,7 +43,9 @@ impl Model for Script {
 
     ghost view = { λ s. s.steps };
 
-    ghost invariant = { λ s. length s.steps ≤ 256 };
+    ghost invariant = { λ s. (length s.steps ≤ 256)
+        × places.ArePlaces false s.steps s.plain
+        × places.ArePlaces true s.steps s.catches };
 }
 
 #[tactic(auto, using(crate::proofs::Long::lengths))]
@@ -68,15 +76,18 @@ fn steps_at(
 }
 
 impl Script {
-    /// The script of these steps, or `None` where there are more than [`MAX_STEPS`].
-    pub fn new(steps: Seq<Step>) -> Option<Script>
-        ensures within { IsSome result ↔ (length steps ≤ MAX_STEPS) }
-        ensures value { IfSome result (λ script. script ≡ steps) }
+    /// The script of these steps.
+    fn with_places(alloc: Global, steps: Seq<Step>) -> Result<Script, AllocError>
+        requires { length steps ≤ MAX_STEPS }
+        ensures { IfOk result (λ script. script ≡ steps) }
     {
-        if steps.len() > MAX_STEPS {
-            return None;
-        }
-        Some(Script { steps })
+        let plain = Places::of(alloc, false, steps.as_slice())?;
+        let catches = Places::of(alloc, true, steps.as_slice())?;
+        Ok(Script {
+            steps,
+            plain,
+            catches,
+        })
     }
 
     /// Its steps, in order.
@@ -110,7 +121,7 @@ impl Script {
             return bad();
         };
         let steps = steps_at(alloc, stage, names, items.as_slice())?;
-        Ok(Script { steps })
+        Ok(Script::with_places(alloc, steps)?)
     }
 
     /// The script that a value is at the stage that is served, as [`Script::read_at`] reads it.
