@@ -1,7 +1,6 @@
 //! The declared types with the graph of what stands above what.
 ghost use Rattle.std.specs.Prelude.{◌≡◌, ◌↔◌, ℕ, IsTrue, IfOk, MatchBool};
 ghost use Rattle.std.specs.List.{list_all};
-ghost use Rattle.cdi_types.specs.ListsThose.{ListsThose};
 
 use crate::declaration::{TypeDeclaration, declarations_of};
 use crate::edges::graph_of;
@@ -144,20 +143,6 @@ impl TypeGraph {
             }
         }
         false
-    }
-
-    /// The types that are their own proper supertypes, each as often as it is declared, in the order of the declarations.
-    pub fn cyclic(&self, alloc: Global) -> Result<Seq<Name>, AllocError>
-        ensures { IfOk result
-            (λ found. ListsThose (spec.IsCyclic self.now) (spec.names_of self.now) found) }
-    {
-        let mut found = Seq::empty(alloc);
-        for declared in self.types.as_slice() {
-            if self.is_cyclic(declared.name) {
-                found.push(declared.name)?;
-            }
-        }
-        Ok(found)
     }
 
     /// Whether all names are types'.

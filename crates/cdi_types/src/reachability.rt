@@ -123,13 +123,6 @@ impl Reachability {
         in_rows(self.rows.as_slice(), from, to)
     }
 
-    /// Whether a path leads from a node to another. A node reaches itself.
-    pub fn reaches(&self, from: usize, to: usize) -> bool
-        ensures { IsTrue result ↔ Path self.now from to }
-    {
-        from == to || self.reaches_properly(from, to)
-    }
-
     /// Whether a node lies on a cycle, an edge to itself included.
     pub fn is_on_cycle(&self, node: usize) -> bool
         ensures { IsTrue result ↔ ProperPath self.now node node }
