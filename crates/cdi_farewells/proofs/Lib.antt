@@ -1,3 +1,4 @@
 mod Without
 mod Calm
 pub mod Beginning
+pub mod Worked

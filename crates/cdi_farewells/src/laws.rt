@@ -1,6 +1,7 @@
 //! The laws of farewells. A call of one does nothing: its contract is the law.
 ghost use Rattle.cdi_machine.specs.Tables.{Tables};
 ghost use Rattle.cdi_farewells.specs.Beginnings.{BeginsAtMark, BeginsAtMarkIfShort, DestructionsBeginOnce, DestructionsBeginOnceIfShort};
+ghost use Rattle.cdi_farewells.specs.Worked.{SomeBeginOnce};
 
 use cdi_machine::Driver;
 
@@ -31,3 +32,9 @@ pub fn law_destructions_begin_once<D: Driver>(driver: &D)
 {
     let _driver = driver;
 }
+
+/// What that law asks can be met: small tables and bodies do, with a callback and an interceptor round it.
+#[tactic(auto, using(crate::proofs::Worked::some_begin_once))]
+pub fn law_some_begin_once()
+    ensures some { SomeBeginOnce }
+{}
