@@ -22,3 +22,4 @@ pub mod Callbacks
 pub mod Firsts
 pub mod Traces
 pub mod Orders
+pub mod Locals

@@ -3,6 +3,7 @@ ghost use Rattle.cdi_machine.specs.Tables.{Tables};
 ghost use Rattle.cdi_ledger.specs.Ledger.{KeepsOrder, KeepsOrderIfShort};
 ghost use Rattle.cdi_ledger.specs.Ends.{EndsNested, EndsNestedIfShort, LeavesTidy, LeavesNothing, OrdersAll, MarksOnce, MarksOnceIfShort, OwnersAreSmaller, OneInAContext, OneOfTheApplication, RefersOwn, BodiesAreFarewells, BodiesAreFarewellsIfShort, OneInAContextIfShort};
 ghost use Rattle.cdi_ledger.specs.Callbacks.{FarewellsInDestruction, FarewellsInDestructionIfShort, BeginsOnlyAtMark, BeginsOnlyAtMarkIfShort};
+ghost use Rattle.cdi_ledger.specs.Locals.{LocalsAreOwn};
 ghost use Rattle.cdi_ledger.specs.Stories.{AddsItsTrace};
 
 use cdi_machine::Driver;
@@ -64,10 +65,12 @@ pub fn law_one_instance<D: Driver>(driver: &D)
 
 /// At the end of each command, cut or not, an injected field that refers to a live instance by itself, and not through a
 /// client proxy, refers to a dependent of its own instance: no other instance holds a dependent (Jakarta CDI 4.0, *Dependent
-/// objects*).
-#[tactic(auto, using(crate::proofs::Referred::refers_own))]
+/// objects*). And whenever a body gives its next act, each of its locals that refers to a live instance by itself refers to a
+/// dependent of the body's own instance (Jakarta CDI 4.0, *Programmatic lookup*).
+#[tactic(auto, using(crate::proofs::Referred::refers_own, crate::proofs::Locals::locals_are_own))]
 pub fn law_references<D: Driver>(driver: &D)
     ensures own { (tables : Tables) → RefersOwn tables (D.legal driver.now) }
+    ensures locals { (tables : Tables) → LocalsAreOwn tables (D.legal driver.now) }
 {
     let _driver = driver;
 }
