@@ -23,3 +23,4 @@ pub mod Firsts
 pub mod Traces
 pub mod Orders
 pub mod Locals
+pub mod Counts
