@@ -2,3 +2,4 @@ mod Without
 mod Calm
 pub mod Beginning
 pub mod Worked
+pub mod Counted
