@@ -34,7 +34,7 @@ use Rattle.cdi_ledger.proofs.Owed.{Ok, Pre}
 use Rattle.cdi_ledger.proofs.Nesting.{BothPost}
 use Rattle.cdi_ledger.proofs.Births.{Known, KG, all_born}
 use Rattle.cdi_machine.proofs.Levels.{Height}
-use Rattle.cdi_farewells.specs.Beginnings.{IsFirstStart, IsRightBehindMark}
+use Rattle.cdi_farewells.specs.Beginnings.{IsBorn, IsFirstStart, IsRightBehindMark}
 use Rattle.cdi_farewells.proofs.Without.{Tells}
 
 pub bare : Height
@@ -358,6 +358,9 @@ module _ (tables : Tables) where
     each1 : E h1
     each1 = (tt, (s (Wrote (entries.End n)), so))
 
+    born : IsBorn n h0
+    born = (k.component, k.owner, inr (known.lives n k e))
+
     earlier : (c : Managed) → IsOfClass tables h0 n c → IsOfClass tables h n c
     earlier c is = record { index = is.index; owner = is.owner; born = (elim is.born [ inl q ↦ cc | inr q ↦ q ]); bean = is.bean; known = is.known; is = is.is }
 
@@ -376,12 +379,12 @@ module _ (tables : Tables) where
         same c o = let z : Kind.Class c ≡ Kind.Class d = sym (same_class n b w h k c known e (earlier c o) is x f) ∙ y in cc
 
         by : (ms : List Code) → d.pre_destroy.callbacks ≡ ms → MembersNext n ms h1
-        by [] q = λ x c o. starts c d (same c o) x (subst (λ z. IsFirstStart tables h0 n z d.pre_destroy.callbacks x) (sym none) (subst (λ z. IsFirstStart tables h0 n [] z x) (sym q) tt))
-        by (m ∷ ms) q = λ c o. starts c d (same c o) (Wrote (entries.Run n m.place)) (subst (λ z. IsFirstStart tables h0 n z d.pre_destroy.callbacks (Wrote (entries.Run n m.place))) (sym none) (subst (λ z. IsFirstStart tables h0 n [] z (Wrote (entries.Run n m.place))) (sym q) refl))
+        by [] q = λ x. (born, λ c o. starts c d (same c o) x (subst (λ z. IsFirstStart tables h0 n z d.pre_destroy.callbacks x) (sym none) (subst (λ z. IsFirstStart tables h0 n [] z x) (sym q) tt)))
+        by (m ∷ ms) q = (born, λ c o. starts c d (same c o) (Wrote (entries.Run n m.place)) (subst (λ z. IsFirstStart tables h0 n z d.pre_destroy.callbacks (Wrote (entries.Run n m.place))) (sym none) (subst (λ z. IsFirstStart tables h0 n [] z (Wrote (entries.Run n m.place))) (sym q) refl)))
 
     chain_next : (b : ℕ) (x : Bean) (d : Managed) → k.component ≡ components.Bean b → tables.bean b ≡ Some x → x.kind ≡ Kind.Class d → (u : World) → KG tables u h1 → (chain : List ℕ) → d.pre_destroy.chain ≡ chain → ChainNext (invocation_at_start n roles.PreDestroy d.pre_destroy.callbacks []) chain u h1
     chain_next b x d is f y u g [] q = member_next b x d is f y q
-    chain_next b x d is f y u g (i ∷ chain) q = λ m z t a c o p j v. starts j d (same j v) (Wrote (entries.Run m (places.Interceptor z.name roles.PreDestroy))) (subst (λ l. IsFirstStart tables h0 n l d.pre_destroy.callbacks (Wrote (entries.Run m (places.Interceptor z.name roles.PreDestroy)))) (sym q) (m, z, in_h0 m i (owned m t a c o), p, refl))
+    chain_next b x d is f y u g (i ∷ chain) q = λ m z t a c o p. (born, λ j v. starts j d (same j v) (Wrote (entries.Run m (places.Interceptor z.name roles.PreDestroy))) (subst (λ l. IsFirstStart tables h0 n l d.pre_destroy.callbacks (Wrote (entries.Run m (places.Interceptor z.name roles.PreDestroy)))) (sym q) (m, z, in_h0 m i (owned m t a c o), p, refl)))
       where
         same : (c : Managed) → IsOfClass tables h0 n c → c ≡ d
         same c o = let z : Kind.Class c ≡ Kind.Class d = sym (same_class n b w h k c known e (earlier c o) is x f) ∙ y in cc
@@ -396,13 +399,13 @@ module _ (tables : Tables) where
 
     cleaned : (o : Instance) (component : Component) → k.component ≡ component → (w1 : World)
         → D (handle (quietly (clean_up n o.value component)) (λ _. behind n) throw) w1 h1 Q → T (handle (quietly (clean_up n o.value component)) (λ _. behind n) throw) w1 h1 (λ c v k. Q c v k × Calm k)
-    cleaned o (components.Interceptor i) is w1 d = calm (handle (quietly (clean_up n o.value (components.Interceptor i))) (λ _. behind n) throw) w1 h1 Q (unmarked_behind n) d (λ x c z. absurd (no_class n i w h k c known e (earlier c z) is)) each1
+    cleaned o (components.Interceptor i) is w1 d = calm (handle (quietly (clean_up n o.value (components.Interceptor i))) (λ _. behind n) throw) w1 h1 Q (unmarked_behind n) d (λ x. (born, λ c z. absurd (no_class n i w h k c known e (earlier c z) is))) each1
     cleaned o (components.Bean b) is w1 d = (each1, of_bean (tables.bean b) refl d)
       where
         of_kind : (x : Bean) → tables.bean b ≡ Some x → (t : Kind) → x.kind ≡ t
             → D (handle (quietly (clean_up_bean n o.value t)) (λ _. behind n) throw) w1 h1 Q → T (handle (quietly (clean_up_bean n o.value t)) (λ _. behind n) throw) w1 h1 (λ c v k. Q c v k × Calm k)
         of_kind x f (Kind.Producer p) y d = calm (handle (quietly (clean_up_bean n o.value (Kind.Producer p))) (λ _. behind n) throw) w1 h1 Q (unmarked_handle (quietly (clean_up_bean n o.value (Kind.Producer p))) (λ _. behind n) throw (walked (quietly (clean_up_bean n o.value (Kind.Producer p))) (Walk.l_quietly bare (clean_up_bean n o.value (Kind.Producer p)) (Walk.l_each bare p.disposers (dispose p o.value) (λ d. Walk.l_served bare p.declaring d (o.value ∷ []) owners.Borrower)))) (λ _. unmarked_behind n) (λ x. tt)) d
-            (λ z c i. absurd (let u : Kind.Producer p ≡ Kind.Class c = sym y ∙ same_class n b w h k c known e (earlier c i) is x f in cc)) each1
+            (λ z. (born, λ c i. absurd (let u : Kind.Producer p ≡ Kind.Class c = sym y ∙ same_class n b w h k c known e (earlier c i) is x f in cc))) each1
         of_kind x f (Kind.Class c) y d = (
           each1,
           starting (Task.Rest c.pre_destroy.chain) _ (after_change (Change.Enter (invocation_at_start n roles.PreDestroy c.pre_destroy.callbacks [])) w1) h1 Q (λ r. left r) d.1

@@ -1,3 +1,5 @@
 mod Without
 mod Calm
 pub mod Beginning
+pub mod Worked
+pub mod Counted

@@ -3,7 +3,9 @@ use Rattle.std.specs.Prelude.{ℕ, ◌≡◌, ◌≤◌, List, [], ◌∷◌, So
 use Rattle.cdi_base.specs.declared.entry.Entry.TheVariants as entries
 use Rattle.cdi_base.specs.declared.place.Place.TheVariants as places
 use Rattle.cdi_base.specs.declared.place.InterceptorMethod.TheVariants as roles
+use Rattle.cdi_store.specs.declared.instance.Component.{Component}
 use Rattle.cdi_store.specs.declared.instance.Component.TheVariants as components
+use Rattle.cdi_store.specs.declared.instance.Owner.{Owner}
 use Rattle.cdi_store.specs.declared.instance.Owner.TheVariants as owners
 use Rattle.cdi_machine.specs.Tables.{Tables, Code, Managed, Interceptor}
 use Rattle.cdi_machine.specs.World.{World, at_begin}
@@ -14,7 +16,7 @@ use Rattle.cdi_ownership.specs.Whose.{IsIn}
 use Rattle.cdi_ledger.specs.Ledger.{Item, Wrote, Between, Born, items_of}
 use Rattle.cdi_ledger.specs.Stories.{Story}
 use Rattle.cdi_ledger.specs.Ends.{Each, IsOfClass, marks}
-use Rattle.cdi_ledger.specs.Callbacks.{PlacesOfBodiesAreApart, FirstsStandOnce, IsBegunOnly, IsInDestruction}
+use Rattle.cdi_ledger.specs.Callbacks.{Holds, StartsFarewell, PlacesOfBodiesAreApart, FirstsStandOnce, IsBegunOnly, IsInDestruction}
 use Rattle.cdi_worlds_fit.specs.Fits.{Fits}
 
 -- The first body of a pre-destroy chain, and of the callbacks at its end, starts: that of the first interceptor, on the
@@ -27,11 +29,16 @@ IsFirstStart tables h n (i ∷ chain) callbacks x =
 IsFirstStart tables h n [] (m ∷ callbacks) x = x ≡ Wrote (entries.Run n m.place)
 IsFirstStart tables h n [] [] x = Unit {0}
 
+-- an instance got the number
+abbrev pub IsBorn : ℕ → List Item → Type 0
+IsBorn n h = (component : Component) × (owner : Owner) × IsIn (Born n component owner) h
+
 -- right behind the mark of an instance the first body of its class's pre-destroy chain and callbacks starts
 abbrev pub IsRightBehindMark : Tables → Item → List Item → Type 0
 IsRightBehindMark tables x (Between n ∷ h) =
-    (c : Managed) → IsOfClass tables h n c
-    → IsFirstStart tables h n c.pre_destroy.chain c.pre_destroy.callbacks x
+    IsBorn n h
+    × ((c : Managed) → IsOfClass tables h n c
+    → IsFirstStart tables h n c.pre_destroy.chain c.pre_destroy.callbacks x)
 IsRightBehindMark tables x _ = Unit {0}
 
 -- If the tables and the bodies fit one another, whatever stands right behind a mark is that.
@@ -77,3 +84,14 @@ DestructionsBeginOnceIfShort tables legal =
     → refusal tables s c ≡ None
     → (r : Runs tables legal (Unit {0}) (task c) (at_begin s.world) o v)
     → BeginsOnce tables (items_of h r)
+
+-- Counted: where an interceptor's body is the first, it starts once if the instance is gone.
+abbrev pub StartsOnce : Tables → Legal → Type 0
+StartsOnce tables legal =
+    Fits tables legal → PlacesOfBodiesAreApart tables → FirstsStandOnce tables
+    → (s : State) (h : List Item) → Story tables legal s h
+    → (n k i : ℕ) (c : Managed) (chain : List ℕ) → IsOfClass tables h n c
+    → c.pre_destroy.chain ≡ i ∷ chain
+    → IsIn (Wrote (entries.Gone n)) h
+    → Holds (StartsFarewell tables n c) h k
+    → k ≡ 1

@@ -1,6 +1,7 @@
 //! The laws of farewells. A call of one does nothing: its contract is the law.
 ghost use Rattle.cdi_machine.specs.Tables.{Tables};
-ghost use Rattle.cdi_farewells.specs.Beginnings.{BeginsAtMark, BeginsAtMarkIfShort, DestructionsBeginOnce, DestructionsBeginOnceIfShort};
+ghost use Rattle.cdi_farewells.specs.Beginnings.{BeginsAtMark, BeginsAtMarkIfShort, DestructionsBeginOnce, DestructionsBeginOnceIfShort, StartsOnce};
+ghost use Rattle.cdi_farewells.specs.Worked.{SomeBeginOnce};
 
 use cdi_machine::Driver;
 
@@ -21,13 +22,21 @@ pub fn law_beginnings<D: Driver>(driver: &D)
 /// bodies of a destruction from all others, the mark of a destruction stands at most once, and once where the instance is
 /// gone; what stands right behind it is the start of the first body of the pre-destroy chain and callbacks, which starts
 /// nowhere else; and each of these bodies starts only between the instance's `end` and its `gone`. A callback without an
-/// interceptor before it may start again only where a body proceeds. So it is also if memory runs out.
-#[tactic(auto, using(crate::proofs::Beginning::begin_once, crate::proofs::Beginning::begin_once_if_short))]
+/// interceptor before it may start again only where a body proceeds. So it is also if memory runs out. Counted: an
+/// interceptor's body that is the first starts once if the instance is gone.
+#[tactic(auto, using(crate::proofs::Beginning::begin_once, crate::proofs::Beginning::begin_once_if_short, crate::proofs::Counted::starts_once))]
 pub fn law_destructions_begin_once<D: Driver>(driver: &D)
     ensures with_memory { (tables : Tables) →
         DestructionsBeginOnce tables (D.legal driver.now) }
     ensures short_of_memory { (tables : Tables) →
         DestructionsBeginOnceIfShort tables (D.legal driver.now) }
+    ensures counted { (tables : Tables) → StartsOnce tables (D.legal driver.now) }
 {
     let _driver = driver;
 }
+
+/// What that law asks can be met: small tables and bodies do, with a callback and an interceptor round it.
+#[tactic(auto, using(crate::proofs::Worked::some_begin_once))]
+pub fn law_some_begin_once()
+    ensures some { SomeBeginOnce }
+{}

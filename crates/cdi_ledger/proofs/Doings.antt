@@ -1,6 +1,6 @@
 -- Each program keeps where all stand: brackets, bodies, destruction, creation and events.
 use Rattle.std.proofs.Common.{ℕ, zero, suc, ◌≡◌, ◌<◌, ◌≤◌, List, [], ◌∷◌, inl, inr, Option, Some, None, Bool, true, false, refl, sym, ap, ◌∙◌, subst, arith}
-use Rattle.std.specs.Prelude.{nat_eq, length, ◌||◌, not, slice_get, remove, option_map}
+use Rattle.std.specs.Prelude.{nat_eq, length, ◌||◌, not, slice_get, remove, option_map, cond}
 use Rattle.cdi_base.specs.declared.value.Value.{Value}
 use Rattle.cdi_base.specs.declared.value.Value.TheVariants as values
 use Rattle.cdi_base.specs.declared.act.Act.{Act}
@@ -17,7 +17,9 @@ use Rattle.cdi_base.specs.declared.built_in.BuiltIn.{BuiltIn}
 use Rattle.cdi_base.specs.declared.built_in.BuiltIn.TheVariants as built_in
 use Rattle.cdi_base.specs.declared.uses.Use.{Use}
 use Rattle.cdi_base.specs.BuiltIn.{number_of}
-use Rattle.cdi_base.specs.Maps.{at}
+use Rattle.cdi_base.specs.Maps.{at, put}
+use Rattle.cdi_ownership.proofs.Maps.{put_at}
+use Rattle.cdi_store.specs.declared.references.Reference.TheVariants.{Direct}
 use Rattle.cdi_store.specs.declared.instance.Context.{Context}
 use Rattle.cdi_store.specs.declared.instance.Component.{Component}
 use Rattle.cdi_store.specs.declared.instance.Component.TheVariants as components
@@ -48,10 +50,10 @@ use Rattle.cdi_ownership.proofs.Lists.{HasTop, TopEmpty, among_below, below_amon
 use Rattle.cdi_ownership.proofs.Cores.{Core, core_of, core_at, deps_at}
 use Rattle.cdi_ownership.proofs.Homes.{codes, Inv, Rel, Grown, Placed, HeldIn, OnStack, Busy, IsFixed, targets, rel_self, rel_then, was_busy}
 use Rattle.cdi_ownership.proofs.Spans.{Still, inv_still, rel_still}
-use Rattle.cdi_ledger.proofs.Owed.{IsSet, set_then, Within, within_none, within_first, CanStart, StartsSo, LeftSo, AtMember, IsMemberAt, none_start, in_farewell, farewell_map, farewell_then, usable_same, one_class, Ok, EntersSo, IsKnown, IsAttending, one_ordinary, IsUsable, IsNewAt, MayEnter, MayRun, IsMember, usable_enters, usable_runs, new_then, new_usable, RefersTo, Pre, Post, IsTop, IsGiven, Anchored, anchored_then}
+use Rattle.cdi_ledger.proofs.Owed.{IsOwned, IsLeft, OwnLocals, IsSet, set_then, within_none, within_first, CanStart, StartsSo, LeftSo, AtMember, IsMemberAt, none_start, in_farewell, farewell_map, farewell_then, usable_same, one_class, Ok, EntersSo, IsKnown, IsAttending, one_ordinary, IsUsable, IsNewAt, MayEnter, MayRun, IsMember, usable_enters, usable_runs, new_then, new_usable, RefersTo, Pre, Post, IsTop, IsGiven, Anchored, anchored_then}
 use Rattle.cdi_ledger.proofs.Judge.{bind}
 use Rattle.cdi_ledger.proofs.Fine as fine
-use Rattle.cdi_ledger.proofs.Standing.{f_interceptor_of, CanHave, have_then, top_then, own_of, below_then, live_below, inside_still, invocation_still, f_bean, f_interceptor, f_instance, f_resolved, f_picked, f_reference, f_injected, f_all_injected, f_use, f_destroy_by, f_provide}
+use Rattle.cdi_ledger.proofs.Standing.{f_referring, f_interceptor_of, CanHave, have_then, top_then, own_of, below_then, live_below, inside_still, invocation_still, f_bean, f_interceptor, f_instance, f_resolved, f_picked, f_reference, f_injected, f_all_injected, f_use, f_destroy_by, f_provide}
 
 abbrev IsTopOf : Invocation → List Invocation → Type 0
 IsTopOf v [] = ⊥
@@ -270,7 +272,7 @@ module _ (t : Tables) where
     further : (v : Invocation) → IsTopOf v w0.invocations → (first : Code) (more : List Code) → v.members ≡ first ∷ more → (m : Code) (w : World) (h : List Item) → Rel w0 w → IsIn m.place (map (λ m. m.place) more) → Pre t (Task.Body (body_at_start v.target m.place m.body v.parameters v.references [])) w h
     further v top first more e m w h r i =
         let k = top_kept v w0.invocations w.invocations top r.targets r.members m.place (subst (λ z. IsIn m.place (map (λ m. m.place) z)) (sym e) (inr i)) in
-        (((λ c e l. inl k), inr (inl (kept_at t v w0.invocations w.invocations top r.targets r.members m.place w h (subst (λ z. AtMember t m.place z w h) (sym e) (inr i))))), within_none t w)
+        (((λ c e l. inl k), inr (inl (kept_at t v w0.invocations w.invocations top r.targets r.members m.place w h (subst (λ z. AtMember t m.place z w h) (sym e) (inr i))))), (within_none t w, λ k m e. absurd (cc)))
 
     -- the further bodies at a chain's end, one after the other
     f_more : (v : Invocation) → IsTopOf v w0.invocations → (first : Code) (more : List Code) → v.members ≡ first ∷ more → (ms : List Code) → ((m : Code) → IsIn m ms → IsIn m.place (map (λ m. m.place) more)) → Fine w0 (each ms (λ m. call (Task.Body (body_at_start v.target m.place m.body v.parameters v.references [])))) Any
@@ -282,7 +284,7 @@ module _ (t : Tables) where
 
   module _ (w0 : World) where
     -- a body on one whose destruction hasn't begun
-    body_on : (y : Running) (f : Given → Prog Given) → ((a : Given) → Fine w0 (f a) Any) → (w : World) (h : List Item) → Inv w → Rel w0 w → IsUsable y.instance w → IsKnown t y.instance y.place w h → Within t y.rest w → fine.Doing t (handle (call (Task.Body y)) f throw) w h (fine.Left w0 Any)
+    body_on : (y : Running) (f : Given → Prog Given) → ((a : Given) → Fine w0 (f a) Any) → (w : World) (h : List Item) → Inv w → Rel w0 w → IsUsable y.instance w → IsKnown t y.instance y.place w h → IsLeft t y w → fine.Doing t (handle (call (Task.Body y)) f throw) w h (fine.Left w0 Any)
     body_on y f d w h g r l known left = (g, ((usable_runs t y.instance y.place w h l, known), left), after)
       where
         after : (c : Completion Given) (w1 : World) (h1 : List Item) → Inv w1 → Rel w w1 × Unit {0} → fine.Doing t (handle (complete c) f throw) w1 h1 (fine.Left w0 Any)
@@ -307,7 +309,7 @@ module _ (t : Tables) where
       asked : (more : List Code) → v.members ≡ m ∷ more → Pre t (Task.Body (body_at_start v.target m.place m.body v.parameters v.references [])) w h
       asked more e =
           let k = top_kept v w.invocations w.invocations top refl refl m.place (subst (λ z. IsIn m.place (map (λ m. m.place) z)) (sym e) (inl refl)) in
-          (((λ c e l. inl k), inr (inl (kept_at t v w.invocations w.invocations top refl refl m.place w h (subst (λ z. AtMember t m.place z w h) (sym e) (inl (refl, start)))))), within_none t w)
+          (((λ c e l. inl k), inr (inl (kept_at t v w.invocations w.invocations top refl refl m.place w h (subst (λ z. AtMember t m.place z w h) (sym e) (inl (refl, start)))))), (within_none t w, λ k m e. absurd (cc)))
 
       first : (more : List Code) → v.members ≡ m ∷ more → fine.Doing t (body m) w h (fine.Left w Any)
       first more e = fine.calling t w (Task.Body (body_at_start v.target m.place m.body v.parameters v.references [])) w h g (rel_self w g) (asked more e)
@@ -341,7 +343,7 @@ module _ (t : Tables) where
           let k : record { component = q.0; owner = owners.Instance v.target; phase = phases.Ready } ≡ c.0 = cc in
           let o = listed_there v.target w.instances n z in
           body_on w (body_at_start n (places.Interceptor x.name v.role) b v.parameters [] chain) (λ a. ret (given_by v.role a)) (λ a w h g q. (g, (q, tt))) w h g (rel_self w g) (_, q.1, tt)
-          (inr (inr (subst (IsAttending t n (places.Interceptor x.name v.role) w h) (sym e) (record { index = i; interceptor = x; known = f; rest = chain; starts = start; stands = refl; core = c.0; there = c.1; of = c.2; owner = ap (λ (z : Core). z.owner) (sym k); target = o.0; lives = o.1 })))) (within_first t i chain w h start)
+          (inr (inr (subst (IsAttending t n (places.Interceptor x.name v.role) w h) (sym e) (record { index = i; interceptor = x; known = f; rest = chain; starts = start; stands = refl; core = c.0; there = c.1; of = c.2; owner = ap (λ (z : Core). z.owner) (sym k); target = o.0; lives = o.1 })))) (within_first t i chain w h start, λ k m e. absurd (cc))
 
       among : (v : Invocation) (vs : List Invocation) → w.invocations ≡ v ∷ vs → (x : Interceptor) → t.interceptor i ≡ Some x → (b : ℕ) (ns : List ℕ) → ((k : ℕ) → IsIn k ns → IsIn k (deps_at v.target w.instances)) → Goes w (handle (first_of w i ns) (λ n. behind v x b n) throw) w h Any
       among v vs e x f b [] z = (g, (rel_self w g, tt))
@@ -429,7 +431,7 @@ module _ (t : Tables) where
     proceed_does r args k w h g q = by w.invocations
       where
         start : (w : World) → Rel w0 w → CanStart t r.rest w (Wrote (entries.Did (acts.Proceed args)) ∷ h)
-        start w q = farewell_map t (LeftSo r.rest) (StartsSo r.rest (Wrote (entries.Did (acts.Proceed args)) ∷ h)) w.invocations w (λ n c e. inr (e, tt)) (farewell_then t (LeftSo r.rest) w0 w q k.1)
+        start w q = farewell_map t (LeftSo r.rest) (StartsSo r.rest (Wrote (entries.Did (acts.Proceed args)) ∷ h)) w.invocations w (λ n c e. inr (e, tt)) (farewell_then t (LeftSo r.rest) w0 w q k.1.0)
 
         still : (xs : List Value) → Still w (after_change (Change.Replace xs) w)
         still xs = invocation_still w (λ i. record i { parameters = xs }) (λ i. refl) (λ i. refl)
@@ -475,8 +477,9 @@ module _ (t : Tables) where
     f_does r (acts.Give v) nq = λ w h g q. (g, (q, tt))
     f_does r (acts.Throw x) nq = λ w h g q. (g, (q, tt))
 
-    f_find : (r : Running) (k : ℕ) → Anchored w0 r.instance → Fine w0 (find r k) Any
-    f_find r k a = then w0 (lookup_at r.body k) _ (λ w h g q. fine.f_present t w0 (t.lookup r.body k) w h g q) λ asked. then w0 (resolve asked) _ (f_resolved t w0 asked) λ b. f_reference t w0 b (owners.Instance r.instance) a
+    f_find : (r : Running) (k : ℕ) → Anchored w0 r.instance → Fine w0 (find r k) (RefersTo (owners.Instance r.instance))
+    f_find r k a = fine.then t w0 (lookup_at r.body k) _ (RefersTo (owners.Instance r.instance)) (λ w h g q. fine.f_present t w0 (t.lookup r.body k) w h g q) λ asked.
+        fine.then t w0 (resolve asked) (λ b. refer_to b (owners.Instance r.instance)) (RefersTo (owners.Instance r.instance)) (f_resolved t w0 asked) λ b. f_referring t w0 b (owners.Instance r.instance) a
 
     f_answer : (c : Completion Given) → Fine w0 (answer_of c) Any
     f_answer (Completion.Gave (Given.Result v)) = (λ w h g q. (g, (q, tt)))
@@ -487,9 +490,26 @@ module _ (t : Tables) where
     f_again : (r : Running) → IsSet t r w0 → Fine w0 (call (Task.Acts r)) Any
     f_again r a = fine.f_call t w0 (Task.Acts r) (λ w h g q. set_then t r w0 w q a)
 
-    f_found : (r : Running) (k : ℕ) (c : Completion Reference) → IsSet t r w0 → Fine w0 (answer_find r k c) Any
-    f_found r k (Completion.Gave x) a = f_again (with_answer (record r { locals = Rattle.cdi_base.specs.Maps.put k x r.locals }) (answers.Found k)) a
-    f_found r k (Completion.Threw x) a = then w0 (answer_of (Completion.Threw x)) (λ answer. call (Task.Acts (with_answer r answer))) (f_answer (Completion.Threw x)) (λ answer. f_again (with_answer r answer) a)
+    -- what was looked for and found is the instance's
+    abbrev IsFound : Running → Completion Reference → World → Type 0
+    IsFound r (Completion.Gave x) w = RefersTo (owners.Instance r.instance) x w
+    IsFound r (Completion.Threw x) w = Unit {0}
+
+    with_local : (r : Running) (k : ℕ) (x : Reference) (w : World) → RefersTo (owners.Instance r.instance) x w → OwnLocals r w → OwnLocals (record r { locals = put k x r.locals }) w
+    with_local r k x w f o j m e = by (nat_eq j k) (sym (put_at r.locals k x j) ∙ e)
+      where
+        by : (b : Bool) → cond b (Some x) (at r.locals j) ≡ Some (Direct m) → IsOwned (owners.Instance r.instance) m w
+        by true q = f m (let y : x ≡ Direct m = cc in y)
+        by false q = o j m q
+
+    f_found : (r : Running) (k : ℕ) (c : Completion Reference) → IsSet t r w0 → (w : World) (h : List Item) → Inv w → Rel w0 w → IsFound r c w → Goes w0 (answer_find r k c) w h Any
+    f_found r k (Completion.Gave x) a w h g q f =
+        let s = set_then t r w0 w q a in
+        fine.calling t w0 (Task.Acts (with_answer (record r { locals = put k x r.locals }) (answers.Found k))) w h g q (s.0, (s.1.0, with_local r k x w f s.1.1))
+    f_found r k (Completion.Threw x) a w h g q f = then w0 (answer_of (Completion.Threw x)) (λ answer. call (Task.Acts (with_answer r answer))) (f_answer (Completion.Threw x)) (λ answer. f_again (with_answer r answer) a) w h g q
+
+    f_looked : (r : Running) (k : ℕ) → Anchored w0 r.instance → Fine w0 (attempt (find r k)) (IsFound r)
+    f_looked r k a w h g q = bind t (Ok t) fine.G (Pre t) Post (find r k) (λ x. ret (Completion.Gave x)) (λ x. ret (Completion.Threw x)) w h (fine.Left w0 (RefersTo (owners.Instance r.instance))) (fine.Left w0 (IsFound r)) (f_find r k a w h g q) (λ x w1 h1 g1 p. (g1, p)) (λ x w1 h1 g1 p. (g1, (p.0, tt)))
 
     set_after : (r : Running) (a : Act) → IsSet t r w0 → IsSet t (after_act r a) w0
     set_after r (acts.Proceed args) s = s
@@ -517,7 +537,7 @@ module _ (t : Tables) where
         k = Wrote (entries.Did (acts.Own name args)) ∷ h
 
         called : (m : Method) → MayRun t r.instance m.code.place w (Wrote (entries.Did (acts.Own name args)) ∷ h) × IsKnown t r.instance m.code.place w (Wrote (entries.Did (acts.Own name args)) ∷ h) → (b : Bool) → Goes w0 (handle (expect b) (λ _. call (Task.Body (body_at_start r.instance m.code.place m.code.body args [] []))) throw) w (Wrote (entries.Did (acts.Own name args)) ∷ h) Any
-        called m ok true = fine.calling t w0 (Task.Body (body_at_start r.instance m.code.place m.code.body args [] [])) w (Wrote (entries.Did (acts.Own name args)) ∷ h) g q (ok, within_none t w)
+        called m ok true = fine.calling t w0 (Task.Body (body_at_start r.instance m.code.place m.code.body args [] [])) w (Wrote (entries.Did (acts.Own name args)) ∷ h) g q (ok, (within_none t w, λ k m e. absurd (cc)))
         called m ok false = (g, (q, tt))
 
         then_call : Method → Prog Given
@@ -570,7 +590,7 @@ module _ (t : Tables) where
     f_perform : (r : Running) (a : Act) → IsSet t r w0 → (w : World) (h : List Item) → Inv w → Rel w0 w → Goes w0 (perform r a) w (Wrote (entries.Did a) ∷ h) Any
     f_perform r (acts.Give v) k w h g q = (g, (q, tt))
     f_perform r (acts.Throw x) k w h g q = (g, (q, tt))
-    f_perform r (acts.Find i) k w h g q = then w0 (attempt (find r i)) _ (fine.caught t w0 (find r i) _ _ Any Any (f_find r i k.0) (λ _. (λ w h g q. (g, (q, tt)))) (λ _. (λ w h g q. (g, (q, tt))))) (λ c. f_found r i c k) w (Wrote (entries.Did (acts.Find i)) ∷ h) g q
+    f_perform r (acts.Find i) k w h g q = fine.then_with t w0 (attempt (find r i)) (λ c. answer_find r i c) (IsFound r) Any (f_looked r i k.0) (λ c w h g q f. f_found r i c k w h g q f) w (Wrote (entries.Did (acts.Find i)) ∷ h) g q
     f_perform r (acts.Set field v) k w h g q = f_told r (acts.Set field v) tt k w (Wrote (entries.Did (acts.Set field v)) ∷ h) g q
     f_perform r (acts.Call via name args) k w h g q = f_told r (acts.Call via name args) tt k w (Wrote (entries.Did (acts.Call via name args)) ∷ h) g q
     f_perform r (acts.Own name args) k w h g q = told_at r (acts.Own name args) k w (Wrote (entries.Did (acts.Own name args)) ∷ h) (own_does r name args w h g q)
@@ -631,7 +651,7 @@ module _ (t : Tables) where
     f_step n (Step.Intercept i) ord l k new = fine.f_call t w0 (Task.Intercept i n) (λ w h g r. anchored_then w0 w n r k)
     f_step n (Step.Construct points chain) ord l k new = f_construct n points chain ord l k new
     f_step n (Step.Inject field point) ord l k new = f_inject n field point k
-    f_step n (Step.Initialize m points) ord l k new = then w0 (resolve_points points (owners.Instance n)) (λ rs. call (Task.Body (body_at_start n m.place m.body [] rs []))) (f_all_injected t w0 points (owners.Instance n) k) (λ rs. fine.f_call t w0 (Task.Body (body_at_start n m.place m.body [] rs [])) (λ w h g r. ((usable_runs t n m.place w h (new_usable w n (new_then w0 w n r new)), inl (ord m (inl refl))), within_none t w)))
+    f_step n (Step.Initialize m points) ord l k new = then w0 (resolve_points points (owners.Instance n)) (λ rs. call (Task.Body (body_at_start n m.place m.body [] rs []))) (f_all_injected t w0 points (owners.Instance n) k) (λ rs. fine.f_call t w0 (Task.Body (body_at_start n m.place m.body [] rs [])) (λ w h g r. ((usable_runs t n m.place w h (new_usable w n (new_then w0 w n r new)), inl (ord m (inl refl))), (within_none t w, λ k m e. absurd (cc)))))
     f_step n (Step.Complete chain) ord l k new = f_lifecycle w0 n roles.PostConstruct chain.callbacks chain.chain l (λ w r. new_usable w n (new_then w0 w n r new)) (λ w h r. (usable_enters t n chain.callbacks w (new_usable w n (new_then w0 w n r new)), inr (λ e. cc, ord)))
 
     f_accept : (b : Bool) (n : ℕ) (x : Given) → Fine w0 (accept b n x) Any

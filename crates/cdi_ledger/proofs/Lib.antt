@@ -22,3 +22,5 @@ pub mod Callbacks
 pub mod Firsts
 pub mod Traces
 pub mod Orders
+pub mod Locals
+pub mod Counts

@@ -159,7 +159,7 @@ counted Lost k X r (inl t) = none k X t.0 t.1
 counted Lost k X r (inr e) = (omega (arith, e), λ x. e)
 counted Wrong k X r t = absurd (r refl)
 
-once_in : (h : List Item) → InOrder h → (n : ℕ) → (marks n h ≤ 1) × (IsIn (Wrote (entries.Gone n)) h → marks n h ≡ 1)
+pub once_in : (h : List Item) → InOrder h → (n : ℕ) → (marks n h ≤ 1) × (IsIn (Wrote (entries.Gone n)) h → marks n h ≡ 1)
 once_in h q n = counted (fate n h) (marks n h) (IsGone n h) (q.each_way n) (tally n h)
 
 pub marks_once : (tables : Tables) (legal : Legal) → MarksOnce tables legal

@@ -1,5 +1,5 @@
 -- What each task asks of a world, and what it leaves.
-use Rattle.std.proofs.Common.{ℕ, ◌≡◌, ◌<◌, List, [], ◌∷◌, ◌⊎◌, inl, inr, Some, sym, ap, subst, ◌∙◌, refl}
+use Rattle.std.proofs.Common.{ℕ, ◌≡◌, ◌<◌, List, [], ◌∷◌, ◌⊎◌, inl, inr, Some, sym, ap, subst, ◌∙◌, refl, arith}
 use Rattle.cdi_store.specs.declared.instance.Owner.{Owner}
 use Rattle.cdi_store.specs.declared.instance.Owner.TheVariants as owners
 use Rattle.cdi_store.specs.declared.instance.Phase.TheVariants as phases
@@ -7,6 +7,7 @@ use Rattle.cdi_contexts.specs.Contexts.{context_at}
 use Rattle.cdi_store.specs.declared.references.Reference.{Reference}
 use Rattle.cdi_store.specs.declared.references.Reference.TheVariants.{Direct}
 use Rattle.std.specs.Prelude.{map}
+use Rattle.cdi_base.specs.Maps.{at}
 use Rattle.cdi_base.specs.declared.place.Place.{Place}
 use Rattle.cdi_base.specs.declared.place.Place.TheVariants as places
 use Rattle.cdi_base.specs.declared.place.InterceptorMethod.{InterceptorMethod}
@@ -181,9 +182,17 @@ IsOwned owner m w = (m < w.next) × ((c : Core) → core_at m w.instances ≡ So
 abbrev pub RefersTo : Owner → Reference → World → Type 0
 RefersTo owner r w = (m : ℕ) → r ≡ Direct m → IsOwned owner m w
 
+-- what a body's locals refer to directly is its own instance's
+abbrev pub OwnLocals : Body → World → Type 0
+OwnLocals r w = (k m : ℕ) → at r.locals k ≡ Some (Direct m) → IsOwned (owners.Instance r.instance) m w
+
+-- what is left of the chain for a body, and what it has looked up
+abbrev pub IsLeft : Tables → Body → World → Type 0
+IsLeft tables r w = Within tables r.rest w × OwnLocals r w
+
 -- a body is under way
 abbrev pub IsSet : Tables → Body → World → Type 0
-IsSet tables r w = Anchored w r.instance × Within tables r.rest w
+IsSet tables r w = Anchored w r.instance × IsLeft tables r w
 
 abbrev pub Ok : Tables → Asked
 Ok tables (Running n place) w h = MayRun tables n place w h × (IsKnown tables n place w h × IsThere n w)
@@ -195,7 +204,7 @@ Ok tables (Changing _) w h = Unit {0}
 abbrev pub Pre : Tables → Task → World → List Item → Type 0
 Pre tables (Task.Create b owner) w h = CanOwn w b owner × IsSuited tables b owner
 Pre tables (Task.Intercept i n) w h = Anchored w n
-Pre tables (Task.Body r) w h = (MayRun tables r.instance r.place w h × IsKnown tables r.instance r.place w h) × Within tables r.rest w
+Pre tables (Task.Body r) w h = (MayRun tables r.instance r.place w h × IsKnown tables r.instance r.place w h) × IsLeft tables r w
 Pre tables (Task.Rest chain) w h = CanStart tables chain w h
 Pre tables (Task.Acts r) w h = IsSet tables r w
 Pre tables (Task.Destroy n) w h = IsIdle w n
@@ -339,8 +348,14 @@ within_first tables i chain w h s = farewell_map tables (StartsSo (i ∷ chain) 
   | inr z ↦ end_behind i chain (behind_first c.pre_destroy.chain) z.0
 ]) s
 
+pub owned_then : (owner : Owner) (m : ℕ) (w v : World) → Rel w v → IsOwned owner m w → IsOwned owner m v
+owned_then owner m w v r o = ((let l = r.next in let k = o.0 in omega arith), λ c e. o.1 c (r.old m c o.0 e))
+
+pub locals_then : (r : Body) (w v : World) → Rel w v → OwnLocals r w → OwnLocals r v
+locals_then r w v q f k m e = owned_then (owners.Instance r.instance) m w v q (f k m e)
+
 pub set_then : (tables : Tables) (r : Body) (w v : World) → Rel w v → IsSet tables r w → IsSet tables r v
-set_then tables r w v q s = (anchored_then w v r.instance q s.0, farewell_then tables (LeftSo r.rest) w v q s.1)
+set_then tables r w v q s = (anchored_then w v r.instance q s.0, (farewell_then tables (LeftSo r.rest) w v q s.1.0, locals_then r w v q s.1.1))
 
 -- no destruction's chain is begun where the target stays
 pub none_start : (tables : Tables) (chain : List ℕ) (u w : World) (h : List Item) (n : ℕ) (ts : List ℕ) → Rel u w → targets u.invocations ≡ n ∷ ts → IsUsable n u → CanStart tables chain w h

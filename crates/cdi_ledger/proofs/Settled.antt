@@ -79,7 +79,7 @@ not_halted true r o e = absurd (cc)
 not_halted false r o e = refl
 
 module _ (tables : Tables) (legal : Legal) where
-  steps : (t : _) (w : World) (h : List Item) → Inv w → Pre tables t w h → fine.Doing tables (Rattle.cdi_machine.specs.Machine.machine t) w h (Post t w h)
+  pub steps : (t : _) (w : World) (h : List Item) → Inv w → Pre tables t w h → fine.Doing tables (Rattle.cdi_machine.specs.Machine.machine t) w h (Post t w h)
   steps t w h g q = task_does tables t w h g q
 
   -- what a command leaves that isn't cut

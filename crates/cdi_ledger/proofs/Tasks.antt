@@ -22,7 +22,7 @@ use Rattle.cdi_ownership.proofs.Lists.{IsAmong, HasTop, TopEmpty}
 use Rattle.cdi_ownership.proofs.Holdings.{IsFree, AllHeld}
 use Rattle.cdi_ownership.proofs.Cores.{Core, core_of, core_at, deps_at, core_same, deps_same}
 use Rattle.cdi_ownership.proofs.Homes.{Inv, Rel, Grown, HeldIn, OnStack, Busy, IsFixed, targets, rel_self, rel_then, was_busy}
-use Rattle.cdi_ledger.proofs.Owed.{Ok, MayRun, IsKnown, Within, LeftSo, farewell_same, Pre, Post, IsTop, IsGiven, IsIdle}
+use Rattle.cdi_ledger.proofs.Owed.{Ok, MayRun, IsKnown, IsLeft, LeftSo, farewell_same, Pre, Post, IsTop, IsGiven, IsIdle}
 use Rattle.cdi_ledger.proofs.Judge.{bind}
 use Rattle.cdi_ledger.proofs.Past.{past_begun}
 use Rattle.cdi_ledger.proofs.Fine as fine
@@ -95,7 +95,7 @@ module _ (t : Tables) where
 
   -- ---- bodies
 
-  pub body_does : (r : Running) (w : World) (h : List Item) → Inv w → (MayRun t r.instance r.place w h × IsKnown t r.instance r.place w h) × Within t r.rest w → Does (run_body r) w h (fine.Left w Any)
+  pub body_does : (r : Running) (w : World) (h : List Item) → Inv w → (MayRun t r.instance r.place w h × IsKnown t r.instance r.place w h) × IsLeft t r w → Does (run_body r) w h (fine.Left w Any)
   body_does r w h g ok = by (nat_lt (length w.bodies) w.depth)
     where
       n : ℕ
@@ -110,7 +110,7 @@ module _ (t : Tables) where
           let u : World = after_change (Change.Start r.instance) w1 in
           let l : r.instance < w.next = live_below w g r.instance o e in
           let gu : Inv u = stacked_inv t w1 u (record { next = refl; temporaries = refl; core = λ k. refl; deps = λ k. refl; contexts = λ c. refl; stack = λ b z. stack l b z }) g1 in
-          (g, ((ok.0.0, (ok.0.1, (core_of o, ap (option_map core_of) e))), (gu, ((core_of o, ap (option_map core_of) e, inr (inr (r.instance, inl (inl refl), Chain.here))), farewell_same t (LeftSo r.rest) w.invocations w (after_change (Change.Start r.instance) (with_entry (entries.Run r.instance r.place) w)) refl ok.1), after)))
+          (g, ((ok.0.0, (ok.0.1, (core_of o, ap (option_map core_of) e))), (gu, ((core_of o, ap (option_map core_of) e, inr (inr (r.instance, inl (inl refl), Chain.here))), (farewell_same t (LeftSo r.rest) w.invocations w (after_change (Change.Start r.instance) (with_entry (entries.Run r.instance r.place) w)) refl ok.1.0, ok.1.1)), after)))
         where
           stack : r.instance < w.next → (b : ℕ) → OnStack (after_change (Change.Start r.instance) (with_entry (entries.Run r.instance r.place) w)) b → b < w.next
           stack l b (inl (inl z)) = subst (λ y. y < w.next) z l

@@ -1,5 +1,5 @@
 -- The bodies of pre-destroy chains and callbacks: that they run in the destruction of their instance alone.
-use Rattle.std.specs.Prelude.{ℕ, ◌≡◌, ◌⊎◌, List, [], ◌∷◌, map, Some, None}
+use Rattle.std.specs.Prelude.{ℕ, ◌+◌, ◌≡◌, ◌≤◌, ◌⊎◌, List, [], ◌∷◌, map, Some, None}
 use Rattle.cdi_base.specs.declared.act.Act.TheVariants as acts
 use Rattle.cdi_base.specs.declared.entry.Entry.TheVariants as entries
 use Rattle.cdi_base.specs.declared.place.Place.{Place}
@@ -165,3 +165,27 @@ BeginsOnlyAtMarkIfShort tables legal =
     → refusal tables s c ≡ None
     → (r : Runs tables legal (Unit {0}) (task c) (at_begin s.world) o v)
     → Each (IsBegunOnly tables) (items_of h r)
+
+-- ---- counted
+
+-- so often it holds of an item and those before it
+pub data Holds (P : Item → List Item → Type 0) : List Item → ℕ → Type 0 where
+  never : Holds P [] 0
+  once_more : {x : Item} {h : List Item} {k : ℕ} → P x h → Holds P h k → Holds P (x ∷ h) (k + 1)
+  passes : {x : Item} {h : List Item} {k : ℕ} → (P x h → ⊥) → Holds P h k → Holds P (x ∷ h) k
+
+-- the first body of the pre-destroy chain and callbacks of n, an instance of the class, starts
+abbrev pub StartsFarewell : Tables → ℕ → Managed → Item → List Item → Type 0
+StartsFarewell tables n c (Wrote (entries.Run m place)) h =
+    IsOfClass tables h n c
+    × IsFirstOf tables h n c.pre_destroy.chain c.pre_destroy.callbacks m place
+StartsFarewell tables n c _ h = ⊥
+
+-- If it is an interceptor's, it starts at most once.
+abbrev pub StartsAtMostOnce : Tables → Legal → Type 0
+StartsAtMostOnce tables legal =
+    PlacesOfBodiesAreApart tables → FirstsStandOnce tables
+    → (s : State) (h : List Item) → Story tables legal s h
+    → (n k i : ℕ) (c : Managed) (chain : List ℕ) → c.pre_destroy.chain ≡ i ∷ chain
+    → Holds (StartsFarewell tables n c) h k
+    → k ≤ 1

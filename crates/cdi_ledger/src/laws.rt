@@ -2,7 +2,8 @@
 ghost use Rattle.cdi_machine.specs.Tables.{Tables};
 ghost use Rattle.cdi_ledger.specs.Ledger.{KeepsOrder, KeepsOrderIfShort};
 ghost use Rattle.cdi_ledger.specs.Ends.{EndsNested, EndsNestedIfShort, LeavesTidy, LeavesNothing, OrdersAll, MarksOnce, MarksOnceIfShort, OwnersAreSmaller, OneInAContext, OneOfTheApplication, RefersOwn, BodiesAreFarewells, BodiesAreFarewellsIfShort, OneInAContextIfShort};
-ghost use Rattle.cdi_ledger.specs.Callbacks.{FarewellsInDestruction, FarewellsInDestructionIfShort, BeginsOnlyAtMark, BeginsOnlyAtMarkIfShort};
+ghost use Rattle.cdi_ledger.specs.Callbacks.{FarewellsInDestruction, FarewellsInDestructionIfShort, BeginsOnlyAtMark, BeginsOnlyAtMarkIfShort, StartsAtMostOnce};
+ghost use Rattle.cdi_ledger.specs.Locals.{LocalsAreOwn};
 ghost use Rattle.cdi_ledger.specs.Stories.{AddsItsTrace};
 
 use cdi_machine::Driver;
@@ -64,10 +65,12 @@ pub fn law_one_instance<D: Driver>(driver: &D)
 
 /// At the end of each command, cut or not, an injected field that refers to a live instance by itself, and not through a
 /// client proxy, refers to a dependent of its own instance: no other instance holds a dependent (Jakarta CDI 4.0, *Dependent
-/// objects*).
-#[tactic(auto, using(crate::proofs::Referred::refers_own))]
+/// objects*). And whenever a body gives its next act, each of its locals that refers to a live instance by itself refers to a
+/// dependent of the body's own instance (Jakarta CDI 4.0, *Programmatic lookup*).
+#[tactic(auto, using(crate::proofs::Referred::refers_own, crate::proofs::Locals::locals_are_own))]
 pub fn law_references<D: Driver>(driver: &D)
     ensures own { (tables : Tables) → RefersOwn tables (D.legal driver.now) }
+    ensures locals { (tables : Tables) → LocalsAreOwn tables (D.legal driver.now) }
 {
     let _driver = driver;
 }
@@ -99,12 +102,14 @@ pub fn law_callbacks<D: Driver>(driver: &D)
 
 /// The first body of a pre-destroy chain and its callbacks starts nowhere but right behind the mark of the destruction, if
 /// also the first interceptor stands in the chain once, and the first callback's place is no further one's. Only where no
-/// interceptor stands before the callbacks may a body that proceeds run them again. So it is also if memory runs out.
-#[tactic(auto, using(crate::proofs::Firsts::begins_only_at_mark, crate::proofs::Firsts::begins_only_if_short))]
+/// interceptor stands before the callbacks may a body that proceeds run them again. So it is also if memory runs out. So an
+/// interceptor's body that is the first starts at most once.
+#[tactic(auto, using(crate::proofs::Firsts::begins_only_at_mark, crate::proofs::Firsts::begins_only_if_short, crate::proofs::Counts::starts_at_most_once))]
 pub fn law_firsts<D: Driver>(driver: &D)
     ensures with_memory { (tables : Tables) → BeginsOnlyAtMark tables (D.legal driver.now) }
     ensures short_of_memory { (tables : Tables) →
         BeginsOnlyAtMarkIfShort tables (D.legal driver.now) }
+    ensures at_most_once { (tables : Tables) → StartsAtMostOnce tables (D.legal driver.now) }
 {
     let _driver = driver;
 }

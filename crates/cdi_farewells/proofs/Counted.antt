@@ -1,0 +1,98 @@
+-- The first body of a destruction starts at least as often as its mark stands with something behind it.
+use Rattle.std.proofs.Common.{ℕ, ◌+◌, ◌≡◌, ◌≤◌, ◌⊎◌, List, [], ◌∷◌, inl, inr, Bool, true, false, refl, sym, subst, arith}
+use Rattle.std.specs.Prelude.{nat_eq}
+use Rattle.cdi_base.specs.declared.entry.Entry.TheVariants as entries
+use Rattle.cdi_base.specs.declared.place.Place.TheVariants as places
+use Rattle.cdi_base.specs.declared.place.InterceptorMethod.TheVariants as roles
+use Rattle.cdi_store.specs.declared.instance.Component.TheVariants as components
+use Rattle.cdi_store.specs.declared.instance.Owner.{Owner}
+use Rattle.cdi_store.proofs.Numbers.{equal_or_not}
+use Rattle.cdi_machine.specs.Tables.{Tables, Managed}
+use Rattle.cdi_machine.specs.Runs.{Legal}
+use Rattle.cdi_ownership.specs.Whose.{IsIn}
+use Rattle.cdi_ledger.specs.Ledger.{Item, Wrote, Between, Born, InOrder}
+use Rattle.cdi_ledger.specs.Ends.{Each, IsOfClass, marks, one_more_if}
+use Rattle.cdi_ledger.specs.Callbacks.{IsMark, IsFirstOf, Holds, StartsFarewell}
+use Rattle.cdi_ledger.proofs.Stages.{eq_same}
+use Rattle.cdi_ledger.proofs.Marks.{marks_once, once_in}
+use Rattle.cdi_ledger.proofs.Counts.{starts_at_most_once}
+use Rattle.cdi_ledger.proofs.Ledgered.{in_order, shorter}
+use Rattle.cdi_ledger.proofs.Settled.{sane_story}
+use Rattle.cdi_ledger.proofs.Births.{known_story}
+use Rattle.cdi_farewells.specs.Beginnings.{IsFirstStart, IsRightBehindMark, StartsOnce}
+use Rattle.cdi_farewells.proofs.Beginning.{begins_at_mark}
+
+is_mark : (n : ℕ) (h : List Item) → IsMark n h ⊎ (IsMark n h → ⊥)
+is_mark n [] = inr (λ x. x)
+is_mark n (Between m ∷ h) = elim (equal_or_not m n) [ inl s ↦ inl s.1 | inr s ↦ inr s.1 ]
+is_mark n (Wrote e ∷ h) = inr (λ x. x)
+is_mark n (Born m component owner ∷ h) = inr (λ x. x)
+
+module _ (tables : Tables) (n : ℕ) (c : Managed) (i : ℕ) (chain : List ℕ) (first : c.pre_destroy.chain ≡ i ∷ chain) (whole : List Item) (is : IsOfClass tables whole n c)
+    (once : (k : ℕ) (a b : _) (o p : _) → IsIn (Born k a o) whole → IsIn (Born k b p) whole → (a ≡ b) × (o ≡ p)) where
+  abbrev Least : List Item → ℕ → Type 0
+  Least h k = (IsMark n h → marks n h ≤ k + 1) × ((IsMark n h → ⊥) → marks n h ≤ k)
+
+  -- what stands behind the mark starts it
+  starts : (x : Item) (m : ℕ) (h : List Item) → m ≡ n → ((y : Item) → IsIn y h → IsIn y whole) → IsRightBehindMark tables x (Between m ∷ h) → StartsFarewell tables n c x (Between m ∷ h)
+  starts x m h e inside r =
+      let b = r.0 in
+      let s = once n b.0 (components.Bean is.index) b.1 is.owner (subst (λ z. IsIn (Born z b.0 b.1) whole) e (inside (Born m b.0 b.1) b.2)) is.born in
+      let here : IsIn (Born n (components.Bean is.index) b.1) h = subst (λ z. IsIn (Born n z b.1) h) s.0 (subst (λ z. IsIn (Born z b.0 b.1) h) e b.2) in
+      by b.1 here (subst (λ z. IsFirstStart tables h m z c.pre_destroy.callbacks x) first (r.1 c (record { index = is.index; owner = b.1; born = subst (λ z. IsIn (Born z (components.Bean is.index) b.1) h) (sym e) here; bean = is.bean; known = is.known; is = is.is })))
+    where
+      by : (o : Owner) → IsIn (Born n (components.Bean is.index) o) h → IsFirstStart tables h m (i ∷ chain) c.pre_destroy.callbacks x → StartsFarewell tables n c x (Between m ∷ h)
+      by o here f =
+          subst (λ z. StartsFarewell tables n c z (Between m ∷ h)) (sym f.4) (
+            record { index = is.index; owner = o; born = inr here; bean = is.bean; known = is.known; is = is.is },
+            subst (λ z. IsFirstOf tables (Between m ∷ h) n z c.pre_destroy.callbacks f.0 (places.Interceptor (f.1).name roles.PreDestroy)) (sym first) (f.1, inr (subst (λ z. IsIn (Born f.0 (components.Interceptor i) (Rattle.cdi_store.specs.declared.instance.Owner.TheVariants.Instance z)) h) e f.2), f.3, refl),
+          )
+
+  one : (h : List Item) (k : ℕ) → Least h k → marks n h ≤ k + 1
+  one h k l = elim (is_mark n h) [ inl m ↦ l.0 m | inr m ↦ let a = l.1 m in omega arith ]
+
+  marked : (m k : ℕ) (h : List Item) → marks n h ≤ k → Least (Between m ∷ h) k
+  marked m k h l = ((λ e. same (nat_eq m n)), other)
+    where
+      same : (b : Bool) → one_more_if b (marks n h) ≤ k + 1
+      same true = omega arith
+      same false = omega arith
+
+      other : (m ≡ n → ⊥) → marks n (Between m ∷ h) ≤ k
+      other d = elim (equal_or_not m n) [ inl s ↦ absurd (d s.1) | inr s ↦ subst (λ z. one_more_if z (marks n h) ≤ k) (sym s.0) l ]
+
+  none_behind : (x : Item) (h : List Item) → ((y : Item) → IsIn y h → IsIn y whole) → IsRightBehindMark tables x h → (StartsFarewell tables n c x h → ⊥) → IsMark n h → ⊥
+  none_behind x [] inside r d m = m
+  none_behind x (Between j ∷ h) inside r d m = d (starts x j h m (λ y z. inside y (inr z)) r)
+  none_behind x (Wrote e ∷ h) inside r d m = m
+  none_behind x (Born j component owner ∷ h) inside r d m = m
+
+  least : (h : List Item) (k : ℕ) → Holds (StartsFarewell tables n c) h k → Each (IsRightBehindMark tables) h → ((y : Item) → IsIn y h → IsIn y whole) → Least h k
+  least [] k Holds.never e inside = ((λ m. absurd m), λ d. omega arith)
+  least (Wrote x ∷ h) _ (Holds.once_more {k = k} p q) e inside = ((λ m. absurd m), λ d. one h k (least h k q e.1 (λ y z. inside y (inr z))))
+  least (Between m ∷ h) _ (Holds.once_more p q) e inside = absurd p
+  least (Born m component owner ∷ h) _ (Holds.once_more p q) e inside = absurd p
+  least (Between m ∷ h) k (Holds.passes p q) e inside = marked m k h ((least h k q e.1 (λ y z. inside y (inr z))).1 (none_behind (Between m) h (λ y z. inside y (inr z)) e.0 p))
+  least (Wrote x ∷ h) k (Holds.passes p q) e inside = ((λ m. absurd m), λ d. (least h k q e.1 (λ y z. inside y (inr z))).1 (none_behind (Wrote x) h (λ y z. inside y (inr z)) e.0 p))
+  least (Born m component owner ∷ h) k (Holds.passes p q) e inside = ((λ m. absurd m), λ d. (least h k q e.1 (λ y z. inside y (inr z))).1 (none_behind (Born m component owner) h (λ y z. inside y (inr z)) e.0 p))
+
+-- behind a `gone` there is no mark
+not_last : (n : ℕ) (h : List Item) → InOrder h → IsIn (Wrote (entries.Gone n)) h → IsMark n h → ⊥
+not_last n [] o g m = m
+not_last n (Wrote e ∷ h) o g m = m
+not_last n (Born j component owner ∷ h) o g m = m
+not_last n (Between j ∷ h) o g m =
+    let a = (once_in (Between j ∷ h) o n).0 in
+    let b = (once_in h (shorter (Between j) h o) n).1 (elim g [ inl q ↦ cc | inr q ↦ q ]) in
+    two (marks n h) b (subst (λ z. one_more_if z (marks n h) ≤ 1) (subst (λ z. nat_eq z n ≡ true) (sym m) (eq_same n)) a)
+  where
+    two : (k : ℕ) → k ≡ 1 → k + 1 ≤ 1 → ⊥
+    two k e l = omega arith
+
+pub starts_once : (tables : Tables) (legal : Legal) → StartsOnce tables legal
+starts_once tables legal fits apart once s h l n k i c chain is first g q =
+    let known = known_story tables legal l in
+    let a = (least tables n c i chain first h is known.once h k q (begins_at_mark tables legal fits s h l) (λ y z. z)).1 (not_last n h (in_order s.world h (λ j. sane_story tables legal j l)) g) in
+    let b = (marks_once tables legal s h l n).1 g in
+    let d = starts_at_most_once tables legal apart once s h l n k i c chain first q in
+    omega arith
