@@ -36,7 +36,9 @@ module _ {IsBody Other : ℕ → Type 0} {small large : Legal} (f : (body : ℕ)
 -- which candidate the chooser picks makes no difference
 pub chosen_knows : {X : Type 0} {F : X → Type 0} {g : _} {Y : Type 0} {G : Y → Type 0} {h : _} (entries : List (Entry X F g)) (chooser : Chooser Y G h) (t : machine.Tables)
     → KnowsMethods (λ body. body < length entries) (legal_of entries) t → KnowsMethods (λ body. body < length entries) (chosen_by entries chooser) t
-chosen_knows entries chooser t k = still_knows (λ body known. known) (record { act = λ body count fields view a given. given; pick = λ count written i picked. tt }) t k
+chosen_knows entries chooser t k =
+    let more : IsWithin (chosen_by entries chooser) (legal_of entries) = record { act = λ body count fields view a given. given; pick = λ count written i picked. tt } in
+    still_knows {IsBody = λ body. body < length entries} {Other = λ body. body < length entries} {small = chosen_by entries chooser} {large = legal_of entries} (λ body known. known) more t k
 
 -- the body of a method that is found is known
 pub known_method : {X : Type 0} (IsBody : ℕ → Type 0) (legal : Legal) (t : machine.Tables) (as_method : X → machine.Method) (bean name : ℕ) (found : Option X)
