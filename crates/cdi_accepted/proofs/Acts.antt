@@ -16,7 +16,7 @@ use Rattle.cdi_deployment.specs.declared.deployment.Class.{Class}
 use Rattle.cdi_run_tables.specs.Machine.{has_none}
 use Rattle.cdi_run_tables.specs.Served.{is_field, is_served_shape}
 use Rattle.cdi_shape_check.specs.Application.{Application}
-use Rattle.cdi_shape_check.specs.BodyOutsideShape.{lacks_call, lacks_cell, lacks_field, lacks_method, names_missing, names_unknown}
+use Rattle.cdi_shape_check.specs.BodyOutsideShape.{lacks_call, lacks_cell, lacks_field, lacks_local, lacks_method, names_missing, names_unknown}
 use Rattle.cdi_shape_check.specs.OwnParts.{declares_method, has_field, parts_of_line}
 use Rattle.cdi_shape_check.specs.References.{is_call_missing, point_at}
 use Rattle.cdi_shape_check.specs.WrittenNames.{is_event, is_exception, is_lookup}
@@ -34,12 +34,14 @@ pub record IsPlain (app : Application) (front : List Class) (s : Shape) : Type 0
   pub cells : has_none s.cells ≡ true
   pub fires : has_none s.fires ≡ true
   pub lookups : has_none s.lookups ≡ true
+  pub destroys : has_none s.destroys ≡ true
   pub chain : s.chain ≡ false
 
 pub plain : (app : Application) (front : List Class) (s : Shape) → names_missing app (parts_of_line front) [] s ≡ false → is_served_shape s ≡ true → IsPlain app front s
 plain app front s inside served =
     let parts = parts_of_line front in
-    let one = neither (lacks_field parts s || lacks_method parts s || lacks_call app parts [] s || lacks_cell app parts [] s) (names_unknown app.deployment s) inside in
+    let all = neither (lacks_field parts s || lacks_method parts s || lacks_call app parts [] s || lacks_cell app parts [] s || names_unknown app.deployment s) (lacks_local s) inside in
+    let one = neither (lacks_field parts s || lacks_method parts s || lacks_call app parts [] s || lacks_cell app parts [] s) (names_unknown app.deployment s) all.0 in
     let two = neither (lacks_field parts s || lacks_method parts s || lacks_call app parts [] s) (lacks_cell app parts [] s) one.0 in
     let three = neither (lacks_field parts s || lacks_method parts s) (lacks_call app parts [] s) two.0 in
     let four = neither (lacks_field parts s) (lacks_method parts s) three.0 in
@@ -47,8 +49,9 @@ plain app front s inside served =
     let lookups = list_any (λ l. not (is_lookup app.deployment l)) s.lookups in
     let throws = neither (fires || lookups) (list_any (λ x. not (is_exception app.deployment x)) s.throws) one.1 in
     let calls = list_all (λ (call : MethodCall). is_field call.via) s.calls in
-    let first = and_parts (calls && has_none s.cells && has_none s.fires && has_none s.lookups) (not s.chain) served in
-    let second = and_parts (calls && has_none s.cells && has_none s.fires) (has_none s.lookups) first.0 in
+    let first = and_parts (calls && has_none s.cells && has_none s.fires && has_none s.lookups && has_none s.destroys) (not s.chain) served in
+    let behind = and_parts (calls && has_none s.cells && has_none s.fires && has_none s.lookups) (has_none s.destroys) first.0 in
+    let second = and_parts (calls && has_none s.cells && has_none s.fires) (has_none s.lookups) behind.0 in
     let third = and_parts (calls && has_none s.cells) (has_none s.fires) second.0 in
     let fourth = and_parts calls (has_none s.cells) third.0 in
     record {
@@ -60,6 +63,7 @@ plain app front s inside served =
       cells = fourth.1;
       fires = third.1;
       lookups = second.1;
+      destroys = behind.1;
       chain = not-true s.chain first.1;
     }
 
@@ -181,4 +185,4 @@ module _ (app : Application) (front : List Class) (s : Shape) (p : IsPlain app f
   needs view (acts.Find lookup) h = none_below s.lookups lookup p.lookups h
   needs view (acts.Keep key v) h = true≢false (sym h ∙ p.chain)
   needs view (acts.Peek key) h = true≢false (sym h ∙ p.chain)
-  needs view (acts.Destroy local) h = none_below s.lookups local p.lookups h
+  needs view (acts.Destroy local) h = none_in _ s.destroys p.destroys h

@@ -1,6 +1,6 @@
 -- The tables of an accepted deployment that is served fit its bodies.
 use Rattle.std.proofs.Common.{ℕ, ◌≡◌, ◌∙◌, ◌||◌, ◌&&◌, inl, inr, Bool, true, false, not, cond, List, [], ◌∷◌, ◌++◌, length, filter, map, Option, Some, None, refl, sym, ap, subst}
-use Rattle.std.specs.Prelude.{option_map, MatchOption, IfSome, slice_get}
+use Rattle.std.specs.Prelude.{option_map, MatchOption, slice_get}
 use Rattle.std.proofs.lemmas.Bool.{and_parts, true≢false}
 use Rattle.std.proofs.lemmas.List.Folds.{list_any-append}
 use Rattle.std.proofs.lemmas.Option.{same_Some}
@@ -13,7 +13,7 @@ use Rattle.cdi_base.specs.declared.act.Via.TheVariants as vias
 use Rattle.cdi_base.specs.declared.scope.Scope.{Scope}
 use Rattle.cdi_base.specs.declared.scope.Scope.TheVariants as scopes
 use Rattle.cdi_beans.specs.declared.bean.Bean.{Bean}
-use Rattle.cdi_bodies.specs.Gives.{Promises, gives, shape_at, LieInShape}
+use Rattle.cdi_bodies.specs.Gives.{Promises, gives, shape_at, shape_or_none, LieInShape}
 use Rattle.cdi_bodies.specs.Shape.{in_shape}
 use Rattle.cdi_bodies.specs.declared.entry.Entry.{Entry}
 use Rattle.cdi_bodies.specs.declared.shape.Shape.{Shape}
@@ -88,7 +88,7 @@ record Lies {X : Type 0} {F : X → Type 0} {g : _} (entries : List (Entry X F g
 lie_at : {X : Type 0} {F : X → Type 0} {g : _} (entries : List (Entry X F g)) → LieInShape entries → (id : ℕ) (fields : Fields) (view : View) (a : Act) → gives entries id fields view a → Lies entries id view a
 lie_at {X} {F} {g} entries lies id fields view a h = by (slice_get entries id) refl (lies id fields view a h) h
   where
-    by : (c : Option (Entry X F g)) → slice_get entries id ≡ c → IfSome (option_map (λ e. e.shape) c) (λ s. in_shape s view a ≡ true) → MatchOption c ⊥ (λ e. Promises e fields view a) → Lies entries id view a
+    by : (c : Option (Entry X F g)) → slice_get entries id ≡ c → in_shape (shape_or_none (option_map (λ e. e.shape) c)) view a ≡ true → MatchOption c ⊥ (λ e. Promises e fields view a) → Lies entries id view a
     by None is l p = absurd p
     by (Some e) is l p = record { shape = e.shape; has = ap (option_map (λ k. k.shape)) is; lies = l }
 

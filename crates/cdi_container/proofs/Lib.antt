@@ -4,3 +4,4 @@ pub mod Replying
 pub mod Missing
 pub mod Thrown
 pub mod History
+pub mod OnItsWay

@@ -7,3 +7,4 @@ pub mod Replies
 pub mod History
 pub mod Missing
 pub mod Thrown
+pub mod OnItsWay

@@ -2,19 +2,20 @@
 ghost use Rattle.cdi_bodies.specs.Table.{entries_of};
 ghost use Rattle.cdi_deployment.specs.declared.deployment.Deployment.{Deployment};
 ghost use Rattle.cdi_fit.specs.Fits.{Fits};
-ghost use Rattle.cdi_machine.specs.Registered.{legal_of};
+ghost use Rattle.cdi_machine.specs.Registered.{in_shapes, legal_of};
 ghost use Rattle.cdi_machine.specs.Tables.{Tables};
 ghost use Rattle.cdi_run_tables.specs.Machine.{machine_tables};
 ghost use Rattle.cdi_run_tables.specs.declared.tables.RunTables.{RunTables};
 ghost use Rattle.cdi_container.specs.Accepted.{IsAccepted};
 ghost use Rattle.cdi_container.specs.History.{KeepsOrder};
 ghost use Rattle.cdi_container.specs.Missing.{NoneMissed};
+ghost use Rattle.cdi_container.specs.OnItsWay.{AlwaysAnswers, StaysOnItsWay};
 ghost use Rattle.cdi_container.specs.Thrown.{NamesThrown};
 
 use cdi_bodies::Bodies;
 use cdi_fit::laws as fit;
 use cdi_ledger::laws as ledger;
-use cdi_machine::Driver;
+use cdi_machine::{Driver, laws as machine};
 
 /// In a container whose tables and bodies fit one another, as those of every deployment that is [accepted](crate::accept)
 /// do, no look-up fails: a command that isn't refused never comes to a point at which a bean, a method, a field, an
@@ -56,4 +57,21 @@ pub fn law_order<D: Driver>(driver: &D)
     ensures { (tables : Tables) → KeepsOrder tables (D.legal driver.now) }
 {
     ledger::law_order(driver);
+}
+
+/// Whatever state a container is in, each command has an answer, if there is memory and bodies give what lies in their
+/// shapes: the machine ends, and its rules leave no gap.
+pub fn law_always_answers(bodies: &Bodies)
+    ensures { (tables : Tables) → AlwaysAnswers tables (in_shapes (entries_of bodies.now)) }
+{
+    machine::law_ends(bodies);
+}
+
+/// What stands written of a command, also if memory ran out in it, is the front of what a run of it writes that has
+/// memory enough, and whose further acts need only lie in their bodies' shapes.
+pub fn law_on_its_way<D: Driver>(driver: &D, bodies: &Bodies)
+    ensures { (tables : Tables) → StaysOnItsWay tables
+        (D.legal driver.now) (in_shapes (entries_of bodies.now)) }
+{
+    machine::law_on_its_way(driver, bodies);
 }

@@ -56,11 +56,12 @@ abbrev pub is_field : Via → Bool
 is_field (vias.Field name) = true
 is_field via = false
 
--- calls go through injected fields, and there are no products, events, lookups and chains
+-- calls go through injected fields, and there are no products, events, lookups, destructions and chains
 abbrev pub is_served_shape : Shape → Bool
 is_served_shape s =
     list_all (λ call. is_field call.via) s.calls && has_none s.cells && has_none s.fires
     && has_none s.lookups
+    && has_none s.destroys
     && not s.chain
 
 -- of a body that isn't registered nothing is asked

@@ -122,6 +122,7 @@ fn is_served_shape(shape: &Shape) -> bool
         && has_none(&shape.cells)
         && has_none(&shape.fires)
         && has_none(&shape.lookups)
+        && has_none(&shape.destroys)
         && !shape.chain
 }
 

@@ -1,6 +1,6 @@
 -- Bodies whose shapes are served are known, and give only acts that are served.
 use Rattle.std.proofs.Common.{ℕ, suc, ◌≡◌, ◌∙◌, ◌<◌, ◌&&◌, ◌==◌, Bool, true, false, cond, nat_eq, List, [], ◌∷◌, length, Option, Some, None, refl, sym, ap, subst, arith, if◌then◌else◌}
-use Rattle.std.specs.Prelude.{option_map, option_and_then, nat_lt, not, position, slice_get, IfSome, MatchOption}
+use Rattle.std.specs.Prelude.{option_map, option_and_then, nat_lt, not, position, slice_get, MatchOption}
 use Rattle.std.specs.List.{cons_option, list_all, list_any}
 use Rattle.std.proofs.lemmas.Bool.{and_parts, ltb-true, true≢false}
 use Rattle.std.proofs.lemmas.List.Quantifiers.{position-Some}
@@ -10,7 +10,7 @@ use Rattle.cdi_base.specs.declared.act.Act.{Act}
 use Rattle.cdi_base.specs.declared.act.Act.TheVariants as acts
 use Rattle.cdi_base.specs.declared.act.Via.{Via}
 use Rattle.cdi_base.specs.declared.act.Via.TheVariants as vias
-use Rattle.cdi_bodies.specs.Gives.{Promises, gives, place_of, shape_at, LieInShape}
+use Rattle.cdi_bodies.specs.Gives.{Promises, gives, place_of, shape_at, shape_or_none, LieInShape}
 use Rattle.cdi_bodies.specs.Events.{same_qualifiers}
 use Rattle.cdi_bodies.specs.Shape.{in_shape, via_eq}
 use Rattle.cdi_bodies.specs.declared.entry.Entry.{Entry}
@@ -66,13 +66,15 @@ record IsPlain (s : Shape) : Type 0 where
   cells : has_none s.cells ≡ true
   fires : has_none s.fires ≡ true
   lookups : has_none s.lookups ≡ true
+  destroys : has_none s.destroys ≡ true
   chain : s.chain ≡ true → ⊥
 
 parts_of : (s : Shape) → is_served_shape s ≡ true → IsPlain s
 parts_of s h =
     let calls = list_all (λ (call : MethodCall). is_field call.via) s.calls in
-    let first = and_parts (calls && has_none s.cells && has_none s.fires && has_none s.lookups) (not s.chain) h in
-    let second = and_parts (calls && has_none s.cells && has_none s.fires) (has_none s.lookups) first.0 in
+    let first = and_parts (calls && has_none s.cells && has_none s.fires && has_none s.lookups && has_none s.destroys) (not s.chain) h in
+    let behind = and_parts (calls && has_none s.cells && has_none s.fires && has_none s.lookups) (has_none s.destroys) first.0 in
+    let second = and_parts (calls && has_none s.cells && has_none s.fires) (has_none s.lookups) behind.0 in
     let third = and_parts (calls && has_none s.cells) (has_none s.fires) second.0 in
     let fourth = and_parts calls (has_none s.cells) third.0 in
     record {
@@ -80,6 +82,7 @@ parts_of s h =
       cells = fourth.1;
       fires = third.1;
       lookups = second.1;
+      destroys = behind.1;
       chain = λ e. true≢false (sym first.1 ∙ ap not e);
     }
 
@@ -104,7 +107,7 @@ act_served s view a h lies = by (parts_of s h) a lies
     by p (acts.Find k) l = absurd (none_below s.lookups k p.lookups l)
     by p (acts.Keep key v) l = absurd (p.chain l)
     by p (acts.Peek key) l = absurd (p.chain l)
-    by p (acts.Destroy k) l = absurd (none_below s.lookups k p.lookups l)
+    by p (acts.Destroy k) l = absurd (none_in (λ (j : ℕ). j == k) s.destroys p.destroys l)
 
 -- ---- methods
 
@@ -156,7 +159,7 @@ module _ {X : Type 0} {F : X → Type 0} {g : _} (entries : List (Entry X F g)) 
       by None f p = p
       by (Some k) f p = cc
   shape_at_id id (Some s) e h fields view a given =
-      act_served s view a h (subst (λ o. IfSome o (λ shape. in_shape shape view a ≡ true)) e (lie id fields view a given))
+      act_served s view a h (subst (λ o. in_shape (shape_or_none o) view a ≡ true) e (lie id fields view a given))
 
   body_served : (m : BusinessMethod) (id : ℕ) → id_of t m.code.body ≡ Some id → is_served_body (shape_of entries m.code.body) ≡ true → IsServedBody (λ body. body < length entries) (legal_of entries) id
   body_served m id e h =

@@ -89,6 +89,7 @@ record Grows (old new : Shape) : Type 0 where
   cells : Extends old.cells new.cells
   fires : Extends old.fires new.fires
   lookups : Extends old.lookups new.lookups
+  destroys : Extends old.destroys new.destroys
   throws : Extends old.throws new.throws
   chain : old.chain ≡ true → new.chain ≡ true
 
@@ -106,7 +107,7 @@ in_shape-grows old new view (acts.Proceed args) g h = g.chain h
 in_shape-grows old new view (acts.Find lookup) g h = index-extends lookup old.lookups new.lookups g.lookups h
 in_shape-grows old new view (acts.Keep key value) g h = g.chain h
 in_shape-grows old new view (acts.Peek key) g h = g.chain h
-in_shape-grows old new view (acts.Destroy local) g h = index-extends local old.lookups new.lookups g.lookups h
+in_shape-grows old new view (acts.Destroy local) g h = any-extends (λ k. k == local) old.destroys new.destroys g.destroys h
 in_shape-grows old new view (acts.Give value) g h = refl
 in_shape-grows old new view (acts.Throw exception) g h =
     either-of (list_any (λ x. x == exception) old.throws) _ (list_any (λ x. x == exception) new.throws) (any-extends (λ x. x == exception) old.throws new.throws g.throws) h
@@ -114,31 +115,31 @@ in_shape-grows old new view (acts.Throw exception) g h =
 -- one thing listed more
 module _ (s : Shape) where
   nothing : Grows s s
-  nothing = record { sets = same s.sets; calls = same s.calls; owns = same s.owns; cells = same s.cells; fires = same s.fires; lookups = same s.lookups; throws = same s.throws; chain = λ h. h }
+  nothing = record { sets = same s.sets; calls = same s.calls; owns = same s.owns; cells = same s.cells; fires = same s.fires; lookups = same s.lookups; destroys = same s.destroys; throws = same s.throws; chain = λ h. h }
 
   a_set : (x : ℕ) → Grows s (record s { sets = s.sets ++ x ∷ [] })
-  a_set x = record { sets = one_more s.sets x; calls = same s.calls; owns = same s.owns; cells = same s.cells; fires = same s.fires; lookups = same s.lookups; throws = same s.throws; chain = λ h. h }
+  a_set x = record { sets = one_more s.sets x; calls = same s.calls; owns = same s.owns; cells = same s.cells; fires = same s.fires; lookups = same s.lookups; destroys = same s.destroys; throws = same s.throws; chain = λ h. h }
 
   a_call : (x : MethodCall) → Grows s (record s { calls = s.calls ++ x ∷ [] })
-  a_call x = record { sets = same s.sets; calls = one_more s.calls x; owns = same s.owns; cells = same s.cells; fires = same s.fires; lookups = same s.lookups; throws = same s.throws; chain = λ h. h }
+  a_call x = record { sets = same s.sets; calls = one_more s.calls x; owns = same s.owns; cells = same s.cells; fires = same s.fires; lookups = same s.lookups; destroys = same s.destroys; throws = same s.throws; chain = λ h. h }
 
   an_own : (x : OwnCall) → Grows s (record s { owns = s.owns ++ x ∷ [] })
-  an_own x = record { sets = same s.sets; calls = same s.calls; owns = one_more s.owns x; cells = same s.cells; fires = same s.fires; lookups = same s.lookups; throws = same s.throws; chain = λ h. h }
+  an_own x = record { sets = same s.sets; calls = same s.calls; owns = one_more s.owns x; cells = same s.cells; fires = same s.fires; lookups = same s.lookups; destroys = same s.destroys; throws = same s.throws; chain = λ h. h }
 
   a_cell : (x : Via) → Grows s (record s { cells = s.cells ++ x ∷ [] })
-  a_cell x = record { sets = same s.sets; calls = same s.calls; owns = same s.owns; cells = one_more s.cells x; fires = same s.fires; lookups = same s.lookups; throws = same s.throws; chain = λ h. h }
+  a_cell x = record { sets = same s.sets; calls = same s.calls; owns = same s.owns; cells = one_more s.cells x; fires = same s.fires; lookups = same s.lookups; destroys = same s.destroys; throws = same s.throws; chain = λ h. h }
 
   a_fire : (x : FiredEvent) → Grows s (record s { fires = s.fires ++ x ∷ [] })
-  a_fire x = record { sets = same s.sets; calls = same s.calls; owns = same s.owns; cells = same s.cells; fires = one_more s.fires x; lookups = same s.lookups; throws = same s.throws; chain = λ h. h }
+  a_fire x = record { sets = same s.sets; calls = same s.calls; owns = same s.owns; cells = same s.cells; fires = one_more s.fires x; lookups = same s.lookups; destroys = same s.destroys; throws = same s.throws; chain = λ h. h }
 
   a_lookup : (x : Lookup) → Grows s (record s { lookups = s.lookups ++ x ∷ [] })
-  a_lookup x = record { sets = same s.sets; calls = same s.calls; owns = same s.owns; cells = same s.cells; fires = same s.fires; lookups = one_more s.lookups x; throws = same s.throws; chain = λ h. h }
+  a_lookup x = record { sets = same s.sets; calls = same s.calls; owns = same s.owns; cells = same s.cells; fires = same s.fires; lookups = one_more s.lookups x; destroys = same s.destroys; throws = same s.throws; chain = λ h. h }
 
   a_throw : (x : ℕ) → Grows s (record s { throws = s.throws ++ x ∷ [] })
-  a_throw x = record { sets = same s.sets; calls = same s.calls; owns = same s.owns; cells = same s.cells; fires = same s.fires; lookups = same s.lookups; throws = one_more s.throws x; chain = λ h. h }
+  a_throw x = record { sets = same s.sets; calls = same s.calls; owns = same s.owns; cells = same s.cells; fires = same s.fires; lookups = same s.lookups; destroys = same s.destroys; throws = one_more s.throws x; chain = λ h. h }
 
   a_chain : Grows s (record s { chain = true })
-  a_chain = record { sets = same s.sets; calls = same s.calls; owns = same s.owns; cells = same s.cells; fires = same s.fires; lookups = same s.lookups; throws = same s.throws; chain = λ h. refl }
+  a_chain = record { sets = same s.sets; calls = same s.calls; owns = same s.owns; cells = same s.cells; fires = same s.fires; lookups = same s.lookups; destroys = same s.destroys; throws = same s.throws; chain = λ h. refl }
 
 -- what an action names is listed more
 with_action-grows : (shape : Shape) (a : Action) → Grows shape (with_action shape a)

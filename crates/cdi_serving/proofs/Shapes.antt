@@ -37,7 +37,7 @@ all-push p xs x h = list_all-append p xs (x ∷ []) ∙ ap (λ (b : Bool). list_
 -- one call more, through a field
 calls_more : (shape : Shape) (call : MethodCall) → is_field call.via ≡ true → is_served_shape shape ≡ true → is_served_shape (record shape { calls = shape.calls ++ call ∷ [] }) ≡ true
 calls_more shape call field h =
-    ap (λ (b : Bool). b && has_none shape.cells && has_none shape.fires && has_none shape.lookups && not shape.chain) (all-push (λ (c : MethodCall). is_field c.via) shape.calls call field) ∙ h
+    ap (λ (b : Bool). b && has_none shape.cells && has_none shape.fires && has_none shape.lookups && has_none shape.destroys && not shape.chain) (all-push (λ (c : MethodCall). is_field c.via) shape.calls call field) ∙ h
 
 action_keeps : (shape : Shape) (a : Action) → is_served_shape shape ≡ true → IsServedAction a → is_served_shape (with_action shape a) ≡ true
 action_keeps shape (actions.Set field value) h is = h

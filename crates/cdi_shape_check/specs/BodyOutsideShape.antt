@@ -1,5 +1,5 @@
 -- Shapes that name something that isn't there.
-use Rattle.std.specs.Prelude.{ℕ, Bool, false, not, ◌&&◌, ◌||◌, List, Option, Some, None, IsTrue}
+use Rattle.std.specs.Prelude.{ℕ, Bool, false, not, ◌&&◌, ◌||◌, List, length, nat_lt, Option, Some, None, IsTrue}
 use Rattle.std.specs.List.{list_any}
 use Rattle.cdi_bodies.specs.declared.shape.Shape.{Shape}
 use Rattle.cdi_body_check.specs.Sites.{Site, is_live, body_of, params_of}
@@ -37,12 +37,17 @@ names_unknown d shape =
     || list_any (λ l. not (is_lookup d l)) shape.lookups
     || list_any (λ x. not (is_exception d x)) shape.throws
 
+-- a local to destroy that no lookup gives
+abbrev pub lacks_local : Shape → Bool
+lacks_local shape = list_any (λ local. not (nat_lt local (length shape.lookups))) shape.destroys
+
 -- something that isn't there
 abbrev pub names_missing : Application → OwnParts → List Point → Shape → Bool
 names_missing app parts params shape =
     lacks_field parts shape || lacks_method parts shape || lacks_call app parts params shape
     || lacks_cell app parts params shape
     || names_unknown app.deployment shape
+    || lacks_local shape
 
 -- a body is registered, and its shape names something that isn't there
 abbrev pub is_outside : Application → OwnParts → List Point → Option Shape → Bool

@@ -67,6 +67,14 @@ fn names_unknown(application: &ApplicationTables<'_>, shape: &Shape) -> bool
         || lacks_exception(application, shape)
 }
 
+/// Whether a shape has a local to destroy that no lookup of its gives.
+fn lacks_local(shape: &Shape) -> bool
+    ensures { result ≡ spec.lacks_local shape.now }
+{
+    let count = shape.lookups.len();
+    shape.destroys.iter().any(|local| *local as usize >= count)
+}
+
 /// Whether a shape names something that isn't there.
 fn names_missing(
     application: &ApplicationTables<'_>,
@@ -82,6 +90,7 @@ fn names_missing(
         || lacks_call(application, own, params, shape)
         || lacks_cell(application, own, params, shape)
         || names_unknown(application, shape)
+        || lacks_local(shape)
 }
 
 /// Whether a body is registered whose shape names something that isn't there.

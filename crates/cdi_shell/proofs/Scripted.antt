@@ -3,14 +3,16 @@ use Rattle.std.proofs.Common.{ℕ, ◌≡◌, ◌∙◌, List, [], Bool, false, 
 use Rattle.cdi_base.specs.declared.or_memory.OrMemory.{OrMemory}
 use Rattle.cdi_base.specs.declared.or_memory.OrMemory.TheVariants as errors
 use Rattle.cdi_bodies.specs.declared.entry.Entry.{Entry}
+use Rattle.cdi_bodies.specs.declared.chooser.Chooser.{Chooser}
 use Rattle.cdi_bodies.specs.declared.shape.Shape.{Shape}
+use Rattle.cdi_bodies.specs.Picks.{picks}
 use Rattle.cdi_body_check.specs.Shapes.{shape_of}
 use Rattle.cdi_body_check.specs.Sites.{sites_of}
 use Rattle.cdi_check.specs.Problems.{AreProblemsOf}
 use Rattle.cdi_deployment.specs.declared.deployment.Deployment.{Deployment}
 use Rattle.cdi_machine.specs.Commands.{Command}
 use Rattle.cdi_machine.specs.Laws.{IsWithin}
-use Rattle.cdi_machine.specs.Registered.{legal_of}
+use Rattle.cdi_machine.specs.Registered.{chosen_by}
 use Rattle.cdi_machine.specs.Runs.{Legal}
 use Rattle.cdi_problems.specs.declared.problem.Problem.{Problem}
 use Rattle.cdi_run_tables.specs.Ids.{is_named, told_of}
@@ -77,10 +79,10 @@ module _ {X : Type 0} {F : X → Type 0} {g : _} (d : Deployment) (es : List (En
   refusable served errors.Memory told = tt
 
 module _ {X : Type 0} {F : X → Type 0} {g : _} (depth ticks : ℕ) (d : Deployment) (es : List (Entry X F g)) (ss : List NamedScript) (streams : Streams) (e : Ending) (h : AreBodiesOf es ss) where
-  pub accepted_plays : (t : RunTables) → IsAccepted d es t → Lives depth ticks t (legal_of es) streams e → PlaysScripts depth ticks d ss streams e
-  accepted_plays t a l =
+  pub accepted_plays : {Y : Type 0} {G : Y → Type 0} {k : _} (chooser : Chooser Y G k) (t : RunTables) → ((candidates count i : ℕ) → picks chooser candidates count i → i ≡ 0) → IsAccepted d es t → Lives depth ticks t (chosen_by es chooser) streams e → PlaysScripts depth ticks d ss streams e
+  accepted_plays chooser t first a l =
       PlaysScripts.runs (problems_with d es ss h [] a.are.faultless) (tables_with d es ss h t a.are)
-      (lives_wider depth ticks t (legal_of es) (legal_by ss) streams e (within es ss h) l)
+      (lives_wider depth ticks t (chosen_by es chooser) (legal_by ss) streams e (within chooser es ss first h) l)
 
   pub refused_plays : (u : OrMemory Unaccepted) → IsUnaccepted d es u → streams.unread_after ≡ streams.unread → RefusesUnaccepted u streams.held streams.held_after e → PlaysScripts depth ticks d ss streams e
   refused_plays (errors.Fault (reasons.Problems names problems)) (named, are, some) unread (RefusesOr.starves held is) = PlaysScripts.starves (record { unread = unread; held = held; is_ending = is })

@@ -12,10 +12,10 @@ ghost use Rattle.cdi_shell.specs.Laws.{DrivesOnce};
 
 use crate::ending::{Ending, after_serving};
 use cdi_base::{Act, Fields, Limits, Names, OrMemory};
-use cdi_bodies::{AddError, Bodies, Body, MAX_BODIES, View};
+use cdi_bodies::{AddError, Bodies, Body, Choice, Chooser, MAX_BODIES, View};
 use cdi_container::{Container, Unaccepted, accept, serve};
 use cdi_lines::{ServeFault, Sink, Source};
-use cdi_machine::Driver;
+use cdi_machine::{Driver, Registered};
 use cdi_prepare::{NamedScript, Prepared, prepare};
 use cdi_problems::Problem;
 use cdi_report::problem_lines::write_problems;
@@ -170,7 +170,17 @@ fn play_scripts<R: Source, W: Sink>(
         }
     }
     match accept(alloc, deployment, &bodies) {
-        Ok(tables) => Ok(live(alloc, tables, bodies, limits, input, output)),
+        Ok(tables) => {
+            let first: Choice = Box::new(
+                alloc,
+                |_count: u32, _entries: u64| -> u32
+                    ensures { result ≡ 0 }
+                { 0 },
+            )?;
+            let chooser = Chooser::new(first);
+            let driver = Registered { bodies, chooser };
+            Ok(live(alloc, tables, driver, limits, input, output))
+        }
         Err(unaccepted) => Ok(refuse_unaccepted(alloc, unaccepted, output)),
     }
 }

@@ -27,7 +27,7 @@ use Rattle.cdi_run_tables.specs.Machine.{AreIdsOf, asked_by}
 use Rattle.cdi_run_tables.specs.Planned.{IsTabled}
 use Rattle.cdi_run_tables.specs.Served.{has_texts}
 use Rattle.cdi_shape_check.specs.Application.{Application}
-use Rattle.cdi_shape_check.specs.BodyOutsideShape.{lacks_call, lacks_cell, lacks_field, lacks_method, names_missing, names_unknown}
+use Rattle.cdi_shape_check.specs.BodyOutsideShape.{lacks_call, lacks_cell, lacks_field, lacks_local, lacks_method, names_missing, names_unknown}
 use Rattle.cdi_shape_check.specs.OwnParts.{OwnParts}
 use Rattle.cdi_shape_check.specs.References.{bean_at, is_call_missing, point_at, point_of_field, point_of_lookup, refuses_call}
 use Rattle.cdi_shape_check.specs.WrittenNames.{is_event, is_exception, is_lookup}
@@ -50,7 +50,8 @@ record IsWithin (app : Application) (parts : OwnParts) (params : List Point) (s 
 
 within : (app : Application) (parts : OwnParts) (params : List Point) (s : Shape) → names_missing app parts params s ≡ false → IsWithin app parts params s
 within app parts params s inside =
-    let one = neither (lacks_field parts s || lacks_method parts s || lacks_call app parts params s || lacks_cell app parts params s) (names_unknown app.deployment s) inside in
+    let all = neither (lacks_field parts s || lacks_method parts s || lacks_call app parts params s || lacks_cell app parts params s || names_unknown app.deployment s) (lacks_local s) inside in
+    let one = neither (lacks_field parts s || lacks_method parts s || lacks_call app parts params s || lacks_cell app parts params s) (names_unknown app.deployment s) all.0 in
     let two = neither (lacks_field parts s || lacks_method parts s || lacks_call app parts params s) (lacks_cell app parts params s) one.0 in
     let three = neither (lacks_field parts s || lacks_method parts s) (lacks_call app parts params s) two.0 in
     let four = neither (lacks_field parts s) (lacks_method parts s) three.0 in

@@ -17,9 +17,10 @@ ghost use Rattle.cdi_tests_calls.specs.Plain.{plain_shape};
 use crate::counting::Counting;
 use crate::runtimes::{Asking, told_by};
 use cdi_base::{Act, Fields};
-use cdi_bodies::{Bodies, Body, View};
+use cdi_bodies::{Bodies, Body, Choice, Chooser, View};
 use cdi_container::accept;
 use cdi_deployment::Deployment;
+use cdi_machine::Registered;
 use cdi_prepare::{NamedScript, Prepared, prepare};
 use cdi_script::Script;
 use cdi_stage::{SERVED, Stage, WHOLE};
@@ -35,6 +36,7 @@ fn next_of(alloc: Global, script: &Script, fields: &Fields, view: &View) -> Resu
 }
 
 /// What is told of a deployment with its scripts.
+#[tactic(auto, using(crate::proofs::Chosen::knows_with))]
 fn report_of_scripts(
     alloc: Global,
     deployment: Deployment,
@@ -56,10 +58,18 @@ fn report_of_scripts(
         }
     }
     let accepted = accept(alloc, deployment, &bodies);
-    told_by(alloc, accepted, bodies, asking)
+    let choice: Choice = Box::new(
+        alloc,
+        |_count: u32, _entries: u64| -> u32
+            ensures { result ≡ 0 }
+        { 0 },
+    )?;
+    let chooser = Chooser::new(choice);
+    told_by(alloc, accepted, Registered { bodies, chooser }, asking)
 }
 
 /// What is told of a deployment with a body that counts so many times.
+#[tactic(auto, using(crate::proofs::Chosen::knows_with))]
 fn report_of_counting(
     alloc: Global,
     deployment: Deployment,
@@ -80,7 +90,14 @@ fn report_of_counting(
         return Err(AllocError);
     }
     let accepted = accept(alloc, deployment, &bodies);
-    told_by(alloc, accepted, bodies, asking)
+    let choice: Choice = Box::new(
+        alloc,
+        |_count: u32, _entries: u64| -> u32
+            ensures { result ≡ 0 }
+        { 0 },
+    )?;
+    let chooser = Chooser::new(choice);
+    told_by(alloc, accepted, Registered { bodies, chooser }, asking)
 }
 
 /// What is told of a deployment with its scripts, or with a body that counts so many times.

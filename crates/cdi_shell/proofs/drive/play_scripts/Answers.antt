@@ -2,6 +2,8 @@ use Rattle.std.proofs.Common.{rules, ◌≡◌, ◌<◌, ◌∙◌, ◌++◌, �
 use Rattle.std.specs.Prelude.{fold}
 use Rattle.cdi_bodies.specs.Table.{entries_of}
 use Rattle.cdi_bodies.specs.Gives.{place_of}
+use Rattle.cdi_run_tables.specs.Machine.{machine_tables}
+use Rattle.cdi_runtime.proofs.Working.{chosen_knows}
 use Rattle.cdi_script.specs.Next.{next_of}
 use Rattle.cdi_script.proofs.Boxed.{made_post}
 use Rattle.cdi_script.proofs.Following.{nil_of}
@@ -11,7 +13,7 @@ use Rattle.cdi_prepare.specs.Scripts.{added, place_under, registered}
 use Rattle.cdi_shell.specs.Drive.{Streams}
 use Rattle.cdi_prepare.proofs.Holding.{holds_add, same_length, same_place, add_known, add_new, holds_all, not_full}
 use Rattle.cdi_shell.proofs.Scripted.{accepted_plays, refusable, refused_plays}
-use Rattle.cdi_shell.proofs.drive.play_scripts.OwnLists.{own-1, at-1-1}
+use Rattle.cdi_shell.proofs.drive.play_scripts.OwnLists.{own-1, at-1-1, own-2, at-2-1}
 use Rattle.cdi_shell.proofs.drive.play_scripts.Goals as goal
 
 pub loop-named-preserved-then-is_some : goal.loop-named-preserved-then-is_some
@@ -49,8 +51,11 @@ unreachable-requires-in-Err-Full g c =
     let few : length (entries_of c.loop-named.bodies) < 4096 = omega (arith, inv.3, ap (λ (t : List NamedScript). length t) c.in-Some.ensures.steps.0, same_length (entries_of c.loop-named.bodies) inv.0 inv.1) in
     not_full _ _ (c.in-Err-Full.ensures.full.0 (search rules)) few
 
-pub returns-in-Ok-accept-clause-plays : goal.returns-in-Ok-accept-clause-plays
-returns-in-Ok-accept-clause-plays g c =
+pub live-requires-clause-knows : goal.live-requires-clause-knows
+live-requires-clause-knows g c = chosen_knows (entries_of c.loop-named.bodies) c.new-chooser.result (machine_tables c.in-Ok-accept.tables) c.in-Ok-accept.ensures.ok.knows
+
+pub returns-in_ok-new-in-Ok-accept-clause-plays : goal.returns-in_ok-new-in-Ok-accept-clause-plays
+returns-in_ok-new-in-Ok-accept-clause-plays g c =
     let inv = c.loop-named.invariant in
     let entries = entries_of c.loop-named.bodies in
     let scripts = c.args.prepared.scripts.items in
@@ -58,7 +63,9 @@ returns-in-Ok-accept-clause-plays g c =
     let streams : Streams = record { unread = g.R.Source.unread c.args.input.now; unread_after = g.R.Source.unread c.live.new.input; held = g.W.Sink.written c.args.output.now; held_after = g.W.Sink.written c.live.new.output } in
     accepted_plays c.args.limits.depth c.args.limits.ticks c.args.prepared.deployment entries (registered scripts) streams c.live.result
     (holds_all entries inv.0 c.loop-named.named-iterator.rest.items scripts inv.1 inv.2 all)
-    c.in-Ok-accept.tables c.in-Ok-accept.ensures.ok c.live.ensures.lives
+    c.new-chooser.result c.in-Ok-accept.tables
+    (λ candidates count i h. let first = rw c.new-chooser.ensures at h in made_post own-2 at-2-1 c.into_dyn_box-in_ok-new-in-Ok-accept.ensures.1 (candidates, (count, tt)) i first)
+    c.in-Ok-accept.ensures.ok c.live.ensures.lives
 
 pub returns-in-Err-clause-plays : goal.returns-in-Err-clause-plays
 returns-in-Err-clause-plays g c =
