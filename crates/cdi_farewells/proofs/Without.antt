@@ -2,7 +2,7 @@
 use Rattle.std.proofs.Common.{ℕ, ◌<◌, List, ◌∷◌}
 use Rattle.cdi_base.specs.declared.act.Act.{Act}
 use Rattle.cdi_base.specs.declared.entry.Entry.TheVariants as entries
-use Rattle.cdi_machine.specs.Tables.{Tables}
+use Rattle.cdi_machine.specs.Tables.{Tables, written_act}
 use Rattle.cdi_machine.specs.World.{World, after_change, with_entry}
 use Rattle.cdi_machine.specs.Programs.{Task, Given, Completion, Gave, Threw, Prog, ret, throw, cut, miss, see, change, tick, mark, act, choose, nested, candidates}
 use Rattle.cdi_machine.specs.Machine.{machine}
@@ -57,7 +57,7 @@ module _ (tables : Tables) (E : List Item → Type 0) (G : World → List Item �
     tells h Q (Runs.writes {e = e} {w = w} l r) m d = tells (Wrote e ∷ h) Q r m d.1
     tells h Q (Runs.is_full l) m d = d.0
     tells h Q (Runs.marks {n = n} r) m d = tells (Between n ∷ h) Q r m d.1
-    tells h Q (Runs.does a l r) m d = tells h Q r m (d.0, d.1 a)
+    tells h Q (Runs.does a l r) m d = tells h Q r m (d.0, d.1 (written_act tables a))
     tells h Q (Runs.picks i l c r) m d = tells h Q r m (d.0, d.1 i l)
     tells h Q (Runs.calls {t = t} {k = k} {w = w} {u = u} {o1 = Ends c} r1 r) m d =
         let one = tells h (Post t w h) r1 m.0 (step t w h d.1.0 d.1.1.0) in

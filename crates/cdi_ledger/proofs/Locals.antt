@@ -1,7 +1,7 @@
 -- A body's locals refer directly to dependents of its own instance alone.
 use Rattle.std.proofs.Common.{List, ◌∷◌, ap}
 use Rattle.std.specs.Prelude.{option_map}
-use Rattle.cdi_machine.specs.Tables.{Tables}
+use Rattle.cdi_machine.specs.Tables.{Tables, written_act}
 use Rattle.cdi_machine.specs.World.{World, at_begin}
 use Rattle.cdi_machine.specs.Programs.{Task, Given, Completion, Prog}
 use Rattle.cdi_machine.specs.Runs.{Legal, Outcome, Ends, Cut, Runs}
@@ -29,7 +29,7 @@ module _ (tables : Tables) (legal : Legal) where
   at_bodies h Q (Runs.writes {e = e} {w = w} l r) d = at_bodies (Wrote e ∷ h) Q r (note_of (Ok tables) e w h d.1)
   at_bodies h Q (Runs.is_full l) d = tt
   at_bodies h Q (Runs.marks {n = n} r) d = at_bodies (Between n ∷ h) Q r d
-  at_bodies h Q (Runs.does a l r) d = at_bodies h Q r (d.0, d.1 a)
+  at_bodies h Q (Runs.does a l r) d = at_bodies h Q r (d.0, d.1 (written_act tables a))
   at_bodies h Q (Runs.picks i l c r) d = at_bodies h Q r (d.0, d.1 i l)
   at_bodies h Q (Runs.calls {t = t} {k = k} {w = w} {u = u} {o1 = Ends c} r1 r) d =
       let s = steps tables legal t w h d.0 d.1 in
