@@ -1,9 +1,9 @@
 -- What a set has.
-use Rattle.std.proofs.Common.{◌≡◌, ◌∙◌, ℕ, Bool, true, false, ◌&&◌, ◌||◌, nat_eq, not, List, [], ◌∷◌, ◌++◌, refl, sym, ap, eq-eqb, Ordering}
+use Rattle.std.proofs.Common.{◌≡◌, ◌∙◌, Bool, true, false, ◌&&◌, ◌||◌, not, List, [], ◌∷◌, ◌++◌, refl, ap, eq-eqb, Ordering}
 use Rattle.std.proofs.lemmas.Cmp.{tied_itself}
 use Rattle.std.proofs.lemmas.List.Elements.{Contains-append_left}
 use Rattle.std.proofs.lemmas.List.Folds.{Any-from_list_any, list_any-from_Any}
-use Rattle.std.specs.List.{Any, Contains, list_any}
+use Rattle.std.specs.List.{Any, Contains}
 use Rattle.std.specs.Ordering.{is_eq}
 use Rattle.cdi_quals.specs.Order.{compare_values}
 use Rattle.cdi_quals.specs.OrderedSet.{IsOrderedSet}

@@ -1,11 +1,11 @@
 -- Sorting and dropping repeats gives the set of a list.
-use Rattle.std.proofs.Common.{◌≡◌, Bool, true, false, List, sym, subst, refl, Ordering, Less, Equal, Greater}
+use Rattle.std.proofs.Common.{◌≡◌, true, List, sym, subst, refl, Ordering, Less, Equal, Greater}
 use Rattle.std.proofs.lemmas.Cmp.{eq_by_cmp_equiv}
 use Rattle.std.proofs.lemmas.List.Kept.{IsStrictlySortedBy-dedup, Contains-dedup, Contains-from_dedup}
 use Rattle.std.proofs.lemmas.List.Sorted.{Contains-permutation, IsPermutation-sym}
 use Rattle.std.specs.Cmp.{IsTotalOrder}
 use Rattle.std.specs.FinMap.{IsAntisymmetric}
-use Rattle.std.specs.List.{Contains, dedup}
+use Rattle.std.specs.List.{dedup}
 use Rattle.std.specs.List.Sorted.{IsPermutation, IsSorted}
 use Rattle.std.specs.Ordering.{eq_by_cmp, is_eq}
 use Rattle.cdi_quals.specs.OrderedSet.{IsOrderedSet}

@@ -1,5 +1,5 @@
 -- The orders of values, names, members and qualifiers are total, and tell apart all that differs.
-use Rattle.std.proofs.Common.{◌≡◌, ◌∙◌, ℕ, Bool, true, false, List, [], pos, ℤ, refl, sym, ap, subst, nat_cmp, Ordering, Less, Equal, Greater}
+use Rattle.std.proofs.Common.{◌≡◌, ℕ, true, false, List, [], pos, ℤ, refl, sym, ap, subst, nat_cmp, Ordering, Less, Equal, Greater}
 use Rattle.std.proofs.lemmas.Cmp.{on_total, nat_cmp_total, int_cmp_total, lists_total}
 use Rattle.std.specs.Cmp.{IsTotalOrder, then_total, bool_cmp_total}
 use Rattle.std.specs.Cmp.Lexicographic.{on_texts, options_total, nat_list_cmp_total, slice_cmp}

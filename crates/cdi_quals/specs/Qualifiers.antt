@@ -1,6 +1,6 @@
 -- Full uses, and when one has another (Jakarta CDI 4.0, Typesafe resolution).
-use Rattle.std.specs.Prelude.{ℕ, Bool, true, false, not, ◌==◌, ◌&&◌, ◌||◌, List, [], ◌∷◌, map, Option, Some, None, if◌then◌else◌}
-use Rattle.std.specs.List.{find, list_any, list_all}
+use Rattle.std.specs.Prelude.{ℕ, Bool, true, false, not, ◌==◌, ◌&&◌, ◌||◌, List, [], ◌∷◌, map, if◌then◌else◌}
+use Rattle.std.specs.List.{list_any, list_all}
 use Rattle.std.specs.Ordering.{is_eq}
 use Rattle.cdi_base.specs.declared.uses.MemberValue.{MemberValue}
 use Rattle.cdi_base.specs.declared.uses.Use.{Use}

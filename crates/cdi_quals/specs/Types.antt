@@ -1,5 +1,5 @@
 -- The types of qualifiers and interceptor bindings.
-use Rattle.std.specs.Prelude.{ℕ, ◌≡◌, ◌==◌, Bool, not, List, [], ◌∷◌, ◌++◌, map, Option, Some, None}
+use Rattle.std.specs.Prelude.{ℕ, ◌≡◌, ◌==◌, not, List, [], ◌∷◌, ◌++◌, map, Option, Some, None}
 use Rattle.std.specs.List.{find, list_any}
 use Rattle.cdi_base.specs.BuiltIn.{number_of}
 use Rattle.cdi_base.specs.declared.built_in.BuiltIn.{BuiltIn}

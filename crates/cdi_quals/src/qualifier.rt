@@ -99,3 +99,27 @@ impl Qualifier {
         self.name == other.name && agree(self.members.as_slice(), other.members.as_slice())
     }
 }
+
+impl Clone for QualifierMember {
+    ghost is_clone = { λ m copy. copy ≡ m };
+
+    fn clone(&self) -> Result<QualifierMember, AllocError> {
+        Ok(QualifierMember {
+            name: self.name,
+            value: self.value.clone()?,
+            is_binding: self.is_binding,
+        })
+    }
+}
+
+impl Clone for Qualifier {
+    ghost is_clone = { λ q copy. copy ≡ q };
+
+    #[tactic(auto, using(cdi_base::proofs::Clones::same_items))]
+    fn clone(&self) -> Result<Qualifier, AllocError> {
+        Ok(Qualifier {
+            name: self.name,
+            members: self.members.clone()?,
+        })
+    }
+}

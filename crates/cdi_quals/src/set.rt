@@ -108,3 +108,14 @@ impl QualSet {
         of.has_all(self)
     }
 }
+
+impl Clone for QualSet {
+    ghost is_clone = { λ s copy. copy ≡ s };
+
+    #[tactic(auto, using(cdi_base::proofs::Clones::same_items))]
+    fn clone(&self) -> Result<QualSet, AllocError> {
+        Ok(QualSet {
+            qualifiers: self.qualifiers.clone()?,
+        })
+    }
+}

@@ -1,5 +1,6 @@
 //! The types of qualifiers and of interceptor bindings.
-ghost use Rattle.std.specs.Prelude.{◌≡◌, ◌==◌, ◌++◌, IfOk, OnOk, map};
+ghost use Rattle.std.specs.Prelude.{◌≡◌, ◌==◌, ◌++◌, ℕ, position, nat_eq, IfOk, OnOk, map};
+ghost use Rattle.std.specs.HashMap.{get};
 ghost use Rattle.std.specs.List.{list_any};
 ghost use Rattle.cdi_quals.specs.Order.{compare_names as order_of};
 ghost use Rattle.cdi_quals.specs.OrderedSet.{IsOrderedSet};
@@ -9,6 +10,7 @@ use crate::order::compare_names;
 use cdi_base::{BuiltIn, Name, Names, Seq};
 use cdi_deployment::{AnnotationType, Deployment};
 use std::alloc::{AllocError, Global};
+use std::collections::HashMap;
 use std::marker::Model;
 
 /// A member of a qualifier type or an interceptor binding type.
@@ -27,19 +29,25 @@ pub struct QualifierType {
     pub members: Seq<MemberType>,
 }
 
-/// The types of qualifiers, or those of interceptor bindings. Contracts see the list; of types with one name the first counts.
-#[derive(Debug, Drop)]
+/// The types of qualifiers, or those of interceptor bindings, which are found by their names in constant time. Contracts see the list;
+/// of types with one name the first counts.
+#[derive(Drop)]
 pub struct QualifierTypes {
     types: Seq<QualifierType>,
+    places: HashMap<Name, usize>,
 }
 
 impl Model for QualifierTypes {
-    ghost use Rattle.std.specs.Prelude.{List};
+    ghost use Rattle.std.specs.Prelude.{◌≡◌, ◌==◌, ℕ, List, position, nat_eq};
+    ghost use Rattle.std.specs.HashMap.{get};
     ghost use Rattle.cdi_quals.specs.declared.types.QualifierType.{QualifierType};
 
     ghost Value = { List QualifierType };
 
     ghost view = { λ t. t.types };
+
+    ghost invariant = { λ t. (name : ℕ)
+        → get nat_eq t.places name ≡ position (λ y. y.name == name) t.types };
 }
 
 /// Puts names in the order of their texts, and drops repeats.
@@ -144,7 +152,29 @@ fn add_built_in(alloc: Global, types: &mut Seq<QualifierType>) -> Result<(), All
     Ok(())
 }
 
+/// The place of the first type of each name.
+fn places_of(alloc: Global, types: &[QualifierType]) -> Result<HashMap<Name, usize>, AllocError>
+    ensures { IfOk result (λ places. (name : ℕ)
+        → get nat_eq places name ≡ position (λ y. y.name == name) types.now) }
+{
+    let mut places = HashMap::new(alloc);
+    for (place, declared) in types.iter().enumerate() {
+        if !places.contains_key(&declared.name) {
+            places.insert(declared.name, place)?;
+        }
+    }
+    Ok(places)
+}
+
 impl QualifierTypes {
+    /// These types.
+    fn new(alloc: Global, types: Seq<QualifierType>) -> Result<QualifierTypes, AllocError>
+        ensures { IfOk result (λ all. all ≡ types) }
+    {
+        let places = places_of(alloc, types.as_slice())?;
+        Ok(QualifierTypes { types, places })
+    }
+
     /// The qualifier types of a deployment: those that it declares, and the built-in ones.
     pub fn qualifiers_of(
         alloc: Global,
@@ -154,27 +184,27 @@ impl QualifierTypes {
     {
         let mut types = types_of(alloc, &deployment.names, deployment.qualifiers.as_slice())?;
         add_built_in(alloc, &mut types)?;
-        Ok(QualifierTypes { types })
+        QualifierTypes::new(alloc, types)
     }
 
     /// The interceptor binding types of a deployment.
     pub fn bindings_of(alloc: Global, deployment: &Deployment) -> Result<QualifierTypes, AllocError>
         ensures { IfOk result (spec.AreTypesOf deployment.now.names deployment.now.bindings) }
     {
-        Ok(QualifierTypes {
-            types: types_of(alloc, &deployment.names, deployment.bindings.as_slice())?,
-        })
+        let types = types_of(alloc, &deployment.names, deployment.bindings.as_slice())?;
+        QualifierTypes::new(alloc, types)
     }
 
     /// The members of the type with a name, in the order of their names' texts. A type that isn't known has none.
     pub fn members_of(&self, name: Name) -> &[MemberType]
         ensures { result.now ≡ spec.members_of self.now name }
     {
-        for declared in self.types.as_slice() {
-            if declared.name == name {
-                return declared.members.as_slice();
-            }
+        let Some(place) = self.places.get(&name).copied() else {
+            return &[];
+        };
+        match self.types.get(place) {
+            Some(declared) => declared.members.as_slice(),
+            None => &[],
         }
-        &[]
     }
 }

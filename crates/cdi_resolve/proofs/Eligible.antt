@@ -1,12 +1,11 @@
 -- What resolves to one bean is eligible.
-use Rattle.std.proofs.Common.{◌≡◌, ◌∙◌, ℕ, zero, suc, ◌+◌, ◌<◌, Bool, true, false, List, [], ◌∷◌, length, get_or, filter, cond, Option, Some, None, refl, sym, ap, subst, arith}
+use Rattle.std.proofs.Common.{◌≡◌, ◌∙◌, ℕ, zero, suc, Bool, true, false, List, [], ◌∷◌, filter, cond, Option, Some, None, refl, sym, ap, arith}
 use Rattle.std.specs.Prelude.{ℤ, Contains}
 use Rattle.cdi_beans.specs.declared.bean.Bean.{Bean}
 use Rattle.cdi_quals.specs.declared.qualifier.Qualifier.{Qualifier}
 use Rattle.cdi_resolve.specs.Filters.{fits}
-use Rattle.cdi_resolve.specs.Resolution.{sole, eligible, alternatives, without_priority, greatest_priority, with_greatest, highest, one_or_many, or_narrowed, if_nothing, among_priorities, among_alternatives, resolution, IsEligible}
-use Rattle.cdi_resolve.specs.declared.resolution.Resolution.{Resolution}
-use Rattle.cdi_resolve.specs.declared.resolution.Resolution.TheVariants.{Nothing, One, Many}
+use Rattle.cdi_resolve.specs.Resolution.{eligible, alternatives, all_have_priority, greatest_priority, with_greatest, highest, just_one, by_priority, among_alternatives, among_eligible, resolution, IsEligible}
+use Rattle.cdi_resolve.specs.declared.resolution.Resolution.TheVariants.{One, Many}
 
 -- it stands in a list, by its index
 pub record Stands (xs : List (ℕ × Bean)) (b : ℕ) : Type 0 where
@@ -34,44 +33,37 @@ module _ {X : Type 0} where
 pub of_filter : (p : ℕ × Bean → Bool) (xs : List (ℕ × Bean)) (b : ℕ) → Stands (filter p xs) b → Stands xs b
 of_filter p xs b s = record { bean = s.bean; there = (kept p xs (b, s.bean) s.there).stands }
 
-pub sole_stands : (xs : List (ℕ × Bean)) (b : ℕ) → sole xs ≡ One b → Stands xs b
-sole_stands [] b e = absurd cc
-sole_stands ((i, x) ∷ []) b e = let same : i ≡ b = cc in record { bean = x; there = (zero, omega arith, ap (λ j. (j, x)) same) }
-sole_stands (x ∷ y ∷ xs) b e = absurd cc
+first_stands : (i : ℕ) (x : Bean) (xs : List (ℕ × Bean)) (b : ℕ) → One i ≡ One b → Stands ((i, x) ∷ xs) b
+first_stands i x xs b e = let same : i ≡ b = cc in record { bean = x; there = (zero, omega arith, ap (λ j. (j, x)) same) }
+
+just_one_stands : (xs : List (ℕ × Bean)) (b : ℕ) → just_one xs ≡ One b → Stands xs b
+just_one_stands [] b e = absurd cc
+just_one_stands ((i, x) ∷ []) b e = first_stands i x [] b e
+just_one_stands (x ∷ y ∷ xs) b e = absurd cc
 
 greatest_stands : (p : Option ℤ) (xs : List (ℕ × Bean)) (b : ℕ) → Stands (with_greatest p xs) b → Stands xs b
 greatest_stands None xs b s = absurd (omega (arith, s.there.1))
 greatest_stands (Some p) xs b s = of_filter _ xs b s
 
-one : (told : Resolution) (b : ℕ) → one_or_many told ≡ One b → told ≡ One b
-one Nothing b e = absurd cc
-one (One a) b e = e
-one Many b e = absurd cc
+by_priority_stands : (xs : List (ℕ × Bean)) (b : ℕ) → by_priority xs ≡ One b → Stands xs b
+by_priority_stands xs b e = by (all_have_priority xs) e
+  where
+    by : (all : Bool) → cond all (just_one (highest xs)) Many ≡ One b → Stands xs b
+    by true h = greatest_stands (greatest_priority xs) xs b (just_one_stands (highest xs) b h)
+    by false h = absurd cc
 
-narrowed : (told other : Resolution) (b : ℕ) (P : Type 0) → or_narrowed told other ≡ One b → (told ≡ One b → P) → (other ≡ One b → P) → P
-narrowed Nothing other b P e f g = absurd cc
-narrowed (One a) other b P e f g = f e
-narrowed Many other b P e f g = g e
+alternatives_stand : (xs : List (ℕ × Bean)) (b : ℕ) → among_alternatives xs ≡ One b → Stands xs b
+alternatives_stand [] b e = absurd cc
+alternatives_stand ((i, x) ∷ []) b e = first_stands i x [] b e
+alternatives_stand (x ∷ y ∷ xs) b e = by_priority_stands (x ∷ y ∷ xs) b e
 
-nothing_else : (told other : Resolution) (b : ℕ) → if_nothing told other ≡ One b → other ≡ One b
-nothing_else Nothing other b e = e
-nothing_else (One a) other b e = absurd cc
-nothing_else Many other b e = absurd cc
+eligible_stand : (xs : List (ℕ × Bean)) (b : ℕ) → among_eligible xs ≡ One b → Stands xs b
+eligible_stand [] b e = absurd cc
+eligible_stand ((i, x) ∷ []) b e = first_stands i x [] b e
+eligible_stand (x ∷ y ∷ xs) b e = of_filter (λ z. z.1.alternative) (x ∷ y ∷ xs) b (alternatives_stand (alternatives (x ∷ y ∷ xs)) b e)
 
-by_priority : (xs : List (ℕ × Bean)) (b : ℕ) → among_priorities xs ≡ One b → Stands xs b
-by_priority xs b e = greatest_stands (greatest_priority xs) xs b (sole_stands (highest xs) b (one (sole (highest xs)) b (nothing_else (sole (without_priority xs)) (one_or_many (sole (highest xs))) b e)))
-
-by_alternatives : (xs : List (ℕ × Bean)) (b : ℕ) → among_alternatives xs ≡ One b → Stands xs b
-by_alternatives xs b e = narrowed (one_or_many (sole xs)) (among_priorities xs) b (Stands xs b) e (λ f. sole_stands xs b (one (sole xs) b f)) (by_priority xs b)
-
-module _ (type : ℕ) (qualifiers : List Qualifier) (beans : List (ℕ × Bean)) (b : ℕ) where
-  stands : resolution type qualifiers beans ≡ One b → Stands (eligible type qualifiers beans) b
-  stands e =
-      let all = eligible type qualifiers beans in
-      narrowed (sole all) (among_alternatives (alternatives all)) b (Stands all b) e (sole_stands all b) (λ f. of_filter (λ x. x.1.alternative) all b (by_alternatives (alternatives all) b f))
-
-  pub one_is_eligible : resolution type qualifiers beans ≡ One b → IsEligible type qualifiers beans b
-  one_is_eligible e =
-      let s = stands e in
-      let k = kept (λ x. fits type qualifiers x.1) beans (b, s.bean) s.there in
-      record { bean = s.bean; stands = k.stands; fitting = k.passes }
+pub one_is_eligible : (type : ℕ) (qualifiers : List Qualifier) (beans : List (ℕ × Bean)) (b : ℕ) → resolution type qualifiers beans ≡ One b → IsEligible type qualifiers beans b
+one_is_eligible type qualifiers beans b e =
+    let s = eligible_stand (eligible type qualifiers beans) b e in
+    let k = kept (λ x. fits type qualifiers x.1) beans (b, s.bean) s.there in
+    record { bean = s.bean; stands = k.stands; fitting = k.passes }

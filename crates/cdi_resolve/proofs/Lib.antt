@@ -3,3 +3,4 @@ pub mod Eligible
 pub mod Enabled
 pub mod Filtering
 pub mod Narrowing
+pub mod Rows

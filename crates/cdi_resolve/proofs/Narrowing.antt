@@ -1,46 +1,99 @@
--- What is left of the enabled beans at each step of resolution.
-use Rattle.std.proofs.Common.{◌≡◌, ◌∙◌, ℕ, ◌&&◌, Bool, List, Option, Some, None, filter, refl, sym, ap}
-use Rattle.std.specs.Prelude.{ℤ, is_none}
-use Rattle.std.specs.List.{enumerate_from}
+-- What is left of the beans of a question at each step of resolution.
+use Rattle.std.proofs.Common.{◌≡◌, ◌∙◌, ℕ, ◌&&◌, Bool, true, false, cond, List, [], ◌∷◌, Option, Some, None, filter, refl, sym, ap}
+use Rattle.std.specs.Prelude.{ℤ, slice_get, option_map, option_and_then}
+use Rattle.std.specs.List.{cons_option}
 use Rattle.cdi_beans.specs.declared.bean.Bean.{Bean}
 use Rattle.cdi_quals.specs.declared.qualifier.Qualifier.{Qualifier}
-use Rattle.cdi_resolve.specs.Filters.{is_enabled, enabled_beans, fits, has_priority, passes, those_left}
-use Rattle.cdi_resolve.specs.Resolution.{eligible, alternatives, without_priority, with_greatest, if_nothing, one_or_many, or_narrowed}
+use Rattle.cdi_resolve.specs.Filters.{required_of, has_type, has_required, has_priority, having_type}
+use Rattle.cdi_resolve.specs.Narrowing.{passes, if_passing, left_in, left_of, eligible_of}
+use Rattle.cdi_resolve.specs.Resolution.{sole, eligible, alternatives, all_have_priority, greatest_priority, with_greatest, highest, just_one, by_priority, among_alternatives, among_eligible}
+use Rattle.cdi_resolve.specs.TypeIndex.{listed}
 use Rattle.cdi_resolve.specs.declared.filter.Left.{Left}
 use Rattle.cdi_resolve.specs.declared.filter.Left.TheVariants as lefts
+use Rattle.cdi_resolve.specs.declared.question.Question.{Question}
 use Rattle.cdi_resolve.specs.declared.resolution.Resolution.{Resolution}
-use Rattle.cdi_resolve.specs.declared.resolution.Resolution.TheVariants.{Nothing, One, Many}
+use Rattle.cdi_resolve.specs.declared.resolution.Resolution.TheVariants.{One, Many}
+use Rattle.cdi_resolve.proofs.Counting.{highest_with}
 use Rattle.cdi_resolve.proofs.Filtering.{filter_both}
 
-module _ (type : ℕ) (qualifiers : List Qualifier) where
-  -- of the enabled beans those that pass, in one look and in two
-  pub left_of_enabled : (left : Left) (beans : List Bean) (enabled : List Bool) → filter (λ b. passes type qualifiers left b.1) (enabled_beans beans enabled) ≡ those_left type qualifiers left beans enabled
-  left_of_enabled left beans enabled = filter_both (λ b. is_enabled enabled b.0) (λ b. passes type qualifiers left b.1) (enumerate_from 0 beans)
+module _ (q : Question) where
+  module _ (left : Left) where
+    abbrev passing : ℕ × Bean → Bool
+    passing b = passes (required_of q.required) left b.1
 
-  abbrev fitting : ℕ × Bean → Bool
-  fitting b = fits type qualifiers b.1
+    one_left_of : (i : ℕ) (xs ys : List (ℕ × Bean)) → xs ≡ ys → (t : Bool) (b : Bean) → cons_option (option_map (λ (x : Bean). (i, x)) (cond t (Some b) None)) xs ≡ cond t ((i, b) ∷ ys) ys
+    one_left_of i xs ys e true b = ap (λ zs. (i, b) ∷ zs) e
+    one_left_of i xs ys e false b = e
 
-  pub alternatives_left : (beans : List (ℕ × Bean)) → filter (λ b. passes type qualifiers lefts.Alternatives b.1) beans ≡ alternatives (eligible type qualifiers beans)
-  alternatives_left beans = sym (filter_both fitting (λ b. b.1.alternative) beans)
+    next_left_of : (i : ℕ) (row : List ℕ) → left_in q left row ≡ filter passing (listed q.beans.now row) → (o : Option Bean) → cons_option (option_map (λ (x : Bean). (i, x)) (option_and_then (if_passing (required_of q.required) left) o)) (left_in q left row) ≡ filter passing (cons_option (option_map (λ (x : Bean). (i, x)) o) (listed q.beans.now row))
+    next_left_of i row e None = e
+    next_left_of i row e (Some b) = one_left_of i (left_in q left row) (filter passing (listed q.beans.now row)) e (passes (required_of q.required) left b) b
 
-  narrowed : (p : ℕ × Bean → Bool) (beans : List (ℕ × Bean)) → filter (λ b. (fits type qualifiers b.1 && b.1.alternative) && p b) beans ≡ filter p (alternatives (eligible type qualifiers beans))
-  narrowed p beans = sym (ap (filter p) (filter_both fitting (λ b. b.1.alternative) beans) ∙ filter_both (λ b. fits type qualifiers b.1 && b.1.alternative) p beans)
+    -- those that are left, found in one look and in two
+    pub left_filtered : (row : List ℕ) → left_in q left row ≡ filter passing (listed q.beans.now row)
+    left_filtered [] = refl
+    left_filtered (i ∷ row) = next_left_of i row (left_filtered row) (slice_get q.beans.now i)
 
-  pub without_left : (beans : List (ℕ × Bean)) → filter (λ b. passes type qualifiers lefts.WithoutPriority b.1) beans ≡ without_priority (alternatives (eligible type qualifiers beans))
-  without_left beans = narrowed (λ b. is_none b.1.priority) beans
+  abbrev having : ℕ × Bean → Bool
+  having b = has_required (required_of q.required) b.1
 
-  pub with_left : (priority : ℤ) (beans : List (ℕ × Bean)) → filter (λ b. passes type qualifiers (lefts.WithPriority priority) b.1) beans ≡ with_greatest (Some priority) (alternatives (eligible type qualifiers beans))
-  with_left priority beans = narrowed (λ b. has_priority priority b.1) beans
+  pub eligible_left : left_of q lefts.Eligible ≡ eligible_of q
+  eligible_left = left_filtered lefts.Eligible q.row.now
 
-  pub alternatives_enabled : (beans : List Bean) (enabled : List Bool) → those_left type qualifiers lefts.Alternatives beans enabled ≡ alternatives (eligible type qualifiers (enabled_beans beans enabled))
-  alternatives_enabled beans enabled = sym (left_of_enabled lefts.Alternatives beans enabled) ∙ alternatives_left (enabled_beans beans enabled)
+  pub alternatives_left : left_of q lefts.Alternatives ≡ alternatives (eligible_of q)
+  alternatives_left = left_filtered lefts.Alternatives q.row.now ∙ sym (filter_both having (λ b. b.1.alternative) (listed q.beans.now q.row.now))
 
-pub not_nothing : (told other : Resolution) → (told ≡ Nothing → ⊥) → Many ≡ if_nothing told other
-not_nothing Nothing other is_some = absurd (is_some refl)
-not_nothing (One b) other is_some = refl
-not_nothing Many other is_some = refl
+  pub priority_left : (priority : ℤ) → left_of q (lefts.WithPriority priority) ≡ with_greatest (Some priority) (alternatives (eligible_of q))
+  priority_left priority =
+      left_filtered (lefts.WithPriority priority) q.row.now
+      ∙ sym (ap (filter (λ b. has_priority priority b.1)) (filter_both having (λ b. b.1.alternative) (listed q.beans.now q.row.now)) ∙ filter_both (λ b. having b && b.1.alternative) (λ b. has_priority priority b.1) (listed q.beans.now q.row.now))
 
-pub not_one : (told other : Resolution) → ((b : ℕ) → told ≡ One b → ⊥) → other ≡ or_narrowed (one_or_many told) other
-not_one Nothing other is_not_one = refl
-not_one (One b) other is_not_one = absurd (is_not_one b refl)
-not_one Many other is_not_one = refl
+-- the beans of a type that have the required qualifiers
+pub eligible_having : (type : ℕ) (qualifiers : List Qualifier) (beans : List (ℕ × Bean)) → filter (λ b. has_required qualifiers b.1) (having_type type beans) ≡ eligible type qualifiers beans
+eligible_having type qualifiers beans = filter_both (λ b. has_type type b.1) (λ b. has_required qualifiers b.1) beans
+
+-- what is told at once, and what has to be narrowed down
+pub told_eligible : (beans : List (ℕ × Bean)) → ((sole beans ≡ Many → ⊥)) → sole beans ≡ among_eligible beans
+told_eligible [] few = refl
+told_eligible (b ∷ []) few = refl
+told_eligible (a ∷ b ∷ bs) few = absurd (few refl)
+
+pub many_eligible : (beans : List (ℕ × Bean)) → Many ≡ sole beans → among_alternatives (alternatives beans) ≡ among_eligible beans
+many_eligible [] many = absurd cc
+many_eligible (b ∷ []) many = absurd cc
+many_eligible (a ∷ b ∷ bs) many = refl
+
+pub one_alternative : (beans : List (ℕ × Bean)) (b : ℕ) → One b ≡ sole beans → One b ≡ among_alternatives beans
+one_alternative [] b one = absurd cc
+one_alternative (c ∷ []) b one = one
+one_alternative (a ∷ c ∷ bs) b one = absurd cc
+
+pub other_alternatives : (beans : List (ℕ × Bean)) → ((b : ℕ) → sole beans ≡ One b → ⊥) → by_priority beans ≡ among_alternatives beans
+other_alternatives [] other = refl
+other_alternatives (b ∷ []) other = absurd (other b.0 refl)
+other_alternatives (a ∷ b ∷ bs) other = refl
+
+pub one_left : (beans : List (ℕ × Bean)) (b : ℕ) → One b ≡ sole beans → One b ≡ just_one beans
+one_left [] b one = absurd cc
+one_left (c ∷ []) b one = one
+one_left (a ∷ c ∷ bs) b one = absurd cc
+
+pub others_left : (beans : List (ℕ × Bean)) → ((b : ℕ) → sole beans ≡ One b → ⊥) → Many ≡ just_one beans
+others_left [] other = refl
+others_left (b ∷ []) other = absurd (other b.0 refl)
+others_left (a ∷ b ∷ bs) other = refl
+
+-- what the highest priority of some beans tells, which is none if not all have one
+pub no_highest : (beans : List (ℕ × Bean)) → None ≡ highest_with None beans → Many ≡ by_priority beans
+no_highest beans none = by (all_have_priority beans) refl none
+  where
+    by : (all : Bool) → all_have_priority beans ≡ all → None ≡ cond all (greatest_priority beans) None → Many ≡ cond all (just_one (highest beans)) Many
+    by true e h = ap (λ p. just_one (with_greatest p beans)) h
+    by false e h = refl
+
+pub some_highest : (beans : List (ℕ × Bean)) (priority : ℤ) (told : Resolution) → highest_with None beans ≡ Some priority → told ≡ just_one (with_greatest (Some priority) beans) → told ≡ by_priority beans
+some_highest beans priority told some is = by (all_have_priority beans) some
+  where
+    by : (all : Bool) → cond all (greatest_priority beans) None ≡ Some priority → told ≡ cond all (just_one (highest beans)) Many
+    by true h = is ∙ sym (ap (λ p. just_one (with_greatest p beans)) h)
+    by false h = absurd cc

@@ -1,5 +1,5 @@
 -- Which beans are left at a step of resolution.
-use Rattle.std.specs.Prelude.{ℕ, ℤ, ◌==◌, ◌&&◌, List, [], ◌∷◌, Bool, false, Option, Some, None, is_none, filter, slice_index_or}
+use Rattle.std.specs.Prelude.{ℕ, ℤ, ◌==◌, ◌&&◌, List, [], ◌∷◌, Bool, false, Option, Some, None, filter, slice_index_or}
 use Rattle.std.specs.List.{list_any, enumerate_from}
 use Rattle.std.specs.Ordering.{int_eq}
 use Rattle.cdi_base.specs.BuiltIn.{number_of}
@@ -8,8 +8,6 @@ use Rattle.cdi_bean_check.specs.Qualifiers.{full_uses}
 use Rattle.cdi_beans.specs.declared.bean.Bean.{Bean}
 use Rattle.cdi_quals.specs.Qualifiers.{has_all}
 use Rattle.cdi_quals.specs.declared.qualifier.Qualifier.{Qualifier}
-use Rattle.cdi_resolve.specs.declared.filter.Left.{Left}
-use Rattle.cdi_resolve.specs.declared.filter.Left.TheVariants as lefts
 use Rattle.cdi_resolve.specs.declared.required.Required.{Required}
 use Rattle.cdi_resolve.specs.declared.required.Required.TheVariants as given
 
@@ -21,10 +19,15 @@ abbrev pub required : List Qualifier → List Qualifier
 required [] = default ∷ []
 required (q ∷ qs) = q ∷ qs
 
+abbrev pub has_type : ℕ → Bean → Bool
+has_type type b = list_any (λ t. t == type) b.types
+
+abbrev pub has_required : List Qualifier → Bean → Bool
+has_required qualifiers b = has_all b.qualifiers (required qualifiers)
+
 -- a bean has the type and each required qualifier
 abbrev pub fits : ℕ → List Qualifier → Bean → Bool
-fits type qualifiers b =
-    list_any (λ t. t == type) b.types && has_all b.qualifiers (required qualifiers)
+fits type qualifiers b = has_type type b && has_required qualifiers b
 
 -- the required qualifiers of a question, however they are given
 abbrev pub required_of : Required → List Qualifier
@@ -46,26 +49,12 @@ pub record Candidates : Type 0 where
 abbrev pub enabled_of : Candidates → List (ℕ × Bean)
 enabled_of c = enabled_beans c.beans c.flags
 
+abbrev pub having_type : ℕ → List (ℕ × Bean) → List (ℕ × Bean)
+having_type type beans = filter (λ b. has_type type b.1) beans
+
 abbrev pub is_priority : ℤ → Option ℤ → Bool
 is_priority priority None = false
 is_priority priority (Some own) = int_eq own priority
 
 abbrev pub has_priority : ℤ → Bean → Bool
 has_priority priority b = is_priority priority b.priority
-
--- a bean fits, and is left of those that do
-abbrev pub passes : ℕ → List Qualifier → Left → Bean → Bool
-passes type qualifiers lefts.Eligible b = fits type qualifiers b
-passes type qualifiers lefts.Alternatives b = fits type qualifiers b && b.alternative
-passes type qualifiers lefts.WithoutPriority b =
-    (fits type qualifiers b && b.alternative) && is_none b.priority
-passes type qualifiers (lefts.WithPriority priority) b =
-    (fits type qualifiers b && b.alternative) && has_priority priority b
-
-abbrev pub is_wanted : ℕ → List Qualifier → Left → List Bool → ℕ × Bean → Bool
-is_wanted type qualifiers left enabled (index, b) =
-    is_enabled enabled index && passes type qualifiers left b
-
-abbrev pub those_left : ℕ → List Qualifier → Left → List Bean → List Bool → List (ℕ × Bean)
-those_left type qualifiers left beans enabled =
-    filter (is_wanted type qualifiers left enabled) (enumerate_from 0 beans)

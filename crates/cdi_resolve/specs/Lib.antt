@@ -1,4 +1,5 @@
-pub mod Counting
-pub mod Filters
-pub mod Resolution
 pub mod BeanTables
+pub mod Filters
+pub mod Narrowing
+pub mod Resolution
+pub mod TypeIndex

@@ -75,10 +75,11 @@ fn tables_with(
     let chains = Chains::build(alloc, deployment, &declared.bindings, interceptors)?;
     let beans = mem::replace(&mut list.beans, Seq::empty(alloc));
     let disposers = mem::replace(&mut list.disposers, Seq::empty(alloc));
+    let resolver = Resolver::new(alloc, beans, enabled.flags)?;
     Ok(BeanTables {
         declared,
         enabled: enabled.set,
-        resolver: Resolver::new(alloc, beans, enabled.flags),
+        resolver,
         chains,
         disposers,
     })

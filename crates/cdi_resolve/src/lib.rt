@@ -6,11 +6,15 @@ pub mod bean_tables;
 pub mod declared;
 mod filter;
 pub mod laws;
+mod question;
 mod required;
 pub mod resolution;
 pub mod resolver;
+pub mod resolving;
+mod type_index;
 
 pub use bean_tables::BeanTables;
 pub use declared::DeclaredTables;
 pub use resolution::Resolution;
 pub use resolver::Resolver;
+pub use resolving::Resolving;

@@ -10,29 +10,3 @@ pub enum Resolution {
     /// Several beans are left, and none of them goes before the others.
     Many,
 }
-
-impl Resolution {
-    ghost use Rattle.std.specs.Prelude.{◌≡◌};
-    ghost use Rattle.cdi_resolve.specs.Counting.{with_bean};
-    ghost use Rattle.cdi_resolve.specs.Resolution.{one_or_many};
-
-    /// The same with one bean more.
-    pub(crate) fn with(self, bean: usize) -> Resolution
-        ensures { result ≡ with_bean self bean }
-    {
-        match self {
-            Resolution::Nothing => Resolution::One(bean),
-            _ => Resolution::Many,
-        }
-    }
-
-    /// The one bean, or many if there isn't just one.
-    pub(crate) fn one_or_many(self) -> Resolution
-        ensures { result ≡ one_or_many self }
-    {
-        match self {
-            Resolution::One(bean) => Resolution::One(bean),
-            _ => Resolution::Many,
-        }
-    }
-}

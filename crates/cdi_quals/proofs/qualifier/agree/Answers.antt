@@ -1,6 +1,5 @@
-use Rattle.std.proofs.Common.{◌∙◌, ◌<◌, length, get_or, sym, ap, arith}
+use Rattle.std.proofs.Common.{◌∙◌, ◌<◌, length, get_or, sym, arith}
 use Rattle.std.proofs.lemmas.List.{get_or_default}
-use Rattle.std.specs.Ordering.{is_ne}
 use Rattle.cdi_quals.proofs.Pairs.{goes_on, apart_by_length, agrees_at_equal, agrees_at_nonbinding}
 use Rattle.cdi_quals.proofs.qualifier.agree.Goals as goal
 use Rattle.cdi_quals.proofs.qualifier.agree.Goals.{else-a-i-via-then-a-i+else-is_ne, else-a-i-via-else-a-i}

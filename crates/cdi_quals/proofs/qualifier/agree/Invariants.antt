@@ -1,4 +1,4 @@
-use Rattle.std.proofs.Common.{◌≡◌, drop, length}
+use Rattle.std.proofs.Common.{◌≡◌, drop}
 use Rattle.cdi_quals.specs.Qualifiers.{agree}
 use Rattle.cdi_quals.proofs.qualifier.agree.Given as goal
 

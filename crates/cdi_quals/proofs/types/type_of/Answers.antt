@@ -1,7 +1,6 @@
-use Rattle.std.proofs.Common.{◌≡◌, ◌∙◌, ℕ, List, map, subst}
+use Rattle.std.proofs.Common.{◌∙◌, ℕ, List, subst}
 use Rattle.cdi_quals.specs.Order.{compare_names}
 use Rattle.cdi_quals.specs.OrderedSet.{IsOrderedSet}
-use Rattle.cdi_quals.specs.Types.{member_type}
 use Rattle.cdi_quals.proofs.types.type_of.Goals as goal
 
 pub returns : goal.returns

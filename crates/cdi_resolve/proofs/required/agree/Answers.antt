@@ -1,4 +1,4 @@
-use Rattle.std.proofs.Common.{◌≡◌, ◌≢◌, map, length, sym, arith}
+use Rattle.std.proofs.Common.{◌≢◌, map, length, sym}
 use Rattle.std.proofs.Math.ListN.{length-map}
 use Rattle.cdi_quals.specs.Qualifiers.{full_member}
 use Rattle.cdi_quals.proofs.Pairs.{apart_by_length}

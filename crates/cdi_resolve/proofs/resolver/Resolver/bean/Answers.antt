@@ -1,4 +1,4 @@
-use Rattle.std.proofs.Common.{◌≡◌, ◌∙◌, true, false, ◌+◌, sym, arith}
+use Rattle.std.proofs.Common.{◌≡◌, ◌∙◌, true, false, sym, arith}
 use Rattle.cdi_resolve.specs.Filters.{is_enabled}
 use Rattle.cdi_resolve.proofs.Enabled.{enabled_at, disabled_at}
 use Rattle.cdi_resolve.proofs.resolver.Resolver.bean.Goals as goal

@@ -1,0 +1,8 @@
+//! Resolution that remembers the last answers (Jakarta CDI 4.0, *Typesafe resolution*).
+#![tactic(auto)]
+
+mod answer;
+pub mod lookup;
+
+pub use answer::Answer;
+pub use lookup::Lookup;

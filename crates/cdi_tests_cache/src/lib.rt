@@ -1,0 +1,7 @@
+//! Tests of lookups that are remembered.
+#![tactic(auto)]
+
+#[cfg(test)]
+mod beans;
+#[cfg(test)]
+mod lookups;
