@@ -94,7 +94,8 @@ impl Resolver {
 
     /// A question.
     fn question<'a>(&'a self, ty: Name, required: &Required<'a>) -> Question<'a>
-        ensures { eligible_in result ≡ spec.eligible ty (required_of required.now) (enabled_of self.now) }
+        ensures { eligible_in result
+            ≡ spec.eligible ty (required_of required.now) (enabled_of self.now) }
     {
         Question {
             beans: self.beans.as_slice(),
