@@ -22,7 +22,9 @@ use cdi_bean_check::repeated::{RepeatsSuperclass, repeated_of_superclasses};
 use cdi_bean_check::specialization::SpecializesNothing;
 use cdi_bean_check::typed::TypedNotAType;
 use cdi_deployment::{Class, Deployment};
-use cdi_problems::{Element, Problem, ProblemKind, Rule, add_problems_at, elements_of, places_where};
+use cdi_problems::{
+    Element, Problem, ProblemKind, Rule, add_problems_at, elements_of, places_where,
+};
 use cdi_quals::QualifierTypes;
 use cdi_types::TypeTable;
 use std::alloc::{AllocError, Global};

@@ -15,8 +15,8 @@ one_more place [] answer = let same : place ≡ place + 0 = omega arith in ap (�
 one_more place (a ∷ answers) answer =
     let at : place + 1 + length answers ≡ place + length (a ∷ answers) = omega arith in
     behind (threw a) place (exceptions_from (place + 1) (answers ++ answer ∷ [])) (exceptions_from (place + 1) answers)
-        (exceptions_from (place + length (a ∷ answers)) (answer ∷ []))
-        (one_more (place + 1) answers answer ∙ ap (λ n. exceptions_from (place + 1) answers ++ exceptions_from n (answer ∷ [])) at)
+    (exceptions_from (place + length (a ∷ answers)) (answer ∷ []))
+    (one_more (place + 1) answers answer ∙ ap (λ n. exceptions_from (place + 1) answers ++ exceptions_from n (answer ∷ [])) at)
 
 quiet_more : (answers : List Answer) (answer : Answer) → threw answer ≡ false → exceptions_from 0 (answers ++ answer ∷ []) ≡ exceptions_from 0 answers
 quiet_more answers answer quiet =

@@ -37,9 +37,7 @@ impl Rule for PointRule<'_> {
             }
             Element::Member { class, member, .. } => {
                 live.has_member(class.name, member.name())
-                    && self
-                        .tables
-                        .has_problem_among(self.problem, member.params())
+                    && self.tables.has_problem_among(self.problem, member.params())
             }
             Element::InterceptorInjectedField {
                 interceptor,

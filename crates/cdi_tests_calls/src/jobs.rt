@@ -19,8 +19,8 @@ use cdi_frames::stack::{Stack, Turn};
 use cdi_machine::Driver;
 use cdi_runtime::Runtime;
 use cdi_steps::task::Task;
-use cdi_tests_player::Ledger;
 use cdi_steps::{BeanCall, Completion, Given, Job, Outcome};
+use cdi_tests_player::Ledger;
 use cdi_world::World;
 use std::alloc::{AllocError, Global};
 
@@ -228,7 +228,14 @@ fn push_line<D: Driver>(
     let words: Vec<&str> = line.split_whitespace().collect(alloc)?;
     match words.as_slice() {
         ["again", times, job @ ..] => {
-            push_again(alloc, text, runtime, ledger, times.parse().unwrap_or(0), job)
+            push_again(
+                alloc,
+                text,
+                runtime,
+                ledger,
+                times.parse().unwrap_or(0),
+                job,
+            )
         }
         ["turns", most, job @ ..] => {
             push_turns(alloc, text, runtime, ledger, most.parse().unwrap_or(0), job)
