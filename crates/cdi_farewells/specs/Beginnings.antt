@@ -85,13 +85,18 @@ DestructionsBeginOnceIfShort tables legal =
     → (r : Runs tables legal (Unit {0}) (task c) (at_begin s.world) o v)
     → BeginsOnce tables (items_of h r)
 
--- Counted: where an interceptor's body is the first, it starts once if the instance is gone.
+-- there is a first body
+abbrev pub HasFirst : List ℕ → List Code → Type 0
+HasFirst [] [] = ⊥
+HasFirst _ _ = Unit {0}
+
+-- Counted: if the instance is gone, the first body has started, and an interceptor's body exactly once.
 abbrev pub StartsOnce : Tables → Legal → Type 0
 StartsOnce tables legal =
     Fits tables legal → PlacesOfBodiesAreApart tables → FirstsStandOnce tables
     → (s : State) (h : List Item) → Story tables legal s h
-    → (n k i : ℕ) (c : Managed) (chain : List ℕ) → IsOfClass tables h n c
-    → c.pre_destroy.chain ≡ i ∷ chain
+    → (n k : ℕ) (c : Managed) → IsOfClass tables h n c
+    → HasFirst c.pre_destroy.chain c.pre_destroy.callbacks
     → IsIn (Wrote (entries.Gone n)) h
     → Holds (StartsFarewell tables n c) h k
-    → k ≡ 1
+    → (1 ≤ k) × ((i : ℕ) (chain : List ℕ) → c.pre_destroy.chain ≡ i ∷ chain → k ≡ 1)
