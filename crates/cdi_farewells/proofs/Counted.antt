@@ -16,12 +16,13 @@ use Rattle.cdi_ledger.specs.Ends.{Each, IsOfClass, marks, one_more_if}
 use Rattle.cdi_ledger.specs.Callbacks.{IsMark, IsFirstOf, Holds, StartsFarewell}
 use Rattle.cdi_ledger.proofs.Stages.{eq_same}
 use Rattle.cdi_ledger.proofs.Marks.{marks_once, once_in}
-use Rattle.cdi_ledger.proofs.Counts.{starts_at_most_once}
 use Rattle.cdi_ledger.proofs.Ledgered.{in_order, shorter}
 use Rattle.cdi_ledger.proofs.Settled.{sane_story}
 use Rattle.cdi_ledger.proofs.Births.{known_story}
 use Rattle.cdi_farewells.specs.Beginnings.{HasFirst, IsFirstStart, IsRightBehindMark, StartsOnce}
 use Rattle.cdi_farewells.proofs.Beginning.{begins_at_mark}
+use Rattle.cdi_farewells.proofs.Most.{at_most}
+use Rattle.cdi_farewells.proofs.Onlies.{only_at_mark}
 
 is_mark : (n : ℕ) (h : List Item) → IsMark n h ⊎ (IsMark n h → ⊥)
 is_mark n [] = inr (λ x. x)
@@ -103,10 +104,5 @@ starts_once tables legal fits apart once s h l n k c is first g q =
     let known = known_story tables legal l in
     let a = (least tables n c first h is known.once h k q (begins_at_mark tables legal fits s h l) (λ y z. z)).1 (not_last n h (in_order s.world h (λ j. sane_story tables legal j l)) g) in
     let b = (marks_once tables legal s h l n).1 g in
-    (at_least (marks n h) a b, λ i chain e. exactly (marks n h) a b (starts_at_most_once tables legal apart once s h l n k i c chain e q))
-  where
-    at_least : (m : ℕ) → m ≤ k → m ≡ 1 → 1 ≤ k
-    at_least m a b = omega arith
-
-    exactly : (m : ℕ) → m ≤ k → m ≡ 1 → k ≤ 1 → k ≡ 1
-    exactly m a b d = omega arith
+    let d = at_most tables n c h k (marks_once tables legal s h l n).0 q (only_at_mark tables legal fits apart once s h l) in
+    omega arith

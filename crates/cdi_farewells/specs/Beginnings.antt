@@ -16,7 +16,7 @@ use Rattle.cdi_ownership.specs.Whose.{IsIn}
 use Rattle.cdi_ledger.specs.Ledger.{Item, Wrote, Between, Born, items_of}
 use Rattle.cdi_ledger.specs.Stories.{Story}
 use Rattle.cdi_ledger.specs.Ends.{Each, IsOfClass, marks}
-use Rattle.cdi_ledger.specs.Callbacks.{Holds, StartsFarewell, PlacesOfBodiesAreApart, FirstsStandOnce, IsBegunOnly, IsInDestruction}
+use Rattle.cdi_ledger.specs.Callbacks.{IsMark, IsFirstOf, Holds, StartsFarewell, PlacesOfBodiesAreApart, FirstsStandOnce, IsInDestruction}
 use Rattle.cdi_worlds_fit.specs.Fits.{Fits}
 
 -- The first body of a pre-destroy chain, and of the callbacks at its end, starts: that of the first interceptor, on the
@@ -58,13 +58,23 @@ BeginsAtMarkIfShort tables legal =
 
 -- ---- each destruction begins its callbacks exactly once
 
+-- the first body starts nowhere but right behind the mark
+abbrev pub StartsAtMarkOnly : Tables → Item → List Item → Type 0
+StartsAtMarkOnly tables (Wrote (entries.Run m place)) h =
+    (n : ℕ) (c : Managed) → IsOfClass tables h n c
+    → IsFirstOf tables h n c.pre_destroy.chain c.pre_destroy.callbacks m place
+    → IsMark n h
+StartsAtMarkOnly tables _ h = Unit {0}
+
 pub record BeginsOnce (tables : Tables) (h : List Item) : Type 0 where
   -- its mark stands at most once, and once where the instance is gone
   pub marked : (n : ℕ) → (marks n h ≤ 1) × (IsIn (Wrote (entries.Gone n)) h → marks n h ≡ 1)
   -- what stands right behind the mark is the start of the first body
   pub begins : Each (IsRightBehindMark tables) h
   -- which starts nowhere else
-  pub only : Each (IsBegunOnly tables) h
+  pub only : Each (StartsAtMarkOnly tables) h
+  -- and so at most once
+  pub at_most_once : (n k : ℕ) (c : Managed) → Holds (StartsFarewell tables n c) h k → k ≤ 1
   -- and each of the bodies only between the end of the instance and its `gone`
   pub within : Each (IsInDestruction tables) h
 
@@ -90,7 +100,7 @@ abbrev pub HasFirst : List ℕ → List Code → Type 0
 HasFirst [] [] = ⊥
 HasFirst _ _ = Unit {0}
 
--- Counted: if the instance is gone, the first body has started, and an interceptor's body exactly once.
+-- Counted: if the instance is gone, the first body has started exactly once.
 abbrev pub StartsOnce : Tables → Legal → Type 0
 StartsOnce tables legal =
     Fits tables legal → PlacesOfBodiesAreApart tables → FirstsStandOnce tables
@@ -99,4 +109,4 @@ StartsOnce tables legal =
     → HasFirst c.pre_destroy.chain c.pre_destroy.callbacks
     → IsIn (Wrote (entries.Gone n)) h
     → Holds (StartsFarewell tables n c) h k
-    → (1 ≤ k) × ((i : ℕ) (chain : List ℕ) → c.pre_destroy.chain ≡ i ∷ chain → k ≡ 1)
+    → k ≡ 1

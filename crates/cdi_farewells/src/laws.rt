@@ -21,9 +21,8 @@ pub fn law_beginnings<D: Driver>(driver: &D)
 /// Each destruction begins its callbacks exactly once: if the tables and the bodies fit one another, and the tables tell the
 /// bodies of a destruction from all others, the mark of a destruction stands at most once, and once where the instance is
 /// gone; what stands right behind it is the start of the first body of the pre-destroy chain and callbacks, which starts
-/// nowhere else; and each of these bodies starts only between the instance's `end` and its `gone`. A callback without an
-/// interceptor before it may start again only where a body proceeds. So it is also if memory runs out. Counted: if the
-/// instance is gone, the first body has started, and an interceptor's exactly once.
+/// nowhere else, and so at most once; and each of these bodies starts only between the instance's `end` and its `gone`. So it
+/// is also if memory runs out. Counted: if the instance is gone, the first body has started exactly once.
 #[tactic(auto, using(crate::proofs::Beginning::begin_once, crate::proofs::Beginning::begin_once_if_short, crate::proofs::Counted::starts_once))]
 pub fn law_destructions_begin_once<D: Driver>(driver: &D)
     ensures with_memory { (tables : Tables) →
