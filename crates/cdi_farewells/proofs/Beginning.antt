@@ -19,8 +19,8 @@ use Rattle.cdi_whole.proofs.Presence.{misses_nothing}
 use Rattle.cdi_farewells.specs.Beginnings.{BeginsAtMark, BeginsAtMarkIfShort, DestructionsBeginOnce, DestructionsBeginOnceIfShort}
 use Rattle.cdi_ledger.proofs.Marks.{marks_once, marks_if_short}
 use Rattle.cdi_ledger.proofs.Callbacks.{farewells_in_destruction, farewells_in_short}
-use Rattle.cdi_farewells.proofs.Onlies.{only_at_mark, only_if_short}
-use Rattle.cdi_farewells.proofs.Most.{at_most}
+use Rattle.cdi_farewells.proofs.AtMark.{only_at_mark, only_if_short}
+use Rattle.cdi_farewells.proofs.AtMost.{at_most}
 use Rattle.cdi_farewells.proofs.Without.{Told, tells}
 use Rattle.cdi_farewells.proofs.Calm.{bare, E, Calm, G, Asks, Leaves, unmarked_of, calm, all_tell}
 

@@ -21,8 +21,8 @@ use Rattle.cdi_ledger.proofs.Settled.{sane_story}
 use Rattle.cdi_ledger.proofs.Births.{known_story}
 use Rattle.cdi_farewells.specs.Beginnings.{HasFirst, IsFirstStart, IsRightBehindMark, StartsOnce}
 use Rattle.cdi_farewells.proofs.Beginning.{begins_at_mark}
-use Rattle.cdi_farewells.proofs.Most.{at_most}
-use Rattle.cdi_farewells.proofs.Onlies.{only_at_mark}
+use Rattle.cdi_farewells.proofs.AtMost.{at_most}
+use Rattle.cdi_farewells.proofs.AtMark.{only_at_mark}
 
 is_mark : (n : ℕ) (h : List Item) → IsMark n h ⊎ (IsMark n h → ⊥)
 is_mark n [] = inr (λ x. x)

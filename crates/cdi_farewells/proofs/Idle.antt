@@ -1,6 +1,6 @@
 -- Programs that give no act, and end each invocation that they begin: at which depth they call what.
 use Rattle.std.proofs.Common.{sym, subst, ℕ, zero, suc, ◌≡◌, List, [], ◌∷◌, refl, Option, Some, None, Bool, true, false}
-use Rattle.std.specs.Prelude.{nat_lt, ◌^◌, nat_eq, length, ◌||◌, not, slice_get, remove}
+use Rattle.std.specs.Prelude.{nat_lt, ◌^◌, nat_eq, length, slice_get, remove}
 use Rattle.cdi_base.specs.declared.value.Value.{Value}
 use Rattle.cdi_base.specs.declared.value.Value.TheVariants as values
 use Rattle.cdi_base.specs.declared.act.Act.{Act}
@@ -41,15 +41,14 @@ use Rattle.cdi_base.specs.declared.place.Place.{Place}
 use Rattle.cdi_store.specs.declared.instance.Instance.{Instance}
 use Rattle.cdi_machine.specs.Tables.{Tables, Code, Member, Lifecycle, Step, Source, Managed, Product, Kind, Bean, Interceptor, Observer, Resolution, One, Nothing, Many}
 use Rattle.cdi_machine.specs.World.{World, Change, instance_at}
-use Rattle.cdi_machine.specs.Programs.{ActiveContext, complete, note, give_number, cut, miss, change, tick, mark, act, choose, nested, Task, Given, Completion, Running, Prog, ret, throw, see, handle, quietly, attempt, require_present, require, expect, text_of, call, finish, raise, do_nothing, alter, each, top, pick, active_or_raise, context, require_one, resolve, rethrow, require_number, bean_at, interceptor_at, lookup_at, instance, invocation}
+use Rattle.cdi_machine.specs.Programs.{ActiveContext, complete, note, give_number, cut, miss, change, tick, mark, act, choose, nested, Task, Given, Completion, Running, Prog, ret, throw, see, handle, quietly, attempt, require_present, require, expect, text_of, call, finish, raise, do_nothing, alter, each, top, pick, active_or_raise, context, require_one, resolve, rethrow, require_number, bean_at, lookup_at, instance, invocation}
 use Rattle.cdi_machine.specs.Contexts.{find_or_create, obtain, is_normal, direct_reference, refer_to, resolve_point, resolve_points, stays, require_living, reach_instance}
 use Rattle.cdi_machine.specs.DestroyAct.{is_idle, require_made, destroy_idle, destroy_held, destroy_by}
-use Rattle.cdi_machine.specs.Bodies.{invoke_by, provide, invoke, call_back, body_at_start, is_of, first_of, interceptor_of, run_rest, reference_at, find_reference, method_in, bean_of, method_of, invoke_method, fits, replace_parameters, repeats, proceed, carry_out, find, answer_of, with_answer, after_act, answer_find, perform, carry_on}
+use Rattle.cdi_machine.specs.Bodies.{invoke_by, provide, invoke, call_back, body_at_start, is_of, first_of, reference_at, find_reference, method_in, bean_of, method_of, invoke_method, replace_parameters, carry_out, find, answer_of, with_answer, after_act, answer_find}
 use Rattle.cdi_machine.specs.Destruction.{latest, dismiss_latest, give_back, borrow_for, destroy, destroy_ready, only_ready, obtain_receiver, dispose, clean_up_bean, clean_up, release_from, release, dismiss, clear_from, clear}
-use Rattle.cdi_machine.specs.Creation.{construct, inject, take_step, call_producer, accept, produce, make, create, intercept, create_by, end_creation, discard, begin_creation, first_fields}
+use Rattle.cdi_machine.specs.Creation.{construct, inject, take_step, call_producer, accept, produce, make, intercept, create_by, end_creation, discard, begin_creation, first_fields}
 use Rattle.cdi_machine.specs.Events.{fire, observe, deliver, notify, is_skipped, fire_context_event, fire_container_event, qualifier}
 use Rattle.cdi_machine.specs.Commands.{Command, task, stand_alone_in, close, begin_session, begin, end_session, end, invalidate, use_bean, end_alone, shut_down, requests_of, sessions_of, is_used}
-
 
 -- a body that has the number may proceed only if this holds
 abbrev pub Proceeds : Legal → ℕ → Type 0 → Type 0
@@ -283,7 +282,6 @@ module _ (legal : Legal) (Own : ℕ → Type 0) (h : ℕ) where
 
   -- ---- bodies
 
-
   -- ---- acts
 
   pub l_referred : (r : Running) (via : Via) → Idle legal Own h h (find_reference r via)
@@ -308,7 +306,6 @@ module _ (legal : Legal) (Own : ℕ → Type 0) (h : ℕ) where
   pub l_replace : (args : Option (List Value)) → Idle legal Own h h (replace_parameters args)
   l_replace None = refl
   l_replace (Some args) = refl
-
 
   pub l_does : (r : Running) (a : Act) → IsUsual a → Idle legal Own h h (carry_out r a)
   l_does r (acts.Set field v) q = then legal Own h (instance r.instance) _ (l_instance legal Own h r.instance) λ o. then legal Own h (require_present (at o.fields field)) _ (l_present legal Own h (at o.fields field)) (λ _. refl)

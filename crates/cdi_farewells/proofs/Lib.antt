@@ -1,10 +1,10 @@
 mod Without
 mod Calm
 mod Idle
-mod Again
+mod Proceeding
 mod Resting
-mod Onlies
-mod Most
+mod AtMark
+mod AtMost
 pub mod Beginning
 pub mod Worked
 pub mod Counted

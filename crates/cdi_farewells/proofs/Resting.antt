@@ -6,9 +6,9 @@ use Rattle.cdi_base.specs.Maps.{at}
 use Rattle.cdi_contexts.specs.Refusals.{first_that_holds}
 use Rattle.cdi_machine.specs.Tables.{Tables, Method, Managed, Kind, Bean}
 use Rattle.cdi_machine.specs.World.{World, at_begin, before_boot}
-use Rattle.cdi_machine.specs.Commands.{Command, task}
+use Rattle.cdi_machine.specs.Commands.{Command}
 use Rattle.cdi_machine.specs.Container.{State, refusal, bean_of, call_refusals, refused_by_contexts, refused_by_tables, no_method, wrong_count, is_cut}
-use Rattle.cdi_machine.specs.Runs.{Legal, Outcome, Ends, Cut, Runs}
+use Rattle.cdi_machine.specs.Runs.{Legal, Outcome, Ends, Cut}
 use Rattle.cdi_store.specs.declared.instance.Instance.{Instance}
 use Rattle.cdi_store.specs.declared.instance.Context.{Context}
 use Rattle.cdi_store.specs.declared.instance.Context.TheVariants.{Application, Session, Request}
@@ -18,7 +18,6 @@ use Rattle.cdi_worlds_fit.proofs.Whole.{HeldBy}
 use Rattle.cdi_worlds_fit.specs.Fits.{HasMethod, Answers, Fits}
 use Rattle.cdi_worlds_fit.proofs.Terms.{Pre, Post}
 use Rattle.cdi_worlds_fit.proofs.Moves.{Moves}
-use Rattle.cdi_whole.specs.Missing.{NothingMissing}
 use Rattle.cdi_whole.proofs.Safe.{misses_none, UnlessCut}
 use Rattle.cdi_whole.proofs.Tasks.{task_safe}
 use Rattle.cdi_whole.proofs.Commands.{IsAdmitted, IsResting, Completes, command_safe}

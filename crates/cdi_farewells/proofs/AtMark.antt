@@ -1,16 +1,14 @@
 -- The first body of a destruction starts right behind its mark alone, whatever proceeds: for all that commands lead to.
-use Rattle.std.proofs.Common.{ℕ, ◌≡◌, List, [], ◌∷◌, inl, inr, Bool, true, false, None, refl, sym, subst}
-use Rattle.cdi_base.specs.declared.entry.Entry.{Entry}
+use Rattle.std.proofs.Common.{ℕ, ◌≡◌, List, [], ◌∷◌, inl, inr, false, None, refl}
 use Rattle.cdi_base.specs.declared.entry.Entry.TheVariants as entries
-use Rattle.cdi_base.specs.declared.place.Place.{Place}
-use Rattle.cdi_machine.specs.Tables.{Tables, Code, Managed}
+use Rattle.cdi_machine.specs.Tables.{Tables, Managed}
 use Rattle.cdi_machine.specs.World.{World, at_begin}
 use Rattle.cdi_machine.specs.Commands.{Command, task}
 use Rattle.cdi_machine.specs.Programs.{Completion, Given}
 use Rattle.cdi_machine.specs.Runs.{Legal, Outcome, Ends, Cut, Runs}
 use Rattle.cdi_machine.specs.Container.{State, refusal, is_cut}
 use Rattle.cdi_ownership.proofs.Homes.{targets, codes}
-use Rattle.cdi_ledger.specs.Ledger.{Item, Wrote, Between, Born, items_of}
+use Rattle.cdi_ledger.specs.Ledger.{Item, Wrote, items_of}
 use Rattle.cdi_ledger.specs.Stories.{Story}
 use Rattle.cdi_ledger.specs.Ends.{Each, IsOfClass}
 use Rattle.cdi_ledger.specs.Callbacks.{PlacesOfBodiesAreApart, FirstsStandOnce, IsProceed, IsMark, IsFirstOf, IsBegun, IsBegunOnly}
@@ -28,7 +26,7 @@ use Rattle.cdi_whole.proofs.Commands.{Completes, command_safe}
 use Rattle.cdi_farewells.specs.Beginnings.{StartsAtMarkOnly}
 use Rattle.cdi_farewells.proofs.Without.{Told, tells}
 use Rattle.cdi_farewells.proofs.Idle as idle
-use Rattle.cdi_farewells.proofs.Again.{IsNotAgain, E, G, Asks, Leaves, walks, none_again}
+use Rattle.cdi_farewells.proofs.Proceeding.{IsNotAgain, E, G, Asks, Leaves, walks, none_again}
 use Rattle.cdi_farewells.proofs.Resting.{admitted, rests}
 
 module _ (tables : Tables) (legal : Legal) (fits : Fits tables legal) (apart : PlacesOfBodiesAreApart tables) where

@@ -1,5 +1,5 @@
 -- No destruction starts its first callback again: a body that proceeds is an interceptor's, and then the chain isn't empty.
-use Rattle.std.proofs.Common.{ℕ, zero, suc, ◌≡◌, ◌<◌, ◌⊎◌, inl, inr, List, [], ◌∷◌, length, Bool, true, false, Option, Some, None, refl, sym, ap, ◌∙◌, subst}
+use Rattle.std.proofs.Common.{ℕ, zero, suc, ◌≡◌, ◌⊎◌, inl, inr, List, [], ◌∷◌, length, Bool, true, false, Option, Some, None, refl, sym, ap, ◌∙◌, subst}
 use Rattle.std.specs.Prelude.{nat_lt, nat_eq, option_map, not, ◌||◌}
 use Rattle.std.specs.List.{AllByRecursion}
 use Rattle.cdi_base.specs.declared.value.Value.{Value}
@@ -19,7 +19,6 @@ use Rattle.cdi_store.specs.declared.instance.Component.TheVariants as components
 use Rattle.cdi_store.specs.declared.instance.Owner.{Owner}
 use Rattle.cdi_store.specs.declared.instance.Owner.TheVariants as owners
 use Rattle.cdi_store.specs.declared.instance.Instance.{Instance}
-use Rattle.cdi_store.specs.declared.instance.Phase.{Phase}
 use Rattle.cdi_store.specs.declared.instance.Phase.TheVariants as phases
 use Rattle.cdi_store.specs.declared.references.Reference.{Reference}
 use Rattle.cdi_store.specs.Live.{Instances, with_ready, with_leaving}
@@ -28,13 +27,13 @@ use Rattle.cdi_machine.specs.Words.{Name}
 use Rattle.cdi_machine.specs.Tables.{Tables, Code, Method, Managed, Kind, Bean, Interceptor, written_act}
 use Rattle.cdi_machine.specs.World.{World, Change, Invocation, after_change, with_entry, instance_at, on_top, below, for_instance, with_owned, without_owned, without_making, with_instances}
 use Rattle.cdi_machine.specs.Programs.{Task, Given, Completion, Gave, Threw, Running, Prog, ret, throw, cut, miss, see, change, tick, mark, act, choose, nested, candidates, handle, call, complete, attempt, note, alter, finally, require_present, require_depth, require, expect, each, top, instance, invocation}
-use Rattle.cdi_machine.specs.Bodies.{run_body, run_rest, body_at_start, given_by, is_of, first_of, interceptor_of, proceed, replace_parameters, repeats, fits as takes_as_many, method_of, method_in, bean_of, carry_out, answer_of, with_answer, after_act, perform, carry_on}
+use Rattle.cdi_machine.specs.Bodies.{run_body, run_rest, body_at_start, given_by, is_of, first_of, interceptor_of, proceed, replace_parameters, repeats, fits as takes_as_many, method_in, bean_of, carry_out, answer_of, with_answer, after_act, perform, carry_on}
 use Rattle.cdi_machine.specs.Creation.{create, create_by, begin_creation, make, first_fields}
 use Rattle.cdi_machine.specs.Machine.{machine}
 use Rattle.cdi_machine.specs.Runs.{Legal}
 use Rattle.cdi_ownership.specs.Whose.{IsIn}
-use Rattle.cdi_ownership.proofs.Cores.{Core, core_of, core_at}
-use Rattle.cdi_ownership.proofs.Homes.{Rel, targets, codes}
+use Rattle.cdi_ownership.proofs.Cores.{core_of, core_at}
+use Rattle.cdi_ownership.proofs.Homes.{targets, codes}
 use Rattle.cdi_ledger.specs.Ledger.{Item, Wrote, Between, Born, with_birth, fate}
 use Rattle.cdi_ledger.specs.Ends.{Each, IsOfClass, IsEnding}
 use Rattle.cdi_ledger.specs.Callbacks.{IsOrdinary, PlacesOfBodiesAreApart, IsProceed, IsFirstOf}
@@ -252,9 +251,15 @@ module _ (tables : Tables) (legal : Legal) (fits : Fits tables legal) (apart : P
     walks e d (choose n k) w h Q R u q s l x free o g = (x, λ i z. walks e d (k i) (with_entry (entries.Pick (candidates n) i) w) (Wrote (entries.Pick (candidates n) i) ∷ h) Q R (u i) (q.1 i z) (s i z) (later tables (Wrote (entries.Pick (candidates n) i)) h w.invocations l) (tt, x) (λ i. i) o (λ z i. inr (g z i)))
     walks e d (nested t k) w h Q R u q s l x free o g = (
       x,
-      ((q.0, (l, x)), (((q.1, s.0), next_of t d w h u.0 free o g), λ c w1 h1 g1 p1.
-          walks e d (k c) w1 h1 Q R (u.1 c) (q.2 c w1 h1 g1.0 p1.0) (s.1 c w1 p1.1.0) g1.1.0 g1.1.1 (still_after t h h1 free p1.1.1.1)
-          (over_same ts cs d w w1 ((post_rel t w w1 h h1 c p1.0.0).targets, (post_rel t w w1 h h1 c p1.0.0).members) o) (λ z i. p1.1.1.0 z (g z i)))),
+      (
+        (q.0, (l, x)),
+        (
+          ((q.1, s.0), next_of t d w h u.0 free o g),
+          λ c w1 h1 g1 p1.
+              walks e d (k c) w1 h1 Q R (u.1 c) (q.2 c w1 h1 g1.0 p1.0) (s.1 c w1 p1.1.0) g1.1.0 g1.1.1 (still_after t h h1 free p1.1.1.1)
+              (over_same ts cs d w w1 ((post_rel t w w1 h h1 c p1.0.0).targets, (post_rel t w w1 h h1 c p1.0.0).members) o) (λ z i. p1.1.1.0 z (g z i)),
+        ),
+      ),
     )
 
   quietly_tells : (t : Task) (w : World) (h : List Item) → Idle legal (λ b. ⊥) 0 0 (machine t) → G w h → Pre tables t w h × fit.Pre tables legal t w → (IsProceed h → ⊥) → T (machine t) w h (λ c v k. BothPost tables t w h c v k × (fit.Post tables legal t w c v × (Grows h k × (IsProceed k → ⊥))))
@@ -333,9 +338,15 @@ module _ (tables : Tables) (legal : Legal) (fits : Fits tables legal) (apart : P
           → D (nested (Task.Body (body_of v m)) k) w h (BothPost tables (Task.Rest []) w h) → S (nested (Task.Body (body_of v m)) k) w (fit.Post tables legal (Task.Rest []) w) → T (nested (Task.Body (body_of v m)) k) w h (Leaves (Task.Rest []) w h)
       one_member m i k u d s = (
         g.1.1,
-        ((d.0, g.1), (((d.1, s.0), ((λ n fields view args l. absurd (fine m i n fields view args l)), may_start f m i)), λ c w1 h1 g1 p1.
-            walks (λ b. ⊥) (targets w1.invocations) (codes w1.invocations) h (λ b x. absurd x) (Still (Task.Rest []) h) (λ k n _. n) 0 0 (k c) w1 h1 (BothPost tables (Task.Rest []) w h) (fit.Post tables legal (Task.Rest []) w)
-            (u c) (d.2 c w1 h1 g1.0 p1.0) (s.1 c w1 p1.1.0) g1.1.0 g1.1.1 p1.1.1.1 (refl, refl) p1.1.1.0)),
+        (
+          (d.0, g.1),
+          (
+            ((d.1, s.0), ((λ n fields view args l. absurd (fine m i n fields view args l)), may_start f m i)),
+            λ c w1 h1 g1 p1.
+                walks (λ b. ⊥) (targets w1.invocations) (codes w1.invocations) h (λ b x. absurd x) (Still (Task.Rest []) h) (λ k n _. n) 0 0 (k c) w1 h1 (BothPost tables (Task.Rest []) w h) (fit.Post tables legal (Task.Rest []) w)
+                (u c) (d.2 c w1 h1 g1.0 p1.0) (s.1 c w1 p1.1.0) g1.1.0 g1.1.1 p1.1.1.1 (refl, refl) p1.1.1.0,
+          ),
+        ),
       )
 
       members_tell : (ms : List Code) → ((m : Code) → IsIn m ms → IsIn m v.members) → D (handle (each ms (λ m. call (Task.Body (body_of v m)))) (λ g. reaches v g) throw) w h (BothPost tables (Task.Rest []) w h)
@@ -392,9 +403,15 @@ module _ (tables : Tables) (legal : Legal) (fits : Fits tables legal) (apart : P
           → T (handle (elim b as (λ _. Prog ℕ) [ true ↦ ret n | false ↦ first_of w i ns ]) (λ n. behind_chain v y code chain n) throw) w h (Leaves (Task.Rest (i ∷ chain)) w h)
       by true more d s = (
         g.1.1,
-        ((d.0, g.1), (((d.1, s.0), ((λ n fields view args l. firm), never_first)), λ c w1 h1 g1 p1.
-            walks (λ b. ⊥) (targets w1.invocations) (codes w1.invocations) h (λ b x. absurd x) (Still (Task.Rest (i ∷ chain)) h) (λ k n _. n) 0 0 (handle (complete c) (λ g. ret (given_by v.role g)) throw) w1 h1 (BothPost tables (Task.Rest (i ∷ chain)) w h) (fit.Post tables legal (Task.Rest (i ∷ chain)) w)
-            (l_completed c (λ g. ret (given_by v.role g)) (λ a. refl)) (d.2 c w1 h1 g1.0 p1.0) (s.1 c w1 p1.1.0) g1.1.0 g1.1.1 p1.1.1.1 (refl, refl) p1.1.1.0)),
+        (
+          (d.0, g.1),
+          (
+            ((d.1, s.0), ((λ n fields view args l. firm), never_first)),
+            λ c w1 h1 g1 p1.
+                walks (λ b. ⊥) (targets w1.invocations) (codes w1.invocations) h (λ b x. absurd x) (Still (Task.Rest (i ∷ chain)) h) (λ k n _. n) 0 0 (handle (complete c) (λ g. ret (given_by v.role g)) throw) w1 h1 (BothPost tables (Task.Rest (i ∷ chain)) w h) (fit.Post tables legal (Task.Rest (i ∷ chain)) w)
+                (l_completed c (λ g. ret (given_by v.role g)) (λ a. refl)) (d.2 c w1 h1 g1.0 p1.0) (s.1 c w1 p1.1.0) g1.1.0 g1.1.1 p1.1.1.1 (refl, refl) p1.1.1.0,
+          ),
+        ),
       )
       by false more d s = more d s
 
@@ -529,8 +546,14 @@ module _ (tables : Tables) (legal : Legal) (fits : Fits tables legal) (apart : P
       rest_call : (w : World) → AreSame w0 w → AllOneOf tables h3 w.invocations → DA (tried again (call (Task.Rest r.rest))) w h3 → SA (tried again (call (Task.Rest r.rest))) w → TA (tried again (call (Task.Rest r.rest))) w h3
       rest_call w same l d s = (
         (tt, g0.1.1),
-        ((d.0, (l, (tt, g0.1.1))), (((d.1, s.0), λ i. firm_same w0 w h3 same (firm_grows (targets w0.invocations) (codes w0.invocations) h0 h3 grown f)), λ c w1 h1 g1 p1.
-            back c w1 h1 g1 (λ x i. p1.1.1.0 x (grown x i)) ((post_rel (Task.Rest r.rest) w w1 h3 h1 c p1.0.0).targets ∙ same.0, (post_rel (Task.Rest r.rest) w w1 h3 h1 c p1.0.0).members ∙ same.1) (d.2 c w1 h1 g1.0 p1.0) (s.1 c w1 p1.1.0))),
+        (
+          (d.0, (l, (tt, g0.1.1))),
+          (
+            ((d.1, s.0), λ i. firm_same w0 w h3 same (firm_grows (targets w0.invocations) (codes w0.invocations) h0 h3 grown f)),
+            λ c w1 h1 g1 p1.
+                back c w1 h1 g1 (λ x i. p1.1.1.0 x (grown x i)) ((post_rel (Task.Rest r.rest) w w1 h3 h1 c p1.0.0).targets ∙ same.0, (post_rel (Task.Rest r.rest) w w1 h3 h1 c p1.0.0).members ∙ same.1) (d.2 c w1 h1 g1.0 p1.0) (s.1 c w1 p1.1.0),
+          ),
+        ),
       )
         where
           back : (c : Completion Given) (w1 : World) (h1 : List Item) → G w1 h1 → Grows h0 h1 → AreSame w0 w1 → DA (tried again (complete c)) w1 h1 → SA (tried again (complete c)) w1 → TA (tried again (complete c)) w1 h1
@@ -600,11 +623,17 @@ module _ (tables : Tables) (legal : Legal) (fits : Fits tables legal) (apart : P
       own_call : (m : Method) (o : Instance) (b : ℕ) → instance_at w0 r.instance ≡ Some o → o.component ≡ components.Bean b → DO (call (Task.Body (body_for m))) → SO (call (Task.Body (body_for m))) → TO (call (Task.Body (body_for m)))
       own_call m o b e is d s = (
         (tt, g0.1.1),
-        ((d.0, (all2 (acts.Own name args), (tt, g0.1.1))), (((d.1, s.0), ((λ count fields view xs l. absurd (bean_not w4 (body_for m) o b e is s.0.1 count fields view xs l)), (λ p. absurd p))), λ c w1 h1 g1 p1.
-            walks (λ b. b ≡ r.body) (targets w1.invocations) (codes w1.invocations) h0
-            (λ b q. subst (λ z. Proceeds legal z (Firm (targets w1.invocations) (codes w1.invocations) h0)) (sym q) (λ count fields view xs l. firm_same w0 w1 h0 ((post_rel (Task.Body (body_for m)) w4 w1 h4 h1 c p1.0.0).targets, (post_rel (Task.Body (body_for m)) w4 w1 h4 h1 c p1.0.0).members) (firm count fields view xs l)))
-            (λ k. IsProceed k → ⊥) (λ k n. n) 0 0 (tried r (complete c)) w1 h1 (BothPost tables (Task.Acts r) w0 h0) (fit.Post tables legal (Task.Acts r) w0) (idle_after c)
-            (d.2 c w1 h1 g1.0 p1.0) (s.1 c w1 p1.1.0) g1.1.0 g1.1.1 p1.1.1.1 (refl, refl) (λ x i. p1.1.1.0 x (inr i)))),
+        (
+          (d.0, (all2 (acts.Own name args), (tt, g0.1.1))),
+          (
+            ((d.1, s.0), ((λ count fields view xs l. absurd (bean_not w4 (body_for m) o b e is s.0.1 count fields view xs l)), (λ p. absurd p))),
+            λ c w1 h1 g1 p1.
+                walks (λ b. b ≡ r.body) (targets w1.invocations) (codes w1.invocations) h0
+                (λ b q. subst (λ z. Proceeds legal z (Firm (targets w1.invocations) (codes w1.invocations) h0)) (sym q) (λ count fields view xs l. firm_same w0 w1 h0 ((post_rel (Task.Body (body_for m)) w4 w1 h4 h1 c p1.0.0).targets, (post_rel (Task.Body (body_for m)) w4 w1 h4 h1 c p1.0.0).members) (firm count fields view xs l)))
+                (λ k. IsProceed k → ⊥) (λ k n. n) 0 0 (tried r (complete c)) w1 h1 (BothPost tables (Task.Acts r) w0 h0) (fit.Post tables legal (Task.Acts r) w0) (idle_after c)
+                (d.2 c w1 h1 g1.0 p1.0) (s.1 c w1 p1.1.0) g1.1.0 g1.1.1 p1.1.1.1 (refl, refl) (λ x i. p1.1.1.0 x (inr i)),
+          ),
+        ),
       )
         where
           idle_after : (c : Completion Given) → Idle legal (λ b. b ≡ r.body) 0 0 (tried r (complete c))
