@@ -12,7 +12,7 @@ use Rattle.cdi_ledger.specs.Ledger.{Item, items_of}
 use Rattle.cdi_ledger.specs.Stories.{Story}
 use Rattle.cdi_ledger.proofs.Ledgered as ledgered
 use Rattle.cdi_ledger.proofs.Settled.{tidy_story, sane_story, begin_tidy, not_halted}
-use Rattle.cdi_ledger.proofs.Births.{born_command, known_begin, known_story}
+use Rattle.cdi_ledger.proofs.Births.{born_command, known_begin, known_story, one_in_a_context, one_if_short}
 use Rattle.cdi_worlds_fit.specs.Fits.{Fits}
 use Rattle.cdi_whole.specs.Missing.{NothingMissing}
 use Rattle.cdi_whole.proofs.Presence.{misses_nothing}
@@ -20,7 +20,8 @@ use Rattle.cdi_farewells.specs.Beginnings.{BeginsAtMark, BeginsAtMarkIfShort, De
 use Rattle.cdi_ledger.proofs.Marks.{marks_once, marks_if_short}
 use Rattle.cdi_ledger.proofs.Callbacks.{farewells_in_destruction, farewells_in_short}
 use Rattle.cdi_farewells.proofs.AtMark.{only_at_mark, only_if_short}
-use Rattle.cdi_farewells.proofs.AtMost.{at_most}
+use Rattle.cdi_farewells.proofs.BornOnce.{born_once, story_in_order, short_in_order}
+use Rattle.cdi_farewells.proofs.Counted.{starts_exactly}
 use Rattle.cdi_farewells.proofs.Without.{Told, tells}
 use Rattle.cdi_farewells.proofs.Calm.{bare, E, Calm, G, Asks, Leaves, unmarked_of, calm, all_tell}
 
@@ -78,19 +79,27 @@ pub begins_if_short : (tables : Tables) (legal : Legal) → BeginsAtMarkIfShort 
 begins_if_short tables legal fits s h c o v l q r = (run_tells tables legal fits (Unit {0}) l (begun tables legal fits l) c q o v r).0
 
 pub begin_once : (tables : Tables) (legal : Legal) → DestructionsBeginOnce tables legal
-begin_once tables legal fits apart once s h l = record {
-  marked = marks_once tables legal s h l;
-  begins = begins_at_mark tables legal fits s h l;
-  only = only_at_mark tables legal fits apart once s h l;
-  at_most_once = λ n k c q. at_most tables n c h k (marks_once tables legal s h l n).0 q (only_at_mark tables legal fits apart once s h l);
-  within = farewells_in_destruction tables legal apart s h l;
-}
+begin_once tables legal fits apart once s h l =
+    let order = story_in_order tables legal s h l in
+    let begins = begins_at_mark tables legal fits s h l in
+    let only = only_at_mark tables legal fits apart once s h l in
+    record {
+      marked = marks_once tables legal s h l;
+      begins = begins;
+      only = only;
+      once = λ n k c. starts_exactly tables h n k c order (born_once tables h order.new_numbers (one_in_a_context tables legal s h l).2) begins only;
+      within = farewells_in_destruction tables legal apart s h l;
+    }
 
 pub begin_once_if_short : (tables : Tables) (legal : Legal) → DestructionsBeginOnceIfShort tables legal
-begin_once_if_short tables legal fits apart once s h c o v l q r = record {
-  marked = marks_if_short tables legal s h c o v l q r;
-  begins = begins_if_short tables legal fits s h c o v l q r;
-  only = only_if_short tables legal fits apart once s h c o v l q r;
-  at_most_once = λ n k d y. at_most tables n d (items_of h r) k (marks_if_short tables legal s h c o v l q r n).0 y (only_if_short tables legal fits apart once s h c o v l q r);
-  within = farewells_in_short tables legal apart s h c o v l q r;
-}
+begin_once_if_short tables legal fits apart once s h c o v l q r =
+    let order = short_in_order tables legal s h c o v l r in
+    let begins = begins_if_short tables legal fits s h c o v l q r in
+    let only = only_if_short tables legal fits apart once s h c o v l q r in
+    record {
+      marked = marks_if_short tables legal s h c o v l q r;
+      begins = begins;
+      only = only;
+      once = λ n k d. starts_exactly tables (items_of h r) n k d order (born_once tables (items_of h r) order.new_numbers (one_if_short tables legal s h c o v l q r).2) begins only;
+      within = farewells_in_short tables legal apart s h c o v l q r;
+    }

@@ -1,4 +1,5 @@
--- The first body of a destruction starts at least as often as its mark stands with something behind it.
+-- The first body of a destruction starts at least as often as its mark stands with something behind it: so once if the instance
+-- is gone.
 use Rattle.std.proofs.Common.{ℕ, ◌+◌, ◌≡◌, ◌≤◌, ◌⊎◌, List, [], ◌∷◌, inl, inr, Bool, true, false, refl, sym, subst, arith}
 use Rattle.std.specs.Prelude.{nat_eq}
 use Rattle.cdi_base.specs.declared.entry.Entry.TheVariants as entries
@@ -15,14 +16,12 @@ use Rattle.cdi_ledger.specs.Ledger.{Item, Wrote, Between, Born, InOrder}
 use Rattle.cdi_ledger.specs.Ends.{Each, IsOfClass, marks, one_more_if}
 use Rattle.cdi_ledger.specs.Callbacks.{IsMark, IsFirstOf, Holds, StartsFarewell}
 use Rattle.cdi_ledger.proofs.Stages.{eq_same}
-use Rattle.cdi_ledger.proofs.Marks.{marks_once, once_in}
+use Rattle.cdi_ledger.proofs.Marks.{once_in}
 use Rattle.cdi_ledger.proofs.Ledgered.{in_order, shorter}
 use Rattle.cdi_ledger.proofs.Settled.{sane_story}
 use Rattle.cdi_ledger.proofs.Births.{known_story}
-use Rattle.cdi_farewells.specs.Beginnings.{HasFirst, IsFirstStart, IsRightBehindMark, StartsOnce}
-use Rattle.cdi_farewells.proofs.Beginning.{begins_at_mark}
+use Rattle.cdi_farewells.specs.Beginnings.{HasFirst, IsFirstStart, IsRightBehindMark, StartsAtMarkOnly}
 use Rattle.cdi_farewells.proofs.AtMost.{at_most}
-use Rattle.cdi_farewells.proofs.AtMark.{only_at_mark}
 
 is_mark : (n : ℕ) (h : List Item) → IsMark n h ⊎ (IsMark n h → ⊥)
 is_mark n [] = inr (λ x. x)
@@ -99,10 +98,14 @@ not_last n (Between j ∷ h) o g m =
     two : (k : ℕ) → k ≡ 1 → k + 1 ≤ 1 → ⊥
     two k e l = omega arith
 
-pub starts_once : (tables : Tables) (legal : Legal) → StartsOnce tables legal
-starts_once tables legal fits apart once s h l n k c is first g q =
-    let known = known_story tables legal l in
-    let a = (least tables n c first h is known.once h k q (begins_at_mark tables legal fits s h l) (λ y z. z)).1 (not_last n h (in_order s.world h (λ j. sane_story tables legal j l)) g) in
-    let b = (marks_once tables legal s h l n).1 g in
-    let d = at_most tables n c h k (marks_once tables legal s h l n).0 q (only_at_mark tables legal fits apart once s h l) in
-    omega arith
+pub starts_exactly : (tables : Tables) (h : List Item) (n k : ℕ) (c : Managed) → InOrder h → ((j : ℕ) (a b : _) (o p : _) → IsIn (Born j a o) h → IsIn (Born j b p) h → (a ≡ b) × (o ≡ p)) → Each (IsRightBehindMark tables) h → Each (StartsAtMarkOnly tables) h
+    → Holds (StartsFarewell tables n c) h k → (k ≤ 1) × (IsOfClass tables h n c → HasFirst c.pre_destroy.chain c.pre_destroy.callbacks → IsIn (Wrote (entries.Gone n)) h → k ≡ 1)
+starts_exactly tables h n k c order born begins only q = (
+  at_most tables n c h k (once_in h order n).0 q only,
+  λ is first g.
+      let a = (least tables n c first h is born h k q begins (λ y z. z)).1 (not_last n h order g) in
+      exactly (marks n h) a ((once_in h order n).1 g) (at_most tables n c h k (once_in h order n).0 q only),
+)
+  where
+    exactly : (m : ℕ) → m ≤ k → m ≡ 1 → k ≤ 1 → k ≡ 1
+    exactly m a b d = omega arith

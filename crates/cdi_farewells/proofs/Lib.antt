@@ -5,6 +5,7 @@ mod Proceeding
 mod Resting
 mod AtMark
 mod AtMost
+mod BornOnce
+mod Counted
 pub mod Beginning
 pub mod Worked
-pub mod Counted

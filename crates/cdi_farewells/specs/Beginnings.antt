@@ -66,6 +66,11 @@ StartsAtMarkOnly tables (Wrote (entries.Run m place)) h =
     → IsMark n h
 StartsAtMarkOnly tables _ h = Unit {0}
 
+-- there is a first body
+abbrev pub HasFirst : List ℕ → List Code → Type 0
+HasFirst [] [] = ⊥
+HasFirst _ _ = Unit {0}
+
 pub record BeginsOnce (tables : Tables) (h : List Item) : Type 0 where
   -- its mark stands at most once, and once where the instance is gone
   pub marked : (n : ℕ) → (marks n h ≤ 1) × (IsIn (Wrote (entries.Gone n)) h → marks n h ≡ 1)
@@ -73,8 +78,12 @@ pub record BeginsOnce (tables : Tables) (h : List Item) : Type 0 where
   pub begins : Each (IsRightBehindMark tables) h
   -- which starts nowhere else
   pub only : Each (StartsAtMarkOnly tables) h
-  -- and so at most once
-  pub at_most_once : (n k : ℕ) (c : Managed) → Holds (StartsFarewell tables n c) h k → k ≤ 1
+  -- and so at most once, and once where the instance is gone
+  pub once : (n k : ℕ) (c : Managed) → Holds (StartsFarewell tables n c) h k
+      → (k ≤ 1) × (IsOfClass tables h n c
+      → HasFirst c.pre_destroy.chain c.pre_destroy.callbacks
+      → IsIn (Wrote (entries.Gone n)) h
+      → k ≡ 1)
   -- and each of the bodies only between the end of the instance and its `gone`
   pub within : Each (IsInDestruction tables) h
 
@@ -94,19 +103,3 @@ DestructionsBeginOnceIfShort tables legal =
     → refusal tables s c ≡ None
     → (r : Runs tables legal (Unit {0}) (task c) (at_begin s.world) o v)
     → BeginsOnce tables (items_of h r)
-
--- there is a first body
-abbrev pub HasFirst : List ℕ → List Code → Type 0
-HasFirst [] [] = ⊥
-HasFirst _ _ = Unit {0}
-
--- Counted: if the instance is gone, the first body has started exactly once.
-abbrev pub StartsOnce : Tables → Legal → Type 0
-StartsOnce tables legal =
-    Fits tables legal → PlacesOfBodiesAreApart tables → FirstsStandOnce tables
-    → (s : State) (h : List Item) → Story tables legal s h
-    → (n k : ℕ) (c : Managed) → IsOfClass tables h n c
-    → HasFirst c.pre_destroy.chain c.pre_destroy.callbacks
-    → IsIn (Wrote (entries.Gone n)) h
-    → Holds (StartsFarewell tables n c) h k
-    → k ≡ 1
