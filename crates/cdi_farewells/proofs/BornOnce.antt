@@ -1,5 +1,5 @@
 -- Each number is born once, and items are in order, also where memory runs out: from the laws of the ledger.
-use Rattle.std.proofs.Common.{ℕ, ◌+◌, ◌≡◌, ◌<◌, List, [], ◌∷◌, inl, inr, refl, sym, ◌∙◌, ap, subst, arith, None}
+use Rattle.std.proofs.Common.{ℕ, ◌≡◌, ◌<◌, List, [], ◌∷◌, inl, inr, refl, sym, ◌∙◌, ap, subst, arith}
 use Rattle.cdi_base.specs.declared.entry.Entry.TheVariants as entries
 use Rattle.cdi_base.specs.declared.place.Place.{Place}
 use Rattle.cdi_store.specs.declared.instance.Component.{Component}
@@ -10,7 +10,7 @@ use Rattle.cdi_machine.specs.Commands.{Command, task}
 use Rattle.cdi_machine.specs.Runs.{Legal, Outcome, Runs}
 use Rattle.cdi_machine.specs.Container.{State}
 use Rattle.cdi_ownership.specs.Whose.{IsIn}
-use Rattle.cdi_ledger.specs.Ledger.{Item, Wrote, Between, Born, items_of, numbers, Counted, InSequence, InOrder, Ledger}
+use Rattle.cdi_ledger.specs.Ledger.{Item, Wrote, Born, items_of, numbers, Counted, InSequence, InOrder, Ledger}
 use Rattle.cdi_ledger.specs.Stories.{Story}
 use Rattle.cdi_ledger.specs.Ends.{Each, IsNew, IsBornAsWritten}
 use Rattle.cdi_ledger.proofs.Ledgered as ledgered

@@ -10,16 +10,13 @@ use Rattle.cdi_store.specs.declared.instance.Owner.{Owner}
 use Rattle.cdi_store.specs.declared.instance.Owner.TheVariants as owners
 use Rattle.cdi_store.proofs.Numbers.{equal_or_not}
 use Rattle.cdi_machine.specs.Tables.{Tables, Code, Managed}
-use Rattle.cdi_machine.specs.Runs.{Legal}
 use Rattle.cdi_ownership.specs.Whose.{IsIn}
 use Rattle.cdi_ledger.specs.Ledger.{Item, Wrote, Between, Born, InOrder}
 use Rattle.cdi_ledger.specs.Ends.{Each, IsOfClass, marks, one_more_if}
 use Rattle.cdi_ledger.specs.Callbacks.{IsMark, IsFirstOf, Holds, StartsFarewell}
 use Rattle.cdi_ledger.proofs.Stages.{eq_same}
 use Rattle.cdi_ledger.proofs.Marks.{once_in}
-use Rattle.cdi_ledger.proofs.Ledgered.{in_order, shorter}
-use Rattle.cdi_ledger.proofs.Settled.{sane_story}
-use Rattle.cdi_ledger.proofs.Births.{known_story}
+use Rattle.cdi_ledger.proofs.Ledgered.{shorter}
 use Rattle.cdi_farewells.specs.Beginnings.{HasFirst, IsFirstStart, IsRightBehindMark, StartsAtMarkOnly}
 use Rattle.cdi_farewells.proofs.AtMost.{at_most}
 
