@@ -15,7 +15,8 @@ use Rattle.cdi_store.specs.declared.instance.Owner.{Owner}
 use Rattle.cdi_store.specs.declared.instance.Owner.TheVariants as owners
 use Rattle.cdi_store.specs.declared.instance.Instance.{Instance}
 use Rattle.cdi_machine.specs.Words.{Name, Fields}
-use Rattle.cdi_machine.specs.Tables.{Tables, Code, Managed, Kind, Bean, Interceptor}
+use Rattle.cdi_machine.specs.Tables.{Tables, Code, Managed, Kind, Bean, Interceptor, written_act}
+use Rattle.cdi_machine.specs.Runs.{Legal}
 use Rattle.cdi_machine.specs.World.{World, Change, Invocation, after_change, with_entry, instance_at}
 use Rattle.cdi_machine.specs.Programs.{Task, Given, Completion, Gave, Threw, Running, Prog, ret, throw, cut, miss, see, change, tick, mark, act, choose, nested, candidates, handle, call, complete, quietly, note, alter, finish, finally, require_present, require_depth, give_number, each, top, instance, rethrow}
 use Rattle.cdi_machine.specs.Bodies.{run_body, run_rest, body_at_start, given_by, is_of, first_of, invocation_at_start}
@@ -149,7 +150,7 @@ of_interceptor i n w e = by (instance_at w n) refl e
     by None q f = absurd (cc)
     by (Some o) q f = over o q o.component refl f
 
-module _ (tables : Tables) where
+module _ (tables : Tables) (legal : Legal) where
   abbrev B : Item → List Item → Type 0
   B x h = IsRightBehindMark tables x h
 
@@ -190,7 +191,7 @@ module _ (tables : Tables) where
   D p w h Q = Does tables (Ok tables) (KG tables) (Pre tables) (BothPost tables) p w h Q
 
   abbrev pub T : {A : Type 0} → Prog A → World → List Item → (Completion A → World → List Item → Type 0) → Type 0
-  T p w h Q = Tells tables E G Asks Leaves p w h Q
+  T p w h Q = Tells tables legal E G Asks Leaves p w h Q
 
   calm_members : (n : ℕ) (ms : List Code) (h : List Item) → Calm h → MembersNext n ms h
   calm_members n [] h s = s
@@ -220,7 +221,7 @@ module _ (tables : Tables) where
   calm (change g p) w h Q u d s e = (e, calm p (after_change g w) (with_birth g w h) Q u (guard_of (Ok tables) g w h d) (calm_birth g w h s) (each_birth g w h s e))
   calm (tick x p) w h Q u d s e = (e, calm p (with_entry x w) (Wrote x ∷ h) Q u (note_of (Ok tables) x w h d.1) (λ y. tt) (s (Wrote x), e))
   calm (mark n p) w h Q u d s e = absurd u
-  calm (act b fields view k) w h Q u d s e = (e, λ a. calm (k a) (with_entry (entries.Did a) w) (Wrote (entries.Did a) ∷ h) Q (u a) (d.1 a) (λ y. tt) (s (Wrote (entries.Did a)), e))
+  calm (act b fields view k) w h Q u d s e = (e, λ n x l. (let a = written_act tables x in calm (k a) (with_entry (entries.Did a) w) (Wrote (entries.Did a) ∷ h) Q (u a) (d.1 a) (λ y. tt) (s (Wrote (entries.Did a)), e)))
   calm (choose n k) w h Q u d s e = (e, λ i l. calm (k i) (with_entry (entries.Pick (candidates n) i) w) (Wrote (entries.Pick (candidates n) i) ∷ h) Q (u i) (d.1 i l) (λ y. tt) (s (Wrote (entries.Pick (candidates n) i)), e))
   calm (nested t k) w h Q u d s e = (e, ((d.0, e), ((d.1, calm_next t w h s), λ c w1 h1 g1 p1. calm (k c) w1 h1 Q (u c) (d.2 c w1 h1 g1.0 p1.0) p1.1 g1.1)))
 

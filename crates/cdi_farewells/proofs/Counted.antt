@@ -1,4 +1,5 @@
--- The first body of a destruction starts at least as often as its mark stands with something behind it.
+-- The first body of a destruction starts at least as often as its mark stands with something behind it: so once if the instance
+-- is gone.
 use Rattle.std.proofs.Common.{ℕ, ◌+◌, ◌≡◌, ◌≤◌, ◌⊎◌, List, [], ◌∷◌, inl, inr, Bool, true, false, refl, sym, subst, arith}
 use Rattle.std.specs.Prelude.{nat_eq}
 use Rattle.cdi_base.specs.declared.entry.Entry.TheVariants as entries
@@ -6,21 +7,18 @@ use Rattle.cdi_base.specs.declared.place.Place.TheVariants as places
 use Rattle.cdi_base.specs.declared.place.InterceptorMethod.TheVariants as roles
 use Rattle.cdi_store.specs.declared.instance.Component.TheVariants as components
 use Rattle.cdi_store.specs.declared.instance.Owner.{Owner}
+use Rattle.cdi_store.specs.declared.instance.Owner.TheVariants as owners
 use Rattle.cdi_store.proofs.Numbers.{equal_or_not}
-use Rattle.cdi_machine.specs.Tables.{Tables, Managed}
-use Rattle.cdi_machine.specs.Runs.{Legal}
+use Rattle.cdi_machine.specs.Tables.{Tables, Code, Managed}
 use Rattle.cdi_ownership.specs.Whose.{IsIn}
 use Rattle.cdi_ledger.specs.Ledger.{Item, Wrote, Between, Born, InOrder}
 use Rattle.cdi_ledger.specs.Ends.{Each, IsOfClass, marks, one_more_if}
 use Rattle.cdi_ledger.specs.Callbacks.{IsMark, IsFirstOf, Holds, StartsFarewell}
 use Rattle.cdi_ledger.proofs.Stages.{eq_same}
-use Rattle.cdi_ledger.proofs.Marks.{marks_once, once_in}
-use Rattle.cdi_ledger.proofs.Counts.{starts_at_most_once}
-use Rattle.cdi_ledger.proofs.Ledgered.{in_order, shorter}
-use Rattle.cdi_ledger.proofs.Settled.{sane_story}
-use Rattle.cdi_ledger.proofs.Births.{known_story}
-use Rattle.cdi_farewells.specs.Beginnings.{IsFirstStart, IsRightBehindMark, StartsOnce}
-use Rattle.cdi_farewells.proofs.Beginning.{begins_at_mark}
+use Rattle.cdi_ledger.proofs.Marks.{once_in}
+use Rattle.cdi_ledger.proofs.Ledgered.{shorter}
+use Rattle.cdi_farewells.specs.Beginnings.{HasFirst, IsFirstStart, IsRightBehindMark, StartsAtMarkOnly}
+use Rattle.cdi_farewells.proofs.AtMost.{at_most}
 
 is_mark : (n : ℕ) (h : List Item) → IsMark n h ⊎ (IsMark n h → ⊥)
 is_mark n [] = inr (λ x. x)
@@ -28,7 +26,7 @@ is_mark n (Between m ∷ h) = elim (equal_or_not m n) [ inl s ↦ inl s.1 | inr 
 is_mark n (Wrote e ∷ h) = inr (λ x. x)
 is_mark n (Born m component owner ∷ h) = inr (λ x. x)
 
-module _ (tables : Tables) (n : ℕ) (c : Managed) (i : ℕ) (chain : List ℕ) (first : c.pre_destroy.chain ≡ i ∷ chain) (whole : List Item) (is : IsOfClass tables whole n c)
+module _ (tables : Tables) (n : ℕ) (c : Managed) (first : HasFirst c.pre_destroy.chain c.pre_destroy.callbacks) (whole : List Item) (is : IsOfClass tables whole n c)
     (once : (k : ℕ) (a b : _) (o p : _) → IsIn (Born k a o) whole → IsIn (Born k b p) whole → (a ≡ b) × (o ≡ p)) where
   abbrev Least : List Item → ℕ → Type 0
   Least h k = (IsMark n h → marks n h ≤ k + 1) × ((IsMark n h → ⊥) → marks n h ≤ k)
@@ -39,13 +37,21 @@ module _ (tables : Tables) (n : ℕ) (c : Managed) (i : ℕ) (chain : List ℕ) 
       let b = r.0 in
       let s = once n b.0 (components.Bean is.index) b.1 is.owner (subst (λ z. IsIn (Born z b.0 b.1) whole) e (inside (Born m b.0 b.1) b.2)) is.born in
       let here : IsIn (Born n (components.Bean is.index) b.1) h = subst (λ z. IsIn (Born n z b.1) h) s.0 (subst (λ z. IsIn (Born z b.0 b.1) h) e b.2) in
-      by b.1 here (subst (λ z. IsFirstStart tables h m z c.pre_destroy.callbacks x) first (r.1 c (record { index = is.index; owner = b.1; born = subst (λ z. IsIn (Born z (components.Bean is.index) b.1) h) (sym e) here; bean = is.bean; known = is.known; is = is.is })))
+      let class : IsOfClass tables h m c = record { index = is.index; owner = b.1; born = subst (λ z. IsIn (Born z (components.Bean is.index) b.1) h) (sym e) here; bean = is.bean; known = is.known; is = is.is } in
+      by b.1 here c.pre_destroy.chain refl c.pre_destroy.callbacks refl first (r.1 c class)
     where
-      by : (o : Owner) → IsIn (Born n (components.Bean is.index) o) h → IsFirstStart tables h m (i ∷ chain) c.pre_destroy.callbacks x → StartsFarewell tables n c x (Between m ∷ h)
-      by o here f =
+      by : (o : Owner) → IsIn (Born n (components.Bean is.index) o) h → (chain : List ℕ) → c.pre_destroy.chain ≡ chain → (callbacks : List Code) → c.pre_destroy.callbacks ≡ callbacks → HasFirst chain callbacks
+          → IsFirstStart tables h m chain callbacks x → StartsFarewell tables n c x (Between m ∷ h)
+      by o here [] ec [] es q f = absurd q
+      by o here [] ec (k ∷ callbacks) es q f =
+          subst (λ z. StartsFarewell tables n c z (Between m ∷ h)) (sym f) (
+            record { index = is.index; owner = o; born = inr here; bean = is.bean; known = is.known; is = is.is },
+            subst (λ z. IsFirstOf tables (Between m ∷ h) n z c.pre_destroy.callbacks m k.place) (sym ec) (subst (λ z. IsFirstOf tables (Between m ∷ h) n [] z m k.place) (sym es) (e, refl)),
+          )
+      by o here (i ∷ chain) ec callbacks es q f =
           subst (λ z. StartsFarewell tables n c z (Between m ∷ h)) (sym f.4) (
             record { index = is.index; owner = o; born = inr here; bean = is.bean; known = is.known; is = is.is },
-            subst (λ z. IsFirstOf tables (Between m ∷ h) n z c.pre_destroy.callbacks f.0 (places.Interceptor (f.1).name roles.PreDestroy)) (sym first) (f.1, inr (subst (λ z. IsIn (Born f.0 (components.Interceptor i) (Rattle.cdi_store.specs.declared.instance.Owner.TheVariants.Instance z)) h) e f.2), f.3, refl),
+            subst (λ z. IsFirstOf tables (Between m ∷ h) n z c.pre_destroy.callbacks f.0 (places.Interceptor (f.1).name roles.PreDestroy)) (sym ec) (f.1, inr (subst (λ z. IsIn (Born f.0 (components.Interceptor i) (owners.Instance z)) h) e f.2), f.3, refl),
           )
 
   one : (h : List Item) (k : ℕ) → Least h k → marks n h ≤ k + 1
@@ -89,10 +95,14 @@ not_last n (Between j ∷ h) o g m =
     two : (k : ℕ) → k ≡ 1 → k + 1 ≤ 1 → ⊥
     two k e l = omega arith
 
-pub starts_once : (tables : Tables) (legal : Legal) → StartsOnce tables legal
-starts_once tables legal fits apart once s h l n k i c chain is first g q =
-    let known = known_story tables legal l in
-    let a = (least tables n c i chain first h is known.once h k q (begins_at_mark tables legal fits s h l) (λ y z. z)).1 (not_last n h (in_order s.world h (λ j. sane_story tables legal j l)) g) in
-    let b = (marks_once tables legal s h l n).1 g in
-    let d = starts_at_most_once tables legal apart once s h l n k i c chain first q in
-    omega arith
+pub starts_exactly : (tables : Tables) (h : List Item) (n k : ℕ) (c : Managed) → InOrder h → ((j : ℕ) (a b : _) (o p : _) → IsIn (Born j a o) h → IsIn (Born j b p) h → (a ≡ b) × (o ≡ p)) → Each (IsRightBehindMark tables) h → Each (StartsAtMarkOnly tables) h
+    → Holds (StartsFarewell tables n c) h k → (k ≤ 1) × (IsOfClass tables h n c → HasFirst c.pre_destroy.chain c.pre_destroy.callbacks → IsIn (Wrote (entries.Gone n)) h → k ≡ 1)
+starts_exactly tables h n k c order born begins only q = (
+  at_most tables n c h k (once_in h order n).0 q only,
+  λ is first g.
+      let a = (least tables n c first h is born h k q begins (λ y z. z)).1 (not_last n h order g) in
+      exactly (marks n h) a ((once_in h order n).1 g) (at_most tables n c h k (once_in h order n).0 q only),
+)
+  where
+    exactly : (m : ℕ) → m ≤ k → m ≡ 1 → k ≤ 1 → k ≡ 1
+    exactly m a b d = omega arith

@@ -16,7 +16,7 @@ use Rattle.cdi_ownership.specs.Whose.{IsIn}
 use Rattle.cdi_ledger.specs.Ledger.{Item, Wrote, Between, Born, items_of}
 use Rattle.cdi_ledger.specs.Stories.{Story}
 use Rattle.cdi_ledger.specs.Ends.{Each, IsOfClass, marks}
-use Rattle.cdi_ledger.specs.Callbacks.{Holds, StartsFarewell, PlacesOfBodiesAreApart, FirstsStandOnce, IsBegunOnly, IsInDestruction}
+use Rattle.cdi_ledger.specs.Callbacks.{IsMark, IsFirstOf, Holds, StartsFarewell, PlacesOfBodiesAreApart, FirstsStandOnce, IsInDestruction}
 use Rattle.cdi_worlds_fit.specs.Fits.{Fits}
 
 -- The first body of a pre-destroy chain, and of the callbacks at its end, starts: that of the first interceptor, on the
@@ -58,13 +58,32 @@ BeginsAtMarkIfShort tables legal =
 
 -- ---- each destruction begins its callbacks exactly once
 
+-- the first body starts nowhere but right behind the mark
+abbrev pub StartsAtMarkOnly : Tables → Item → List Item → Type 0
+StartsAtMarkOnly tables (Wrote (entries.Run m place)) h =
+    (n : ℕ) (c : Managed) → IsOfClass tables h n c
+    → IsFirstOf tables h n c.pre_destroy.chain c.pre_destroy.callbacks m place
+    → IsMark n h
+StartsAtMarkOnly tables _ h = Unit {0}
+
+-- there is a first body
+abbrev pub HasFirst : List ℕ → List Code → Type 0
+HasFirst [] [] = ⊥
+HasFirst _ _ = Unit {0}
+
 pub record BeginsOnce (tables : Tables) (h : List Item) : Type 0 where
   -- its mark stands at most once, and once where the instance is gone
   pub marked : (n : ℕ) → (marks n h ≤ 1) × (IsIn (Wrote (entries.Gone n)) h → marks n h ≡ 1)
   -- what stands right behind the mark is the start of the first body
   pub begins : Each (IsRightBehindMark tables) h
   -- which starts nowhere else
-  pub only : Each (IsBegunOnly tables) h
+  pub only : Each (StartsAtMarkOnly tables) h
+  -- and so at most once, and once where the instance is gone
+  pub once : (n k : ℕ) (c : Managed) → Holds (StartsFarewell tables n c) h k
+      → (k ≤ 1) × (IsOfClass tables h n c
+      → HasFirst c.pre_destroy.chain c.pre_destroy.callbacks
+      → IsIn (Wrote (entries.Gone n)) h
+      → k ≡ 1)
   -- and each of the bodies only between the end of the instance and its `gone`
   pub within : Each (IsInDestruction tables) h
 
@@ -84,14 +103,3 @@ DestructionsBeginOnceIfShort tables legal =
     → refusal tables s c ≡ None
     → (r : Runs tables legal (Unit {0}) (task c) (at_begin s.world) o v)
     → BeginsOnce tables (items_of h r)
-
--- Counted: where an interceptor's body is the first, it starts once if the instance is gone.
-abbrev pub StartsOnce : Tables → Legal → Type 0
-StartsOnce tables legal =
-    Fits tables legal → PlacesOfBodiesAreApart tables → FirstsStandOnce tables
-    → (s : State) (h : List Item) → Story tables legal s h
-    → (n k i : ℕ) (c : Managed) (chain : List ℕ) → IsOfClass tables h n c
-    → c.pre_destroy.chain ≡ i ∷ chain
-    → IsIn (Wrote (entries.Gone n)) h
-    → Holds (StartsFarewell tables n c) h k
-    → k ≡ 1

@@ -1,6 +1,6 @@
 //! The laws of farewells. A call of one does nothing: its contract is the law.
 ghost use Rattle.cdi_machine.specs.Tables.{Tables};
-ghost use Rattle.cdi_farewells.specs.Beginnings.{BeginsAtMark, BeginsAtMarkIfShort, DestructionsBeginOnce, DestructionsBeginOnceIfShort, StartsOnce};
+ghost use Rattle.cdi_farewells.specs.Beginnings.{BeginsAtMark, BeginsAtMarkIfShort, DestructionsBeginOnce, DestructionsBeginOnceIfShort};
 ghost use Rattle.cdi_farewells.specs.Worked.{SomeBeginOnce};
 
 use cdi_machine::Driver;
@@ -20,17 +20,15 @@ pub fn law_beginnings<D: Driver>(driver: &D)
 
 /// Each destruction begins its callbacks exactly once: if the tables and the bodies fit one another, and the tables tell the
 /// bodies of a destruction from all others, the mark of a destruction stands at most once, and once where the instance is
-/// gone; what stands right behind it is the start of the first body of the pre-destroy chain and callbacks, which starts
-/// nowhere else; and each of these bodies starts only between the instance's `end` and its `gone`. A callback without an
-/// interceptor before it may start again only where a body proceeds. So it is also if memory runs out. Counted: an
-/// interceptor's body that is the first starts once if the instance is gone.
-#[tactic(auto, using(crate::proofs::Beginning::begin_once, crate::proofs::Beginning::begin_once_if_short, crate::proofs::Counted::starts_once))]
+/// gone; what stands right behind it is the start of the first body of the pre-destroy chain and callbacks; this body starts
+/// nowhere else, so at most once, and once where the instance is gone; and each of these bodies starts only between the
+/// instance's `end` and its `gone`. So it is also if memory runs out.
+#[tactic(auto, using(crate::proofs::Beginning::begin_once, crate::proofs::Beginning::begin_once_if_short))]
 pub fn law_destructions_begin_once<D: Driver>(driver: &D)
     ensures with_memory { (tables : Tables) →
         DestructionsBeginOnce tables (D.legal driver.now) }
     ensures short_of_memory { (tables : Tables) →
         DestructionsBeginOnceIfShort tables (D.legal driver.now) }
-    ensures counted { (tables : Tables) → StartsOnce tables (D.legal driver.now) }
 {
     let _driver = driver;
 }

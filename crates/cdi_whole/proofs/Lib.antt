@@ -1,4 +1,4 @@
-mod Safe
+pub mod Safe
 mod Statements
 mod References
 mod Invocations
@@ -7,7 +7,7 @@ mod Bodies
 mod Acts
 mod Destruction
 mod Events
-mod Tasks
-mod Commands
+pub mod Tasks
+pub mod Commands
 pub mod Presence
 mod Worked

@@ -1,6 +1,5 @@
 -- The law is proved in Beginning.
 use Rattle.cdi_farewells.proofs.Beginning.{begin_once, begin_once_if_short}
-use Rattle.cdi_farewells.proofs.Counted.{starts_once}
 use Rattle.cdi_farewells.proofs.laws.law_destructions_begin_once.Goals as goal
 
 pub returns-clause-with_memory : goal.returns-clause-with_memory
@@ -8,6 +7,3 @@ returns-clause-with_memory g c = λ tables. begin_once tables (g.D.Driver.legal 
 
 pub returns-clause-short_of_memory : goal.returns-clause-short_of_memory
 returns-clause-short_of_memory g c = λ tables. begin_once_if_short tables (g.D.Driver.legal c.args.driver.now)
-
-pub returns-clause-counted : goal.returns-clause-counted
-returns-clause-counted g c = λ tables. starts_once tables (g.D.Driver.legal c.args.driver.now)
