@@ -12,3 +12,4 @@ pub mod Serving
 pub mod StandIns
 pub mod FittingScripts
 pub mod NamedLines
+mod Picked

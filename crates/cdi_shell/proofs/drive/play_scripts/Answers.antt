@@ -12,6 +12,7 @@ use Rattle.cdi_prepare.specs.declared.scripts.NamedScript.{NamedScript}
 use Rattle.cdi_prepare.specs.Scripts.{added, place_under, registered}
 use Rattle.cdi_shell.specs.Drive.{Streams}
 use Rattle.cdi_prepare.proofs.Holding.{holds_add, same_length, same_place, add_known, add_new, holds_all, not_full}
+use Rattle.cdi_shell.proofs.Picked.{picked}
 use Rattle.cdi_shell.proofs.Scripted.{accepted_plays, refusable, refused_plays}
 use Rattle.cdi_shell.proofs.drive.play_scripts.OwnLists.{own-1, at-1-1, own-2, at-2-1}
 use Rattle.cdi_shell.proofs.drive.play_scripts.Goals as goal
@@ -64,7 +65,9 @@ returns-in_ok-new-in-Ok-accept-clause-plays g c =
     accepted_plays c.args.limits.depth c.args.limits.ticks c.args.prepared.deployment entries (registered scripts) streams c.live.result
     (holds_all entries inv.0 c.loop-named.named-iterator.rest.items scripts inv.1 inv.2 all)
     c.new-chooser.result c.in-Ok-accept.tables
-    (λ candidates count i h. let first = rw c.new-chooser.ensures at h in made_post own-2 at-2-1 c.into_dyn_box-in_ok-new-in-Ok-accept.ensures.1 (candidates, (count, tt)) i first)
+    (λ candidates count i h.
+    made_post own-2 at-2-1 c.into_dyn_box-in_ok-new-in-Ok-accept.ensures.1 (candidates, (count, tt)) i
+    (picked c.new-chooser.result c.into_dyn_box-in_ok-new-in-Ok-accept.result c.new-chooser.ensures candidates count i h))
     c.in-Ok-accept.ensures.ok c.live.ensures.lives
 
 pub returns-in-Err-clause-plays : goal.returns-in-Err-clause-plays
