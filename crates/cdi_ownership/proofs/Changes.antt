@@ -18,7 +18,8 @@ use Rattle.cdi_ownership.proofs.Lists.{IsAmong, in_left, among_others, among_lef
 use Rattle.cdi_ownership.proofs.Holdings.{IsMaking, AllHeld, all_held_map, all_held_left, held_left, held_once, held_apart, making_left}
 use Rattle.cdi_ownership.proofs.Cores.{Core, core_of, core_at, deps_at, in_stage, is_there, when_own, when_other, core_ready, core_leaving, ready_was, ready_stays, ready_own, ready_only, leaving_was, leaving_stays, leaving_only, core_gone, core_left, deps_gone, deps_left, core_born, core_before, deps_born, deps_before, no_deps}
 use Rattle.cdi_ownership.proofs.Places.{context_or, context_own, context_other}
-use Rattle.cdi_ownership.proofs.Homes.{codes, being, Grown, grown_self, Inv, HeldIn, IsReadyOf, Placed, OnStack, targets}
+use Rattle.cdi_store.specs.declared.references.Reference.{Reference}
+use Rattle.cdi_ownership.proofs.Homes.{codes, provisions, AreParameters, MayOwn, IsNewAt, IsReferred, being, Grown, grown_self, Inv, HeldIn, IsReadyOf, Placed, OnStack, targets}
 
 -- ---- one instance moves, and the others stay
 
@@ -27,6 +28,7 @@ pub record Moves (M : Context → ℕ → Type 0) (T : ℕ → Type 0) (n : ℕ)
   pub bodies : v.bodies ≡ w.bodies
   pub targets : targets v.invocations ≡ targets w.invocations
   pub members : codes v.invocations ≡ codes w.invocations
+  pub provisions : provisions v.invocations ≡ provisions w.invocations
   pub lists : (k : ℕ) → T k → Grown k w.temporaries v.temporaries
   pub own : core_at n v.instances ≡ x
   pub other : (k : ℕ) → k ≢ n → core_at k v.instances ≡ core_at k w.instances
@@ -49,6 +51,10 @@ pub record Kept (n : ℕ) (w v : World) : Type 0 where
   pub made : (k : ℕ) (x : Context) (b : ℕ) → k ≢ n → core_at k w.instances ≡ Some (being b x) → IsMaking (context_at w.contexts x) b → IsMaking (context_at v.contexts x) b
   pub made_own : (x : Context) (b : ℕ) → core_at n v.instances ≡ Some (being b x) → IsMaking (context_at v.contexts x) b
   pub one_own : (k : ℕ) (x : Context) (b : ℕ) → k ≢ n → core_at n v.instances ≡ Some (being b x) → core_at k w.instances ≡ Some (being b x) → ⊥
+  pub invocations : v.invocations ≡ w.invocations
+  pub owner_own : (c : Core) → core_at n v.instances ≡ Some c → n < w.next → (d : Core) × (core_at n w.instances ≡ Some d) × (d.owner ≡ c.owner)
+  -- no invocation has what is younger than one that is no longer being made
+  pub older : IsNewAt n w → (m : ℕ) → IsReferred m (provisions w.invocations) → m < n
 
 ready_of : (w v : World) (k : ℕ) (o : Owner) → core_at k v.instances ≡ core_at k w.instances → IsReadyOf w k o → IsReadyOf v k o
 ready_of w v k o e q = (q.0, e ∙ q.1)
@@ -91,7 +97,30 @@ inv_kept n w v g q = record {
       | inr t ↦ g.one j k x b (sym (q.other j s.1) ∙ e) (sym (q.other k t.1) ∙ f)
     ]
   ];
+  provided = λ t rs i. params t rs (subst (IsIn (t, rs)) (ap provisions q.invocations) i);
 }
+  where
+    params : (t : ℕ) (rs : List Reference) → IsIn (t, rs) (provisions w.invocations) → AreParameters t rs v
+    params t rs i k m e =
+        let p = g.provided t rs i k m e in
+        ((let l = p.0 in let y = q.next in omega arith), λ c f. elim (equal_or_not m n) [
+          | inl s ↦
+              let d = q.owner_own c (subst (λ z. core_at z v.instances ≡ Some c) s.1 f) (subst (λ z. z < w.next) s.1 p.0) in
+              let x : core_at m w.instances ≡ Some d.0 = subst (λ z. core_at z w.instances ≡ Some d.0) (sym s.1) d.1 in
+              moved c.owner d.0 x d.2 (subst (λ z. MayOwn t z w) d.2 (p.1 d.0 x))
+          | inr s ↦ let x = sym (q.other m s.1) ∙ f in moved c.owner c x refl (p.1 c x)
+        ])
+      where
+        moved : (owner : Owner) (d : Core) → core_at m w.instances ≡ Some d → d.owner ≡ owner → MayOwn t owner w → MayOwn t owner v
+        moved owner d x o (inl z) = inl z
+        moved owner d x o (inr (inl a)) = inr (inl (a.0, a.1, elim (equal_or_not a.0 n) [
+          | inl s ↦ absurd (
+              let l = q.older (subst (λ z. IsNewAt z w) s.1 a.2) m (record { target = t; references = rs; among = i; place = k; direct = e }) in
+              let b = g.smaller m a.0 d x (o ∙ a.1) in
+              omega (arith, s.1))
+          | inr s ↦ (a.2.0, q.other a.0 s.1 ∙ a.2.1, a.2.2)
+        ]))
+        moved owner d x o (inr (inr z)) = inr (inr z)
 
 -- ---- the destruction of an instance that is ready begins
 
@@ -162,6 +191,9 @@ module _ (w : World) (n : ℕ) (g : Inv w) where
       made = mk;
       made_own = λ y a q. absurd (never y a q);
       one_own = λ k y a d q r. never y a q;
+      invocations = t;
+      owner_own = λ d q l. (c, e, sym (leave_owner phases.Leaving c d (sym leave_own ∙ (sym (ap (core_at n) i) ∙ q))));
+      older = λ a m q. absurd (let z = ap (λ (z : Core). z.phase) (one_core e a.1) in let y : phases.New ≡ phases.Ready = sym a.2 ∙ (z ∙ ready) in cc);
     }
       where
         never : (y : Context) (a : ℕ) → core_at n v.instances ≡ Some (being a y) → ⊥
@@ -185,7 +217,7 @@ module _ (w : World) (n : ℕ) (g : Inv w) where
           inv_kept n w v g (leave_kept v refl refl refl refl (λ k d h. h) (λ h. let z : owners.Instance m ≡ owners.Borrower = sym o ∙ among_owner h in cc)
               (λ d. all_held_map (HeldIn w d) (HeldIn v d) (context_at w.contexts d) (held_on v refl d (λ z. let y : owners.Instance m ≡ owners.Context d = sym o ∙ z in cc)) (g.held d))
               (λ k d. placing k d.component d.owner) (λ k y a d f h. h)),
-          record { bodies = refl; targets = refl; members = refl; lists = λ k t. grown_self k w.temporaries; own = leave_own; other = leave_other; making = λ c b f h. h; absent = λ c h. h },
+          record { bodies = refl; targets = refl; members = refl; provisions = refl; lists = λ k t. grown_self k w.temporaries; own = leave_own; other = leave_other; making = λ c b f h. h; absent = λ c h. h },
           refl,
         )
       where
@@ -198,7 +230,7 @@ module _ (w : World) (n : ℕ) (g : Inv w) where
           inv_kept n w v g (leave_kept v refl refl refl refl (λ k d h. (among_left k n w.temporaries h).1) (λ h. (among_left n n w.temporaries h).0 refl)
               (λ d. all_held_map (HeldIn w d) (HeldIn v d) (context_at w.contexts d) (held_on v refl d (λ z. let y : owners.Borrower ≡ owners.Context d = sym o ∙ z in cc)) (g.held d))
               (λ k d. placing k d.component d.owner) (λ k y a d f h. h)),
-          record { bodies = refl; targets = refl; members = refl; lists = λ k t. grown_less n k w.temporaries; own = leave_own; other = leave_other; making = λ c b f h. h; absent = λ c h. h },
+          record { bodies = refl; targets = refl; members = refl; provisions = refl; lists = λ k t. grown_less n k w.temporaries; own = leave_own; other = leave_other; making = λ c b f h. h; absent = λ c h. h },
           refl,
         )
       where
@@ -216,7 +248,7 @@ module _ (w : World) (n : ℕ) (g : Inv w) where
             by (Some a) h = h
     leave_by (owners.Context x) (components.Bean b) o q = (
       inv_kept n w v g (leave_kept v refl refl refl refl (λ k d h. h) (λ h. let z : owners.Context x ≡ owners.Borrower = sym o ∙ among_owner h in cc) held (λ k d. placing k d.component d.owner) (λ k y a d f h. still y a h)),
-      record { bodies = refl; targets = refl; members = refl; lists = λ k t. grown_self k w.temporaries; own = leave_own; other = leave_other; making = λ c b f h. still c b h; absent = away },
+      record { bodies = refl; targets = refl; members = refl; provisions = refl; lists = λ k t. grown_self k w.temporaries; own = leave_own; other = leave_other; making = λ c b f h. still c b h; absent = away },
       refl,
     )
       where
@@ -304,8 +336,11 @@ module _ (w : World) (n : ℕ) (g : Inv w) where
         made = λ k x b d f h. h;
         made_own = λ x b f. absurd (gone _ f);
         one_own = λ k x b d f q. gone _ f;
+        invocations = refl;
+        owner_own = λ d f l. absurd (gone d f);
+        older = λ a m q. absurd (let z = ap (λ (z : Core). z.phase) (one_core e a.1) in let y : phases.New ≡ phases.Leaving = sym a.2 ∙ (z ∙ leaving) in cc);
       }),
-      record { bodies = refl; targets = refl; members = refl; lists = λ k t. grown_self k w.temporaries; own = core_gone w.instances n; other = core_left w.instances n; making = λ c b f h. h; absent = λ c h. h },
+      record { bodies = refl; targets = refl; members = refl; provisions = refl; lists = λ k t. grown_self k w.temporaries; own = core_gone w.instances n; other = core_left w.instances n; making = λ c b f h. h; absent = λ c h. h },
     )
       where
         v : World

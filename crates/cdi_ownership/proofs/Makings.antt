@@ -19,7 +19,7 @@ use Rattle.cdi_ownership.proofs.Lists.{IsAmong, HasTop, in_either, among_new, am
 use Rattle.cdi_ownership.proofs.Holdings.{IsMaking, AllHeld, all_held_map, all_held_put, all_held_left, held_left, making_left, held_put, put_held, making_put, making_none}
 use Rattle.cdi_ownership.proofs.Cores.{Core, core_at, deps_at, in_stage, when, is_there, when_own, when_other, core_ready, ready_was, ready_stays, ready_own, ready_only, core_gone, core_left, deps_gone, deps_left}
 use Rattle.cdi_ownership.proofs.Places.{context_or, context_own, context_other}
-use Rattle.cdi_ownership.proofs.Homes.{being, Grown, grown_self, Inv, HeldIn, IsReadyOf, Placed, targets}
+use Rattle.cdi_ownership.proofs.Homes.{provisions, IsReferred, being, Grown, grown_self, Inv, HeldIn, IsReadyOf, Placed, targets}
 use Rattle.cdi_ownership.proofs.Changes.{Moves, Kept, inv_kept, one_core, leave_stage, leave_owner, leave_component}
 
 -- the pair that isn't told to be still making
@@ -42,7 +42,8 @@ settled_is w n x e = subst (λ z. for_instance w z (λ o. with_owned n o.compone
 discarded_is : (w : World) (n : ℕ) (x : Instance) → instance_at w n ≡ Some x → after_change (Change.Discard n) w ≡ without_making x.component x.owner (with_instances (without n) w)
 discarded_is w n x e = subst (λ z. for_instance w z (λ o. without_making o.component o.owner (with_instances (without n) w)) ≡ without_making x.component x.owner (with_instances (without n) w)) (sym e) refl
 
-module _ (w : World) (n : ℕ) (g : Inv w) (c : Core) (e : core_at n w.instances ≡ Some c) (new : c.phase ≡ phases.New) where
+-- no invocation has a direct reference to what is younger
+module _ (w : World) (n : ℕ) (g : Inv w) (c : Core) (e : core_at n w.instances ≡ Some c) (new : c.phase ≡ phases.New) (older : (m : ℕ) → IsReferred m (provisions w.invocations) → m < n) where
   not_ready : (component : Component) (owner : Owner) → core_at n w.instances ≡ Some (record { component = component; owner = owner; phase = phases.Ready }) → ⊥
   not_ready component owner f = let q = ap (λ (z : Core). z.phase) (one_core e f) in let r : phases.Ready ≡ phases.New = q ∙ new in cc
 
@@ -87,6 +88,9 @@ module _ (w : World) (n : ℕ) (g : Inv w) (c : Core) (e : core_at n w.instances
     made = mk;
     made_own = λ y a q. absurd (never y a q);
     one_own = λ k y a d q r. never y a q;
+    invocations = t;
+    owner_own = λ d q l. (c, e, sym (leave_owner phases.Ready c d (sym own_ready ∙ (sym (ap (core_at n) i) ∙ q))));
+    older = λ a. older;
   }
     where
       never : (y : Context) (a : ℕ) → core_at n v.instances ≡ Some (being a y) → ⊥
@@ -111,7 +115,7 @@ module _ (w : World) (n : ℕ) (g : Inv w) (c : Core) (e : core_at n w.instances
         inv_kept n w v g (ready_kept v refl refl refl refl (λ k d h. h) (λ h. absurd (not_among h))
             (λ d. all_held_map (HeldIn w d) (HeldIn v d) (context_at w.contexts d) (held_on v refl d) (g.held d))
             (λ k d. placing k d.component d.owner) (subst (λ z. Placed v n c.component z) (sym o) (ready_own n w.instances c e m can.0 o can.1)) (λ k y a d f h. h)),
-        record { bodies = refl; targets = refl; members = refl; lists = λ k t. grown_self k w.temporaries; own = own_ready; other = other_ready; making = λ c b f h. h; absent = λ c h. h },
+        record { bodies = refl; targets = refl; members = refl; provisions = refl; lists = λ k t. grown_self k w.temporaries; own = own_ready; other = other_ready; making = λ c b f h. h; absent = λ c h. h },
         refl,
       )
     where
@@ -124,7 +128,7 @@ module _ (w : World) (n : ℕ) (g : Inv w) (c : Core) (e : core_at n w.instances
         inv_kept n w v g (ready_kept v refl refl refl refl (λ k d h. elim (among_either k n w.temporaries h) [ inl r ↦ r | inr r ↦ absurd (d (sym r)) ]) (λ h. (component, stands o q))
             (λ d. all_held_map (HeldIn w d) (HeldIn v d) (context_at w.contexts d) (held_on v refl d) (g.held d))
             (λ k d. placing k d.component d.owner) (subst (λ z. Placed v n c.component z) (sym o) (among_new n w.temporaries can)) (λ k y a d f h. h)),
-        record { bodies = refl; targets = refl; members = refl; lists = λ k t. grown_top n k w.temporaries t; own = own_ready; other = other_ready; making = λ c b f h. h; absent = λ c h. h },
+        record { bodies = refl; targets = refl; members = refl; provisions = refl; lists = λ k t. grown_top n k w.temporaries t; own = own_ready; other = other_ready; making = λ c b f h. h; absent = λ c h. h },
         refl,
       )
     where
@@ -135,7 +139,7 @@ module _ (w : World) (n : ℕ) (g : Inv w) (c : Core) (e : core_at n w.instances
   settle_by (owners.Context x) (components.Interceptor i) o q can = absurd (let z = can.1 in cc)
   settle_by (owners.Context x) (components.Bean b) o q can = (
     inv_kept n w v g (ready_kept v refl refl refl refl (λ k d h. h) (λ h. absurd (not_among h)) held (λ k d. placing k d.component d.owner) home (λ k y a d f h. still y a (λ z. d (g.one k n y a f (own_being y a z))) h)),
-    record { bodies = refl; targets = refl; members = refl; lists = λ k t. grown_self k w.temporaries; own = own_ready; other = other_ready; making = still; absent = away },
+    record { bodies = refl; targets = refl; members = refl; provisions = refl; lists = λ k t. grown_self k w.temporaries; own = own_ready; other = other_ready; making = still; absent = away },
     refl,
   )
     where
@@ -216,6 +220,9 @@ module _ (w : World) (n : ℕ) (g : Inv w) (c : Core) (e : core_at n w.instances
       made = mk;
       made_own = λ y a q. absurd (gone _ q);
       one_own = λ k y a d q r. gone _ q;
+      invocations = t;
+      owner_own = λ d q l. absurd (gone d q);
+      older = λ a. older;
     }
       where
         gone : (d : Core) → core_at n v.instances ≡ Some d → ⊥
@@ -245,7 +252,7 @@ module _ (w : World) (n : ℕ) (g : Inv w) (c : Core) (e : core_at n w.instances
     drop_plain : (v : World) → v ≡ with_instances (without n) w → DroppedTo v
     drop_plain v p = subst DroppedTo (sym p) (
       inv_kept n w u g (drop_kept u refl refl refl refl refl (λ d. all_held_map (HeldIn w d) (HeldIn u d) (context_at w.contexts d) (lost_on u refl d) (g.held d)) (λ k component x d h. h) (λ k y a d f h. h)),
-      record { bodies = refl; targets = refl; members = refl; lists = λ k t. grown_self k w.temporaries; own = core_gone w.instances n; other = core_left w.instances n; making = λ c b f h. h; absent = λ c h. h },
+      record { bodies = refl; targets = refl; members = refl; provisions = refl; lists = λ k t. grown_self k w.temporaries; own = core_gone w.instances n; other = core_left w.instances n; making = λ c b f h. h; absent = λ c h. h },
       refl,
     )
       where
@@ -258,7 +265,7 @@ module _ (w : World) (n : ℕ) (g : Inv w) (c : Core) (e : core_at n w.instances
     drop_by (owners.Context x) (components.Interceptor i) o q can = absurd (let z = can.1 in cc)
     drop_by (owners.Context x) (components.Bean b) o q can = (
       inv_kept n w v g (drop_kept v refl refl refl refl refl held kept (λ k y a d f h. still y a (λ z. d (g.one k n y a f (own_being y a z))) h)),
-      record { bodies = refl; targets = refl; members = refl; lists = λ k t. grown_self k w.temporaries; own = core_gone w.instances n; other = core_left w.instances n; making = still; absent = away },
+      record { bodies = refl; targets = refl; members = refl; provisions = refl; lists = λ k t. grown_self k w.temporaries; own = core_gone w.instances n; other = core_left w.instances n; making = still; absent = away },
       refl,
     )
       where

@@ -18,7 +18,7 @@ use Rattle.cdi_ownership.proofs.Lists.{IsAmong}
 use Rattle.cdi_ownership.proofs.Holdings.{IsMaking, IsFree, AllHeld, all_held_map, all_held_put, held_put, put_making, making_put, free_none, free_apart}
 use Rattle.cdi_ownership.proofs.Cores.{Core, core_of, core_at, deps_at, in_stage, core_born, core_before, deps_born, deps_before}
 use Rattle.cdi_ownership.proofs.Places.{context_or, context_own, context_other}
-use Rattle.cdi_ownership.proofs.Homes.{codes, being, Grown, grown_self, grown_then, Inv, HeldIn, IsReadyOf, Placed, OnStack, Busy, IsFixed, IsStaying, Chain, Rel, rel_self, rel_then, targets, lt_or, chain_map, fixed_then, was_busy}
+use Rattle.cdi_ownership.proofs.Homes.{codes, provisions, parameters_same, being, Grown, grown_self, grown_then, Inv, HeldIn, IsReadyOf, Placed, OnStack, Busy, IsFixed, IsStaying, Chain, Rel, rel_self, rel_then, targets, lt_or, chain_map, fixed_then, was_busy}
 use Rattle.cdi_ownership.proofs.Changes.{Moves, inv_kept, one_core}
 use Rattle.cdi_ownership.proofs.Makings.{For}
 
@@ -29,6 +29,7 @@ pub record Still (w v : World) : Type 0 where
   pub bodies : v.bodies ≡ w.bodies
   pub targets : targets v.invocations ≡ targets w.invocations
   pub members : codes v.invocations ≡ codes w.invocations
+  pub provisions : provisions v.invocations ≡ provisions w.invocations
   pub temporaries : v.temporaries ≡ w.temporaries
   pub core : (k : ℕ) → core_at k v.instances ≡ core_at k w.instances
   pub deps : (k : ℕ) → deps_at k v.instances ≡ deps_at k w.instances
@@ -52,6 +53,7 @@ inv_still w v s g = record {
   placed = λ k c e r. by k c.component c.owner (g.placed k c (sym (s.core k) ∙ e) r);
   made = λ k x b e. subst (λ z. IsMaking z b) (sym (s.contexts x)) (g.made k x b (sym (s.core k) ∙ e));
   one = λ j k x b e f. g.one j k x b (sym (s.core j) ∙ e) (sym (s.core k) ∙ f);
+  provided = λ n rs i. parameters_same w v n rs s.next s.core (g.provided n rs (subst (IsIn (n, rs)) s.provisions i));
 }
   where
     by : (k : ℕ) (component : Component) (owner : Owner) → Placed w k component owner → Placed v k component owner
@@ -65,6 +67,7 @@ rel_still w v s g = record {
   bodies = s.bodies;
   targets = s.targets;
   members = s.members;
+  provisions = s.provisions;
   lists = subst (Grown w.next w.temporaries) (sym s.temporaries) (grown_self w.next w.temporaries);
   old = λ k c l e. sym (s.core k) ∙ e;
   new = λ k c l e. (let b = g.below k c (sym (s.core k) ∙ e) in absurd (omega arith));
@@ -100,6 +103,7 @@ rel_destroyed w w1 w3 w4 n c x e ready idle g a i r b j = record {
   bodies = b.bodies ∙ (r.bodies ∙ a.bodies);
   targets = b.targets ∙ (r.targets ∙ a.targets);
   members = b.members ∙ (r.members ∙ a.members);
+  provisions = b.provisions ∙ (r.provisions ∙ a.provisions);
   lists = grown_then w.next w.next w.temporaries w1.temporaries w4.temporaries (omega arith) (a.lists w.next tt)
       (grown_then w.next w.next w1.temporaries w3.temporaries w4.temporaries (omega arith) (subst (λ z. Grown z w1.temporaries w3.temporaries) i r.lists) (b.lists w.next tt));
   old = λ k d l f. elim (equal_or_not k n) [
@@ -201,6 +205,9 @@ module _ (w : World) (g : Inv w) (component : Component) (fields : Fields) where
       made = m;
       made_own = λ x b q. mo x b (ap (λ (z : Core). z.owner) (one_core q born)) (ap (λ (z : Core). z.component) (one_core q born));
       one_own = λ k x b d q f. free_apart (context_at w.contexts x) b b (fr x b (ap (λ (z : Core). z.owner) (one_core q born)) (ap (λ (z : Core). z.component) (one_core q born))) (g.made k x b f) refl;
+      invocations = t;
+      owner_own = λ d q l. absurd (omega arith);
+      older = λ a m q. absurd (not_born a.0 a.1);
     })
       where
         placing : (k : ℕ) (component : Component) (owner : Owner) → Placed w k component owner → Placed v k component owner
@@ -211,7 +218,7 @@ module _ (w : World) (g : Inv w) (component : Component) (fields : Fields) where
   begin_plain : (owner : Owner) → ((m : ℕ) → owner ≡ owners.Instance m → m < w.next) → MakingIn w component owner → (v : World) → v ≡ record w { instances = with_newborn w.next component owner fields w.instances; next = w.next + 1 } → ((u : World) → u.contexts ≡ w.contexts → MakingIn u component owner) → ((x : Context) → owner ≡ owners.Context x → ⊥) → Begun w v component owner
   begin_plain owner small can v p mk nc = subst (λ z. Begun w z component owner) (sym p) (record {
     inv = begun_inv owner u refl refl small refl refl refl (λ d. all_held_map (HeldIn w d) (HeldIn u d) (context_at w.contexts d) (held_on owner u refl refl small d) (g.held d)) (λ k component x h. h) (λ k x b d e h. h) (λ x b e q. absurd (nc x e)) (λ x b e q. absurd (nc x e));
-    moves = record { bodies = refl; targets = refl; members = refl; lists = λ k t. grown_self k w.temporaries; own = born owner u refl refl small; other = others owner u refl refl small; making = λ c b f h. h; absent = λ c h. h };
+    moves = record { bodies = refl; targets = refl; members = refl; provisions = refl; lists = λ k t. grown_self k w.temporaries; own = born owner u refl refl small; other = others owner u refl refl small; making = λ c b f h. h; absent = λ c h. h };
     next = refl;
     making = mk u refl;
   })
@@ -230,7 +237,7 @@ module _ (w : World) (g : Inv w) (b : ℕ) (x : Context) (fields : Fields) (free
     moves = record {
       bodies = refl;
       targets = refl;
-      members = refl;
+      members = refl; provisions = refl;
       lists = λ k t. grown_self k w.temporaries;
       own = born w g (components.Bean b) fields (owners.Context x) bean_world refl refl small;
       other = others w g (components.Bean b) fields (owners.Context x) bean_world refl refl small;
@@ -307,6 +314,7 @@ rel_created w w1 w2 w3 component owner x g can a r b t j ready = record {
   bodies = b.bodies ∙ (r.bodies ∙ a.moves.bodies);
   targets = b.targets ∙ (r.targets ∙ a.moves.targets);
   members = b.members ∙ (r.members ∙ a.moves.members);
+  provisions = b.provisions ∙ (r.provisions ∙ a.moves.provisions);
   lists = grown_then w.next w.next w.temporaries w1.temporaries w3.temporaries (omega arith) (a.moves.lists w.next tt)
       (grown_then w.next w.next w1.temporaries w2.temporaries w3.temporaries (omega arith) (less w.next w1.next w1.temporaries w2.temporaries (let z = a.next in omega arith) r.lists) (b.lists w.next t));
   old = λ k d l f. elim (equal_or_not k w.next) [
