@@ -1,5 +1,5 @@
 -- Each creation, and so each task, leaves what it is to leave.
-use Rattle.std.proofs.Common.{ℕ, ◌≡◌, ◌<◌, ◌≤◌, List, ◌∷◌, ◌⊎◌, inl, inr, Option, Some, None, Bool, true, false, refl, sym, ap, ◌∙◌, arith}
+use Rattle.std.proofs.Common.{ℕ, ◌≡◌, ◌<◌, ◌≤◌, List, ◌∷◌, ◌⊎◌, inl, inr, Option, Some, None, Bool, true, false, refl, sym, ap, ◌∙◌, subst, arith}
 use Rattle.std.specs.Prelude.{nat_lt}
 use Rattle.cdi_base.specs.declared.value.Value.TheVariants as values
 use Rattle.cdi_base.specs.declared.entry.Entry.TheVariants as entries
@@ -21,9 +21,9 @@ use Rattle.cdi_machine.specs.Events.{fire, notify}
 use Rattle.cdi_ledger.specs.Ledger.{Born, Item, Wrote}
 use Rattle.cdi_ownership.specs.Whose.{IsIn}
 use Rattle.cdi_ownership.proofs.Cores.{Core, core_at, deps_at}
-use Rattle.cdi_ownership.proofs.Homes.{Inv, Rel, Grown, Placed, HeldIn, OnStack, Busy, IsFixed, targets, rel_self, rel_then, was_busy}
+use Rattle.cdi_ownership.proofs.Homes.{IsNewAt, IsReferred, referred_below, provisions, Inv, Rel, Grown, Placed, HeldIn, OnStack, Busy, IsFixed, targets, rel_self, rel_then, was_busy}
 use Rattle.cdi_ownership.proofs.Spans.{Still, inv_still, rel_still}
-use Rattle.cdi_ledger.proofs.Owed.{Ok, IsNewAt, IsMadeFor, AreMadeFor, Pre, Post, IsGiven, IsNumbered, AreNumbered, Anchored, CanOwn, anchored_then}
+use Rattle.cdi_ledger.proofs.Owed.{Ok, IsMadeFor, AreMadeFor, Pre, Post, IsGiven, IsNumbered, AreNumbered, Anchored, CanOwn, anchored_then}
 use Rattle.cdi_ledger.proofs.Judge.{bind}
 use Rattle.cdi_ledger.proofs.Fine as fine
 use Rattle.cdi_ledger.proofs.Fine.{Stacked, stacked_inv, unstacked, targets_below, list_below}
@@ -40,7 +40,7 @@ use Rattle.cdi_ownership.proofs.Makings.{CanStand, settles, drops}
 use Rattle.cdi_ownership.proofs.Spans.{CanBegin, MakingIn, Begun, begins, rel_created, rel_destroyed}
 use Rattle.cdi_ledger.proofs.Owed.{IsFreeBelow}
 use Rattle.std.specs.Prelude.{◌^◌}
-use Rattle.cdi_ledger.proofs.Standing.{CanHave, have_then, top_then, own_of, below_then, live_below, inside_still, invocation_still, f_bean, f_interceptor, f_instance, f_resolved, f_picked, f_reference, f_injected, f_all_injected, f_use, f_destroy_by, f_provide}
+use Rattle.cdi_ledger.proofs.Standing.{CanHave, have_then, top_then, own_of, below_then, live_below, inside_still, invocation_still, f_bean, f_interceptor, f_instance, f_resolved, f_picked, f_reference, f_injected, f_use, f_destroy_by}
 use Rattle.cdi_ledger.proofs.Tasks.{body_does, destroy_does, release_does, dismiss_does, clear_does}
 
 module _ (t : Tables) where
@@ -84,6 +84,10 @@ module _ (t : Tables) where
       new_at : (v : World) → Rel w1 v → core_at n v.instances ≡ Some newborn_core
       new_at v r = r.stay n newborn_core begun.moves.own (inl refl)
 
+      -- what an invocation has for parameters is older
+      older : (v : World) → Rel w1 v → (m : ℕ) → IsReferred m (provisions v.invocations) → m < n
+      older v r m q = referred_below w0 m g0 (subst (IsReferred m) (r.provisions ∙ begun.moves.provisions) q)
+
       from_start : (v : World) → Rel w0 v → Rel w v
       from_start v r = rel_then w w0 v (fine.rel_entry (entries.New n place) w w g (rel_self w g)) r
 
@@ -96,7 +100,7 @@ module _ (t : Tables) where
           let v0 : World = with_entry (entries.Ready n) v in
           let gv0 : Inv v0 = fine.inv_entry (entries.Ready n) v gv in
           let r0 : Rel w1 v0 = fine.rel_entry (entries.Ready n) w1 v gv r in
-          let s = settles v0 n gv0 newborn_core (new_at v0 r0) refl (stands v0 r0) in
+          let s = settles v0 n gv0 newborn_core (new_at v0 r0) refl (older v0 r0) (stands v0 r0) in
           let q = rel_created {T = λ k. k ≤ n} w0 w1 v0 (after_change (Change.Settle n) v0) component owner (Some (in_stage phases.Ready newborn_core)) g0 can0 begun r0 s.1 (omega arith) s.2 is_ready in
           (gv, (s.0, (from_start (after_change (Change.Settle n) v0) q, (in_stage phases.Ready newborn_core, s.1.own, refl, refl))))
 
@@ -119,7 +123,7 @@ module _ (t : Tables) where
               let v0 : World = with_entry (entries.Drop n) u in
               let gv0 : Inv v0 = fine.inv_entry (entries.Drop n) u gu in
               let r0 : Rel w1 v0 = fine.rel_entry (entries.Drop n) w1 u gu ru in
-              let s = drops v0 n gv0 newborn_core (new_at v0 r0) refl p.2 (stands v0 r0) in
+              let s = drops v0 n gv0 newborn_core (new_at v0 r0) refl (older v0 r0) p.2 (stands v0 r0) in
               let q = rel_created {T = λ k. Unit {0}} w0 w1 v0 (after_change (Change.Discard n) v0) component owner None g0 can0 begun r0 s.1 tt s.2 (λ c e. absurd (cc)) in
               (gu, fine.rebased t w (after_change (Change.Discard n) v0) rest _ (λ a w. IsMadeFor owner a w) (from_start (after_change (Change.Discard n) v0) q) (f (after_change (Change.Discard n) v0) (after_change (Change.Discard n) v0) _ s.0 (rel_self (after_change (Change.Discard n) v0) s.0)))
           after (Completion.Threw a) u j gu p = absurd p.1

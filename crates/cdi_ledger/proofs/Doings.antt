@@ -38,7 +38,7 @@ use Rattle.cdi_machine.specs.Programs.{ActiveContext, cut, miss, change, tick, m
 use Rattle.cdi_machine.specs.Contexts.{is_normal, refer_to, resolve_point, resolve_points, reach_instance}
 use Rattle.cdi_machine.specs.Bodies.{is_of, first_of, invoke_by, provide, invoke, call_back, given_by, body_at_start, interceptor_of, run_rest, reference_at, find_reference, method_in, bean_of, method_of, invoke_method, fits, replace_parameters, repeats, proceed, carry_out, find, answer_of, with_answer, after_act, answer_find, perform, carry_on}
 use Rattle.cdi_machine.specs.Destruction.{give_back, borrow_for, obtain_receiver, dispose, clean_up_bean, clean_up}
-use Rattle.cdi_machine.specs.Creation.{construct, inject, take_step, call_producer, accept, produce, make}
+use Rattle.cdi_machine.specs.Creation.{construct, inject, initialize, take_step, call_producer, accept, produce, make}
 use Rattle.cdi_machine.specs.Events.{fire, observe, deliver, notify, is_skipped, fire_context_event, fire_container_event, qualifier}
 use Rattle.cdi_ledger.specs.Ledger.{Item, Wrote, fate}
 use Rattle.cdi_ledger.proofs.Past.{Past}
@@ -48,12 +48,12 @@ use Rattle.cdi_store.specs.Live.{Instances}
 use Rattle.cdi_ownership.specs.Whose.{IsIn}
 use Rattle.cdi_ownership.proofs.Lists.{HasTop, TopEmpty, among_below, below_among, in_got}
 use Rattle.cdi_ownership.proofs.Cores.{Core, core_of, core_at, deps_at}
-use Rattle.cdi_ownership.proofs.Homes.{codes, Inv, Rel, Grown, Placed, HeldIn, OnStack, Busy, IsFixed, targets, rel_self, rel_then, was_busy}
+use Rattle.cdi_ownership.proofs.Homes.{IsNewAt, MayOwn, Inside, new_then, no_parameters, parameters_same, provisions, codes, Inv, Rel, Grown, Placed, HeldIn, OnStack, Busy, IsFixed, targets, rel_self, rel_then, was_busy}
 use Rattle.cdi_ownership.proofs.Spans.{Still, inv_still, rel_still}
-use Rattle.cdi_ledger.proofs.Owed.{IsOwned, IsLeft, OwnLocals, IsSet, set_then, within_none, within_first, CanStart, StartsSo, LeftSo, AtMember, IsMemberAt, none_start, in_farewell, farewell_map, farewell_then, usable_same, one_class, Ok, EntersSo, IsKnown, IsAttending, one_ordinary, IsUsable, IsNewAt, MayEnter, MayRun, IsMember, usable_enters, usable_runs, new_then, new_usable, RefersTo, Pre, Post, IsTop, IsGiven, Anchored, anchored_then}
+use Rattle.cdi_ledger.proofs.Owed.{IsOwned, IsLeft, OwnLocals, IsSet, set_then, within_none, within_first, CanStart, StartsSo, LeftSo, AtMember, IsMemberAt, none_start, in_farewell, farewell_map, farewell_then, usable_same, one_class, Ok, EntersSo, IsKnown, IsAttending, one_ordinary, AllReferTo, IsUsable, MayEnter, MayRun, IsMember, usable_enters, usable_runs, new_usable, RefersTo, Pre, Post, IsTop, IsGiven, Anchored, anchored_then}
 use Rattle.cdi_ledger.proofs.Judge.{bind}
 use Rattle.cdi_ledger.proofs.Fine as fine
-use Rattle.cdi_ledger.proofs.Standing.{f_referring, f_interceptor_of, CanHave, have_then, top_then, own_of, below_then, live_below, inside_still, invocation_still, f_bean, f_interceptor, f_instance, f_resolved, f_picked, f_reference, f_injected, f_all_injected, f_use, f_destroy_by, f_provide}
+use Rattle.cdi_ledger.proofs.Standing.{f_referring, f_interceptor_of, CanHave, have_then, top_then, own_of, below_then, live_below, inside_still, invocation_still, f_bean, f_interceptor, f_instance, f_resolved, f_picked, f_reference, f_injected, all_injected, f_use, f_destroy_by, providing}
 
 abbrev IsTopOf : Invocation → List Invocation → Type 0
 IsTopOf v [] = ⊥
@@ -93,6 +93,19 @@ have_up w u (owners.Instance m) i t f h = (h.0, subst (λ z. core_at m z ≡ Som
     fixed (inr (inl e)) = inr (inl e)
     fixed (inr (inr b)) = inr (inr (b.0, f b.0 b.1, subst (λ z. Rattle.cdi_ownership.proofs.Homes.Chain z b.0 m) (sym i) b.2))
 have_up w u owners.Borrower i t f h = subst HasTop (sym t) h
+
+may_up : (w u : World) (n : ℕ) (owner : Owner) → u.instances ≡ w.instances → MayOwn n owner w → MayOwn n owner u
+may_up w u n owner i (inl e) = inl e
+may_up w u n owner i (inr (inl a)) = inr (inl (a.0, a.1, (a.2.0, subst (λ z. core_at a.0 z ≡ Some a.2.0) (sym i) a.2.1, a.2.2)))
+may_up w u n owner i (inr (inr e)) = inr (inr e)
+
+-- the target of the innermost invocation stays there
+usable_inside : (u w : World) (n : ℕ) → Inside u w → (ts : List ℕ) → targets u.invocations ≡ n ∷ ts → IsUsable n u → IsUsable n w
+usable_inside u w n r ts e l = (l.0, r.stay n l.0 l.1 (inr (inr (n, inr (subst (IsIn n) (sym e) (inl refl)), Rattle.cdi_ownership.proofs.Homes.Chain.here))), l.2)
+
+top_in : (v : Invocation) (us : List Invocation) → IsTopOf v us → IsIn (v.target, v.references) (provisions us)
+top_in v [] e = absurd e
+top_in v (u ∷ us) e = inl (ap (λ (z : Invocation). (z.target, z.references)) e)
 
 abbrev pub Any : {A : Type 0} → A → World → Type 0
 Any a w = Unit {0}
@@ -157,6 +170,7 @@ module _ (t : Tables) where
       bodies = q.bodies;
       targets = q.targets;
       members = q.members;
+      provisions = q.provisions;
       lists = grown_below w.next [] w.temporaries w2.temporaries q.lists;
       old = q.old;
       new = q.new;
@@ -181,6 +195,7 @@ module _ (t : Tables) where
       placed = λ k c e r. by k c.component c.owner (g.placed k c e r);
       made = g.made;
       one = g.one;
+      provided = λ n rs i. parameters_same w (after_change Change.Borrow w) n rs refl (λ k. refl) (g.provided n rs i);
     }
       where
         by : (k : ℕ) (component : Component) (owner : Owner) → Placed w k component owner → Placed (after_change Change.Borrow w) k component owner
@@ -199,6 +214,7 @@ module _ (t : Tables) where
       placed = λ k c f r. by k c.component c.owner (g.placed k c f r);
       made = g.made;
       one = g.one;
+      provided = λ n rs i. parameters_same w (after_change Change.Return w) n rs refl (λ k. refl) (g.provided n rs i);
     }
       where
         by : (k : ℕ) (component : Component) (owner : Owner) → Placed w k component owner → Placed (after_change Change.Return w) k component owner
@@ -245,10 +261,13 @@ module _ (t : Tables) where
     f_ordinary n ts chain e l = fine.f_call t w0 (Task.Rest chain) (λ w h g r. none_start t chain w0 w h n ts r e l)
 
   module _ (w0 : World) where
-    pub f_invoke : (n : ℕ) (m : Member) (args : List Value) (owner : Owner) (h : List Item) → IsOrdinary t m.code.place → Inv w0 → IsUsable n w0 → CanHave w0 owner → fine.Doing t (invoke n m args owner) w0 h (fine.Left w0 Any)
-    f_invoke n m args owner h ord g l k =
-        fine.f_invoked t w0 n roles.AroundInvoke (m.code ∷ []) args (handle (provide m.points owner) (λ _. call (Task.Rest m.chain)) throw) w0 h g (rel_self w0 g) (usable_below n w0 g l) (usable_enters t n (m.code ∷ []) w0 l, inr (one_ordinary t roles.AroundInvoke m.code (λ e. cc) ord))
-        (λ u gu i tm c x f s. then u (provide m.points owner) (λ _. call (Task.Rest m.chain)) (f_provide t u m.points owner (have_up w0 u owner i tm f k)) (λ _. f_ordinary u n (targets w0.invocations) m.chain s (usable_same w0 u n i l)) u h gu (rel_self u gu))
+    pub f_invoke : (n : ℕ) (m : Member) (args : List Value) (owner : Owner) (h : List Item) → IsOrdinary t m.code.place → Inv w0 → IsUsable n w0 → CanHave w0 owner → MayOwn n owner w0 → fine.Doing t (invoke n m args owner) w0 h (fine.Left w0 Any)
+    f_invoke n m args owner h ord g l k may =
+        fine.f_invoking t w0 n roles.AroundInvoke (m.code ∷ []) args (handle (provide m.points owner) (λ _. call (Task.Rest m.chain)) throw) w0 h g (rel_self w0 g) (usable_below n w0 g l) (usable_enters t n (m.code ∷ []) w0 l, inr (one_ordinary t roles.AroundInvoke m.code (λ e. cc) ord))
+        (λ u gu i tm c x f s. bind t (Ok t) fine.G (Pre t) Post (provide m.points owner) (λ _. call (Task.Rest m.chain)) throw u h (fine.Bracketed u) (fine.Bracketed u)
+        (providing t n (targets w0.invocations) m.points owner u h gu s (have_up w0 u owner i tm f k) (may_up w0 u n owner i may))
+        (λ a u2 h2 g2 q. fine.inside_then t u u2 (call (Task.Rest m.chain)) h2 q.0 (f_ordinary u2 n (targets w0.invocations) m.chain (q.0.targets ∙ s) (usable_inside u u2 n q.0 (targets w0.invocations) s (usable_same w0 u n i l)) u2 h2 g2 (rel_self u2 g2)))
+        (λ x u2 h2 g2 q. (g2, q)))
 
     pub f_lifecycle : (n : ℕ) (role : InterceptorMethod) (callbacks : List Code) (chain : List ℕ) → n < w0.next → ((w : World) → Rel w0 w → IsUsable n w) → ((w : World) (h : List Item) → Rel w0 w → MayEnter t n callbacks w × EntersSo t n role callbacks w h) → Fine w0 (call_back n role callbacks chain) Any
     f_lifecycle n role callbacks chain l usable ok w h g r = fine.f_invoked t w0 n role callbacks [] (call (Task.Rest chain)) w h g r (below_then w0 w n r l) (ok w h r) (λ u gu i tm c x f s. f_ordinary u n (targets w.invocations) chain s (usable_same w u n i (usable w r)) u h gu (rel_self u gu))
@@ -269,17 +288,17 @@ module _ (t : Tables) where
         by (v ∷ vs) e = (g, (r, subst (IsTopOf v) (sym e) refl))
 
     -- what is asked for one of them
-    further : (v : Invocation) → IsTopOf v w0.invocations → (first : Code) (more : List Code) → v.members ≡ first ∷ more → (m : Code) (w : World) (h : List Item) → Rel w0 w → IsIn m.place (map (λ m. m.place) more) → Pre t (Task.Body (body_at_start v.target m.place m.body v.parameters v.references [])) w h
-    further v top first more e m w h r i =
+    further : (v : Invocation) → IsTopOf v w0.invocations → (first : Code) (more : List Code) → v.members ≡ first ∷ more → (m : Code) (w : World) (h : List Item) → Inv w → Rel w0 w → IsIn m.place (map (λ m. m.place) more) → Pre t (Task.Body (body_at_start v.target m.place m.body v.parameters v.references [])) w h
+    further v top first more e m w h g r i =
         let k = top_kept v w0.invocations w.invocations top r.targets r.members m.place (subst (λ z. IsIn m.place (map (λ m. m.place) z)) (sym e) (inr i)) in
-        (((λ c e l. inl k), inr (inl (kept_at t v w0.invocations w.invocations top r.targets r.members m.place w h (subst (λ z. AtMember t m.place z w h) (sym e) (inr i))))), (within_none t w, λ k m e. absurd (cc)))
+        (((λ c e l. inl k), inr (inl (kept_at t v w0.invocations w.invocations top r.targets r.members m.place w h (subst (λ z. AtMember t m.place z w h) (sym e) (inr i))))), (within_none t w, (λ k m e. absurd (cc), g.provided v.target v.references (subst (IsIn (v.target, v.references)) (sym r.provisions) (top_in v w0.invocations top)))))
 
     -- the further bodies at a chain's end, one after the other
     f_more : (v : Invocation) → IsTopOf v w0.invocations → (first : Code) (more : List Code) → v.members ≡ first ∷ more → (ms : List Code) → ((m : Code) → IsIn m ms → IsIn m.place (map (λ m. m.place) more)) → Fine w0 (each ms (λ m. call (Task.Body (body_at_start v.target m.place m.body v.parameters v.references [])))) Any
     f_more v top first more e [] f = λ w h g r. (g, (r, tt))
-    f_more v top first more e (m ∷ []) f = fine.f_call t w0 (Task.Body (body_at_start v.target m.place m.body v.parameters v.references [])) (λ w h g r. further v top first more e m w h r (f m (inl refl)))
+    f_more v top first more e (m ∷ []) f = fine.f_call t w0 (Task.Body (body_at_start v.target m.place m.body v.parameters v.references [])) (λ w h g r. further v top first more e m w h g r (f m (inl refl)))
     f_more v top first more e (m ∷ n ∷ ms) f = then w0 (call (Task.Body (body_at_start v.target m.place m.body v.parameters v.references []))) (λ _. each (n ∷ ms) (λ m. call (Task.Body (body_at_start v.target m.place m.body v.parameters v.references []))))
-        (fine.f_call t w0 (Task.Body (body_at_start v.target m.place m.body v.parameters v.references [])) (λ w h g r. further v top first more e m w h r (f m (inl refl))))
+        (fine.f_call t w0 (Task.Body (body_at_start v.target m.place m.body v.parameters v.references [])) (λ w h g r. further v top first more e m w h g r (f m (inl refl))))
         (λ _. f_more v top first more e (n ∷ ms) (λ k z. f k (inr z)))
 
   module _ (w0 : World) where
@@ -292,7 +311,7 @@ module _ (t : Tables) where
         after (Completion.Threw x) w1 h1 g1 p = (g1, (rel_then w0 w w1 r p.0, tt))
 
     f_reached : (v : Invocation) (x : Given) → Fine w0 (handle (alter Change.Reach) (λ _. ret (given_by v.role x)) throw) Any
-    f_reached v x = then w0 (alter Change.Reach) (λ _. ret (given_by v.role x)) (fine.f_alter t w0 Change.Reach tt (λ w. invocation_still w (λ i. record i { completed = true }) (λ i. refl) (λ i. refl))) (λ _. (λ w h g q. (g, (q, tt))))
+    f_reached v x = then w0 (alter Change.Reach) (λ _. ret (given_by v.role x)) (fine.f_alter t w0 Change.Reach tt (λ w. invocation_still w (λ i. record i { completed = true }) (λ i. refl) (λ i. refl) (λ i. refl))) (λ _. (λ w h g q. (g, (q, tt))))
 
   -- the bodies at a chain's end
   f_end : (v : Invocation) (w : World) (h : List Item) → Inv w → IsTopOf v w.invocations → CanStart t [] w h → (ms : List Code) → v.members ≡ ms
@@ -309,7 +328,7 @@ module _ (t : Tables) where
       asked : (more : List Code) → v.members ≡ m ∷ more → Pre t (Task.Body (body_at_start v.target m.place m.body v.parameters v.references [])) w h
       asked more e =
           let k = top_kept v w.invocations w.invocations top refl refl m.place (subst (λ z. IsIn m.place (map (λ m. m.place) z)) (sym e) (inl refl)) in
-          (((λ c e l. inl k), inr (inl (kept_at t v w.invocations w.invocations top refl refl m.place w h (subst (λ z. AtMember t m.place z w h) (sym e) (inl (refl, start)))))), (within_none t w, λ k m e. absurd (cc)))
+          (((λ c e l. inl k), inr (inl (kept_at t v w.invocations w.invocations top refl refl m.place w h (subst (λ z. AtMember t m.place z w h) (sym e) (inl (refl, start)))))), (within_none t w, (λ k m e. absurd (cc), g.provided v.target v.references (top_in v w.invocations top))))
 
       first : (more : List Code) → v.members ≡ m ∷ more → fine.Doing t (body m) w h (fine.Left w Any)
       first more e = fine.calling t w (Task.Body (body_at_start v.target m.place m.body v.parameters v.references [])) w h g (rel_self w g) (asked more e)
@@ -343,7 +362,7 @@ module _ (t : Tables) where
           let k : record { component = q.0; owner = owners.Instance v.target; phase = phases.Ready } ≡ c.0 = cc in
           let o = listed_there v.target w.instances n z in
           body_on w (body_at_start n (places.Interceptor x.name v.role) b v.parameters [] chain) (λ a. ret (given_by v.role a)) (λ a w h g q. (g, (q, tt))) w h g (rel_self w g) (_, q.1, tt)
-          (inr (inr (subst (IsAttending t n (places.Interceptor x.name v.role) w h) (sym e) (record { index = i; interceptor = x; known = f; rest = chain; starts = start; stands = refl; core = c.0; there = c.1; of = c.2; owner = ap (λ (z : Core). z.owner) (sym k); target = o.0; lives = o.1 })))) (within_first t i chain w h start, λ k m e. absurd (cc))
+          (inr (inr (subst (IsAttending t n (places.Interceptor x.name v.role) w h) (sym e) (record { index = i; interceptor = x; known = f; rest = chain; starts = start; stands = refl; core = c.0; there = c.1; of = c.2; owner = ap (λ (z : Core). z.owner) (sym k); target = o.0; lives = o.1 })))) (within_first t i chain w h start, (λ k m e. absurd (cc), no_parameters n w))
 
       among : (v : Invocation) (vs : List Invocation) → w.invocations ≡ v ∷ vs → (x : Interceptor) → t.interceptor i ≡ Some x → (b : ℕ) (ns : List ℕ) → ((k : ℕ) → IsIn k ns → IsIn k (deps_at v.target w.instances)) → Goes w (handle (first_of w i ns) (λ n. behind v x b n) throw) w h Any
       among v vs e x f b [] z = (g, (rel_self w g, tt))
@@ -434,7 +453,7 @@ module _ (t : Tables) where
         start w q = farewell_map t (LeftSo r.rest) (StartsSo r.rest (Wrote (entries.Did (acts.Proceed args)) ∷ h)) w.invocations w (λ n c e. inr (e, tt)) (farewell_then t (LeftSo r.rest) w0 w q k.1.0)
 
         still : (xs : List Value) → Still w (after_change (Change.Replace xs) w)
-        still xs = invocation_still w (λ i. record i { parameters = xs }) (λ i. refl) (λ i. refl)
+        still xs = invocation_still w (λ i. record i { parameters = xs }) (λ i. refl) (λ i. refl) (λ i. refl)
 
         replaced : (x : Option (List Value)) → Goes w0 (handle (replace_parameters x) (λ _. call (Task.Rest r.rest)) throw) w (Wrote (entries.Did (acts.Proceed args)) ∷ h) Any
         replaced None = fine.calling t w0 (Task.Rest r.rest) w (Wrote (entries.Did (acts.Proceed args)) ∷ h) g q (start w q)
@@ -471,7 +490,7 @@ module _ (t : Tables) where
     f_does r (acts.Fire class qualifiers v) nq = calls w0 (Task.Fire class qualifiers v) (λ w h. tt)
     f_does r (acts.Proceed args) nq = absurd nq
     f_does r (acts.Find k) nq = λ w h g q. (g, (q, tt))
-    f_does r (acts.Keep key v) nq = then w0 (alter (Change.Keep key v)) (λ _. finish) (fine.f_alter t w0 (Change.Keep key v) tt (λ w. invocation_still w _ (λ i. refl) (λ i. refl))) (λ _. (λ w h g q. (g, (q, tt))))
+    f_does r (acts.Keep key v) nq = then w0 (alter (Change.Keep key v)) (λ _. finish) (fine.f_alter t w0 (Change.Keep key v) tt (λ w. invocation_still w _ (λ i. refl) (λ i. refl) (λ i. refl))) (λ _. (λ w h g q. (g, (q, tt))))
     f_does r (acts.Peek key) nq = then w0 invocation _ (f_invocation w0) (λ _. (λ w h g q. (g, (q, tt))))
     f_does r (acts.Destroy k) nq = f_destroy_by t w0 (reference_at (at r.locals k))
     f_does r (acts.Give v) nq = λ w h g q. (g, (q, tt))
@@ -505,7 +524,7 @@ module _ (t : Tables) where
     f_found : (r : Running) (k : ℕ) (c : Completion Reference) → IsSet t r w0 → (w : World) (h : List Item) → Inv w → Rel w0 w → IsFound r c w → Goes w0 (answer_find r k c) w h Any
     f_found r k (Completion.Gave x) a w h g q f =
         let s = set_then t r w0 w q a in
-        fine.calling t w0 (Task.Acts (with_answer (record r { locals = put k x r.locals }) (answers.Found k))) w h g q (s.0, (s.1.0, with_local r k x w f s.1.1))
+        fine.calling t w0 (Task.Acts (with_answer (record r { locals = put k x r.locals }) (answers.Found k))) w h g q (s.0, (s.1.0, (with_local r k x w f s.1.1.0, s.1.1.1)))
     f_found r k (Completion.Threw x) a w h g q f = then w0 (answer_of (Completion.Threw x)) (λ answer. call (Task.Acts (with_answer r answer))) (f_answer (Completion.Threw x)) (λ answer. f_again (with_answer r answer) a) w h g q
 
     f_looked : (r : Running) (k : ℕ) → Anchored w0 r.instance → Fine w0 (attempt (find r k)) (IsFound r)
@@ -537,7 +556,7 @@ module _ (t : Tables) where
         k = Wrote (entries.Did (acts.Own name args)) ∷ h
 
         called : (m : Method) → MayRun t r.instance m.code.place w (Wrote (entries.Did (acts.Own name args)) ∷ h) × IsKnown t r.instance m.code.place w (Wrote (entries.Did (acts.Own name args)) ∷ h) → (b : Bool) → Goes w0 (handle (expect b) (λ _. call (Task.Body (body_at_start r.instance m.code.place m.code.body args [] []))) throw) w (Wrote (entries.Did (acts.Own name args)) ∷ h) Any
-        called m ok true = fine.calling t w0 (Task.Body (body_at_start r.instance m.code.place m.code.body args [] [])) w (Wrote (entries.Did (acts.Own name args)) ∷ h) g q (ok, (within_none t w, λ k m e. absurd (cc)))
+        called m ok true = fine.calling t w0 (Task.Body (body_at_start r.instance m.code.place m.code.body args [] [])) w (Wrote (entries.Did (acts.Own name args)) ∷ h) g q (ok, (within_none t w, (λ k m e. absurd (cc), no_parameters r.instance w)))
         called m ok false = (g, (q, tt))
 
         then_call : Method → Prog Given
@@ -611,7 +630,7 @@ module _ (t : Tables) where
     served : (b : ℕ) (m : Member) (args : List Value) → IsOrdinary t m.code.place → Fine w0 (borrow_for (handle (obtain_receiver b) (λ n. invoke n m args owners.Borrower) throw)) Any
     served b m args ord = f_borrowing w0 (handle (obtain_receiver b) (λ n. invoke n m args owners.Borrower) throw)
         (λ w g r. then_at (after_change Change.Borrow w) (obtain_receiver b) (λ n. invoke n m args owners.Borrower) IsBelow (f_receiver (after_change Change.Borrow w) b tt)
-        (λ n v h g1 r1 l. f_invoke v n m args owners.Borrower h ord g1 l (have_then (after_change Change.Borrow w) v owners.Borrower r1 tt)))
+        (λ n v h g1 r1 l. f_invoke v n m args owners.Borrower h ord g1 l (have_then (after_change Change.Borrow w) v owners.Borrower r1 tt) (inr (inr refl))))
 
     pub f_farewell : (n : ℕ) (v : Value) (component : Component) (d : Core) (h : List Item) → Inv w0 → n < w0.next → core_at n w0.instances ≡ Some d → d.phase ≡ phases.Leaving → d.component ≡ component → Past (fate n h) → IsMark n h → fine.Doing t (clean_up n v component) w0 h (fine.Left w0 Any)
     f_farewell n v (components.Interceptor i) d h g l e p q z begun = (g, (rel_self w0 g, tt))
@@ -634,11 +653,13 @@ module _ (t : Tables) where
 
     pub f_construct : (n : ℕ) (points : List Asked) (chain : Lifecycle) → ((m : Code) → IsIn m chain.callbacks → IsOrdinary t m.place) → n < w0.next → Anchored w0 n → IsNewAt n w0 → Fine w0 (construct n points chain) Any
     f_construct n points chain ord l k new w h g r =
-        fine.f_invoked t w0 n roles.AroundConstruct chain.callbacks [] (handle (provide points (owners.Instance n)) (λ _. handle (call (Task.Rest chain.chain)) (λ _. handle invocation (λ v. handle (require v.completed built_in.CreationException) (λ _. finish) throw) throw) throw) throw) w h g r (below_then w0 w n r l) (usable_enters t n chain.callbacks w (new_usable w n (new_then w0 w n r new)), inr (λ e. cc, ord))
-        (λ u gu i tm c x f s. (
-        then u (provide points (owners.Instance n)) _ (f_provide t u points (owners.Instance n) (have_up w u (owners.Instance n) i tm f (have_then w0 w (owners.Instance n) r k))) λ _.
-        then u (call (Task.Rest chain.chain)) _ (f_ordinary u n (targets w.invocations) chain.chain s (usable_same w u n i (new_usable w n (new_then w0 w n r new)))) λ _.
-        then u invocation _ (f_invocation u) λ v. then u (require v.completed built_in.CreationException) _ (fine.f_require t u _ _) (λ _. (λ w h g q. (g, (q, tt))))) u h gu (rel_self u gu))
+        fine.f_invoking t w0 n roles.AroundConstruct chain.callbacks [] (handle (provide points (owners.Instance n)) (λ _. handle (call (Task.Rest chain.chain)) (λ _. handle invocation (λ v. handle (require v.completed built_in.CreationException) (λ _. finish) throw) throw) throw) throw) w h g r (below_then w0 w n r l) (usable_enters t n chain.callbacks w (new_usable w n (new_then w0 w n r new)), inr (λ e. cc, ord))
+        (λ u gu i tm c x f s. bind t (Ok t) fine.G (Pre t) Post (provide points (owners.Instance n)) (λ _. handle (call (Task.Rest chain.chain)) (λ _. handle invocation (λ v. handle (require v.completed built_in.CreationException) (λ _. finish) throw) throw) throw) throw u h (fine.Bracketed u) (fine.Bracketed u)
+        (providing t n (targets w.invocations) points (owners.Instance n) u h gu s (have_up w u (owners.Instance n) i tm f (have_then w0 w (owners.Instance n) r k)) (inl refl))
+        (λ a u2 h2 g2 q. fine.inside_then t u u2 (handle (call (Task.Rest chain.chain)) (λ _. handle invocation (λ v. handle (require v.completed built_in.CreationException) (λ _. finish) throw) throw) throw) h2 q.0 (
+        then u2 (call (Task.Rest chain.chain)) _ (f_ordinary u2 n (targets w.invocations) chain.chain (q.0.targets ∙ s) (usable_inside u u2 n q.0 (targets w.invocations) s (usable_same w u n i (new_usable w n (new_then w0 w n r new))))) (λ _.
+        then u2 invocation _ (f_invocation u2) λ v. then u2 (require v.completed built_in.CreationException) _ (fine.f_require t u2 _ _) (λ _. (λ w h g q. (g, (q, tt))))) u2 h2 g2 (rel_self u2 g2)))
+        (λ x u2 h2 g2 q. (g2, q)))
 
     pub f_inject : (n : ℕ) (field : Name) (point : Asked) → Anchored w0 n → Fine w0 (inject n field point) Any
     f_inject n field point k = fine.then_with t w0 (resolve_point point (owners.Instance n)) _ (RefersTo (owners.Instance n)) Any (Rattle.cdi_ledger.proofs.Standing.f_pointing t w0 point (owners.Instance n) k)
@@ -647,11 +668,18 @@ module _ (t : Tables) where
         still : (x : Reference) (w : World) → Still w (after_change (Change.Refer n field x) w)
         still x w = inside_still w n _ (λ o. refl) (λ o. refl)
 
+    f_initialize : (n : ℕ) (m : Code) (points : List Asked) → IsOrdinary t m.place → Anchored w0 n → IsNewAt n w0 → Fine w0 (initialize n m points) Any
+    f_initialize n m points ord k new w h g r =
+        bind t (Ok t) fine.G (Pre t) Post (resolve_points points (owners.Instance n)) (λ rs. call (Task.Body (body_at_start n m.place m.body [] rs []))) throw w h (fine.Left w (AllReferTo (owners.Instance n))) (fine.Left w0 Any)
+        (all_injected t points (owners.Instance n) w h g (have_then w0 w (owners.Instance n) r k))
+        (λ rs w1 h1 g1 q. (let r1 = rel_then w0 w w1 r q.0 in fine.calling t w0 (Task.Body (body_at_start n m.place m.body [] rs [])) w1 h1 g1 r1 ((usable_runs t n m.place w1 h1 (new_usable w1 n (new_then w0 w1 n r1 new)), inl ord), (within_none t w1, (λ k m e. absurd (cc), λ k m e. (let o = q.1 k m e in (o.0, λ c f. inl (o.1 c f))))))))
+        (λ x w1 h1 g1 q. (g1, (rel_then w0 w w1 r q.0, tt)))
+
     f_step : (n : ℕ) (s : Step) → ((m : Code) → IsIn m (codes_in s) → IsOrdinary t m.place) → n < w0.next → Anchored w0 n → IsNewAt n w0 → Fine w0 (take_step n s) Any
     f_step n (Step.Intercept i) ord l k new = fine.f_call t w0 (Task.Intercept i n) (λ w h g r. anchored_then w0 w n r k)
     f_step n (Step.Construct points chain) ord l k new = f_construct n points chain ord l k new
     f_step n (Step.Inject field point) ord l k new = f_inject n field point k
-    f_step n (Step.Initialize m points) ord l k new = then w0 (resolve_points points (owners.Instance n)) (λ rs. call (Task.Body (body_at_start n m.place m.body [] rs []))) (f_all_injected t w0 points (owners.Instance n) k) (λ rs. fine.f_call t w0 (Task.Body (body_at_start n m.place m.body [] rs [])) (λ w h g r. ((usable_runs t n m.place w h (new_usable w n (new_then w0 w n r new)), inl (ord m (inl refl))), (within_none t w, λ k m e. absurd (cc)))))
+    f_step n (Step.Initialize m points) ord l k new = f_initialize n m points (ord m (inl refl)) k new
     f_step n (Step.Complete chain) ord l k new = f_lifecycle w0 n roles.PostConstruct chain.callbacks chain.chain l (λ w r. new_usable w n (new_then w0 w n r new)) (λ w h r. (usable_enters t n chain.callbacks w (new_usable w n (new_then w0 w n r new)), inr (λ e. cc, ord)))
 
     f_accept : (b : Bool) (n : ℕ) (x : Given) → Fine w0 (accept b n x) Any
@@ -665,22 +693,22 @@ module _ (t : Tables) where
     f_accept false n Given.Empty = (λ w h g q. (g, (q, tt)))
 
   module _ (w0 : World) where
-    f_produced : (n m : ℕ) (s : Source) (h : List Item) → ((x : Member) → s ≡ Source.ProducerMethod x → IsOrdinary t x.code.place) → Inv w0 → IsUsable m w0 → Anchored w0 n → fine.Doing t (call_producer n m s) w0 h (fine.Left w0 Any)
-    f_produced n m (Source.ProducerMethod producer) h ord g l k = f_invoke w0 m producer [] (owners.Instance n) h (ord producer refl) g l k
-    f_produced n m (Source.ProducerField field) h ord g l k = then w0 (instance m) _ (f_instance t w0 m) (λ o. then w0 (require_present (at o.fields field)) _ (fine.f_present t w0 _) (λ _. (λ w h g q. (g, (q, tt))))) w0 h g (rel_self w0 g)
+    f_produced : (n m : ℕ) (s : Source) (h : List Item) → ((x : Member) → s ≡ Source.ProducerMethod x → IsOrdinary t x.code.place) → Inv w0 → IsUsable m w0 → Anchored w0 n → IsNewAt n w0 → fine.Doing t (call_producer n m s) w0 h (fine.Left w0 Any)
+    f_produced n m (Source.ProducerMethod producer) h ord g l k new = f_invoke w0 m producer [] (owners.Instance n) h (ord producer refl) g l k (inr (inl (n, refl, new)))
+    f_produced n m (Source.ProducerField field) h ord g l k new = then w0 (instance m) _ (f_instance t w0 m) (λ o. then w0 (require_present (at o.fields field)) _ (fine.f_present t w0 _) (λ _. (λ w h g q. (g, (q, tt))))) w0 h g (rel_self w0 g)
 
   module _ (w0 : World) where
-    f_produce : (n : ℕ) (scope : Scope) (p : Product) → ((x : Member) → p.source ≡ Source.ProducerMethod x → IsOrdinary t x.code.place) → Anchored w0 n → Fine w0 (produce n scope p) Any
-    f_produce n scope p ord k =
+    f_produce : (n : ℕ) (scope : Scope) (p : Product) → ((x : Member) → p.source ≡ Source.ProducerMethod x → IsOrdinary t x.code.place) → Anchored w0 n → IsNewAt n w0 → Fine w0 (produce n scope p) Any
+    f_produce n scope p ord k new =
         then w0 (borrow_for (handle (obtain_receiver p.declaring) (λ m. call_producer n m p.source) throw)) _
         (f_borrowing w0 (handle (obtain_receiver p.declaring) (λ m. call_producer n m p.source) throw)
         (λ w g r. then_at (after_change Change.Borrow w) (obtain_receiver p.declaring) (λ m. call_producer n m p.source) IsBelow (f_receiver (after_change Change.Borrow w) p.declaring tt)
-        (λ m v h g1 r1 l. f_produced v n m p.source h ord g1 l (have_then (after_change Change.Borrow w) v (owners.Instance n) r1 (anchored_then w0 w n r k)))))
+        (λ m v h g1 r1 l. f_produced v n m p.source h ord g1 l (have_then (after_change Change.Borrow w) v (owners.Instance n) r1 (anchored_then w0 w n r k)) (new_then (after_change Change.Borrow w) v n r1 (new_then w0 w n r new)))))
         (λ v. f_accept w0 (is_normal scope) n v)
 
     pub f_made : (n b : ℕ) (bean : Bean) (kind : Kind) → t.bean b ≡ Some bean → bean.kind ≡ kind → n < w0.next → Anchored w0 n → IsNewAt n w0 → Fine w0 (make n bean kind) Any
     f_made n b bean (Kind.Class c) known is l k new = then w0 (each c.plan (take_step n)) _ (fine.f_each_in t w0 c.plan (take_step n) (λ s i. f_step w0 n s (λ m j. IsOrdinary.planned b bean c s m known is i j) l k new)) (λ _. (λ w h g q. (g, (q, tt))))
-    f_made n b bean (Kind.Producer p) known is l k new = f_produce n bean.scope p (λ x e. IsOrdinary.producer b bean p x known is e) k
+    f_made n b bean (Kind.Producer p) known is l k new = f_produce n bean.scope p (λ x e. IsOrdinary.producer b bean p x known is e) k new
 
     -- ---- events
 

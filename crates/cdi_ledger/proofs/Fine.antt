@@ -18,7 +18,8 @@ use Rattle.cdi_ledger.specs.Ledger.{Item, Wrote, Between, with_birth}
 use Rattle.cdi_ownership.specs.Whose.{IsIn}
 use Rattle.cdi_ownership.proofs.Holdings.{IsMaking}
 use Rattle.cdi_ownership.proofs.Cores.{Core, core_at, deps_at}
-use Rattle.cdi_ownership.proofs.Homes.{codes, Inv, Rel, Grown, Placed, HeldIn, IsReadyOf, OnStack, Busy, IsFixed, targets, rel_self, rel_then, was_busy}
+use Rattle.cdi_store.specs.declared.references.Reference.{Reference}
+use Rattle.cdi_ownership.proofs.Homes.{Along, AreParameters, Inside, along_then, rel_inside, parameters_same, no_parameters, provisions, lower_provisions, codes, Inv, Rel, Grown, Placed, HeldIn, IsReadyOf, OnStack, Busy, IsFixed, targets, rel_self, rel_then, was_busy}
 use Rattle.cdi_ownership.proofs.Spans.{Still, inv_still, rel_still}
 use Rattle.cdi_ledger.proofs.Judge.{Does, bind, guard_map, guard_none, note_map, NoGuard}
 use Rattle.cdi_ledger.proofs.Owed.{Ok, MayEnter, EntersSo, Pre, Post, post_rel}
@@ -36,6 +37,10 @@ OnGave V (Threw x) w = Unit {0}
 abbrev pub Left : {A : Type 0} → World → (A → World → Type 0) → Completion A → World → List Item → Type 0
 Left w0 V c w h = Rel w0 w × OnGave V c w
 
+-- as it is left inside an invocation
+abbrev pub Bracketed : {A : Type 0} → World → Completion A → World → List Item → Type 0
+Bracketed w0 c w h = Inside w0 w × Unit {0}
+
 abbrev pub Silent : {A : Type 0} → World → Completion A → World → List Item → Type 0
 Silent w0 (Gave a) w h = Rel w0 w × Unit {0}
 Silent w0 (Threw x) w h = ⊥
@@ -43,7 +48,7 @@ Silent w0 (Threw x) w h = ⊥
 -- ---- an entry
 
 pub entry_still : (e : Entry) (w : World) → Still w (with_entry e w)
-entry_still e w = record { next = refl; bodies = refl; targets = refl; members = refl; temporaries = refl; core = λ k. refl; deps = λ k. refl; contexts = λ c. refl }
+entry_still e w = record { next = refl; bodies = refl; targets = refl; members = refl; provisions = refl; temporaries = refl; core = λ k. refl; deps = λ k. refl; contexts = λ c. refl }
 
 pub inv_entry : (e : Entry) (w : World) → Inv w → Inv (with_entry e w)
 inv_entry e w g = inv_still w (with_entry e w) (entry_still e w) g
@@ -215,13 +220,14 @@ module _ (tables : Tables) where
     pub deps : (k : ℕ) → deps_at k v.instances ≡ deps_at k w.instances
     pub contexts : (c : Context) → context_at v.contexts c ≡ context_at w.contexts c
     pub stack : (b : ℕ) → OnStack v b → b < w.next
+    pub provided : (n : ℕ) (rs : List Reference) → IsIn (n, rs) (provisions v.invocations) → AreParameters n rs w
 
   pub stacked_inv : (w v : World) → Stacked w v → Inv w → Inv v
   stacked_inv w v s g =
       -- the same but for the stack
       let u : World = record v { bodies = w.bodies; invocations = w.invocations } in
-      let k : Inv u = inv_still w u (record { next = s.next; bodies = refl; targets = refl; members = refl; temporaries = s.temporaries; core = s.core; deps = s.deps; contexts = s.contexts }) g in
-      record { below = k.below; smaller = k.smaller; stack = λ b h. subst (λ z. b < z) (sym s.next) (s.stack b h); depends = k.depends; borrowed = k.borrowed; held = k.held; placed = λ n c e r. by k n c.component c.owner (k.placed n c e r); made = k.made; one = k.one }
+      let k : Inv u = inv_still w u (record { next = s.next; bodies = refl; targets = refl; members = refl; provisions = refl; temporaries = s.temporaries; core = s.core; deps = s.deps; contexts = s.contexts }) g in
+      record { below = k.below; smaller = k.smaller; stack = λ b h. subst (λ z. b < z) (sym s.next) (s.stack b h); depends = k.depends; borrowed = k.borrowed; held = k.held; placed = λ n c e r. by k n c.component c.owner (k.placed n c e r); made = k.made; one = k.one; provided = λ n rs i. parameters_same w v n rs s.next s.core (s.provided n rs i) }
     where
       by : (k : Inv (record v { bodies = w.bodies; invocations = w.invocations })) (n : ℕ) (component : Component) (owner : Owner) → Placed (record v { bodies = w.bodies; invocations = w.invocations }) n component owner → Placed v n component owner
       by k n component (owners.Context x) h = h
@@ -229,13 +235,14 @@ module _ (tables : Tables) where
       by k n component owners.Borrower h = h
 
   -- from inside a bracket of the stack to behind it
-  pub unstacked : (w u w1 v : World) → u.next ≡ w.next → u.temporaries ≡ w.temporaries → u.instances ≡ w.instances → u.contexts ≡ w.contexts → ((b : ℕ) → OnStack w b → OnStack u b)
-      → Rel u w1 → v.next ≡ w1.next → v.temporaries ≡ w1.temporaries → v.instances ≡ w1.instances → v.contexts ≡ w1.contexts → v.bodies ≡ w.bodies → targets v.invocations ≡ targets w.invocations → codes v.invocations ≡ codes w.invocations → Rel w v
-  unstacked w u w1 v n t i c f r vn vt vi vc vb vs vm = record {
+  pub unstacked : {P : List Invocation → List (ℕ × List Reference)} (w u w1 v : World) → u.next ≡ w.next → u.temporaries ≡ w.temporaries → u.instances ≡ w.instances → u.contexts ≡ w.contexts → ((b : ℕ) → OnStack w b → OnStack u b)
+      → Along P u w1 → v.next ≡ w1.next → v.temporaries ≡ w1.temporaries → v.instances ≡ w1.instances → v.contexts ≡ w1.contexts → v.bodies ≡ w.bodies → targets v.invocations ≡ targets w.invocations → codes v.invocations ≡ codes w.invocations → provisions v.invocations ≡ provisions w.invocations → Rel w v
+  unstacked w u w1 v n t i c f r vn vt vi vc vb vs vm vp = record {
     next = (let q = r.next in omega arith);
     bodies = vb;
     targets = vs;
     members = vm;
+    provisions = vp;
     lists = subst (Grown w.next w.temporaries) (sym vt) (subst (λ z. Grown z w.temporaries w1.temporaries) n (subst (λ z. Grown u.next z w1.temporaries) t r.lists));
     old = λ k d l e. subst (λ z. core_at k z ≡ Some d) i (r.old k d (omega arith) (subst (λ z. core_at k z ≡ Some d) vi e));
     new = λ k d l e. r.new k d (omega arith) (subst (λ z. core_at k z ≡ Some d) vi e);
@@ -249,16 +256,24 @@ module _ (tables : Tables) where
       fixed k d (inr (inl e)) = inr (inl e)
       fixed k d (inr (inr b)) = inr (inr (b.0, f b.0 b.1, subst (λ z. Rattle.cdi_ownership.proofs.Homes.Chain z b.0 k) (sym i) b.2))
 
+  -- what goes on inside an invocation, where it is told by a later world of it
+  pub inside_then : (u w : World) (p : Prog Given) (h : List Item) → Inside u w → Doing p w h (Left w Any) → Doing p w h (Bracketed u)
+  inside_then u w p h r d = loosen p w h (Left w Any) (Bracketed u) d (λ c v k g q. (along_then u w v r (rel_inside w v q.0), tt))
+
+  pub in_lower : (vs : List Invocation) (p : ℕ × List Reference) → IsIn p (lower_provisions vs) → IsIn p (provisions vs)
+  in_lower [] p h = absurd h
+  in_lower (v ∷ vs) p h = inr h
+
   module _ (w0 : World) where
-    -- an invocation
-    pub f_invoked : (n : ℕ) (role : InterceptorMethod) (members : List Code) (args : List Value) (p : Prog Given) (w : World) (h : List Item) → Inv w → Rel w0 w → n < w.next → MayEnter tables n members w × EntersSo tables n role members w h
-        → ((u : World) → Inv u → u.instances ≡ w.instances → u.temporaries ≡ w.temporaries → u.contexts ≡ w.contexts → u.next ≡ w.next → ((b : ℕ) → OnStack w b → OnStack u b) → targets u.invocations ≡ n ∷ targets w.invocations → Doing p u h (Left u Any))
+    -- an invocation, inside which parameters may be provided
+    pub f_invoking : (n : ℕ) (role : InterceptorMethod) (members : List Code) (args : List Value) (p : Prog Given) (w : World) (h : List Item) → Inv w → Rel w0 w → n < w.next → MayEnter tables n members w × EntersSo tables n role members w h
+        → ((u : World) → Inv u → u.instances ≡ w.instances → u.temporaries ≡ w.temporaries → u.contexts ≡ w.contexts → u.next ≡ w.next → ((b : ℕ) → OnStack w b → OnStack u b) → targets u.invocations ≡ n ∷ targets w.invocations → Doing p u h (Bracketed u))
         → Doing (invoke_by n role members args p) w h (Left w0 Any)
-    f_invoked n role members args p w h g r l ok k =
+    f_invoking n role members args p w h g r l ok k =
         let u : World = after_change (Change.Enter (invocation_at_start n role members args)) w in
-        let gu : Inv u = stacked_inv w u (record { next = refl; temporaries = refl; core = λ k. refl; deps = λ k. refl; contexts = λ c. refl; stack = stack }) g in (
+        let gu : Inv u = stacked_inv w u (record { next = refl; temporaries = refl; core = λ k. refl; deps = λ k. refl; contexts = λ c. refl; stack = stack; provided = provided }) g in (
           ok,
-          bind tables (Ok tables) G (Pre tables) Post p (λ a. handle (alter Change.Exit) (λ _. ret a) throw) (λ x. handle (alter Change.Exit) (λ _. throw x) throw) u h (Left u Any) (Left w0 Any)
+          bind tables (Ok tables) G (Pre tables) Post p (λ a. handle (alter Change.Exit) (λ _. ret a) throw) (λ x. handle (alter Change.Exit) (λ _. throw x) throw) u h (Bracketed u) (Left w0 Any)
               (k u gu refl refl refl refl (λ b. on b) refl)
               (λ a w1 h1 g1 q. (behind_inv w1 g1 q.0, (rel_then w0 w (after_change Change.Exit w1) r (behind w1 q.0), tt)))
               (λ x w1 h1 g1 q. (behind_inv w1 g1 q.0, (rel_then w0 w (after_change Change.Exit w1) r (behind w1 q.0), tt))),
@@ -272,17 +287,28 @@ module _ (tables : Tables) where
         stack b (inr (inl e)) = subst (λ z. z < w.next) e l
         stack b (inr (inr q)) = g.stack b (inr q)
 
+        provided : (m : ℕ) (rs : List Reference) → IsIn (m, rs) (provisions (after_change (Change.Enter (invocation_at_start n role members args)) w).invocations) → AreParameters m rs w
+        provided m rs (inl e) = subst (λ z. AreParameters z.0 z.1 w) e (no_parameters n w)
+        provided m rs (inr i) = g.provided m rs i
+
         on : (b : ℕ) → OnStack w b → OnStack (after_change (Change.Enter (invocation_at_start n role members args)) w) b
         on b (inl q) = inl q
         on b (inr q) = inr (inr q)
 
-        behind : (w1 : World) → Rel (after_change (Change.Enter (invocation_at_start n role members args)) w) w1 → Rel w (after_change Change.Exit w1)
-        behind w1 q = unstacked w (after_change (Change.Enter (invocation_at_start n role members args)) w) w1 (after_change Change.Exit w1) refl refl refl refl on q refl refl refl refl q.bodies (targets_below w1.invocations n (targets w.invocations) q.targets) (codes_below w1.invocations members (codes w.invocations) q.members)
+        behind : (w1 : World) → Inside (after_change (Change.Enter (invocation_at_start n role members args)) w) w1 → Rel w (after_change Change.Exit w1)
+        behind w1 q = unstacked w (after_change (Change.Enter (invocation_at_start n role members args)) w) w1 (after_change Change.Exit w1) refl refl refl refl on q refl refl refl refl q.bodies (targets_below w1.invocations n (targets w.invocations) q.targets) (codes_below w1.invocations members (codes w.invocations) q.members) q.provisions
 
-        behind_inv : (w1 : World) → Inv w1 → Rel (after_change (Change.Enter (invocation_at_start n role members args)) w) w1 → Inv (after_change Change.Exit w1)
-        behind_inv w1 g1 q = stacked_inv w1 (after_change Change.Exit w1) (record { next = refl; temporaries = refl; core = λ k. refl; deps = λ k. refl; contexts = λ c. refl; stack = λ b z. g1.stack b (fewer w1.invocations w1.bodies b z) }) g1
+        behind_inv : (w1 : World) → Inv w1 → Inside (after_change (Change.Enter (invocation_at_start n role members args)) w) w1 → Inv (after_change Change.Exit w1)
+        behind_inv w1 g1 q = stacked_inv w1 (after_change Change.Exit w1) (record { next = refl; temporaries = refl; core = λ k. refl; deps = λ k. refl; contexts = λ c. refl; stack = λ b z. g1.stack b (fewer w1.invocations w1.bodies b z); provided = λ m rs i. g1.provided m rs (in_lower w1.invocations (m, rs) i) }) g1
           where
             fewer : (vs : List Invocation) (bs : List ℕ) (b : ℕ) → IsIn b bs ⊎ IsIn b (targets (below vs)) → IsIn b bs ⊎ IsIn b (targets vs)
             fewer vs bs b (inl z) = inl z
             fewer [] bs b (inr z) = inr z
             fewer (v ∷ vs) bs b (inr z) = inr (inr z)
+
+    -- an invocation, inside which none are
+    pub f_invoked : (n : ℕ) (role : InterceptorMethod) (members : List Code) (args : List Value) (p : Prog Given) (w : World) (h : List Item) → Inv w → Rel w0 w → n < w.next → MayEnter tables n members w × EntersSo tables n role members w h
+        → ((u : World) → Inv u → u.instances ≡ w.instances → u.temporaries ≡ w.temporaries → u.contexts ≡ w.contexts → u.next ≡ w.next → ((b : ℕ) → OnStack w b → OnStack u b) → targets u.invocations ≡ n ∷ targets w.invocations → Doing p u h (Left u Any))
+        → Doing (invoke_by n role members args p) w h (Left w0 Any)
+    f_invoked n role members args p w h g r l ok k =
+        f_invoking n role members args p w h g r l ok (λ u gu i tm c x f s. loosen p u h (Left u Any) (Bracketed u) (k u gu i tm c x f s) (λ d v j gv q. (rel_inside u v q.0, tt)))

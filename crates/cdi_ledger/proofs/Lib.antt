@@ -22,5 +22,5 @@ pub mod Callbacks
 pub mod Firsts
 pub mod Traces
 pub mod Orders
-pub mod Locals
+pub mod BodyReferences
 pub mod Counts

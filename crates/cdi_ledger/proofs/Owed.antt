@@ -6,7 +6,7 @@ use Rattle.cdi_store.specs.declared.instance.Phase.TheVariants as phases
 use Rattle.cdi_contexts.specs.Contexts.{context_at}
 use Rattle.cdi_store.specs.declared.references.Reference.{Reference}
 use Rattle.cdi_store.specs.declared.references.Reference.TheVariants.{Direct}
-use Rattle.std.specs.Prelude.{map}
+use Rattle.std.specs.Prelude.{map, slice_get}
 use Rattle.cdi_base.specs.Maps.{at}
 use Rattle.cdi_base.specs.declared.place.Place.{Place}
 use Rattle.cdi_base.specs.declared.place.Place.TheVariants as places
@@ -25,7 +25,7 @@ use Rattle.cdi_ledger.specs.Callbacks.{IsOrdinary, IsMark, IsProceed}
 use Rattle.cdi_ownership.proofs.Lists.{HasTop, TopEmpty}
 use Rattle.cdi_ownership.proofs.Holdings.{IsFree, NoneHeld}
 use Rattle.cdi_ownership.proofs.Cores.{Core, core_at, deps_at}
-use Rattle.cdi_ownership.proofs.Homes.{Rel, Busy, IsFixed, IsStaying, OnStack, fixed_then, targets, lt_or, Chain}
+use Rattle.cdi_ownership.proofs.Homes.{AreParameters, IsNewAt, Along, parameters_then, Rel, Busy, IsFixed, IsStaying, OnStack, fixed_then, targets, lt_or, Chain}
 
 -- it is there, and no task ends it
 abbrev pub Anchored : World → ℕ → Type 0
@@ -58,9 +58,6 @@ IsUsable n w = (c : Core) × (core_at n w.instances ≡ Some c) × IsStaying c.p
 
 abbrev pub IsThere : ℕ → World → Type 0
 IsThere n w = (c : Core) × (core_at n w.instances ≡ Some c)
-
-abbrev pub IsNewAt : ℕ → World → Type 0
-IsNewAt n w = (c : Core) × (core_at n w.instances ≡ Some c) × (c.phase ≡ phases.New)
 
 -- each of the bodies is a pre-destroy callback of the class
 pub record AreParting (tables : Tables) (c : Core) (members : List Code) : Type 0 where
@@ -182,13 +179,20 @@ IsOwned owner m w = (m < w.next) × ((c : Core) → core_at m w.instances ≡ So
 abbrev pub RefersTo : Owner → Reference → World → Type 0
 RefersTo owner r w = (m : ℕ) → r ≡ Direct m → IsOwned owner m w
 
+abbrev pub AllReferTo : Owner → List Reference → World → Type 0
+AllReferTo owner rs w = (k m : ℕ) → slice_get rs k ≡ Some (Direct m) → IsOwned owner m w
+
 -- what a body's locals refer to directly is its own instance's
 abbrev pub OwnLocals : Body → World → Type 0
 OwnLocals r w = (k m : ℕ) → at r.locals k ≡ Some (Direct m) → IsOwned (owners.Instance r.instance) m w
 
--- what is left of the chain for a body, and what it has looked up
+-- what a body has for its parameters is somebody's who may own it
+abbrev pub Receives : Body → World → Type 0
+Receives r w = AreParameters r.instance r.references w
+
+-- what is left of the chain for a body, what it has looked up, and what it was given
 abbrev pub IsLeft : Tables → Body → World → Type 0
-IsLeft tables r w = Within tables r.rest w × OwnLocals r w
+IsLeft tables r w = Within tables r.rest w × (OwnLocals r w × Receives r w)
 
 -- a body is under way
 abbrev pub IsSet : Tables → Body → World → Type 0
@@ -278,9 +282,6 @@ usable_runs tables n place w h u c e l =
     let y : u.0 ≡ c = cc in
     absurd (subst IsStaying (ap (λ (z : Core). z.phase) y ∙ l) u.2)
 
-pub new_then : (w v : World) (n : ℕ) → Rel w v → IsNewAt n w → IsNewAt n v
-new_then w v n r a = (a.0, r.stay n a.0 a.1 (inl a.2), a.2)
-
 pub new_usable : (w : World) (n : ℕ) → IsNewAt n w → IsUsable n w
 new_usable w n a = (a.0, a.1, subst IsStaying (sym a.2) tt)
 
@@ -314,7 +315,7 @@ farewell_then tables P w v r p = by w.invocations v.invocations r.targets p
     by (u ∷ us) (x ∷ vs) e p = λ k c q l i. (let y : x.target ≡ u.target = cc in subst (λ z. P z c) (sym y) (p k c (was u.target k (subst (λ z. core_at z v.instances ≡ Some k) y q) l) l i))
 
 -- nothing is asked if the target stays
-pub farewell_none : (tables : Tables) (P : ℕ → Managed → Type 0) (u w : World) (n : ℕ) (ts : List ℕ) → Rel u w → targets u.invocations ≡ n ∷ ts → IsUsable n u → InFarewell tables P w.invocations w
+pub farewell_none : {R : List Invocation → List (ℕ × List Reference)} (tables : Tables) (P : ℕ → Managed → Type 0) (u w : World) (n : ℕ) (ts : List ℕ) → Along R u w → targets u.invocations ≡ n ∷ ts → IsUsable n u → InFarewell tables P w.invocations w
 farewell_none tables P u w n ts r e l = in_farewell tables P w.invocations w n ts (r.targets ∙ e) (λ k c q p i. absurd (
     let y : Some l.0 ≡ Some k = sym (r.stay n l.0 l.1 (inr (inr (n, inr (subst (IsIn n) (sym e) (inl refl)), Chain.here)))) ∙ q in
     let z : l.0 ≡ k = cc in
@@ -355,10 +356,10 @@ pub locals_then : (r : Body) (w v : World) → Rel w v → OwnLocals r w → Own
 locals_then r w v q f k m e = owned_then (owners.Instance r.instance) m w v q (f k m e)
 
 pub set_then : (tables : Tables) (r : Body) (w v : World) → Rel w v → IsSet tables r w → IsSet tables r v
-set_then tables r w v q s = (anchored_then w v r.instance q s.0, (farewell_then tables (LeftSo r.rest) w v q s.1.0, locals_then r w v q s.1.1))
+set_then tables r w v q s = (anchored_then w v r.instance q s.0, (farewell_then tables (LeftSo r.rest) w v q s.1.0, (locals_then r w v q s.1.1.0, parameters_then w v r.instance r.references q s.1.1.1)))
 
 -- no destruction's chain is begun where the target stays
-pub none_start : (tables : Tables) (chain : List ℕ) (u w : World) (h : List Item) (n : ℕ) (ts : List ℕ) → Rel u w → targets u.invocations ≡ n ∷ ts → IsUsable n u → CanStart tables chain w h
+pub none_start : {R : List Invocation → List (ℕ × List Reference)} (tables : Tables) (chain : List ℕ) (u w : World) (h : List Item) (n : ℕ) (ts : List ℕ) → Along R u w → targets u.invocations ≡ n ∷ ts → IsUsable n u → CanStart tables chain w h
 none_start tables chain u w h n ts r e l = farewell_none tables (StartsSo chain h) u w n ts r e l
 
 pub usable_same : (w u : World) (n : ℕ) → u.instances ≡ w.instances → IsUsable n w → IsUsable n u

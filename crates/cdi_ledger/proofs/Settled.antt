@@ -53,6 +53,7 @@ first_tidy ticks depth = record {
     placed = λ k c e r. absurd (none c e);
     made = λ k x b e. absurd (none _ e);
     one = λ j k x b e f. absurd (none _ e);
+    provided = λ n rs i. absurd i;
   };
   bodies = refl;
   targets = refl;
@@ -69,7 +70,7 @@ first_tidy ticks depth = record {
     free (contexts.Session s) = tt
 
 begin_still : (w : World) → Still w (at_begin w)
-begin_still w = record { next = refl; bodies = refl; targets = refl; members = refl; temporaries = refl; core = λ k. refl; deps = λ k. refl; contexts = λ c. refl }
+begin_still w = record { next = refl; bodies = refl; targets = refl; members = refl; provisions = refl; temporaries = refl; core = λ k. refl; deps = λ k. refl; contexts = λ c. refl }
 
 pub begin_tidy : (w : World) → Tidy w → Tidy (at_begin w)
 begin_tidy w g = tidy_then w (at_begin w) g (inv_still w (at_begin w) (begin_still w) g.inv) (rel_still w (at_begin w) (begin_still w) g.inv)

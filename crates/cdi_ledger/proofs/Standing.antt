@@ -1,5 +1,5 @@
 -- Each program keeps where all stand.
-use Rattle.std.proofs.Common.{ℕ, suc, ◌≡◌, ◌<◌, List, [], ◌∷◌, inl, inr, Option, Some, None, Bool, true, false, refl, sym, ap, ◌∙◌, subst, arith}
+use Rattle.std.proofs.Common.{ℕ, zero, suc, ◌≡◌, ◌<◌, List, [], ◌∷◌, ◌⊎◌, inl, inr, Option, Some, None, Bool, true, false, refl, sym, ap, ◌∙◌, subst, arith}
 use Rattle.std.specs.Prelude.{length, option_map}
 use Rattle.cdi_base.specs.declared.entry.Entry.TheVariants as entries
 use Rattle.cdi_base.specs.declared.scope.Scope.{Scope}
@@ -24,7 +24,7 @@ use Rattle.cdi_store.specs.declared.references.Reference.TheVariants.{Direct, Pr
 use Rattle.cdi_store.specs.declared.references.Reference.TheVariants.{Empty as NoReference}
 use Rattle.cdi_machine.specs.Words.{Asked}
 use Rattle.cdi_machine.specs.Tables.{Tables, Bean, Resolution, One, Nothing, Many}
-use Rattle.cdi_machine.specs.World.{World, Change, Invocation, instance_at, on_top}
+use Rattle.cdi_machine.specs.World.{World, Change, Invocation, instance_at, after_change, on_top}
 use Rattle.cdi_machine.specs.Programs.{Task, Given, Completion, Prog, ret, throw, see, handle, require_present, require, call, complete, raise, alter, pick, active_or_raise, active_in, context, require_one, resolve, require_number, bean_at, interceptor_at, instance}
 use Rattle.cdi_machine.specs.Contexts.{find_or_create, obtain, is_normal, direct_reference, refer_to, resolve_point, resolve_points, stays, require_living, reach_instance}
 use Rattle.cdi_machine.specs.DestroyAct.{is_idle, is_made, destroy_idle, destroy_held, destroy_by}
@@ -34,9 +34,11 @@ use Rattle.cdi_ownership.specs.Whose.{IsIn}
 use Rattle.cdi_ownership.proofs.Lists.{HasTop}
 use Rattle.cdi_ownership.proofs.Holdings.{IsFree, AllHeld}
 use Rattle.cdi_ownership.proofs.Cores.{Core, core_of, core_at, deps_at, core_same, deps_same}
-use Rattle.cdi_ownership.proofs.Homes.{codes, IsStaying, Inv, Rel, Grown, HeldIn, targets, rel_then}
+use Rattle.cdi_ownership.proofs.Homes.{AreParameters, MayOwn, may_then, Inside, along_then, rel_inside, rel_self, grown_self, provisions, lower_provisions, OnStack, codes, IsStaying, Inv, Rel, Grown, HeldIn, targets, rel_then}
 use Rattle.cdi_ownership.proofs.Spans.{Still}
-use Rattle.cdi_ledger.proofs.Owed.{IsUsable, RefersTo, IsOwned, IsMadeFor, AreMadeFor, IsSuited, IsNumbered, AreNumbered, Anchored, CanOwn, anchored_then}
+use Rattle.cdi_ledger.proofs.Judge.{bind}
+use Rattle.cdi_ledger.proofs.Fine.{stacked_inv}
+use Rattle.cdi_ledger.proofs.Owed.{Ok, Pre, Post, AllReferTo, owned_then, IsUsable, RefersTo, IsOwned, IsMadeFor, AreMadeFor, IsSuited, IsNumbered, AreNumbered, Anchored, CanOwn, anchored_then}
 use Rattle.cdi_ownership.proofs.Idle.{idle_is}
 use Rattle.cdi_ledger.proofs.Fine as fine
 
@@ -86,7 +88,7 @@ live_below w g n o e = g.below n (core_of o) (ap (option_map core_of) e)
 
 -- a change of what an instance has inside
 pub inside_still : (w : World) (n : ℕ) (f : Instance → Instance) → ((o : Instance) → core_of (f o) ≡ core_of o) → ((o : Instance) → (f o).dependents ≡ o.dependents) → Still w (record w { instances = Rattle.cdi_base.specs.Maps.adjusted n f w.instances })
-inside_still w n f p q = record { next = refl; bodies = refl; targets = refl; members = refl; temporaries = refl; core = λ k. core_same w.instances n f p k; deps = λ k. deps_same w.instances n f q k; contexts = λ c. refl }
+inside_still w n f p q = record { next = refl; bodies = refl; targets = refl; members = refl; provisions = refl; temporaries = refl; core = λ k. core_same w.instances n f p k; deps = λ k. deps_same w.instances n f q k; contexts = λ c. refl }
 
 top_targets : (f : Invocation → Invocation) → ((i : Invocation) → (f i).target ≡ i.target) → (vs : List Invocation) → targets (on_top f vs) ≡ targets vs
 top_targets f q [] = refl
@@ -96,8 +98,12 @@ top_codes : (f : Invocation → Invocation) → ((i : Invocation) → (f i).memb
 top_codes f q [] = refl
 top_codes f q (v ∷ vs) = ap (λ z. z ∷ codes vs) (q v)
 
-pub invocation_still : (w : World) (f : Invocation → Invocation) → ((i : Invocation) → (f i).target ≡ i.target) → ((i : Invocation) → (f i).members ≡ i.members) → Still w (record w { invocations = on_top f w.invocations })
-invocation_still w f q p = record { next = refl; bodies = refl; targets = top_targets f q w.invocations; members = top_codes f p w.invocations; temporaries = refl; core = λ k. refl; deps = λ k. refl; contexts = λ c. refl }
+top_provisions : (f : Invocation → Invocation) → ((i : Invocation) → (f i).target ≡ i.target) → ((i : Invocation) → (f i).references ≡ i.references) → (vs : List Invocation) → provisions (on_top f vs) ≡ provisions vs
+top_provisions f q r [] = refl
+top_provisions f q r (v ∷ vs) = ap (λ z. z ∷ provisions vs) (ap (λ z. (z, (f v).references)) (q v) ∙ ap (λ z. (v.target, z)) (r v))
+
+pub invocation_still : (w : World) (f : Invocation → Invocation) → ((i : Invocation) → (f i).target ≡ i.target) → ((i : Invocation) → (f i).members ≡ i.members) → ((i : Invocation) → (f i).references ≡ i.references) → Still w (record w { invocations = on_top f w.invocations })
+invocation_still w f q p r = record { next = refl; bodies = refl; targets = top_targets f q w.invocations; members = top_codes f p w.invocations; provisions = top_provisions f q r w.invocations; temporaries = refl; core = λ k. refl; deps = λ k. refl; contexts = λ c. refl }
 
 module _ (t : Tables) where
   module _ (w0 : World) where
@@ -220,10 +226,6 @@ module _ (t : Tables) where
     pub f_injected : (point : Asked) (owner : Owner) → CanHave w0 owner → Fine (resolve_point point owner) Any
     f_injected point owner k = then (resolve point) _ Any (f_resolved point) (λ b. f_reference b owner k)
 
-    pub f_all_injected : (points : List Asked) (owner : Owner) → CanHave w0 owner → Fine (resolve_points points owner) Any
-    f_all_injected [] owner k w h g r = (g, (r, tt))
-    f_all_injected (point ∷ points) owner k w h g r = then (resolve_point point owner) (λ x. handle (resolve_points points owner) (λ xs. ret (x ∷ xs)) throw) Any (f_injected point owner k) (λ x. then (resolve_points points owner) (λ xs. ret (x ∷ xs)) Any (f_all_injected points owner k) (λ xs w h g r. (g, (r, tt)))) w h g r
-
     pub f_living : (n : ℕ) → Fine (require_living n) (λ n u. IsUsable n u)
     f_living n w h g r = by (instance_at w n) refl
       where
@@ -302,5 +304,68 @@ module _ (t : Tables) where
         by None e = (g, (r, tt))
         by (Some o) e = first_of_usable i w h g r o.dependents (λ k z. (let q = g.depends n k (subst (IsIn k) (sym (ap Rattle.cdi_ownership.proofs.Cores.list_of e)) z) in (_, q.1, tt)))
 
-    pub f_provide : (points : List Asked) (owner : Owner) → CanHave w0 owner → Fine (provide points owner) Any
-    f_provide points owner k = then (resolve_points points owner) (λ rs. alter (Change.Provide rs)) Any (f_all_injected points owner k) (λ rs. fine.f_alter t w0 (Change.Provide rs) tt (λ w. invocation_still w (λ i. record i { references = rs }) (λ i. refl) (λ i. refl)))
+  -- ---- parameters
+
+  with_first : (owner : Owner) (x : Reference) (xs : List Reference) (w v : World) → Rel w v → RefersTo owner x w → AllReferTo owner xs v → AllReferTo owner (x ∷ xs) v
+  with_first owner x xs w v r a b zero m e = owned_then owner m w v r (a m (let y : x ≡ Direct m = cc in y))
+  with_first owner x xs w v r a b (suc k) m e = b k m e
+
+  -- what several points get is the owner's
+  pub all_injected : (points : List Asked) (owner : Owner) (w : World) (h : List Item) → Inv w → CanHave w owner → fine.Doing t (resolve_points points owner) w h (fine.Left w (AllReferTo owner))
+  all_injected [] owner w h g k = (g, (rel_self w g, λ k m e. absurd (cc)))
+  all_injected (point ∷ points) owner w h g k =
+      bind t (Ok t) fine.G (Pre t) Post (resolve_point point owner) (λ x. handle (resolve_points points owner) (λ xs. ret (x ∷ xs)) throw) throw w h (fine.Left w (RefersTo owner)) (fine.Left w (AllReferTo owner))
+      (f_pointing w point owner k w h g (rel_self w g))
+      (λ x w1 h1 g1 q. bind t (Ok t) fine.G (Pre t) Post (resolve_points points owner) (λ xs. ret (x ∷ xs)) throw w1 h1 (fine.Left w1 (AllReferTo owner)) (fine.Left w (AllReferTo owner))
+      (all_injected points owner w1 h1 g1 (have_then w w1 owner q.0 k))
+      (λ xs w2 h2 g2 p. (g2, (rel_then w w1 w2 q.0 p.0, with_first owner x xs w1 w2 p.0 q.1 p.1)))
+      (λ y w2 h2 g2 p. (g2, (rel_then w w1 w2 q.0 p.0, tt))))
+      (λ y w1 h1 g1 q. (g1, (q.0, tt)))
+
+  -- the innermost invocation gets them
+  module _ (rs : List Reference) where
+    given_top : (vs : List Invocation) (n : ℕ) (ts : List ℕ) → targets vs ≡ n ∷ ts → (m : ℕ) (xs : List Reference) → IsIn (m, xs) (provisions (on_top (λ (i : Invocation). record i { references = rs }) vs)) → (◌≡◌ {A = ℕ × List Reference} (n, rs) (m, xs)) ⊎ IsIn (m, xs) (provisions vs)
+    given_top [] n ts e m xs i = absurd i
+    given_top (v ∷ vs) n ts e m xs (inl z) = inl (let y : v.target ≡ n = cc in subst (λ a. ◌≡◌ {A = ℕ × List Reference} (a, rs) (m, xs)) y z)
+    given_top (v ∷ vs) n ts e m xs (inr z) = inr (inr z)
+
+    same_below : (vs : List Invocation) → lower_provisions (on_top (λ (i : Invocation). record i { references = rs }) vs) ≡ lower_provisions vs
+    same_below [] = refl
+    same_below (v ∷ vs) = refl
+
+    inside_given : (w : World) → Inv w → Inside w (after_change (Change.Provide rs) w)
+    inside_given w g = record {
+      next = omega arith;
+      bodies = refl;
+      targets = top_targets (λ (i : Invocation). record i { references = rs }) (λ i. refl) w.invocations;
+      members = top_codes (λ (i : Invocation). record i { references = rs }) (λ i. refl) w.invocations;
+      provisions = same_below w.invocations;
+      lists = grown_self w.next w.temporaries;
+      old = λ k c l e. e;
+      new = λ k c l e. (let b = g.below k c e in absurd (omega arith));
+      stay = λ k c e f. e;
+      making = λ c b h. h;
+      absent = λ c e. e;
+    }
+
+    given_inv : (w : World) (n : ℕ) (ts : List ℕ) (owner : Owner) → Inv w → targets w.invocations ≡ n ∷ ts → AllReferTo owner rs w → MayOwn n owner w → Inv (after_change (Change.Provide rs) w)
+    given_inv w n ts owner g e all may = stacked_inv t w (after_change (Change.Provide rs) w) (record { next = refl; temporaries = refl; core = λ k. refl; deps = λ k. refl; contexts = λ c. refl; stack = λ b z. g.stack b (on b z); provided = provided }) g
+      where
+        on : (b : ℕ) → OnStack (after_change (Change.Provide rs) w) b → OnStack w b
+        on b (inl z) = inl z
+        on b (inr z) = inr (subst (IsIn b) (top_targets (λ (i : Invocation). record i { references = rs }) (λ i. refl) w.invocations) z)
+
+        owned : AreParameters n rs w
+        owned k m q = let o = all k m q in (o.0, λ c f. subst (λ z. MayOwn n z w) (sym (o.1 c f)) may)
+
+        provided : (m : ℕ) (xs : List Reference) → IsIn (m, xs) (provisions (after_change (Change.Provide rs) w).invocations) → AreParameters m xs w
+        provided m xs i = elim (given_top w.invocations n ts e m xs i) [
+          | inl z ↦ subst (λ y. AreParameters y.0 y.1 w) z owned
+          | inr z ↦ g.provided m xs z
+        ]
+
+  pub providing : (n : ℕ) (ts : List ℕ) (points : List Asked) (owner : Owner) (w : World) (h : List Item) → Inv w → targets w.invocations ≡ n ∷ ts → CanHave w owner → MayOwn n owner w → fine.Doing t (provide points owner) w h (fine.Bracketed w)
+  providing n ts points owner w h g e k may =
+      bind t (Ok t) fine.G (Pre t) Post (resolve_points points owner) (λ rs. alter (Change.Provide rs)) throw w h (fine.Left w (AllReferTo owner)) (fine.Bracketed w) (all_injected points owner w h g k)
+      (λ rs w1 h1 g1 q. (given_inv rs w1 n ts owner g1 (q.0.targets ∙ e) q.1 (may_then w w1 n owner q.0 may), (along_then w w1 (after_change (Change.Provide rs) w1) (rel_inside w w1 q.0) (inside_given rs w1 g1), tt)))
+      (λ y w1 h1 g1 q. (g1, (rel_inside w w1 q.0, tt)))

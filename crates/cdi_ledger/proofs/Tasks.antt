@@ -109,7 +109,7 @@ module _ (t : Tables) where
           let g1 : Inv w1 = fine.inv_entry (entries.Run r.instance r.place) w g in
           let u : World = after_change (Change.Start r.instance) w1 in
           let l : r.instance < w.next = live_below w g r.instance o e in
-          let gu : Inv u = stacked_inv t w1 u (record { next = refl; temporaries = refl; core = λ k. refl; deps = λ k. refl; contexts = λ c. refl; stack = λ b z. stack l b z }) g1 in
+          let gu : Inv u = stacked_inv t w1 u (record { next = refl; temporaries = refl; core = λ k. refl; deps = λ k. refl; contexts = λ c. refl; stack = λ b z. stack l b z; provided = λ n rs i. g1.provided n rs i }) g1 in
           (g, ((ok.0.0, (ok.0.1, (core_of o, ap (option_map core_of) e))), (gu, ((core_of o, ap (option_map core_of) e, inr (inr (r.instance, inl (inl refl), Chain.here))), (farewell_same t (LeftSo r.rest) w.invocations w (after_change (Change.Start r.instance) (with_entry (entries.Run r.instance r.place) w)) refl ok.1.0, ok.1.1)), after)))
         where
           stack : r.instance < w.next → (b : ℕ) → OnStack (after_change (Change.Start r.instance) (with_entry (entries.Run r.instance r.place) w)) b → b < w.next
@@ -128,8 +128,8 @@ module _ (t : Tables) where
 
           stopped : (w2 : World) → Inv w2 → Rel (after_change (Change.Start r.instance) (with_entry (entries.Run r.instance r.place) w)) w2 → Inv (after_change Change.Stop w2) × Rel w (after_change Change.Stop w2)
           stopped w2 g2 q = (
-            stacked_inv t w2 (after_change Change.Stop w2) (record { next = refl; temporaries = refl; core = λ k. refl; deps = λ k. refl; contexts = λ c. refl; stack = λ b z. g2.stack b (fewer (targets w2.invocations) w2.bodies b z) }) g2,
-            unstacked t w (after_change (Change.Start r.instance) (with_entry (entries.Run r.instance r.place) w)) w2 (after_change Change.Stop w2) refl refl refl refl on q refl refl refl refl (list_below t w2.bodies r.instance w.bodies q.bodies) q.targets q.members,
+            stacked_inv t w2 (after_change Change.Stop w2) (record { next = refl; temporaries = refl; core = λ k. refl; deps = λ k. refl; contexts = λ c. refl; stack = λ b z. g2.stack b (fewer (targets w2.invocations) w2.bodies b z); provided = λ n rs i. g2.provided n rs i }) g2,
+            unstacked t w (after_change (Change.Start r.instance) (with_entry (entries.Run r.instance r.place) w)) w2 (after_change Change.Stop w2) refl refl refl refl on q refl refl refl refl (list_below t w2.bodies r.instance w.bodies q.bodies) q.targets q.members q.provisions,
           )
 
           after : (c : Completion Given) (w2 : World) (h2 : List Item) → Inv w2 → Rel (after_change (Change.Start r.instance) (with_entry (entries.Run r.instance r.place) w)) w2 × Unit {0}

@@ -13,7 +13,8 @@ use Rattle.cdi_contexts.specs.Contexts.{Active, OpenRequest, OpenSession, contex
 use Rattle.cdi_contexts.specs.Refusals.{is_new}
 use Rattle.cdi_machine.specs.Words.{Asked}
 use Rattle.cdi_machine.specs.Tables.{Tables}
-use Rattle.cdi_machine.specs.World.{World, Change, after_change}
+use Rattle.cdi_store.specs.declared.references.Reference.{Reference}
+use Rattle.cdi_machine.specs.World.{World, Change, Invocation, after_change}
 use Rattle.cdi_machine.specs.Programs.{Task, Given, Completion, Gave, Threw, Prog, ret, throw, handle, see, alter, call, complete, quietly, each, finish, do_nothing, resolve, world, instance}
 use Rattle.cdi_machine.specs.Contexts.{refer_to, reach_instance}
 use Rattle.cdi_machine.specs.Bodies.{invoke_method}
@@ -27,7 +28,7 @@ use Rattle.cdi_ownership.proofs.Lists.{IsAmong}
 use Rattle.cdi_ownership.proofs.Holdings.{AllHeld, NoneHeld, all_held_map, all_held_ending, held_ending}
 use Rattle.cdi_ownership.proofs.Cores.{Core, core_at, deps_at}
 use Rattle.cdi_ownership.proofs.Places.{Opens, context_or, context_own, context_other, closed_own, closed_other, named_or, request_comes, session_comes, marked_same}
-use Rattle.cdi_ownership.proofs.Homes.{being, Inv, Rel, Grown, Placed, HeldIn, IsReadyOf, OnStack, targets, rel_self, lt_or}
+use Rattle.cdi_ownership.proofs.Homes.{provisions, being, Inv, Rel, Grown, Placed, HeldIn, IsReadyOf, OnStack, targets, rel_self, lt_or}
 use Rattle.cdi_ownership.proofs.Spans.{Still, inv_still, rel_still}
 use Rattle.cdi_ledger.proofs.Judge.{bind}
 use Rattle.cdi_ledger.proofs.Owed.{Ok, IsUsable, Pre, Post, IsGiven}
@@ -78,6 +79,7 @@ tidy_contexts w v s g = record {
     placed = λ k c e r. by k c.component c.owner (g.inv.placed k c (was k c e) r);
     made = λ k x b e. absurd (never k x b e);
     one = λ j k x b e f. absurd (never j x b e);
+    provided = λ n rs i. absurd (none (n, rs) (ap targets s.invocations ∙ g.targets) i);
   };
   bodies = s.bodies ∙ g.bodies;
   targets = ap targets s.invocations ∙ g.targets;
@@ -87,6 +89,13 @@ tidy_contexts w v s g = record {
   where
     was : (k : ℕ) (c : Core) → core_at k v.instances ≡ Some c → core_at k w.instances ≡ Some c
     was k c e = subst (λ z. core_at k z ≡ Some c) s.instances e
+
+    none : (p : ℕ × List Reference) → targets v.invocations ≡ [] → IsIn p (provisions v.invocations) → ⊥
+    none p e i = by v.invocations e i
+      where
+        by : (vs : List Invocation) → targets vs ≡ [] → IsIn p (provisions vs) → ⊥
+        by [] e i = i
+        by (x ∷ vs) e i = cc
 
     never : (k : ℕ) (x : Context) (b : ℕ) → core_at k v.instances ≡ Some (being b x) → ⊥
     never k x b e = let z = g.ready k (being b x) (was k (being b x) e) in let r : phases.New ≡ phases.Ready = z in cc
@@ -241,7 +250,7 @@ module _ (t : Tables) where
       by (Threw y) v k gv r = absurd r
 
   still_in : (e : _) (w : World) → Still w (after_change (Change.Stand e) w)
-  still_in e w = record { next = refl; bodies = refl; targets = refl; members = refl; temporaries = refl; core = λ k. refl; deps = λ k. refl; contexts = λ c. refl }
+  still_in e w = record { next = refl; bodies = refl; targets = refl; members = refl; provisions = refl; temporaries = refl; core = λ k. refl; deps = λ k. refl; contexts = λ c. refl }
 
   -- ---- a request ends, and a session
 
@@ -329,7 +338,7 @@ module _ (t : Tables) where
           bind t (Ok t) fine.G (Pre t) Post (fire_container_event built_in.Shutdown) _ throw w3 h2 (Ends w3) ShutDown (t_container built_in.Shutdown w3 w3 h2 g3 (λ c z. z)) closing_last (λ y v j gv z. absurd z)
         where
           downed : (v : World) → Still v (after_change Change.Down v)
-          downed v = record { next = refl; bodies = refl; targets = refl; members = refl; temporaries = refl; core = λ k. refl; deps = λ k. refl; contexts = λ c. refl }
+          downed v = record { next = refl; bodies = refl; targets = refl; members = refl; provisions = refl; temporaries = refl; core = λ k. refl; deps = λ k. refl; contexts = λ c. refl }
 
           closing_last : (a : Unit {0}) (w4 : World) (h4 : List Item) → Inv w4 → Tidy w4 × AllAbsent (after_change (Change.Stand (Rattle.cdi_machine.specs.Commands.environment_of w2.contexts None)) w2) w4
               → Does (handle (close Application) (λ _. handle (alter Change.Down) (λ _. finish) throw) throw) w4 h4 ShutDown
@@ -390,7 +399,7 @@ module _ (t : Tables) where
   sessioned s w g = tidy_contexts w (after_change (Change.BeginSession s) w) (comes_only w (after_change (Change.BeginSession s) w) refl refl refl refl refl g.inv (session_comes s w.contexts)) g
 
   marked : (s : List ℕ) (w : World) → Still w (after_change (Change.Mark s) w)
-  marked s w = record { next = refl; bodies = refl; targets = refl; members = refl; temporaries = refl; core = λ k. refl; deps = λ k. refl; contexts = marked_same s w.contexts }
+  marked s w = record { next = refl; bodies = refl; targets = refl; members = refl; provisions = refl; temporaries = refl; core = λ k. refl; deps = λ k. refl; contexts = marked_same s w.contexts }
 
   pub command_does : (c : Command) (w : World) (h : List Item) → Tidy w → Does (task c) w h LeftTidy
   command_does Command.Boot w h g = of_tops boot w h g (t_then (fire_context_event built_in.Initialized Application) _ (t_event built_in.Initialized Application) λ _. t_then (fire_container_event built_in.Startup) (λ _. finish) (t_container built_in.Startup) (λ _. t_ret (Given.Result values.Null)))

@@ -2,4 +2,4 @@ pub mod Ledger
 pub mod Stories
 pub mod Ends
 pub mod Callbacks
-pub mod Locals
+pub mod BodyReferences

@@ -3,7 +3,7 @@ ghost use Rattle.cdi_machine.specs.Tables.{Tables};
 ghost use Rattle.cdi_ledger.specs.Ledger.{KeepsOrder, KeepsOrderIfShort};
 ghost use Rattle.cdi_ledger.specs.Ends.{EndsNested, EndsNestedIfShort, LeavesTidy, LeavesNothing, OrdersAll, MarksOnce, MarksOnceIfShort, OwnersAreSmaller, OneInAContext, OneOfTheApplication, RefersOwn, BodiesAreFarewells, BodiesAreFarewellsIfShort, OneInAContextIfShort};
 ghost use Rattle.cdi_ledger.specs.Callbacks.{FarewellsInDestruction, FarewellsInDestructionIfShort, BeginsOnlyAtMark, BeginsOnlyAtMarkIfShort, StartsAtMostOnce};
-ghost use Rattle.cdi_ledger.specs.Locals.{LocalsAreOwn};
+ghost use Rattle.cdi_ledger.specs.BodyReferences.{LocalsAreOwn, ParametersAreOwn};
 ghost use Rattle.cdi_ledger.specs.Stories.{AddsItsTrace};
 
 use cdi_machine::Driver;
@@ -66,11 +66,14 @@ pub fn law_one_instance<D: Driver>(driver: &D)
 /// At the end of each command, cut or not, an injected field that refers to a live instance by itself, and not through a
 /// client proxy, refers to a dependent of its own instance: no other instance holds a dependent (Jakarta CDI 4.0, *Dependent
 /// objects*). And whenever a body gives its next act, each of its locals that refers to a live instance by itself refers to a
-/// dependent of the body's own instance (Jakarta CDI 4.0, *Programmatic lookup*).
-#[tactic(auto, using(crate::proofs::Referred::refers_own, crate::proofs::Locals::locals_are_own))]
+/// dependent of the body's own instance (Jakarta CDI 4.0, *Programmatic lookup*), and each of its parameters that does so to a
+/// dependent of that instance, to one of a product that is being made, or to one that is there for the time of an invocation
+/// (Jakarta CDI 4.0, *Dependent objects destruction*).
+#[tactic(auto, using(crate::proofs::Referred::refers_own, crate::proofs::BodyReferences::locals_are_own, crate::proofs::BodyReferences::parameters_are_own))]
 pub fn law_references<D: Driver>(driver: &D)
     ensures own { (tables : Tables) → RefersOwn tables (D.legal driver.now) }
     ensures locals { (tables : Tables) → LocalsAreOwn tables (D.legal driver.now) }
+    ensures parameters { (tables : Tables) → ParametersAreOwn tables (D.legal driver.now) }
 {
     let _driver = driver;
 }

@@ -102,24 +102,30 @@ inv_kept n w v g q = record {
   where
     params : (t : ℕ) (rs : List Reference) → IsIn (t, rs) (provisions w.invocations) → AreParameters t rs v
     params t rs i k m e =
-        let p = g.provided t rs i k m e in
-        ((let l = p.0 in let y = q.next in omega arith), λ c f. elim (equal_or_not m n) [
-          | inl s ↦
-              let d = q.owner_own c (subst (λ z. core_at z v.instances ≡ Some c) s.1 f) (subst (λ z. z < w.next) s.1 p.0) in
-              let x : core_at m w.instances ≡ Some d.0 = subst (λ z. core_at z w.instances ≡ Some d.0) (sym s.1) d.1 in
-              moved c.owner d.0 x d.2 (subst (λ z. MayOwn t z w) d.2 (p.1 d.0 x))
-          | inr s ↦ let x = sym (q.other m s.1) ∙ f in moved c.owner c x refl (p.1 c x)
-        ])
+        let p = g.provided t rs i k m e in (
+          (let l = p.0 in let y = q.next in omega arith),
+          λ c f. elim (equal_or_not m n) [
+            | inl s ↦
+                let d = q.owner_own c (subst (λ z. core_at z v.instances ≡ Some c) s.1 f) (subst (λ z. z < w.next) s.1 p.0) in
+                let x : core_at m w.instances ≡ Some d.0 = subst (λ z. core_at z w.instances ≡ Some d.0) (sym s.1) d.1 in
+                moved c.owner d.0 x d.2 (subst (λ z. MayOwn t z w) d.2 (p.1 d.0 x))
+            | inr s ↦ let x = sym (q.other m s.1) ∙ f in moved c.owner c x refl (p.1 c x)
+          ],
+        )
       where
         moved : (owner : Owner) (d : Core) → core_at m w.instances ≡ Some d → d.owner ≡ owner → MayOwn t owner w → MayOwn t owner v
         moved owner d x o (inl z) = inl z
-        moved owner d x o (inr (inl a)) = inr (inl (a.0, a.1, elim (equal_or_not a.0 n) [
-          | inl s ↦ absurd (
-              let l = q.older (subst (λ z. IsNewAt z w) s.1 a.2) m (record { target = t; references = rs; among = i; place = k; direct = e }) in
-              let b = g.smaller m a.0 d x (o ∙ a.1) in
-              omega (arith, s.1))
-          | inr s ↦ (a.2.0, q.other a.0 s.1 ∙ a.2.1, a.2.2)
-        ]))
+        moved owner d x o (inr (inl a)) = inr (inl (
+          a.0,
+          a.1,
+          elim (equal_or_not a.0 n) [
+            | inl s ↦ absurd (
+                let l = q.older (subst (λ z. IsNewAt z w) s.1 a.2) m (record { target = t; references = rs; among = i; place = k; direct = e }) in
+                let b = g.smaller m a.0 d x (o ∙ a.1) in
+                omega (arith, s.1))
+            | inr s ↦ (a.2.0, q.other a.0 s.1 ∙ a.2.1, a.2.2)
+          ],
+        ))
         moved owner d x o (inr (inr z)) = inr (inr z)
 
 -- ---- the destruction of an instance that is ready begins

@@ -237,7 +237,8 @@ module _ (w : World) (g : Inv w) (b : ℕ) (x : Context) (fields : Fields) (free
     moves = record {
       bodies = refl;
       targets = refl;
-      members = refl; provisions = refl;
+      members = refl;
+      provisions = refl;
       lists = λ k t. grown_self k w.temporaries;
       own = born w g (components.Bean b) fields (owners.Context x) bean_world refl refl small;
       other = others w g (components.Bean b) fields (owners.Context x) bean_world refl refl small;

@@ -1,5 +1,5 @@
 use Rattle.cdi_ledger.proofs.Referred.{refers_own}
-use Rattle.cdi_ledger.proofs.Locals.{locals_are_own}
+use Rattle.cdi_ledger.proofs.BodyReferences.{locals_are_own}
 use Rattle.cdi_ledger.proofs.laws.law_references.Goals as goal
 
 pub returns-clause-own : goal.returns-clause-own

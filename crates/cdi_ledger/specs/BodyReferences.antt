@@ -1,8 +1,10 @@
--- What the locals of a running body refer to.
-use Rattle.std.specs.Prelude.{ℕ, ◌≡◌, List, Some, None}
+-- What the locals and the parameters of a running body refer to.
+use Rattle.std.specs.Prelude.{ℕ, ◌≡◌, List, Some, None, slice_get}
 use Rattle.cdi_base.specs.Maps.{at}
 use Rattle.cdi_store.specs.declared.instance.Instance.{Instance}
+use Rattle.cdi_store.specs.declared.instance.Owner.{Owner}
 use Rattle.cdi_store.specs.declared.instance.Owner.TheVariants as owners
+use Rattle.cdi_store.specs.declared.instance.Phase.TheVariants as phases
 use Rattle.cdi_store.specs.declared.references.Reference.TheVariants.{Direct}
 use Rattle.cdi_machine.specs.Tables.{Tables}
 use Rattle.cdi_machine.specs.World.{World, instance_at, at_begin}
@@ -47,3 +49,25 @@ LocalsAreOwn tables legal =
     → refusal tables s c ≡ None
     → (r : Runs tables legal ⊥ (task c) (at_begin s.world) o v)
     → AtBodies LooksUpItsOwn r
+
+-- whose a dependent instance is that a body has for a parameter: the body's own instance's (of a constructor or an initializer),
+-- that of a product that is being made (of a producer), or it is there for the time of an invocation (of a disposer or an
+-- observer)
+pub data IsReceivers (b : Running) (w : World) : Owner → Type 0 where
+  own : IsReceivers b w (owners.Instance b.instance)
+  product : {n : ℕ} {o : Instance} → instance_at w n ≡ Some o → o.phase ≡ phases.New
+      → IsReceivers b w (owners.Instance n)
+  temporary : IsReceivers b w owners.Borrower
+
+abbrev pub ReceivesItsOwn : Running → World → Type 0
+ReceivesItsOwn b w =
+    (k m : ℕ) (p : Instance) → slice_get b.references k ≡ Some (Direct m)
+    → instance_at w m ≡ Some p
+    → IsReceivers b w p.owner
+
+abbrev pub ParametersAreOwn : Tables → Legal → Type 0
+ParametersAreOwn tables legal =
+    (s : State) (h : List Item) (c : Command) (o : Outcome) (v : World) → Story tables legal s h
+    → refusal tables s c ≡ None
+    → (r : Runs tables legal ⊥ (task c) (at_begin s.world) o v)
+    → AtBodies ReceivesItsOwn r
