@@ -1,30 +1,16 @@
-//! Calls that no run of the program makes, by the first word of a run.
-//!
-//! | Words | What is called | Module |
-//! |---|---|---|
-//! | `jobs ..` | the engine, with bodies that are closures or scripts | `report` |
-//! | `store FIRST` | a store whose first instance has this number | `store` |
-//! | `contexts` | the contexts at the boot | `contexts` |
-//! | `choices` | a chooser | `choices` |
-use crate::choices::choices_answers;
-use crate::contexts::contexts_answers;
+//! Calls that no run of the program makes, by the first word of a run: behind `jobs` the engine's, with bodies that are closures or
+//! scripts, which the module `report` tells.
 use crate::report::report;
-use crate::store::store_answers;
-use crate::words::number;
 use cdi_tests_player::{Played, Player, Scene};
 use std::alloc::{AllocError, Global};
 
 /// What is answered by the words of a run.
 fn answers(alloc: Global, words: &[&str], scene: &Scene) -> Result<String, AllocError> {
-    let input = scene.input.as_str();
     match words {
         ["jobs", words @ ..] => {
             let deployment = scene.whole_deployment(alloc)?;
-            report(alloc, words, deployment.as_str().as_bytes(), input)
+            report(alloc, words, deployment.as_str().as_bytes(), scene.input.as_str())
         }
-        ["store", first] => store_answers(alloc, number(first), input),
-        ["contexts"] => contexts_answers(alloc, input),
-        ["choices"] => choices_answers(alloc, input),
         _ => String::from_str(alloc, "no such run\n"),
     }
 }

@@ -5,10 +5,12 @@
 //! |---|---|---|
 //! | `tables` | chains, plans and observers | `cdi_tests_tables`: `asked` |
 //! | `ledger` | stories of instances, and what they break | `cdi_tests_player`: `stories` |
-//! | `jobs`, `store`, `contexts`, `choices` | calls that no run of the program makes | `cdi_tests_calls`: `calls` |
+//! | `jobs` | the engine, with bodies that no run of the program has | `cdi_tests_calls`: `report` |
+//! | `store`, `contexts`, `choices` | calls that no run of the program makes | `cdi_tests_stores`: `calls` |
 use crate::words::Program;
 use cdi_tests_calls::Calls;
 use cdi_tests_player::{Played, Player, Scene, Stories};
+use cdi_tests_stores::StoreCalls;
 use cdi_tests_tables::Tables;
 use std::alloc::{AllocError, Global};
 
@@ -23,7 +25,8 @@ impl Player for Topics<'_> {
         match words {
             ["tables", words @ ..] => Tables.play(alloc, words, scene),
             ["ledger"] => Stories.play(alloc, words, scene),
-            ["jobs" | "store" | "contexts" | "choices", ..] => Calls.play(alloc, words, scene),
+            ["jobs", ..] => Calls.play(alloc, words, scene),
+            ["store" | "contexts" | "choices", ..] => StoreCalls.play(alloc, words, scene),
             _ => self.program.play(alloc, words, scene),
         }
     }

@@ -1,4 +1,4 @@
--- A post-construct callback that throws.
+-- A post-construct callback that throws, of a class with a pre-destroy callback.
 use Rattle.std.specs.Prelude.{ℕ, List, [], ◌∷◌, None, codes}
 use Rattle.cdi_base.specs.declared.act.Act.TheVariants as acts
 use Rattle.cdi_base.specs.declared.entry.Entry.TheVariants as entries
@@ -34,6 +34,9 @@ d1 = 25
 abbrev d2 : Name
 d2 = 26
 
+abbrev bye : Name
+bye = 27
+
 abbrev body_p : ℕ
 body_p = 0
 
@@ -53,7 +56,7 @@ deployment =
                 Step.Complete (record { chain = []; callbacks = code A p body_p ∷ [] }) ∷
                 [];
             methods = (m, method A m body_nop 0 []) ∷ [];
-            pre_destroy = no_chain;
+            pre_destroy = record { chain = []; callbacks = code A bye body_nop ∷ [] };
           }) ∷
           managed_bean D scopes.Dependent (record {
             fields = [];
