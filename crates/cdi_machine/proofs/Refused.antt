@@ -7,7 +7,7 @@ use Rattle.cdi_contexts.specs.Refusals.{first_that_holds}
 use Rattle.cdi_machine.specs.Tables.{Tables}
 use Rattle.cdi_machine.specs.World.{at_begin}
 use Rattle.cdi_machine.specs.Commands.{Command}
-use Rattle.cdi_machine.specs.Container.{State, refusal, after_refusal, refused_by_contexts, refused_by_tables}
+use Rattle.cdi_machine.specs.Container.{State, idle_state, refusal, after_refusal, refused_by_contexts, refused_by_tables}
 
 passed : (halted down busy : Bool) (rs : List (Bool × Refusal)) → first_that_holds ((halted, refusals.Halted) ∷ (down, refusals.Down) ∷ (busy, refusals.Busy) ∷ rs) ≡ None
     → (halted ≡ false) × (first_that_holds rs ≡ None)
@@ -24,10 +24,10 @@ module _ (t : Tables) (s : State) (c : Command) (none : refusal t s c ≡ None) 
   pub past_any : first_that_holds (refused_by_contexts s.world.contexts c ++ refused_by_tables t c) ≡ None
   past_any = (passed s.halted s.world.down s.busy (refused_by_contexts s.world.contexts c ++ refused_by_tables t c) none).1
 
--- while a command runs its world stays
-pub refused : (P : State → Type 0) (s : State) → P (record s { shown_from = length s.world.trace }) → P (record s { world = at_begin s.world; shown_from = 0 }) → P (after_refusal s)
+-- while a command is under way its world stays
+pub refused : (P : State → Type 0) (s : State) → P (record s { shown_from = length s.world.trace }) → P (idle_state (at_begin s.world) s.halted) → P (after_refusal s)
 refused P s busy idle =
-    elim s.busy as (λ b. P (if b then record s { shown_from = length s.world.trace } else record s { world = at_begin s.world; shown_from = 0 })) [
+    elim s.busy as (λ b. P (if b then record s { shown_from = length s.world.trace } else idle_state (at_begin s.world) s.halted)) [
       | true ↦ busy
       | false ↦ idle
     ]

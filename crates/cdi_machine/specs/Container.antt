@@ -23,9 +23,12 @@ pub record State : Type 0 where
   -- so many entries in front of the trace aren't shown any more
   pub shown_from : ℕ
 
+-- no command is under way, and the whole trace is shown
+abbrev pub idle_state : World → Bool → State
+idle_state w halted = record { world = w; halted = halted; busy = false; shown_from = 0 }
+
 abbrev pub before_commands : ℕ → ℕ → State
-before_commands ticks depth =
-    record { world = before_boot ticks depth; halted = false; busy = false; shown_from = 0 }
+before_commands ticks depth = idle_state (before_boot ticks depth) false
 
 -- the entries that are shown
 abbrev pub shown : State → List Entry
@@ -108,15 +111,15 @@ is_cut (Cut cause) = true
 is_cut (Ends c) = false
 
 abbrev pub state_after : Outcome → World → State
-state_after o w = record { world = w; halted = is_cut o; busy = false; shown_from = 0 }
+state_after o w = idle_state w (is_cut o)
 
--- A refusal hides what was written so far. While a command runs, its world stays as it is; else trace and environment of
--- the command before are ended.
+-- What was written so far isn't shown any more. While a command is under way, its world stays as it is; else the trace is
+-- emptied, and there is no environment.
 abbrev pub after_refusal : State → State
 after_refusal s =
     if s.busy
     then record s { shown_from = length s.world.trace }
-    else record s { world = at_begin s.world; shown_from = 0 }
+    else idle_state (at_begin s.world) s.halted
 
 -- ---- a command
 

@@ -14,8 +14,8 @@ use Rattle.cdi_machine.specs.Evaluator.{legal_in}
 use Rattle.cdi_machine.specs.Worked.Startup.{deployment}
 
 -- a command in the request r has written two entries so far
-abbrev pub started : State
-started =
+abbrev pub busy_state : State
+busy_state =
     record {
       world =
           record (before_boot 100000 32) {
@@ -27,46 +27,46 @@ started =
       shown_from = 0;
     }
 
-abbrev pub started_and_halted : State
-started_and_halted = record started { halted = true }
+abbrev pub halted_state : State
+halted_state = record busy_state { halted = true }
 
-abbrev pub started_and_down : State
-started_and_down = record started { world = record started.world { down = true } }
+abbrev pub down_state : State
+down_state = record busy_state { world = record busy_state.world { down = true } }
 
--- whatever the tables are, every command is refused so in this state
-abbrev pub AllRefused : State → Refusal → Type 0
-AllRefused s r = (tables : Tables) (c : Command) → refusal tables s c ≡ Some r
+-- whatever the tables are, every command is refused so
+abbrev pub RefusesAll : State → Refusal → Type 0
+RefusesAll s r = (tables : Tables) (c : Command) → refusal tables s c ≡ Some r
 
 abbrev pub busy_refuses_every_command : Type 0
-busy_refuses_every_command = AllRefused started refusals.Busy
+busy_refuses_every_command = RefusesAll busy_state refusals.Busy
 
 abbrev pub halted_is_told_before_busy : Type 0
-halted_is_told_before_busy = AllRefused started_and_halted refusals.Halted
+halted_is_told_before_busy = RefusesAll halted_state refusals.Halted
 
 abbrev pub down_is_told_before_busy : Type 0
-down_is_told_before_busy = AllRefused started_and_down refusals.Down
+down_is_told_before_busy = RefusesAll down_state refusals.Down
 
 abbrev pub commands : List Command
 commands = Command.Shutdown ∷ Command.Call (Some (codes "q")) (of_type 20) 21 [] ∷ []
 
-abbrev pub refused : Said
-refused = record { entries = []; reply = replies.Refused refusals.Busy }
+abbrev pub said_busy : Said
+said_busy = record { entries = []; reply = replies.Refused refusals.Busy }
 
--- what was written isn't shown any more
-abbrev pub busy_refusal_hides_what_was_written : Type 0
-busy_refusal_hides_what_was_written =
-    Plays (tables_of deployment) (legal_in (played_by deployment first_chosen)) started
+-- nothing is shown of one that is refused
+abbrev pub busy_refusals_show_nothing : Type 0
+busy_refusals_show_nothing =
+    Plays (tables_of deployment) (legal_in (played_by deployment first_chosen)) busy_state
     commands
-    (refused ∷ refused ∷ [])
+    (said_busy ∷ said_busy ∷ [])
 
--- it stays written, and so do the command's environment and budget
-abbrev pub busy_refusal_leaves_the_world : Type 0
-busy_refusal_leaves_the_world = (after_refusal started).world ≡ started.world
+-- but what was written, the environment and the budget stay those of the started command
+abbrev pub busy_refusal_only_hides : Type 0
+busy_refusal_only_hides = after_refusal busy_state ≡ record busy_state { shown_from = 2 }
 
-abbrev pub then_written : Entry → State → State
-then_written e s = record s { world = with_entry e s.world }
+abbrev pub with_written : Entry → State → State
+with_written e s = record s { world = with_entry e s.world }
 
--- what the command writes later is shown
+-- what that writes later is shown
 abbrev pub later_entries_are_shown : Type 0
 later_entries_are_shown =
-    shown (then_written (entries.End 2) (after_refusal started)) ≡ entries.End 2 ∷ []
+    shown (with_written (entries.End 2) (after_refusal busy_state)) ≡ entries.End 2 ∷ []
