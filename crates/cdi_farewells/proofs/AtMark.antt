@@ -7,6 +7,7 @@ use Rattle.cdi_machine.specs.Commands.{Command, task}
 use Rattle.cdi_machine.specs.Programs.{Completion, Given}
 use Rattle.cdi_machine.specs.Runs.{Legal, Outcome, Ends, Cut, Runs}
 use Rattle.cdi_machine.specs.Container.{State, refusal, is_cut}
+use Rattle.cdi_machine.proofs.Refused.{refused}
 use Rattle.cdi_ownership.proofs.Homes.{targets, codes}
 use Rattle.cdi_ledger.specs.Ledger.{Item, Wrote, items_of}
 use Rattle.cdi_ledger.specs.Stories.{Story}
@@ -56,7 +57,7 @@ module _ (tables : Tables) (legal : Legal) (fits : Fits tables legal) (apart : P
 
   alone : {s : State} {h : List Item} → Story tables legal s h → Alone s h
   alone (Story.begins ticks depth) = record { so_far = tt; free = λ e i. i }
-  alone (Story.refuses {s = s} {h = h} c r l q) = let b = alone l in record { so_far = b.so_far; free = b.free }
+  alone (Story.refuses {s = s} {h = h} c r l q) = let b = alone l in refused (λ t. Alone t h) s (record { so_far = b.so_far; free = b.free }) (record { so_far = b.so_far; free = b.free })
   alone (Story.goes {s = s} {h = h} {o = o} {v = v} c l q r) = let x = run_alone ⊥ l (alone l) c q o v r in record { so_far = x.0; free = x.1 }
 
   -- right behind a `did proceed` it doesn't start, and so right behind the mark alone

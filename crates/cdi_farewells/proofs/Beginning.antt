@@ -6,6 +6,7 @@ use Rattle.cdi_machine.specs.Commands.{Command, task}
 use Rattle.cdi_machine.specs.Programs.{Completion, Given}
 use Rattle.cdi_machine.specs.Runs.{Legal, Outcome, Ends, Cut, Runs}
 use Rattle.cdi_machine.specs.Container.{State, before_commands, refusal, is_cut, Answers, Leads}
+use Rattle.cdi_machine.proofs.Refused.{refused}
 use Rattle.cdi_machine.proofs.Walk
 use Rattle.cdi_machine.proofs.Walk.{plain_of}
 use Rattle.cdi_ledger.specs.Ledger.{Item, items_of}
@@ -69,7 +70,7 @@ module _ (tables : Tables) (legal : Legal) (fits : Fits tables legal) where
 
   begun : {s : State} {h : List Item} → Story tables legal s h → Begun s h
   begun (Story.begins ticks depth) = record { so_far = tt; calm = λ e x. tt }
-  begun (Story.refuses {s = s} {h = h} c r l q) = let b = begun l in record { so_far = b.so_far; calm = b.calm }
+  begun (Story.refuses {s = s} {h = h} c r l q) = let b = begun l in refused (λ t. Begun t h) s (record { so_far = b.so_far; calm = b.calm }) (record { so_far = b.so_far; calm = b.calm })
   begun (Story.goes {s = s} {h = h} {o = o} {v = v} c l q r) = let x = run_tells ⊥ l (begun l) c q o v r in record { so_far = x.0; calm = x.1 }
 
 pub begins_at_mark : (tables : Tables) (legal : Legal) → BeginsAtMark tables legal

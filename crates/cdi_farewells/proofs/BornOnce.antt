@@ -9,6 +9,7 @@ use Rattle.cdi_machine.specs.World.{World, at_begin, before_boot}
 use Rattle.cdi_machine.specs.Commands.{Command, task}
 use Rattle.cdi_machine.specs.Runs.{Legal, Outcome, Runs}
 use Rattle.cdi_machine.specs.Container.{State}
+use Rattle.cdi_machine.proofs.Refused.{refused}
 use Rattle.cdi_ownership.specs.Whose.{IsIn}
 use Rattle.cdi_ledger.specs.Ledger.{Item, Wrote, Born, items_of, numbers, Counted, InSequence, InOrder, Ledger}
 use Rattle.cdi_ledger.specs.Stories.{Story}
@@ -61,7 +62,7 @@ module _ (tables : Tables) (legal : Legal) where
 
   led : {s : State} {h : List Item} → Story tables legal s h → Led s h
   led (Story.begins ticks depth) = record { world = before_boot ticks depth; same = refl; ledger = Ledger.begins ticks depth }
-  led (Story.refuses c r l q) = let x = led l in record { world = x.world; same = x.same; ledger = x.ledger }
+  led (Story.refuses {s = s} {h = h} c r l q) = let x = led l in refused (λ t. Led t h) s (record { world = x.world; same = x.same; ledger = x.ledger }) (record { world = x.world; same = x.same; ledger = x.ledger })
   led (Story.goes {s = s} {h = h} {o = o} {v = v} c l q r) =
       let x = led l in
       record { world = v; same = refl; ledger = subst (λ z. (r : Runs tables legal ⊥ (task c) z o v) → Ledger tables legal v (items_of h r)) x.same (λ r. Ledger.goes c x.ledger r) r }

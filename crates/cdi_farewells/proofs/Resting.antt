@@ -9,6 +9,7 @@ use Rattle.cdi_machine.specs.World.{World, at_begin, before_boot}
 use Rattle.cdi_machine.specs.Commands.{Command}
 use Rattle.cdi_machine.specs.Container.{State, refusal, bean_of, call_refusals, refused_by_contexts, refused_by_tables, no_method, wrong_count, is_cut}
 use Rattle.cdi_machine.specs.Runs.{Legal, Outcome, Ends, Cut}
+use Rattle.cdi_machine.proofs.Refused.{past_any, refused}
 use Rattle.cdi_store.specs.declared.instance.Instance.{Instance}
 use Rattle.cdi_store.specs.declared.instance.Context.{Context}
 use Rattle.cdi_store.specs.declared.instance.Context.TheVariants.{Application, Session, Request}
@@ -60,9 +61,7 @@ answers_by t b bean name count known h = by bean.kind refl h
 module _ (t : Tables) (legal : Legal) where
   pub admitted : (s : State) (c : Command) → refusal t s c ≡ None → IsAdmitted t legal c
   admitted s (Command.Call r asked method args) e = λ b resolves served.
-      let rs = refused_by_contexts s.world.contexts (Command.Call r asked method args) ++ refused_by_tables t (Command.Call r asked method args) in
-      let x = (passes s.world.down refusals.Down rs (passes s.halted refusals.Halted ((s.world.down, refusals.Down) ∷ rs) e).1).1 in
-      let y = past (refused_by_contexts s.world.contexts (Command.Call r asked method args)) (refused_by_tables t (Command.Call r asked method args)) x in
+      let y = past (refused_by_contexts s.world.contexts (Command.Call r asked method args)) (refused_by_tables t (Command.Call r asked method args)) (past_any t s (Command.Call r asked method args) e) in
       let z = (passes (not (t.is_known asked)) refusals.UnknownName (call_refusals (bean_of t (t.resolve asked)) method (length args)) y).1 in
       answers_by t b served.bean method (length args) served.known (subst (λ o. first_that_holds (call_refusals o method (length args)) ≡ None) (ap (bean_of t) resolves ∙ served.known) z)
   admitted s Command.Boot e = tt
@@ -109,6 +108,6 @@ module _ (t : Tables) (legal : Legal) (fits : Fits t legal) (moves : Moves t leg
   -- at the end of each command that isn't cut
   pub rests : {s : State} {h : List Item} → Story t legal s h → s.halted ≡ false → IsResting t legal fits moves s.world
   rests (Story.begins ticks depth) e = first ticks depth
-  rests (Story.refuses c r l q) e = rests l e
+  rests (Story.refuses {s = s} c r l q) e = refused (λ u. u.halted ≡ false → IsResting t legal fits moves u.world) s (rests l) (rests l) e
   rests (Story.goes {s = s} {h = h} {o = o} {v = v} c l q r) e =
       after_end o v (misses_none t legal (Pre t legal) (Post t legal) ⊥ (task_safe t legal fits moves) (Completes t legal fits moves) r (command_safe t legal fits moves c (at_begin s.world) (rests l (not_halted s.halted _ _ q)) (admitted t legal s c q))).1 e

@@ -11,6 +11,7 @@ use Rattle.cdi_machine.specs.Tables.{Tables, Method, Managed, Kind, Bean, One}
 use Rattle.cdi_machine.specs.Commands.{Command}
 use Rattle.cdi_machine.specs.Container.{State, refusal, bean_of, call_refusals, read_refusals, refused_by_contexts, refused_by_tables, no_method, wrong_count}
 use Rattle.cdi_machine.specs.Runs.{Legal}
+use Rattle.cdi_machine.proofs.Refused.{past_any}
 use Rattle.cdi_fit.specs.Fits.{HasMethod, IsClassOf}
 use Rattle.cdi_fit.specs.Missing.{IsServedCommand, IsAdmitted}
 use Rattle.cdi_fit.proofs.Whole.{Good}
@@ -22,9 +23,7 @@ passes false r rs e = (refl, e)
 module _ (tables : Tables) (legal : Legal) (s : State) (g : Good tables legal s.world) where
   -- past the refusals that any command may have
   past : (c : Command) → refusal tables s c ≡ None → first_that_holds (refused_by_contexts s.world.contexts c ++ refused_by_tables tables c) ≡ None
-  past c e =
-      let rs = refused_by_contexts s.world.contexts c ++ refused_by_tables tables c in
-      (passes s.world.down refusals.Down rs (passes s.halted refusals.Halted ((s.world.down, refusals.Down) ∷ rs) e).1).1
+  past c e = past_any tables s c e
 
   -- past the name that isn't known
   past_name : (known : Bool) (rs : List (Bool × Refusal)) → first_that_holds ((not known, refusals.UnknownName) ∷ rs) ≡ None → first_that_holds rs ≡ None

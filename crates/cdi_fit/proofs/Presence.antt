@@ -1,9 +1,7 @@
 -- No command misses anything, and between commands only what the application has, and what depends on that, is live.
-use Rattle.std.proofs.Common.{ℕ, suc, zero, ◌≡◌, ◌<◌, ◌⊎◌, inl, inr, List, [], ◌∷◌, ◌++◌, length, Option, Some, None, Bool, true, false, refl, sym, ◌∙◌, subst, arith}
+use Rattle.std.proofs.Common.{ℕ, suc, zero, ◌≡◌, ◌<◌, ◌⊎◌, inl, inr, [], ◌∷◌, length, Option, Some, None, false, refl, sym, ◌∙◌, subst, arith}
 use Rattle.cdi_base.specs.declared.reply.Reply.{Reply}
 use Rattle.cdi_base.specs.declared.reply.Reply.TheVariants as replies
-use Rattle.cdi_base.specs.declared.reply.Refusal.{Refusal}
-use Rattle.cdi_base.specs.declared.reply.Refusal.TheVariants as refusals
 use Rattle.cdi_base.specs.Maps.{at}
 use Rattle.cdi_store.specs.declared.instance.Component.{Component}
 use Rattle.cdi_store.specs.declared.instance.Context.TheVariants.{Application, Request, Session}
@@ -13,13 +11,13 @@ use Rattle.cdi_store.specs.declared.instance.Phase.TheVariants as phases
 use Rattle.cdi_store.specs.declared.instance.Instance.{Instance}
 use Rattle.cdi_store.specs.Live.{Instances}
 use Rattle.cdi_store.proofs.Numbers.{equal_or_not}
-use Rattle.cdi_contexts.specs.Refusals.{first_that_holds}
 use Rattle.cdi_machine.specs.Tables.{Tables}
 use Rattle.cdi_machine.specs.World.{World, at_begin, before_boot}
 use Rattle.cdi_machine.specs.Programs.{Threw}
 use Rattle.cdi_machine.specs.Commands.{Command, task}
-use Rattle.cdi_machine.specs.Container.{State, refusal, Answers, is_cut, refused_by_contexts, refused_by_tables}
+use Rattle.cdi_machine.specs.Container.{State, refusal, Answers, is_cut}
 use Rattle.cdi_machine.specs.Runs.{Legal, Outcome, Ends, Cut, Runs}
+use Rattle.cdi_machine.proofs.Refused.{not_halted, refused}
 use Rattle.cdi_fit.specs.Fits.{HasText, Fits}
 use Rattle.cdi_fit.specs.Missing.{NothingMissing, IsServedCommand, IsReachable, AsksWhatIsThere, MissesNothing}
 use Rattle.cdi_fit.specs.Left.{StandsAtHome, IsTidy, LeavesTidy}
@@ -79,13 +77,6 @@ module _ (tables : Tables) (legal : Legal) (fits : Fits tables legal) where
       misses_none tables legal (Pre tables legal) (Post tables legal) Starved (task_safe tables legal fits) (Completes tables legal c s.world) r
       (command_safe tables legal fits c (at_begin s.world) g (admitted tables legal s g c q e))
 
-  not_halted : (s : State) (c : Command) → refusal tables s c ≡ None → s.halted ≡ false
-  not_halted s c e = by s.halted ((s.world.down, refusals.Down) ∷ refused_by_contexts s.world.contexts c ++ refused_by_tables tables c) e
-    where
-      by : (b : Bool) (rs : List (Bool × Refusal)) → first_that_holds ((b, refusals.Halted) ∷ rs) ≡ None → b ≡ false
-      by true rs h = absurd (cc)
-      by false rs h = refl
-
   first : (ticks depth : ℕ) → Rests tables legal (before_boot ticks depth)
   first ticks depth = record {
     good = record {
@@ -116,25 +107,29 @@ module _ (tables : Tables) (legal : Legal) (fits : Fits tables legal) where
   after_end w c (Ends d) v r g e = rests_again w v r g.0
   after_end w c (Cut cause) v r g e = absurd (cc)
 
+  abbrev RestsUnlessHalted : State → Type 0
+  RestsUnlessHalted s = s.halted ≡ false → Rests tables legal s.world
+
   -- a container that isn't halted is at rest between commands
   reached : {s : State} → IsReachable tables legal s → s.halted ≡ false → Rests tables legal s.world
   reached (IsReachable.begins ticks depth) h = first ticks depth
-  reached (IsReachable.goes_on {s = s} before served (Answers.refuses r e)) h = let a = reached before h in record { good = a.good; ready = a.ready; level = a.level }
+  reached (IsReachable.goes_on {s = s} before served (Answers.refuses r e)) h =
+      refused RestsUnlessHalted s (reached before) (λ k. let a = reached before k in record { good = a.good; ready = a.ready; level = a.level }) h
   reached (IsReachable.goes_on {s = s} {c = c} before served (Answers.carries_out {o = o} {v = v} e r)) h =
-      let a = reached before (not_halted s c e) in
+      let a = reached before (not_halted tables s c e) in
       after_end s.world c o v a (carried_out ⊥ s c o v a.good (served e) e r).1 h
 
 pub misses_nothing : (tables : Tables) (legal : Legal) (Starved : Type 0) → MissesNothing tables legal Starved
 misses_nothing tables legal Starved fits s before c e q o v r =
-    (carried_out tables legal fits Starved s c o v (reached tables legal fits before (not_halted tables legal fits s c e)).good q e r).0
+    (carried_out tables legal fits Starved s c o v (reached tables legal fits before (not_halted tables s c e)).good q e r).0
 
 pub asks_what_is_there : (tables : Tables) (legal : Legal) → AsksWhatIsThere tables legal
 asks_what_is_there tables legal fits s before c e q =
-    admitted tables legal s (reached tables legal fits before (not_halted tables legal fits s c e)).good c q e
+    admitted tables legal s (reached tables legal fits before (not_halted tables s c e)).good c q e
 
 pub leaves_tidy : (tables : Tables) (legal : Legal) → LeavesTidy tables legal
 leaves_tidy tables legal fits s before c e q d v r =
-    let rest = reached tables legal fits before (not_halted tables legal fits s c e) in
+    let rest = reached tables legal fits before (not_halted tables s c e) in
     let left = (carried_out tables legal fits ⊥ s c (Ends d) v rest.good q e r).1 in
     let after = rests_again tables legal fits s.world v rest left.0 in
     (tidy tables legal v after, λ is. emptied tables legal v after (subst (λ x. IsDone x v) is left.1))
@@ -143,7 +138,7 @@ leaves_tidy tables legal fits s before c e q d v r =
 
 pub throws_with_text : (tables : Tables) (legal : Legal) (Starved : Type 0) → ThrowsWithText tables legal Starved
 throws_with_text tables legal Starved fits s before c e q x v r =
-    (carried_out tables legal fits Starved s c (Ends (Threw x)) v (reached tables legal fits before (not_halted tables legal fits s c e)).good q e r).1.2
+    (carried_out tables legal fits Starved s c (Ends (Threw x)) v (reached tables legal fits before (not_halted tables s c e)).good q e r).1.2
 
 pub answers_with_text : (tables : Tables) (legal : Legal) → AnswersWithText tables legal
 answers_with_text tables legal fits s before c q x t h = by _ t h refl

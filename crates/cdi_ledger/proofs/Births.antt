@@ -34,6 +34,7 @@ use Rattle.cdi_machine.specs.Commands.{Command, task}
 use Rattle.cdi_machine.specs.Machine.{machine}
 use Rattle.cdi_machine.specs.Runs.{Legal, Outcome, Runs}
 use Rattle.cdi_machine.specs.Container.{State}
+use Rattle.cdi_machine.proofs.Refused.{refused}
 use Rattle.cdi_machine.proofs.Walk
 use Rattle.cdi_machine.proofs.Walk.{Plain, PlainChange, PlainEntry, plain_of}
 use Rattle.cdi_machine.proofs.Levels.{Height}
@@ -494,7 +495,7 @@ module _ (tables : Tables) where
 
     pub known_story : {s : State} {h : List Item} → Story tables legal s h → Known tables s.world h
     known_story (Story.begins ticks depth) = record { lives = λ k c e. absurd (cc); below = λ k c o i. absurd i; once = λ k c d o p i j. absurd i; each = tt; ends = tt }
-    known_story (Story.refuses {s = s} {h = h} c r l q) = known_alike s.world (at_begin s.world) h (alike_same s.world (at_begin s.world) refl refl) (known_story l)
+    known_story (Story.refuses {s = s} {h = h} c r l q) = refused (λ t. Known tables t.world h) s (known_story l) (known_begin s.world h (known_story l))
     known_story (Story.goes {s = s} {h = h} {o = o} {v = v} c l q r) =
         run_known c (at_begin s.world) v o h r (begin_tidy s.world (tidy_story tables legal l (not_halted s.halted _ _ q))) (λ n. ledgered.at_rest n s.world h (sane_story tables legal n l)) (known_alike s.world (at_begin s.world) h (alike_same s.world (at_begin s.world) refl refl) (known_story l))
 

@@ -219,7 +219,7 @@ module _ (tables : Tables) where
 
     refs_story : {s : State} {h : List Item} → Story tables legal s h → Refs s.world
     refs_story (Story.begins ticks depth) = λ n o field m e z. absurd (cc)
-    refs_story (Story.refuses {s = s} {h = h} c r l q) = refs_story l
+    refs_story (Story.refuses {s = s} {h = h} c r l q) = Rattle.cdi_machine.proofs.Refused.refused (λ t. Refs t.world) s (refs_story l) (refs_story l)
     refs_story (Story.goes {s = s} {h = h} {o = o} {v = v} c l q r) =
         run_refers c (at_begin s.world) v o h r (begin_tidy s.world (tidy_story tables legal l (not_halted s.halted _ _ q))) (λ n. ledgered.at_rest n s.world h (sane_story tables legal n l)) (refs_story l)
 

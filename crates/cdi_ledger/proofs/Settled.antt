@@ -21,6 +21,7 @@ use Rattle.cdi_machine.specs.Programs.{Given, Completion, Gave, Threw}
 use Rattle.cdi_machine.specs.Commands.{Command, task}
 use Rattle.cdi_machine.specs.Runs.{Legal, Outcome, Runs}
 use Rattle.cdi_machine.specs.Container.{State, refusal, state_after}
+use Rattle.cdi_machine.proofs.Refused.{refused}
 use Rattle.cdi_ledger.specs.Ledger.{Item, items_of, Unborn, Lost, fate}
 use Rattle.cdi_ledger.specs.Stories.{Story}
 use Rattle.cdi_ownership.specs.Whose.{IsIn, IsHeld, DependsOn, StandsAtHome, IsTidy}
@@ -93,13 +94,13 @@ module _ (tables : Tables) (legal : Legal) where
 
   pub tidy_story : {s : State} {h : List Item} → Story tables legal s h → s.halted ≡ false → Tidy s.world
   tidy_story (Story.begins ticks depth) e = first_tidy ticks depth
-  tidy_story (Story.refuses {s = s} c r l q) e = begin_tidy s.world (tidy_story l e)
+  tidy_story (Story.refuses {s = s} c r l q) e = refused (λ t. t.halted ≡ false → Tidy t.world) s (tidy_story l) (λ k. begin_tidy s.world (tidy_story l k)) e
   tidy_story (Story.goes {s = s} {h = h} {o = o} {v = v} c l q r) e = tidy_run c (at_begin s.world) v o h r (begin_tidy s.world (tidy_story l (not_halted s.halted _ _ q))) e
 
   -- where all stand, also behind a command that is cut
   pub inv_story : {s : State} {h : List Item} → Story tables legal s h → Inv s.world
   inv_story (Story.begins ticks depth) = (first_tidy ticks depth).inv
-  inv_story (Story.refuses {s = s} c r l q) = inv_still s.world (at_begin s.world) (begin_still s.world) (inv_story l)
+  inv_story (Story.refuses {s = s} c r l q) = refused (λ t. Inv t.world) s (inv_story l) (inv_still s.world (at_begin s.world) (begin_still s.world) (inv_story l))
   inv_story (Story.goes {s = s} {h = h} {o = o} {v = v} c l q r) = (sound tables (Ok tables) fine.G (Pre tables) Post legal steps h (LeftTidy tables) r (command_does tables c (at_begin s.world) h (begin_tidy s.world (tidy_story l (not_halted s.halted _ _ q))))).0
 
   pub owners_are_smaller : OwnersAreSmaller tables legal
@@ -107,7 +108,7 @@ module _ (tables : Tables) (legal : Legal) where
 
   pub sane_story : (n : ℕ) {s : State} {h : List Item} → Story tables legal s h → Sane n s.world h
   sane_story n (Story.begins ticks depth) = before ticks depth n
-  sane_story n (Story.refuses {s = s} {h = h} c r l q) = at_rest n s.world h (sane_story n l)
+  sane_story n (Story.refuses {s = s} {h = h} c r l q) = refused (λ t. Sane n t.world h) s (sane_story n l) (at_rest n s.world h (sane_story n l))
   sane_story n (Story.goes {s = s} {h = h} {o = o} {v = v} c l q r) = command_keeps tables n legal c (at_begin s.world) v o h r (at_rest n s.world h (sane_story n l))
 
   -- ---- what stands so is not under way

@@ -1,5 +1,5 @@
 -- What registered bodies give lies in their shapes, in which there is always an act.
-use Rattle.std.proofs.Common.{ℕ, refl, List, arith}
+use Rattle.std.proofs.Common.{refl, List, arith}
 use Rattle.cdi_base.specs.declared.act.Act.TheVariants as acts
 use Rattle.cdi_base.specs.declared.value.Value.TheVariants as values
 use Rattle.cdi_bodies.specs.declared.chooser.Chooser.{Chooser}

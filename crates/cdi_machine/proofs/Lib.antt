@@ -8,3 +8,4 @@ pub mod Worked
 pub mod Levels
 pub mod Walk
 pub mod Rests
+pub mod Refused

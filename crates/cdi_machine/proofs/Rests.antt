@@ -1,5 +1,5 @@
 -- Between commands nothing is running.
-use Rattle.std.proofs.Common.{ℕ, suc, ◌≡◌, List, length, refl, ◌∙◌, ap, cond, Option, Some, None, Bool, true, false}
+use Rattle.std.proofs.Common.{ℕ, suc, ◌≡◌, List, length, refl, ◌∙◌, ap, Option, Some, None, Bool, true, false}
 use Rattle.std.specs.Prelude.{nat_lt, ◌^◌}
 use Rattle.cdi_base.specs.declared.value.Value.TheVariants as values
 use Rattle.cdi_base.specs.declared.entry.Entry.TheVariants as entries
@@ -7,7 +7,6 @@ use Rattle.cdi_base.specs.declared.place.Place.{Place}
 use Rattle.cdi_base.specs.declared.place.Place.TheVariants as places
 use Rattle.cdi_base.specs.declared.built_in.BuiltIn.TheVariants as built_in
 use Rattle.cdi_base.specs.declared.reply.Reply.{Reply}
-use Rattle.cdi_base.specs.declared.reply.Refusal.{Refusal}
 use Rattle.cdi_store.specs.declared.instance.Component.{Component}
 use Rattle.cdi_store.specs.declared.instance.Component.TheVariants as components
 use Rattle.cdi_store.specs.declared.instance.Owner.{Owner}
@@ -28,6 +27,7 @@ use Rattle.cdi_machine.specs.Laws.{IsEnd, IsAtRest, Rests, RestsBetween}
 use Rattle.cdi_machine.proofs.Levels.{Height, height, Steady, steady, TasksLevel, ends_at}
 use Rattle.cdi_machine.proofs.Walk
 use Rattle.cdi_machine.proofs.Walk.{steady_of}
+use Rattle.cdi_machine.proofs.Refused.{not_halted, refused}
 
 module _ (h : Height) where
   abbrev Level : {A : Type 0} → Prog A → Type 0
@@ -124,14 +124,10 @@ module _ (tables : Tables) (legal : Legal) where
   not_cut (Outcome.Ends c) e = tt
   not_cut (Outcome.Cut cause) e = absurd (cc)
 
-  not_halted : (b : Bool) (r : Refusal) (o : Option Refusal) → cond b (Some r) o ≡ None → b ≡ false
-  not_halted true r o e = absurd (cc)
-  not_halted false r o e = refl
-
   answered : {s t : State} {c : Command} {r : Reply} → Answers tables legal s c r t → Resting s → Resting t
-  answered {s = s} (Answers.refuses r e) q h = at_its_begin s.world (q h)
+  answered {s = s} (Answers.refuses r e) q h = refused Resting s q (λ k. at_its_begin s.world (q k)) h
   answered {s = s} {c = c} (Answers.carries_out {o = o} {v = v} e run) q h =
-      rests c (at_begin s.world) v o run (not_cut o h) (at_its_begin s.world (q (not_halted s.halted _ _ e)))
+      rests c (at_begin s.world) v o run (not_cut o h) (at_its_begin s.world (q (not_halted tables s c e)))
 
   led : {s t : State} {cs : List Command} → Leads tables legal s cs t → Resting s → Resting t
   led Leads.stays q = q

@@ -1,5 +1,5 @@
 -- A container between commands: which commands are refused, and what the others are answered.
-use Rattle.std.specs.Prelude.{ℕ, ◌≡◌, ◌++◌, List, [], ◌∷◌, map, length, Bool, true, false, not, Option, Some, None, nat_eq}
+use Rattle.std.specs.Prelude.{ℕ, ◌≡◌, ◌++◌, List, [], ◌∷◌, map, length, drop, Bool, true, false, not, Option, Some, None, nat_eq, if◌then◌else◌}
 use Rattle.cdi_base.specs.declared.entry.Entry.{Entry}
 use Rattle.cdi_base.specs.declared.reply.Reply.{Reply}
 use Rattle.cdi_base.specs.declared.reply.Reply.TheVariants as replies
@@ -18,9 +18,21 @@ use Rattle.cdi_machine.specs.Runs.{Legal, Outcome, Ends, Cut, Runs}
 pub record State : Type 0 where
   pub world : World
   pub halted : Bool
+  -- a command was started and isn't over
+  pub busy : Bool
+  -- so many entries in front of the trace aren't shown any more
+  pub shown_from : ℕ
+
+-- no command is under way, and the whole trace is shown
+abbrev pub idle_state : World → Bool → State
+idle_state w halted = record { world = w; halted = halted; busy = false; shown_from = 0 }
 
 abbrev pub before_commands : ℕ → ℕ → State
-before_commands ticks depth = record { world = before_boot ticks depth; halted = false }
+before_commands ticks depth = idle_state (before_boot ticks depth) false
+
+-- the entries that are shown
+abbrev pub shown : State → List Entry
+shown s = drop s.shown_from s.world.trace
 
 -- ---- refusals
 
@@ -77,6 +89,7 @@ refusal t s c =
     first_that_holds
     ((s.halted, refusals.Halted) ∷
     (s.world.down, refusals.Down) ∷
+    (s.busy, refusals.Busy) ∷
     refused_by_contexts s.world.contexts c ++ refused_by_tables t c)
 
 -- ---- replies
@@ -98,14 +111,22 @@ is_cut (Cut cause) = true
 is_cut (Ends c) = false
 
 abbrev pub state_after : Outcome → World → State
-state_after o w = record { world = w; halted = is_cut o }
+state_after o w = idle_state w (is_cut o)
+
+-- What was written so far isn't shown any more. While a command is under way, its world stays as it is; else the trace is
+-- emptied, and there is no environment.
+abbrev pub after_refusal : State → State
+after_refusal s =
+    if s.busy
+    then record s { shown_from = length s.world.trace }
+    else idle_state (at_begin s.world) s.halted
 
 -- ---- a command
 
--- A refused command only ends the trace and the environment of the command before it. Another is carried out, with an empty trace at first, and a cut halts the container.
+-- A command is refused, or it is carried out, with an empty trace at first, and a cut halts the container.
 pub data Answers (tables : Tables) (legal : Legal) : State → Command → Reply → State → Type 0 where
   refuses : {s : State} {c : Command} (r : Refusal) → refusal tables s c ≡ Some r
-      → Answers tables legal s c (replies.Refused r) (record s { world = at_begin s.world })
+      → Answers tables legal s c (replies.Refused r) (after_refusal s)
   carries_out : {s : State} {c : Command} {o : Outcome} {v : World} → refusal tables s c ≡ None
       → Runs tables legal ⊥ (task c) (at_begin s.world) o v
       → Answers tables legal s c (reply_to c o v) (state_after o v)
@@ -117,7 +138,7 @@ pub data Leads (tables : Tables) (legal : Legal) : State → List Command → St
       → Answers tables legal s c r t → Leads tables legal t cs u
       → Leads tables legal s (c ∷ cs) u
 
--- what was written for a command
+-- what is shown of a command
 pub record Said : Type 0 where
   pub entries : List Entry
   pub reply : Reply
@@ -126,4 +147,4 @@ pub data Plays (tables : Tables) (legal : Legal) : State → List Command → Li
   ends : {s : State} → Plays tables legal s [] []
   goes_on : {s t : State} {c : Command} {r : Reply} {cs : List Command} {said : List Said}
       → Answers tables legal s c r t → Plays tables legal t cs said
-      → Plays tables legal s (c ∷ cs) (record { entries = t.world.trace; reply = r } ∷ said)
+      → Plays tables legal s (c ∷ cs) (record { entries = shown t; reply = r } ∷ said)

@@ -15,7 +15,7 @@ use Rattle.cdi_machine.specs.Programs.{Task, Given, Completion, Gave, Threw, Pro
 use Rattle.cdi_machine.specs.Machine.{machine}
 use Rattle.cdi_machine.specs.World.{at_begin}
 use Rattle.cdi_machine.specs.Commands.{Command, task}
-use Rattle.cdi_machine.specs.Container.{State, Said, refusal, reply_to, state_after}
+use Rattle.cdi_machine.specs.Container.{State, Said, shown, refusal, reply_to, state_after, after_refusal}
 use Rattle.cdi_machine.specs.Runs.{Legal, Outcome, Ends, Cut}
 
 -- a body's act by its number, the entries so far, the fields and the view; of so many candidates, after so many entries, one
@@ -78,10 +78,10 @@ module _ (s : Setting) where
 
   abbrev pub saying : State → Reply → Option (List Said) → Option (List Said)
   saying t r None = None
-  saying t r (Some more) = Some (record { entries = t.world.trace; reply = r } ∷ more)
+  saying t r (Some more) = Some (record { entries = shown t; reply = r } ∷ more)
 
   abbrev pub answer_by : ℕ → Command → State → Option Refusal → Came → Option (Reply × State)
-  answer_by n c u (Some r) came = Some (replies.Refused r, record u { world = at_begin u.world })
+  answer_by n c u (Some r) came = Some (replies.Refused r, after_refusal u)
   answer_by n c u None None = None
   answer_by n c u None (Some (o, v)) = Some (reply_to c o v, state_after o v)
 

@@ -9,6 +9,7 @@ use Rattle.cdi_machine.specs.World.{World, at_begin, before_boot}
 use Rattle.cdi_machine.specs.Commands.{Command, task}
 use Rattle.cdi_machine.specs.Container.{State, refusal, bean_of, call_refusals, refused_by_contexts, refused_by_tables, no_method, wrong_count, is_cut, Answers as Replies, Leads}
 use Rattle.cdi_machine.specs.Runs.{Legal, Outcome, Ends, Cut, Runs}
+use Rattle.cdi_machine.proofs.Refused.{not_halted, past_any, refused}
 use Rattle.cdi_store.specs.declared.instance.Instance.{Instance}
 use Rattle.cdi_store.specs.declared.instance.Context.{Context}
 use Rattle.cdi_store.specs.declared.instance.Context.TheVariants.{Application, Request, Session}
@@ -61,9 +62,7 @@ answers_by t b bean name count known h = by bean.kind refl h
 module _ (t : Tables) (legal : Legal) where
   admitted : (s : State) (c : Command) → refusal t s c ≡ None → IsAdmitted t legal c
   admitted s (Command.Call r asked method args) e = λ b resolves served.
-      let rs = refused_by_contexts s.world.contexts (Command.Call r asked method args) ++ refused_by_tables t (Command.Call r asked method args) in
-      let x = (passes s.world.down refusals.Down rs (passes s.halted refusals.Halted ((s.world.down, refusals.Down) ∷ rs) e).1).1 in
-      let y = past (refused_by_contexts s.world.contexts (Command.Call r asked method args)) (refused_by_tables t (Command.Call r asked method args)) x in
+      let y = past (refused_by_contexts s.world.contexts (Command.Call r asked method args)) (refused_by_tables t (Command.Call r asked method args)) (past_any t s (Command.Call r asked method args) e) in
       let z = (passes (not (t.is_known asked)) refusals.UnknownName (call_refusals (bean_of t (t.resolve asked)) method (length args)) y).1 in
       answers_by t b served.bean method (length args) served.known (subst (λ o. first_that_holds (call_refusals o method (length args)) ≡ None) (ap (bean_of t) resolves ∙ served.known) z)
   admitted s Command.Boot e = tt
@@ -74,9 +73,6 @@ module _ (t : Tables) (legal : Legal) where
   admitted s (Command.Fire r class qualifiers v) e = tt
   admitted s Command.Live e = tt
   admitted s Command.Shutdown e = tt
-
-  not_halted : (s : State) (c : Command) → refusal t s c ≡ None → s.halted ≡ false
-  not_halted s c e = (passes s.halted refusals.Halted ((s.world.down, refusals.Down) ∷ refused_by_contexts s.world.contexts c ++ refused_by_tables t c) e).0
 
 module _ (t : Tables) (legal : Legal) (fits : Fits t legal) (moves : Moves t legal) where
   carried_out : (Starved : Type 0) (s : State) (c : Command) (o : Outcome) (v : World) → IsResting t legal fits moves s.world → refusal t s c ≡ None
@@ -121,16 +117,16 @@ module _ (t : Tables) (legal : Legal) (fits : Fits t legal) (moves : Moves t leg
 
   led : {s u : State} {cs : List Command} → Leads t legal s cs u → RestsUnlessHalted s → RestsUnlessHalted u
   led Leads.stays h = h
-  led (Leads.goes_on (Replies.refuses r e) more) h = led more h
+  led (Leads.goes_on {s = s} (Replies.refuses r e) more) h = led more (refused RestsUnlessHalted s h h)
   led (Leads.goes_on {s = s} {c = c} (Replies.carries_out {o = o} {v = v} e r) more) h =
-      led more (λ q. after_end o v (carried_out ⊥ s c o v (h (not_halted t legal s c e)) e r).1 q)
+      led more (λ q. after_end o v (carried_out ⊥ s c o v (h (not_halted t s c e)) e r).1 q)
 
 pub misses_nothing : (t : Tables) (legal : Legal) (Starved : Type 0) → MissesNothing t legal Starved
 misses_nothing t legal Starved fits ticks depth cs s leads c e o v r =
     let m = moves t legal in
-    (carried_out t legal fits m Starved s c o v (led t legal fits m leads (λ _. first t legal fits m ticks depth) (not_halted t legal s c e)) e r).0
+    (carried_out t legal fits m Starved s c o v (led t legal fits m leads (λ _. first t legal fits m ticks depth) (not_halted t s c e)) e r).0
 
 pub throws_with_text : (t : Tables) (legal : Legal) (Starved : Type 0) → ThrowsWithText t legal Starved
 throws_with_text t legal Starved fits ticks depth cs s leads c e x v r =
     let m = moves t legal in
-    (carried_out t legal fits m Starved s c (Ends (Threw x)) v (led t legal fits m leads (λ _. first t legal fits m ticks depth) (not_halted t legal s c e)) e r).1.1
+    (carried_out t legal fits m Starved s c (Ends (Threw x)) v (led t legal fits m leads (λ _. first t legal fits m ticks depth) (not_halted t s c e)) e r).1.1

@@ -1,5 +1,5 @@
 -- A body that fires an event with uses that aren't in their written form.
-use Rattle.std.specs.Prelude.{ℕ, pos, List, [], ◌∷◌, None, false, codes}
+use Rattle.std.specs.Prelude.{pos, List, [], ◌∷◌, None, false, codes}
 use Rattle.cdi_base.specs.declared.value.Value.TheVariants as values
 use Rattle.cdi_base.specs.declared.act.Act.TheVariants as acts
 use Rattle.cdi_base.specs.declared.entry.Entry.TheVariants as entries
