@@ -21,6 +21,12 @@ answers_behind : (es : List Entry) (e : Entry) → answers_in (es ++ e ∷ []) �
 answers_behind [] e = omega arith
 answers_behind (d ∷ es) e = let h = answers_behind es e in omega (arith, h)
 
+-- asked once more before the entries, or behind them
+pub asked_behind : (h : Hearing) (es : List Entry) → after (asked_once h) es ≡ asked_once (after h es)
+asked_behind h es =
+    let a : h.asked + 1 + answers_in es ≡ h.asked + answers_in es + 1 = omega arith in
+    rw a refl
+
 module _ (h : Hearing) (es : List Entry) (e : Entry) where
   -- one entry more that was not asked for
   pub told_once : asked_for e ≡ 0 → with_told e (after h es) ≡ after h (es ++ e ∷ [])
