@@ -76,4 +76,10 @@ memory_fails {s} {t} {w} {v} (Err f) l h = subst (λ x. HasFailed s w t x) (sym 
 pub silent_fails : {A : Type 0} {s t : Setting} (w : World) (q : Either A Failure) → IsSilent s t → IsErr q × IsErrAnd q (λ f. f ≡ Memory) → IfErr q (HasFailed s w t)
 silent_fails w q i h = memory_fails {v = w} q (hears_same i refl) h
 
+-- and if it was asked before
+pub asked_fails : {A : Type 0} (s t : Setting) (w : World) (q : Either A Failure) → IsAsked s.heard t.heard → IsErr q × IsErrAnd q (λ f. f ≡ Memory) → IfErr q (HasFailed s w t)
+asked_fails s t w (Ok a) l h = tt
+asked_fails s t w (Err f) l h =
+    subst (λ x. HasFailed s w t x) (sym h.1) (HasFailed.starves (λ h x. (asked_once (after h w.trace), l.heard (after h w.trace) x)))
+
 pub ruleset hears = (hears_same, hears_self, hears_trans, hears_on, failed_as, failed_after, failed_later, memory_fails, silent_fails)

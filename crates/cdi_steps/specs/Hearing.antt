@@ -37,14 +37,8 @@ IsCutNext (nexts.Finished o) = IsCut o
 IsCutNext _ = ⊥
 
 -- a cut may have come between an answer and its entry
-abbrev pub HearsUntil : Type 0 → Setting → World → Setting → World → Type 0
-HearsUntil Cut s w t v = Hears s w t v ⊎ (Cut × HearsMore s w t v)
-
 abbrev pub HearsNext : Setting → World → Next → Setting → World → Type 0
-HearsNext s w next t v = HearsUntil (IsCutNext next) s w t v
-
-abbrev pub HearsOutcome : Setting → World → Outcome → Setting → World → Type 0
-HearsOutcome s w o t v = HearsUntil (IsCut o) s w t v
+HearsNext s w next t v = Hears s w t v ⊎ (IsCutNext next × HearsMore s w t v)
 
 -- the entry was told if it was written
 abbrev pub ToldIf : Bool → Entry → Setting → Setting → Type 0
