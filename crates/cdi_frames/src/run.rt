@@ -1,11 +1,12 @@
 //! The engine: a loop over its steps, which can stop between any two of them.
 ghost use Rattle.std.specs.Prelude.{◌<◌, IfOk, IfErr};
 ghost use Rattle.cdi_machine.specs.Commands.{task};
-ghost use Rattle.cdi_machine.specs.Failures.{IsFailureOf};
 ghost use Rattle.cdi_steps.specs.Setting.{Narrows};
+ghost use Rattle.cdi_steps.specs.Hearing.{HasFailed};
 ghost use Rattle.cdi_steps.specs.Words.{command_of};
 ghost use Rattle.cdi_steps.specs.Leads.{Ran};
 ghost use Rattle.cdi_frames.specs.Stacks.{program_of, KeepsMeaning, TurnsTo, AddsAtMost, KeepsCount, KnownStack, KnownTurn};
+ghost use Rattle.cdi_frames.specs.Hearing.{HearsTurn, HearsOutcome};
 ghost use Rattle.cdi_frames.specs.Loads.{IsCheaper};
 
 use crate::resume::resume;
@@ -26,7 +27,10 @@ fn advance<H: Host>(host: &mut H, stack: Stack) -> Result<Turn, Failure>
         (H.world host.old) turn (H.world host.new)) }
     ensures grown { IfOk result (λ turn. AddsAtMost 1 (H.world host.old) (H.world host.new)) }
     ensures known { IfOk result (KnownTurn (H.setting host.new)) }
-    ensures failed { IfErr result (IsFailureOf (H.setting host.old).may_end) }
+    ensures hears { IfOk result (λ turn. HearsTurn (H.setting host.old) stack
+        (H.world host.old) turn (H.setting host.new) (H.world host.new)) }
+    ensures failed { IfErr result (HasFailed (H.setting host.old) (H.world host.old)
+        (H.setting host.new)) }
     ensures narrows { Narrows (H.setting host.old) (H.setting host.new) }
 {
     let Stack { frames, pending } = stack;
@@ -57,7 +61,10 @@ pub fn turn<H: Host>(host: &mut H, stack: Stack, most: usize) -> Result<Turn, Fa
     ensures counted { IfOk result (λ turn. KeepsCount most
         (H.world host.old) turn (H.world host.new)) }
     ensures known { IfOk result (KnownTurn (H.setting host.new)) }
-    ensures failed { IfErr result (IsFailureOf (H.setting host.old).may_end) }
+    ensures hears { IfOk result (λ turn. HearsTurn (H.setting host.old) stack
+        (H.world host.old) turn (H.setting host.new) (H.world host.new)) }
+    ensures failed { IfErr result (HasFailed (H.setting host.old) (H.world host.old)
+        (H.setting host.new)) }
     ensures narrows { Narrows (H.setting host.old) (H.setting host.new) }
 {
     let first = host.written();
@@ -78,7 +85,10 @@ fn finish<H: Host>(host: &mut H, stack: Stack) -> Result<Outcome, Failure>
     requires { KnownStack (H.setting host.old) stack }
     ensures ran { Ran (H.setting host.old) (program_of stack)
         (H.world host.old) result (H.world host.new) }
-    ensures failed { IfErr result (IsFailureOf (H.setting host.old).may_end) }
+    ensures hears { IfOk result (λ outcome. HearsTurn (H.setting host.old) stack
+        (H.world host.old) (Turn.Finished outcome) (H.setting host.new) (H.world host.new)) }
+    ensures failed { IfErr result (HasFailed (H.setting host.old) (H.world host.old)
+        (H.setting host.new)) }
     ensures narrows { Narrows (H.setting host.old) (H.setting host.new) }
 {
     let mut stack = stack;
@@ -102,7 +112,10 @@ pub fn law_steps<H: Host>(_host: &H)
 pub fn run<H: Host>(host: &mut H, job: Job) -> Result<Outcome, Failure>
     ensures ran { Ran (H.setting host.old) (task (command_of job))
         (H.world host.old) result (H.world host.new) }
-    ensures failed { IfErr result (IsFailureOf (H.setting host.old).may_end) }
+    ensures hears { IfOk result (λ outcome. HearsOutcome (H.setting host.old)
+        (H.world host.old) outcome (H.setting host.new) (H.world host.new)) }
+    ensures failed { IfErr result (HasFailed (H.setting host.old) (H.world host.old)
+        (H.setting host.new)) }
     ensures narrows { Narrows (H.setting host.old) (H.setting host.new) }
 {
     let stack = Stack::start(host.alloc(), Task::Begin(job));

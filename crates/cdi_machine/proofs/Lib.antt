@@ -1,3 +1,4 @@
+pub mod Hearings
 pub mod Total
 pub mod Ranks
 pub mod Ending

@@ -1,8 +1,9 @@
 -- Which failures a driver may tell.
 use Rattle.cdi_machine.specs.declared.driver.Failure.{Failure}
 use Rattle.cdi_machine.specs.declared.driver.Failure.TheVariants.{Memory, Exhausted}
+use Rattle.cdi_machine.specs.Hearing.{Hearing, GoesOn}
 
--- memory may always run out; a driver that can't end has always something to give
-abbrev pub IsFailureOf : Type 0 → Failure → Type 0
-IsFailureOf MayEnd Memory = Unit {0}
-IsFailureOf MayEnd Exhausted = MayEnd
+-- memory may always run out, but a driver that has ended tells just that
+abbrev pub IsFailureOf : (Hearing → Type 0) → (Hearing → Type 0) → Type 0 → Failure → Type 0
+IsFailureOf before then Ended Memory = GoesOn before then
+IsFailureOf before then Ended Exhausted = Ended

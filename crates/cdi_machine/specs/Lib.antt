@@ -12,6 +12,7 @@ pub mod Commands
 pub mod Machine
 pub mod Runs
 pub mod Registered
+pub mod Hearing
 pub mod Failures
 pub mod Container
 pub mod Evaluator

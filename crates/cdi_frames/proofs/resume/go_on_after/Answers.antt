@@ -1,7 +1,6 @@
 use Rattle.cdi_steps.specs.declared.task.Completion.TheVariants as completions
 use Rattle.cdi_steps.specs.Words.{running_of, completion_of}
 use Rattle.cdi_steps.specs.Meanings.{go_on_with}
-use Rattle.cdi_steps.proofs.Results.{map_ok}
 use Rattle.cdi_steps.proofs.AfterEntries.{settled}
 use Rattle.cdi_frames.proofs.CommandSteps.{starting_leads, closing_leads, finishing_leads}
 use Rattle.cdi_frames.proofs.ResumeSteps.{stopped_leads, exited_leads, cleaned_up_leads, threw_at_return, threw_leads, started_leads, gone_down_leads}
@@ -14,7 +13,7 @@ returns-in-Stopping-clause-leads g c =
 
 pub returns-in-Answering-clause-leads : goal.returns-in-Answering-clause-leads
 returns-in-Answering-clause-leads g c =
-    rw c.in-Answering.is (map_ok c.answer.result (λ next h. settled (g.H.Host.setting c.args.host.now) (go_on_with (running_of c.in-Answering.running.value) (completion_of (completions.Threw c.args.exception))) next (g.H.Host.world c.args.host.now) (g.H.Host.world c.args.host.now) h) c.answer.ensures.leads)
+    rw c.in-Answering.is (settled (g.H.Host.setting c.args.host.now) (go_on_with (running_of c.in-Answering.running.value) (completion_of (completions.Threw c.args.exception))) c.in_ok-answer-in-Answering.field-0 (g.H.Host.world c.args.host.now) (g.H.Host.world c.args.host.now) c.in_ok-answer-in-Answering.ensures.leads)
 
 pub returns-in-CleaningUp-clause-leads : goal.returns-in-CleaningUp-clause-leads
 returns-in-CleaningUp-clause-leads g c =

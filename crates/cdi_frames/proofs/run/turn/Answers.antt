@@ -5,6 +5,8 @@ use Rattle.cdi_frames.specs.Stacks.{Steps}
 use Rattle.cdi_frames.specs.declared.stack.Turn.TheVariants as turned
 use Rattle.cdi_frames.proofs.Stacks.{turned_after, turned_err}
 use Rattle.cdi_frames.proofs.Loads.{grown_none, grown_on}
+use Rattle.cdi_steps.proofs.Hearing.{passed_on}
+use Rattle.cdi_frames.proofs.Hearing.{hears_here, turns_then, failed_turn}
 use Rattle.cdi_frames.proofs.run.turn.Goals as goal
 
 pub steps-init : goal.steps-init
@@ -12,6 +14,7 @@ steps-init g c = record {
   narrows = narrows_self (g.H.Host.setting c.args.host.now);
   so_far = Steps.stays;
   known = c.requires;
+  hears = hears_here (g.H.Host.setting c.args.host.now) c.args.stack (g.H.Host.world c.args.host.now);
   first = search rules;
   grown = grown_none c.args.most (g.H.Host.world c.args.host.now);
 }
@@ -30,6 +33,15 @@ steps-preserved g c = record {
   narrows = narrows_trans c.steps.invariant.narrows c.in_ok-outcome.ensures.narrows;
   so_far = turned_after c.steps.invariant.narrows c.args.stack c.steps.stack (g.H.Host.world c.args.host.now) (g.H.Host.world c.steps.host) (Ok (turned.Running c.in-Running.then)) (g.H.Host.world c.advance.new.host) c.steps.invariant.so_far (rw c.in-Running.is at c.in_ok-outcome.ensures.turned);
   known = rw c.in-Running.is at c.in_ok-outcome.ensures.known;
+  hears = turns_then (turned.Running c.in-Running.then) c.steps.invariant.hears (rw c.in-Running.is at c.in_ok-outcome.ensures.hears);
   first = c.steps.invariant.first;
   grown = grown_on c.args.most (g.H.Host.world c.args.host.now) (g.H.Host.world c.steps.host) (g.H.Host.world c.advance.new.host) c.steps.invariant.grown (omega (arith, c.written.ensures, c.steps.invariant.first, c.steps.invariant.grown.low, c.steps.invariant.grown.high, c.if-written-first.false)) c.in_ok-outcome.ensures.grown;
 }
+
+pub returns-in_err-outcome-clause-failed : goal.returns-in_err-outcome-clause-failed
+returns-in_err-outcome-clause-failed g c =
+    passed_on c.from_residual.result (failed_turn c.steps.invariant.hears c.in_err-outcome.ensures.failed) c.from_residual.ensures
+
+pub returns-in-Finished-clause-hears : goal.returns-in-Finished-clause-hears
+returns-in-Finished-clause-hears g c =
+    turns_then (turned.Finished c.in-Finished.outcome) c.steps.invariant.hears (rw c.in-Finished.is at c.in_ok-outcome.ensures.hears)

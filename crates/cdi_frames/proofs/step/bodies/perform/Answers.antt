@@ -10,13 +10,9 @@ pub returns-in-Set-clause-leads : goal.returns-in-Set-clause-leads
 returns-in-Set-clause-leads g c =
     rw c.in-Set.is (map_ok c.set_field.result (λ next h. settled (g.H.Host.setting c.args.host.now) (perform (running_of c.args.running.value) (acts.Set c.in-Set.field c.in-Set.value)) next (g.H.Host.world c.args.host.now) (g.H.Host.world c.set_field.new.host) h) c.set_field.ensures.leads)
 
-pub returns-in-Own-clause-leads : goal.returns-in-Own-clause-leads
-returns-in-Own-clause-leads g c =
-    rw c.in-Own.is (map_ok c.call_own.result (λ next h. settled (g.H.Host.setting c.args.host.now) (perform (running_of c.args.running.value) (acts.Own c.in-Own.method c.in-Own.args)) next (g.H.Host.world c.args.host.now) (g.H.Host.world c.args.host.now) h) c.call_own.ensures.leads)
-
-pub returns-in-Field-clause-leads : goal.returns-in-Field-clause-leads
-returns-in-Field-clause-leads g c =
-    rw (c.in-Call.is, c.in-Field.is) c.call_through.ensures.leads
+pub returns-in_ok-call_own-in-Own-clause-leads : goal.returns-in_ok-call_own-in-Own-clause-leads
+returns-in_ok-call_own-in-Own-clause-leads g c =
+    rw c.in-Own.is (settled (g.H.Host.setting c.args.host.now) (perform (running_of c.args.running.value) (acts.Own c.in-Own.method c.in-Own.args)) c.in_ok-call_own-in-Own.field-0 (g.H.Host.world c.args.host.now) (g.H.Host.world c.args.host.now) c.in_ok-call_own-in-Own.ensures.leads)
 
 pub returns-in-Give-clause-leads : goal.returns-in-Give-clause-leads
 returns-in-Give-clause-leads g c =

@@ -7,4 +7,4 @@ returns-in-Some-None-clause-leads g c =
 
 pub returns-clause-leads : goal.returns-clause-leads
 returns-clause-leads g c =
-    returning_leads (g.H.Host.setting c.args.host.now) c.args.completion c.in_ok-new.field-0 (g.H.Host.world c.args.host.now) c.in_ok-new.ensures.ok
+    returning_leads (g.H.Host.setting c.args.host.now) c.args.completion c.in_ok-boxed.field-0 (g.H.Host.world c.args.host.now) c.in_ok-boxed.ensures

@@ -1,0 +1,85 @@
+-- From one asking of the driver to the next: what it has been through, and that it has not ended.
+use Rattle.std.proofs.Common.{◌≡◌, refl, sym, subst}
+use Rattle.std.specs.Prelude.{Ok, Err, IfErr}
+use Rattle.std.specs.Prelude.{Result as Either}
+use Rattle.std.specs.Result.{IsErr, IsErrAnd}
+use Rattle.cdi_base.specs.declared.entry.Entry.{Entry}
+use Rattle.cdi_machine.specs.declared.driver.Failure.{Failure}
+use Rattle.cdi_machine.specs.declared.driver.Failure.TheVariants.{Memory, Exhausted}
+use Rattle.cdi_machine.specs.Failures.{IsFailureOf}
+use Rattle.cdi_machine.specs.World.{World, with_entry}
+use Rattle.cdi_machine.specs.Hearing.{Ending, IsAsked, IsTold, asked_once, asked_for, after}
+use Rattle.cdi_machine.proofs.Hearings.{told_once, answered_once, asked_behind}
+use Rattle.cdi_steps.specs.Setting.{Setting, IsSilent}
+use Rattle.cdi_steps.specs.Leads.{Written, Spent}
+use Rattle.cdi_steps.specs.Hearing.{Hears, HearsMore, HasFailed}
+
+-- nothing was asked for, and nothing was written
+pub hears_same : {s t : Setting} {w v : World} → IsSilent s t → v.trace ≡ w.trace → Hears s w t v
+hears_same {w = w} i q = record { heard = λ h b. rw q ((i.heard (after h w.trace)).1 b) }
+
+pub hears_self : {s : Setting} {w : World} → Hears s w s w
+hears_self = record { heard = λ h b. b }
+
+pub hears_trans : {r s t : Setting} {w u v : World} → Hears r w s u → Hears s u t v → Hears r w t v
+hears_trans a b = record { heard = λ h x. b.heard h (a.heard h x) }
+
+-- the world changes, and not its trace
+pub hears_on : {r s t : Setting} {w u v : World} → Hears r w s u → IsSilent s t → v.trace ≡ u.trace → Hears r w t v
+hears_on a i q = hears_trans a (hears_same i q)
+
+-- an entry that was not asked for
+pub hears_entry : {s t : Setting} {w v : World} (e : Entry) → asked_for e ≡ 0 → v ≡ with_entry e w → IsTold e s.heard t.heard → Hears s w t v
+hears_entry {w = w} e none n l = record { heard = λ h x. rw (n, ← told_once h w.trace e none) (l.heard (after h w.trace) x) }
+
+-- one that was
+pub hears_answer : (r s t : Setting) {w v : World} {e : Entry} → asked_for e ≡ 1 → IsAsked r.heard s.heard → IsTold e s.heard t.heard → Written e w v → Hears r w t v
+hears_answer r s t {w = w} {e = e} one a l n = record { heard = λ h x. rw (n.world, ← answered_once h w.trace e one) (l.heard (asked_once (after h w.trace)) (a.heard (after h w.trace) x)) }
+
+-- one for which the budget has no room
+pub hears_more : (r s t : Setting) {w v : World} → IsAsked r.heard s.heard → IsSilent s t → Spent w v → HearsMore r w t v
+hears_more r s t {w} {v} a i f =
+    record {
+      heard = λ h x. rw f.world ((i.heard (asked_once (after h w.trace))).1 (a.heard (after h w.trace) x));
+      full = rw f.world f.full;
+    }
+
+-- ---- failures
+
+pub failed_as : {s t : Setting} {w : World} (reason : Ending) (f : Failure) → IsFailureOf s.heard t.heard (t.ended reason) f → HasFailed s w t f
+failed_as {w = w} reason Memory g = HasFailed.starves (λ h x. g.heard (after h w.trace) x)
+failed_as reason Exhausted e = HasFailed.ends reason e
+
+pub failed_after : {r s t : Setting} {w u : World} {f : Failure} → Hears r w s u → HasFailed s u t f → HasFailed r w t f
+failed_after l (HasFailed.starves g) = HasFailed.starves (λ h x. g h (l.heard h x))
+failed_after l (HasFailed.ends reason e) = HasFailed.ends reason e
+
+pub failed_later : {A : Type 0} (r s t : Setting) (w u : World) (q : Either A Failure) → Hears r w s u → IfErr q (HasFailed s u t) → IfErr q (HasFailed r w t)
+failed_later r s t w u (Ok a) l h = h
+failed_later r s t w u (Err f) l h = failed_after l h
+
+-- a driver that was asked once more
+pub failed_asked : {r s t : Setting} {w v : World} {f : Failure} → IsAsked r.heard s.heard → v ≡ w → HasFailed s v t f → HasFailed r w t f
+failed_asked {w = w} l same (HasFailed.starves g) = HasFailed.starves (λ h x. g (asked_once h) (rw (same, asked_behind h w.trace) (l.heard (after h w.trace) x)))
+failed_asked l same (HasFailed.ends reason e) = HasFailed.ends reason e
+
+-- what a `?` makes of a failure
+pub passed_on : {A : Type 0} {s t : Setting} {w : World} {f : Failure} (q : Either A Failure) → HasFailed s w t f → IsErr q × IsErrAnd q (λ e. e ≡ f) → IfErr q (HasFailed s w t)
+passed_on (Ok a) l h = tt
+passed_on {s} {t} {w} (Err f) l h = subst (λ x. HasFailed s w t x) (sym h.1) l
+
+-- what a `?` makes of want of memory
+pub memory_fails : {A : Type 0} {s t : Setting} {w v : World} (q : Either A Failure) → Hears s w t v → IsErr q × IsErrAnd q (λ f. f ≡ Memory) → IfErr q (HasFailed s w t)
+memory_fails (Ok a) l h = tt
+memory_fails {s} {t} {w} {v} (Err f) l h = subst (λ x. HasFailed s w t x) (sym h.1) (HasFailed.starves (λ h x. (after h v.trace, l.heard h x)))
+
+pub silent_fails : {A : Type 0} {s t : Setting} (w : World) (q : Either A Failure) → IsSilent s t → IsErr q × IsErrAnd q (λ f. f ≡ Memory) → IfErr q (HasFailed s w t)
+silent_fails w q i h = memory_fails {v = w} q (hears_same i refl) h
+
+-- and if it was asked before
+pub asked_fails : {A : Type 0} (s t : Setting) (w : World) (q : Either A Failure) → IsAsked s.heard t.heard → IsErr q × IsErrAnd q (λ f. f ≡ Memory) → IfErr q (HasFailed s w t)
+asked_fails s t w (Ok a) l h = tt
+asked_fails s t w (Err f) l h =
+    subst (λ x. HasFailed s w t x) (sym h.1) (HasFailed.starves (λ h x. (asked_once (after h w.trace), l.heard (after h w.trace) x)))
+
+pub ruleset hears = (hears_same, hears_self, hears_trans, hears_on, failed_as, failed_after, failed_later, memory_fails, silent_fails)
