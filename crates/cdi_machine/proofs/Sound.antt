@@ -14,7 +14,7 @@ use Rattle.cdi_machine.specs.Runs.{Outcome, Ends, Cut, Runs}
 use Rattle.cdi_machine.specs.World.{at_begin}
 use Rattle.cdi_machine.specs.Commands.{Command, task}
 use Rattle.cdi_machine.specs.Container.{State, Said, shown, refusal, Answers, Plays}
-use Rattle.cdi_machine.specs.Evaluator.{Setting, legal_in, Came, after_task, after_entry, steps, exec, evaluation, saying, answer_by, answer, performance}
+use Rattle.cdi_machine.specs.Evaluator.{Performance, legal_in, Came, after_task, after_entry, steps, exec, evaluation, saying, answer_by, answer, performance}
 
 is_less : (a b : ℕ) → nat_lt a b ≡ true → a < b
 is_less a b e = grind arith
@@ -22,7 +22,7 @@ is_less a b e = grind arith
 is_least : (a b : ℕ) → nat_lt a b ≡ false → b ≤ a
 is_least a b e = grind arith
 
-module _ (s : Setting) where
+module _ (s : Performance) where
   abbrev Leads : Prog Given → World → Outcome → World → Type 0
   Leads p w o v = Runs s.tables (legal_in s) ⊥ p w o v
 

@@ -18,7 +18,7 @@ use Rattle.cdi_machine.specs.Tables.{Tables, Code, Method, Member, Lifecycle, Ma
 use Rattle.cdi_machine.specs.Scripts.{next, Step as Steps}
 use Rattle.cdi_machine.specs.Commands.{Command}
 use Rattle.cdi_machine.specs.Container.{Said, Plays, before_commands}
-use Rattle.cdi_machine.specs.Evaluator.{Setting, legal_in}
+use Rattle.cdi_machine.specs.Evaluator.{Performance, legal_in}
 
 -- what stands for types and events is by their names alone, but for the container's own events
 pub record Deployment : Type 0 where
@@ -93,7 +93,7 @@ abbrev pub last_chosen : ℕ → ℕ → ℕ
 last_chosen n entries = n - 1
 
 -- the bodies are the scripts
-abbrev pub played_by : Deployment → (ℕ → ℕ → ℕ) → Setting
+abbrev pub played_by : Deployment → (ℕ → ℕ → ℕ) → Performance
 played_by d chooses =
     record {
       tables = tables_of d;

@@ -19,13 +19,13 @@ use Rattle.cdi_machine.specs.Container.{State, Said, shown, refusal, reply_to, s
 use Rattle.cdi_machine.specs.Runs.{Legal, Outcome, Ends, Cut}
 
 -- a body's act by its number, the entries so far, the fields and the view; of so many candidates, after so many entries, one
-pub record Setting : Type 0 where
+pub record Performance : Type 0 where
   pub tables : Tables
   pub acts : ℕ → ℕ → Fields → View → Act
   pub chooses : ℕ → ℕ → ℕ
 
 -- just what they answer is legal
-abbrev pub legal_in : Setting → Legal
+abbrev pub legal_in : Performance → Legal
 legal_in s =
     record {
       gives = λ b entries fields view a. a ≡ s.acts b entries fields view;
@@ -47,7 +47,7 @@ after_entry e w f =
       | false ↦ Some (Cut causes.Ticks, w)
     ]
 
-module _ (s : Setting) where
+module _ (s : Performance) where
   abbrev pub steps : (Task → World → Came) → Prog Given → World → Came
   steps rec (ret g) w = Some (Ends (Gave g), w)
   steps rec (throw x) w = Some (Ends (Threw x), w)

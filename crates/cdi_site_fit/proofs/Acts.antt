@@ -32,7 +32,7 @@ use Rattle.cdi_shape_check.specs.OwnParts.{OwnParts}
 use Rattle.cdi_shape_check.specs.References.{bean_at, is_call_missing, point_at, point_of_field, point_of_lookup, refuses_call}
 use Rattle.cdi_shape_check.specs.WrittenNames.{is_event, is_exception, is_lookup}
 use Rattle.cdi_ownership.specs.Whose.{IsIn}
-use Rattle.cdi_worlds_fit.specs.Fits.{Answers, FitsAct, HasMethod, LeadsTo, Site}
+use Rattle.cdi_worlds_fit.specs.Fits.{AnswersCalls, FitsAct, HasMethod, LeadsTo, Site}
 use Rattle.cdi_whole_tables.specs.Whole.{WholeTables, asked_by_lookup, whole_tables}
 use Rattle.cdi_accepted.proofs.Lists.{neither, none_passes, passing}
 use Rattle.cdi_accepted.proofs.Registered.{app_of}
@@ -185,8 +185,8 @@ module _ {X : Type 0} {F : X → Type 0} {g : _} (entries : List (Entry X F g)) 
       λ b leads.
       let found = listed_call app parts params s is_within.calls via name (length args) h in
       let point = behind via found.call b found.there leads in
-      let P : ℕ → Type 0 = λ n. Answers (whole_tables w) b n found.call.count in
-      let Q : ℕ → Type 0 = λ n. Answers (whole_tables w) b name n in
+      let P : ℕ → Type 0 = λ n. AnswersCalls (whole_tables w) b n found.call.count in
+      let Q : ℕ → Type 0 = λ n. AnswersCalls (whole_tables w) b name n in
       subst Q found.takes (subst P found.method (answered entries w tabled ids sound point.point found.call b point.accepted point.resolves))
   fits_act view (acts.Throw x) h = by (or_cases (list_any (λ y. nat_eq y x) s.throws) (is_thrown x (last_answer view)) h)
     where

@@ -23,7 +23,7 @@ use Rattle.cdi_run_tables.specs.Planned.{IsTabled}
 use Rattle.cdi_run_tables.specs.declared.tables.RunTables.{RunTables}
 use Rattle.cdi_shape_check.specs.OwnParts.{declares_method}
 use Rattle.cdi_shape_check.specs.References.{answers_call, bean_at, bean_told, declares_called, is_called, refuses_call}
-use Rattle.cdi_worlds_fit.specs.Fits.{Answers, HasMethod}
+use Rattle.cdi_worlds_fit.specs.Fits.{AnswersCalls, HasMethod}
 use Rattle.cdi_whole_tables.specs.Whole.{WholeTables, whole_tables}
 use Rattle.cdi_accepted.proofs.Beans.{stands_listed}
 use Rattle.cdi_accepted.proofs.Calls.{target}
@@ -63,7 +63,7 @@ module _ {X : Type 0} {F : X → Type 0} {g : _} (entries : List (Entry X F g)) 
 
   -- what a point resolves to, where the check didn't refuse the call
   pub answered : (p : Point) (call : MethodCall) (b : ℕ) → refuses_call d.classes call (bean_at (app_of t) p) ≡ false → (whole_tables w).resolve (asked_by p) ≡ machine.Resolution.One b
-      → Answers (whole_tables w) b call.method call.count
+      → AnswersCalls (whole_tables w) b call.method call.count
   answered p call b there resolves =
       let it = target t (asked_by p) b resolves in
       let told : refuses_call d.classes call (Some it.bean) ≡ false =

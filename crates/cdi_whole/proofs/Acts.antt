@@ -35,7 +35,7 @@ use Rattle.cdi_machine.specs.Contexts.{reach_instance}
 use Rattle.cdi_machine.specs.Bodies.{body_at_start, reference_at, find_reference, bean_of, method_in, method_of, invoke_method, fits as takes_as_many, replace_parameters, repeats, proceed, carry_out, find, answer_of, with_answer, after_act, answer_find, perform, carry_on}
 use Rattle.cdi_machine.specs.Runs.{Legal}
 use Rattle.cdi_ownership.specs.Whose.{IsIn}
-use Rattle.cdi_worlds_fit.specs.Fits.{Site, class_site, interceptor_site, intercepted_by, HasMethod, IsClassOf, LeadsTo, Answers, FitsAct, FitsManaged, FitsKind, FitsBean, Fits}
+use Rattle.cdi_worlds_fit.specs.Fits.{Site, class_site, interceptor_site, intercepted_by, HasMethod, IsClassOf, LeadsTo, AnswersCalls, FitsAct, FitsManaged, FitsKind, FitsBean, Fits}
 use Rattle.cdi_ownership.proofs.Maps.{all_last, put_at}
 use Rattle.cdi_worlds_fit.proofs.Whole.{Lives, Serves, Refers, IsFor, Good}
 use Rattle.cdi_worlds_fit.proofs.Remains.{Any, Each, After, after_self, after_trans}
@@ -207,7 +207,7 @@ module _ (t : Tables) (legal : Legal) (fits : Fits t legal) (moves : Moves t leg
       let x = has_at there.0.fields field ((g.whole r.instance there.0 there.1).fields field ∙ (ap (λ z. has z field) (site_fields h.stood.home there.0 there.1) ∙ q)) in
       found t legal fits (instance_at w r.instance) there.0 _ w _ there.1 (found t legal fits (at there.0.fields field) x.0 _ w _ x.1 (moves.assigns w r.instance field v g, tt))
 
-  call_act_safe : (r : Running) (via : Via) (name : Name) (args : List Value) (w : World) → Good t legal w → (h : IsAble w r) → ((b : ℕ) → LeadsTo t h.stood.site via b → Answers t b name (length args)) → Does (carry_out r (acts.Call via name args)) w (Leaves w)
+  call_act_safe : (r : Running) (via : Via) (name : Name) (args : List Value) (w : World) → Good t legal w → (h : IsAble w r) → ((b : ℕ) → LeadsTo t h.stood.site via b → AnswersCalls t b name (length args)) → Does (carry_out r (acts.Call via name args)) w (Leaves w)
   call_act_safe r via name args w g h q =
       through_safe r via (λ n. invoke_method n name args) w g h
       (λ b n u l served k lives. let a = q b l in

@@ -19,7 +19,7 @@ use Rattle.cdi_machine.specs.Bodies.{invoke_method}
 use Rattle.cdi_machine.specs.Events.{qualifier, fire_context_event, fire_container_event}
 use Rattle.cdi_machine.specs.Commands.{Command, task, environment_of, close, use_bean, requests_of, sessions_of, is_used, begin_session, begin, end_session, end, invalidate, read, end_alone, shut_down, boot}
 use Rattle.cdi_machine.specs.Runs.{Legal}
-use Rattle.cdi_worlds_fit.specs.Fits.{Answers, FitsBean, Fits}
+use Rattle.cdi_worlds_fit.specs.Fits.{AnswersCalls, FitsBean, Fits}
 use Rattle.cdi_worlds_fit.proofs.Contexts.{AllContexts, context_changed, context_gone, context_marked, context_requested, context_sessioned}
 use Rattle.cdi_worlds_fit.proofs.Whole.{Serves, HeldBy, Whole, Good}
 use Rattle.cdi_worlds_fit.proofs.Remains.{Any, Each, After, after_self, after_trans}
@@ -34,7 +34,7 @@ use Rattle.cdi_whole.proofs.Destruction.{empty_then}
 
 -- what a command may ask for: the bean whose method it calls has it
 abbrev pub IsAdmitted : Tables → Legal → Command → Type 0
-IsAdmitted t legal (Command.Call r asked method args) = (b : ℕ) → t.resolve asked ≡ One b → FitsBean t legal b → Answers t b method (length args)
+IsAdmitted t legal (Command.Call r asked method args) = (b : ℕ) → t.resolve asked ≡ One b → FitsBean t legal b → AnswersCalls t b method (length args)
 IsAdmitted t legal _ = Unit {0}
 
 -- the value of a product

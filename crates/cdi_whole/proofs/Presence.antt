@@ -16,7 +16,7 @@ use Rattle.cdi_store.specs.declared.instance.Context.TheVariants.{Application, R
 use Rattle.cdi_contexts.specs.Contexts.{context_at, at_boot}
 use Rattle.cdi_ownership.proofs.Holdings.{AllHeld}
 use Rattle.cdi_worlds_fit.proofs.Whole.{HeldBy}
-use Rattle.cdi_worlds_fit.specs.Fits.{HasMethod, Answers, Fits}
+use Rattle.cdi_worlds_fit.specs.Fits.{HasMethod, AnswersCalls, Fits}
 use Rattle.cdi_whole.specs.Thrown.{ThrowsWithText}
 use Rattle.cdi_machine.specs.Programs.{Threw}
 use Rattle.cdi_whole.specs.Missing.{NothingMissing, MissesNothing}
@@ -49,13 +49,13 @@ taken c name count e = by (at c.methods name) refl e
     by None f h = absurd (cc)
     by (Some m) f h = record { method = m; has = f; takes = Rattle.std.proofs.lemmas.Map.Views.exact_unsigned_eq m.count count (turn (nat_eq m.count count) (passes (not (nat_eq m.count count)) refusals.WrongCount [] h).0) }
 
-answers_by : (t : Tables) (b : ℕ) (bean : Bean) (name count : ℕ) → t.bean b ≡ Some bean → first_that_holds (call_refusals (Some bean) name count) ≡ None → Answers t b name count
+answers_by : (t : Tables) (b : ℕ) (bean : Bean) (name count : ℕ) → t.bean b ≡ Some bean → first_that_holds (call_refusals (Some bean) name count) ≡ None → AnswersCalls t b name count
 answers_by t b bean name count known h = by bean.kind refl h
   where
     by : (kind : Kind) → bean.kind ≡ kind → first_that_holds (elim kind as (λ _. List (Bool × Refusal)) [
       | Kind.Class d ↦ (no_method (at d.methods name), refusals.NoMethod) ∷ (wrong_count (at d.methods name) count, refusals.WrongCount) ∷ []
       | Kind.Producer p ↦ (true, refusals.NoMethod) ∷ []
-    ]) ≡ None → Answers t b name count
+    ]) ≡ None → AnswersCalls t b name count
     by (Kind.Class c) e q = record { class = c; is = record { bean = bean; known = known; is = e }; takes = taken c name count q }
     by (Kind.Producer p) e q = absurd (cc)
 

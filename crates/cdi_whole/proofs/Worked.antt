@@ -12,7 +12,7 @@ use Rattle.cdi_machine.specs.Words.{Name, Fields, Asked}
 use Rattle.cdi_machine.specs.Tables.{Method, One, Nothing}
 use Rattle.cdi_machine.specs.Runs.{Legal}
 use Rattle.cdi_ownership.specs.Whose.{IsIn}
-use Rattle.cdi_worlds_fit.specs.Fits.{Site, class_site, interceptor_site, HasMethod, LeadsTo, Answers, FitsAct, FitsBody, FitsRole, FitsChain, FitsLifecycle, FitsMember, FitsMethod, FitsClass, FitsManaged, FitsProduct, FitsBean, FitsObserver, Fits}
+use Rattle.cdi_worlds_fit.specs.Fits.{Site, class_site, interceptor_site, HasMethod, LeadsTo, AnswersCalls, FitsAct, FitsBody, FitsRole, FitsChain, FitsLifecycle, FitsMember, FitsMethod, FitsClass, FitsManaged, FitsProduct, FitsBean, FitsObserver, Fits}
 use Rattle.cdi_whole.specs.Worked.{of_type, code, member, class, bean, product, field_product, interceptor, resolution, observer, tables, MethodMay, MemberMay, InterceptorMay, GiveOnly, ProceedToo, legal_by, AcceptsRightBodies, RefusesWrongBodies}
 
 abbrev right : Legal
@@ -21,9 +21,9 @@ right = legal_by GiveOnly
 one_bean : (m b : ℕ) → One m ≡ One b → m ≡ b
 one_bean m b e = cc
 
-answers : (b : ℕ) → resolution 1 ≡ One b → (name count : ℕ) → name ≡ 7 → count ≡ 1 → Answers tables b name count
+answers : (b : ℕ) → resolution 1 ≡ One b → (name count : ℕ) → name ≡ 7 → count ≡ 1 → AnswersCalls tables b name count
 answers b e name count f g =
-    subst (λ x. Answers tables x name count) (one_bean 0 b e)
+    subst (λ x. AnswersCalls tables x name count) (one_bean 0 b e)
     (record {
       class = class;
       is = record { bean = bean; known = refl; is = refl };

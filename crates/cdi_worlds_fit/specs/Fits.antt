@@ -98,7 +98,7 @@ LeadsTo t s (vias.Param k) b = (point : Asked) × (slice_get s.points k ≡ Some
 LeadsTo t s (vias.Local k) b = (point : Asked) × (t.lookup s.body k ≡ Some point) × (t.resolve point ≡ One b)
 
 -- the bean is a managed one, and has the method
-pub record Answers (t : Tables) (b : ℕ) (name : Name) (count : ℕ) : Type 0 where
+pub record AnswersCalls (t : Tables) (b : ℕ) (name : Name) (count : ℕ) : Type 0 where
   pub class : Managed
   pub is : IsClassOf t b class
   pub takes : HasMethod class.methods name count
@@ -108,7 +108,8 @@ pub record Answers (t : Tables) (b : ℕ) (name : Name) (count : ℕ) : Type 0 w
 -- by the body of an interceptor alone.
 abbrev pub FitsAct : Tables → Site → View → Act → Type 0
 FitsAct t s view (acts.Set field v) = has s.fields field ≡ true
-FitsAct t s view (acts.Call via name args) = (b : ℕ) → LeadsTo t s via b → Answers t b name (length args)
+FitsAct t s view (acts.Call via name args) =
+    (b : ℕ) → LeadsTo t s via b → AnswersCalls t b name (length args)
 FitsAct t s view (acts.Own name args) = HasMethod s.methods name (length args)
 FitsAct t s view (acts.Read via) = Unit {0}
 FitsAct t s view (acts.Write via v) = Unit {0}
