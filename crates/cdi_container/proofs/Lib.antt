@@ -5,3 +5,5 @@ pub mod Missing
 pub mod Thrown
 pub mod History
 pub mod OnItsWay
+pub mod Resting
+pub mod Traces

@@ -1,19 +1,17 @@
 -- The states of a container that works are those that commands lead the machine to, but for their traces.
-use Rattle.std.proofs.Common.{ℕ, ◌≡◌, ◌∙◌, List, ◌∷◌, ◌++◌, Option, Some, None, Bool, true, false, IsTrue, refl, sym, ap, ap₂, subst}
+use Rattle.std.proofs.Common.{ℕ, ◌≡◌, ◌∙◌, List, Option, Some, None, Bool, false, IsTrue, refl, sym, ap, ap₂, subst}
 use Rattle.std.specs.Prelude.{is_some}
 use Rattle.cdi_base.specs.declared.command.Command.{Command}
 use Rattle.cdi_base.specs.declared.command.Command.TheVariants as commands
 use Rattle.cdi_base.specs.declared.reply.Cause.{Cause}
-use Rattle.cdi_base.specs.declared.reply.Refusal.{Refusal}
-use Rattle.cdi_base.specs.declared.reply.Refusal.TheVariants as refusals
-use Rattle.cdi_contexts.specs.Refusals.{first_that_holds}
 use Rattle.cdi_text.specs.Command.{is_served}
 use Rattle.cdi_machine.specs.Tables as machine
 use Rattle.cdi_machine.specs.World.{World, at_begin}
 use Rattle.cdi_machine.specs.Commands as wanted
 use Rattle.cdi_machine.specs.Commands.{task}
-use Rattle.cdi_machine.specs.Container.{State as Machine, refusal, refused_by_contexts, refused_by_tables, is_cut, state_after}
+use Rattle.cdi_machine.specs.Container.{State as Machine, idle_state, refusal, is_cut, state_after}
 use Rattle.cdi_machine.specs.Container as container
+use Rattle.cdi_machine.proofs.Refused.{not_halted}
 use Rattle.cdi_machine.specs.Runs.{Legal, Outcome, Ends, Cut, Runs}
 use Rattle.cdi_fit.specs.Missing as fit
 use Rattle.cdi_fit.specs.Missing.{NothingMissing, IsServedCommand, IsReachable}
@@ -33,17 +31,12 @@ served names commands.Shutdown q = tt
 
 -- ---- what has halted refuses all
 
-refused_if : (halted : Bool) (rs : List (Bool × Refusal)) → first_that_holds ((halted, refusals.Halted) ∷ rs) ≡ None → halted ≡ false
-refused_if true rs h = absurd (cc)
-refused_if false rs h = refl
-
 none_if : (halted : Option Cause) → is_some halted ≡ false → halted ≡ None
 none_if None h = refl
 none_if (Some cause) h = absurd (cc)
 
 pub works_on : (tables : machine.Tables) (s : State) (c : wanted.Command) → refusal tables (machine_state s) c ≡ None → s.halted ≡ None
-works_on tables s c e =
-    none_if s.halted (refused_if (is_some s.halted) ((s.world.down, refusals.Down) ∷ refused_by_contexts s.world.contexts c ++ refused_by_tables tables c) e)
+works_on tables s c e = none_if s.halted (not_halted tables (machine_state s) c e)
 
 -- ---- the machine's states
 
@@ -58,12 +51,14 @@ module _ (names : List (List ℕ)) (tables : machine.Tables) (legal : Legal) whe
     pub reached : IsReachable tables legal between
     pub alike : at_begin s.world ≡ at_begin between.world
     pub working : between.halted ≡ false
+    pub idle : between.busy ≡ false
 
   -- what is refused is told by the world at the begin
-  pub refused_alike : (s : State) (m : Machine) (c : wanted.Command) → s.halted ≡ None → at_begin s.world ≡ at_begin m.world → m.halted ≡ false
+  pub refused_alike : (s : State) (m : Machine) (c : wanted.Command) → s.halted ≡ None → at_begin s.world ≡ at_begin m.world → m.halted ≡ false → m.busy ≡ false
       → refusal tables (machine_state s) c ≡ refusal tables m c
-  refused_alike s m c none alike working =
-      ap₂ (λ (h : Bool) (w : World). refusal tables (record { world = w; halted = h }) c) (ap is_some none ∙ sym working) alike
+  refused_alike s m c none alike working idle =
+      ap₂ (λ (h : Bool) (w : World). refusal tables (idle_state w h) c) (ap is_some none ∙ sym working) alike
+      ∙ ap (λ (b : Bool). refusal tables (record m { busy = b }) c) (sym idle)
 
   carried : (s t : State) (c : wanted.Command) (o : Outcome) (m : Machine) → IsReachable tables legal m → (refusal tables m c ≡ None → IsServedCommand c)
       → at_begin s.world ≡ at_begin m.world → refusal tables m c ≡ None
@@ -75,6 +70,7 @@ module _ (names : List (List ℕ)) (tables : machine.Tables) (legal : Legal) whe
         reached = IsReachable.goes_on before q (container.Answers.carries_out e run);
         alike = refl;
         working = whole_outcome o whole;
+        idle = refl;
       }
   carried s t c o m before q alike e (CarriesOut.starves starved r) whole = absurd (cc)
 
@@ -89,16 +85,17 @@ module _ (names : List (List ℕ)) (tables : machine.Tables) (legal : Legal) whe
         reached = from.reached;
         alike = ap (λ (x : State). at_begin x.world) stays ∙ from.alike;
         working = from.working;
+        idle = from.idle;
       }
   reached_as t (Works.answers {s = s} command reply works q (Answers.carries_out o e c halts is)) none =
       let wanted = machine_command names command in
       let on = works_on tables s wanted e in
       let from = reached_as s works on in
       carried s t wanted o from.between from.reached (λ x. served names command q) from.alike
-      (sym (refused_alike s from.between wanted on from.alike from.working) ∙ e) c (sym halts ∙ none)
+      (sym (refused_alike s from.between wanted on from.alike from.working from.idle) ∙ e) c (sym halts ∙ none)
   reached_as t (Works.refuses_line {s = s} works) none =
       let from = reached_as s works none in
-      record { between = from.between; reached = from.reached; alike = from.alike; working = from.working }
+      record { between = from.between; reached = from.reached; alike = from.alike; working = from.working; idle = from.idle }
 
 module _ (tables : machine.Tables) (legal : Legal) (Starved : Type 0) (none : fit.MissesNothing tables legal Starved) where
   pub none_missed : NoneMissed tables legal Starved
@@ -106,6 +103,6 @@ module _ (tables : machine.Tables) (legal : Legal) (Starved : Type 0) (none : fi
       let c = machine_command names command in
       let on = works_on tables s c e in
       let from = reached_as names tables legal s works on in
-      let admitted = sym (refused_alike names tables legal s from.between c on from.alike from.working) ∙ e in
+      let admitted = sym (refused_alike names tables legal s from.between c on from.alike from.working from.idle) ∙ e in
       subst (λ w. (r : Runs tables legal Starved (task c) w o v) → NothingMissing r) (sym from.alike)
       (none fits from.between from.reached c admitted (served names command q) o v)

@@ -1,10 +1,10 @@
 -- What a container replies to a command that threw has a text in the table of names.
-use Rattle.std.proofs.Common.{ℕ, ◌≡◌, ◌∙◌, List, [], Option, Some, None, IsTrue, refl, sym, ap, subst}
+use Rattle.std.proofs.Common.{ℕ, ◌≡◌, ◌∙◌, List, [], Option, Some, None, refl, sym, subst}
 use Rattle.std.specs.Prelude.{unwrap_or}
 use Rattle.cdi_base.specs.declared.reply.Reply.{Reply}
 use Rattle.cdi_base.specs.declared.reply.Reply.TheVariants as replies
 use Rattle.cdi_machine.specs.Tables as machine
-use Rattle.cdi_machine.specs.World.{World, at_begin}
+use Rattle.cdi_machine.specs.World.{at_begin}
 use Rattle.cdi_machine.specs.Programs.{Threw}
 use Rattle.cdi_machine.specs.Commands as wanted
 use Rattle.cdi_machine.specs.Commands.{task}
@@ -39,7 +39,7 @@ module _ (tables : machine.Tables) (legal : Legal) (throws : ThrowsWithText tabl
       let c = machine_command names command in
       let on = works_on tables s c e in
       let from = reached_as names tables legal s works on in
-      let admitted = sym (refused_alike names tables legal s from.between c on from.alike from.working) ∙ e in
+      let admitted = sym (refused_alike names tables legal s from.between c on from.alike from.working from.idle) ∙ e in
       ended c s t o x from.between from.reached from.alike admitted (served names command q) k (threw c o t.world x (sym is ∙ told))
 
 -- what a table has is the text of its name

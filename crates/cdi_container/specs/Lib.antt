@@ -8,3 +8,5 @@ pub mod History
 pub mod Missing
 pub mod Thrown
 pub mod OnItsWay
+pub mod Resting
+pub mod Traces

@@ -18,9 +18,9 @@ pub record State : Type 0 where
   pub world : World
   pub halted : Option Cause
 
--- the machine's state, which doesn't tell why
+-- the machine's state, which doesn't tell why, and is never busy
 abbrev pub machine_state : State → machine.State
-machine_state s = record { world = s.world; halted = is_some s.halted }
+machine_state s = machine.idle_state s.world (is_some s.halted)
 
 abbrev pub before_start : ℕ → ℕ → State
 before_start ticks depth = record { world = before_boot ticks depth; halted = None }

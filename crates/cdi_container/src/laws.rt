@@ -10,7 +10,9 @@ ghost use Rattle.cdi_container.specs.Accepted.{IsAccepted};
 ghost use Rattle.cdi_container.specs.History.{KeepsOrder};
 ghost use Rattle.cdi_container.specs.Missing.{NoneMissed};
 ghost use Rattle.cdi_container.specs.OnItsWay.{AlwaysAnswers, StaysOnItsWay};
+ghost use Rattle.cdi_container.specs.Resting.{RestsBetween};
 ghost use Rattle.cdi_container.specs.Thrown.{NamesThrown};
+ghost use Rattle.cdi_container.specs.Traces.{TraceTells};
 
 use cdi_bodies::Bodies;
 use cdi_fit::laws as fit;
@@ -74,4 +76,20 @@ pub fn law_on_its_way<D: Driver>(driver: &D, bodies: &Bodies)
         (D.legal driver.now) (in_shapes (entries_of bodies.now)) }
 {
     machine::law_on_its_way(driver, bodies);
+}
+
+/// In each state that a container comes to, after its start, commands and lines that are none, nothing is running unless it
+/// has halted: no invocation is under way, no instance has a running body, and nothing is borrowed.
+pub fn law_nothing_runs<D: Driver>(driver: &D)
+    ensures { (tables : Tables) → RestsBetween tables (D.legal driver.now) }
+{
+    machine::law_rests(driver);
+}
+
+/// What a command did is told by its trace: if two answers to one command, from one state and with memory enough, wrote the
+/// same entries, they have the same reply and leave the same state.
+pub fn law_trace_tells<D: Driver>(driver: &D)
+    ensures { (tables : Tables) → TraceTells tables (D.legal driver.now) }
+{
+    machine::law_one_run(driver);
 }

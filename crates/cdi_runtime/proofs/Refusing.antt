@@ -8,7 +8,7 @@ use Rattle.cdi_contexts.specs.Refusals.{first_that_holds}
 use Rattle.cdi_machine.specs.Tables as machine
 use Rattle.cdi_machine.specs.World.{World}
 use Rattle.cdi_machine.specs.Commands.{Command}
-use Rattle.cdi_machine.specs.Container.{refusal, call_refusals, bean_of}
+use Rattle.cdi_machine.specs.Container.{idle_state, refusal, call_refusals, bean_of}
 use Rattle.cdi_plans.specs.declared.plan.Plan.{Plan}
 use Rattle.cdi_resolve.specs.declared.resolution.Resolution.{Resolution}
 use Rattle.cdi_resolve.specs.declared.resolution.Resolution.TheVariants.{One, Nothing, Many}
@@ -44,5 +44,5 @@ module _ (t : RunTables) (h : IsServable t) (type : ℕ) (uses : List Use) (name
   by_name false = refl
 
 pub call_refused : (t : RunTables) → IsServable t → (type : ℕ) (uses : List Use) (name : ℕ) (args : List Value) (w : World) (halted : Bool) → halted ≡ false → w.down ≡ false
-    → refusal (machine_tables t) (record { world = w; halted = halted }) (Command.Call None (asked_for type uses) name args) ≡ call_refusal t type uses name (length args)
+    → refusal (machine_tables t) (idle_state w halted) (Command.Call None (asked_for type uses) name args) ≡ call_refusal t type uses name (length args)
 call_refused t h type uses name args w halted e d = rw (e, d) (by_name t h type uses name (length args) (is_known t.deployment type uses))

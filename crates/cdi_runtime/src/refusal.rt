@@ -58,10 +58,10 @@ fn refuses_call(tables: &RunTables, call: &BeanCall) -> Option<Refusal>
 
 impl<D: Driver> Runtime<D> {
     /// Why what a command asks for is refused, if it is: the first refusal that holds, in the order of [`Refusal`]. A
-    /// container that has halted or is down refuses all, and no request is ever open.
+    /// container that has halted or is down refuses all, none is ever busy, and no request is ever open.
     pub fn refusal(&self, halted: bool, request: Option<&Text>, job: &Job) -> Option<Refusal>
         ensures refusal { result ≡ machine.refusal (machine_tables self.now.tables)
-            (record { world = self.now.world; halted = halted })
+            (machine.idle_state self.now.world halted)
             (in_request (option_map (λ r. r.now) request.entry) (command_of job.now)) }
         ensures alone { result ≡ None
             → in_request (option_map (λ r. r.now) request.entry) (command_of job.now)
