@@ -1,5 +1,5 @@
 -- What the driver has been through, from step to step.
-use Rattle.std.proofs.Common.{◌≡◌, ◌≤◌, length, inl, inr}
+use Rattle.std.proofs.Common.{◌≡◌, ◌∙◌, ap, refl, ◌++◌, ◌≤◌, length, inl, inr}
 use Rattle.std.specs.Prelude.{Ok, Err, IfErr, IfOk, OnOk}
 use Rattle.std.specs.Prelude.{Result as Either}
 use Rattle.cdi_machine.specs.declared.driver.Failure.{Failure}
@@ -29,19 +29,20 @@ heard_at s w h (pendings.Does t) b = b
 heard_at s w h (pendings.Gives o) b = inl b
 
 -- it has been through something in either case
-pub record HeardSome (s : Setting) (w : World) : Type 0 where
+pub record HeardSome (s : Setting) (w : World) (h : Hearing) : Type 0 where
   pub hearing : Hearing
+  pub told : hearing.told ≡ h.told
   pub heard : s.heard (after hearing w.trace)
 
-some_until : (Cut : Type 0) (s : Setting) (w : World) (h : Hearing) → HeardUntil Cut s w h → HeardSome s w
+some_until : (Cut : Type 0) (s : Setting) (w : World) (h : Hearing) → HeardUntil Cut s w h → HeardSome s w h
 some_until Cut s w h x =
     elim x [
-      | inl b ↦ record { hearing = h; heard = b }
-      | inr m ↦ record { hearing = asked_once h; heard = rw (asked_behind h w.trace) m.1.heard }
+      | inl b ↦ record { hearing = h; told = refl; heard = b }
+      | inr m ↦ record { hearing = asked_once h; told = refl; heard = rw (asked_behind h w.trace) m.1.heard }
     ]
 
-some_at : (d : Pending) (s : Setting) (w : World) (h : Hearing) → HeardAt d s w h → HeardSome s w
-some_at (pendings.Does t) s w h b = record { hearing = h; heard = b }
+some_at : (d : Pending) (s : Setting) (w : World) (h : Hearing) → HeardAt d s w h → HeardSome s w h
+some_at (pendings.Does t) s w h b = record { hearing = h; told = refl; heard = b }
 some_at (pendings.Gives o) s w h b = some_until (IsCut o) s w h b
 
 -- ---- one step
@@ -100,7 +101,7 @@ run_hears s t a p o w v e l = record { heard = λ h b. l.heard h (rw e b) }
 
 -- ---- failures
 
-next_starves : (s t : Setting) (w v : World) (next : Next) → HearsNext s w next t v → HasFailed s w t Memory
+next_starves : (s t : Setting) (w v : World) (next : Next) → HearsNext s w next t v → HasFailed s w t v Memory
 next_starves s t w v next x =
     elim x [
       | inl l ↦ HasFailed.starves (λ h b. (after h v.trace, l.heard h b))
@@ -108,12 +109,15 @@ next_starves s t w v next x =
     ]
 
 -- a step that had no memory for what waits
-pub next_fails : {A : Type 0} (s t : Setting) (w v : World) (next : Next) (q : Either A Failure) → HearsNext s w next t v → IsErr q × IsErrAnd q (λ f. f ≡ Memory) → IfErr q (HasFailed s w t)
+pub next_fails : {A : Type 0} (s t : Setting) (w v : World) (next : Next) (q : Either A Failure) → HearsNext s w next t v → IsErr q × IsErrAnd q (λ f. f ≡ Memory) → IfErr q (HasFailed s w t v)
 next_fails s t w v next q x h = passed_on q (next_starves s t w v next x) h
 
-pub failed_turn : {r s t : Setting} {a b : Stack} {w u : World} {f : Failure} → HearsTurn r a w (turns.Running b) s u → HasFailed s u t f → HasFailed r w t f
+pub failed_turn : {r s t : Setting} {a b : Stack} {w u v : World} {f : Failure} → HearsTurn r a w (turns.Running b) s u → HasFailed s u t v f → HasFailed r w t v f
 failed_turn {r} {s} {t} {a} {b} {w} {u} l (HasFailed.starves g) =
     HasFailed.starves (λ h x. let z = some_at b.pending s u h (l.heard h (heard_at r w h a.pending x)) in g z.hearing z.heard)
-failed_turn l (HasFailed.ends reason e) = HasFailed.ends reason e
+failed_turn {r} {s} {t} {a} {b} {w} {u} {v} l (HasFailed.ends reason g) =
+    HasFailed.ends reason (λ h x. let z = some_at b.pending s u h (l.heard h (heard_at r w h a.pending x)) in
+    let k = g z.hearing z.heard in
+    record { hearing = k.hearing; told = k.told ∙ ap (λ x. x ++ v.trace) z.told; ended = k.ended })
 
 pub ruleset hears = (hears_next)

@@ -30,7 +30,7 @@ fn advance<H: Host>(host: &mut H, stack: Stack) -> Result<Turn, Failure>
     ensures hears { IfOk result (λ turn. HearsTurn (H.setting host.old) stack
         (H.world host.old) turn (H.setting host.new) (H.world host.new)) }
     ensures failed { IfErr result (HasFailed (H.setting host.old) (H.world host.old)
-        (H.setting host.new)) }
+        (H.setting host.new) (H.world host.new)) }
     ensures narrows { Narrows (H.setting host.old) (H.setting host.new) }
 {
     let Stack { frames, pending } = stack;
@@ -64,7 +64,7 @@ pub fn turn<H: Host>(host: &mut H, stack: Stack, most: usize) -> Result<Turn, Fa
     ensures hears { IfOk result (λ turn. HearsTurn (H.setting host.old) stack
         (H.world host.old) turn (H.setting host.new) (H.world host.new)) }
     ensures failed { IfErr result (HasFailed (H.setting host.old) (H.world host.old)
-        (H.setting host.new)) }
+        (H.setting host.new) (H.world host.new)) }
     ensures narrows { Narrows (H.setting host.old) (H.setting host.new) }
 {
     let first = host.written();
@@ -88,7 +88,7 @@ fn finish<H: Host>(host: &mut H, stack: Stack) -> Result<Outcome, Failure>
     ensures hears { IfOk result (λ outcome. HearsTurn (H.setting host.old) stack
         (H.world host.old) (Turn.Finished outcome) (H.setting host.new) (H.world host.new)) }
     ensures failed { IfErr result (HasFailed (H.setting host.old) (H.world host.old)
-        (H.setting host.new)) }
+        (H.setting host.new) (H.world host.new)) }
     ensures narrows { Narrows (H.setting host.old) (H.setting host.new) }
 {
     let mut stack = stack;
@@ -115,7 +115,7 @@ pub fn run<H: Host>(host: &mut H, job: Job) -> Result<Outcome, Failure>
     ensures hears { IfOk result (λ outcome. HearsOutcome (H.setting host.old)
         (H.world host.old) outcome (H.setting host.new) (H.world host.new)) }
     ensures failed { IfErr result (HasFailed (H.setting host.old) (H.world host.old)
-        (H.setting host.new)) }
+        (H.setting host.new) (H.world host.new)) }
     ensures narrows { Narrows (H.setting host.old) (H.setting host.new) }
 {
     let stack = Stack::start(host.alloc(), Task::Begin(job));

@@ -43,6 +43,10 @@ pub record IsTold (e : Entry) (before then : Hearing → Type 0) : Type 0 where
 pub record GoesOn (before then : Hearing → Type 0) : Type 0 where
   pub heard : (h : Hearing) → before h → (k : Hearing) × then k
 
+-- it has ended, after what it had been through
+pub record HasEnded (before ended : Hearing → Type 0) : Type 0 where
+  pub heard : (h : Hearing) → before h → ended h
+
 -- why a driver ended
 pub data Ending : Type 0 where
   -- this entry was due

@@ -44,8 +44,8 @@ pub trait Driver {
     ghost legal: { Self → Legal };
     /// It may have been asked for so many acts and picks, and told these entries.
     ghost heard: { Self → Hearing → Type 0 };
-    /// It has ended for this reason.
-    ghost ended: { Self → Ending → Type 0 };
+    /// It has ended for this reason, and was asked and told as much before.
+    ghost ended: { Self → Ending → Hearing → Type 0 };
 
     /// The next act of a body. Its uses need not be in their written form.
     fn act(
@@ -101,7 +101,7 @@ impl Driver for Registered {
 
     ghost heard = { λ registered hearing. Unit {0} };
 
-    ghost ended = { λ registered ending. ⊥ };
+    ghost ended = { λ registered ending hearing. ⊥ };
 
     fn act(
         &mut self,

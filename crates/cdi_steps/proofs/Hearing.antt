@@ -46,40 +46,41 @@ hears_more r s t {w} {v} a i f =
 
 -- ---- failures
 
-pub failed_as : {s t : Setting} {w : World} (reason : Ending) (f : Failure) → IsFailureOf s.heard t.heard (t.ended reason) f → HasFailed s w t f
-failed_as {w = w} reason Memory g = HasFailed.starves (λ h x. g.heard (after h w.trace) x)
-failed_as reason Exhausted e = HasFailed.ends reason e
+pub failed_as : {s t : Setting} {w v : World} (reason : Ending) (f : Failure) → v ≡ w → IsFailureOf s.heard t.heard (t.ended reason) f → HasFailed s w t v f
+failed_as {w = w} reason Memory same g = HasFailed.starves (λ h x. g.heard (after h w.trace) x)
+failed_as {w = w} reason Exhausted same e =
+    HasFailed.ends reason (λ h x. record { hearing = after h w.trace; told = rw same refl; ended = e.heard (after h w.trace) x })
 
-pub failed_after : {r s t : Setting} {w u : World} {f : Failure} → Hears r w s u → HasFailed s u t f → HasFailed r w t f
+pub failed_after : {r s t : Setting} {w u v : World} {f : Failure} → Hears r w s u → HasFailed s u t v f → HasFailed r w t v f
 failed_after l (HasFailed.starves g) = HasFailed.starves (λ h x. g h (l.heard h x))
-failed_after l (HasFailed.ends reason e) = HasFailed.ends reason e
+failed_after l (HasFailed.ends reason g) = HasFailed.ends reason (λ h x. g h (l.heard h x))
 
-pub failed_later : {A : Type 0} (r s t : Setting) (w u : World) (q : Either A Failure) → Hears r w s u → IfErr q (HasFailed s u t) → IfErr q (HasFailed r w t)
-failed_later r s t w u (Ok a) l h = h
-failed_later r s t w u (Err f) l h = failed_after l h
+pub failed_later : {A : Type 0} (r s t : Setting) (w u v : World) (q : Either A Failure) → Hears r w s u → IfErr q (HasFailed s u t v) → IfErr q (HasFailed r w t v)
+failed_later r s t w u v (Ok a) l h = h
+failed_later r s t w u v (Err f) l h = failed_after l h
 
 -- a driver that was asked once more
-pub failed_asked : {r s t : Setting} {w v : World} {f : Failure} → IsAsked r.heard s.heard → v ≡ w → HasFailed s v t f → HasFailed r w t f
-failed_asked {w = w} l same (HasFailed.starves g) = HasFailed.starves (λ h x. g (asked_once h) (rw (same, asked_behind h w.trace) (l.heard (after h w.trace) x)))
-failed_asked l same (HasFailed.ends reason e) = HasFailed.ends reason e
+pub failed_asked : {r s t : Setting} {w u v : World} {f : Failure} → IsAsked r.heard s.heard → u ≡ w → HasFailed s u t v f → HasFailed r w t v f
+failed_asked {w = w} l same (HasFailed.starves g) =
+    HasFailed.starves (λ h x. g (asked_once h) (rw (same, asked_behind h w.trace) (l.heard (after h w.trace) x)))
+failed_asked {w = w} l same (HasFailed.ends reason g) =
+    HasFailed.ends reason (λ h x. let k = g (asked_once h) (rw (same, asked_behind h w.trace) (l.heard (after h w.trace) x)) in
+    record { hearing = k.hearing; told = k.told; ended = k.ended })
 
 -- what a `?` makes of a failure
-pub passed_on : {A : Type 0} {s t : Setting} {w : World} {f : Failure} (q : Either A Failure) → HasFailed s w t f → IsErr q × IsErrAnd q (λ e. e ≡ f) → IfErr q (HasFailed s w t)
+pub passed_on : {A : Type 0} {s t : Setting} {w v : World} {f : Failure} (q : Either A Failure) → HasFailed s w t v f → IsErr q × IsErrAnd q (λ e. e ≡ f) → IfErr q (HasFailed s w t v)
 passed_on (Ok a) l h = tt
-passed_on {s} {t} {w} (Err f) l h = subst (λ x. HasFailed s w t x) (sym h.1) l
+passed_on {s} {t} {w} {v} (Err f) l h = subst (λ x. HasFailed s w t v x) (sym h.1) l
 
 -- what a `?` makes of want of memory
-pub memory_fails : {A : Type 0} {s t : Setting} {w v : World} (q : Either A Failure) → Hears s w t v → IsErr q × IsErrAnd q (λ f. f ≡ Memory) → IfErr q (HasFailed s w t)
-memory_fails (Ok a) l h = tt
-memory_fails {s} {t} {w} {v} (Err f) l h = subst (λ x. HasFailed s w t x) (sym h.1) (HasFailed.starves (λ h x. (after h v.trace, l.heard h x)))
+pub memory_fails : {A : Type 0} {s t : Setting} {w u : World} (v : World) (q : Either A Failure) → Hears s w t u → IsErr q × IsErrAnd q (λ f. f ≡ Memory) → IfErr q (HasFailed s w t v)
+memory_fails {u = u} v q l h = passed_on q (HasFailed.starves (λ h x. (after h u.trace, l.heard h x))) h
 
-pub silent_fails : {A : Type 0} {s t : Setting} (w : World) (q : Either A Failure) → IsSilent s t → IsErr q × IsErrAnd q (λ f. f ≡ Memory) → IfErr q (HasFailed s w t)
-silent_fails w q i h = memory_fails {v = w} q (hears_same i refl) h
+pub silent_fails : {A : Type 0} {s t : Setting} (w v : World) (q : Either A Failure) → IsSilent s t → IsErr q × IsErrAnd q (λ f. f ≡ Memory) → IfErr q (HasFailed s w t v)
+silent_fails w v q i h = memory_fails {u = w} v q (hears_same i refl) h
 
 -- and if it was asked before
-pub asked_fails : {A : Type 0} (s t : Setting) (w : World) (q : Either A Failure) → IsAsked s.heard t.heard → IsErr q × IsErrAnd q (λ f. f ≡ Memory) → IfErr q (HasFailed s w t)
-asked_fails s t w (Ok a) l h = tt
-asked_fails s t w (Err f) l h =
-    subst (λ x. HasFailed s w t x) (sym h.1) (HasFailed.starves (λ h x. (asked_once (after h w.trace), l.heard (after h w.trace) x)))
+pub asked_fails : {A : Type 0} (s t : Setting) (w v : World) (q : Either A Failure) → IsAsked s.heard t.heard → IsErr q × IsErrAnd q (λ f. f ≡ Memory) → IfErr q (HasFailed s w t v)
+asked_fails s t w v q l h = passed_on q (HasFailed.starves (λ h x. (asked_once (after h w.trace), l.heard (after h w.trace) x))) h
 
 pub ruleset hears = (hears_same, hears_self, hears_trans, hears_on, failed_as, failed_after, failed_later, memory_fails, silent_fails)

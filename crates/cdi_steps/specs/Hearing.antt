@@ -1,6 +1,6 @@
 -- What the driver has been through from one place of the engine to another: it was asked for each act and each pick that is
 -- written, and told each entry.
-use Rattle.std.specs.Prelude.{◌≤◌, ◌⊎◌, length, Bool, true, false}
+use Rattle.std.specs.Prelude.{◌≡◌, ◌≤◌, ◌++◌, ◌⊎◌, length, Bool, true, false}
 use Rattle.cdi_base.specs.declared.entry.Entry.{Entry}
 use Rattle.cdi_machine.specs.declared.driver.Failure.{Failure}
 use Rattle.cdi_machine.specs.declared.driver.Failure.TheVariants.{Memory, Exhausted}
@@ -45,8 +45,16 @@ abbrev pub ToldIf : Bool → Entry → Setting → Setting → Type 0
 ToldIf true e s t = IsTold e s.heard t.heard
 ToldIf false e s t = IsSilent s t
 
+-- it has ended for this reason, and was told just what is written
+pub record EndsAfter (t : Setting) (v : World) (reason : Ending) (h : Hearing) : Type 0 where
+  pub hearing : Hearing
+  pub told : hearing.told ≡ h.told ++ v.trace
+  pub ended : t.ended reason hearing
+
 -- memory ran out, and the driver has not ended; or it has
-pub data HasFailed (s : Setting) (w : World) (t : Setting) : Failure → Type 0 where
+pub data HasFailed (s : Setting) (w : World) (t : Setting) (v : World) : Failure → Type 0 where
   starves : ((h : Hearing) → s.heard (after h w.trace) → (k : Hearing) × t.heard k)
-      → HasFailed s w t Memory
-  ends : (reason : Ending) → t.ended reason → HasFailed s w t Exhausted
+      → HasFailed s w t v Memory
+  ends : (reason : Ending)
+      → ((h : Hearing) → s.heard (after h w.trace) → EndsAfter t v reason h)
+      → HasFailed s w t v Exhausted

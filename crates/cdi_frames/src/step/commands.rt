@@ -34,7 +34,7 @@ pub(super) fn begin<H: Host>(host: &mut H, job: Job) -> Result<Next, Failure>
     ensures hears { OnOk result (Hears (H.setting host.old) (H.world host.old)
         (H.setting host.new) (H.world host.new)) }
     ensures failed { IfErr result (HasFailed (H.setting host.old) (H.world host.old)
-        (H.setting host.new)) }
+        (H.setting host.new) (H.world host.new)) }
     ensures kept { OnErr result (H.world host.new ≡ H.world host.old) }
 {
     match job {
@@ -76,7 +76,7 @@ fn call_bean<H: Host>(host: &mut H, call: Box<BeanCall>) -> Result<Next, Failure
     ensures hears { OnOk result (Hears (H.setting host.old) (H.world host.old)
         (H.setting host.new) (H.world host.new)) }
     ensures failed { IfErr result (HasFailed (H.setting host.old) (H.world host.old)
-        (H.setting host.new)) }
+        (H.setting host.new) (H.world host.new)) }
     ensures kept { OnErr result (H.world host.new ≡ H.world host.old) }
 {
     host.borrow()?;
@@ -96,7 +96,7 @@ pub(crate) fn returning<H: Host>(host: &mut H, completion: Completion) -> Result
     ensures hears { OnOk result (Hears (H.setting host.old) (H.world host.old)
         (H.setting host.new) (H.world host.new)) }
     ensures failed { IfErr result (HasFailed (H.setting host.old) (H.world host.old)
-        (H.setting host.new)) }
+        (H.setting host.new) (H.world host.new)) }
     ensures kept { OnErr result (H.world host.new ≡ H.world host.old) }
 {
     if let Some(None) = host.latest_temporary() {
@@ -140,7 +140,7 @@ pub(super) fn fire<H: Host>(host: &mut H, event: ContainerEvent) -> Result<Next,
     ensures hears { OnOk result (Hears (H.setting host.old) (H.world host.old)
         (H.setting host.new) (H.world host.new)) }
     ensures failed { IfErr result (HasFailed (H.setting host.old) (H.world host.old)
-        (H.setting host.new)) }
+        (H.setting host.new) (H.world host.new)) }
     ensures kept { OnErr result (H.world host.new ≡ H.world host.old) }
 {
     host.law_unobserved();

@@ -57,7 +57,7 @@ returns-in_err-after_step-in-Does-clause-failed g c =
 
 pub returns-in_err-after_step-in-Some-clause-failed : goal.returns-in_err-after_step-in-Some-clause-failed
 returns-in_err-after_step-in-Some-clause-failed g c =
-    memory_fails {v = g.H.Host.world c.resume.new.host} c.from_residual-in_err-after_step-in-Some.result c.in_ok-next-in-Some.ensures.hears c.from_residual-in_err-after_step-in-Some.ensures
+    memory_fails {u = g.H.Host.world c.resume.new.host} _ c.from_residual-in_err-after_step-in-Some.result c.in_ok-next-in-Some.ensures.hears c.from_residual-in_err-after_step-in-Some.ensures
 
 pub returns-in_ok-after_step-in-Does-clause-hears : goal.returns-in_ok-after_step-in-Does-clause-hears
 returns-in_ok-after_step-in-Does-clause-hears g c =

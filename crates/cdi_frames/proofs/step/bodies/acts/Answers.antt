@@ -25,7 +25,7 @@ returns-clause-leads g c =
 
 pub returns-in_err-clone-clause-failed : goal.returns-in_err-clone-clause-failed
 returns-in_err-clone-clause-failed g c =
-    asked_fails _ _ (g.H.Host.world c.args.host.now) c.from_residual-in_err-clone.result c.in_ok-act.ensures.asked c.from_residual-in_err-clone.ensures
+    asked_fails _ _ (g.H.Host.world c.args.host.now) _ c.from_residual-in_err-clone.result c.in_ok-act.ensures.asked c.from_residual-in_err-clone.ensures
 
 pub returns-in_err-write-clause-failed : goal.returns-in_err-write-clause-failed
 returns-in_err-write-clause-failed g c =
@@ -38,5 +38,5 @@ returns-clause-hears g c =
 
 pub returns-clause-failed : goal.returns-clause-failed
 returns-clause-failed g c =
-    failed_later (g.H.Host.setting c.args.host.now) (g.H.Host.setting c.write.new.host) (g.H.Host.setting c.perform.new.host) (g.H.Host.world c.args.host.now) (g.H.Host.world c.write.new.host) c.perform.result
+    failed_later (g.H.Host.setting c.args.host.now) (g.H.Host.setting c.write.new.host) (g.H.Host.setting c.perform.new.host) (g.H.Host.world c.args.host.now) (g.H.Host.world c.write.new.host) (g.H.Host.world c.perform.new.host) c.perform.result
     (hears_answer _ (g.H.Host.setting c.act.new.self) _ refl c.in_ok-act.ensures.asked (rw c.if-not-branch.false at c.in_ok-write.ensures.told) (rw (c.if-not-branch.false, c.in_ok-act.ensures.world) at c.in_ok-write.ensures.noted)) c.perform.ensures.failed
