@@ -16,7 +16,7 @@ use Rattle.cdi_machine.specs.Runs.{Legal, Outcome, Ends, Cut, Runs}
 use Rattle.cdi_fit.specs.Missing as fit
 use Rattle.cdi_fit.specs.Missing.{NothingMissing, IsServedCommand, IsReachable}
 use Rattle.cdi_container.specs.Commands.{machine_command}
-use Rattle.cdi_container.specs.States.{State, Answers, CarriesOut, machine_state, before_start, cause_of}
+use Rattle.cdi_container.specs.States.{ContainerState, AnswersCommand, CarriesOut, machine_state, before_start, cause_of}
 use Rattle.cdi_container.specs.Missing.{Works, NoneMissed}
 
 pub served : (names : List (List ℕ)) (command : Command) → IsTrue (is_served command) → IsServedCommand (machine_command names command)
@@ -35,7 +35,7 @@ none_if : (halted : Option Cause) → is_some halted ≡ false → halted ≡ No
 none_if None h = refl
 none_if (Some cause) h = absurd (cc)
 
-pub works_on : (tables : machine.Tables) (s : State) (c : wanted.Command) → refusal tables (machine_state s) c ≡ None → s.halted ≡ None
+pub works_on : (tables : machine.Tables) (s : ContainerState) (c : wanted.Command) → refusal tables (machine_state s) c ≡ None → s.halted ≡ None
 works_on tables s c e = none_if s.halted (not_halted tables (machine_state s) c e)
 
 -- ---- the machine's states
@@ -46,7 +46,7 @@ whole_outcome (Cut cause) e = absurd (cc)
 
 module _ (names : List (List ℕ)) (tables : machine.Tables) (legal : Legal) where
   -- a state of the machine with the same world but for its trace
-  pub record ReachedAs (s : State) : Type 0 where
+  pub record ReachedAs (s : ContainerState) : Type 0 where
     pub between : Machine
     pub reached : IsReachable tables legal between
     pub alike : at_begin s.world ≡ at_begin between.world
@@ -54,40 +54,40 @@ module _ (names : List (List ℕ)) (tables : machine.Tables) (legal : Legal) whe
     pub idle : between.busy ≡ false
 
   -- what is refused is told by the world at the begin
-  pub refused_alike : (s : State) (m : Machine) (c : wanted.Command) → s.halted ≡ None → at_begin s.world ≡ at_begin m.world → m.halted ≡ false → m.busy ≡ false
+  pub refused_alike : (s : ContainerState) (m : Machine) (c : wanted.Command) → s.halted ≡ None → at_begin s.world ≡ at_begin m.world → m.halted ≡ false → m.busy ≡ false
       → refusal tables (machine_state s) c ≡ refusal tables m c
   refused_alike s m c none alike working idle =
       ap₂ (λ (h : Bool) (w : World). refusal tables (idle_state w h) c) (ap is_some none ∙ sym working) alike
       ∙ ap (λ (b : Bool). refusal tables (record m { busy = b }) c) (sym idle)
 
-  carried : (s t : State) (c : wanted.Command) (o : Outcome) (m : Machine) → IsReachable tables legal m → (refusal tables m c ≡ None → IsServedCommand c)
+  carried : (s t : ContainerState) (c : wanted.Command) (o : Outcome) (m : Machine) → IsReachable tables legal m → (refusal tables m c ≡ None → IsServedCommand c)
       → at_begin s.world ≡ at_begin m.world → refusal tables m c ≡ None
       → CarriesOut tables legal (Unit {0}) (task c) (at_begin s.world) o t.world → cause_of o ≡ None → ReachedAs t
   carried s t c o m before q alike e (CarriesOut.ends r) whole =
       let run = subst (λ w. Runs tables legal ⊥ (task c) w o t.world) alike r in
       record {
         between = state_after o t.world;
-        reached = IsReachable.goes_on before q (container.Answers.carries_out e run);
+        reached = IsReachable.goes_on before q (container.AnswersCommand.carries_out e run);
         alike = refl;
         working = whole_outcome o whole;
         idle = refl;
       }
   carried s t c o m before q alike e (CarriesOut.starves starved r) whole = absurd (cc)
 
-  pub reached_as : (t : State) → Works names tables legal t → t.halted ≡ None → ReachedAs t
-  reached_as t (Works.starts ticks depth reply (Answers.refuses r e is stays)) none = absurd (cc)
-  reached_as t (Works.starts ticks depth reply (Answers.carries_out o e c halts is)) none =
+  pub reached_as : (t : ContainerState) → Works names tables legal t → t.halted ≡ None → ReachedAs t
+  reached_as t (Works.starts ticks depth reply (AnswersCommand.refuses r e is stays)) none = absurd (cc)
+  reached_as t (Works.starts ticks depth reply (AnswersCommand.carries_out o e c halts is)) none =
       carried (before_start ticks depth) t wanted.Command.Boot o (machine_state (before_start ticks depth)) (IsReachable.begins ticks depth) (λ x. tt) refl e c (sym halts ∙ none)
-  reached_as t (Works.answers {s = s} command reply works q (Answers.refuses r e is stays)) none =
-      let from = reached_as s works (sym (ap (λ (x : State). x.halted) stays) ∙ none) in
+  reached_as t (Works.answers {s = s} command reply works q (AnswersCommand.refuses r e is stays)) none =
+      let from = reached_as s works (sym (ap (λ (x : ContainerState). x.halted) stays) ∙ none) in
       record {
         between = from.between;
         reached = from.reached;
-        alike = ap (λ (x : State). at_begin x.world) stays ∙ from.alike;
+        alike = ap (λ (x : ContainerState). at_begin x.world) stays ∙ from.alike;
         working = from.working;
         idle = from.idle;
       }
-  reached_as t (Works.answers {s = s} command reply works q (Answers.carries_out o e c halts is)) none =
+  reached_as t (Works.answers {s = s} command reply works q (AnswersCommand.carries_out o e c halts is)) none =
       let wanted = machine_command names command in
       let on = works_on tables s wanted e in
       let from = reached_as s works on in

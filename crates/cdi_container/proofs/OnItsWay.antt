@@ -11,20 +11,20 @@ use Rattle.cdi_machine.specs.Tables.{Tables}
 use Rattle.cdi_machine.specs.World.{at_begin}
 use Rattle.cdi_machine.proofs.Order.{goes_self, wider}
 use Rattle.cdi_container.specs.OnItsWay.{AlwaysAnswers, IsFrontOfRun, StaysOnItsWay}
-use Rattle.cdi_container.specs.States.{State, Answers, CarriesOut, after_refusal, cause_of, machine_state}
+use Rattle.cdi_container.specs.States.{ContainerState, AnswersCommand, CarriesOut, after_refusal, cause_of, machine_state}
 
 module _ (tables : Tables) (legal : Legal) where
   pub always_answers : Ends tables legal → AlwaysAnswers tables legal
   always_answers ends s c = by (refusal tables (machine_state s) c) refl
     where
-      by : (o : Option Refusal) → refusal tables (machine_state s) c ≡ o → (reply : Reply) × (t : State) × Answers tables legal ⊥ s c reply t
-      by (Some r) e = (replies.Refused r, after_refusal s, Answers.refuses r e refl refl)
+      by : (o : Option Refusal) → refusal tables (machine_state s) c ≡ o → (reply : Reply) × (t : ContainerState) × AnswersCommand tables legal ⊥ s c reply t
+      by (Some r) e = (replies.Refused r, after_refusal s, AnswersCommand.refuses r e refl refl)
       by None e =
           let run = ends (task c) (at_begin s.world) in
-          let t : State = record { world = run.1; halted = cause_of run.0 } in
-          (reply_to c run.0 run.1, t, Answers.carries_out run.0 e (CarriesOut.ends run.2) refl refl)
+          let t : ContainerState = record { world = run.1; halted = cause_of run.0 } in
+          (reply_to c run.0 run.1, t, AnswersCommand.carries_out run.0 e (CarriesOut.ends run.2) refl refl)
 
-module _ (tables : Tables) (legal loose : Legal) (way : OnItsWay tables legal loose) (c : Command) (s t : State) where
+module _ (tables : Tables) (legal loose : Legal) (way : OnItsWay tables legal loose) (c : Command) (s t : ContainerState) where
   carried_on_its_way : (o : Outcome) → CarriesOut tables legal (Unit {0}) (task c) (at_begin s.world) o t.world → IsFrontOfRun tables legal loose c s t
   carried_on_its_way o (CarriesOut.ends r) =
       record {
@@ -37,9 +37,9 @@ module _ (tables : Tables) (legal loose : Legal) (way : OnItsWay tables legal lo
       let more = way (task c) (at_begin s.world) t.world _ r in
       record { outcome = more.0; world = more.1; run = more.2; more = more.3 }
 
-  answered_on_its_way : (reply : Reply) → refusal tables (machine_state s) c ≡ None → Answers tables legal (Unit {0}) s c reply t → IsFrontOfRun tables legal loose c s t
-  answered_on_its_way reply none (Answers.refuses r refused told stays) = absurd (let e : Some r ≡ None = sym refused ∙ none in cc)
-  answered_on_its_way reply none (Answers.carries_out o free carried halted told) = carried_on_its_way o carried
+  answered_on_its_way : (reply : Reply) → refusal tables (machine_state s) c ≡ None → AnswersCommand tables legal (Unit {0}) s c reply t → IsFrontOfRun tables legal loose c s t
+  answered_on_its_way reply none (AnswersCommand.refuses r refused told stays) = absurd (let e : Some r ≡ None = sym refused ∙ none in cc)
+  answered_on_its_way reply none (AnswersCommand.carries_out o free carried halted told) = carried_on_its_way o carried
 
 pub stays_on_its_way : (tables : Tables) (legal loose : Legal) → OnItsWay tables legal loose → StaysOnItsWay tables legal loose
 stays_on_its_way tables legal loose way s t c reply none a = answered_on_its_way tables legal loose way c s t reply none a

@@ -9,7 +9,7 @@ use Rattle.cdi_machine.specs.World.{World, at_begin, before_boot}
 use Rattle.cdi_container.specs.Commands.{machine_command}
 use Rattle.cdi_container.specs.Missing.{Works}
 use Rattle.cdi_container.specs.Resting.{RestsBetween}
-use Rattle.cdi_container.specs.States.{State, Answers, CarriesOut, cause_of}
+use Rattle.cdi_container.specs.States.{ContainerState, AnswersCommand, CarriesOut, cause_of}
 use Rattle.cdi_container.proofs.Missing.{works_on}
 
 module _ (tables : Tables) (legal : Legal) (rests : Rests tables legal) where
@@ -24,13 +24,13 @@ module _ (tables : Tables) (legal : Legal) (rests : Rests tables legal) where
   carried c w v o q (CarriesOut.ends r) e = rests c (at_begin w) v o r (whole o e) (begun w q)
   carried c w v o q (CarriesOut.starves starved r) e = absurd (cc)
 
-  at_rest : (names : List (List ℕ)) (t : State) → Works names tables legal t → t.halted ≡ None → IsAtRest t.world
-  at_rest names t (Works.starts ticks depth reply (Answers.refuses r e is stays)) none = absurd (cc)
-  at_rest names t (Works.starts ticks depth reply (Answers.carries_out o e k halts is)) none =
+  at_rest : (names : List (List ℕ)) (t : ContainerState) → Works names tables legal t → t.halted ≡ None → IsAtRest t.world
+  at_rest names t (Works.starts ticks depth reply (AnswersCommand.refuses r e is stays)) none = absurd (cc)
+  at_rest names t (Works.starts ticks depth reply (AnswersCommand.carries_out o e k halts is)) none =
       carried wanted.Command.Boot (before_boot ticks depth) t.world o (record { invocations = refl; bodies = refl; temporaries = refl }) k (sym halts ∙ none)
-  at_rest names t (Works.answers {s = s} command reply works q (Answers.refuses r e is stays)) none =
-      subst (λ (x : State). IsAtRest x.world) (sym stays) (begun s.world (at_rest names s works (sym (ap (λ (x : State). x.halted) stays) ∙ none)))
-  at_rest names t (Works.answers {s = s} command reply works q (Answers.carries_out o e k halts is)) none =
+  at_rest names t (Works.answers {s = s} command reply works q (AnswersCommand.refuses r e is stays)) none =
+      subst (λ (x : ContainerState). IsAtRest x.world) (sym stays) (begun s.world (at_rest names s works (sym (ap (λ (x : ContainerState). x.halted) stays) ∙ none)))
+  at_rest names t (Works.answers {s = s} command reply works q (AnswersCommand.carries_out o e k halts is)) none =
       let c = machine_command names command in
       carried c s.world t.world o (at_rest names s works (works_on tables s c e)) k (sym halts ∙ none)
   at_rest names t (Works.refuses_line {s = s} works) none = begun s.world (at_rest names s works none)

@@ -17,13 +17,13 @@ use Rattle.cdi_fit.proofs.Replies.{threw}
 use Rattle.cdi_run_tables.specs.Machine.{machine_tables}
 use Rattle.cdi_run_tables.specs.declared.tables.RunTables.{RunTables}
 use Rattle.cdi_container.specs.Commands.{machine_command}
-use Rattle.cdi_container.specs.States.{State, Answers, CarriesOut, before_start}
+use Rattle.cdi_container.specs.States.{ContainerState, AnswersCommand, CarriesOut, before_start}
 use Rattle.cdi_container.specs.Thrown.{Replies, TellsName, NamesThrown}
 use Rattle.cdi_container.proofs.Missing.{served, works_on, refused_alike, reached_as}
 
 module _ (tables : machine.Tables) (legal : Legal) (throws : ThrowsWithText tables legal ⊥) (fits : Fits tables legal) where
   -- a command that ends with an exception, in a state with the world of one that commands lead the machine to
-  ended : (c : wanted.Command) (s t : State) (o : Outcome) (x : ℕ) (m : Machine) → IsReachable tables legal m → at_begin s.world ≡ at_begin m.world → refusal tables m c ≡ None → IsServedCommand c
+  ended : (c : wanted.Command) (s t : ContainerState) (o : Outcome) (x : ℕ) (m : Machine) → IsReachable tables legal m → at_begin s.world ≡ at_begin m.world → refusal tables m c ≡ None → IsServedCommand c
       → CarriesOut tables legal (Unit {0}) (task c) (at_begin s.world) o t.world → o ≡ Ends (Threw x) → HasText tables x
   ended c s t o x m reached alike e q (CarriesOut.ends r) is =
       let begun : Runs tables legal ⊥ (task c) (at_begin m.world) o t.world = subst (λ w. Runs tables legal ⊥ (task c) w o t.world) alike r in
@@ -31,11 +31,11 @@ module _ (tables : machine.Tables) (legal : Legal) (throws : ThrowsWithText tabl
   ended c s t o x m reached alike e q (CarriesOut.starves starved r) is = absurd (cc)
 
   thrown : (names : List (List ℕ)) (reply : Reply) (x : ℕ) → Replies names tables legal reply → reply ≡ replies.Threw x → HasText tables x
-  thrown names reply x (Replies.to_start ticks depth _ (Answers.refuses r e is stays)) told = absurd (cc)
-  thrown names reply x (Replies.to_start {t = t} ticks depth _ (Answers.carries_out o e k halts is)) told =
+  thrown names reply x (Replies.to_start ticks depth _ (AnswersCommand.refuses r e is stays)) told = absurd (cc)
+  thrown names reply x (Replies.to_start {t = t} ticks depth _ (AnswersCommand.carries_out o e k halts is)) told =
       ended wanted.Command.Boot (before_start ticks depth) t o x (before_commands ticks depth) (IsReachable.begins ticks depth) refl e tt k (threw wanted.Command.Boot o t.world x (sym is ∙ told))
-  thrown names reply x (Replies.to_command command _ works q (Answers.refuses r e is stays)) told = absurd (cc)
-  thrown names reply x (Replies.to_command {s = s} {t = t} command _ works q (Answers.carries_out o e k halts is)) told =
+  thrown names reply x (Replies.to_command command _ works q (AnswersCommand.refuses r e is stays)) told = absurd (cc)
+  thrown names reply x (Replies.to_command {s = s} {t = t} command _ works q (AnswersCommand.carries_out o e k halts is)) told =
       let c = machine_command names command in
       let on = works_on tables s c e in
       let from = reached_as names tables legal s works on in

@@ -9,7 +9,7 @@ use Rattle.cdi_machine.specs.Programs.{Given, Prog}
 use Rattle.cdi_machine.specs.Runs.{Legal, Outcome}
 use Rattle.cdi_machine.specs.Tables.{Tables}
 use Rattle.cdi_machine.specs.World.{World}
-use Rattle.cdi_container.specs.States.{Answers, CarriesOut, cause_of, machine_state}
+use Rattle.cdi_container.specs.States.{AnswersCommand, CarriesOut, cause_of, machine_state}
 use Rattle.cdi_container.specs.Traces.{SameAnswer, TraceTells}
 
 one_refusal : (o : Option Refusal) (r r' : Refusal) → o ≡ Some r → o ≡ Some r' → r ≡ r'
@@ -27,12 +27,12 @@ module _ (tables : Tables) (legal : Legal) (one : OneRun tables legal) where
   pub trace_tells : TraceTells tables legal
   trace_tells s t t' c reply reply' a a' same = by a a'
     where
-      by : Answers tables legal ⊥ s c reply t → Answers tables legal ⊥ s c reply' t' → SameAnswer reply reply' t t'
-      by (Answers.refuses r e is stays) (Answers.refuses r' e' is' stays') =
+      by : AnswersCommand tables legal ⊥ s c reply t → AnswersCommand tables legal ⊥ s c reply' t' → SameAnswer reply reply' t t'
+      by (AnswersCommand.refuses r e is stays) (AnswersCommand.refuses r' e' is' stays') =
           record { reply = is ∙ ap replies.Refused (one_refusal (refusal tables (machine_state s) c) r r' e e') ∙ sym is'; state = stays ∙ sym stays' }
-      by (Answers.refuses r e is stays) (Answers.carries_out o e' k halts is') = absurd (not_both (refusal tables (machine_state s) c) r e e')
-      by (Answers.carries_out o e k halts is) (Answers.refuses r e' is' stays) = absurd (not_both (refusal tables (machine_state s) c) r e' e)
-      by (Answers.carries_out o e k halts is) (Answers.carries_out o' e' k' halts' is') =
+      by (AnswersCommand.refuses r e is stays) (AnswersCommand.carries_out o e' k halts is') = absurd (not_both (refusal tables (machine_state s) c) r e e')
+      by (AnswersCommand.carries_out o e k halts is) (AnswersCommand.refuses r e' is' stays) = absurd (not_both (refusal tables (machine_state s) c) r e' e)
+      by (AnswersCommand.carries_out o e k halts is) (AnswersCommand.carries_out o' e' k' halts' is') =
           let ends = same_end _ _ t.world t'.world o o' k k' same in
           record {
             reply = is ∙ ap₂ (λ (x : Outcome) (v : World). reply_to c x v) ends.outcome ends.world ∙ sym is';

@@ -7,7 +7,7 @@ use Rattle.cdi_machine.specs.Programs.{Given, Prog}
 use Rattle.cdi_machine.specs.Commands.{Command}
 use Rattle.cdi_machine.specs.Runs.{Legal, Outcome}
 use Rattle.cdi_ledger.specs.Ledger.{Item, items_of, InOrder}
-use Rattle.cdi_container.specs.States.{State, CarriesOut, Answers, before_start, after_refusal}
+use Rattle.cdi_container.specs.States.{ContainerState, CarriesOut, AnswersCommand, before_start, after_refusal}
 
 abbrev pub carried_items : {tables : Tables} {legal : Legal} {Starved : Type 0} {p : Prog Given}
     {w v : World} {o : Outcome}
@@ -16,24 +16,24 @@ carried_items h (CarriesOut.ends r) = items_of h r
 carried_items h (CarriesOut.starves s r) = items_of h r
 
 -- those of a command, behind those before it
-abbrev pub answer_items : {tables : Tables} {legal : Legal} {Starved : Type 0} {s t : State}
+abbrev pub answer_items : {tables : Tables} {legal : Legal} {Starved : Type 0} {s t : ContainerState}
     {c : Command} {reply : Reply}
-    → List Item → Answers tables legal Starved s c reply t → List Item
-answer_items h (Answers.refuses r e is stays) = h
-answer_items h (Answers.carries_out o e carries halts is) = carried_items h carries
+    → List Item → AnswersCommand tables legal Starved s c reply t → List Item
+answer_items h (AnswersCommand.refuses r e is stays) = h
+answer_items h (AnswersCommand.carries_out o e carries halts is) = carried_items h carries
 
 -- what stands written, and the container's state, after some commands and lines that are none
 pub data History (tables : Tables) (legal : Legal) (Starved : Type 0)
-    : State → List Item → Type 0 where
+    : ContainerState → List Item → Type 0 where
   begins : (ticks depth : ℕ) → History tables legal Starved (before_start ticks depth) []
-  answers : {s t : State} {h : List Item} {c : Command} {reply : Reply}
+  answers : {s t : ContainerState} {h : List Item} {c : Command} {reply : Reply}
       → History tables legal Starved s h
-      → (a : Answers tables legal Starved s c reply t)
+      → (a : AnswersCommand tables legal Starved s c reply t)
       → History tables legal Starved t (answer_items h a)
-  refuses_line : {s : State} {h : List Item} → History tables legal Starved s h
+  refuses_line : {s : ContainerState} {h : List Item} → History tables legal Starved s h
       → History tables legal Starved (after_refusal s) h
 
 -- it is in order
 abbrev pub KeepsOrder : Tables → Legal → Type 0
 KeepsOrder tables legal =
-    (s : State) (h : List Item) → History tables legal (Unit {0}) s h → InOrder h
+    (s : ContainerState) (h : List Item) → History tables legal (Unit {0}) s h → InOrder h

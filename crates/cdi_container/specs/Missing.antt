@@ -11,25 +11,25 @@ use Rattle.cdi_machine.specs.Runs.{Legal, Outcome, Runs}
 use Rattle.cdi_fit.specs.Fits.{Fits}
 use Rattle.cdi_fit.specs.Missing.{NothingMissing}
 use Rattle.cdi_container.specs.Commands.{machine_command}
-use Rattle.cdi_container.specs.States.{State, Answers, Boots, machine_state, after_refusal}
+use Rattle.cdi_container.specs.States.{ContainerState, AnswersCommand, Boots, machine_state, after_refusal}
 
 -- the states of a container from its start on, after commands that are served and lines that are none
 pub data Works (names : List (List ℕ)) (tables : machine.Tables) (legal : Legal)
-    : State → Type 0 where
-  starts : {t : State} (ticks depth : ℕ) (reply : Reply)
+    : ContainerState → Type 0 where
+  starts : {t : ContainerState} (ticks depth : ℕ) (reply : Reply)
       → Boots tables legal (Unit {0}) ticks depth reply t
       → Works names tables legal t
-  answers : {s t : State} (command : Command) (reply : Reply) → Works names tables legal s
+  answers : {s t : ContainerState} (command : Command) (reply : Reply) → Works names tables legal s
       → IsTrue (is_served command)
-      → Answers tables legal (Unit {0}) s (machine_command names command) reply t
+      → AnswersCommand tables legal (Unit {0}) s (machine_command names command) reply t
       → Works names tables legal t
-  refuses_line : {s : State} → Works names tables legal s
+  refuses_line : {s : ContainerState} → Works names tables legal s
       → Works names tables legal (after_refusal s)
 
 -- nothing is missing in what a command asks for that isn't refused
 abbrev pub MissesNone : List (List ℕ) → machine.Tables → Legal → Type 0 → Type 0
 MissesNone names tables legal Starved =
-    (s : State) → Works names tables legal s → (command : Command) → IsTrue (is_served command)
+    (s : ContainerState) → Works names tables legal s → (command : Command) → IsTrue (is_served command)
     → refusal tables (machine_state s) (machine_command names command) ≡ None
     → (o : Outcome) (v : World)
     → (r : Runs tables legal Starved (task (machine_command names command)) (at_begin s.world) o v)

@@ -4,10 +4,10 @@ use Rattle.cdi_machine.specs.Laws.{IsAtRest}
 use Rattle.cdi_machine.specs.Runs.{Legal}
 use Rattle.cdi_machine.specs.Tables.{Tables}
 use Rattle.cdi_container.specs.Missing.{Works}
-use Rattle.cdi_container.specs.States.{State}
+use Rattle.cdi_container.specs.States.{ContainerState}
 
 -- so in each state from its start on, unless it is halted
 abbrev pub RestsBetween : Tables → Legal → Type 0
 RestsBetween tables legal =
-    (names : List (List ℕ)) (s : State) → Works names tables legal s → s.halted ≡ None
+    (names : List (List ℕ)) (s : ContainerState) → Works names tables legal s → s.halted ≡ None
     → IsAtRest s.world

@@ -13,27 +13,27 @@ use Rattle.cdi_lines.specs.Served.{Serves}
 use Rattle.cdi_machine.specs.Tables.{Tables}
 use Rattle.cdi_machine.specs.Runs.{Legal}
 use Rattle.cdi_container.specs.Commands.{machine_command}
-use Rattle.cdi_container.specs.Standing.{Standing, SameParts, names_of, tables_of, state_of}
-use Rattle.cdi_container.specs.States.{State, Answers, after_refusal}
+use Rattle.cdi_container.specs.Standing.{ContainerParts, SameParts, names_of, tables_of, state_of}
+use Rattle.cdi_container.specs.States.{ContainerState, AnswersCommand, after_refusal}
 
 -- what was read as a command is answered so, and a line that is none is refused
 abbrev pub AnswersRead : List (List ℕ) → Tables → Legal → Type 0
-    → Result Command BadLine → State → Reply → State → Type 0
+    → Result Command BadLine → ContainerState → Reply → ContainerState → Type 0
 AnswersRead names tables legal Starved (Ok command) s reply t =
-    Answers tables legal Starved s (machine_command names command) reply t
+    AnswersCommand tables legal Starved s (machine_command names command) reply t
 AnswersRead names tables legal Starved (Err bad) s reply t =
     (reply ≡ replies.Refused refusals.BadLine) × (t ≡ after_refusal s)
 
 -- a line is answered by the line of a reply
 abbrev pub AnswersLine : List (List ℕ) → Tables → Legal → Type 0
-    → State → List ℕ → List ℕ → State → Type 0
+    → ContainerState → List ℕ → List ℕ → ContainerState → Type 0
 AnswersLine names tables legal Starved s line text t =
     (reply : Reply) × AnswersRead names tables legal Starved (command_in line) s reply t
     × (text ≡ reply_line names reply)
 
 -- the same for a container, whose other parts stay
-pub record AnswersSo {Driving : Type 0} (before after : Legal) (c : Standing Driving)
-    (line text : List ℕ) (d : Standing Driving) : Type 0 where
+pub record AnswersSo {Driving : Type 0} (before after : Legal) (c : ContainerParts Driving)
+    (line text : List ℕ) (d : ContainerParts Driving) : Type 0 where
   pub same : SameParts before after c d
   pub answers : AnswersLine
       (names_of c) (tables_of c) before (Unit {0}) (state_of c) line text (state_of d)
@@ -50,7 +50,7 @@ pub data Served {S : Type 0} (limit : ℕ) (answers : S → List ℕ → List �
 
 -- a container was served, which greets by the reply to its start
 abbrev pub ServedBy : {Driving : Type 0} → ℕ → (Driving → Legal)
-    → Standing Driving → Standing Driving
+    → ContainerParts Driving → ContainerParts Driving
     → Option (List ℕ) → Option (List ℕ) → Option (List ℕ) → Option (List ℕ)
     → Result (Unit {0}) ServeFault → Type 0
 ServedBy limit legal c d unread unread_after held held_after result =

@@ -14,19 +14,19 @@ use Rattle.cdi_machine.specs.Container.{refusal, reply_to}
 use Rattle.cdi_machine.specs.Runs.{Legal, Outcome, Ends, Cut, Runs}
 
 -- the machine's world, and why the container has halted if it has
-pub record State : Type 0 where
+pub record ContainerState : Type 0 where
   pub world : World
   pub halted : Option Cause
 
 -- the machine's state, which doesn't tell why, and is never busy
-abbrev pub machine_state : State → machine.State
+abbrev pub machine_state : ContainerState → machine.State
 machine_state s = machine.idle_state s.world (is_some s.halted)
 
-abbrev pub before_start : ℕ → ℕ → State
+abbrev pub before_start : ℕ → ℕ → ContainerState
 before_start ticks depth = record { world = before_boot ticks depth; halted = None }
 
 -- all is as it was, but for the trace and the environment of the command before
-abbrev pub after_refusal : State → State
+abbrev pub after_refusal : ContainerState → ContainerState
 after_refusal s = record s { world = at_begin s.world }
 
 -- a cut halts the container
@@ -43,19 +43,19 @@ pub data CarriesOut (tables : Tables) (legal : Legal) (Starved : Type 0)
       → CarriesOut tables legal Starved p w (Cut causes.Memory) v
 
 -- A command is refused, or it is carried out with an empty trace at first, and a cut halts the container.
-pub data Answers (tables : Tables) (legal : Legal) (Starved : Type 0) (s : State) (c : Command)
-    (reply : Reply) (t : State) : Type 0 where
+pub data AnswersCommand (tables : Tables) (legal : Legal) (Starved : Type 0) (s : ContainerState) (c : Command)
+    (reply : Reply) (t : ContainerState) : Type 0 where
   refuses : (r : Refusal) → refusal tables (machine_state s) c ≡ Some r
       → reply ≡ replies.Refused r
       → t ≡ after_refusal s
-      → Answers tables legal Starved s c reply t
+      → AnswersCommand tables legal Starved s c reply t
   carries_out : (o : Outcome) → refusal tables (machine_state s) c ≡ None
       → CarriesOut tables legal Starved (task c) (at_begin s.world) o t.world
       → t.halted ≡ cause_of o
       → reply ≡ reply_to c o t.world
-      → Answers tables legal Starved s c reply t
+      → AnswersCommand tables legal Starved s c reply t
 
 -- the start, its reply and what the container is then
-abbrev pub Boots : Tables → Legal → Type 0 → ℕ → ℕ → Reply → State → Type 0
+abbrev pub Boots : Tables → Legal → Type 0 → ℕ → ℕ → Reply → ContainerState → Type 0
 Boots tables legal Starved ticks depth reply t =
-    Answers tables legal Starved (before_start ticks depth) Command.Boot reply t
+    AnswersCommand tables legal Starved (before_start ticks depth) Command.Boot reply t

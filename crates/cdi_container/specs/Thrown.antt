@@ -10,18 +10,18 @@ use Rattle.cdi_machine.specs.Runs.{Legal}
 use Rattle.cdi_run_tables.specs.Machine.{machine_tables}
 use Rattle.cdi_run_tables.specs.declared.tables.RunTables.{RunTables}
 use Rattle.cdi_container.specs.Commands.{machine_command}
-use Rattle.cdi_container.specs.States.{State, Answers, Boots}
+use Rattle.cdi_container.specs.States.{ContainerState, AnswersCommand, Boots}
 use Rattle.cdi_container.specs.Missing.{Works}
 
 -- what a container replies to its start, and from then on to commands that are served
 pub data Replies (names : List (List ℕ)) (tables : machine.Tables) (legal : Legal)
     : Reply → Type 0 where
-  to_start : {t : State} (ticks depth : ℕ) (reply : Reply)
+  to_start : {t : ContainerState} (ticks depth : ℕ) (reply : Reply)
       → Boots tables legal (Unit {0}) ticks depth reply t
       → Replies names tables legal reply
-  to_command : {s t : State} (command : Command) (reply : Reply) → Works names tables legal s
+  to_command : {s t : ContainerState} (command : Command) (reply : Reply) → Works names tables legal s
       → IsTrue (is_served command)
-      → Answers tables legal (Unit {0}) s (machine_command names command) reply t
+      → AnswersCommand tables legal (Unit {0}) s (machine_command names command) reply t
       → Replies names tables legal reply
 
 -- if the reply tells an exception, then the text in its line is the one that the table has for the exception's class

@@ -4,14 +4,14 @@ use Rattle.cdi_base.specs.declared.reply.Reply.{Reply}
 use Rattle.cdi_machine.specs.Commands.{Command}
 use Rattle.cdi_machine.specs.Runs.{Legal}
 use Rattle.cdi_machine.specs.Tables.{Tables}
-use Rattle.cdi_container.specs.States.{State, Answers}
+use Rattle.cdi_container.specs.States.{ContainerState, AnswersCommand}
 
-pub record SameAnswer (r r' : Reply) (t t' : State) : Type 0 where
+pub record SameAnswer (r r' : Reply) (t t' : ContainerState) : Type 0 where
   pub reply : r ≡ r'
   pub state : t ≡ t'
 
 -- a command, from one state, has no two answers with the same entries, if there is memory
 abbrev pub TraceTells : Tables → Legal → Type 0
 TraceTells tables legal =
-    (s t t' : State) (c : Command) (r r' : Reply) → Answers tables legal ⊥ s c r t
-    → Answers tables legal ⊥ s c r' t' → t.world.trace ≡ t'.world.trace → SameAnswer r r' t t'
+    (s t t' : ContainerState) (c : Command) (r r' : Reply) → AnswersCommand tables legal ⊥ s c r t
+    → AnswersCommand tables legal ⊥ s c r' t' → t.world.trace ≡ t'.world.trace → SameAnswer r r' t t'

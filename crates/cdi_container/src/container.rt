@@ -9,7 +9,7 @@ ghost use Rattle.cdi_steps.specs.Words.{command_of, outcome_of};
 ghost use Rattle.cdi_runtime.specs.Refusals.{in_request};
 ghost use Rattle.cdi_text.specs.Command.{is_served};
 ghost use Rattle.cdi_container.specs.Standing as spec;
-ghost use Rattle.cdi_container.specs.States.{Answers, CarriesOut, after_refusal, machine_state};
+ghost use Rattle.cdi_container.specs.States.{AnswersCommand, CarriesOut, after_refusal, machine_state};
 ghost use Rattle.cdi_base.specs.declared.reply.Reply.TheVariants.{Refused};
 
 use crate::asked::call_for;
@@ -46,9 +46,9 @@ impl<D: Driver + Drop> Drop for Container<D> {
 impl<D: Driver> Model for Container<D> {
     ghost use Rattle.std.specs.Coded.{codes};
     ghost use Rattle.cdi_run_tables.specs.contracts.tables.RunTables as run_tables;
-    ghost use Rattle.cdi_container.specs.Standing.{Standing};
+    ghost use Rattle.cdi_container.specs.Standing.{ContainerParts};
 
-    ghost Value = { Standing D };
+    ghost Value = { ContainerParts D };
 
     ghost coded = { Prim.hlevel (codes, run_tables.the_row.coded) };
 
@@ -128,7 +128,7 @@ impl<D: Driver> Container<D> {
         requires { machine_refusal
             (spec.tables_of self.old) (machine_state (spec.state_of self.old)) (command_of job)
             ≡ None }
-        ensures answers { Answers
+        ensures answers { AnswersCommand
             (spec.tables_of self.old) (D.legal self.old.runtime.driver) (Unit {0})
             (spec.state_of self.old) (command_of job) result (spec.state_of self.new) }
         ensures same { spec.SameParts
@@ -142,7 +142,7 @@ impl<D: Driver> Container<D> {
 
     /// Carries a job out in a request, or in none, or refuses it.
     fn ask(&mut self, request: Option<&Text>, job: Job) -> Reply
-        ensures answers { Answers
+        ensures answers { AnswersCommand
             (spec.tables_of self.old) (D.legal self.old.runtime.driver) (Unit {0})
             (spec.state_of self.old)
             (in_request (option_map (λ r. r.now) request.entry) (command_of job))
@@ -165,7 +165,7 @@ impl<D: Driver> Container<D> {
     pub fn command(&mut self, command: Command) -> Result<Reply, AllocError>
         requires { IsTrue (is_served command) }
         ensures answers { IfOk result (λ reply.
-            Answers (spec.tables_of self.old) (D.legal self.old.runtime.driver) (Unit {0})
+            AnswersCommand (spec.tables_of self.old) (D.legal self.old.runtime.driver) (Unit {0})
             (spec.state_of self.old) (machine_command (spec.names_of self.old) command)
             reply (spec.state_of self.new)) }
         ensures same { spec.SameParts

@@ -14,7 +14,7 @@ use Rattle.cdi_run_tables.specs.declared.tables.RunTables.{RunTables}
 use Rattle.cdi_steps.specs.Asked.{method_at}
 use Rattle.cdi_steps.specs.Setting.{is_served}
 
-pub record Standing (Driving : Type 0) : Type 0 where
+pub record RuntimeParts (Driving : Type 0) : Type 0 where
   pub tables : RunTables
   pub driver : Driving
   pub world : World

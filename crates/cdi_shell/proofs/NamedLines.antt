@@ -19,7 +19,7 @@ use Rattle.cdi_run_tables.specs.Machine.{machine_tables}
 use Rattle.cdi_run_tables.specs.declared.tables.RunTables.{RunTables}
 use Rattle.cdi_container.specs.Missing.{Works}
 use Rattle.cdi_container.specs.Sessions.{AnswersLine, AnswersRead}
-use Rattle.cdi_container.specs.States.{State}
+use Rattle.cdi_container.specs.States.{ContainerState}
 use Rattle.cdi_container.specs.Thrown.{Replies}
 use Rattle.cdi_container.proofs.Thrown.{names_thrown}
 use Rattle.cdi_prepare.specs.Ready.{Readied}
@@ -55,20 +55,20 @@ served_in line found e = from_value served (or_bad (json_in line)) found e
 -- ---- the lines of a container
 
 module _ (names : List (List ℕ)) (tables : Tables) (legal : Legal) (told : (reply : Reply) → Replies names tables legal reply → TellsTrueName names reply) where
-  goes_on : (line : List ℕ) (c : Result Command BadLine) → command_in line ≡ c → (s t : State) (reply : Reply) → Works names tables legal s
+  goes_on : (line : List ℕ) (c : Result Command BadLine) → command_in line ≡ c → (s t : ContainerState) (reply : Reply) → Works names tables legal s
       → AnswersRead names tables legal (Unit {0}) c s reply t → Works names tables legal t
   goes_on line (Ok command) e s t reply works h = Works.answers command reply works (served_in line command e) h
   goes_on line (Err none) e s t reply works h = subst (λ u. Works names tables legal u) (sym h.1) (Works.refuses_line works)
 
-  tells : (line : List ℕ) (c : Result Command BadLine) → command_in line ≡ c → (s t : State) (reply : Reply) → Works names tables legal s
+  tells : (line : List ℕ) (c : Result Command BadLine) → command_in line ≡ c → (s t : ContainerState) (reply : Reply) → Works names tables legal s
       → AnswersRead names tables legal (Unit {0}) c s reply t → TellsTrueName names reply
   tells line (Ok command) e s t reply works h = told reply (Replies.to_command command reply works (served_in line command e) h)
   tells line (Err none) e s t reply works h = subst (λ r. TellsTrueName names r) (sym h.0) tt
 
-  keeps : (s : State) (line text : List ℕ) (t : State) → Works names tables legal s → AnswersLine names tables legal (Unit {0}) s line text t → Works names tables legal t
+  keeps : (s : ContainerState) (line text : List ℕ) (t : ContainerState) → Works names tables legal s → AnswersLine names tables legal (Unit {0}) s line text t → Works names tables legal t
   keeps s line text t works (reply, h, is) = goes_on line (command_in line) refl s t reply works h
 
-  by_name : (s : State) (line text : List ℕ) (t : State) → Works names tables legal s → AnswersLine names tables legal (Unit {0}) s line text t → AnswersByName names tables legal s line text t
+  by_name : (s : ContainerState) (line text : List ℕ) (t : ContainerState) → Works names tables legal s → AnswersLine names tables legal (Unit {0}) s line text t → AnswersByName names tables legal s line text t
   by_name s line text t works (reply, h, is) = (reply, h, is, tells line (command_in line) refl s t reply works h)
 
 lives_by_names : (depth ticks : ℕ) (t : RunTables) (legal : Legal) (streams : Streams) (ending : Ending)

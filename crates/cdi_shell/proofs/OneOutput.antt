@@ -18,7 +18,7 @@ use Rattle.cdi_machine.specs.Commands.{Command}
 use Rattle.cdi_machine.specs.Laws.{IsOne}
 use Rattle.cdi_machine.specs.Runs.{Legal}
 use Rattle.cdi_container.specs.Sessions.{AnswersLine, Served}
-use Rattle.cdi_container.specs.States.{State, Boots, before_start}
+use Rattle.cdi_container.specs.States.{ContainerState, Boots, before_start}
 use Rattle.cdi_script.specs.Next.{next_of}
 use Rattle.cdi_shell.specs.declared.ending.Ending.{Ending}
 use Rattle.cdi_shell.specs.declared.ending.Ending.TheVariants as endings
@@ -113,8 +113,8 @@ reach_one input _ _ _ _ (Reaches.too_long read rest byte is long) (Reaches.too_l
 -- what a container that lived as long as its input let it did
 record Whole (depth ticks : ℕ) (names : List (List ℕ)) (tables : machine.Tables) (legal : Legal) (input : List ℕ) (streams : Streams) (ending : Ending) : Type 0 where
   pub reply : Reply
-  pub started : State
-  pub ended : State
+  pub started : ContainerState
+  pub ended : ContainerState
   pub result : Result (Unit {0}) ServeFault
   pub lines : List (List ℕ)
   pub out : List ℕ
@@ -185,13 +185,13 @@ whole_one depth ticks names tables legal one input held s s' e e' h h' w w' =
     let reach = reach_one input w.result w'.result w.lines w'.lines w.reaches w'.reaches in
     let boot = answers_one names tables legal one Command.Boot (before_start ticks depth) w.reply w'.reply w.started w'.started w.boots w'.boots
     (λ q. w.fed (replies_halted names tables legal one w.lines w.started w.out w.ended w.replies q)) (λ q. w'.fed (replies_halted names tables legal one w'.lines w'.started w'.out w'.ended w'.replies q)) in
-    let there = subst (λ (m : State). Replies (AnswersLine names tables legal (Unit {0})) w.lines m w'.out w'.ended) (sym boot.state)
+    let there = subst (λ (m : ContainerState). Replies (AnswersLine names tables legal (Unit {0})) w.lines m w'.out w'.ended) (sym boot.state)
     (subst (λ (ls : List (List ℕ)). Replies (AnswersLine names tables legal (Unit {0})) ls w'.started w'.out w'.ended) (sym reach.lines_are) w'.replies) in
     let same = replies_one names tables legal one w.lines w.started w.out w'.out w.ended w'.ended w.replies there w.fed w'.fed in
     let bytes : reply_line names w.reply ++ w.out ≡ reply_line names w'.reply ++ w'.out = ap (λ (r : Reply). reply_line names r ++ w.out) boot.reply ∙ ap (λ (x : List ℕ). reply_line names w'.reply ++ x) same.text in
     record {
       held_after = appended_one held s.held s.held_after s'.held_after _ _ h bytes w.written (subst (λ (x : Option (List ℕ)). Appends x s'.held_after (reply_line names w'.reply ++ w'.out)) (h' ∙ sym h) w'.written);
-      ending = w.is_ending ∙ ap (λ (r : Result (Unit {0}) ServeFault). after_serving r w.ended.halted) reach.result ∙ ap (λ (t : State). after_serving w'.result t.halted) same.state ∙ sym w'.is_ending;
+      ending = w.is_ending ∙ ap (λ (r : Result (Unit {0}) ServeFault). after_serving r w.ended.halted) reach.result ∙ ap (λ (t : ContainerState). after_serving w'.result t.halted) same.state ∙ sym w'.is_ending;
     }
 
 module _ (depth ticks : ℕ) (input held : List ℕ) (s s' : Streams) (e e' : Ending) (settled : IsSettled e) (settled' : IsSettled e')

@@ -15,7 +15,7 @@ use Rattle.cdi_machine.specs.Laws.{IsWithin}
 use Rattle.cdi_machine.proofs.Order.{wider}
 use Rattle.cdi_container.specs.Commands.{machine_command}
 use Rattle.cdi_container.specs.Sessions.{AnswersRead, AnswersLine}
-use Rattle.cdi_container.specs.States.{State, CarriesOut, Answers}
+use Rattle.cdi_container.specs.States.{ContainerState, CarriesOut, AnswersCommand}
 
 pub within_both : (a b c : Legal) → IsWithin a b → IsWithin b c → IsWithin a c
 within_both a b c p q = record {
@@ -28,13 +28,13 @@ module _ (names : List (List ℕ)) (tables : Tables) (small large : Legal) (more
   carried p w o v (CarriesOut.ends r) = CarriesOut.ends (wider tables small large more p w v o r)
   carried p w _ v (CarriesOut.starves s r) = CarriesOut.starves s (wider tables small large more p w v (Cut causes.Memory) r)
 
-  pub answers_more : (s : State) (c : Command) (reply : Reply) (t : State) → Answers tables small (Unit {0}) s c reply t → Answers tables large (Unit {0}) s c reply t
-  answers_more s c reply t (Answers.refuses r e is stays) = Answers.refuses r e is stays
-  answers_more s c reply t (Answers.carries_out o e k halts is) = Answers.carries_out o e (carried _ _ o t.world k) halts is
+  pub answers_more : (s : ContainerState) (c : Command) (reply : Reply) (t : ContainerState) → AnswersCommand tables small (Unit {0}) s c reply t → AnswersCommand tables large (Unit {0}) s c reply t
+  answers_more s c reply t (AnswersCommand.refuses r e is stays) = AnswersCommand.refuses r e is stays
+  answers_more s c reply t (AnswersCommand.carries_out o e k halts is) = AnswersCommand.carries_out o e (carried _ _ o t.world k) halts is
 
-  read_more : (c : Result Read BadLine) (s : State) (reply : Reply) (t : State) → AnswersRead names tables small (Unit {0}) c s reply t → AnswersRead names tables large (Unit {0}) c s reply t
+  read_more : (c : Result Read BadLine) (s : ContainerState) (reply : Reply) (t : ContainerState) → AnswersRead names tables small (Unit {0}) c s reply t → AnswersRead names tables large (Unit {0}) c s reply t
   read_more (Ok command) s reply t h = answers_more s (machine_command names command) reply t h
   read_more (Err bad) s reply t h = h
 
-  pub line_more : (s : State) (line text : List ℕ) (t : State) → AnswersLine names tables small (Unit {0}) s line text t → AnswersLine names tables large (Unit {0}) s line text t
+  pub line_more : (s : ContainerState) (line text : List ℕ) (t : ContainerState) → AnswersLine names tables small (Unit {0}) s line text t → AnswersLine names tables large (Unit {0}) s line text t
   line_more s line text t (reply, h, is) = (reply, read_more (command_in line) s reply t h, is)

@@ -18,7 +18,7 @@ use Rattle.cdi_container.specs.Accepted.{serves}
 use Rattle.cdi_container.specs.declared.acceptance.Unaccepted.{Unaccepted}
 use Rattle.cdi_container.specs.declared.acceptance.Unaccepted.TheVariants as reasons
 use Rattle.cdi_container.specs.Sessions.{AnswersLine, Served}
-use Rattle.cdi_container.specs.States.{State, Boots}
+use Rattle.cdi_container.specs.States.{ContainerState, Boots}
 use Rattle.cdi_shell.specs.declared.ending.Ending.{Ending}
 use Rattle.cdi_lines.specs.declared.fault.ServeFault.{ServeFault}
 use Rattle.cdi_lines.specs.declared.sink.WriteFailed.{WriteFailed}
@@ -75,8 +75,8 @@ pub record IsSilent (streams : Streams) (ending : Ending) : Type 0 where
 pub record Lives (depth ticks : ℕ) (t : RunTables) (legal : Legal) (streams : Streams)
     (ending : Ending) : Type 0 where
   pub reply : Reply
-  pub started : State
-  pub ended : State
+  pub started : ContainerState
+  pub ended : ContainerState
   pub result : Result (Unit {0}) ServeFault
   pub boots : Boots (machine_tables t) legal (Unit {0}) ticks depth reply started
   pub served : Served 16777216 (AnswersLine t.deployment.names (machine_tables t) legal (Unit {0}))

@@ -16,7 +16,7 @@ use Rattle.cdi_problems.specs.Places.{name_text}
 use Rattle.cdi_text.specs.ReplyText.{reply_line}
 use Rattle.cdi_container.specs.Accepted.{IsAccepted}
 use Rattle.cdi_container.specs.Sessions.{AnswersRead, Served}
-use Rattle.cdi_container.specs.States.{State}
+use Rattle.cdi_container.specs.States.{ContainerState}
 use Rattle.cdi_container.specs.Thrown.{Replies}
 use Rattle.cdi_shell.specs.declared.ending.Ending.{Ending}
 use Rattle.cdi_shell.specs.Drive.{AreTablesWith, Lives, Streams, legal_by, readied}
@@ -38,7 +38,7 @@ TellsTrueNames entries =
 -- ---- the lines of a run
 
 -- a line is answered by the line of a reply, and this tells its exception, if it has one, by a name
-abbrev pub AnswersByName : List (List ℕ) → Tables → Legal → State → List ℕ → List ℕ → State → Type 0
+abbrev pub AnswersByName : List (List ℕ) → Tables → Legal → ContainerState → List ℕ → List ℕ → ContainerState → Type 0
 AnswersByName names tables legal s line text t =
     (reply : Reply) × AnswersRead names tables legal (Unit {0}) (command_in line) s reply t
     × (text ≡ reply_line names reply) × TellsTrueName names reply

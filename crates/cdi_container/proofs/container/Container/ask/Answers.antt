@@ -4,7 +4,7 @@ use Rattle.cdi_steps.specs.Words.{command_of}
 use Rattle.cdi_runtime.specs.Refusals.{in_request}
 use Rattle.cdi_container.specs.Standing.{tables_of, state_of}
 use Rattle.cdi_container.specs.States.{machine_state}
-use Rattle.cdi_container.specs.States.Answers.{refuses}
+use Rattle.cdi_container.specs.States.AnswersCommand.{refuses}
 use Rattle.cdi_container.proofs.container.Container.ask.Goals as goal
 
 pub returns-in-Some-clause-answers : goal.returns-in-Some-clause-answers
