@@ -55,7 +55,7 @@ impl<D: Driver> Model for Container<D> {
     ghost view = { λ c. record { runtime = c.runtime; halted = c.halted; booted = c.booted } };
 }
 
-/// Carries a job out, with a trace of its own. It is cut if memory runs out, or if the driver has nothing to give.
+/// Carries a job out, with a trace of its own. It is cut if memory runs out, and a driver that ends cuts it in the same way.
 fn carry_out<D: Driver>(runtime: &mut Runtime<D>, job: Job) -> Outcome
     ensures carries { CarriesOut
         (spec.tables_in runtime.old) (D.legal runtime.old.driver) (Unit {0})

@@ -16,16 +16,16 @@ asked_once h = record h { asked = h.asked + 1 }
 abbrev pub with_told : Entry → Hearing → Hearing
 with_told e h = record h { told = h.told ++ e ∷ [] }
 
--- an act or a pick was asked for, any other entry was not
-abbrev pub asked_for : Entry → ℕ
-asked_for (entries.Did a) = 1
-asked_for (entries.Pick count choice) = 1
-asked_for _ = 0
+-- an act and a pick are answers of a driver, and no other entry
+abbrev pub answers_of : Entry → ℕ
+answers_of (entries.Did a) = 1
+answers_of (entries.Pick count choice) = 1
+answers_of _ = 0
 
--- how many of the entries were asked for
+-- how many of the entries are such answers
 abbrev pub answers_in : List Entry → ℕ
 answers_in [] = 0
-answers_in (e ∷ es) = asked_for e + answers_in es
+answers_in (e ∷ es) = answers_of e + answers_in es
 
 -- behind these entries
 abbrev pub after : Hearing → List Entry → Hearing

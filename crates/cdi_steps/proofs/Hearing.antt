@@ -8,7 +8,7 @@ use Rattle.cdi_machine.specs.declared.driver.Failure.{Failure}
 use Rattle.cdi_machine.specs.declared.driver.Failure.TheVariants.{Memory, Exhausted}
 use Rattle.cdi_machine.specs.Failures.{IsFailureOf}
 use Rattle.cdi_machine.specs.World.{World, with_entry}
-use Rattle.cdi_machine.specs.Hearing.{Ending, IsAsked, IsTold, asked_once, asked_for, after}
+use Rattle.cdi_machine.specs.Hearing.{Ending, IsAsked, IsTold, asked_once, answers_of, after}
 use Rattle.cdi_machine.proofs.Hearings.{told_once, answered_once, asked_behind}
 use Rattle.cdi_steps.specs.Setting.{Setting, IsSilent}
 use Rattle.cdi_steps.specs.Leads.{Written, Spent}
@@ -29,11 +29,11 @@ pub hears_on : {r s t : Setting} {w u v : World} → Hears r w s u → IsSilent 
 hears_on a i q = hears_trans a (hears_same i q)
 
 -- an entry that was not asked for
-pub hears_entry : {s t : Setting} {w v : World} (e : Entry) → asked_for e ≡ 0 → v ≡ with_entry e w → IsTold e s.heard t.heard → Hears s w t v
+pub hears_entry : {s t : Setting} {w v : World} (e : Entry) → answers_of e ≡ 0 → v ≡ with_entry e w → IsTold e s.heard t.heard → Hears s w t v
 hears_entry {w = w} e none n l = record { heard = λ h x. rw (n, ← told_once h w.trace e none) (l.heard (after h w.trace) x) }
 
 -- one that was
-pub hears_answer : (r s t : Setting) {w v : World} {e : Entry} → asked_for e ≡ 1 → IsAsked r.heard s.heard → IsTold e s.heard t.heard → Written e w v → Hears r w t v
+pub hears_answer : (r s t : Setting) {w v : World} {e : Entry} → answers_of e ≡ 1 → IsAsked r.heard s.heard → IsTold e s.heard t.heard → Written e w v → Hears r w t v
 hears_answer r s t {w = w} {e = e} one a l n = record { heard = λ h x. rw (n.world, ← answered_once h w.trace e one) (l.heard (asked_once (after h w.trace)) (a.heard (after h w.trace) x)) }
 
 -- one for which the budget has no room
