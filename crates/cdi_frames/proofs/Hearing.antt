@@ -6,7 +6,7 @@ use Rattle.cdi_machine.specs.declared.driver.Failure.{Failure}
 use Rattle.cdi_machine.specs.declared.driver.Failure.TheVariants.{Memory}
 use Rattle.std.specs.Result.{IsErr, IsErrAnd}
 use Rattle.cdi_machine.specs.World.{World}
-use Rattle.cdi_machine.specs.Hearing.{Hearing, asked_once, after}
+use Rattle.cdi_machine.specs.Hearing.{Hearing, with_asking, after}
 use Rattle.cdi_machine.proofs.Hearings.{asked_behind}
 use Rattle.cdi_steps.specs.Setting.{Setting}
 use Rattle.cdi_steps.specs.Hearing.{Hears, HearsNext, HasFailed, IsCut}
@@ -38,7 +38,7 @@ some_until : (Cut : Type 0) (s : Setting) (w : World) (h : Hearing) → HeardUnt
 some_until Cut s w h x =
     elim x [
       | inl b ↦ record { hearing = h; told = refl; heard = b }
-      | inr m ↦ record { hearing = asked_once h; told = refl; heard = rw (asked_behind h w.trace) m.1.heard }
+      | inr m ↦ record { hearing = with_asking h; told = refl; heard = rw (asked_behind h w.trace) m.1.heard }
     ]
 
 some_at : (d : Pending) (s : Setting) (w : World) (h : Hearing) → HeardAt d s w h → HeardSome s w h
@@ -76,7 +76,7 @@ passed s t w v (outcomes.Cut cause) next l p h x =
     elim x [
       | inl b ↦ heard_at t v h (pending_for next) (l.heard h b)
       | inr m ↦ let more = m.1 in
-          let still : t.heard (asked_once (after h v.trace)) = rw (← asked_behind h v.trace) (l.heard (asked_once h) (rw (asked_behind h w.trace) more.heard)) in
+          let still : t.heard (with_asking (after h v.trace)) = rw (← asked_behind h v.trace) (l.heard (with_asking h) (rw (asked_behind h w.trace) more.heard)) in
           let full : v.ticks ≤ length v.trace = rw p.1 more.full in
           rw p.0 (inr (tt, record { heard = still; full = full }))
     ]
@@ -105,7 +105,7 @@ next_starves : (s t : Setting) (w v : World) (next : Next) → HearsNext s w nex
 next_starves s t w v next x =
     elim x [
       | inl l ↦ HasFailed.starves (λ h b. (after h v.trace, l.heard h b))
-      | inr m ↦ let more = m.1 in HasFailed.starves (λ h b. (asked_once (after h v.trace), more.heard h b))
+      | inr m ↦ let more = m.1 in HasFailed.starves (λ h b. (with_asking (after h v.trace), more.heard h b))
     ]
 
 -- a step that had no memory for what waits

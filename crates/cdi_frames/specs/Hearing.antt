@@ -1,7 +1,7 @@
 -- What the driver has been through between two steps of a run.
 use Rattle.std.specs.Prelude.{◌≡◌, ◌≤◌, ◌⊎◌, length}
 use Rattle.cdi_machine.specs.World.{World}
-use Rattle.cdi_machine.specs.Hearing.{Hearing, asked_once, after}
+use Rattle.cdi_machine.specs.Hearing.{Hearing, with_asking, after}
 use Rattle.cdi_steps.specs.Setting.{Setting}
 use Rattle.cdi_steps.specs.Hearing.{IsCut}
 use Rattle.cdi_steps.specs.declared.task.Outcome.{Outcome}
@@ -16,7 +16,7 @@ use Rattle.cdi_frames.specs.declared.stack.Turn.TheVariants as turns
 
 -- an act or a pick was asked for that is not written, since the budget had no room
 pub record HeardMore (s : Setting) (w : World) (h : Hearing) : Type 0 where
-  pub heard : s.heard (asked_once (after h w.trace))
+  pub heard : s.heard (with_asking (after h w.trace))
   pub full : w.ticks ≤ length w.trace
 
 -- what is written was told, and as many acts and picks were asked for; only a cut may have come in between

@@ -6,7 +6,7 @@ use Rattle.std.specs.Result.{IsErrAnd}
 use Rattle.cdi_base.specs.declared.entry.Entry.{Entry}
 use Rattle.cdi_machine.specs.declared.driver.Failure.{Failure}
 use Rattle.cdi_machine.specs.declared.driver.Failure.TheVariants.{Memory}
-use Rattle.cdi_machine.specs.Hearing.{Hearing, GoesOn, asked_once, with_told, answers_of, answers_in, after}
+use Rattle.cdi_machine.specs.Hearing.{Hearing, GoesOn, with_asking, with_told, answers_of, answers_in, after}
 
 -- a driver that has not changed has not ended
 pub goes_on_self : {before : Hearing → Type 0} → GoesOn before before
@@ -22,7 +22,7 @@ answers_behind [] e = omega arith
 answers_behind (d ∷ es) e = let h = answers_behind es e in omega (arith, h)
 
 -- asked once more before the entries, or behind them
-pub asked_behind : (h : Hearing) (es : List Entry) → after (asked_once h) es ≡ asked_once (after h es)
+pub asked_behind : (h : Hearing) (es : List Entry) → after (with_asking h) es ≡ with_asking (after h es)
 asked_behind h es =
     let a : h.asked + 1 + answers_in es ≡ h.asked + answers_in es + 1 = omega arith in
     rw a refl
@@ -36,7 +36,7 @@ module _ (h : Hearing) (es : List Entry) (e : Entry) where
       rw (a, t) refl
 
   -- one that was asked for
-  pub answered_once : answers_of e ≡ 1 → with_told e (asked_once (after h es)) ≡ after h (es ++ e ∷ [])
+  pub answered_once : answers_of e ≡ 1 → with_told e (with_asking (after h es)) ≡ after h (es ++ e ∷ [])
   answered_once one =
       let a : h.asked + answers_in es + 1 ≡ h.asked + answers_in (es ++ e ∷ []) = omega (arith, answers_behind es e, one) in
       let t : (h.told ++ es) ++ e ∷ [] ≡ h.told ++ (es ++ e ∷ []) = append_assoc h.told es (e ∷ []) in

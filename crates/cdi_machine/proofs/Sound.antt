@@ -13,7 +13,7 @@ use Rattle.cdi_machine.specs.Machine.{machine}
 use Rattle.cdi_machine.specs.Runs.{Outcome, Ends, Cut, Runs}
 use Rattle.cdi_machine.specs.World.{at_begin}
 use Rattle.cdi_machine.specs.Commands.{Command, task}
-use Rattle.cdi_machine.specs.Container.{State, Said, shown, refusal, Answers, Plays}
+use Rattle.cdi_machine.specs.Container.{State, Said, shown_entries, refusal, Answers, Plays}
 use Rattle.cdi_machine.specs.Evaluator.{Performance, legal_in, Came, after_task, after_entry, steps, exec, evaluation, saying, answer_by, answer, performance}
 
 is_less : (a b : ℕ) → nat_lt a b ≡ true → a < b
@@ -98,7 +98,7 @@ module _ (s : Performance) where
   went n c cs u (Some (r, t)) xs h then e =
       elim (performance s n t cs) as (λ m. performance s n t cs ≡ m → saying s t r m ≡ Some xs → Plays s.tables (legal_in s) u (c ∷ cs) xs) [
         | None ↦ λ k q. absurd (cc)
-        | Some ys ↦ λ k q. let f : record { entries = shown t; reply = r } ∷ ys ≡ xs = cc in subst (λ zs. Plays s.tables (legal_in s) u (c ∷ cs) zs) f (Plays.goes_on (answers n c u r t h) (then t ys k))
+        | Some ys ↦ λ k q. let f : record { entries = shown_entries t; reply = r } ∷ ys ≡ xs = cc in subst (λ zs. Plays s.tables (legal_in s) u (c ∷ cs) zs) f (Plays.goes_on (answers n c u r t h) (then t ys k))
       ] refl e
 
   -- what is played by computing is played

@@ -31,8 +31,8 @@ abbrev pub before_commands : ℕ → ℕ → State
 before_commands ticks depth = idle_state (before_boot ticks depth) false
 
 -- the entries that are shown
-abbrev pub shown : State → List Entry
-shown s = drop s.shown_from s.world.trace
+abbrev pub shown_entries : State → List Entry
+shown_entries s = drop s.shown_from s.world.trace
 
 -- ---- refusals
 
@@ -147,4 +147,4 @@ pub data Plays (tables : Tables) (legal : Legal) : State → List Command → Li
   ends : {s : State} → Plays tables legal s [] []
   goes_on : {s t : State} {c : Command} {r : Reply} {cs : List Command} {said : List Said}
       → Answers tables legal s c r t → Plays tables legal t cs said
-      → Plays tables legal s (c ∷ cs) (record { entries = shown t; reply = r } ∷ said)
+      → Plays tables legal s (c ∷ cs) (record { entries = shown_entries t; reply = r } ∷ said)

@@ -15,7 +15,7 @@ use Rattle.cdi_machine.specs.Programs.{Task, Given, Completion, Gave, Threw, Pro
 use Rattle.cdi_machine.specs.Machine.{machine}
 use Rattle.cdi_machine.specs.World.{at_begin}
 use Rattle.cdi_machine.specs.Commands.{Command, task}
-use Rattle.cdi_machine.specs.Container.{State, Said, shown, refusal, reply_to, state_after, after_refusal}
+use Rattle.cdi_machine.specs.Container.{State, Said, shown_entries, refusal, reply_to, state_after, after_refusal}
 use Rattle.cdi_machine.specs.Runs.{Legal, Outcome, Ends, Cut}
 
 -- a body's act by its number, the entries so far, the fields and the view; of so many candidates, after so many entries, one
@@ -78,7 +78,7 @@ module _ (s : Performance) where
 
   abbrev pub saying : State → Reply → Option (List Said) → Option (List Said)
   saying t r None = None
-  saying t r (Some more) = Some (record { entries = shown t; reply = r } ∷ more)
+  saying t r (Some more) = Some (record { entries = shown_entries t; reply = r } ∷ more)
 
   abbrev pub answer_by : ℕ → Command → State → Option Refusal → Came → Option (Reply × State)
   answer_by n c u (Some r) came = Some (replies.Refused r, after_refusal u)

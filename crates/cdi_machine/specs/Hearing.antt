@@ -10,8 +10,8 @@ pub record Hearing : Type 0 where
   pub asked : ℕ
   pub told : List Entry
 
-abbrev pub asked_once : Hearing → Hearing
-asked_once h = record h { asked = h.asked + 1 }
+abbrev pub with_asking : Hearing → Hearing
+with_asking h = record h { asked = h.asked + 1 }
 
 abbrev pub with_told : Entry → Hearing → Hearing
 with_told e h = record h { told = h.told ++ e ∷ [] }
@@ -33,7 +33,7 @@ after h es = record { asked = h.asked + answers_in es; told = h.told ++ es }
 
 -- what it may have been through, before and then: it was asked once
 pub record IsAsked (before then : Hearing → Type 0) : Type 0 where
-  pub heard : (h : Hearing) → before h → then (asked_once h)
+  pub heard : (h : Hearing) → before h → then (with_asking h)
 
 -- it was told an entry
 pub record IsTold (e : Entry) (before then : Hearing → Type 0) : Type 0 where

@@ -8,7 +8,7 @@ use Rattle.cdi_machine.specs.declared.driver.Failure.{Failure}
 use Rattle.cdi_machine.specs.declared.driver.Failure.TheVariants.{Memory, Exhausted}
 use Rattle.cdi_machine.specs.Failures.{IsFailureOf}
 use Rattle.cdi_machine.specs.World.{World, with_entry}
-use Rattle.cdi_machine.specs.Hearing.{Ending, IsAsked, IsTold, asked_once, answers_of, after}
+use Rattle.cdi_machine.specs.Hearing.{Ending, IsAsked, IsTold, with_asking, answers_of, after}
 use Rattle.cdi_machine.proofs.Hearings.{told_once, answered_once, asked_behind}
 use Rattle.cdi_steps.specs.Setting.{Setting, IsSilent}
 use Rattle.cdi_steps.specs.Leads.{Written, Spent}
@@ -34,13 +34,13 @@ hears_entry {w = w} e none n l = record { heard = λ h x. rw (n, ← told_once h
 
 -- one that was
 pub hears_answer : (r s t : Setting) {w v : World} {e : Entry} → answers_of e ≡ 1 → IsAsked r.heard s.heard → IsTold e s.heard t.heard → Written e w v → Hears r w t v
-hears_answer r s t {w = w} {e = e} one a l n = record { heard = λ h x. rw (n.world, ← answered_once h w.trace e one) (l.heard (asked_once (after h w.trace)) (a.heard (after h w.trace) x)) }
+hears_answer r s t {w = w} {e = e} one a l n = record { heard = λ h x. rw (n.world, ← answered_once h w.trace e one) (l.heard (with_asking (after h w.trace)) (a.heard (after h w.trace) x)) }
 
 -- one for which the budget has no room
 pub hears_more : (r s t : Setting) {w v : World} → IsAsked r.heard s.heard → IsSilent s t → Spent w v → HearsMore r w t v
 hears_more r s t {w} {v} a i f =
     record {
-      heard = λ h x. rw f.world ((i.heard (asked_once (after h w.trace))).1 (a.heard (after h w.trace) x));
+      heard = λ h x. rw f.world ((i.heard (with_asking (after h w.trace))).1 (a.heard (after h w.trace) x));
       full = rw f.world f.full;
     }
 
@@ -62,9 +62,9 @@ failed_later r s t w u v (Err f) l h = failed_after l h
 -- a driver that was asked once more
 pub failed_asked : {r s t : Setting} {w u v : World} {f : Failure} → IsAsked r.heard s.heard → u ≡ w → HasFailed s u t v f → HasFailed r w t v f
 failed_asked {w = w} l same (HasFailed.starves g) =
-    HasFailed.starves (λ h x. g (asked_once h) (rw (same, asked_behind h w.trace) (l.heard (after h w.trace) x)))
+    HasFailed.starves (λ h x. g (with_asking h) (rw (same, asked_behind h w.trace) (l.heard (after h w.trace) x)))
 failed_asked {w = w} l same (HasFailed.ends reason g) =
-    HasFailed.ends reason (λ h x. let k = g (asked_once h) (rw (same, asked_behind h w.trace) (l.heard (after h w.trace) x)) in
+    HasFailed.ends reason (λ h x. let k = g (with_asking h) (rw (same, asked_behind h w.trace) (l.heard (after h w.trace) x)) in
     record { hearing = k.hearing; told = k.told; ended = k.ended })
 
 -- what a `?` makes of a failure
@@ -81,6 +81,6 @@ silent_fails w v q i h = memory_fails {u = w} v q (hears_same i refl) h
 
 -- and if it was asked before
 pub asked_fails : {A : Type 0} (s t : Setting) (w v : World) (q : Either A Failure) → IsAsked s.heard t.heard → IsErr q × IsErrAnd q (λ f. f ≡ Memory) → IfErr q (HasFailed s w t v)
-asked_fails s t w v q l h = passed_on q (HasFailed.starves (λ h x. (asked_once (after h w.trace), l.heard (after h w.trace) x))) h
+asked_fails s t w v q l h = passed_on q (HasFailed.starves (λ h x. (with_asking (after h w.trace), l.heard (after h w.trace) x))) h
 
 pub ruleset hears = (hears_same, hears_self, hears_trans, hears_on, failed_as, failed_after, failed_later, memory_fails, silent_fails)

@@ -5,7 +5,7 @@ use Rattle.cdi_base.specs.declared.entry.Entry.{Entry}
 use Rattle.cdi_machine.specs.declared.driver.Failure.{Failure}
 use Rattle.cdi_machine.specs.declared.driver.Failure.TheVariants.{Memory, Exhausted}
 use Rattle.cdi_machine.specs.World.{World, instance_at}
-use Rattle.cdi_machine.specs.Hearing.{Hearing, Ending, IsTold, asked_once, after}
+use Rattle.cdi_machine.specs.Hearing.{Hearing, Ending, IsTold, with_asking, after}
 use Rattle.cdi_machine.specs.Hearing.Ending.{ActAsked}
 use Rattle.cdi_steps.specs.Setting.{Setting, IsSilent}
 use Rattle.cdi_steps.specs.Asked.{fields_in}
@@ -25,7 +25,7 @@ pub record Hears (s : Setting) (w : World) (t : Setting) (v : World) : Type 0 wh
 
 -- one more was asked for, and the budget had no room for it
 pub record HearsMore (s : Setting) (w : World) (t : Setting) (v : World) : Type 0 where
-  pub heard : (h : Hearing) → s.heard (after h w.trace) → t.heard (asked_once (after h v.trace))
+  pub heard : (h : Hearing) → s.heard (after h w.trace) → t.heard (with_asking (after h v.trace))
   pub full : v.ticks ≤ length v.trace
 
 abbrev pub IsCut : Outcome → Type 0

@@ -8,7 +8,7 @@ use Rattle.cdi_base.specs.declared.reply.Refusal.TheVariants as refusals
 use Rattle.cdi_machine.specs.Tables.{Tables}
 use Rattle.cdi_machine.specs.World.{before_boot, with_entry}
 use Rattle.cdi_machine.specs.Commands.{Command}
-use Rattle.cdi_machine.specs.Container.{State, Said, Plays, shown, refusal, after_refusal}
+use Rattle.cdi_machine.specs.Container.{State, Said, Plays, shown_entries, refusal, after_refusal}
 use Rattle.cdi_machine.specs.Deployments.{of_type, first_chosen, played_by, tables_of}
 use Rattle.cdi_machine.specs.Evaluator.{legal_in}
 use Rattle.cdi_machine.specs.Worked.Startup.{deployment}
@@ -69,4 +69,4 @@ with_written e s = record s { world = with_entry e s.world }
 -- what that writes later is shown
 abbrev pub later_entries_are_shown : Type 0
 later_entries_are_shown =
-    shown (with_written (entries.End 2) (after_refusal busy_state)) ≡ entries.End 2 ∷ []
+    shown_entries (with_written (entries.End 2) (after_refusal busy_state)) ≡ entries.End 2 ∷ []
