@@ -8,7 +8,7 @@ use Rattle.cdi_machine.specs.Tables.{Tables}
 use Rattle.cdi_machine.specs.World.{World, at_begin, before_boot}
 use Rattle.cdi_container.specs.Commands.{machine_command}
 use Rattle.cdi_container.specs.Missing.{Works}
-use Rattle.cdi_container.specs.Resting.{RestsBetween}
+use Rattle.cdi_container.specs.Resting.{NothingRuns}
 use Rattle.cdi_container.specs.States.{State, Answers, CarriesOut, cause_of}
 use Rattle.cdi_container.proofs.Missing.{works_on}
 
@@ -35,5 +35,5 @@ module _ (tables : Tables) (legal : Legal) (rests : Rests tables legal) where
       carried c s.world t.world o (at_rest names s works (works_on tables s c e)) k (sym halts ∙ none)
   at_rest names t (Works.refuses_line {s = s} works) none = begun s.world (at_rest names s works none)
 
-  pub rests_between : RestsBetween tables legal
-  rests_between = at_rest
+  pub nothing_runs : NothingRuns tables legal
+  nothing_runs = at_rest

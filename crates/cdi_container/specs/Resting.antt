@@ -7,7 +7,7 @@ use Rattle.cdi_container.specs.Missing.{Works}
 use Rattle.cdi_container.specs.States.{State}
 
 -- so in each state from its start on, unless it is halted
-abbrev pub RestsBetween : Tables → Legal → Type 0
-RestsBetween tables legal =
+abbrev pub NothingRuns : Tables → Legal → Type 0
+NothingRuns tables legal =
     (names : List (List ℕ)) (s : State) → Works names tables legal s → s.halted ≡ None
     → IsAtRest s.world

@@ -10,7 +10,7 @@ ghost use Rattle.cdi_container.specs.Accepted.{IsAccepted};
 ghost use Rattle.cdi_container.specs.History.{KeepsOrder};
 ghost use Rattle.cdi_container.specs.Missing.{NoneMissed};
 ghost use Rattle.cdi_container.specs.OnItsWay.{AlwaysAnswers, StaysOnItsWay};
-ghost use Rattle.cdi_container.specs.Resting.{RestsBetween};
+ghost use Rattle.cdi_container.specs.Resting.{NothingRuns};
 ghost use Rattle.cdi_container.specs.Thrown.{NamesThrown};
 ghost use Rattle.cdi_container.specs.Traces.{TraceTells};
 
@@ -78,10 +78,10 @@ pub fn law_on_its_way<D: Driver>(driver: &D, bodies: &Bodies)
     machine::law_on_its_way(driver, bodies);
 }
 
-/// In each state that a container comes to, after its start, commands and lines that are none, nothing is running unless it
+/// From its start on, behind commands that are served and lines that are none, nothing is running in a container unless it
 /// has halted: no invocation is under way, no instance has a running body, and nothing is borrowed.
 pub fn law_nothing_runs<D: Driver>(driver: &D)
-    ensures { (tables : Tables) → RestsBetween tables (D.legal driver.now) }
+    ensures { (tables : Tables) → NothingRuns tables (D.legal driver.now) }
 {
     machine::law_rests(driver);
 }
