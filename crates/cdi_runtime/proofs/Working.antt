@@ -6,7 +6,8 @@ use Rattle.cdi_bodies.specs.declared.chooser.Chooser.{Chooser}
 use Rattle.cdi_bodies.specs.declared.entry.Entry.{Entry}
 use Rattle.cdi_machine.specs.Registered.{chosen_by, legal_of}
 use Rattle.cdi_machine.specs.Tables as machine
-use Rattle.cdi_machine.specs.World.{World, Invocation}
+use Rattle.cdi_base.specs.declared.entry.Entry.{Entry as Written}
+use Rattle.cdi_machine.specs.World.{World, Invocation, with_entry}
 use Rattle.cdi_machine.specs.Runs.{Legal}
 use Rattle.cdi_machine.specs.Laws.{IsWithin}
 use Rattle.cdi_run_tables.specs.Machine.{machine_tables}
@@ -32,6 +33,10 @@ module _ {IsBody Other : ℕ → Type 0} {small large : Legal} (f : (body : ℕ)
 
   pub still_working : (t : RunTables) (w : World) → IsWorking IsBody large t w → IsWorking Other small t w
   still_working t w h = record { knows = still_knows (machine_tables t) h.knows; servable = h.servable; invoked = still_invoked w.invocations h.invoked }
+
+-- an entry that is written makes no difference
+pub working_written : {IsBody : ℕ → Type 0} {legal : Legal} (e : Written) (t : RunTables) (w : World) → IsWorking IsBody legal t w → IsWorking IsBody legal t (with_entry e w)
+working_written e t w h = record { knows = h.knows; servable = h.servable; invoked = h.invoked }
 
 -- which candidate the chooser picks makes no difference
 pub chosen_knows : {X : Type 0} {F : X → Type 0} {g : _} {Y : Type 0} {G : Y → Type 0} {h : _} (entries : List (Entry X F g)) (chooser : Chooser Y G h) (t : machine.Tables)
