@@ -9,7 +9,12 @@ fn answers(alloc: Global, words: &[&str], scene: &Scene) -> Result<String, Alloc
     match words {
         ["jobs", words @ ..] => {
             let deployment = scene.whole_deployment(alloc)?;
-            report(alloc, words, deployment.as_str().as_bytes(), scene.input.as_str())
+            report(
+                alloc,
+                words,
+                deployment.as_str().as_bytes(),
+                scene.input.as_str(),
+            )
         }
         _ => String::from_str(alloc, "no such run\n"),
     }
