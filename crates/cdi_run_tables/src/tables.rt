@@ -76,16 +76,17 @@ fn method_named(methods: &[BusinessMethod], ids: &BodyIds, name: Name) -> Option
         (at (spec.machine_methods (id_in ids.now) methods.now) name) }
 {
     for method in methods {
+        if method.name != name {
+            continue;
+        }
         let Some(body) = ids.id(method.code.body) else {
             continue;
         };
-        if name == method.name {
-            return Some(Method {
-                place: method.code.place,
-                count: method.count,
-                body,
-            });
-        }
+        return Some(Method {
+            place: method.code.place,
+            count: method.count,
+            body,
+        });
     }
     None
 }
