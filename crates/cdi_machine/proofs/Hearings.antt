@@ -6,10 +6,10 @@ use Rattle.std.specs.Result.{IsErrAnd}
 use Rattle.cdi_base.specs.declared.entry.Entry.{Entry}
 use Rattle.cdi_machine.specs.declared.driver.Failure.{Failure}
 use Rattle.cdi_machine.specs.declared.driver.Failure.TheVariants.{Memory}
-use Rattle.cdi_machine.specs.Hearing.{Hearing, GoesOn, asked_once, with_told, answers_of, answers_in, after}
+use Rattle.cdi_machine.specs.Hearing.{Hearing, HasNotEnded, asked_once, with_told, answers_of, answers_in, after}
 
 -- a driver that has not changed has not ended
-pub goes_on_self : {before : Hearing → Type 0} → GoesOn before before
+pub goes_on_self : {before : Hearing → Type 0} → HasNotEnded before before
 goes_on_self = record { heard = λ h b. (h, b) }
 
 -- what a `?` makes of want of memory

@@ -40,7 +40,7 @@ pub record IsTold (e : Entry) (before then : Hearing → Type 0) : Type 0 where
   pub heard : (h : Hearing) → before h → then (with_told e h)
 
 -- it has not ended
-pub record GoesOn (before then : Hearing → Type 0) : Type 0 where
+pub record HasNotEnded (before then : Hearing → Type 0) : Type 0 where
   pub heard : (h : Hearing) → before h → (k : Hearing) × then k
 
 -- it has ended, after what it had been through
