@@ -17,31 +17,31 @@ use Rattle.cdi_steps.specs.declared.task.Task.{Task}
 use Rattle.cdi_steps.specs.declared.task.Next.{Next}
 use Rattle.cdi_steps.specs.declared.task.Next.TheVariants as nexts
 use Rattle.cdi_frames.specs.Stacks.{pending_for}
-use Rattle.cdi_frames.specs.Hearing.{HeardUntil, HeardAt, HearsTurn, HearsOutcome, PassesCut}
+use Rattle.cdi_frames.specs.Hearing.{HasHeardUntil, HasHeardAt, HearsTurn, HearsOutcome, PassesCut}
 use Rattle.cdi_frames.specs.declared.stack.Pending.{Pending}
 use Rattle.cdi_frames.specs.declared.stack.Pending.TheVariants as pendings
 use Rattle.cdi_frames.specs.declared.stack.Stack.{Stack}
 use Rattle.cdi_frames.specs.declared.stack.Turn.{Turn}
 use Rattle.cdi_frames.specs.declared.stack.Turn.TheVariants as turns
 
-heard_at : (s : Setting) (w : World) (h : Hearing) (d : Pending) → s.heard (after h w.trace) → HeardAt d s w h
+heard_at : (s : Setting) (w : World) (h : Hearing) (d : Pending) → s.heard (after h w.trace) → HasHeardAt d s w h
 heard_at s w h (pendings.Does t) b = b
 heard_at s w h (pendings.Gives o) b = inl b
 
 -- it has been through something in either case
-pub record HeardSome (s : Setting) (w : World) (h : Hearing) : Type 0 where
+pub record HasHeardSome (s : Setting) (w : World) (h : Hearing) : Type 0 where
   pub hearing : Hearing
   pub told : hearing.told ≡ h.told
   pub heard : s.heard (after hearing w.trace)
 
-some_until : (Cut : Type 0) (s : Setting) (w : World) (h : Hearing) → HeardUntil Cut s w h → HeardSome s w h
+some_until : (Cut : Type 0) (s : Setting) (w : World) (h : Hearing) → HasHeardUntil Cut s w h → HasHeardSome s w h
 some_until Cut s w h x =
     elim x [
       | inl b ↦ record { hearing = h; told = refl; heard = b }
       | inr m ↦ record { hearing = with_asking h; told = refl; heard = rw (asked_behind h w.trace) m.1.heard }
     ]
 
-some_at : (d : Pending) (s : Setting) (w : World) (h : Hearing) → HeardAt d s w h → HeardSome s w h
+some_at : (d : Pending) (s : Setting) (w : World) (h : Hearing) → HasHeardAt d s w h → HasHeardSome s w h
 some_at (pendings.Does t) s w h b = record { hearing = h; told = refl; heard = b }
 some_at (pendings.Gives o) s w h b = some_until (IsCut o) s w h b
 
@@ -57,7 +57,7 @@ pub next_later : (r s t : Setting) (w u v : World) (q : Either Next Failure) →
 next_later r s t w u v (Ok next) l h = inl (hears_trans l h)
 next_later r s t w u v (Err f) l h = h
 
-next_heard : (s t : Setting) (w v : World) (next : Next) → HearsNext s w next t v → (h : Hearing) → s.heard (after h w.trace) → HeardAt (pending_for next) t v h
+next_heard : (s t : Setting) (w v : World) (next : Next) → HearsNext s w next t v → (h : Hearing) → s.heard (after h w.trace) → HasHeardAt (pending_for next) t v h
 next_heard s t w v (nexts.Finished o) x h b =
     elim x [
       | inl l ↦ inl (l.heard h b)
@@ -70,7 +70,7 @@ pub does_hears : (s t : Setting) (a b : Stack) (p : Task) (next : Next) (w v : W
     → HearsTurn s a w (turns.Running b) t v
 does_hears s t a b p next w v e g x = record { heard = λ h y. rw g (next_heard s t w v next x h (rw e at y)) }
 
-passed : (s t : Setting) (w v : World) (o : Outcome) (next : Next) → Hears s w t v → PassesCut o w next v → (h : Hearing) → HeardUntil (IsCut o) s w h → HeardAt (pending_for next) t v h
+passed : (s t : Setting) (w v : World) (o : Outcome) (next : Next) → Hears s w t v → PassesCut o w next v → (h : Hearing) → HasHeardUntil (IsCut o) s w h → HasHeardAt (pending_for next) t v h
 passed s t w v (outcomes.Ends c) next l p h x = elim x [ inl b ↦ heard_at t v h (pending_for next) (l.heard h b) | inr m ↦ absurd m.0 ]
 passed s t w v (outcomes.Cut cause) next l p h x =
     elim x [
