@@ -69,6 +69,7 @@ what_is_found_belongs_to_the_finder_commands =
     Command.Call None (of_type H) g [] ∷
     Command.Call None (of_type H) g [] ∷
     Command.Live ∷
+    Command.Shutdown ∷
     []
 
 abbrev pub what_is_found_belongs_to_the_finder_said : List Said
@@ -108,9 +109,25 @@ what_is_found_belongs_to_the_finder_said =
           [];
       reply = replies.Value (values.Int (pos 8));
     }) ∷
-    (record { entries = []; reply = replies.Live (1 ∷ 2 ∷ 3 ∷ []) }) ∷ []
+    (record { entries = []; reply = replies.Live (1 ∷ 2 ∷ 3 ∷ []) }) ∷
+    (record {
+      entries =
+          of_container built_in.Shutdown ∷
+          of_context built_in.BeforeDestroyed (codes "ApplicationScoped") ∷
+          entries.End 1 ∷
+          entries.Pick 2 0 ∷
+          entries.End 2 ∷
+          entries.Gone 2 ∷
+          entries.End 3 ∷
+          entries.Gone 3 ∷
+          entries.Gone 1 ∷
+          of_context built_in.Destroyed (codes "ApplicationScoped") ∷
+          [];
+      reply = replies.Done;
+    }) ∷
+    []
 
--- each lookup makes an instance, which stays
+-- each lookup makes an instance, which stays, and is destroyed with the finder
 abbrev pub what_is_found_belongs_to_the_finder : Type 0
 what_is_found_belongs_to_the_finder =
     Shows deployment first_chosen 100000 32
