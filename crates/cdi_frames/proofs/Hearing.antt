@@ -8,7 +8,7 @@ use Rattle.std.specs.Result.{IsErr, IsErrAnd}
 use Rattle.cdi_machine.specs.World.{World}
 use Rattle.cdi_machine.specs.Hearing.{Hearing, with_asking, after}
 use Rattle.cdi_machine.proofs.Hearings.{asked_behind}
-use Rattle.cdi_steps.specs.Setting.{Setting}
+use Rattle.cdi_steps.specs.Setting.{Setting, Narrows}
 use Rattle.cdi_steps.specs.Hearing.{Hears, HearsNext, HasFailed, IsCut}
 use Rattle.cdi_steps.proofs.Hearing.{hears_trans, passed_on}
 use Rattle.cdi_steps.specs.declared.task.Outcome.{Outcome}
@@ -112,11 +112,11 @@ next_starves s t w v next x =
 pub next_fails : {A : Type 0} (s t : Setting) (w v : World) (next : Next) (q : Either A Failure) → HearsNext s w next t v → IsErr q × IsErrAnd q (λ f. f ≡ Memory) → IfErr q (HasFailed s w t v)
 next_fails s t w v next q x h = passed_on q (next_starves s t w v next x) h
 
-pub failed_turn : {r s t : Setting} {a b : Stack} {w u v : World} {f : Failure} → HearsTurn r a w (turns.Running b) s u → HasFailed s u t v f → HasFailed r w t v f
-failed_turn {r} {s} {t} {a} {b} {w} {u} l (HasFailed.starves g) =
+pub failed_turn : {r s t : Setting} {a b : Stack} {w u v : World} {f : Failure} → HearsTurn r a w (turns.Running b) s u → HasFailed s u t v f → Narrows r s → HasFailed r w t v f
+failed_turn {r} {s} {t} {a} {b} {w} {u} l (HasFailed.starves g) n =
     HasFailed.starves (λ h x. let z = some_at b.pending s u h (l.heard h (heard_at r w h a.pending x)) in g z.hearing z.heard)
-failed_turn {r} {s} {t} {a} {b} {w} {u} {v} l (HasFailed.ends reason g) =
-    HasFailed.ends reason (λ h x. let z = some_at b.pending s u h (l.heard h (heard_at r w h a.pending x)) in
+failed_turn {r} {s} {t} {a} {b} {w} {u} {v} l (HasFailed.ends reason may g) n =
+    HasFailed.ends reason (n.may_end may) (λ h x. let z = some_at b.pending s u h (l.heard h (heard_at r w h a.pending x)) in
     let k = g z.hearing z.heard in
     record { hearing = k.hearing; told = k.told ∙ ap (λ x. x ++ v.trace) z.told; ended = k.ended })
 

@@ -43,8 +43,9 @@ pub record IsTold (e : Entry) (before then : Hearing → Type 0) : Type 0 where
 pub record HasNotEnded (before then : Hearing → Type 0) : Type 0 where
   pub heard : (h : Hearing) → before h → (k : Hearing) × then k
 
--- it has ended, after what it had been through
-pub record HasEnded (before ended : Hearing → Type 0) : Type 0 where
+-- it has ended, after what it had been through, and was one that may end
+pub record HasEnded (MayEnd : Type 0) (before ended : Hearing → Type 0) : Type 0 where
+  pub may_end : MayEnd
   pub heard : (h : Hearing) → before h → ended h
 
 -- why a driver ended

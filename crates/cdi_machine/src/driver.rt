@@ -29,7 +29,7 @@ impl From<AllocError> for Failure {
 
 /// The acts of bodies, and the picks among candidates whose order is free. It is told each entry before it is written, and
 /// each time how many the command has so far, so that one driver can follow a recording. It may end at an act, a pick or an
-/// entry, and keeps for which of them. Nothing becomes legal by asking.
+/// entry, and keeps for which of them. Nothing becomes legal by asking, and a driver that can't end still can't.
 pub trait Driver {
     ghost use Rattle.std.specs.Prelude.{ℕ, ◌<◌, IfOk, IfErr};
     ghost use Rattle.cdi_machine.specs.Runs.{Legal};
@@ -44,6 +44,8 @@ pub trait Driver {
     ghost legal: { Self → Legal };
     /// It may have been asked for so many acts and picks, and told these entries.
     ghost heard: { Self → Hearing → Type 0 };
+    /// It may end, now or later.
+    ghost may_end: { Self → Type 0 };
     /// It has ended for this reason, and was asked and told as much before.
     ghost ended: { Self → Ending → Hearing → Type 0 };
 
@@ -59,9 +61,11 @@ pub trait Driver {
         ensures legal { IfOk result (λ act.
             (legal self.old).gives body entries fields.now view.now act) }
         ensures asked { IfOk result (λ act. IsAsked (heard self.old) (heard self.new)) }
-        ensures failed { IfErr result (IsFailureOf (heard self.old) (heard self.new)
+        ensures failed { IfErr result (IsFailureOf (may_end self.old)
+            (heard self.old) (heard self.new)
             (ended self.new (ActAsked body entries fields.now view.now))) }
         ensures stays { IsWithin (legal self.new) (legal self.old) }
+        ensures goes_on { may_end self.new → may_end self.old }
         ensures still_known { (other : ℕ) → knows self.old other → knows self.new other };
 
     /// One of two or more candidates.
@@ -70,17 +74,21 @@ pub trait Driver {
         ensures below { IfOk result (λ choice. choice < count) }
         ensures legal { IfOk result (λ choice. (legal self.old).picks count entries choice) }
         ensures asked { IfOk result (λ choice. IsAsked (heard self.old) (heard self.new)) }
-        ensures failed { IfErr result (IsFailureOf (heard self.old) (heard self.new)
+        ensures failed { IfErr result (IsFailureOf (may_end self.old)
+            (heard self.old) (heard self.new)
             (ended self.new (PickAsked count entries))) }
         ensures stays { IsWithin (legal self.new) (legal self.old) }
+        ensures goes_on { may_end self.new → may_end self.old }
         ensures still_known { (other : ℕ) → knows self.old other → knows self.new other };
 
     /// An entry is about to be written, behind so many others.
     fn tell(&mut self, entry: &Entry, entries: u64) -> Result<(), Failure>
         ensures told { IfOk result (λ done. IsTold entry.now (heard self.old) (heard self.new)) }
-        ensures failed { IfErr result (IsFailureOf (heard self.old) (heard self.new)
+        ensures failed { IfErr result (IsFailureOf (may_end self.old)
+            (heard self.old) (heard self.new)
             (ended self.new (Due entry.now))) }
         ensures stays { IsWithin (legal self.new) (legal self.old) }
+        ensures goes_on { may_end self.new → may_end self.old }
         ensures still_known { (other : ℕ) → knows self.old other → knows self.new other };
 }
 
@@ -100,6 +108,8 @@ impl Driver for Registered {
         chosen_by (entries_of registered.bodies) registered.chooser };
 
     ghost heard = { λ registered hearing. Unit {0} };
+
+    ghost may_end = { λ registered. ⊥ };
 
     ghost ended = { λ registered ending hearing. ⊥ };
 

@@ -10,7 +10,7 @@ use Rattle.cdi_machine.specs.Failures.{IsFailureOf}
 use Rattle.cdi_machine.specs.World.{World, with_entry}
 use Rattle.cdi_machine.specs.Hearing.{Ending, IsAsked, IsTold, with_asking, answers_of, after}
 use Rattle.cdi_machine.proofs.Hearings.{told_once, answered_once, asked_behind}
-use Rattle.cdi_steps.specs.Setting.{Setting, IsSilent}
+use Rattle.cdi_steps.specs.Setting.{Setting, Narrows, IsSilent}
 use Rattle.cdi_steps.specs.Leads.{Written, Spent}
 use Rattle.cdi_steps.specs.Hearing.{Hears, HearsMore, HasFailed}
 
@@ -46,25 +46,25 @@ hears_more r s t {w} {v} a i f =
 
 -- ---- failures
 
-pub failed_as : {s t : Setting} {w v : World} (reason : Ending) (f : Failure) → v ≡ w → IsFailureOf s.heard t.heard (t.ended reason) f → HasFailed s w t v f
+pub failed_as : {s t : Setting} {w v : World} (reason : Ending) (f : Failure) → v ≡ w → IsFailureOf s.may_end s.heard t.heard (t.ended reason) f → HasFailed s w t v f
 failed_as {w = w} reason Memory same g = HasFailed.starves (λ h x. g.heard (after h w.trace) x)
 failed_as {w = w} reason Exhausted same e =
-    HasFailed.ends reason (λ h x. record { hearing = after h w.trace; told = rw same refl; ended = e.heard (after h w.trace) x })
+    HasFailed.ends reason e.may_end (λ h x. record { hearing = after h w.trace; told = rw same refl; ended = e.heard (after h w.trace) x })
 
-pub failed_after : {r s t : Setting} {w u v : World} {f : Failure} → Hears r w s u → HasFailed s u t v f → HasFailed r w t v f
-failed_after l (HasFailed.starves g) = HasFailed.starves (λ h x. g h (l.heard h x))
-failed_after l (HasFailed.ends reason g) = HasFailed.ends reason (λ h x. g h (l.heard h x))
+pub failed_after : {r s t : Setting} {w u v : World} {f : Failure} → Hears r w s u → HasFailed s u t v f → Narrows r s → HasFailed r w t v f
+failed_after l (HasFailed.starves g) n = HasFailed.starves (λ h x. g h (l.heard h x))
+failed_after l (HasFailed.ends reason may g) n = HasFailed.ends reason (n.may_end may) (λ h x. g h (l.heard h x))
 
-pub failed_later : {A : Type 0} (r s t : Setting) (w u v : World) (q : Either A Failure) → Hears r w s u → IfErr q (HasFailed s u t v) → IfErr q (HasFailed r w t v)
-failed_later r s t w u v (Ok a) l h = h
-failed_later r s t w u v (Err f) l h = failed_after l h
+pub failed_later : {A : Type 0} (r s t : Setting) (w u v : World) (q : Either A Failure) → Hears r w s u → IfErr q (HasFailed s u t v) → Narrows r s → IfErr q (HasFailed r w t v)
+failed_later r s t w u v (Ok a) l h n = h
+failed_later r s t w u v (Err f) l h n = failed_after l h n
 
 -- a driver that was asked once more
-pub failed_asked : {r s t : Setting} {w u v : World} {f : Failure} → IsAsked r.heard s.heard → u ≡ w → HasFailed s u t v f → HasFailed r w t v f
-failed_asked {w = w} l same (HasFailed.starves g) =
+pub failed_asked : {r s t : Setting} {w u v : World} {f : Failure} → IsAsked r.heard s.heard → u ≡ w → HasFailed s u t v f → Narrows r s → HasFailed r w t v f
+failed_asked {w = w} l same (HasFailed.starves g) n =
     HasFailed.starves (λ h x. g (with_asking h) (rw (same, asked_behind h w.trace) (l.heard (after h w.trace) x)))
-failed_asked {w = w} l same (HasFailed.ends reason g) =
-    HasFailed.ends reason (λ h x. let k = g (with_asking h) (rw (same, asked_behind h w.trace) (l.heard (after h w.trace) x)) in
+failed_asked {w = w} l same (HasFailed.ends reason may g) n =
+    HasFailed.ends reason (n.may_end may) (λ h x. let k = g (with_asking h) (rw (same, asked_behind h w.trace) (l.heard (after h w.trace) x)) in
     record { hearing = k.hearing; told = k.told; ended = k.ended })
 
 -- what a `?` makes of a failure

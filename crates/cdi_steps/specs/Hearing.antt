@@ -51,10 +51,10 @@ pub record EndsAfter (t : Setting) (v : World) (reason : Ending) (h : Hearing) :
   pub told : hearing.told ≡ h.told ++ v.trace
   pub ended : t.ended reason hearing
 
--- memory ran out, and the driver has not ended; or it has
+-- memory ran out, and the driver has not ended; or it has, and was one that may
 pub data HasFailed (s : Setting) (w : World) (t : Setting) (v : World) : Failure → Type 0 where
   starves : ((h : Hearing) → s.heard (after h w.trace) → (k : Hearing) × t.heard k)
       → HasFailed s w t v Memory
-  ends : (reason : Ending)
+  ends : (reason : Ending) → s.may_end
       → ((h : Hearing) → s.heard (after h w.trace) → EndsAfter t v reason h)
       → HasFailed s w t v Exhausted

@@ -40,7 +40,7 @@ steps-preserved g c = record {
 
 pub returns-in_err-outcome-clause-failed : goal.returns-in_err-outcome-clause-failed
 returns-in_err-outcome-clause-failed g c =
-    passed_on c.from_residual.result (failed_turn c.steps.invariant.hears c.in_err-outcome.ensures.failed) c.from_residual.ensures
+    passed_on c.from_residual.result (failed_turn c.steps.invariant.hears c.in_err-outcome.ensures.failed c.steps.invariant.narrows) c.from_residual.ensures
 
 pub returns-in-Finished-clause-hears : goal.returns-in-Finished-clause-hears
 returns-in-Finished-clause-hears g c =

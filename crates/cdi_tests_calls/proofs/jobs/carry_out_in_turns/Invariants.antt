@@ -12,6 +12,7 @@ invariant-turns g l =
       legal = g.D.Driver.legal l.runtime.driver;
       knows = IsServedBody (g.D.Driver.knows l.runtime.driver) (g.D.Driver.legal l.runtime.driver);
       heard = g.D.Driver.heard l.runtime.driver;
+      may_end = g.D.Driver.may_end l.runtime.driver;
       ended = g.D.Driver.ended l.runtime.driver;
     })
     l.stack

@@ -29,7 +29,7 @@ returns-in_err-clone-clause-failed g c =
 
 pub returns-in_err-write-clause-failed : goal.returns-in_err-write-clause-failed
 returns-in_err-write-clause-failed g c =
-    passed_on c.from_residual-in_err-write.result (failed_asked c.in_ok-act.ensures.asked c.in_ok-act.ensures.world c.in_err-write.ensures.failed) c.from_residual-in_err-write.ensures
+    passed_on c.from_residual-in_err-write.result (failed_asked c.in_ok-act.ensures.asked c.in_ok-act.ensures.world c.in_err-write.ensures.failed c.in_ok-act.ensures.narrows) c.from_residual-in_err-write.ensures
 
 pub returns-clause-hears : goal.returns-clause-hears
 returns-clause-hears g c =
@@ -39,4 +39,4 @@ returns-clause-hears g c =
 pub returns-clause-failed : goal.returns-clause-failed
 returns-clause-failed g c =
     failed_later (g.H.Host.setting c.args.host.now) (g.H.Host.setting c.write.new.host) (g.H.Host.setting c.perform.new.host) (g.H.Host.world c.args.host.now) (g.H.Host.world c.write.new.host) (g.H.Host.world c.perform.new.host) c.perform.result
-    (hears_answer _ (g.H.Host.setting c.act.new.self) _ refl c.in_ok-act.ensures.asked (rw c.if-not-branch.false at c.in_ok-write.ensures.told) (rw (c.if-not-branch.false, c.in_ok-act.ensures.world) at c.in_ok-write.ensures.noted)) c.perform.ensures.failed
+    (hears_answer _ (g.H.Host.setting c.act.new.self) _ refl c.in_ok-act.ensures.asked (rw c.if-not-branch.false at c.in_ok-write.ensures.told) (rw (c.if-not-branch.false, c.in_ok-act.ensures.world) at c.in_ok-write.ensures.noted)) c.perform.ensures.failed (narrows_trans c.in_ok-act.ensures.narrows c.in_ok-write.ensures.narrows)
