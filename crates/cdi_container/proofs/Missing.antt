@@ -67,7 +67,7 @@ module _ (names : List (List ℕ)) (tables : machine.Tables) (legal : Legal) whe
       let run = subst (λ w. Runs tables legal ⊥ (task c) w o t.world) alike r in
       record {
         between = state_after o t.world;
-        reached = IsReachable.goes_on before q (container.Answers.carries_out e run);
+        reached = IsReachable.goes_on before q (container.GivesReply.carries_out e run);
         alike = refl;
         working = whole_outcome o whole;
         idle = refl;

@@ -5,7 +5,7 @@ use Rattle.cdi_machine.specs.World.{World, at_begin}
 use Rattle.cdi_machine.specs.Commands.{Command, task}
 use Rattle.cdi_machine.specs.Programs.{Completion, Given}
 use Rattle.cdi_machine.specs.Runs.{Legal, Outcome, Ends, Cut, Runs}
-use Rattle.cdi_machine.specs.Container.{State, before_commands, refusal, is_cut, Answers, Leads}
+use Rattle.cdi_machine.specs.Container.{State, before_commands, refusal, is_cut, GivesReply, Leads}
 use Rattle.cdi_machine.proofs.Refused.{refused}
 use Rattle.cdi_machine.proofs.Walk
 use Rattle.cdi_machine.proofs.Walk.{plain_of}
@@ -34,14 +34,14 @@ record Led (tables : Tables) (legal : Legal) (s : State) : Type 0 where
   commands : List Command
   leads : Leads tables legal (before_commands ticks depth) commands s
 
-one_more : {tables : Tables} {legal : Legal} {s t u : State} {cs : List Command} (c : Command) (r : _) → Leads tables legal s cs t → Answers tables legal t c r u → Leads tables legal s (cs ++ c ∷ []) u
+one_more : {tables : Tables} {legal : Legal} {s t u : State} {cs : List Command} (c : Command) (r : _) → Leads tables legal s cs t → GivesReply tables legal t c r u → Leads tables legal s (cs ++ c ∷ []) u
 one_more c r Leads.stays a = Leads.goes_on a Leads.stays
 one_more c r (Leads.goes_on b more) a = Leads.goes_on b (one_more c r more a)
 
 led : {tables : Tables} {legal : Legal} {s : State} {h : List Item} → Story tables legal s h → Led tables legal s
 led (Story.begins ticks depth) = record { ticks = ticks; depth = depth; commands = []; leads = Leads.stays }
-led (Story.refuses c r l q) = let x = led l in record { ticks = x.ticks; depth = x.depth; commands = x.commands ++ c ∷ []; leads = one_more c _ x.leads (Answers.refuses r q) }
-led (Story.goes c l q r) = let x = led l in record { ticks = x.ticks; depth = x.depth; commands = x.commands ++ c ∷ []; leads = one_more c _ x.leads (Answers.carries_out q r) }
+led (Story.refuses c r l q) = let x = led l in record { ticks = x.ticks; depth = x.depth; commands = x.commands ++ c ∷ []; leads = one_more c _ x.leads (GivesReply.refuses r q) }
+led (Story.goes c l q r) = let x = led l in record { ticks = x.ticks; depth = x.depth; commands = x.commands ++ c ∷ []; leads = one_more c _ x.leads (GivesReply.carries_out q r) }
 
 module _ (tables : Tables) (legal : Legal) (fits : Fits tables legal) where
   record Begun (s : State) (h : List Item) : Type 0 where

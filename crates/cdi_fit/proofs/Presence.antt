@@ -15,7 +15,7 @@ use Rattle.cdi_machine.specs.Tables.{Tables}
 use Rattle.cdi_machine.specs.World.{World, at_begin, before_boot}
 use Rattle.cdi_machine.specs.Programs.{Threw}
 use Rattle.cdi_machine.specs.Commands.{Command, task}
-use Rattle.cdi_machine.specs.Container.{State, refusal, Answers, is_cut}
+use Rattle.cdi_machine.specs.Container.{State, refusal, GivesReply, is_cut}
 use Rattle.cdi_machine.specs.Runs.{Legal, Outcome, Ends, Cut, Runs}
 use Rattle.cdi_machine.proofs.Refused.{not_halted, refused}
 use Rattle.cdi_fit.specs.Fits.{HasText, Fits}
@@ -113,9 +113,9 @@ module _ (tables : Tables) (legal : Legal) (fits : Fits tables legal) where
   -- a container that isn't halted is at rest between commands
   reached : {s : State} → IsReachable tables legal s → s.halted ≡ false → Rests tables legal s.world
   reached (IsReachable.begins ticks depth) h = first ticks depth
-  reached (IsReachable.goes_on {s = s} before served (Answers.refuses r e)) h =
+  reached (IsReachable.goes_on {s = s} before served (GivesReply.refuses r e)) h =
       refused RestsUnlessHalted s (reached before) (λ k. let a = reached before k in record { good = a.good; ready = a.ready; level = a.level }) h
-  reached (IsReachable.goes_on {s = s} {c = c} before served (Answers.carries_out {o = o} {v = v} e r)) h =
+  reached (IsReachable.goes_on {s = s} {c = c} before served (GivesReply.carries_out {o = o} {v = v} e r)) h =
       let a = reached before (not_halted tables s c e) in
       after_end s.world c o v a (carried_out ⊥ s c o v a.good (served e) e r).1 h
 
@@ -143,7 +143,7 @@ throws_with_text tables legal Starved fits s before c e q x v r =
 pub answers_with_text : (tables : Tables) (legal : Legal) → AnswersWithText tables legal
 answers_with_text tables legal fits s before c q x t h = by _ t h refl
   where
-    by : (r : Reply) (u : State) → Answers tables legal s c r u → r ≡ replies.Threw x → HasText tables x
-    by _ _ (Answers.refuses r e) is = absurd (cc)
-    by _ _ (Answers.carries_out {o = o} {v = v} e r) is =
+    by : (r : Reply) (u : State) → GivesReply tables legal s c r u → r ≡ replies.Threw x → HasText tables x
+    by _ _ (GivesReply.refuses r e) is = absurd (cc)
+    by _ _ (GivesReply.carries_out {o = o} {v = v} e r) is =
         throws_with_text tables legal ⊥ fits s before c e (q e) x v (subst (λ z. Runs tables legal ⊥ (task c) (at_begin s.world) z v) (threw c o v x is) r)

@@ -5,7 +5,7 @@ use Rattle.cdi_machine.specs.Tables.{Tables, Managed, One}
 use Rattle.cdi_machine.specs.World.{World, at_begin}
 use Rattle.cdi_machine.specs.Programs.{Given, Prog}
 use Rattle.cdi_machine.specs.Commands.{Command, task}
-use Rattle.cdi_machine.specs.Container.{State, before_commands, refusal, Answers}
+use Rattle.cdi_machine.specs.Container.{State, before_commands, refusal, GivesReply}
 use Rattle.cdi_machine.specs.Runs.{Legal, Outcome, Runs}
 use Rattle.cdi_fit.specs.Fits.{HasMethod, IsClassOf, Fits}
 
@@ -52,7 +52,7 @@ pub data IsReachable (tables : Tables) (legal : Legal) : State → Type 0 where
   begins : (ticks depth : ℕ) → IsReachable tables legal (before_commands ticks depth)
   goes_on : {s t : State} {c : Command} {r : Reply} → IsReachable tables legal s
       → (refusal tables s c ≡ None → IsServedCommand c)
-      → Answers tables legal s c r t
+      → GivesReply tables legal s c r t
       → IsReachable tables legal t
 
 -- in each of these a command that isn't refused asks for what there is

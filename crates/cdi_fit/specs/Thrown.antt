@@ -6,7 +6,7 @@ use Rattle.cdi_machine.specs.Tables.{Tables}
 use Rattle.cdi_machine.specs.World.{World, at_begin}
 use Rattle.cdi_machine.specs.Programs.{Threw}
 use Rattle.cdi_machine.specs.Commands.{Command, task}
-use Rattle.cdi_machine.specs.Container.{State, refusal, Answers}
+use Rattle.cdi_machine.specs.Container.{State, refusal, GivesReply}
 use Rattle.cdi_machine.specs.Runs.{Legal, Ends, Runs}
 use Rattle.cdi_fit.specs.Fits.{HasText, Fits}
 use Rattle.cdi_fit.specs.Missing.{IsServedCommand, IsReachable}
@@ -26,5 +26,5 @@ abbrev pub AnswersWithText : Tables → Legal → Type 0
 AnswersWithText tables legal =
     Fits tables legal → (s : State) → IsReachable tables legal s
     → (c : Command) → (refusal tables s c ≡ None → IsServedCommand c)
-    → (x : Name) (t : State) → Answers tables legal s c (replies.Threw x) t
+    → (x : Name) (t : State) → GivesReply tables legal s c (replies.Threw x) t
     → HasText tables x

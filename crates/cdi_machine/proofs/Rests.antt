@@ -22,7 +22,7 @@ use Rattle.cdi_machine.specs.Creation.{discard, end_creation, create_by, begin_c
 use Rattle.cdi_machine.specs.Events.{fire, notify}
 use Rattle.cdi_machine.specs.Commands.{Command, task}
 use Rattle.cdi_machine.specs.Runs.{Legal, Outcome}
-use Rattle.cdi_machine.specs.Container.{State, is_cut, Answers, Leads}
+use Rattle.cdi_machine.specs.Container.{State, is_cut, GivesReply, Leads}
 use Rattle.cdi_machine.specs.Laws.{IsEnd, IsAtRest, Rests, RestsBetween}
 use Rattle.cdi_machine.proofs.Levels.{Height, height, Steady, steady, TasksLevel, ends_at}
 use Rattle.cdi_machine.proofs.Walk
@@ -124,9 +124,9 @@ module _ (tables : Tables) (legal : Legal) where
   not_cut (Outcome.Ends c) e = tt
   not_cut (Outcome.Cut cause) e = absurd (cc)
 
-  answered : {s t : State} {c : Command} {r : Reply} → Answers tables legal s c r t → Resting s → Resting t
-  answered {s = s} (Answers.refuses r e) q h = refused Resting s q (λ k. at_its_begin s.world (q k)) h
-  answered {s = s} {c = c} (Answers.carries_out {o = o} {v = v} e run) q h =
+  answered : {s t : State} {c : Command} {r : Reply} → GivesReply tables legal s c r t → Resting s → Resting t
+  answered {s = s} (GivesReply.refuses r e) q h = refused Resting s q (λ k. at_its_begin s.world (q k)) h
+  answered {s = s} {c = c} (GivesReply.carries_out {o = o} {v = v} e run) q h =
       rests c (at_begin s.world) v o run (not_cut o h) (at_its_begin s.world (q (not_halted tables s c e)))
 
   led : {s t : State} {cs : List Command} → Leads tables legal s cs t → Resting s → Resting t

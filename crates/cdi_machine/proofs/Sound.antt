@@ -13,7 +13,7 @@ use Rattle.cdi_machine.specs.Machine.{machine}
 use Rattle.cdi_machine.specs.Runs.{Outcome, Ends, Cut, Runs}
 use Rattle.cdi_machine.specs.World.{at_begin}
 use Rattle.cdi_machine.specs.Commands.{Command, task}
-use Rattle.cdi_machine.specs.Container.{State, Said, shown_entries, refusal, Answers, Plays}
+use Rattle.cdi_machine.specs.Container.{State, Said, shown_entries, refusal, GivesReply, Plays}
 use Rattle.cdi_machine.specs.Evaluator.{Performance, legal_in, Came, after_task, after_entry, steps, exec, evaluation, saying, answer_by, answer, performance}
 
 is_less : (a b : ℕ) → nat_lt a b ≡ true → a < b
@@ -80,18 +80,18 @@ module _ (s : Performance) where
   evaluates n = sound (exec s n) (sound_tasks n)
 
   -- what is answered by computing is answered
-  answers : (n : ℕ) (c : Command) (u : State) (r : Reply) (t : State) → answer s n c u ≡ Some (r, t) → Answers s.tables (legal_in s) u c r t
+  answers : (n : ℕ) (c : Command) (u : State) (r : Reply) (t : State) → answer s n c u ≡ Some (r, t) → GivesReply s.tables (legal_in s) u c r t
   answers n c u r t e = answers_by (refusal s.tables u c) (evaluation s n (task c) (at_begin u.world)) refl refl e
     where
-      moved : (r' : Reply) (t' : State) → Answers s.tables (legal_in s) u c r' t' → ◌≡◌ {A = Option (Reply × State)} (Some (r', t')) (Some (r, t)) → Answers s.tables (legal_in s) u c r t
+      moved : (r' : Reply) (t' : State) → GivesReply s.tables (legal_in s) u c r' t' → ◌≡◌ {A = Option (Reply × State)} (Some (r', t')) (Some (r, t)) → GivesReply s.tables (legal_in s) u c r t
       moved r' t' a e =
           let q : ◌≡◌ {A = Reply × State} (r', t') (r, t) = cc in
-          subst (λ x. Answers s.tables (legal_in s) u c x t) (ap (λ (x : Reply × State). x.0) q) (subst (λ x. Answers s.tables (legal_in s) u c r' x) (ap (λ (x : Reply × State). x.1) q) a)
+          subst (λ x. GivesReply s.tables (legal_in s) u c x t) (ap (λ (x : Reply × State). x.0) q) (subst (λ x. GivesReply s.tables (legal_in s) u c r' x) (ap (λ (x : Reply × State). x.1) q) a)
 
-      answers_by : (why : Option Refusal) (came : Came) → refusal s.tables u c ≡ why → evaluation s n (task c) (at_begin u.world) ≡ came → answer_by s n c u why came ≡ Some (r, t) → Answers s.tables (legal_in s) u c r t
-      answers_by (Some why) came h k e = moved _ _ (Answers.refuses why h) e
+      answers_by : (why : Option Refusal) (came : Came) → refusal s.tables u c ≡ why → evaluation s n (task c) (at_begin u.world) ≡ came → answer_by s n c u why came ≡ Some (r, t) → GivesReply s.tables (legal_in s) u c r t
+      answers_by (Some why) came h k e = moved _ _ (GivesReply.refuses why h) e
       answers_by None None h k e = absurd (cc)
-      answers_by None (Some (o, v)) h k e = moved _ _ (Answers.carries_out h (evaluates n (task c) (at_begin u.world) o v k)) e
+      answers_by None (Some (o, v)) h k e = moved _ _ (GivesReply.carries_out h (evaluates n (task c) (at_begin u.world) o v k)) e
 
   went : (n : ℕ) (c : Command) (cs : List Command) (u : State) (r : Option (Reply × State)) (xs : List Said) → answer s n c u ≡ r → ((t : State) (ys : List Said) → performance s n t cs ≡ Some ys → Plays s.tables (legal_in s) t cs ys) → (elim r [ None ↦ None | Some rt ↦ saying s rt.1 rt.0 (performance s n rt.1 cs) ]) ≡ Some xs → Plays s.tables (legal_in s) u (c ∷ cs) xs
   went n c cs u None xs h then e = absurd (cc)

@@ -124,18 +124,19 @@ after_refusal s =
 -- ---- a command
 
 -- A command is refused, or it is carried out, with an empty trace at first, and a cut halts the container.
-pub data Answers (tables : Tables) (legal : Legal) : State → Command → Reply → State → Type 0 where
+pub data GivesReply (tables : Tables) (legal : Legal) : State → Command → Reply → State → Type 0
+    where
   refuses : {s : State} {c : Command} (r : Refusal) → refusal tables s c ≡ Some r
-      → Answers tables legal s c (replies.Refused r) (after_refusal s)
+      → GivesReply tables legal s c (replies.Refused r) (after_refusal s)
   carries_out : {s : State} {c : Command} {o : Outcome} {v : World} → refusal tables s c ≡ None
       → Runs tables legal ⊥ (task c) (at_begin s.world) o v
-      → Answers tables legal s c (reply_to c o v) (state_after o v)
+      → GivesReply tables legal s c (reply_to c o v) (state_after o v)
 
 -- the commands, one after the other, lead a container from the one state to the other
 pub data Leads (tables : Tables) (legal : Legal) : State → List Command → State → Type 0 where
   stays : {s : State} → Leads tables legal s [] s
   goes_on : {s t u : State} {c : Command} {r : Reply} {cs : List Command}
-      → Answers tables legal s c r t → Leads tables legal t cs u
+      → GivesReply tables legal s c r t → Leads tables legal t cs u
       → Leads tables legal s (c ∷ cs) u
 
 -- what is shown of a command
@@ -146,5 +147,5 @@ pub record Said : Type 0 where
 pub data Plays (tables : Tables) (legal : Legal) : State → List Command → List Said → Type 0 where
   ends : {s : State} → Plays tables legal s [] []
   goes_on : {s t : State} {c : Command} {r : Reply} {cs : List Command} {said : List Said}
-      → Answers tables legal s c r t → Plays tables legal t cs said
+      → GivesReply tables legal s c r t → Plays tables legal t cs said
       → Plays tables legal s (c ∷ cs) (record { entries = shown_entries t; reply = r } ∷ said)

@@ -7,7 +7,7 @@ use Rattle.cdi_contexts.specs.Refusals.{first_that_holds}
 use Rattle.cdi_machine.specs.Tables.{Tables, Method, Managed, Kind, Bean}
 use Rattle.cdi_machine.specs.World.{World, at_begin, before_boot}
 use Rattle.cdi_machine.specs.Commands.{Command, task}
-use Rattle.cdi_machine.specs.Container.{State, refusal, bean_of, call_refusals, refused_by_contexts, refused_by_tables, no_method, wrong_count, is_cut, Answers as Replies, Leads}
+use Rattle.cdi_machine.specs.Container.{State, refusal, bean_of, call_refusals, refused_by_contexts, refused_by_tables, no_method, wrong_count, is_cut, GivesReply as Replies, Leads}
 use Rattle.cdi_machine.specs.Runs.{Legal, Outcome, Ends, Cut, Runs}
 use Rattle.cdi_machine.proofs.Refused.{not_halted, past_any, refused}
 use Rattle.cdi_store.specs.declared.instance.Instance.{Instance}
