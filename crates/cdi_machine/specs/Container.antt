@@ -124,8 +124,8 @@ after_refusal s =
 -- ---- a command
 
 -- A command is refused, or it is carried out, with an empty trace at first, and a cut halts the container.
-pub data GivesReply (tables : Tables) (legal : Legal) : State → Command → Reply → State → Type 0
-    where
+pub data GivesReply (tables : Tables) (legal : Legal)
+    : State → Command → Reply → State → Type 0 where
   refuses : {s : State} {c : Command} (r : Refusal) → refusal tables s c ≡ Some r
       → GivesReply tables legal s c (replies.Refused r) (after_refusal s)
   carries_out : {s : State} {c : Command} {o : Outcome} {v : World} → refusal tables s c ≡ None
