@@ -3,14 +3,16 @@ use Rattle.std.proofs.Common.{ℕ, zero, suc, ◌≡◌, ◌<◌, ◌∙◌, ◌
 use Rattle.std.specs.Prelude.{nat_lt, option_map, option_and_then, slice_get}
 use Rattle.std.proofs.lemmas.Bool.{and_parts, eqb-true, ltb-true, not-false, or_cases, true≢false}
 use Rattle.std.proofs.lemmas.Option.{same_Some}
-use Rattle.std.specs.List.{list_any}
+use Rattle.std.specs.List.{list_all, list_any}
 use Rattle.cdi_base.specs.Fields.{has}
 use Rattle.cdi_base.specs.declared.act.Act.{Act}
 use Rattle.cdi_base.specs.declared.act.Act.TheVariants as acts
 use Rattle.cdi_base.specs.declared.act.Via.{Via}
 use Rattle.cdi_base.specs.declared.act.Via.TheVariants as vias
+use Rattle.cdi_bodies.specs.Events.{same_qualifiers}
 use Rattle.cdi_bodies.specs.Shape.{in_shape, is_thrown, last_answer, via_eq}
 use Rattle.cdi_bodies.specs.declared.entry.Entry.{Entry}
+use Rattle.cdi_bodies.specs.declared.shape.FiredEvent.{FiredEvent}
 use Rattle.cdi_bodies.specs.declared.shape.Lookup.{Lookup}
 use Rattle.cdi_bodies.specs.declared.shape.MethodCall.{MethodCall}
 use Rattle.cdi_bodies.specs.declared.shape.OwnCall.{OwnCall}
@@ -26,13 +28,15 @@ use Rattle.cdi_machine.specs.Words.{Asked}
 use Rattle.cdi_run_tables.specs.Machine.{AreIdsOf, asked_by}
 use Rattle.cdi_run_tables.specs.Planned.{IsTabled}
 use Rattle.cdi_run_tables.specs.Served.{has_texts}
+use Rattle.cdi_name_check.specs.UnknownName.{is_event_qualifier_use}
 use Rattle.cdi_shape_check.specs.Application.{Application}
 use Rattle.cdi_shape_check.specs.BodyOutsideShape.{lacks_call, lacks_cell, lacks_field, lacks_local, lacks_method, names_missing, names_unknown}
 use Rattle.cdi_shape_check.specs.OwnParts.{OwnParts}
-use Rattle.cdi_shape_check.specs.References.{bean_at, is_call_missing, point_at, point_of_field, point_of_lookup, refuses_call}
-use Rattle.cdi_shape_check.specs.WrittenNames.{is_event, is_exception, is_lookup}
+use Rattle.cdi_shape_check.specs.References.{bean_at, is_call_missing, is_cell_missing, point_at, point_of_field, point_of_lookup, refuses_call}
+use Rattle.cdi_shape_check.specs.WrittenNames.{is_concrete, is_event, is_exception, is_lookup}
+use Rattle.cdi_types.specs.Line.{class_named}
 use Rattle.cdi_ownership.specs.Whose.{IsIn}
-use Rattle.cdi_worlds_fit.specs.Fits.{AnswersCalls, FitsAct, HasMethod, LeadsTo, Site}
+use Rattle.cdi_worlds_fit.specs.Fits.{AnswersCalls, FitsAct, HasMethod, IsThere, LeadsTo, Site}
 use Rattle.cdi_whole_tables.specs.Whole.{WholeTables, asked_by_lookup, whole_tables}
 use Rattle.cdi_accepted.proofs.Lists.{neither, none_passes, passing}
 use Rattle.cdi_accepted.proofs.Registered.{app_of}
@@ -46,7 +50,10 @@ record IsWithin (app : Application) (parts : OwnParts) (params : List Point) (s 
   sets : lacks_field parts s ≡ false
   owns : lacks_method parts s ≡ false
   calls : lacks_call app parts params s ≡ false
+  cells : lacks_cell app parts params s ≡ false
+  fires : list_any (λ e. not (is_event app.deployment e)) s.fires ≡ false
   throws : list_any (λ x. not (is_exception app.deployment x)) s.throws ≡ false
+  destroys : lacks_local s ≡ false
 
 within : (app : Application) (parts : OwnParts) (params : List Point) (s : Shape) → names_missing app parts params s ≡ false → IsWithin app parts params s
 within app parts params s inside =
@@ -58,7 +65,7 @@ within app parts params s inside =
     let fires = list_any (λ e. not (is_event app.deployment e)) s.fires in
     let lookups = list_any (λ l. not (is_lookup app.deployment l)) s.lookups in
     let throws = neither (fires || lookups) (list_any (λ x. not (is_exception app.deployment x)) s.throws) one.1 in
-    record { sets = four.0; owns = four.1; calls = three.1; throws = throws.1 }
+    record { sets = four.0; owns = four.1; calls = three.1; cells = two.1; fires = (neither fires lookups throws.0).0; throws = throws.1; destroys = all.1 }
 
 same_via : (v u : Via) → via_eq v u ≡ true → v ≡ u
 same_via (vias.Field a) (vias.Field b) e = ap (λ n. vias.Field n) (eqb-true a b e)
@@ -93,6 +100,24 @@ listed_call app parts params s none via name count h =
       there = subst P (same_via found.item.via via two.0) missing;
     }
 
+-- what isn't missing is there
+some_called : (app : Application) (call : MethodCall) (o : Option Point) → is_call_missing app call o ≡ false → (p : Point) × (o ≡ Some p)
+some_called app call None e = absurd (true≢false e)
+some_called app call (Some p) e = (p, refl)
+
+some_held : (app : Application) (o : Option Point) → is_cell_missing app o ≡ false → (p : Point) × (o ≡ Some p)
+some_held app None e = absurd (true≢false e)
+some_held app (Some p) e = (p, refl)
+
+-- a value that the shape lists stands behind a reference that is there
+listed_cell : (app : Application) (parts : OwnParts) (params : List Point) (s : Shape) → lacks_cell app parts params s ≡ false → (via : Via) → list_any (λ v. via_eq v via) s.cells ≡ true
+    → (p : Point) × (point_at parts params s.lookups via ≡ Some p)
+listed_cell app parts params s none via h =
+    let found = passing (λ v. via_eq v via) s.cells h in
+    let there = none_passes (λ v. is_cell_missing app (point_at parts params s.lookups v)) s.cells found.item none found.stands in
+    let P : Via → Type 0 = λ v. is_cell_missing app (point_at parts params s.lookups v) ≡ false in
+    some_held app (point_at parts params s.lookups via) (subst P (same_via found.item via found.passes) there)
+
 -- ---- what a site has
 
 -- A site has what the check says of an own instance, of the body's parameters and of its shape.
@@ -100,6 +125,7 @@ pub record Covers (w : WholeTables) (parts : OwnParts) (params : List Point) (s 
   pub sets : (field : ℕ) → parts.has_field field ≡ true → has site.fields field ≡ true
   pub owns : (name count : ℕ) → parts.has_method name count ≡ true → HasMethod site.methods name count
   pub injected : (field : ℕ) (asked : Asked) → IsIn (field, asked) site.injected → (f : InjectedField) → parts.injected field ≡ Some f → asked ≡ asked_by (point_of_field f)
+  pub there : (field : ℕ) (f : InjectedField) → parts.injected field ≡ Some f → (asked : Asked) × IsIn (field, asked) site.injected
   pub points : site.points ≡ map asked_by params
   pub shape : w.shape_at site.body ≡ Some s
   pub chained : s.chain ≡ true → site.chained ≡ true
@@ -114,6 +140,11 @@ mapped_at : (params : List Point) (k : ℕ) (asked : Asked) → slice_get (map a
 mapped_at [] k asked e = absurd cc
 mapped_at (p ∷ params) zero asked e = record { point = p; has = refl; is = sym (same_Some (asked_by p) asked e) }
 mapped_at (p ∷ params) (suc k) asked e = let more = mapped_at params k asked e in record { point = more.point; has = more.has; is = more.is }
+
+mapped_there : (params : List Point) (k : ℕ) (p : Point) → slice_get params k ≡ Some p → slice_get (map asked_by params) k ≡ Some (asked_by p)
+mapped_there [] k p e = absurd cc
+mapped_there (q ∷ params) zero p e = ap (λ x. Some (asked_by x)) (same_Some q p e)
+mapped_there (q ∷ params) (suc k) p e = mapped_there params k p e
 
 there_below : {X : Type 0} (xs : List X) (k : ℕ) → k < length xs → (x : X) × (slice_get xs k ≡ Some x)
 there_below [] k lt = absurd (omega arith)
@@ -168,6 +199,29 @@ module _ {X : Type 0} {F : X → Type 0} {g : _} (entries : List (Entry X F g)) 
         resolves = ap (λ a. (whole_tables w).resolve a) (sym found.2) ∙ leads.2;
       }
 
+  local_there : (k : ℕ) (l : Lookup) → slice_get s.lookups k ≡ Some l → IsThere (whole_tables w) site (vias.Local k)
+  local_there k l e = (
+    asked_by_lookup l,
+    ap (λ o. option_map asked_by_lookup (option_and_then (λ (z : Shape). slice_get z.lookups k) o)) covers.shape ∙ ap (option_map asked_by_lookup) e,
+  )
+
+  -- what stands behind a reference for the check does so for the machine
+  is_there : (via : Via) (p : Point) → point_at parts params s.lookups via ≡ Some p → IsThere (whole_tables w) site via
+  is_there (vias.Field field) p e = by (parts.injected field) refl e
+    where
+      by : (o : Option InjectedField) → parts.injected field ≡ o → option_map point_of_field o ≡ Some p → IsThere (whole_tables w) site (vias.Field field)
+      by None is h = absurd cc
+      by (Some f) is h = covers.there field f is
+  is_there (vias.Param k) p e = (asked_by p, ap (λ ps. slice_get ps k) covers.points ∙ mapped_there params k p e)
+  is_there (vias.Local k) p e = by (slice_get s.lookups k) refl e
+    where
+      by : (o : Option Lookup) → slice_get s.lookups k ≡ o → option_map point_of_lookup o ≡ Some p → IsThere (whole_tables w) site (vias.Local k)
+      by None is h = absurd cc
+      by (Some l) is h = local_there k l is
+
+  held_there : (via : Via) → list_any (λ v. via_eq v via) s.cells ≡ true → IsThere (whole_tables w) site via
+  held_there via h = let found = listed_cell app parts params s is_within.cells via h in is_there via found.0 found.1
+
   pub fits_act : (view : View) (a : Act) → in_shape s view a ≡ true → FitsAct (whole_tables w) site view a
   fits_act view (acts.Set field v) h =
       let found = passing (λ f. nat_eq f field) s.sets h in
@@ -182,12 +236,15 @@ module _ {X : Type 0} {F : X → Type 0} {g : _} (entries : List (Entry X F g)) 
       let Q : ℕ → Type 0 = λ n. parts.has_method name n ≡ true in
       covers.owns name (length args) (subst Q (eqb-true found.item.count (length args) both.1) (subst P (eqb-true found.item.method name both.0) there))
   fits_act view (acts.Call via name args) h =
-      λ b leads.
       let found = listed_call app parts params s is_within.calls via name (length args) h in
-      let point = behind via found.call b found.there leads in
-      let P : ℕ → Type 0 = λ n. AnswersCalls (whole_tables w) b n found.call.count in
-      let Q : ℕ → Type 0 = λ n. AnswersCalls (whole_tables w) b name n in
-      subst Q found.takes (subst P found.method (answered entries w tabled ids sound point.point found.call b point.accepted point.resolves))
+      let stands = some_called app found.call (point_at parts params s.lookups via) found.there in (
+        is_there via stands.0 stands.1,
+        λ b leads.
+            let point = behind via found.call b found.there leads in
+            let P : ℕ → Type 0 = λ n. AnswersCalls (whole_tables w) b n found.call.count in
+            let Q : ℕ → Type 0 = λ n. AnswersCalls (whole_tables w) b name n in
+            subst Q found.takes (subst P found.method (answered entries w tabled ids sound point.point found.call b point.accepted point.resolves)),
+      )
   fits_act view (acts.Throw x) h = by (or_cases (list_any (λ y. nat_eq y x) s.throws) (is_thrown x (last_answer view)) h)
     where
       by : (list_any (λ y. nat_eq y x) s.throws ≡ true) ⊎ (is_thrown x (last_answer view) ≡ true) → FitsAct (whole_tables w) site view (acts.Throw x)
@@ -199,12 +256,23 @@ module _ {X : Type 0} {F : X → Type 0} {g : _} (entries : List (Entry X F g)) 
           inl (exception_text w.run.deployment texts x (subst P (eqb-true found.item x found.passes) there))
   fits_act view (acts.Find k) h =
       let found = there_at s.lookups k h in
-      (asked_by_lookup found.0, ap (λ o. option_map asked_by_lookup (option_and_then (λ (z : Shape). slice_get z.lookups k) o)) covers.shape ∙ ap (option_map asked_by_lookup) found.1)
+      local_there k found.0 found.1
   fits_act view (acts.Proceed args) h = covers.chained h
   fits_act view (acts.Keep key v) h = covers.chained h
   fits_act view (acts.Peek key) h = covers.chained h
-  fits_act view (acts.Read via) h = tt
-  fits_act view (acts.Write via v) h = tt
-  fits_act view (acts.Fire of qualifiers v) h = tt
-  fits_act view (acts.Destroy local) h = tt
+  fits_act view (acts.Read via) h = held_there via h
+  fits_act view (acts.Write via v) h = held_there via h
+  fits_act view (acts.Fire of qualifiers v) h =
+      let found = passing (λ (e : FiredEvent). nat_eq e.class of && same_qualifiers e.qualifiers qualifiers) s.fires h in
+      let there = not-false _ (none_passes (λ (e : FiredEvent). not (is_event app.deployment e)) s.fires found.item is_within.fires found.stands) in
+      let concrete = (and_parts (is_concrete (class_named app.deployment.classes found.item.class)) (list_all (is_event_qualifier_use app.deployment) found.item.qualifiers) there).0 in
+      let P : ℕ → Type 0 = λ n. is_concrete (class_named app.deployment.classes n) ≡ true in
+      let named = subst P (eqb-true found.item.class of (and_parts (nat_eq found.item.class of) (same_qualifiers found.item.qualifiers qualifiers) found.passes).0) concrete in
+      ap (λ b. b && true) named
+  fits_act view (acts.Destroy local) h =
+      let found = passing (λ k. nat_eq k local) s.destroys h in
+      let below = not-false _ (none_passes (λ k. not (nat_lt k (length s.lookups))) s.destroys found.item is_within.destroys found.stands) in
+      let P : ℕ → Type 0 = λ k. nat_lt k (length s.lookups) ≡ true in
+      let there = there_at s.lookups local (subst P (eqb-true found.item local found.passes) below) in
+      local_there local there.0 there.1
   fits_act view (acts.Give v) h = tt

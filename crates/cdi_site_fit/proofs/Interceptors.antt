@@ -1,5 +1,5 @@
 -- The enabled interceptors as the machine has them, and what their bodies give.
-use Rattle.std.proofs.Common.{ℕ, ◌≡◌, ◌∙◌, ◌⊎◌, ◌↔◌, ◌&&◌, not, inl, inr, true, nat_eq, List, map, filter, Some, refl, sym, ap, subst}
+use Rattle.std.proofs.Common.{ℕ, ◌≡◌, ◌∙◌, ◌⊎◌, ◌↔◌, ◌&&◌, not, inl, inr, true, nat_eq, List, [], ◌∷◌, map, filter, Some, refl, sym, ap, subst}
 use Rattle.std.specs.Prelude.{option_and_then, option_map, slice_get}
 use Rattle.std.proofs.lemmas.Bool.{eqb-true, true≢false}
 use Rattle.std.specs.List.{Contains, enumerate_from, filter_map}
@@ -33,11 +33,16 @@ use Rattle.cdi_worlds_fit.specs.Fits.{FitsBody, FitsRole, IsThereInterceptor, in
 use Rattle.cdi_whole_tables.specs.Whole.{AreWhole, WholeTables, injection, machine_interceptor, whole_tables}
 use Rattle.cdi_accepted.proofs.Beans.{before, place_of}
 use Rattle.cdi_accepted.proofs.Calls.{of_is_in}
-use Rattle.cdi_accepted.proofs.Lists.{Among, among_contains, among_parts, at_among, contains_among, found_among, given, mapped, of_filter}
+use Rattle.cdi_accepted.proofs.Lists.{Among, among_contains, among_map, among_parts, at_among, contains_among, found_among, given, mapped, of_filter}
 use Rattle.cdi_site_fit.proofs.Apart.{field_has, named_apart}
 use Rattle.cdi_site_fit.proofs.Bodies.{registered}
 use Rattle.cdi_site_fit.proofs.Live.{method_live, method_stands}
 use Rattle.cdi_site_fit.proofs.Sites.{fits_body, shape_there}
+
+to_is_in : {X : Type 0} (x : X) (xs : List X) → Among x xs → IsIn x xs
+to_is_in x [] a = a
+to_is_in x (y ∷ ys) (inl same) = inl (sym same)
+to_is_in x (y ∷ ys) (inr a) = inr (to_is_in x ys a)
 
 -- an enabled interceptor is one of the deployment
 pub record IsDeclared (d : Deployment) (e : EnabledInterceptor) : Type 0 where
@@ -114,6 +119,13 @@ module _ {X : Type 0} {F : X → Type 0} {g : _} (entries : List (Entry X F g)) 
         let one : found.item ≡ f = named_apart d whole.tabled.tables.made.names_well j stands found.item f found.stands first.0 (sym name ∙ sym (eqb-true f.name field first.1)) in
         ap (λ (q : ℕ × Asked). q.1) found.is ∙ ap (λ k. asked_by (point_of_field k)) one
 
+    injects_it : (field : ℕ) (f : InjectedField) → (parts_of_interceptor of.interceptor).injected field ≡ Some f → (asked : Asked) × IsIn (field, asked) own.injected
+    injects_it field f is =
+        let j = of.interceptor in
+        let first = found_among (λ (k : InjectedField). nat_eq k.name field) j.inject f is in
+        let P : ℕ → Type 0 = λ n. IsIn (n, asked_by (point_of_field f)) (map injection j.inject) in
+        (asked_by (point_of_field f), subst P (eqb-true f.name field first.1) (to_is_in (injection f) (map injection j.inject) (among_map injection j.inject f first.0)))
+
     -- whatever the body of one of its methods gives fits
     pub method_fits : (role : InterceptorMethod) (body : ℕ) → method_body of.interceptor role ≡ Some body → FitsBody (whole_tables w) (legal_of entries) (interceptor_site own (body_number (id_of t) body))
     method_fits role body is =
@@ -127,6 +139,7 @@ module _ {X : Type 0} {F : X → Type 0} {g : _} (entries : List (Entry X F g)) 
           sets = λ field h. field_has j.fields field h;
           owns = λ name count h. absurd (true≢false (sym h));
           injected = point_of;
+          there = injects_it;
           points = refl;
           shape = shape_there entries lies w whole ids sound texts s there live;
           chained = λ c. refl;

@@ -31,7 +31,8 @@ use Rattle.cdi_plans.specs.declared.plan.ManagedPlan.{ManagedPlan}
 use Rattle.cdi_plans.specs.declared.plan.Step.{Step}
 use Rattle.cdi_plans.specs.declared.plan.Step.TheVariants as steps
 use Rattle.cdi_resolve.specs.Filters.{enabled_of}
-use Rattle.cdi_run_tables.specs.Machine.{AreIdsOf, asked_by, body_number, first_values, id_of}
+use Rattle.cdi_plans.specs.Steps.{steps_of}
+use Rattle.cdi_run_tables.specs.Machine.{AreIdsOf, asked_by, body_number, first_values, id_of, machine_steps}
 use Rattle.cdi_run_tables.specs.Served.{has_texts}
 use Rattle.cdi_run_tables.specs.declared.tables.RunTables.{RunTables}
 use Rattle.cdi_shape_check.specs.OwnParts.{ArePartsOf, OwnParts, declares_method, has_field, parts_of_line}
@@ -47,6 +48,7 @@ use Rattle.cdi_accepted.proofs.Lists.{Among, among_left, found_among, part_of}
 use Rattle.cdi_accepted.proofs.Members.{of_line}
 use Rattle.cdi_site_fit.proofs.Acts.{Covers, fits_act}
 use Rattle.cdi_site_fit.proofs.Bodies.{inside, lie_at, number, proceeds, registered}
+use Rattle.cdi_site_fit.proofs.Injecting.{injects, to_steps}
 use Rattle.cdi_site_fit.proofs.Live.{constructor_live, constructor_stands, member_live, member_stands}
 use Rattle.cdi_site_fit.proofs.Methods.{apart, declared_class, front, has_method, managed, pairs}
 use Rattle.cdi_site_fit.proofs.Plans.{HasPlan}
@@ -105,6 +107,22 @@ module _ {X : Type 0} {F : X → Type 0} {g : _} (entries : List (Entry X F g)) 
         one_injected plan.line (pairs entries t whole.tabled ids sound b listed enabled plan) (apart entries t whole.tabled ids sound b listed enabled plan) from.injected f from.is stands (sym from.name ∙ sym name) in
         step.is ∙ ap asked_by from.point_is ∙ ap (λ k. asked_by (point_of_field k)) one
 
+    -- what is injected by a front of the line is injected by the line
+    on_front : (fronts rest : List Class) → plan.line ≡ fronts ++ rest → (field : ℕ) (f : InjectedField) → (parts_of_line fronts).injected field ≡ Some f → IsInjected plan.line f × (f.name ≡ field)
+    on_front fronts rest are field f e =
+        let found = found_among (λ (k : InjectedField). nat_eq k.name field) (flat_map (λ (c : Class). c.inject) fronts) f e in
+        let part = part_of (λ (c : Class). c.inject) fronts f found.0 in
+        let P : List Class → Type 0 = λ l. Among part.item l in
+        (record { class = part.item; stands = subst P (sym are) (among_left fronts rest part.item part.stands); declared = part.part }, eqb-true f.name field found.1)
+
+    injects_it : (field : ℕ) (f : InjectedField) → IsInjected plan.line f → f.name ≡ field → (asked : Asked) × IsIn (field, asked) (injected_by own.plan)
+    injects_it field f stands name =
+        let asked = asked_by (point_of_field f) in
+        let listed_too = to_steps t.tables.chains plan.constructor listed plan.line f stands in
+        let P : ManagedPlan → Type 0 = λ p. IsIn (f.name, asked) (injected_by (machine_steps (id_of t) p.steps)) in
+        let Q : ℕ → Type 0 = λ n. IsIn (n, asked) (injected_by own.plan) in
+        (asked, subst Q name (subst P (sym plan.is) (injects (id_of t) (steps_of t.tables.chains plan.constructor listed plan.line) f.name (point_of_field f) listed_too)))
+
     -- an instance of the bean has what the classes of a front of its line declare
     pub class_covers : (fronts rest : List Class) → plan.line ≡ fronts ++ rest → (params : List Point) (n : ℕ) (shape : Shape) → w.shape_at n ≡ Some shape → (shape.chain ≡ true → ⊥)
         → Covers w (parts_of_line fronts) params shape (class_site own (map asked_by params) n)
@@ -112,12 +130,8 @@ module _ {X : Type 0} {F : X → Type 0} {g : _} (entries : List (Entry X F g)) 
         record {
           sets = λ field e. ap (λ (p : ManagedPlan). has (first_values p.fields) field) plan.is ∙ has_first plan.line field (on_line (λ c. has_field field c.fields) fronts rest are e);
           owns = λ name count e. has_method entries t whole.tabled ids sound b listed enabled plan name count (on_line (declares_method name count) fronts rest are e);
-          injected = λ field asked a f e.
-              let found = found_among (λ (k : InjectedField). nat_eq k.name field) (flat_map (λ (c : Class). c.inject) fronts) f e in
-              let part = part_of (λ (c : Class). c.inject) fronts f found.0 in
-              let P : List Class → Type 0 = λ l. Among part.item l in
-              point_of field f (record { class = part.item; stands = subst P (sym are) (among_left fronts rest part.item part.stands); declared = part.part })
-              (eqb-true f.name field found.1) asked a;
+          injected = λ field asked a f e. (let found = on_front fronts rest are field f e in point_of field f found.0 found.1 asked a);
+          there = λ field f e. (let found = on_front fronts rest are field f e in injects_it field f found.0 found.1);
           points = refl;
           shape = there;
           chained = λ c. absurd (never c);

@@ -413,7 +413,7 @@ module _ (t : Tables) (legal : Legal) (fits : Fits t legal) (moves : Moves t leg
   perform_safe : (r : Running) (a : Act) (w : World) → Good t legal w → (h : IsAble w r) → IsIn r.instance w.bodies → FitsAct t h.stood.site r.view a → Does (perform r a) w (Ends w)
   perform_safe r (acts.Set field v) w g h on q = told_safe r (carry_out r (acts.Set field v)) w g h on (set_safe r field v w g h q)
   perform_safe r (acts.Own name args) w g h on q = told_safe r (carry_out r (acts.Own name args)) w g h on (own_safe r name args w g h q)
-  perform_safe r (acts.Call via name args) w g h on q = told_safe r (carry_out r (acts.Call via name args)) w g h on (call_act_safe r via name args w g h q)
+  perform_safe r (acts.Call via name args) w g h on q = told_safe r (carry_out r (acts.Call via name args)) w g h on (call_act_safe r via name args w g h q.1)
   perform_safe r (acts.Read via) w g h on q = told_safe r (carry_out r (acts.Read via)) w g h on (read_safe r via w g h)
   perform_safe r (acts.Write via v) w g h on q = told_safe r (carry_out r (acts.Write via v)) w g h on (write_safe r via v w g h)
   perform_safe r (acts.Fire class qualifiers v) w g h on q = told_safe r (carry_out r (acts.Fire class qualifiers v)) w g h on (fire_act_safe r class qualifiers v w g)

@@ -13,7 +13,7 @@ use Rattle.cdi_machine.specs.Tables.{Method, One, Nothing}
 use Rattle.cdi_machine.specs.Runs.{Legal}
 use Rattle.cdi_ownership.specs.Whose.{IsIn}
 use Rattle.cdi_worlds_fit.specs.Fits.{Site, class_site, interceptor_site, HasMethod, LeadsTo, AnswersCalls, FitsAct, FitsBody, FitsRole, FitsChain, FitsLifecycle, FitsMember, FitsMethod, FitsClass, FitsManaged, FitsProduct, FitsBean, FitsObserver, Fits}
-use Rattle.cdi_whole.specs.Worked.{of_type, code, member, class, bean, product, field_product, interceptor, resolution, observer, tables, MethodMay, MemberMay, InterceptorMay, GiveOnly, ProceedToo, legal_by, AcceptsRightBodies, RefusesWrongBodies}
+use Rattle.cdi_whole.specs.Worked.{of_type, code, member, class, bean, product, field_product, interceptor, resolution, observer, tables, MethodMay, MemberMay, InterceptorMay, GiveOnly, ProceedToo, ReadToo, FireToo, legal_by, lookup_at, AcceptsRightBodies, RefusesWrongBodies, RefusesUnknownNames}
 
 abbrev right : Legal
 right = legal_by GiveOnly
@@ -46,23 +46,37 @@ param_point : (k : ℕ) (point : Asked) → slice_get (of_type 1 ∷ []) k ≡ S
 param_point zero point e = let q : of_type 1 ≡ point = cc in sym q
 param_point (suc k) point e = absurd (cc)
 
+-- what the acts name is there
+through : (field : Name) → field ≡ 5 → (point : Asked) × IsIn {X = Name × Asked} (field, point) ((5, of_type 1) ∷ [])
+through field e = (of_type 1, inl (ap (λ (n : ℕ). (n, of_type 1)) (sym e)))
+
+by_param : (k : ℕ) → k ≡ 0 → (point : Asked) × (slice_get (of_type 1 ∷ []) k ≡ Some point)
+by_param k e = (of_type 1, subst (λ n. slice_get (of_type 1 ∷ []) n ≡ Some (of_type 1)) (sym e) refl)
+
+looked_up : (k : ℕ) → k ≡ 0 → (point : Asked) × (lookup_at 0 k ≡ Some point)
+looked_up k e = (of_type 2, subst (λ n. lookup_at 0 n ≡ Some (of_type 2)) (sym e) refl)
+
 method_fits : (legal : Legal) → ((count : ℕ) (fields : Fields) (view : View) (a : Act) → legal.gives 0 count fields view a → MethodMay a) → FitsBody tables legal (class_site class [] 0)
 method_fits legal f count fields view a given = by a (f count fields view a given)
   where
     by : (a : Act) → MethodMay a → FitsAct tables (class_site class [] 0) view a
     by (acts.Set field v) h = subst (λ n. Rattle.cdi_base.specs.Fields.has class.fields n ≡ true) (sym h) refl
-    by (acts.Call (vias.Field field) name args) h = λ b l. answers b (subst (λ (p : Asked). resolution p.type ≡ One b) (field_point field l.0 l.1) l.2) name (length args) h.1 h.2
+    by (acts.Call (vias.Field field) name args) h = (through field h.0, λ b l. answers b (subst (λ (p : Asked). resolution p.type ≡ One b) (field_point field l.0 l.1) l.2) name (length args) h.1 h.2)
     by (acts.Call (vias.Param k) name args) h = absurd h
     by (acts.Call (vias.Local k) name args) h = absurd h
     by (acts.Own name args) h = method_seven name (length args) h.0 h.1
-    by (acts.Read via) h = tt
-    by (acts.Write via v) h = tt
-    by (acts.Fire name uses v) h = tt
+    by (acts.Read (vias.Local k)) h = looked_up k h
+    by (acts.Read (vias.Field field)) h = absurd h
+    by (acts.Read (vias.Param k)) h = absurd h
+    by (acts.Write (vias.Local k) v) h = looked_up k h
+    by (acts.Write (vias.Field field) v) h = absurd h
+    by (acts.Write (vias.Param k) v) h = absurd h
+    by (acts.Fire name uses v) h = subst (λ n. tables.is_event n [] ≡ true) (sym h) refl
     by (acts.Proceed args) h = absurd h
-    by (acts.Find k) h = (of_type 2, subst (λ n. Rattle.cdi_whole.specs.Worked.lookup_at 0 n ≡ Some (of_type 2)) (sym h) refl)
+    by (acts.Find k) h = looked_up k h
     by (acts.Keep key v) h = absurd h
     by (acts.Peek key) h = absurd h
-    by (acts.Destroy k) h = tt
+    by (acts.Destroy k) h = looked_up k h
     by (acts.Give v) h = tt
     by (acts.Throw x) h = inl ([], refl)
 
@@ -72,7 +86,7 @@ member_fits count fields view a given = by a given
     by : (a : Act) → MemberMay a → FitsAct tables (class_site class (of_type 1 ∷ []) 1) view a
     by (acts.Set field v) h = absurd h
     by (acts.Call (vias.Field field) name args) h = absurd h
-    by (acts.Call (vias.Param k) name args) h = λ b l. answers b (subst (λ (p : Asked). resolution p.type ≡ One b) (param_point k l.0 l.1) l.2) name (length args) h.0 h.1
+    by (acts.Call (vias.Param k) name args) h = (by_param k h.0, λ b l. answers b (subst (λ (p : Asked). resolution p.type ≡ One b) (param_point k l.0 l.1) l.2) name (length args) h.1 h.2)
     by (acts.Call (vias.Local k) name args) h = absurd h
     by (acts.Own name args) h = absurd h
     by (acts.Read via) h = absurd h
@@ -91,7 +105,7 @@ interceptor_fits count fields view a given = by a given
   where
     by : (a : Act) → InterceptorMay a → FitsAct tables (interceptor_site interceptor 2) view a
     by (acts.Set field v) h = absurd h
-    by (acts.Call (vias.Field field) name args) h = λ b l. answers b (subst (λ (p : Asked). resolution p.type ≡ One b) (field_point field l.0 l.1) l.2) name (length args) h.1 h.2
+    by (acts.Call (vias.Field field) name args) h = (through field h.0, λ b l. answers b (subst (λ (p : Asked). resolution p.type ≡ One b) (field_point field l.0 l.1) l.2) name (length args) h.1 h.2)
     by (acts.Call (vias.Param k) name args) h = absurd h
     by (acts.Call (vias.Local k) name args) h = absurd h
     by (acts.Own name args) h = absurd h
@@ -171,16 +185,34 @@ observer_fits = record { class = class; observes = managed_fits; member = member
 pub accepts : AcceptsRightBodies
 accepts = record { resolved = bean_fits; observed = λ c uses. ((observer_fits, (observer_fits, tt)), tt); texts = λ x. ([], refl) }
 
-pub refuses : RefusesWrongBodies
-refuses fits =
+-- if all fits, so does whatever a callback gives
+callback : (last : Act → Type 0) → Fits tables (legal_by last) → FitsBody tables (legal_by last) (class_site class [] 3)
+callback last fits =
     let b = fits.resolved (of_type 1) 0 refl in
     by b.bean b.known b.kind
   where
-    never : FitsBody tables (legal_by ProceedToo) (class_site class [] 3) → ⊥
-    never h = let e : false ≡ true = h 0 [] (record { args = []; answers = [] }) (acts.Proceed None) tt in cc
-
-    by : (x : Rattle.cdi_machine.specs.Tables.Bean) → Some bean ≡ Some x → Rattle.cdi_worlds_fit.specs.Fits.FitsKind tables (legal_by ProceedToo) x.kind → ⊥
+    by : (x : Rattle.cdi_machine.specs.Tables.Bean) → Some bean ≡ Some x → Rattle.cdi_worlds_fit.specs.Fits.FitsKind tables (legal_by last) x.kind → FitsBody tables (legal_by last) (class_site class [] 3)
     by x e k =
         let q : x ≡ bean = cc in
-        let c : FitsClass tables (legal_by ProceedToo) class = subst (λ (y : Rattle.cdi_machine.specs.Tables.Bean). Rattle.cdi_worlds_fit.specs.Fits.FitsKind tables (legal_by ProceedToo) y.kind) q k in
-        never c.pre_destroy.callbacks.0
+        let c : FitsClass tables (legal_by last) class = subst (λ (y : Rattle.cdi_machine.specs.Tables.Bean). Rattle.cdi_worlds_fit.specs.Fits.FitsKind tables (legal_by last) y.kind) q k in
+        c.pre_destroy.callbacks.0
+
+nothing_seen : View
+nothing_seen = record { args = []; answers = [] }
+
+pub refuses : RefusesWrongBodies
+refuses fits = let e : false ≡ true = callback ProceedToo fits 0 [] nothing_seen (acts.Proceed None) tt in cc
+
+refuses_reading : Fits tables (legal_by ReadToo) → ⊥
+refuses_reading fits =
+    let h = callback ReadToo fits 0 [] nothing_seen (acts.Read (vias.Local 0)) tt in
+    let e : None ≡ Some h.0 = h.1 in
+    absurd cc
+
+refuses_firing : Fits tables (legal_by FireToo) → ⊥
+refuses_firing fits =
+    let e : false ≡ true = callback FireToo fits 0 [] nothing_seen (acts.Fire 4 [] Rattle.cdi_base.specs.declared.value.Value.TheVariants.Null) refl in
+    cc
+
+pub refuses_unknown : RefusesUnknownNames
+refuses_unknown = (refuses_reading, refuses_firing)

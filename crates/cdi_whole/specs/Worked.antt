@@ -1,5 +1,5 @@
 -- Small tables and bodies that fit one another, with each part that there is; and ones that don't.
-use Rattle.std.specs.Prelude.{ℕ, zero, suc, ◌≡◌, List, [], ◌∷◌, true, Option, Some, None, length}
+use Rattle.std.specs.Prelude.{ℕ, zero, suc, ◌≡◌, ◌==◌, List, [], ◌∷◌, true, Option, Some, None, length}
 use Rattle.cdi_base.specs.declared.act.Act.{Act}
 use Rattle.cdi_base.specs.declared.act.Act.TheVariants as acts
 use Rattle.cdi_base.specs.declared.act.Via.TheVariants as vias
@@ -104,7 +104,7 @@ tables =
       is_checked = λ x. true;
       text = λ x. Some [];
       is_known = λ asked. true;
-      is_event = λ class uses. true;
+      is_event = λ class uses. class == 3;
     }
 
 -- the method sets its field, looks up, reads, writes and destroys what it found, calls itself through the injected field and
@@ -113,18 +113,18 @@ abbrev pub MethodMay : Act → Type 0
 MethodMay (acts.Set field v) = field ≡ 4
 MethodMay (acts.Call (vias.Field field) name args) = (field ≡ 5) × (name ≡ 7) × (length args ≡ 1)
 MethodMay (acts.Own name args) = (name ≡ 7) × (length args ≡ 1)
-MethodMay (acts.Read (vias.Local k)) = Unit {0}
-MethodMay (acts.Write (vias.Local k) v) = Unit {0}
-MethodMay (acts.Fire name uses v) = Unit {0}
+MethodMay (acts.Read (vias.Local k)) = k ≡ 0
+MethodMay (acts.Write (vias.Local k) v) = k ≡ 0
+MethodMay (acts.Fire name uses v) = name ≡ 3
 MethodMay (acts.Find k) = k ≡ 0
-MethodMay (acts.Destroy k) = Unit {0}
+MethodMay (acts.Destroy k) = k ≡ 0
 MethodMay (acts.Give v) = Unit {0}
 MethodMay (acts.Throw x) = Unit {0}
 MethodMay _ = ⊥
 
 -- members with a parameter call the method through it
 abbrev pub MemberMay : Act → Type 0
-MemberMay (acts.Call (vias.Param k) name args) = (name ≡ 7) × (length args ≡ 1)
+MemberMay (acts.Call (vias.Param k) name args) = (k ≡ 0) × (name ≡ 7) × (length args ≡ 1)
 MemberMay (acts.Give v) = Unit {0}
 MemberMay _ = ⊥
 
@@ -152,13 +152,29 @@ ProceedToo (acts.Give v) = Unit {0}
 ProceedToo (acts.Proceed args) = Unit {0}
 ProceedToo _ = ⊥
 
+-- a callback has no lookup
+abbrev pub ReadToo : Act → Type 0
+ReadToo (acts.Give v) = Unit {0}
+ReadToo (acts.Read (vias.Local k)) = Unit {0}
+ReadToo _ = ⊥
+
+-- there is no event class of this name
+abbrev pub FireToo : Act → Type 0
+FireToo (acts.Give v) = Unit {0}
+FireToo (acts.Fire class uses v) = class ≡ 4
+FireToo _ = ⊥
+
 abbrev pub legal_by : (Act → Type 0) → Legal
 legal_by last =
     record { gives = λ body count fields view a. BodyMay last body a; picks = λ candidates count i. Unit {0} }
 
--- these fit one another; they don't if a callback may proceed
+-- these fit one another; they don't if a callback may proceed, or name what isn't there
 abbrev pub AcceptsRightBodies : Type 0
 AcceptsRightBodies = Fits tables (legal_by GiveOnly)
 
 abbrev pub RefusesWrongBodies : Type 0
 RefusesWrongBodies = Fits tables (legal_by ProceedToo) → ⊥
+
+abbrev pub RefusesUnknownNames : Type 0
+RefusesUnknownNames =
+    (Fits tables (legal_by ReadToo) → ⊥) × (Fits tables (legal_by FireToo) → ⊥)

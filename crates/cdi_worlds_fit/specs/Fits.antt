@@ -97,28 +97,34 @@ LeadsTo t s (vias.Field field) b = (point : Asked) × IsIn (field, point) s.inje
 LeadsTo t s (vias.Param k) b = (point : Asked) × (slice_get s.points k ≡ Some point) × (t.resolve point ≡ One b)
 LeadsTo t s (vias.Local k) b = (point : Asked) × (t.lookup s.body k ≡ Some point) × (t.resolve point ≡ One b)
 
+-- something stands behind the reference: an injected field of the instance, a parameter of the body, or a lookup that it has
+abbrev pub IsThere : Tables → Site → Via → Type 0
+IsThere t s (vias.Field field) = (point : Asked) × IsIn (field, point) s.injected
+IsThere t s (vias.Param k) = (point : Asked) × (slice_get s.points k ≡ Some point)
+IsThere t s (vias.Local k) = (point : Asked) × (t.lookup s.body k ≡ Some point)
+
 -- the bean is a managed one, and has the method
 pub record AnswersCalls (t : Tables) (b : ℕ) (name : Name) (count : ℕ) : Type 0 where
   pub class : Managed
   pub is : IsClassOf t b class
   pub takes : HasMethod class.methods name count
 
--- An act that asks for what is there: a field to set, a method of its own, a method of whatever is behind the reference
--- through which it calls, a lookup that the body has, a text of what it throws; and what belongs to an invocation is asked for
--- by the body of an interceptor alone.
+-- An act that asks for what is there: a field to set, a method of its own, a reference through which it calls, reads or writes,
+-- and a method of whatever is behind it, an event class, a lookup that the body has, a text of what it throws; and what belongs
+-- to an invocation is asked for by the body of an interceptor alone.
 abbrev pub FitsAct : Tables → Site → View → Act → Type 0
 FitsAct t s view (acts.Set field v) = has s.fields field ≡ true
 FitsAct t s view (acts.Call via name args) =
-    (b : ℕ) → LeadsTo t s via b → AnswersCalls t b name (length args)
+    IsThere t s via × ((b : ℕ) → LeadsTo t s via b → AnswersCalls t b name (length args))
 FitsAct t s view (acts.Own name args) = HasMethod s.methods name (length args)
-FitsAct t s view (acts.Read via) = Unit {0}
-FitsAct t s view (acts.Write via v) = Unit {0}
-FitsAct t s view (acts.Fire class qualifiers v) = Unit {0}
+FitsAct t s view (acts.Read via) = IsThere t s via
+FitsAct t s view (acts.Write via v) = IsThere t s via
+FitsAct t s view (acts.Fire class qualifiers v) = t.is_event class [] ≡ true
 FitsAct t s view (acts.Proceed args) = s.chained ≡ true
 FitsAct t s view (acts.Find k) = (point : Asked) × (t.lookup s.body k ≡ Some point)
 FitsAct t s view (acts.Keep key v) = s.chained ≡ true
 FitsAct t s view (acts.Peek key) = s.chained ≡ true
-FitsAct t s view (acts.Destroy k) = Unit {0}
+FitsAct t s view (acts.Destroy k) = IsThere t s (vias.Local k)
 FitsAct t s view (acts.Give v) = Unit {0}
 FitsAct t s view (acts.Throw x) = HasText t x ⊎ (is_thrown x (last_answer view) ≡ true)
 
