@@ -66,6 +66,11 @@ last_claimed before e claim is =
 
 -- ---- elements of one kind that claim something
 
+-- none claims what an earlier one does
+abbrev pub OnceBy : {A : Type 0} → (A → Claim) → List A → Type 0
+OnceBy claim [] = Unit {0}
+OnceBy {A} claim (x ∷ xs) = ((y : A) → Among y xs → claim x ≡ claim y → ⊥) × OnceBy claim xs
+
 module _ {A : Type 0} (element : A → Element) (claim : A → Claim) (claimed : (x : A) → Contains (claims_of (element x)) (claim x)) where
   fresh : (before : List Element) (xs : List A) (x : A) → HaveNone before (map element xs) → Contains (claims_after before) (claim x) → Among x xs → ⊥
   fresh before [] x free earlier a = a
@@ -79,6 +84,14 @@ module _ {A : Type 0} (element : A → Element) (claim : A → Claim) (claimed :
   behind before y x ys free e a =
       let P : Claim → Type 0 = λ k. Contains (claims_after (before ++ element y ∷ [])) k in
       fresh (before ++ element y ∷ []) ys x (others_have_none before (element y) (map element ys) free) (subst P e (last_claimed before (element y) (claim y) (claimed y))) a
+
+  -- each claims what no later one does
+  claims_once : (before : List Element) (xs : List A) → HaveNone before (map element xs) → OnceBy claim xs
+  claims_once before [] free = tt
+  claims_once before (x ∷ xs) free = (
+    (λ y a e. behind before x y xs free e a),
+    claims_once (before ++ element x ∷ []) xs (others_have_none before (element x) (map element xs) free),
+  )
 
   -- what claims the same is the same
   one_claims : (before : List Element) (xs : List A) → HaveNone before (map element xs) → (x y : A) → Among x xs → Among y xs → claim x ≡ claim y → x ≡ y
@@ -94,8 +107,8 @@ abbrev elements_from : ℕ → List Class → List Element
 elements_from i cs = flat_map class_elements (enumerate_from i cs)
 
 -- the elements of a class, after some others that stand behind these
-record IsFree (before : List Element) (c : Class) : Type 0 where
-  index : ℕ
+pub record IsFree (before : List Element) (c : Class) : Type 0 where
+  pub index : ℕ
   more : List Element
   free : HaveNone (before ++ more) (class_elements (index, c))
 
@@ -157,7 +170,7 @@ pub record IsNamedApart (c : Class) : Type 0 where
   pub inject : (f g : InjectedField) → Among f c.inject → Among g c.inject → f.name ≡ g.name → f ≡ g
 
 module _ (d : Deployment) (well : AreNameProblems d []) (c : Class) (listed : Among c d.classes) where
-  is_free : IsFree (above d) c
+  pub is_free : IsFree (above d) c
   is_free = each_free d.classes 0 (above d) c (classes_free d well) listed
 
   pub named_apart : IsNamedApart c
@@ -178,6 +191,18 @@ module _ (d : Deployment) (well : AreNameProblems d []) (c : Class) (listed : Am
         inject = λ f g a b e.
             one_claims (Element.AnInjectedField i c) (λ (k : InjectedField). claims.ClassPart i k.name) (λ k. (0, omega arith, refl)) _ c.inject to_inject f g a b (ap (λ k. claims.ClassPart i k) e);
       }
+
+  -- no member has the name of an earlier one
+  pub members_once : OnceBy (λ (m : Member). claims.ClassPart is_free.index (member_name m)) c.members
+  members_once =
+      let i = is_free.index in
+      let before = above d ++ is_free.more in
+      let fields = Element.AClass i c ∷ map (Element.AField i c) c.fields in
+      let inject = map (Element.AnInjectedField i c) c.inject in
+      let constructor = map (Element.AConstructor i c) (option_to_list c.constructor) in
+      let ms = map (Element.AMember i c) c.members in
+      claims_once (Element.AMember i c) (λ k. claims.ClassPart i (member_name k)) (member_claimed i c) _ c.members
+      (back_has_none before (fields ++ inject ++ constructor) ms is_free.free)
 
   -- no claim of a type that stands before the classes is of their names
   unclaimed : (name : ℕ) → Contains (claims_after (above d)) (claims.Type name) → name ≡ c.name → ⊥

@@ -237,12 +237,14 @@ module _ {X : Type 0} {F : X → Type 0} {g : _} (entries : List (Entry X F g)) 
       covers.owns name (length args) (subst Q (eqb-true found.item.count (length args) both.1) (subst P (eqb-true found.item.method name both.0) there))
   fits_act view (acts.Call via name args) h =
       let found = listed_call app parts params s is_within.calls via name (length args) h in
-      let stands = some_called app found.call (point_at parts params s.lookups via) found.there in
-      (is_there via stands.0 stands.1, λ b leads.
-      let point = behind via found.call b found.there leads in
-      let P : ℕ → Type 0 = λ n. AnswersCalls (whole_tables w) b n found.call.count in
-      let Q : ℕ → Type 0 = λ n. AnswersCalls (whole_tables w) b name n in
-      subst Q found.takes (subst P found.method (answered entries w tabled ids sound point.point found.call b point.accepted point.resolves)))
+      let stands = some_called app found.call (point_at parts params s.lookups via) found.there in (
+        is_there via stands.0 stands.1,
+        λ b leads.
+            let point = behind via found.call b found.there leads in
+            let P : ℕ → Type 0 = λ n. AnswersCalls (whole_tables w) b n found.call.count in
+            let Q : ℕ → Type 0 = λ n. AnswersCalls (whole_tables w) b name n in
+            subst Q found.takes (subst P found.method (answered entries w tabled ids sound point.point found.call b point.accepted point.resolves)),
+      )
   fits_act view (acts.Throw x) h = by (or_cases (list_any (λ y. nat_eq y x) s.throws) (is_thrown x (last_answer view)) h)
     where
       by : (list_any (λ y. nat_eq y x) s.throws ≡ true) ⊎ (is_thrown x (last_answer view) ≡ true) → FitsAct (whole_tables w) site view (acts.Throw x)

@@ -38,7 +38,7 @@ sound entries w a =
     bodies_sound w.run.deployment (shape_of entries) (setting_by w.run.deployment w.run.tables) problems.of_bodies two.0 problems.are_of_bodies
 
 -- what the machine has as a class is a managed bean
-class_is_managed : (t : RunTables) (planning : PlanTables) (listed : Bean) (planned : PlannedBean) (plan : Plan) → IsPlanOf planning listed plan → (bean : machine.Bean) (c : machine.Managed)
+pub class_is_managed : (t : RunTables) (planning : PlanTables) (listed : Bean) (planned : PlannedBean) (plan : Plan) → IsPlanOf planning listed plan → (bean : machine.Bean) (c : machine.Managed)
     → option_map (bean_with planned) (machine_kind (id_of t) t.tables.resolver.beans plan) ≡ Some bean → bean.kind ≡ machine.Kind.Class c → listed.kind ≡ kinds.Managed
 class_is_managed t planning listed planned (plans.Managed p) (IsPlanOf.managed kind is) bean c e k = kind
 class_is_managed t planning listed planned (plans.Product p) (IsPlanOf.product is) bean c e k = by (managed_bean t.tables.resolver.beans p.declaring) e
@@ -50,7 +50,7 @@ class_is_managed t planning listed planned (plans.Product p) (IsPlanOf.product i
         let other = kind ∙ k in
         absurd cc
 
-same_class : (x y : machine.Managed) → machine.Kind.Class x ≡ machine.Kind.Class y → x ≡ y
+pub same_class : (x y : machine.Managed) → machine.Kind.Class x ≡ machine.Kind.Class y → x ≡ y
 same_class x y e = cc
 
 pub managed_fit : {X : Type 0} {F : X → Type 0} {g : _} (entries : List (Entry X F g)) → LieInShape entries → ManagedFit entries

@@ -2,7 +2,7 @@
 use Rattle.std.proofs.Common.{ℕ, zero, suc, ◌≡◌, ◌<◌, ◌∙◌, ◌+◌, ◌⊎◌, ◌&&◌, inl, inr, Bool, true, false, cond, nat_eq, List, [], ◌∷◌, ◌++◌, map, filter, length, get_or, Option, Some, None, refl, sym, ap, subst, arith}
 use Rattle.std.specs.Prelude.{int_lt, option_and_then, option_map, position, slice_get, if◌then◌else◌}
 use Rattle.std.specs.Ordering.{int_eq}
-use Rattle.std.proofs.lemmas.Bool.{and_parts, eqb-true, true≢false}
+use Rattle.std.proofs.lemmas.Bool.{and_parts, eqb-true}
 use Rattle.std.proofs.lemmas.List.Quantifiers.{position-Some}
 use Rattle.std.proofs.lemmas.Option.{same_Some}
 use Rattle.std.specs.List.{AllByRecursion, AllZip, enumerate_from, filter_map}
@@ -11,8 +11,6 @@ use Rattle.cdi_bean_check.specs.Inherited.{AreMembersOf}
 use Rattle.cdi_bean_check.specs.ManagedBeans.{is_bean}
 use Rattle.cdi_beans.specs.ObserverMethods.{AreObserversOf, IsObserverOf, observer}
 use Rattle.cdi_beans.specs.declared.bean.Bean.{Bean}
-use Rattle.cdi_beans.specs.declared.bean.BeanKind.{BeanKind}
-use Rattle.cdi_beans.specs.declared.bean.BeanKind.TheVariants as kinds
 use Rattle.cdi_beans.specs.declared.bean.ObserverMethod.{ObserverMethod}
 use Rattle.cdi_bodies.specs.Gives.{LieInShape}
 use Rattle.cdi_bodies.specs.declared.entry.Entry.{Entry}
@@ -143,7 +141,7 @@ as_member (c, members.Producer m) declared e = absurd cc
 as_member (c, members.ProducerField m) declared e = absurd cc
 as_member (c, members.Disposer m) declared e = absurd cc
 
-of_as_observer : (m : Member) (o : Observer) → as_observer m ≡ Some o → m ≡ members.Observer o
+pub of_as_observer : (m : Member) (o : Observer) → as_observer m ≡ Some o → m ≡ members.Observer o
 of_as_observer (members.Observer x) o e = ap (λ k. members.Observer k) (same_Some x o e)
 of_as_observer (members.Method m) o e = absurd cc
 of_as_observer (members.Initializer m) o e = absurd cc

@@ -1,6 +1,6 @@
 //! Laws on what an accepted deployment gives the whole machine. A call of one of these does nothing: its contract is the law.
 ghost use Rattle.cdi_bodies.specs.Table.{entries_of};
-ghost use Rattle.cdi_site_fit.specs.Accepted.{ManagedFit, WholeFits};
+ghost use Rattle.cdi_site_fit.specs.Accepted.{FarewellsApart, FarewellsBeginOnce, FarewellsBeginOnceIfShort, ManagedFit, WholeFits};
 ghost use Rattle.cdi_site_fit.specs.Chains.{InvokesPlanned, LivesPlanned};
 
 use cdi_bodies::Bodies;
@@ -15,6 +15,17 @@ pub fn law_managed_fit(bodies: &Bodies)
 /// The tables of an accepted deployment, answered whole, fit its bodies.
 pub fn law_whole_fits(bodies: &Bodies)
     ensures { WholeFits (entries_of bodies.now) }
+{
+    Bodies::gives_in_shape(bodies);
+}
+
+/// The tables of an accepted deployment, answered whole, tell the bodies of a destruction from all others by their places; and so
+/// each destruction begins its callbacks exactly once, also if memory runs out (Jakarta CDI 4.0, *Lifecycle of managed beans*;
+/// Jakarta Interceptors 2.1, *Interceptor Methods for Lifecycle Event Callbacks*).
+pub fn law_farewells_begin_once(bodies: &Bodies)
+    ensures apart { FarewellsApart (entries_of bodies.now) }
+    ensures with_memory { FarewellsBeginOnce (entries_of bodies.now) }
+    ensures short_of_memory { FarewellsBeginOnceIfShort (entries_of bodies.now) }
 {
     Bodies::gives_in_shape(bodies);
 }
