@@ -6,11 +6,13 @@ ghost use Rattle.cdi_check.specs.Late.{AreProblemsIn};
 ghost use Rattle.cdi_check.specs.Tables.{setting_by};
 ghost use Rattle.cdi_types.specs.Declarations.{declarations_of};
 
-use crate::tables::LateTables;
+use crate::late::all_problems;
 use cdi_base::Seq;
 use cdi_bodies::Bodies;
+use cdi_body_check::{BodyTables, DeclaredExceptions};
 use cdi_deployment::Deployment;
-use cdi_live::{CycleTables, LiveTables, PointTables};
+use cdi_live::{DeploymentTables, LiveTables};
+use cdi_name_check::DeclaredNames;
 use cdi_problems::Problem;
 use cdi_resolve::BeanTables;
 use cdi_types::ClassIndex;
@@ -20,37 +22,31 @@ use std::alloc::{AllocError, Global};
 fn problems_where_live<'a>(
     alloc: Global,
     deployment: &'a Deployment,
-    tables: &'a BeanTables,
+    beans: &'a BeanTables,
     bodies: &Bodies,
-    classes: &'a ClassIndex<'_>,
     live: &'a LiveTables<'_>,
 ) -> Result<Seq<Problem>, AllocError>
-    requires types { tables.now.declared.types ≡ declarations_of deployment.now }
-    requires classes { classes.now ≡ deployment.now.classes }
-    requires live { live.now ≡ (setting_by deployment.now tables.now).enabled }
+    requires types { beans.now.declared.types ≡ declarations_of deployment.now }
+    requires live { live.now ≡ (setting_by deployment.now beans.now).enabled }
     ensures { IfOk result (AreProblemsIn deployment.now (shape_of (entries_of bodies.now))
-        tables.now.enabled (setting_by deployment.now tables.now)) }
+        beans.now.enabled (setting_by deployment.now beans.now)) }
 {
-    let declared = &tables.declared;
-    let points = PointTables {
-        classes,
-        qualifiers: &declared.qualifiers,
-        resolver: &tables.resolver,
+    let names = DeclaredNames::build(alloc, deployment)?;
+    let classes = ClassIndex::build(alloc, deployment.classes.as_slice())?;
+    let exceptions = DeclaredExceptions::build(alloc, deployment.exceptions.as_slice())?;
+    let application = DeploymentTables {
+        deployment,
+        names: &names,
+        classes: &classes,
+        beans,
         live,
     };
-    let cycles = CycleTables {
-        points,
-        types: &declared.types,
-        interceptors: deployment.interceptors.as_slice(),
-        chains: &tables.chains,
-        disposers: tables.disposers.as_slice(),
+    let tables = BodyTables {
+        application: &application,
+        exceptions: &exceptions,
+        bodies,
     };
-    let tables = LateTables {
-        deployment,
-        enabled: &tables.enabled,
-        cycles,
-    };
-    let problems = tables.problems(alloc, bodies)?;
+    let problems = all_problems(alloc, &tables)?;
     Ok(problems)
 }
 
@@ -85,7 +81,6 @@ pub(crate) fn problems_by(
     ensures { IfOk result (AreProblemsIn deployment.now (shape_of (entries_of bodies.now))
         tables.now.enabled (setting_by deployment.now tables.now)) }
 {
-    let classes = ClassIndex::build(alloc, deployment.classes.as_slice())?;
     let live = live_of(alloc, deployment, tables)?;
-    problems_where_live(alloc, deployment, tables, bodies, &classes, &live)
+    problems_where_live(alloc, deployment, tables, bodies, &live)
 }

@@ -2,7 +2,6 @@
 //! exception.
 #![tactic(auto)]
 
-pub mod application;
 mod events;
 mod injected;
 mod lookups;
@@ -10,5 +9,4 @@ pub mod outside_shape;
 mod own;
 mod references;
 
-pub use application::ApplicationTables;
-pub use outside_shape::{ShapeTables, bodies_outside_shape};
+pub use outside_shape::bodies_outside_shape;

@@ -10,33 +10,23 @@ ghost use Rattle.cdi_shape_check.specs.Application.{application_of};
 ghost use Rattle.cdi_shape_check.specs.BodyOutsideShape as spec;
 ghost use Rattle.cdi_shape_check.specs.OwnTables.{parts_in};
 
-use crate::application::ApplicationTables;
 use crate::events::{lacks_event, lacks_exception};
 use crate::lookups::lacks_lookup;
 use crate::own::OwnTables;
 use crate::references::{lacks_call, lacks_cell};
 use cdi_base::{Place, Seq};
-use cdi_bodies::{Bodies, Shape};
+use cdi_bodies::Shape;
 use cdi_body_check::{
-    BodySite, SiteRule, add_class_sites, add_interceptor_sites, add_places, shapes,
+    BodySite, BodyTables, SiteRule, add_class_sites, add_interceptor_sites, add_places, shapes,
 };
 use cdi_deployment::{Class, Interceptor, Point};
-use cdi_live::LiveTables;
 use cdi_problems::once;
 use std::alloc::{AllocError, Global};
-
-/// A deployment's tables with what is live in it, and the bodies that are registered.
-#[derive(Clone, Copy)]
-pub struct ShapeTables<'a> {
-    pub application: &'a ApplicationTables<'a>,
-    pub live: &'a LiveTables<'a>,
-    pub bodies: &'a Bodies,
-}
 
 /// The shape of a live site's body names something that isn't there.
 #[derive(Clone, Copy)]
 struct OutsideShape<'a> {
-    tables: ShapeTables<'a>,
+    tables: &'a BodyTables<'a>,
     /// What the instance has that the body runs on.
     own: &'a OwnTables<'a>,
 }
@@ -59,12 +49,14 @@ fn lacks_method(own: &OwnTables<'_>, shape: &Shape) -> bool
 }
 
 /// Whether a shape has an event, a lookup or an exception with an unknown name.
-fn names_unknown(application: &ApplicationTables<'_>, shape: &Shape) -> bool
-    ensures { result ≡ spec.names_unknown (application_of application.now).deployment shape.now }
+fn names_unknown(tables: &BodyTables<'_>, shape: &Shape) -> bool
+    ensures { result ≡ spec.names_unknown
+        (application_of tables.now.application.now).deployment shape.now }
 {
+    let application = tables.application;
     lacks_event(application, shape)
         || lacks_lookup(application, shape)
-        || lacks_exception(application, shape)
+        || lacks_exception(tables.exceptions, shape)
 }
 
 /// Whether a shape has a local to destroy that no lookup of its gives.
@@ -77,34 +69,35 @@ fn lacks_local(shape: &Shape) -> bool
 
 /// Whether a shape names something that isn't there.
 fn names_missing(
-    application: &ApplicationTables<'_>,
+    tables: &BodyTables<'_>,
     own: &OwnTables<'_>,
     params: &[Point],
     shape: &Shape,
 ) -> bool
     ensures { result ≡ spec.names_missing
-        (application_of application.now) (parts_in own.now) params.now shape.now }
+        (application_of tables.now.application.now) (parts_in own.now) params.now shape.now }
 {
+    let application = tables.application;
     lacks_field(own, shape)
         || lacks_method(own, shape)
         || lacks_call(application, own, params, shape)
         || lacks_cell(application, own, params, shape)
-        || names_unknown(application, shape)
+        || names_unknown(tables, shape)
         || lacks_local(shape)
 }
 
 /// Whether a body is registered whose shape names something that isn't there.
 fn is_outside(
-    application: &ApplicationTables<'_>,
+    tables: &BodyTables<'_>,
     own: &OwnTables<'_>,
     params: &[Point],
     shape: Option<&Shape>,
 ) -> bool
-    ensures { result ≡ spec.is_outside (application_of application.now) (parts_in own.now)
+    ensures { result ≡ spec.is_outside (application_of tables.now.application.now) (parts_in own.now)
         params.now (option_copied shape.entry) }
 {
     match shape {
-        Some(shape) => names_missing(application, own, params, shape),
+        Some(shape) => names_missing(tables, own, params, shape),
         None => false,
     }
 }
@@ -118,15 +111,16 @@ impl SiteRule for OutsideShape<'_> {
     ghost use Rattle.cdi_shape_check.specs.OwnTables as own;
 
     ghost holds_at = { λ rule s. IsTrue (is_outside_with
-        (application.application_of rule.tables.application.now) rule.tables.live.now
-        (registered.shape_of (table.entries_of rule.tables.bodies.now))
+        (application.application_of rule.tables.now.application.now)
+        rule.tables.now.application.now.live.now
+        (registered.shape_of (table.entries_of rule.tables.now.bodies.now))
         (own.parts_in rule.own.now) s) };
 
     fn holds(&self, site: &BodySite<'_>) -> bool {
-        let tables = &self.tables;
-        site.is_live(tables.live)
+        let tables = self.tables;
+        site.is_live(tables.application.live)
             && is_outside(
-                tables.application,
+                tables,
                 self.own,
                 site.params(),
                 shapes::shape_of(tables.bodies, site.body()),
@@ -137,55 +131,49 @@ impl SiteRule for OutsideShape<'_> {
 /// Adds the places in a class.
 fn add_of_class(
     alloc: Global,
-    tables: &ShapeTables<'_>,
+    tables: &BodyTables<'_>,
     class: &Class,
     found: &mut Seq<Place>,
 ) -> Result<(), AllocError>
     ensures { OnOk result (AddsPlacesOf (spec.HasBodyOutsideShape
-        (application_of tables.now.application.now) tables.now.live.now
+        (application_of tables.now.application.now) tables.now.application.now.live.now
         (shape_of (entries_of tables.now.bodies.now))) (class_sites class.now)
         found.old found.new) }
 {
     let own = OwnTables::of_class(alloc, tables.application, class)?;
     let mut sites = Vec::new(alloc);
     add_class_sites(class, &mut sites)?;
-    let rule = OutsideShape {
-        tables: *tables,
-        own: &own,
-    };
+    let rule = OutsideShape { tables, own: &own };
     add_places(&rule, sites.as_slice(), found)
 }
 
 /// Adds the places in an interceptor.
 fn add_of_interceptor(
     alloc: Global,
-    tables: &ShapeTables<'_>,
+    tables: &BodyTables<'_>,
     interceptor: &Interceptor,
     found: &mut Seq<Place>,
 ) -> Result<(), AllocError>
     ensures { OnOk result (AddsPlacesOf (spec.HasBodyOutsideShape
-        (application_of tables.now.application.now) tables.now.live.now
+        (application_of tables.now.application.now) tables.now.application.now.live.now
         (shape_of (entries_of tables.now.bodies.now))) (interceptor_sites interceptor.now)
         found.old found.new) }
 {
     let own = OwnTables::of_interceptor(alloc, interceptor)?;
     let mut sites = Vec::new(alloc);
     add_interceptor_sites(interceptor, &mut sites)?;
-    let rule = OutsideShape {
-        tables: *tables,
-        own: &own,
-    };
+    let rule = OutsideShape { tables, own: &own };
     add_places(&rule, sites.as_slice(), found)
 }
 
 fn add_of_classes(
     alloc: Global,
-    tables: &ShapeTables<'_>,
+    tables: &BodyTables<'_>,
     classes: &[Class],
     found: &mut Seq<Place>,
 ) -> Result<(), AllocError>
     ensures { OnOk result (AddsPlacesOf (spec.HasBodyOutsideShape
-        (application_of tables.now.application.now) tables.now.live.now
+        (application_of tables.now.application.now) tables.now.application.now.live.now
         (shape_of (entries_of tables.now.bodies.now))) (flat_map class_sites classes.now)
         found.old found.new) }
 {
@@ -197,12 +185,12 @@ fn add_of_classes(
 
 fn add_of_interceptors(
     alloc: Global,
-    tables: &ShapeTables<'_>,
+    tables: &BodyTables<'_>,
     interceptors: &[Interceptor],
     found: &mut Seq<Place>,
 ) -> Result<(), AllocError>
     ensures { OnOk result (AddsPlacesOf (spec.HasBodyOutsideShape
-        (application_of tables.now.application.now) tables.now.live.now
+        (application_of tables.now.application.now) tables.now.application.now.live.now
         (shape_of (entries_of tables.now.bodies.now))) (flat_map interceptor_sites interceptors.now)
         found.old found.new) }
 {
@@ -219,14 +207,14 @@ fn add_of_interceptors(
 /// superclasses.
 pub fn bodies_outside_shape(
     alloc: Global,
-    tables: &ShapeTables<'_>,
+    tables: &BodyTables<'_>,
 ) -> Result<Seq<Place>, AllocError>
     ensures { IfOk result (ArePlacesOf (spec.HasBodyOutsideShape
-        (application_of tables.now.application.now) tables.now.live.now
+        (application_of tables.now.application.now) tables.now.application.now.live.now
         (shape_of (entries_of tables.now.bodies.now)))
         (sites_of (application_of tables.now.application.now).deployment)) }
 {
-    let deployment = tables.application.names.deployment();
+    let deployment = tables.application.deployment;
     let mut found = Seq::empty(alloc);
     add_of_classes(alloc, tables, deployment.classes.as_slice(), &mut found)?;
     add_of_interceptors(

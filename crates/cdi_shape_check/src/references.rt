@@ -9,12 +9,12 @@ ghost use Rattle.cdi_shape_check.specs.OwnTables.{parts_in};
 ghost use Rattle.cdi_shape_check.specs.References as spec;
 ghost use Rattle.cdi_shape_check.specs.Targets.{point_of};
 
-use crate::application::ApplicationTables;
 use crate::own::OwnTables;
 use cdi_base::{Name, Use, Via};
 use cdi_beans::{Bean, BeanKind, BeanMember};
 use cdi_bodies::{Lookup, MethodCall, Shape};
 use cdi_deployment::{Class, InjectedField, Member, Point};
+use cdi_live::DeploymentTables;
 use cdi_resolve::Resolution;
 
 /// The required type and qualifiers behind a reference.
@@ -69,16 +69,12 @@ fn target_of<'a>(
 }
 
 /// The one bean that a type and qualifiers resolve to.
-fn bean_at<'a>(application: &ApplicationTables<'a>, target: &Target<'_>) -> Option<&'a Bean>
+fn bean_at<'a>(application: &DeploymentTables<'a>, target: &Target<'_>) -> Option<&'a Bean>
     ensures { option_copied result
         ≡ spec.bean_at (application_of application.now) (point_of target.now) }
 {
-    let types = application.qualifiers;
-    match application
-        .resolver
-        .resolve_written(types, *target.ty, target.qualifiers)
-    {
-        Resolution::One(index) => application.resolver.bean(index),
+    match application.resolve(*target.ty, target.qualifiers) {
+        Resolution::One(index) => application.beans.resolver.bean(index),
         _ => None,
     }
 }
@@ -111,7 +107,7 @@ fn declares_called(class: Option<&Class>, call: &MethodCall) -> bool
 }
 
 /// Whether a member of a bean is the method that is called.
-fn is_called(application: &ApplicationTables<'_>, member: &BeanMember, call: &MethodCall) -> bool
+fn is_called(application: &DeploymentTables<'_>, member: &BeanMember, call: &MethodCall) -> bool
     ensures { result ≡ spec.is_called
         (application_of application.now).deployment.classes call.now member.now }
 {
@@ -120,7 +116,7 @@ fn is_called(application: &ApplicationTables<'_>, member: &BeanMember, call: &Me
 
 /// Whether one of the members of a bean is the method that is called.
 fn is_one_called(
-    application: &ApplicationTables<'_>,
+    application: &DeploymentTables<'_>,
     members: &[BeanMember],
     call: &MethodCall,
 ) -> bool
@@ -133,14 +129,14 @@ fn is_one_called(
 }
 
 /// Whether a bean has the method that is called. A product has none.
-fn answers_call(application: &ApplicationTables<'_>, bean: &Bean, call: &MethodCall) -> bool
+fn answers_call(application: &DeploymentTables<'_>, bean: &Bean, call: &MethodCall) -> bool
     ensures { result ≡ spec.answers_call
         (application_of application.now).deployment.classes call.now bean.now }
 {
     bean.is_managed() && is_one_called(application, bean.members.as_slice(), call)
 }
 
-fn refuses_call(application: &ApplicationTables<'_>, bean: Option<&Bean>, call: &MethodCall) -> bool
+fn refuses_call(application: &DeploymentTables<'_>, bean: Option<&Bean>, call: &MethodCall) -> bool
     ensures { result ≡ spec.refuses_call
         (application_of application.now).deployment.classes call.now (option_copied bean.entry) }
 {
@@ -152,7 +148,7 @@ fn refuses_call(application: &ApplicationTables<'_>, bean: Option<&Bean>, call: 
 
 /// Whether a call goes through a reference that isn't there, or that leads to one bean without the method.
 fn is_call_missing(
-    application: &ApplicationTables<'_>,
+    application: &DeploymentTables<'_>,
     target: Option<Target<'_>>,
     call: &MethodCall,
 ) -> bool
@@ -175,7 +171,7 @@ fn holds_none(bean: Option<&Bean>) -> bool
 }
 
 /// Whether a value is behind a reference that isn't there, or that leads to one managed bean.
-fn is_cell_missing(application: &ApplicationTables<'_>, target: Option<Target<'_>>) -> bool
+fn is_cell_missing(application: &DeploymentTables<'_>, target: Option<Target<'_>>) -> bool
     ensures { result ≡ spec.is_cell_missing
         (application_of application.now) (option_map point_of target.entry) }
 {
@@ -187,7 +183,7 @@ fn is_cell_missing(application: &ApplicationTables<'_>, target: Option<Target<'_
 
 /// Whether a shape has such a call.
 pub(crate) fn lacks_call(
-    application: &ApplicationTables<'_>,
+    application: &DeploymentTables<'_>,
     own: &OwnTables<'_>,
     params: &[Point],
     shape: &Shape,
@@ -205,7 +201,7 @@ pub(crate) fn lacks_call(
 
 /// Whether a shape has such a value.
 pub(crate) fn lacks_cell(
-    application: &ApplicationTables<'_>,
+    application: &DeploymentTables<'_>,
     own: &OwnTables<'_>,
     params: &[Point],
     shape: &Shape,
