@@ -17,9 +17,7 @@ use cdi_body_check::{
     unknown_bodies,
 };
 use cdi_live::{DeploymentTables, PointProblem, PointRule, dependent_cycles};
-use cdi_problems::{
-    Element, Problem, ProblemKind, add_problems_at, elements_of as all_elements, places_where,
-};
+use cdi_problems::{Element, Problem, ProblemKind, add_problems_at, places_where};
 use cdi_shape_check::bodies_outside_shape;
 use std::alloc::{AllocError, Global};
 
@@ -127,11 +125,13 @@ fn add_of_enabled(
     Ok(())
 }
 
-/// All problems of the last tier.
+/// All problems of the last tier, by the elements of the deployment.
 pub(crate) fn all_problems(
     alloc: Global,
     tables: &BodyTables<'_>,
+    elements: &[Element<'_>],
 ) -> Result<Seq<Problem>, AllocError>
+    requires { shown elements.now ≡ elements_of tables.now.application.now.deployment.now }
     ensures { IfOk result (spec.AreProblemsIn tables.now.application.now.deployment.now
         (shape_of (entries_of tables.now.bodies.now))
         tables.now.application.now.beans.now.enabled
@@ -139,10 +139,9 @@ pub(crate) fn all_problems(
 {
     let application = tables.application;
     let sites = all_sites(alloc, application.deployment)?;
-    let elements = all_elements(alloc, application.deployment)?;
     let mut problems = Seq::empty(alloc);
     add_of_bodies(alloc, tables, sites.as_slice(), &mut problems)?;
-    add_of_points(alloc, application, elements.as_slice(), &mut problems)?;
-    add_of_enabled(alloc, application, elements.as_slice(), &mut problems)?;
+    add_of_points(alloc, application, elements, &mut problems)?;
+    add_of_enabled(alloc, application, elements, &mut problems)?;
     Ok(problems)
 }

@@ -11,9 +11,9 @@ use cdi_base::Seq;
 use cdi_bodies::Bodies;
 use cdi_body_check::{BodyTables, DeclaredExceptions};
 use cdi_deployment::Deployment;
-use cdi_live::{DeploymentTables, LiveTables};
+use cdi_live::{DeploymentTables, LiveTables, ResolvedPoints};
 use cdi_name_check::DeclaredNames;
-use cdi_problems::Problem;
+use cdi_problems::{Problem, elements_of as all_elements};
 use cdi_resolve::BeanTables;
 use cdi_types::ClassIndex;
 use std::alloc::{AllocError, Global};
@@ -34,19 +34,23 @@ fn problems_where_live<'a>(
     let names = DeclaredNames::build(alloc, deployment)?;
     let classes = ClassIndex::build(alloc, deployment.classes.as_slice())?;
     let exceptions = DeclaredExceptions::build(alloc, deployment.exceptions.as_slice())?;
+    let elements = all_elements(alloc, deployment)?;
+    let qualifiers = &beans.declared.qualifiers;
+    let points = ResolvedPoints::build(alloc, qualifiers, &beans.resolver, elements.as_slice())?;
     let application = DeploymentTables {
         deployment,
         names: &names,
         classes: &classes,
         beans,
         live,
+        points: &points,
     };
     let tables = BodyTables {
         application: &application,
         exceptions: &exceptions,
         bodies,
     };
-    let problems = all_problems(alloc, &tables)?;
+    let problems = all_problems(alloc, &tables, elements.as_slice())?;
     Ok(problems)
 }
 

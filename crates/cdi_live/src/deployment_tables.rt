@@ -7,6 +7,7 @@ ghost use Rattle.cdi_types.specs.Declarations.{declarations_of};
 ghost use Rattle.cdi_types.specs.Line.{class_named};
 
 use crate::live_tables::LiveTables;
+use crate::resolved_points::ResolvedPoints;
 use cdi_base::{Name, Use};
 use cdi_deployment::{Class, Deployment};
 use cdi_name_check::DeclaredNames;
@@ -22,12 +23,16 @@ pub struct DeploymentTables<'a> {
     /// What its bean list gives.
     pub beans: &'a BeanTables,
     pub live: &'a LiveTables<'a>,
+    /// What its injection points resolve to.
+    pub points: &'a ResolvedPoints<'a>,
     pub ghost names_are: { names.now ≡ deployment.now },
     pub ghost classes_are: { classes.now ≡ deployment.now.classes },
     pub ghost types_are: { beans.now.declared.types ≡ declarations_of deployment.now },
     pub ghost same_classes: { classes.now ≡ live.now.classes },
     pub ghost same_types: { beans.now.declared.types ≡ live.now.types },
     pub ghost same_beans: { enabled_of beans.now.resolver ≡ live.now.beans },
+    pub ghost same_qualifiers: { points.now.qualifiers ≡ beans.now.declared.qualifiers },
+    pub ghost same_enabled: { points.now.enabled ≡ live.now.beans },
     pub ghost same_interceptors: { beans.now.chains.interceptors ≡ live.now.interceptors },
 }
 
@@ -44,9 +49,6 @@ impl<'a> DeploymentTables<'a> {
         ensures { result ≡ spec.resolved self.now.beans.now.declared.qualifiers self.now.live.now
             (record { ty = ty; quals = quals.now }) }
     {
-        let beans = self.beans;
-        beans
-            .resolver
-            .resolve_written(&beans.declared.qualifiers, ty, quals)
+        self.points.resolve(ty, quals)
     }
 }

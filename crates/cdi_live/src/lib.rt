@@ -14,6 +14,7 @@ mod needs;
 pub mod node;
 pub mod point_problem;
 pub mod point_rule;
+pub mod resolved_points;
 mod sets;
 
 pub use cycle_rule::dependent_cycles;
@@ -23,3 +24,4 @@ pub use live_tables::LiveTables;
 pub use node::Node;
 pub use point_problem::PointProblem;
 pub use point_rule::PointRule;
+pub use resolved_points::ResolvedPoints;

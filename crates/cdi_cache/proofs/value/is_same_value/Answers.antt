@@ -1,7 +1,7 @@
 use Rattle.std.proofs.Common.{◌≡◌, ◌∙◌, true, Ordering, Less, Equal, Greater, refl, sym}
 use Rattle.std.specs.Ordering.{is_eq}
 use Rattle.cdi_quals.proofs.Orders.{values_apart}
-use Rattle.cdi_cache.proofs.answer.is_same_value.Goals as goal
+use Rattle.cdi_cache.proofs.value.is_same_value.Goals as goal
 
 equal : (o : Ordering) → is_eq o ≡ true → o ≡ Equal
 equal Less e = absurd cc
