@@ -3,6 +3,7 @@
 #![tactic(auto)]
 
 mod events;
+mod findings;
 mod injected;
 mod lookups;
 pub mod outside_shape;

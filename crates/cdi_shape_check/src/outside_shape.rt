@@ -1,27 +1,26 @@
 //! Bodies whose shapes name something that isn't there.
 ghost use Rattle.std.specs.Prelude.{◌≡◌, IfOk, OnOk};
 ghost use Rattle.std.specs.List.{flat_map};
-ghost use Rattle.std.specs.Option.{option_copied};
 ghost use Rattle.cdi_bodies.specs.Table.{entries_of};
 ghost use Rattle.cdi_body_check.specs.Findings.{ArePlacesOf, AddsPlacesOf};
 ghost use Rattle.cdi_body_check.specs.Shapes.{shape_of};
-ghost use Rattle.cdi_body_check.specs.Sites.{class_sites, interceptor_sites, sites_of};
+ghost use Rattle.cdi_body_check.specs.Sites.{site_of, body_of, params_of, class_sites, interceptor_sites, sites_of};
 ghost use Rattle.cdi_shape_check.specs.Application.{application_of};
 ghost use Rattle.cdi_shape_check.specs.BodyOutsideShape as spec;
+ghost use Rattle.cdi_shape_check.specs.OwnFindings as own_findings;
 ghost use Rattle.cdi_shape_check.specs.OwnTables.{parts_in};
 
-use crate::events::{lacks_event, lacks_exception};
-use crate::lookups::lacks_lookup;
+use crate::findings::{findings_of, is_outside};
 use crate::own::OwnTables;
-use crate::references::{lacks_call, lacks_cell};
-use cdi_base::{Place, Seq};
-use cdi_bodies::Shape;
+use crate::references::misses_params;
+use cdi_base::{Name, Place, Seq};
 use cdi_body_check::{
     BodySite, BodyTables, SiteRule, add_class_sites, add_interceptor_sites, add_places, shapes,
 };
-use cdi_deployment::{Class, Interceptor, Point};
+use cdi_deployment::{Class, Interceptor};
 use cdi_problems::once;
 use std::alloc::{AllocError, Global};
+use std::collections::HashMap;
 
 /// The shape of a live site's body names something that isn't there.
 #[derive(Clone, Copy)]
@@ -29,76 +28,43 @@ struct OutsideShape<'a> {
     tables: &'a BodyTables<'a>,
     /// What the instance has that the body runs on.
     own: &'a OwnTables<'a>,
+    /// What is told of bodies, so that one that many members have is looked at once.
+    findings: &'a HashMap<Name, bool>,
+    ghost findings_are: { own_findings.AreFindings (application_of tables.now.application.now)
+        (parts_in own.now) (shape_of (entries_of tables.now.bodies.now)) findings.now },
 }
 
-/// Whether a shape sets a field that the own instance lacks.
-fn lacks_field(own: &OwnTables<'_>, shape: &Shape) -> bool
-    ensures { result ≡ spec.lacks_field (parts_in own.now) shape.now }
-{
-    shape.sets.iter().any(|name| !own.has_field(*name))
-}
+impl OutsideShape<'_> {
+    /// Whether the shape of a body names something that isn't there, and that doesn't go through parameters.
+    fn is_found(&self, body: Name) -> bool
+        ensures { result ≡ own_findings.is_own_outside
+            (application_of self.now.tables.now.application.now) (parts_in self.now.own.now)
+            (shape_of (entries_of self.now.tables.now.bodies.now) body) }
+    {
+        match self.findings.get(&body) {
+            Some(told) => *told,
+            None => {
+                let tables = self.tables;
+                is_outside(tables, self.own, shapes::shape_of(tables.bodies, body))
+            }
+        }
+    }
 
-/// Whether a shape calls a method on the own instance that it lacks, or that has another number of values.
-fn lacks_method(own: &OwnTables<'_>, shape: &Shape) -> bool
-    ensures { result ≡ spec.lacks_method (parts_in own.now) shape.now }
-{
-    shape
-        .owns
-        .iter()
-        .any(|call| !own.has_method(call.method, call.count))
-}
-
-/// Whether a shape has an event, a lookup or an exception with an unknown name.
-fn names_unknown(tables: &BodyTables<'_>, shape: &Shape) -> bool
-    ensures { result ≡ spec.names_unknown
-        (application_of tables.now.application.now).deployment shape.now }
-{
-    let application = tables.application;
-    lacks_event(application, shape)
-        || lacks_lookup(application, shape)
-        || lacks_exception(tables.exceptions, shape)
-}
-
-/// Whether a shape has a local to destroy that no lookup of its gives.
-fn lacks_local(shape: &Shape) -> bool
-    ensures { result ≡ spec.lacks_local shape.now }
-{
-    let count = shape.lookups.len();
-    shape.destroys.iter().any(|local| *local as usize >= count)
-}
-
-/// Whether a shape names something that isn't there.
-fn names_missing(
-    tables: &BodyTables<'_>,
-    own: &OwnTables<'_>,
-    params: &[Point],
-    shape: &Shape,
-) -> bool
-    ensures { result ≡ spec.names_missing
-        (application_of tables.now.application.now) (parts_in own.now) params.now shape.now }
-{
-    let application = tables.application;
-    lacks_field(own, shape)
-        || lacks_method(own, shape)
-        || lacks_call(application, own, params, shape)
-        || lacks_cell(application, own, params, shape)
-        || names_unknown(tables, shape)
-        || lacks_local(shape)
-}
-
-/// Whether a body is registered whose shape names something that isn't there.
-fn is_outside(
-    tables: &BodyTables<'_>,
-    own: &OwnTables<'_>,
-    params: &[Point],
-    shape: Option<&Shape>,
-) -> bool
-    ensures { result ≡ spec.is_outside (application_of tables.now.application.now) (parts_in own.now)
-        params.now (option_copied shape.entry) }
-{
-    match shape {
-        Some(shape) => names_missing(tables, own, params, shape),
-        None => false,
+    /// Whether the shape of a site's body names something that isn't there.
+    #[tactic(auto, using(crate::proofs::Split::outside_in_two))]
+    fn is_outside(&self, site: &BodySite<'_>) -> bool
+        ensures { result ≡ spec.is_outside (application_of self.now.tables.now.application.now)
+            (parts_in self.now.own.now) (params_of (site_of site.now))
+            (shape_of (entries_of self.now.tables.now.bodies.now) (body_of (site_of site.now))) }
+    {
+        let tables = self.tables;
+        let body = site.body();
+        self.is_found(body)
+            || misses_params(
+                tables.application,
+                site.params(),
+                shapes::shape_of(tables.bodies, body),
+            )
     }
 }
 
@@ -117,14 +83,7 @@ impl SiteRule for OutsideShape<'_> {
         (own.parts_in rule.own.now) s) };
 
     fn holds(&self, site: &BodySite<'_>) -> bool {
-        let tables = self.tables;
-        site.is_live(tables.application.live)
-            && is_outside(
-                tables,
-                self.own,
-                site.params(),
-                shapes::shape_of(tables.bodies, site.body()),
-            )
+        site.is_live(self.tables.application.live) && self.is_outside(site)
     }
 }
 
@@ -143,7 +102,12 @@ fn add_of_class(
     let own = OwnTables::of_class(alloc, tables.application, class)?;
     let mut sites = Vec::new(alloc);
     add_class_sites(class, &mut sites)?;
-    let rule = OutsideShape { tables, own: &own };
+    let findings = findings_of(alloc, tables, &own, sites.as_slice())?;
+    let rule = OutsideShape {
+        tables,
+        own: &own,
+        findings: &findings,
+    };
     add_places(&rule, sites.as_slice(), found)
 }
 
@@ -162,7 +126,12 @@ fn add_of_interceptor(
     let own = OwnTables::of_interceptor(alloc, interceptor)?;
     let mut sites = Vec::new(alloc);
     add_interceptor_sites(interceptor, &mut sites)?;
-    let rule = OutsideShape { tables, own: &own };
+    let findings = findings_of(alloc, tables, &own, sites.as_slice())?;
+    let rule = OutsideShape {
+        tables,
+        own: &own,
+        findings: &findings,
+    };
     add_places(&rule, sites.as_slice(), found)
 }
 
