@@ -1,3 +1,2 @@
-pub mod Found
 pub mod Registered
 pub mod SiteSteps

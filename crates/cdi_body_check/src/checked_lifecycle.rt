@@ -7,12 +7,12 @@ ghost use Rattle.cdi_body_check.specs.CheckedLifecycle.{HasCheckedLifecycle, thr
 ghost use Rattle.cdi_body_check.specs.Exceptions.{is_checked};
 ghost use Rattle.cdi_body_check.specs.Findings.{ArePlacesOf};
 ghost use Rattle.cdi_body_check.specs.Shapes.{shape_of};
-ghost use Rattle.cdi_body_check.specs.Sites.{sites_of};
+ghost use Rattle.cdi_body_check.specs.Sites.{shown};
 
 use crate::exceptions::DeclaredExceptions;
 use crate::finding::{SiteRule, places_where};
 use crate::shapes;
-use crate::site::{self, BodySite};
+use crate::site::BodySite;
 use crate::tables::BodyTables;
 use cdi_base::{Name, Place, Seq};
 use cdi_bodies::Shape;
@@ -21,8 +21,7 @@ use std::alloc::{AllocError, Global};
 /// The body of a live lifecycle callback throws a checked exception.
 #[derive(Clone, Copy)]
 struct CheckedLifecycle<'a> {
-    tables: BodyTables<'a>,
-    exceptions: &'a DeclaredExceptions<'a>,
+    tables: &'a BodyTables<'a>,
 }
 
 /// Whether one of some exceptions is declared checked.
@@ -47,31 +46,33 @@ impl SiteRule for CheckedLifecycle<'_> {
     ghost use Rattle.cdi_body_check.specs.CheckedLifecycle as spec;
     ghost use Rattle.cdi_body_check.specs.Shapes as shapes;
 
-    ghost holds_at = { λ rule s. spec.HasCheckedLifecycle rule.exceptions.now rule.tables.live.now
-        (shapes.shape_of (table.entries_of rule.tables.bodies.now)) s };
+    ghost holds_at = { λ rule s. spec.HasCheckedLifecycle
+        rule.tables.now.application.now.deployment.now.exceptions
+        rule.tables.now.application.now.live.now
+        (shapes.shape_of (table.entries_of rule.tables.now.bodies.now)) s };
 
     fn holds(&self, site: &BodySite<'_>) -> bool {
-        site.is_live(self.tables.live)
+        let tables = self.tables;
+        site.is_live(tables.application.live)
             && site.is_callback()
             && throws_checked(
-                self.exceptions,
-                shapes::shape_of(self.tables.bodies, site.body()),
+                tables.exceptions,
+                shapes::shape_of(tables.bodies, site.body()),
             )
     }
 }
 
-/// Where the body of a live post-construct or pre-destroy callback, of a class or of an interceptor, throws a checked exception, in
-/// the order of places, each place once (Jakarta Interceptors 2.1, *Interceptor Methods for Lifecycle Event Callbacks*).
-pub fn checked_lifecycles(alloc: Global, tables: &BodyTables<'_>) -> Result<Seq<Place>, AllocError>
-    ensures { IfOk result (ArePlacesOf (HasCheckedLifecycle tables.now.deployment.now.exceptions
-        tables.now.live.now (shape_of (entries_of tables.now.bodies.now)))
-        (sites_of tables.now.deployment.now)) }
+/// Where the body of a live post-construct or pre-destroy callback, of a class or of an interceptor, throws a checked exception, among
+/// some sites, in their order, each place once (Jakarta Interceptors 2.1, *Interceptor Methods for Lifecycle Event Callbacks*).
+pub fn checked_lifecycles(
+    alloc: Global,
+    tables: &BodyTables<'_>,
+    sites: &[BodySite<'_>],
+) -> Result<Seq<Place>, AllocError>
+    ensures { IfOk result (ArePlacesOf
+        (HasCheckedLifecycle tables.now.application.now.deployment.now.exceptions
+        tables.now.application.now.live.now (shape_of (entries_of tables.now.bodies.now)))
+        (shown sites.now)) }
 {
-    let sites = site::sites_of(alloc, tables.deployment)?;
-    let exceptions = DeclaredExceptions::build(alloc, tables.deployment.exceptions.as_slice())?;
-    let rule = CheckedLifecycle {
-        tables: *tables,
-        exceptions: &exceptions,
-    };
-    places_where(alloc, &rule, sites.as_slice())
+    places_where(alloc, &CheckedLifecycle { tables }, sites)
 }

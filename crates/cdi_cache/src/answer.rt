@@ -1,8 +1,8 @@
 //! What was asked, with what was told.
 ghost use Rattle.std.specs.Prelude.{◌≡◌, true, IfOk};
 
-use cdi_base::{Name, Value};
-use cdi_quals::order::compare_values;
+use crate::value::{hash_value, is_same_value};
+use cdi_base::Name;
 use cdi_quals::{QualSet, Qualifier, QualifierMember};
 use cdi_resolve::Resolution;
 use std::alloc::AllocError;
@@ -14,12 +14,6 @@ pub struct Answer {
     pub ty: Name,
     pub qualifiers: QualSet,
     pub told: Resolution,
-}
-
-fn is_same_value(a: &Value, b: &Value) -> bool
-    ensures { result ≡ true → a.now ≡ b.now }
-{
-    compare_values(a, b).is_eq()
 }
 
 fn is_same_member(a: &QualifierMember, b: &QualifierMember) -> bool
@@ -95,14 +89,6 @@ fn hash_qualifier<H: Hasher>(qualifier: &Qualifier, state: &mut H) {
     qualifier.name.hash(state);
     for member in qualifier.members.as_slice() {
         hash_value(&member.value, state);
-    }
-}
-
-fn hash_value<H: Hasher>(value: &Value, state: &mut H) {
-    match value {
-        Value::Null => {}
-        Value::Int(number) => number.hash(state),
-        Value::Text(text) => text.as_str().hash(state),
     }
 }
 

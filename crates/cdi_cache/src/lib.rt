@@ -3,6 +3,9 @@
 
 mod answer;
 pub mod lookup;
+mod value;
+pub mod written;
 
 pub use answer::Answer;
 pub use lookup::Lookup;
+pub use written::WrittenQuestion;

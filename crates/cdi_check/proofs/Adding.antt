@@ -3,7 +3,9 @@ use Rattle.std.proofs.Common.{ℕ, ◌≡◌, ◌∙◌, List, [], ◌++◌, Opt
 use Rattle.cdi_base.specs.declared.place.Place.{Place}
 use Rattle.cdi_bodies.specs.declared.shape.Shape.{Shape}
 use Rattle.cdi_body_check.specs.CheckedLifecycle.{HasCheckedLifecycle}
+use Rattle.cdi_body_check.specs.Findings.{ArePlacesOf as AreSitesOf}
 use Rattle.cdi_body_check.specs.ProceedNotAllowed.{HasProceedNotAllowed}
+use Rattle.cdi_body_check.specs.Sites.{Site, sites_of}
 use Rattle.cdi_body_check.specs.UnknownBody.{HasUnknownBody}
 use Rattle.cdi_live.specs.Cycles.{HasDependentCycle}
 use Rattle.cdi_live.specs.OwnPoints.{Inventory}
@@ -16,7 +18,7 @@ use Rattle.cdi_problems.specs.Words.{problems_at}
 use Rattle.cdi_problems.specs.declared.problem.Problem.{Problem}
 use Rattle.cdi_problems.specs.declared.problem.ProblemKind.TheVariants as kinds
 use Rattle.cdi_check.specs.BeanRules.{HasInconsistentSpecialization, HasFinalIntercepted}
-use Rattle.cdi_check.specs.Late.{SitesIn, ArePointPlaces, AreOutsideShape, AddsBodyProblems, AddsPointProblems, AddsEnabledProblems, AreProblemsIn}
+use Rattle.cdi_check.specs.Late.{ArePointPlaces, AreOutsideShape, AddsBodyProblems, AddsPointProblems, AddsEnabledProblems, AreProblemsIn}
 
 pub three : (old p q r first second third : List Problem) → first ≡ old ++ p → second ≡ first ++ q → third ≡ second ++ r
     → third ≡ old ++ (p ++ q ++ r)
@@ -28,18 +30,18 @@ pub four : (old p q r s first second third fourth : List Problem) → first ≡ 
 four old p q r s first second third fourth a b c d =
     d ∙ ap (λ ps. ps ++ s) (three old p q r first second third a b c) ∙ append_assoc old (p ++ q ++ r) s
 
-pub adds_bodies : (d : Deployment) (shape_of : ℕ → Option Shape) (s : Inventory) (old first second third new : List Problem)
+pub adds_bodies : (d : Deployment) (shape_of : ℕ → Option Shape) (s : Inventory) (sites : List Site) → sites ≡ sites_of d → (old first second third new : List Problem)
     (unknown outside proceeding checked : List Place)
-    → SitesIn d (HasUnknownBody s.enabled shape_of) unknown
+    → AreSitesOf (HasUnknownBody s.enabled shape_of) sites unknown
     → AreOutsideShape d shape_of s outside
-    → SitesIn d (HasProceedNotAllowed s.enabled shape_of) proceeding
-    → SitesIn d (HasCheckedLifecycle d.exceptions s.enabled shape_of) checked
+    → AreSitesOf (HasProceedNotAllowed s.enabled shape_of) sites proceeding
+    → AreSitesOf (HasCheckedLifecycle d.exceptions s.enabled shape_of) sites checked
     → first ≡ old ++ problems_at kinds.UnknownBody unknown
     → second ≡ first ++ problems_at kinds.BodyOutsideShape outside
     → third ≡ second ++ problems_at kinds.ProceedNotAllowed proceeding
     → new ≡ third ++ problems_at kinds.CheckedLifecycle checked
     → AddsBodyProblems d shape_of s old new
-adds_bodies d shape_of s old first second third new unknown outside proceeding checked u o p c a b e f =
+adds_bodies d shape_of s sites all old first second third new unknown outside proceeding checked u o p c a b e f =
     let added : List Problem =
     problems_at kinds.UnknownBody unknown ++ problems_at kinds.BodyOutsideShape outside ++ problems_at kinds.ProceedNotAllowed proceeding
     ++ problems_at kinds.CheckedLifecycle checked in
@@ -48,13 +50,13 @@ adds_bodies d shape_of s old first second third new unknown outside proceeding c
       are =
           record {
             unknown = unknown;
-            are_unknown = u;
+            are_unknown = subst (λ ss. AreSitesOf (HasUnknownBody s.enabled shape_of) ss unknown) all u;
             outside = outside;
             are_outside = o;
             proceeding = proceeding;
-            are_proceeding = p;
+            are_proceeding = subst (λ ss. AreSitesOf (HasProceedNotAllowed s.enabled shape_of) ss proceeding) all p;
             checked = checked;
-            are_checked = c;
+            are_checked = subst (λ ss. AreSitesOf (HasCheckedLifecycle d.exceptions s.enabled shape_of) ss checked) all c;
             are = refl;
           };
       adds =

@@ -5,7 +5,6 @@ mod bean_rules;
 mod late;
 pub mod laws;
 mod settings;
-mod tables;
 mod tiers;
 
 pub use tiers::{check, late_problems};

@@ -6,12 +6,14 @@ ghost use Rattle.cdi_check.specs.Late.{AreProblemsIn};
 ghost use Rattle.cdi_check.specs.Tables.{setting_by};
 ghost use Rattle.cdi_types.specs.Declarations.{declarations_of};
 
-use crate::tables::LateTables;
+use crate::late::all_problems;
 use cdi_base::Seq;
 use cdi_bodies::Bodies;
+use cdi_body_check::{BodyTables, DeclaredExceptions};
 use cdi_deployment::Deployment;
-use cdi_live::{CycleTables, LiveTables, PointTables};
-use cdi_problems::Problem;
+use cdi_live::{DeploymentTables, LiveTables, ResolvedPoints};
+use cdi_name_check::{DeclaredNames, NameSets};
+use cdi_problems::{Problem, elements_of as all_elements};
 use cdi_resolve::BeanTables;
 use cdi_types::ClassIndex;
 use std::alloc::{AllocError, Global};
@@ -20,37 +22,36 @@ use std::alloc::{AllocError, Global};
 fn problems_where_live<'a>(
     alloc: Global,
     deployment: &'a Deployment,
-    tables: &'a BeanTables,
+    beans: &'a BeanTables,
     bodies: &Bodies,
-    classes: &'a ClassIndex<'_>,
     live: &'a LiveTables<'_>,
 ) -> Result<Seq<Problem>, AllocError>
-    requires types { tables.now.declared.types ≡ declarations_of deployment.now }
-    requires classes { classes.now ≡ deployment.now.classes }
-    requires live { live.now ≡ (setting_by deployment.now tables.now).enabled }
+    requires types { beans.now.declared.types ≡ declarations_of deployment.now }
+    requires live { live.now ≡ (setting_by deployment.now beans.now).enabled }
     ensures { IfOk result (AreProblemsIn deployment.now (shape_of (entries_of bodies.now))
-        tables.now.enabled (setting_by deployment.now tables.now)) }
+        beans.now.enabled (setting_by deployment.now beans.now)) }
 {
-    let declared = &tables.declared;
-    let points = PointTables {
-        classes,
-        qualifiers: &declared.qualifiers,
-        resolver: &tables.resolver,
-        live,
-    };
-    let cycles = CycleTables {
-        points,
-        types: &declared.types,
-        interceptors: deployment.interceptors.as_slice(),
-        chains: &tables.chains,
-        disposers: tables.disposers.as_slice(),
-    };
-    let tables = LateTables {
+    let sets = NameSets::of(alloc, deployment)?;
+    let names = DeclaredNames::new(deployment, &sets);
+    let classes = ClassIndex::build(alloc, deployment.classes.as_slice())?;
+    let exceptions = DeclaredExceptions::build(alloc, deployment.exceptions.as_slice())?;
+    let elements = all_elements(alloc, deployment)?;
+    let qualifiers = &beans.declared.qualifiers;
+    let points = ResolvedPoints::build(alloc, qualifiers, &beans.resolver, elements.as_slice())?;
+    let application = DeploymentTables {
         deployment,
-        enabled: &tables.enabled,
-        cycles,
+        names: &names,
+        classes: &classes,
+        beans,
+        live,
+        points: &points,
     };
-    let problems = tables.problems(alloc, bodies)?;
+    let tables = BodyTables {
+        application: &application,
+        exceptions: &exceptions,
+        bodies,
+    };
+    let problems = all_problems(alloc, &tables, elements.as_slice())?;
     Ok(problems)
 }
 
@@ -85,7 +86,6 @@ pub(crate) fn problems_by(
     ensures { IfOk result (AreProblemsIn deployment.now (shape_of (entries_of bodies.now))
         tables.now.enabled (setting_by deployment.now tables.now)) }
 {
-    let classes = ClassIndex::build(alloc, deployment.classes.as_slice())?;
     let live = live_of(alloc, deployment, tables)?;
-    problems_where_live(alloc, deployment, tables, bodies, &classes, &live)
+    problems_where_live(alloc, deployment, tables, bodies, &live)
 }

@@ -8,3 +8,4 @@ pub mod Live
 pub mod LiveSets
 pub mod Points
 pub mod PointProblems
+pub mod ResolvedPoints

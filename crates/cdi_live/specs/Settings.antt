@@ -2,22 +2,22 @@
 use Rattle.std.specs.Prelude.{length}
 use Rattle.cdi_live.specs.Graphs.{Counts}
 use Rattle.cdi_live.specs.OwnPoints.{Inventory}
-use Rattle.cdi_live.specs.declared.cycle_tables.CycleTables.{CycleTables}
+use Rattle.cdi_live.specs.declared.deployment_tables.DeploymentTables.{DeploymentTables}
 
-abbrev pub setting_of : CycleTables → Inventory
+abbrev pub setting_of : DeploymentTables → Inventory
 setting_of t =
     record {
-      qualifiers = t.points.qualifiers.now;
-      interceptors = t.interceptors.now;
-      enabled = t.points.live.now;
-      chains = t.chains.now;
-      disposers = t.disposers.now;
+      qualifiers = t.beans.now.declared.qualifiers;
+      interceptors = t.deployment.now.interceptors;
+      enabled = t.live.now;
+      chains = t.beans.now.chains;
+      disposers = t.beans.now.disposers;
     }
 
 -- all beans of the list, and the enabled interceptors
-abbrev pub counts_of : CycleTables → Counts
+abbrev pub counts_of : DeploymentTables → Counts
 counts_of t =
     record {
-      beans = length t.points.resolver.now.beans;
-      interceptors = length t.points.live.now.interceptors;
+      beans = length t.beans.now.resolver.beans;
+      interceptors = length t.live.now.interceptors;
     }

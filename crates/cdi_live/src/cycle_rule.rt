@@ -9,8 +9,8 @@ ghost use Rattle.cdi_name_check.specs.NameSets.{HasPairs, same_pair};
 ghost use Rattle.cdi_problems.specs.Elements.{shown};
 ghost use Rattle.cdi_problems.specs.Findings.{ArePlacesOf};
 
-use crate::cycle_tables::CycleTables;
 use crate::cycles::NeedyFlags;
+use crate::deployment_tables::DeploymentTables;
 use crate::enabled::EnabledBean;
 use crate::live_tables::LiveTables;
 use crate::needs::product_name;
@@ -146,16 +146,16 @@ impl Rule for FlaggedCycle<'_> {
 /// or through others (Jakarta CDI 4.0, *Dependent pseudo-scope*): each is a class, a producer or an interceptor.
 pub fn dependent_cycles(
     alloc: Global,
-    tables: &CycleTables<'_>,
+    tables: &DeploymentTables<'_>,
     elements: &[Element<'_>],
 ) -> Result<Seq<Place>, AllocError>
     ensures { IfOk result
         (ArePlacesOf (spec.HasDependentCycle (setting_of tables.now)) (shown elements.now)) }
 {
     let flags = NeedyFlags::build(alloc, tables)?;
-    let products = needy_products(alloc, &flags, tables.points.live.beans())?;
+    let products = needy_products(alloc, &flags, tables.live.beans())?;
     let rule = FlaggedCycle {
-        live: tables.points.live,
+        live: tables.live,
         flags: &flags,
         products: &products,
     };

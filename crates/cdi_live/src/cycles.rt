@@ -4,7 +4,7 @@ ghost use Rattle.cdi_live.specs.Cycles as spec;
 ghost use Rattle.cdi_live.specs.Graphs.{HasRows};
 ghost use Rattle.cdi_live.specs.Settings.{setting_of, counts_of};
 
-use crate::cycle_tables::CycleTables;
+use crate::deployment_tables::DeploymentTables;
 use cdi_base::Seq;
 use cdi_types::Reachability;
 use std::alloc::{AllocError, Global};
@@ -20,7 +20,7 @@ pub(crate) struct NeedyFlags {
 /// Which of the beans lie on a cycle of the graph.
 fn bean_flags(
     alloc: Global,
-    tables: &CycleTables<'_>,
+    tables: &DeploymentTables<'_>,
     reach: &Reachability,
 ) -> Result<Seq<bool>, AllocError>
     requires { HasRows (setting_of tables.now) (counts_of tables.now)
@@ -38,7 +38,7 @@ fn bean_flags(
 /// Which of the enabled interceptors lie on a cycle of the graph.
 fn interceptor_flags(
     alloc: Global,
-    tables: &CycleTables<'_>,
+    tables: &DeploymentTables<'_>,
     reach: &Reachability,
 ) -> Result<Seq<bool>, AllocError>
     requires { HasRows (setting_of tables.now) (counts_of tables.now)
@@ -56,7 +56,10 @@ fn interceptor_flags(
 
 impl NeedyFlags {
     /// What the tables tell. For n beans and interceptors it takes at most n³ / 64 steps.
-    pub(crate) fn build(alloc: Global, tables: &CycleTables<'_>) -> Result<NeedyFlags, AllocError>
+    pub(crate) fn build(
+        alloc: Global,
+        tables: &DeploymentTables<'_>,
+    ) -> Result<NeedyFlags, AllocError>
         ensures { IfOk result (spec.AreNeedy (setting_of tables.now)) }
     {
         let rows = tables.rows(alloc)?;

@@ -4,7 +4,7 @@ ghost use Rattle.std.specs.List.{filter_map};
 ghost use Rattle.cdi_live.specs.Graphs as spec;
 ghost use Rattle.cdi_live.specs.Settings.{setting_of, counts_of};
 
-use crate::cycle_tables::CycleTables;
+use crate::deployment_tables::DeploymentTables;
 use crate::node::Node;
 use cdi_base::Seq;
 use std::alloc::{AllocError, Global};
@@ -57,15 +57,15 @@ impl Counts {
     }
 }
 
-impl CycleTables<'_> {
+impl DeploymentTables<'_> {
     pub(crate) fn counts(&self) -> Counts
         ensures counts { record { beans = result.beans; interceptors = result.interceptors }
             ≡ counts_of self.now }
         ensures few { result.beans + result.interceptors < 2 ^ 64 }
     {
         Counts {
-            beans: self.points.resolver.beans().len(),
-            interceptors: self.points.live.interceptors().len(),
+            beans: self.beans.resolver.beans().len(),
+            interceptors: self.live.interceptors().len(),
         }
     }
 
@@ -74,7 +74,7 @@ impl CycleTables<'_> {
         ensures { IfOk result
             (spec.IsRowOf (setting_of self.now) (counts_of self.now) (Node.Bean index)) }
     {
-        match self.points.resolver.bean(index) {
+        match self.beans.resolver.bean(index) {
             Some(bean) => {
                 let needs = self.bean_needs(alloc, bean)?;
                 let row = self.counts().numbers_of(alloc, needs.as_slice())?;
@@ -100,7 +100,7 @@ impl CycleTables<'_> {
             (counts_of self.now).beans) }
     {
         let mut graph = Seq::empty(alloc);
-        for index in 0..self.points.resolver.beans().len() {
+        for index in 0..self.beans.resolver.beans().len() {
             graph.push(self.bean_row(alloc, index)?)?;
         }
         Ok(graph)
@@ -112,7 +112,7 @@ impl CycleTables<'_> {
             (counts_of self.now).interceptors) }
     {
         let mut graph = self.bean_rows(alloc)?;
-        for place in 0..self.points.live.interceptors().len() {
+        for place in 0..self.live.interceptors().len() {
             graph.push(self.interceptor_row(alloc, place)?)?;
         }
         Ok(graph)

@@ -4,8 +4,8 @@
 #![tactic(auto)]
 
 pub mod cycle_rule;
-pub mod cycle_tables;
 mod cycles;
+pub mod deployment_tables;
 pub mod enabled;
 mod graph;
 pub mod live_tables;
@@ -14,14 +14,14 @@ mod needs;
 pub mod node;
 pub mod point_problem;
 pub mod point_rule;
-pub mod point_tables;
+pub mod resolved_points;
 mod sets;
 
 pub use cycle_rule::dependent_cycles;
-pub use cycle_tables::CycleTables;
+pub use deployment_tables::DeploymentTables;
 pub use enabled::EnabledBean;
 pub use live_tables::LiveTables;
 pub use node::Node;
 pub use point_problem::PointProblem;
 pub use point_rule::PointRule;
-pub use point_tables::PointTables;
+pub use resolved_points::ResolvedPoints;

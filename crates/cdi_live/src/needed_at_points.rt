@@ -7,7 +7,7 @@ ghost use Rattle.cdi_live.specs.Needs as spec;
 ghost use Rattle.cdi_live.specs.OwnPoints as own;
 ghost use Rattle.cdi_live.specs.Settings.{setting_of};
 
-use crate::cycle_tables::CycleTables;
+use crate::deployment_tables::DeploymentTables;
 use crate::node::Node;
 use cdi_base::{Name, Scope, Seq, Use};
 use cdi_beans::Bean;
@@ -27,13 +27,13 @@ pub(crate) fn is_dependent(bean: Option<&Bean>) -> bool
 }
 
 /// The dependent bean that a type and qualifiers as they were written resolve to, if they do.
-fn needed_at(tables: &CycleTables<'_>, ty: Name, quals: &[Use]) -> Option<Node>
+fn needed_at(tables: &DeploymentTables<'_>, ty: Name, quals: &[Use]) -> Option<Node>
     ensures { result
         ≡ spec.needed_at (setting_of tables.now) (record { ty = ty; quals = quals.now }) }
 {
-    match tables.points.resolve(ty, quals) {
+    match tables.resolve(ty, quals) {
         Resolution::One(bean) => {
-            if is_dependent(tables.points.resolver.bean(bean)) {
+            if is_dependent(tables.beans.resolver.bean(bean)) {
                 Some(Node::Bean(bean))
             } else {
                 None
@@ -45,7 +45,7 @@ fn needed_at(tables: &CycleTables<'_>, ty: Name, quals: &[Use]) -> Option<Node>
 
 /// Adds what a type and qualifiers need.
 fn add_needed(
-    tables: &CycleTables<'_>,
+    tables: &DeploymentTables<'_>,
     ty: Name,
     quals: &[Use],
     needs: &mut Seq<Node>,
@@ -64,7 +64,7 @@ fn add_needed(
 
 /// Adds what parameters need.
 pub(crate) fn add_params(
-    tables: &CycleTables<'_>,
+    tables: &DeploymentTables<'_>,
     params: &[Point],
     needs: &mut Seq<Node>,
 ) -> Result<(), AllocError>
@@ -79,7 +79,7 @@ pub(crate) fn add_params(
 
 /// Adds what injected fields need.
 pub(crate) fn add_fields(
-    tables: &CycleTables<'_>,
+    tables: &DeploymentTables<'_>,
     fields: &[InjectedField],
     needs: &mut Seq<Node>,
 ) -> Result<(), AllocError>
@@ -94,7 +94,7 @@ pub(crate) fn add_fields(
 
 /// Adds what injected fields of a bean need, which it has from its class or from superclasses.
 pub(crate) fn add_injected(
-    tables: &CycleTables<'_>,
+    tables: &DeploymentTables<'_>,
     fields: &[ClassPart<'_, InjectedField>],
     needs: &mut Seq<Node>,
 ) -> Result<(), AllocError>
@@ -109,7 +109,7 @@ pub(crate) fn add_injected(
 
 /// Adds what the parameters of a member need, if it is an initializer.
 fn add_initializer(
-    tables: &CycleTables<'_>,
+    tables: &DeploymentTables<'_>,
     member: &ClassPart<'_, Member>,
     needs: &mut Seq<Node>,
 ) -> Result<(), AllocError>
@@ -126,7 +126,7 @@ fn add_initializer(
 
 /// Adds what the initializers among the members of a bean need.
 pub(crate) fn add_initializers(
-    tables: &CycleTables<'_>,
+    tables: &DeploymentTables<'_>,
     members: &[ClassPart<'_, Member>],
     needs: &mut Seq<Node>,
 ) -> Result<(), AllocError>

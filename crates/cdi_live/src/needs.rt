@@ -9,7 +9,7 @@ ghost use Rattle.cdi_live.specs.Needs as spec;
 ghost use Rattle.cdi_live.specs.OwnPoints as own;
 ghost use Rattle.cdi_live.specs.Settings.{setting_of};
 
-use crate::cycle_tables::CycleTables;
+use crate::deployment_tables::DeploymentTables;
 use crate::enabled::EnabledBean;
 use crate::needed_at_points::{add_fields, add_initializers, add_injected, add_params};
 use crate::node::Node;
@@ -89,7 +89,7 @@ pub(crate) fn product_name(kind: BeanKind) -> Option<Name>
     }
 }
 
-impl CycleTables<'_> {
+impl DeploymentTables<'_> {
     /// Adds what the members of a line of classes need that a bean has.
     fn add_of_line(
         &self,
@@ -117,9 +117,9 @@ impl CycleTables<'_> {
         ensures { OnOk result
             (spec.AddsManaged (setting_of self.now) bean.now needs.old needs.new) }
     {
-        let classes = self.points.classes;
+        let classes = self.classes;
         add_params(self, constructor_points(classes.class(bean.class)), needs)?;
-        let line = classes.line(alloc, self.types, bean.class)?;
+        let line = classes.line(alloc, &self.beans.declared.types, bean.class)?;
         self.add_of_line(alloc, &line, needs)?;
         Ok(())
     }
@@ -132,9 +132,9 @@ impl CycleTables<'_> {
         needs: &mut Seq<Node>,
     ) -> Result<(), AllocError>
         ensures { OnOk result (needs.new
-            ≡ needs.old ++ map Node.Interceptor (interceptors_of self.now.chains.now bean.now)) }
+            ≡ needs.old ++ map Node.Interceptor (interceptors_of self.now.beans.now.chains bean.now)) }
     {
-        let places = self.chains.interceptors_of(alloc, bean)?;
+        let places = self.beans.chains.interceptors_of(alloc, bean)?;
         for place in places.as_slice() {
             needs.push(Node::Interceptor(*place))?;
         }
@@ -151,13 +151,13 @@ impl CycleTables<'_> {
     ) -> Result<(), AllocError>
         ensures { OnOk result (needs.new ≡ needs.old
             ++ filter_map (spec.needed_at (setting_of self.now)) (flat_map
-            (own.disposer_points self.now.points.classes.now)
+            (own.disposer_points self.now.classes.now)
             (filter (own.serves class name) (disposer.now ∷ [])))) }
     {
         if !serves(disposer, class, name) {
             return Ok(());
         }
-        let declaring = self.points.classes.class(disposer.class);
+        let declaring = self.classes.class(disposer.class);
         add_params(self, member_points(declaring, disposer.name), needs)
     }
 
@@ -170,10 +170,10 @@ impl CycleTables<'_> {
     ) -> Result<(), AllocError>
         ensures { OnOk result (needs.new ≡ needs.old
             ++ filter_map (spec.needed_at (setting_of self.now)) (flat_map
-            (own.disposer_points self.now.points.classes.now)
-            (filter (own.serves class name) self.now.disposers.now))) }
+            (own.disposer_points self.now.classes.now)
+            (filter (own.serves class name) self.now.beans.now.disposers))) }
     {
-        let disposers = self.disposers;
+        let disposers = self.beans.disposers.as_slice();
         for disposer in disposers {
             self.add_disposer(disposer, class, name, needs)?;
         }
@@ -183,9 +183,9 @@ impl CycleTables<'_> {
     /// Adds the dependent managed beans of a class.
     fn add_declaring(&self, class: Name, needs: &mut Seq<Node>) -> Result<(), AllocError>
         ensures { OnOk result (needs.new ≡ needs.old
-            ++ filter_map (spec.declaring_bean class) self.now.points.live.now.beans) }
+            ++ filter_map (spec.declaring_bean class) self.now.live.now.beans) }
     {
-        let beans = self.points.live.beans();
+        let beans = self.live.beans();
         for bean in beans {
             if let Some(node) = declaring_bean(bean, class) {
                 needs.push(node)?;
@@ -198,7 +198,7 @@ impl CycleTables<'_> {
     fn managed_needs(&self, alloc: Global, bean: &Bean) -> Result<Seq<Node>, AllocError>
         requires { bean.now.kind ≡ BeanKind.Managed }
         ensures { IfOk result (λ needs. (i : ℕ)
-            → at self.now.points.live.now.beans i ≡ Some bean.now
+            → at self.now.live.now.beans i ≡ Some bean.now
             → spec.NeedsThose (setting_of self.now) (Node.Bean i) needs) }
     {
         let mut needs = Seq::empty(alloc);
@@ -211,11 +211,11 @@ impl CycleTables<'_> {
     fn product_needs(&self, alloc: Global, bean: &Bean, name: Name) -> Result<Seq<Node>, AllocError>
         requires { own.product_name bean.now.kind ≡ Some name }
         ensures { IfOk result (λ needs. (i : ℕ)
-            → at self.now.points.live.now.beans i ≡ Some bean.now
+            → at self.now.live.now.beans i ≡ Some bean.now
             → spec.NeedsThose (setting_of self.now) (Node.Bean i) needs) }
     {
         let mut needs = Seq::empty(alloc);
-        let class = self.points.classes.class(bean.class);
+        let class = self.classes.class(bean.class);
         add_params(self, member_points(class, name), &mut needs)?;
         self.add_disposers(bean.class, name, &mut needs)?;
         self.add_declaring(bean.class, &mut needs)?;
@@ -225,7 +225,7 @@ impl CycleTables<'_> {
     /// What an enabled bean needs.
     pub(crate) fn bean_needs(&self, alloc: Global, bean: &Bean) -> Result<Seq<Node>, AllocError>
         ensures { IfOk result (λ needs. (i : ℕ)
-            → at self.now.points.live.now.beans i ≡ Some bean.now
+            → at self.now.live.now.beans i ≡ Some bean.now
             → spec.NeedsThose (setting_of self.now) (Node.Bean i) needs) }
     {
         match product_name(bean.kind) {
@@ -238,10 +238,10 @@ impl CycleTables<'_> {
     fn fields_of(&self, place: usize) -> &[InjectedField]
         ensures { map field_point result.now ≡ own.interceptor_points (setting_of self.now) place }
     {
-        let Some(interceptor) = self.points.live.interceptors().get(place) else {
+        let Some(interceptor) = self.live.interceptors().get(place) else {
             return &[];
         };
-        match self.interceptors.get(interceptor.index) {
+        match self.deployment.interceptors.get(interceptor.index) {
             Some(interceptor) => interceptor.inject.as_slice(),
             None => &[],
         }

@@ -2,9 +2,9 @@
 use Rattle.std.specs.Prelude.{ℕ, List}
 use Rattle.cdi_beans.specs.declared.bean.Bean.{Bean}
 use Rattle.cdi_deployment.specs.declared.deployment.Deployment.{Deployment}
+use Rattle.cdi_live.specs.declared.deployment_tables.DeploymentTables.{DeploymentTables}
 use Rattle.cdi_quals.specs.declared.types.QualifierType.{QualifierType}
 use Rattle.cdi_resolve.specs.Filters.{enabled_of}
-use Rattle.cdi_shape_check.specs.declared.application.ApplicationTables.{ApplicationTables}
 
 -- a deployment with the types of its qualifiers, and its enabled beans with their indices in the bean list
 pub record Application : Type 0 where
@@ -13,10 +13,10 @@ pub record Application : Type 0 where
   pub enabled : List (ℕ × Bean)
 
 -- the application of some tables
-abbrev pub application_of : ApplicationTables → Application
+abbrev pub application_of : DeploymentTables → Application
 application_of t =
     record {
-      deployment = t.names.now;
-      qualifiers = t.qualifiers.now;
-      enabled = enabled_of t.resolver.now;
+      deployment = t.deployment.now;
+      qualifiers = t.beans.now.declared.qualifiers;
+      enabled = enabled_of t.beans.now.resolver;
     }

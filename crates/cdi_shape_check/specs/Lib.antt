@@ -1,5 +1,6 @@
 pub mod Application
 pub mod BodyOutsideShape
+pub mod OwnFindings
 pub mod OwnParts
 pub mod OwnTables
 pub mod References

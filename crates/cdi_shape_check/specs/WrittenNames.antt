@@ -1,5 +1,5 @@
 -- Names that a shape has as they were written: of events, of lookups, of exceptions.
-use Rattle.std.specs.Prelude.{ℕ, Bool, false, not, ◌&&◌, ◌||◌, Option, Some, None}
+use Rattle.std.specs.Prelude.{ℕ, Bool, false, not, ◌&&◌, ◌||◌, List, Option, Some, None}
 use Rattle.std.specs.List.{list_all}
 use Rattle.cdi_base.specs.declared.built_in.BuiltIn.TheVariants as names
 use Rattle.cdi_bodies.specs.declared.shape.FiredEvent.{FiredEvent}
@@ -7,6 +7,7 @@ use Rattle.cdi_bodies.specs.declared.shape.Lookup.{Lookup}
 use Rattle.cdi_body_check.specs.Exceptions.{is_declared}
 use Rattle.cdi_deployment.specs.declared.deployment.Class.{Class}
 use Rattle.cdi_deployment.specs.declared.deployment.Deployment.{Deployment}
+use Rattle.cdi_deployment.specs.declared.deployment.Exception.{Exception}
 use Rattle.cdi_types.specs.Line.{class_named}
 use Rattle.cdi_name_check.specs.UnknownName.{is_built_in, is_type, are_qualifiers, is_event_qualifier_use}
 
@@ -36,5 +37,8 @@ is_built_in_exception name =
     || is_built_in names.UnsatisfiedResolutionException name
     || is_built_in names.AmbiguousResolutionException name
 
+abbrev pub is_exception_among : List Exception → ℕ → Bool
+is_exception_among exceptions name = is_built_in_exception name || is_declared exceptions name
+
 abbrev pub is_exception : Deployment → ℕ → Bool
-is_exception d name = is_built_in_exception name || is_declared d.exceptions name
+is_exception d name = is_exception_among d.exceptions name

@@ -5,10 +5,11 @@ ghost use Rattle.std.specs.Option.{option_copied};
 ghost use Rattle.cdi_shape_check.specs.Application.{application_of};
 ghost use Rattle.cdi_shape_check.specs.WrittenNames as spec;
 
-use crate::application::ApplicationTables;
 use cdi_base::{BuiltIn, Name};
 use cdi_bodies::{FiredEvent, Shape};
+use cdi_body_check::DeclaredExceptions;
 use cdi_deployment::Class;
+use cdi_live::DeploymentTables;
 use cdi_name_check::are_event_qualifiers;
 
 /// Whether there are instances of a class: it is declared, and not abstract.
@@ -22,7 +23,7 @@ fn is_concrete(class: Option<&Class>) -> bool
 }
 
 /// Whether an event's class is one of the deployment that isn't abstract, and its qualifiers are known.
-fn is_event(application: &ApplicationTables<'_>, event: &FiredEvent) -> bool
+fn is_event(application: &DeploymentTables<'_>, event: &FiredEvent) -> bool
     ensures { result ≡ spec.is_event (application_of application.now).deployment event.now }
 {
     is_concrete(application.class(event.class))
@@ -44,14 +45,14 @@ fn is_built_in_exception(name: Name) -> bool
         || BuiltIn::AmbiguousResolutionException.name() == name
 }
 
-fn is_exception(application: &ApplicationTables<'_>, name: Name) -> bool
-    ensures { result ≡ spec.is_exception (application_of application.now).deployment name }
+fn is_exception(exceptions: &DeclaredExceptions<'_>, name: Name) -> bool
+    ensures { result ≡ spec.is_exception_among exceptions.now name }
 {
-    is_built_in_exception(name) || application.exceptions.is_declared(name)
+    is_built_in_exception(name) || exceptions.is_declared(name)
 }
 
 /// Whether a shape has an event with an unknown class or qualifier.
-pub(crate) fn lacks_event(application: &ApplicationTables<'_>, shape: &Shape) -> bool
+pub(crate) fn lacks_event(application: &DeploymentTables<'_>, shape: &Shape) -> bool
     ensures { result ≡ list_any
         (λ e. not (spec.is_event (application_of application.now).deployment e)) shape.now.fires }
 {
@@ -61,14 +62,13 @@ pub(crate) fn lacks_event(application: &ApplicationTables<'_>, shape: &Shape) ->
         .any(|event| !is_event(application, event))
 }
 
-/// Whether a shape has an unknown exception.
-pub(crate) fn lacks_exception(application: &ApplicationTables<'_>, shape: &Shape) -> bool
+/// Whether a shape has an exception that is none of these and no built-in one.
+pub(crate) fn lacks_exception(exceptions: &DeclaredExceptions<'_>, shape: &Shape) -> bool
     ensures { result ≡ list_any
-        (λ x. not (spec.is_exception (application_of application.now).deployment x))
-        shape.now.throws }
+        (λ x. not (spec.is_exception_among exceptions.now x)) shape.now.throws }
 {
     shape
         .throws
         .iter()
-        .any(|name| !is_exception(application, *name))
+        .any(|name| !is_exception(exceptions, *name))
 }

@@ -2,13 +2,12 @@
 //! exception.
 #![tactic(auto)]
 
-pub mod application;
 mod events;
+mod findings;
 mod injected;
 mod lookups;
 pub mod outside_shape;
 mod own;
 mod references;
 
-pub use application::ApplicationTables;
-pub use outside_shape::{ShapeTables, bodies_outside_shape};
+pub use outside_shape::bodies_outside_shape;

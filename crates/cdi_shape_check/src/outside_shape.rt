@@ -1,111 +1,70 @@
 //! Bodies whose shapes name something that isn't there.
 ghost use Rattle.std.specs.Prelude.{◌≡◌, IfOk, OnOk};
 ghost use Rattle.std.specs.List.{flat_map};
-ghost use Rattle.std.specs.Option.{option_copied};
 ghost use Rattle.cdi_bodies.specs.Table.{entries_of};
 ghost use Rattle.cdi_body_check.specs.Findings.{ArePlacesOf, AddsPlacesOf};
 ghost use Rattle.cdi_body_check.specs.Shapes.{shape_of};
-ghost use Rattle.cdi_body_check.specs.Sites.{class_sites, interceptor_sites, sites_of};
+ghost use Rattle.cdi_body_check.specs.Sites.{site_of, body_of, params_of, class_sites, interceptor_sites, sites_of};
 ghost use Rattle.cdi_shape_check.specs.Application.{application_of};
 ghost use Rattle.cdi_shape_check.specs.BodyOutsideShape as spec;
+ghost use Rattle.cdi_shape_check.specs.OwnFindings as own_findings;
 ghost use Rattle.cdi_shape_check.specs.OwnTables.{parts_in};
 
-use crate::application::ApplicationTables;
-use crate::events::{lacks_event, lacks_exception};
-use crate::lookups::lacks_lookup;
+use crate::findings::{findings_of, is_outside};
 use crate::own::OwnTables;
-use crate::references::{lacks_call, lacks_cell};
-use cdi_base::{Place, Seq};
-use cdi_bodies::{Bodies, Shape};
+use crate::references::misses_params;
+use cdi_base::{Name, Place, Seq};
 use cdi_body_check::{
-    BodySite, SiteRule, add_class_sites, add_interceptor_sites, add_places, shapes,
+    BodySite, BodyTables, SiteRule, add_class_sites, add_interceptor_sites, add_places, shapes,
 };
-use cdi_deployment::{Class, Interceptor, Point};
-use cdi_live::LiveTables;
+use cdi_deployment::{Class, Interceptor};
 use cdi_problems::once;
 use std::alloc::{AllocError, Global};
-
-/// A deployment's tables with what is live in it, and the bodies that are registered.
-#[derive(Clone, Copy)]
-pub struct ShapeTables<'a> {
-    pub application: &'a ApplicationTables<'a>,
-    pub live: &'a LiveTables<'a>,
-    pub bodies: &'a Bodies,
-}
+use std::collections::HashMap;
 
 /// The shape of a live site's body names something that isn't there.
 #[derive(Clone, Copy)]
 struct OutsideShape<'a> {
-    tables: ShapeTables<'a>,
+    tables: &'a BodyTables<'a>,
     /// What the instance has that the body runs on.
     own: &'a OwnTables<'a>,
+    /// What is told of bodies, so that one that many members have is looked at once.
+    findings: &'a HashMap<Name, bool>,
+    ghost findings_are: { own_findings.AreFindings (application_of tables.now.application.now)
+        (parts_in own.now) (shape_of (entries_of tables.now.bodies.now)) findings.now },
 }
 
-/// Whether a shape sets a field that the own instance lacks.
-fn lacks_field(own: &OwnTables<'_>, shape: &Shape) -> bool
-    ensures { result ≡ spec.lacks_field (parts_in own.now) shape.now }
-{
-    shape.sets.iter().any(|name| !own.has_field(*name))
-}
+impl OutsideShape<'_> {
+    /// Whether the shape of a body names something that isn't there, and that doesn't go through parameters.
+    fn is_found(&self, body: Name) -> bool
+        ensures { result ≡ own_findings.is_own_outside
+            (application_of self.now.tables.now.application.now) (parts_in self.now.own.now)
+            (shape_of (entries_of self.now.tables.now.bodies.now) body) }
+    {
+        match self.findings.get(&body) {
+            Some(told) => *told,
+            None => {
+                let tables = self.tables;
+                is_outside(tables, self.own, shapes::shape_of(tables.bodies, body))
+            }
+        }
+    }
 
-/// Whether a shape calls a method on the own instance that it lacks, or that has another number of values.
-fn lacks_method(own: &OwnTables<'_>, shape: &Shape) -> bool
-    ensures { result ≡ spec.lacks_method (parts_in own.now) shape.now }
-{
-    shape
-        .owns
-        .iter()
-        .any(|call| !own.has_method(call.method, call.count))
-}
-
-/// Whether a shape has an event, a lookup or an exception with an unknown name.
-fn names_unknown(application: &ApplicationTables<'_>, shape: &Shape) -> bool
-    ensures { result ≡ spec.names_unknown (application_of application.now).deployment shape.now }
-{
-    lacks_event(application, shape)
-        || lacks_lookup(application, shape)
-        || lacks_exception(application, shape)
-}
-
-/// Whether a shape has a local to destroy that no lookup of its gives.
-fn lacks_local(shape: &Shape) -> bool
-    ensures { result ≡ spec.lacks_local shape.now }
-{
-    let count = shape.lookups.len();
-    shape.destroys.iter().any(|local| *local as usize >= count)
-}
-
-/// Whether a shape names something that isn't there.
-fn names_missing(
-    application: &ApplicationTables<'_>,
-    own: &OwnTables<'_>,
-    params: &[Point],
-    shape: &Shape,
-) -> bool
-    ensures { result ≡ spec.names_missing
-        (application_of application.now) (parts_in own.now) params.now shape.now }
-{
-    lacks_field(own, shape)
-        || lacks_method(own, shape)
-        || lacks_call(application, own, params, shape)
-        || lacks_cell(application, own, params, shape)
-        || names_unknown(application, shape)
-        || lacks_local(shape)
-}
-
-/// Whether a body is registered whose shape names something that isn't there.
-fn is_outside(
-    application: &ApplicationTables<'_>,
-    own: &OwnTables<'_>,
-    params: &[Point],
-    shape: Option<&Shape>,
-) -> bool
-    ensures { result ≡ spec.is_outside (application_of application.now) (parts_in own.now)
-        params.now (option_copied shape.entry) }
-{
-    match shape {
-        Some(shape) => names_missing(application, own, params, shape),
-        None => false,
+    /// Whether the shape of a site's body names something that isn't there.
+    #[tactic(auto, using(crate::proofs::Split::outside_in_two))]
+    fn is_outside(&self, site: &BodySite<'_>) -> bool
+        ensures { result ≡ spec.is_outside (application_of self.now.tables.now.application.now)
+            (parts_in self.now.own.now) (params_of (site_of site.now))
+            (shape_of (entries_of self.now.tables.now.bodies.now) (body_of (site_of site.now))) }
+    {
+        let tables = self.tables;
+        let body = site.body();
+        self.is_found(body)
+            || misses_params(
+                tables.application,
+                site.params(),
+                shapes::shape_of(tables.bodies, body),
+            )
     }
 }
 
@@ -118,40 +77,36 @@ impl SiteRule for OutsideShape<'_> {
     ghost use Rattle.cdi_shape_check.specs.OwnTables as own;
 
     ghost holds_at = { λ rule s. IsTrue (is_outside_with
-        (application.application_of rule.tables.application.now) rule.tables.live.now
-        (registered.shape_of (table.entries_of rule.tables.bodies.now))
+        (application.application_of rule.tables.now.application.now)
+        rule.tables.now.application.now.live.now
+        (registered.shape_of (table.entries_of rule.tables.now.bodies.now))
         (own.parts_in rule.own.now) s) };
 
     fn holds(&self, site: &BodySite<'_>) -> bool {
-        let tables = &self.tables;
-        site.is_live(tables.live)
-            && is_outside(
-                tables.application,
-                self.own,
-                site.params(),
-                shapes::shape_of(tables.bodies, site.body()),
-            )
+        site.is_live(self.tables.application.live) && self.is_outside(site)
     }
 }
 
 /// Adds the places in a class.
 fn add_of_class(
     alloc: Global,
-    tables: &ShapeTables<'_>,
+    tables: &BodyTables<'_>,
     class: &Class,
     found: &mut Seq<Place>,
 ) -> Result<(), AllocError>
     ensures { OnOk result (AddsPlacesOf (spec.HasBodyOutsideShape
-        (application_of tables.now.application.now) tables.now.live.now
+        (application_of tables.now.application.now) tables.now.application.now.live.now
         (shape_of (entries_of tables.now.bodies.now))) (class_sites class.now)
         found.old found.new) }
 {
     let own = OwnTables::of_class(alloc, tables.application, class)?;
     let mut sites = Vec::new(alloc);
     add_class_sites(class, &mut sites)?;
+    let findings = findings_of(alloc, tables, &own, sites.as_slice())?;
     let rule = OutsideShape {
-        tables: *tables,
+        tables,
         own: &own,
+        findings: &findings,
     };
     add_places(&rule, sites.as_slice(), found)
 }
@@ -159,33 +114,35 @@ fn add_of_class(
 /// Adds the places in an interceptor.
 fn add_of_interceptor(
     alloc: Global,
-    tables: &ShapeTables<'_>,
+    tables: &BodyTables<'_>,
     interceptor: &Interceptor,
     found: &mut Seq<Place>,
 ) -> Result<(), AllocError>
     ensures { OnOk result (AddsPlacesOf (spec.HasBodyOutsideShape
-        (application_of tables.now.application.now) tables.now.live.now
+        (application_of tables.now.application.now) tables.now.application.now.live.now
         (shape_of (entries_of tables.now.bodies.now))) (interceptor_sites interceptor.now)
         found.old found.new) }
 {
     let own = OwnTables::of_interceptor(alloc, interceptor)?;
     let mut sites = Vec::new(alloc);
     add_interceptor_sites(interceptor, &mut sites)?;
+    let findings = findings_of(alloc, tables, &own, sites.as_slice())?;
     let rule = OutsideShape {
-        tables: *tables,
+        tables,
         own: &own,
+        findings: &findings,
     };
     add_places(&rule, sites.as_slice(), found)
 }
 
 fn add_of_classes(
     alloc: Global,
-    tables: &ShapeTables<'_>,
+    tables: &BodyTables<'_>,
     classes: &[Class],
     found: &mut Seq<Place>,
 ) -> Result<(), AllocError>
     ensures { OnOk result (AddsPlacesOf (spec.HasBodyOutsideShape
-        (application_of tables.now.application.now) tables.now.live.now
+        (application_of tables.now.application.now) tables.now.application.now.live.now
         (shape_of (entries_of tables.now.bodies.now))) (flat_map class_sites classes.now)
         found.old found.new) }
 {
@@ -197,12 +154,12 @@ fn add_of_classes(
 
 fn add_of_interceptors(
     alloc: Global,
-    tables: &ShapeTables<'_>,
+    tables: &BodyTables<'_>,
     interceptors: &[Interceptor],
     found: &mut Seq<Place>,
 ) -> Result<(), AllocError>
     ensures { OnOk result (AddsPlacesOf (spec.HasBodyOutsideShape
-        (application_of tables.now.application.now) tables.now.live.now
+        (application_of tables.now.application.now) tables.now.application.now.live.now
         (shape_of (entries_of tables.now.bodies.now))) (flat_map interceptor_sites interceptors.now)
         found.old found.new) }
 {
@@ -219,14 +176,14 @@ fn add_of_interceptors(
 /// superclasses.
 pub fn bodies_outside_shape(
     alloc: Global,
-    tables: &ShapeTables<'_>,
+    tables: &BodyTables<'_>,
 ) -> Result<Seq<Place>, AllocError>
     ensures { IfOk result (ArePlacesOf (spec.HasBodyOutsideShape
-        (application_of tables.now.application.now) tables.now.live.now
+        (application_of tables.now.application.now) tables.now.application.now.live.now
         (shape_of (entries_of tables.now.bodies.now)))
         (sites_of (application_of tables.now.application.now).deployment)) }
 {
-    let deployment = tables.application.names.deployment();
+    let deployment = tables.application.deployment;
     let mut found = Seq::empty(alloc);
     add_of_classes(alloc, tables, deployment.classes.as_slice(), &mut found)?;
     add_of_interceptors(

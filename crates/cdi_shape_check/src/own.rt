@@ -5,10 +5,10 @@ ghost use Rattle.std.specs.List.{list_any, flat_map};
 ghost use Rattle.cdi_name_check.specs.NameSets.{HasNames, HasPairs, same_pair};
 ghost use Rattle.cdi_shape_check.specs.OwnParts as spec;
 
-use crate::application::ApplicationTables;
 use crate::injected::{InjectedFields, add_fields as add_injected};
 use cdi_base::{Name, Seq};
 use cdi_deployment::{Class, Field, InjectedField, Interceptor, Member};
+use cdi_live::DeploymentTables;
 use std::alloc::{AllocError, Global};
 use std::collections::HashSet;
 
@@ -113,15 +113,14 @@ impl<'a> OwnTables<'a> {
     /// What a class and its superclasses declare.
     pub(crate) fn of_class(
         alloc: Global,
-        application: &ApplicationTables<'a>,
+        application: &DeploymentTables<'a>,
         class: &Class,
     ) -> Result<OwnTables<'a>, AllocError>
         ensures { IfOk result (λ own. spec.AreClassParts
             (application_of application.now).deployment class.now (parts_in own)) }
     {
-        let line = application
-            .classes
-            .line(alloc, application.types, class.name)?;
+        let types = &application.beans.declared.types;
+        let line = application.classes.line(alloc, types, class.name)?;
         OwnTables::of_line(alloc, line.classes())
     }
 

@@ -19,6 +19,6 @@ returns g c =
     let shapes : ℕ → Option Shape = shape_of (entries_of t.bodies.now) in
     let own = parts_in c.in_ok-own.own in
     let class = c.args.class.now in
-    let same : shown c.as_slice.result.now ≡ class_sites class = ap shown c.as_slice.ensures.value ∙ c.in_ok-add_class_sites.ensures ∙ ap (λ ss. shown ss ++ class_sites class) c.new-sites.ensures.items in
-    let Q : List Site → Type 0 = λ ss. AddsPlacesOf (λ s. IsTrue (is_outside_with app t.live.now shapes own s)) ss c.args.found.now c.add_places.new.found in
-    on_ok c.add_places.result (λ adds. class_places app t.live.now shapes own class c.in_ok-own.ensures c.args.found.now c.add_places.new.found (subst Q same adds)) c.add_places.ensures
+    let same : shown c.as_slice-2.result.now ≡ class_sites class = ap shown c.as_slice-2.ensures.value ∙ c.in_ok-add_class_sites.ensures ∙ ap (λ ss. shown ss ++ class_sites class) c.new-sites.ensures.items in
+    let Q : List Site → Type 0 = λ ss. AddsPlacesOf (λ s. IsTrue (is_outside_with app t.application.now.live.now shapes own s)) ss c.args.found.now c.add_places.new.found in
+    on_ok c.add_places.result (λ adds. class_places app t.application.now.live.now shapes own class c.in_ok-own.ensures c.args.found.now c.add_places.new.found (subst Q same adds)) c.add_places.ensures

@@ -13,5 +13,5 @@ pub loop-class-preserved : goal.loop-class-preserved
 loop-class-preserved g c =
     let l = c.loop-class in
     let t = c.args.tables.now in
-    next_added (HasBodyOutsideShape (application_of t.application.now) t.live.now (shape_of (entries_of t.bodies.now))) class_sites c.args.classes.now l.class-index c.class-item.result c.loop-class-test.true c.class-item.is
+    next_added (HasBodyOutsideShape (application_of t.application.now) t.application.now.live.now (shape_of (entries_of t.bodies.now))) class_sites c.args.classes.now l.class-index c.class-item.result c.loop-class-test.true c.class-item.is
     c.args.found.now l.found c.add_of_class.new.found l.invariant c.in_ok-add_of_class.ensures

@@ -10,4 +10,4 @@ use Rattle.cdi_shape_check.proofs.outside_shape.add_of_classes.Given as goal
 
 abbrev pub invariant-loop-class : goal.invariant-loop-class
 invariant-loop-class g l =
-    AddsPlacesOf (HasBodyOutsideShape (application_of l.tables.application.now) l.tables.live.now (shape_of (entries_of l.tables.bodies.now))) (flat_map class_sites (take l.class-index l.classes)) l.initial.found l.found
+    AddsPlacesOf (HasBodyOutsideShape (application_of l.tables.application.now) l.tables.application.now.live.now (shape_of (entries_of l.tables.bodies.now))) (flat_map class_sites (take l.class-index l.classes)) l.initial.found l.found

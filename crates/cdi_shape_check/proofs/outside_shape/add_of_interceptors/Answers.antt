@@ -13,5 +13,5 @@ pub loop-interceptor-preserved : goal.loop-interceptor-preserved
 loop-interceptor-preserved g c =
     let l = c.loop-interceptor in
     let t = c.args.tables.now in
-    next_added (HasBodyOutsideShape (application_of t.application.now) t.live.now (shape_of (entries_of t.bodies.now))) interceptor_sites c.args.interceptors.now l.interceptor-index c.interceptor-item.result c.loop-interceptor-test.true c.interceptor-item.is
+    next_added (HasBodyOutsideShape (application_of t.application.now) t.application.now.live.now (shape_of (entries_of t.bodies.now))) interceptor_sites c.args.interceptors.now l.interceptor-index c.interceptor-item.result c.loop-interceptor-test.true c.interceptor-item.is
     c.args.found.now l.found c.add_of_interceptor.new.found l.invariant c.in_ok-add_of_interceptor.ensures

@@ -10,4 +10,4 @@ use Rattle.cdi_shape_check.proofs.outside_shape.add_of_interceptors.Given as goa
 
 abbrev pub invariant-loop-interceptor : goal.invariant-loop-interceptor
 invariant-loop-interceptor g l =
-    AddsPlacesOf (HasBodyOutsideShape (application_of l.tables.application.now) l.tables.live.now (shape_of (entries_of l.tables.bodies.now))) (flat_map interceptor_sites (take l.interceptor-index l.interceptors)) l.initial.found l.found
+    AddsPlacesOf (HasBodyOutsideShape (application_of l.tables.application.now) l.tables.application.now.live.now (shape_of (entries_of l.tables.bodies.now))) (flat_map interceptor_sites (take l.interceptor-index l.interceptors)) l.initial.found l.found

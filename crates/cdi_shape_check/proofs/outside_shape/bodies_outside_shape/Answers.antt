@@ -1,4 +1,4 @@
-use Rattle.std.proofs.Common.{◌≡◌, ◌∙◌, ◌++◌, [], List, ap, subst}
+use Rattle.std.proofs.Common.{◌≡◌, ◌++◌, [], List, subst}
 use Rattle.std.specs.List.{flat_map}
 use Rattle.cdi_base.specs.declared.place.Place.{Place}
 use Rattle.cdi_bodies.specs.Table.{entries_of}
@@ -6,7 +6,6 @@ use Rattle.cdi_body_check.specs.Findings.{AddsPlacesOf}
 use Rattle.cdi_body_check.specs.Shapes.{shape_of}
 use Rattle.cdi_body_check.specs.Sites.{Site, class_sites, interceptor_sites, sites_of}
 use Rattle.cdi_deployment.specs.declared.deployment.Class.{Class}
-use Rattle.cdi_deployment.specs.declared.deployment.Deployment.{Deployment}
 use Rattle.cdi_deployment.specs.declared.deployment.Interceptor.{Interceptor}
 use Rattle.cdi_shape_check.specs.Application.{application_of}
 use Rattle.cdi_shape_check.specs.BodyOutsideShape.{HasBodyOutsideShape}
@@ -16,10 +15,10 @@ use Rattle.cdi_shape_check.proofs.outside_shape.bodies_outside_shape.Goals as go
 pub returns : goal.returns
 returns g c =
     let t = c.args.tables.now in
-    let d = t.application.now.names.now in
-    let P : Site → Type 0 = HasBodyOutsideShape (application_of t.application.now) t.live.now (shape_of (entries_of t.bodies.now)) in
-    let classes : c.as_slice.result.now ≡ d.classes = c.as_slice.ensures ∙ ap (λ (d : Deployment). d.classes) c.deployment-deployment.ensures in
-    let interceptors : c.as_slice-2.result.now ≡ d.interceptors = c.as_slice-2.ensures ∙ ap (λ (d : Deployment). d.interceptors) c.deployment-deployment.ensures in
+    let d = t.application.now.deployment.now in
+    let P : Site → Type 0 = HasBodyOutsideShape (application_of t.application.now) t.application.now.live.now (shape_of (entries_of t.bodies.now)) in
+    let classes : c.as_slice.result.now ≡ d.classes = c.as_slice.ensures in
+    let interceptors : c.as_slice-2.result.now ≡ d.interceptors = c.as_slice-2.ensures in
     let found = c.add_of_interceptors.new.found in
     let adds = both_added P (flat_map class_sites c.as_slice.result.now) (flat_map interceptor_sites c.as_slice-2.result.now) c.empty-found.result c.add_of_classes.new.found found c.in_ok-add_of_classes.ensures c.in_ok-add_of_interceptors.ensures in
     let ByClasses : List Class → Type 0 = λ cs. AddsPlacesOf P (flat_map class_sites cs ++ flat_map interceptor_sites c.as_slice-2.result.now) c.empty-found.result found in

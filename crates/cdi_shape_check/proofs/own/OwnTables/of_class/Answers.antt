@@ -16,6 +16,6 @@ returns c =
     let line = c.in_ok-line.line in
     let name = c.args.class.now.name in
     let OfTypes : List TypeDeclaration → Type 0 = λ types. IsLineOf types t.classes.now name line in
-    let OfClasses : List Class → Type 0 = λ classes. IsLineOf (declarations_of t.names.now) classes name line in
-    let is_line : IsLineOf (declarations_of t.names.now) t.names.now.classes name line = subst OfClasses t.classes_are (subst OfTypes t.types_are c.in_ok-line.ensures) in
+    let OfClasses : List Class → Type 0 = λ classes. IsLineOf (declarations_of t.deployment.now) classes name line in
+    let is_line : IsLineOf (declarations_of t.deployment.now) t.deployment.now.classes name line = subst OfClasses t.classes_are (subst OfTypes t.types_are c.in_ok-line.ensures) in
     if_ok _ _ c.of_line.result (λ own e. record { line = line; is_line = is_line; are = e ∙ ap parts_of_line c.classes.ensures }) c.of_line.ensures

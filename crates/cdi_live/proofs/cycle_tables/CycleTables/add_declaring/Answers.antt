@@ -1,7 +1,0 @@
-use Rattle.std.proofs.Common.{arith}
-use Rattle.std.proofs.lemmas.Grind.{common_steps}
-use Rattle.std.proofs.lemmas.List.Elements.{filter_map-append}
-use Rattle.cdi_live.proofs.cycle_tables.CycleTables.add_declaring.Goals as goal
-
-pub loop-bean-preserved : goal.loop-bean-preserved
-loop-bean-preserved c = grind (arith, common_steps, filter_map-append)
