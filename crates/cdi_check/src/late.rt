@@ -17,7 +17,7 @@ use cdi_body_check::{
     BodyTables, DeclaredExceptions, checked_lifecycles, proceeds_not_allowed, unknown_bodies,
 };
 use cdi_live::{PointProblem, PointRule, dependent_cycles};
-use cdi_name_check::DeclaredNames;
+use cdi_name_check::{DeclaredNames, NameSets};
 use cdi_problems::{
     Element, Problem, ProblemKind, add_problems_at, elements_of as all_elements, places_where,
 };
@@ -31,7 +31,8 @@ impl LateTables<'_> {
             (shape_of (entries_of bodies.now)) (setting_of self.now.cycles)) }
     {
         let points = &self.cycles.points;
-        let names = DeclaredNames::build(alloc, self.deployment)?;
+        let sets = NameSets::of(alloc, self.deployment)?;
+        let names = DeclaredNames::new(self.deployment, &sets);
         let exceptions = DeclaredExceptions::build(alloc, self.deployment.exceptions.as_slice())?;
         let application = ApplicationTables {
             names: &names,

@@ -15,4 +15,5 @@ pub use cyclic_hierarchy::CyclicHierarchy;
 pub use duplicate_name::duplicate_places;
 pub use problems::name_problems;
 pub use unknown_name::declared::DeclaredNames;
+pub use unknown_name::name_sets::NameSets;
 pub use unknown_name::{UnknownName, are_event_qualifiers, are_qualifiers};

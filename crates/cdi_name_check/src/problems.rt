@@ -12,6 +12,7 @@ use crate::cyclic_hierarchy::CyclicHierarchy;
 use crate::duplicate_name::duplicate_places;
 use crate::unknown_name::UnknownName;
 use crate::unknown_name::declared::DeclaredNames;
+use crate::unknown_name::name_sets::NameSets;
 use cdi_base::{Place, Seq};
 use cdi_deployment::Deployment;
 use cdi_problems::{Element, Problem, ProblemKind, elements_of, places_where};
@@ -44,7 +45,8 @@ fn unknown_places(
     ensures { IfOk result
         (ArePlacesOf (HasUnknownName deployment.now) (shown elements.now)) }
 {
-    let names = DeclaredNames::build(alloc, deployment)?;
+    let sets = NameSets::of(alloc, deployment)?;
+    let names = DeclaredNames::new(deployment, &sets);
     places_where(alloc, &UnknownName { names: &names }, elements)
 }
 

@@ -6,7 +6,7 @@ ghost use Rattle.cdi_name_check.specs.UnknownName as spec;
 ghost use Rattle.cdi_problems.specs.Elements.{element_of};
 
 pub mod declared;
-mod name_sets;
+pub mod name_sets;
 mod uses;
 
 use crate::unknown_name::declared::DeclaredNames;

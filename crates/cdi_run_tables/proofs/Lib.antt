@@ -1,2 +1,5 @@
 pub mod Empty
+pub mod FirstMethods
+pub mod Indexed
+pub mod Resolving
 pub mod Zips

@@ -1,4 +1,5 @@
 pub mod Ids
+pub mod Index
 pub mod Machine
 pub mod Managed
 pub mod Planned

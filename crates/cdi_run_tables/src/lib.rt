@@ -3,8 +3,11 @@
 #![tactic(auto)]
 
 pub mod ids;
-mod known;
+mod index;
+mod injected;
 mod managed;
+mod methods;
+pub mod parts;
 pub mod planned;
 mod served;
 mod sizes;

@@ -1,7 +1,7 @@
 //! What is asked of a managed bean, by its plan.
-ghost use Rattle.std.specs.Prelude.{◌≡◌, ◌<◌, ◌^◌, length, slice_get, option_map, option_and_then, IfOk};
+ghost use Rattle.std.specs.Prelude.{◌≡◌, length, slice_get, option_map, option_and_then, IfOk, IfSome};
 ghost use Rattle.std.specs.List.{filter_map};
-ghost use Rattle.cdi_run_tables.specs.Machine.{first_values};
+ghost use Rattle.cdi_run_tables.specs.Machine.{first_values, resolution_of};
 ghost use Rattle.cdi_run_tables.specs.Managed as spec;
 
 use crate::planned::PlannedBean;
@@ -9,13 +9,15 @@ use crate::tables::RunTables;
 use cdi_base::{Fields, Name};
 use cdi_deployment::{Field, Point};
 use cdi_plans::{ManagedPlan, Plan, Step};
+use cdi_resolve::Resolution;
 use std::alloc::{AllocError, Global};
 
-/// An injected field, and what is asked for at its injection point (Jakarta CDI 4.0, *Injected fields*).
+/// An injected field, and what is asked for at its injection point (Jakarta CDI 4.0, *Injected fields*), with what that resolves to.
 #[derive(Clone, Copy)]
 pub struct Injection<'a> {
     pub field: Name,
     pub point: &'a Point,
+    pub resolution: Resolution,
 }
 
 fn managed_plan(bean: &PlannedBean) -> Option<&ManagedPlan>
@@ -38,26 +40,6 @@ fn fields_of(alloc: Global, fields: &[Field]) -> Result<Fields, AllocError>
     Ok(all)
 }
 
-/// The injected field that stands at a place among those of some steps.
-fn injection_at(steps: &[Step], at: usize) -> Option<Injection<'_>>
-    ensures { option_map (λ i. (i.field, i.point.now)) result
-        ≡ slice_get (filter_map spec.injected steps.now) at }
-{
-    let mut left = at;
-    for step in steps {
-        if let Step::Inject { field, point } = step {
-            if left == 0 {
-                return Some(Injection {
-                    field: *field,
-                    point,
-                });
-            }
-            left -= 1;
-        }
-    }
-    None
-}
-
 /// How many injected fields some steps have.
 pub(crate) fn count_of(steps: &[Step]) -> usize
     ensures { result ≡ length (filter_map spec.injected steps.now) }
@@ -77,7 +59,7 @@ impl RunTables {
         ensures { option_map (λ p. p.now) result
             ≡ option_and_then spec.managed_plan (slice_get self.now.beans bean) }
     {
-        match self.bean(bean) {
+        match self.parts.bean(bean) {
             Some(bean) => managed_plan(bean),
             None => None,
         }
@@ -99,22 +81,24 @@ impl RunTables {
         ensures { result ≡ length (spec.injections_of
             (option_and_then spec.managed_plan (slice_get self.now.beans bean))) }
     {
-        match self.managed(bean) {
-            Some(plan) => count_of(plan.steps.as_slice()),
+        match self.bean_index(bean) {
+            Some(index) => index.injected.len(),
             None => 0,
         }
     }
 
     /// The injected field at a place among those of the bean with an index: class by class, the topmost superclass first (Jakarta CDI
-    /// 4.0, *Lifecycle of managed beans*).
+    /// 4.0, *Lifecycle of managed beans*), with what its injection point resolves to.
     pub fn injection(&self, bean: usize, at: usize) -> Option<Injection<'_>>
-        ensures { option_map (λ i. (i.field, i.point.now)) result
+        ensures injection { option_map (λ i. (i.field, i.point.now)) result
             ≡ slice_get (spec.injections_of
             (option_and_then spec.managed_plan (slice_get self.now.beans bean))) at }
+        ensures resolution { IfSome result (λ i. i.resolution
+            ≡ resolution_of self.now i.point.now.ty i.point.now.quals) }
     {
-        match self.managed(bean) {
-            Some(plan) => injection_at(plan.steps.as_slice(), at),
-            None => None,
-        }
+        let plan = self.managed(bean)?;
+        let index = self.bean_index(bean)?;
+        let injected = index.injected.get(at)?;
+        injected.injection(plan.steps.as_slice())
     }
 }

@@ -175,7 +175,7 @@ impl RunTables {
     pub fn is_served(&self) -> bool
         ensures { result ≡ spec.is_served self.now }
     {
-        are_served_beans(self.beans.as_slice()) && has_texts(&self.deployment)
+        are_served_beans(self.parts.beans.as_slice()) && has_texts(&self.parts.deployment)
     }
 
     /// Whether a container serves the registered bodies of the beans' methods: they call through injected fields alone, and neither read
@@ -183,6 +183,6 @@ impl RunTables {
     pub fn serves_shapes(&self, bodies: &Bodies) -> bool
         ensures { result ≡ spec.serves_shapes (shape_in (entries_of bodies.now)) self.now }
     {
-        serve_methods(bodies, self.beans.as_slice())
+        serve_methods(bodies, self.parts.beans.as_slice())
     }
 }

@@ -32,6 +32,6 @@ impl RunTables {
     pub fn is_small(&self) -> bool
         ensures { result ≡ spec.is_small self.now }
     {
-        self.beans.len() <= MAX_BEANS && have_few_injections(self.beans.as_slice())
+        self.parts.beans.len() <= MAX_BEANS && have_few_injections(self.parts.beans.as_slice())
     }
 }

@@ -1,18 +1,18 @@
 //! What a deployment declares, by name.
-ghost use Rattle.std.specs.Prelude.{◌≡◌, IfOk};
+ghost use Rattle.std.specs.Prelude.{◌≡◌};
+ghost use Rattle.cdi_name_check.specs.NameSets.{HasDeclared};
 ghost use Rattle.cdi_name_check.specs.UnknownName as spec;
 
 use crate::unknown_name::name_sets::NameSets;
 use cdi_base::{BuiltIn, Name};
 use cdi_deployment::Deployment;
-use std::alloc::{AllocError, Global};
 use std::marker::Model;
 
-/// The names that a deployment declares. Contracts see the deployment; a question takes constant time.
+/// The names that a deployment declares, which their owner lends. Contracts see the deployment; a question takes constant time.
 #[derive(Drop)]
 pub struct DeclaredNames<'a> {
     deployment: &'a Deployment,
-    sets: NameSets,
+    sets: &'a NameSets,
 }
 
 impl<'a> Model for DeclaredNames<'a> {
@@ -26,7 +26,7 @@ impl<'a> Model for DeclaredNames<'a> {
 
     ghost view = { λ names. names.deployment.now };
 
-    ghost invariant = { λ names. HasDeclared names.deployment.now names.sets };
+    ghost invariant = { λ names. HasDeclared names.deployment.now names.sets.now };
 }
 
 pub(super) fn is_built_in(built_in: BuiltIn, name: Name) -> bool
@@ -36,12 +36,12 @@ pub(super) fn is_built_in(built_in: BuiltIn, name: Name) -> bool
 }
 
 impl<'a> DeclaredNames<'a> {
-    /// The names that a deployment declares.
-    pub fn build(alloc: Global, deployment: &'a Deployment) -> Result<DeclaredNames<'a>, AllocError>
-        ensures { IfOk result (λ names. names ≡ deployment.now) }
+    /// The names that a deployment declares, of which these are the sets.
+    pub fn new(deployment: &'a Deployment, sets: &'a NameSets) -> DeclaredNames<'a>
+        requires { HasDeclared deployment.now sets.now }
+        ensures { result ≡ deployment.now }
     {
-        let sets = NameSets::of(alloc, deployment)?;
-        Ok(DeclaredNames { deployment, sets })
+        DeclaredNames { deployment, sets }
     }
 
     /// The deployment.

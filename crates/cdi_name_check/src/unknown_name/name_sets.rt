@@ -18,9 +18,9 @@ pub(super) struct AnnotationSets {
     pub(super) members: HashSet<(Name, Name)>,
 }
 
-/// The names of each kind that a deployment declares.
+/// The names of each kind that a deployment declares. It borrows nothing.
 #[derive(Drop)]
-pub(super) struct NameSets {
+pub struct NameSets {
     pub(super) interfaces: HashSet<Name>,
     pub(super) classes: HashSet<Name>,
     /// The classes that aren't final.
@@ -139,7 +139,7 @@ impl AnnotationSets {
 
 impl NameSets {
     /// The names that a deployment declares.
-    pub(super) fn of(alloc: Global, deployment: &Deployment) -> Result<NameSets, AllocError>
+    pub fn of(alloc: Global, deployment: &Deployment) -> Result<NameSets, AllocError>
         ensures { IfOk result (sets.HasDeclared deployment.now) }
     {
         let classes = deployment.classes.as_slice();

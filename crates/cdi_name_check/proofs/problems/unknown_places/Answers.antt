@@ -8,4 +8,4 @@ use Rattle.cdi_name_check.proofs.problems.unknown_places.Goals as goal
 pub returns : goal.returns
 returns c =
     let P : Deployment → Type 0 = λ d. IfOk c.places_where.result (ArePlacesOf (HasUnknownName d) (shown c.args.elements.now)) in
-    subst P c.in_ok-names.ensures c.places_where.ensures
+    subst P c.new-names.ensures c.places_where.ensures

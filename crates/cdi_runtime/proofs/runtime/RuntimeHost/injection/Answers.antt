@@ -12,7 +12,7 @@ returns-in-Some g c =
     let step = Inject i.field (asked_for i.point.now.ty c.as_slice.result.now) in
     let found : slice_get (plan_of (bean_at tables c.args.bean)) c.args.at ≡ Some step =
     step_at tables c.self.invariant.servable.served c.args.bean c.args.at
-    ∙ ap (option_map step_of) (sym c.injection.ensures ∙ ap (option_map (λ k. (k.field, k.point.now))) c.in-Some.is)
+    ∙ ap (option_map step_of) (sym c.injection.ensures.injection ∙ ap (option_map (λ k. (k.field, k.point.now))) c.in-Some.is)
     ∙ ap (λ q. Some (Inject i.field (asked_for i.point.now.ty q))) (sym c.as_slice.ensures) in
     subst (λ r. slice_get (plan_of (bean_at r.tables c.args.bean)) c.args.at ≡ Some step) c.self.view_is found
 
@@ -21,5 +21,5 @@ returns-in-None g c =
     let tables = c.self.inside.tables in
     let found : slice_get (plan_of (bean_at tables c.args.bean)) c.args.at ≡ None =
     step_at tables c.self.invariant.servable.served c.args.bean c.args.at
-    ∙ ap (option_map step_of) (sym c.injection.ensures ∙ ap (option_map (λ k. (k.field, k.point.now))) c.in-None.is) in
+    ∙ ap (option_map step_of) (sym c.injection.ensures.injection ∙ ap (option_map (λ k. (k.field, k.point.now))) c.in-None.is) in
     subst (λ r. slice_get (plan_of (bean_at r.tables c.args.bean)) c.args.at ≡ None) c.self.view_is found

@@ -2,7 +2,7 @@ use Rattle.std.proofs.Common.{sym, subst}
 use Rattle.std.specs.List.{All}
 use Rattle.cdi_plans.specs.Plans.{IsDeclared}
 use Rattle.cdi_resolve.specs.declared.bean_tables.BeanTables.{BeanTables}
-use Rattle.cdi_run_tables.proofs.tables.plans_of.Goals as goal
+use Rattle.cdi_run_tables.proofs.parts.plans_of.Goals as goal
 
 pub planned_beans-requires : goal.planned_beans-requires
 planned_beans-requires c =

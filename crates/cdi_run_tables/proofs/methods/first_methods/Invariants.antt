@@ -1,0 +1,11 @@
+use Rattle.std.proofs.Common.{◌≡◌, ℕ, nat_eq, option_map, take}
+use Rattle.std.specs.HashMap.{get}
+use Rattle.cdi_base.specs.Maps.{at}
+use Rattle.cdi_run_tables.specs.Ids.{id_in}
+use Rattle.cdi_run_tables.specs.Machine.{machine_methods, without_chain}
+use Rattle.cdi_run_tables.proofs.methods.first_methods.Given as goal
+
+-- the first of each name among those that were looked at
+abbrev pub invariant-loop-method : goal.invariant-loop-method
+invariant-loop-method l =
+    (name : ℕ) → get nat_eq l.found name ≡ option_map without_chain (at (machine_methods (id_in l.ids) (take l.method-index l.methods)) name)

@@ -1,0 +1,67 @@
+-- What is looked up of a deployment in a run.
+use Rattle.std.specs.Prelude.{ℕ, ◌≡◌, List, [], Option, Some, None, nat_eq, option_map, option_and_then, slice_get}
+use Rattle.std.specs.HashMap.{HashMap, get}
+use Rattle.std.specs.List.{AllZip, filter_map}
+use Rattle.cdi_deployment.specs.declared.deployment.Point.{Point}
+use Rattle.cdi_machine.specs.Words.{Name}
+use Rattle.cdi_name_check.specs.NameSets.{HasDeclared}
+use Rattle.cdi_plans.specs.declared.plan.ManagedPlan.{ManagedPlan}
+use Rattle.cdi_plans.specs.declared.plan.Plan.{Plan}
+use Rattle.cdi_plans.specs.declared.plan.Step.{Step}
+use Rattle.cdi_resolve.specs.Filters.{Candidates, enabled_of}
+use Rattle.cdi_run_tables.specs.Ids.{id_in}
+use Rattle.cdi_run_tables.specs.Machine.{method_in, resolution_of, without_chain}
+use Rattle.cdi_run_tables.specs.Managed.{injected, managed_of}
+use Rattle.cdi_run_tables.specs.declared.index.BeanIndex.{BeanIndex}
+use Rattle.cdi_run_tables.specs.declared.index.RunIndex.{RunIndex}
+use Rattle.cdi_run_tables.specs.declared.injected.Injected.{Injected}
+use Rattle.cdi_run_tables.specs.declared.parts.RunParts.{RunParts}
+use Rattle.cdi_run_tables.specs.declared.planned.PlannedBean.{PlannedBean}
+use Rattle.cdi_run_tables.specs.declared.tables.Method.{Method}
+
+-- the methods of a plan, by their names
+pub record AreMethodsOf {S : Type 0} (ids : ℕ → Option ℕ) (plan : Plan)
+    (methods : HashMap ℕ Method S) : Type 0 where
+  pub same :
+      (name : Name) → get nat_eq methods name ≡ option_map without_chain (method_in ids plan name)
+
+-- resolution is asked for among the enabled beans of these tables
+abbrev pub AsksOf : RunParts → Candidates → Type 0
+AsksOf t c = enabled_of c ≡ enabled_of t.tables.resolver
+
+-- an injected field stands at a step of these, and its point resolves so
+pub record IsInjected (t : RunParts) (steps : List Step) (injection : Name × Point) (i : Injected)
+    : Type 0 where
+  pub step : option_and_then injected (slice_get steps i.step) ≡ Some injection
+  pub resolution : i.resolution ≡ resolution_of t injection.1.ty injection.1.quals
+
+-- the injected fields that some steps have
+abbrev pub AreInjected : RunParts → List Step → List Injected → Type 0
+AreInjected t steps all = AllZip (IsInjected t steps) (filter_map injected steps) all
+
+abbrev pub steps_in : Option ManagedPlan → List Step
+steps_in None = []
+steps_in (Some p) = p.steps
+
+-- those of a managed bean; a product has none
+abbrev pub AreInjectionsOf : RunParts → Option ManagedPlan → List Injected → Type 0
+AreInjectionsOf t plan all = AreInjected t (steps_in plan) all
+
+abbrev pub AreInjectedOf : RunParts → Plan → List Injected → Type 0
+AreInjectedOf t plan all = AreInjectionsOf t (managed_of plan) all
+
+pub record IsBeanIndex (t : RunParts) (b : PlannedBean) (i : BeanIndex) : Type 0 where
+  pub methods : AreMethodsOf (id_in t.ids) b.plan i.methods
+  pub injected : AreInjectedOf t b.plan i.injected
+
+-- so if there is a bean, and else there is none
+abbrev pub IsIndexAt : RunParts → Option PlannedBean → Option BeanIndex → Type 0
+IsIndexAt t None None = Unit {0}
+IsIndexAt t None (Some i) = ⊥
+IsIndexAt t (Some b) None = ⊥
+IsIndexAt t (Some b) (Some i) = IsBeanIndex t b i
+
+-- the names that the deployment declares, and the methods and injected fields of each bean
+pub record IsIndexOf (t : RunParts) (i : RunIndex) : Type 0 where
+  pub names : HasDeclared t.deployment i.names
+  pub beans : AllZip (IsBeanIndex t) t.beans i.beans

@@ -1,0 +1,113 @@
+//! What is looked up of a deployment in a run, made once.
+ghost use Rattle.std.specs.Prelude.{◌≡◌, nat_eq, IfOk};
+ghost use Rattle.std.specs.HashMap.{get};
+ghost use Rattle.std.specs.List.{AllZip};
+ghost use Rattle.cdi_run_tables.specs.Index as spec;
+
+use crate::injected::{Injected, injected_by};
+use crate::methods::methods_of;
+use crate::parts::RunParts;
+use crate::planned::PlannedBean;
+use crate::tables::Method;
+use cdi_base::{Name, Seq};
+use cdi_cache::Lookup;
+use cdi_name_check::NameSets;
+use cdi_plans::Plan;
+use cdi_resolve::Resolver;
+use std::alloc::{AllocError, Global};
+use std::collections::HashMap;
+use std::num::NonZeroUsize;
+
+/// How many answers of resolution are remembered while the injection points of a deployment are resolved.
+const REMEMBERED: usize = 256;
+
+/// What is looked up of a bean.
+#[derive(Drop)]
+pub(crate) struct BeanIndex {
+    pub(crate) methods: HashMap<Name, Method>,
+    /// Its injected fields in the order of the plan.
+    pub(crate) injected: Seq<Injected>,
+}
+
+/// What is looked up of a deployment.
+pub(crate) struct RunIndex {
+    pub(crate) names: NameSets,
+    pub(crate) beans: Seq<BeanIndex>,
+}
+
+/// In one call, so that the proof of each function that owns an index has one step here, and not one for each of its parts.
+impl Drop for RunIndex {
+    fn drop(self) {
+        let RunIndex {
+            names: _names,
+            beans: _beans,
+        } = self;
+    }
+}
+
+/// The injected fields of a bean; a product has none.
+fn injected_of(
+    alloc: Global,
+    parts: &RunParts,
+    lookup: &mut Lookup<&Resolver>,
+    plan: &Plan,
+) -> Result<Seq<Injected>, AllocError>
+    requires { spec.AsksOf parts.now lookup.old.now }
+    ensures all { IfOk result (spec.AreInjectedOf parts.now plan.now) }
+    ensures kept { spec.AsksOf parts.now lookup.new.now }
+{
+    match plan {
+        Plan::Managed(plan) => injected_by(alloc, parts, lookup, plan.steps.as_slice()),
+        Plan::Product(_plan) => Ok(Seq::empty(alloc)),
+    }
+}
+
+impl BeanIndex {
+    /// That of a bean of a deployment.
+    fn build(
+        alloc: Global,
+        parts: &RunParts,
+        lookup: &mut Lookup<&Resolver>,
+        bean: &PlannedBean,
+    ) -> Result<BeanIndex, AllocError>
+        requires { spec.AsksOf parts.now lookup.old.now }
+        ensures index { IfOk result (spec.IsBeanIndex parts.now bean.now) }
+        ensures kept { spec.AsksOf parts.now lookup.new.now }
+    {
+        let methods = methods_of(alloc, &bean.plan, &parts.ids)?;
+        let injected = injected_of(alloc, parts, lookup, &bean.plan)?;
+        Ok(BeanIndex { methods, injected })
+    }
+
+    /// The method of a name.
+    pub(crate) fn method(&self, name: Name) -> Option<Method>
+        ensures { result ≡ get nat_eq self.now.methods name }
+    {
+        self.methods.get(&name).copied()
+    }
+}
+
+/// Those of the beans of a deployment, in their order.
+fn bean_indices(alloc: Global, parts: &RunParts) -> Result<Seq<BeanIndex>, AllocError>
+    ensures { IfOk result (AllZip (spec.IsBeanIndex parts.now) parts.now.beans) }
+{
+    let capacity = NonZeroUsize::new(REMEMBERED).unwrap();
+    let mut lookup = Lookup::new(alloc, &parts.tables.resolver, capacity)?;
+    let mut indices = Seq::empty(alloc);
+    for bean in parts.beans.as_slice() {
+        indices.push(BeanIndex::build(alloc, parts, &mut lookup, bean)?)?;
+    }
+    Ok(indices)
+}
+
+impl RunIndex {
+    /// That of a deployment.
+    pub(crate) fn build(alloc: Global, parts: &RunParts) -> Result<RunIndex, AllocError>
+        ensures { IfOk result (spec.IsIndexOf parts.now) }
+    {
+        Ok(RunIndex {
+            names: NameSets::of(alloc, &parts.deployment)?,
+            beans: bean_indices(alloc, parts)?,
+        })
+    }
+}
