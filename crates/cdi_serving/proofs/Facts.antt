@@ -1,5 +1,7 @@
 -- A deployment that was read with its scripts is within its limits and knows its names, in a table of names behind the built-in ones.
-use Rattle.std.proofs.Common.{◌≡◌, ℕ, true, List, Result, Ok, Err, IfOk, refl, sym, subst}
+use Rattle.std.proofs.Common.{◌≡◌, ◌<◌, ℕ, zero, suc, true, List, [], ◌∷◌, length, Result, Ok, Err, IfOk, refl, sym, subst, arith}
+use Rattle.std.proofs.lemmas.Bool.{and_from}
+use Rattle.std.proofs.lemmas.List.Elements.{recursion_from_All}
 use Rattle.cdi_base.proofs.Tables.{joins}
 use Rattle.cdi_base.specs.BuiltIn.{built_in_names}
 use Rattle.cdi_base.specs.Name.{Extends}
@@ -8,11 +10,15 @@ use Rattle.cdi_deploy.specs.Reading.{read_at, root}
 use Rattle.cdi_deployment.specs.KnownNames.{KnowsNames}
 use Rattle.cdi_deployment.specs.Limits.{is_within}
 use Rattle.cdi_deployment.specs.declared.deployment.Deployment.{Deployment}
+use Rattle.cdi_deployment.specs.declared.deployment.Exception.{Exception}
 use Rattle.cdi_prepare.specs.Ready.{Readied, readied_at}
 use Rattle.cdi_stage.specs.declared.stage.Stage.{Stage}
+use Rattle.cdi_run_tables.specs.Served.{has_text, has_texts}
 use Rattle.cdi_serving.specs.Facts.{HasFacts}
+use Rattle.cdi_serving.proofs.Each.{all_pass}
 use Rattle.cdi_serving.proofs.KeptTexts.{names-grow}
 use Rattle.cdi_serving.proofs.KnownMore.{names-more}
+use Rattle.cdi_serving.proofs.Parts.{built_in-stays}
 use Rattle.cdi_serving.proofs.ReadTables.{of-read}
 use Rattle.cdi_serving.proofs.Readied.{IsMadeFrom, if_read, made_from}
 use Rattle.cdi_serving.proofs.ScriptNames.{made-named}
@@ -45,3 +51,24 @@ module _ (stage : Stage) (bytes : List ℕ) where
       by : (found : Result Readied (List ℕ)) → readied_at stage bytes ≡ found → IfOk found (λ r. HasFacts r.deployment)
       by (Ok r) e = facts r (made_from stage bytes r e)
       by (Err line) e = tt
+
+-- ---- texts
+
+known_text : (names : List (List ℕ)) (n : ℕ) → n < length names → has_text names n ≡ true
+known_text [] n lt = absurd (omega (arith, lt))
+known_text (x ∷ names) zero lt = refl
+known_text (x ∷ names) (suc n) lt = known_text names n (omega (arith, lt))
+
+-- the built-in exceptions and the declared ones have texts
+have_texts : (d : Deployment) → HasFacts d → has_texts d ≡ true
+have_texts d facts =
+    and_from _ _ (built_in-stays d.names facts.built_in)
+    (all_pass (λ (x : Exception). x.name < length d.names) (λ (x : Exception). has_text d.names x.name) d.exceptions (λ x h. known_text d.names x.name h)
+    (recursion_from_All (λ (x : Exception). x.name < length d.names) d.exceptions facts.known.exceptions))
+
+pub reads_texts : (stage : Stage) (bytes : List ℕ) → IfOk (readied_at stage bytes) (λ r. has_texts r.deployment ≡ true)
+reads_texts stage bytes = by (readied_at stage bytes) (reads_facts stage bytes)
+  where
+    by : (found : Result Readied (List ℕ)) → IfOk found (λ r. HasFacts r.deployment) → IfOk found (λ r. has_texts r.deployment ≡ true)
+    by (Ok r) h = have_texts r.deployment h
+    by (Err line) h = tt

@@ -80,7 +80,7 @@ class-served names d form = record {
 -- ---- the whole
 
 -- the last of the built-in names stands in each table that extends theirs
-built_in-stays : (names : List (List ℕ)) → Extends built_in_names names
+pub built_in-stays : (names : List (List ℕ)) → Extends built_in_names names
     → has_text names (number_of built_in.AmbiguousResolutionException) ≡ true
 unfolding built_in_names
 built_in-stays names extends = text-stays built_in_names names 18 extends (omega arith)

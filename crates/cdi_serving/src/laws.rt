@@ -5,7 +5,7 @@ ghost use Rattle.cdi_deployment.specs.Limits.{is_within};
 ghost use Rattle.cdi_prepare.specs.Ready.{readied_at};
 ghost use Rattle.cdi_prepare.specs.Scripts.{registered, shape_under};
 ghost use Rattle.cdi_run_tables.specs.Planned.{IsTabled};
-ghost use Rattle.cdi_run_tables.specs.Served.{is_served, is_served_body};
+ghost use Rattle.cdi_run_tables.specs.Served.{has_texts, is_served, is_served_body};
 ghost use Rattle.cdi_run_tables.specs.Sizes.{is_small};
 ghost use Rattle.cdi_run_tables.specs.declared.tables.RunTables.{RunTables};
 ghost use Rattle.cdi_serving.specs.AllServed.{IsAllServed};
@@ -26,6 +26,13 @@ pub fn law_reads_served_parts()
 pub fn law_reads_facts()
     ensures { (stage : AnyStage) (bytes : List ℕ)
         → IfOk (readied_at stage bytes) (λ r. HasFacts r.deployment) }
+{}
+
+/// The class of each built-in exception and of each that the deployment declares has a text in the table of names of what was read, at any
+/// stage.
+pub fn law_reads_texts()
+    ensures { (stage : AnyStage) (bytes : List ℕ)
+        → IfOk (readied_at stage bytes) (λ r. has_texts r.deployment ≡ true) }
 {}
 
 /// A script that is bad is told by its name, never by an empty text: the text in the line that tells it is a name.
