@@ -15,6 +15,7 @@ use Rattle.cdi_plans.specs.declared.plan.Plan.{Plan}
 use Rattle.cdi_plans.specs.declared.plan.Plan.TheVariants as plans
 use Rattle.cdi_plans.specs.declared.plan.Step.{Step}
 use Rattle.cdi_plans.specs.declared.plan.Step.TheVariants as steps
+use Rattle.cdi_resolve.specs.declared.resolution.Resolution.{Resolution}
 use Rattle.cdi_resolve.specs.declared.resolution.Resolution.TheVariants as resolutions
 use Rattle.cdi_run_tables.specs.Machine as tables
 use Rattle.cdi_run_tables.specs.Machine.{asked_by, bean_at, bean_with, does_something, has_none, id_of, is_idle, machine_code, machine_lifecycle, machine_managed, machine_method, machine_methods, machine_step, machine_steps, machine_tables, method_of, method_with, resolution_of, without_chain}
@@ -28,7 +29,7 @@ use Rattle.cdi_steps.specs.Asked as steps_asked
 use Rattle.cdi_steps.specs.Asked.{asked_for, fields_of, head_of, method_at, method_in, no_lifecycle, plan_of, IsServedBean}
 use Rattle.cdi_steps.specs.declared.beans.BeanHead.{BeanHead}
 use Rattle.cdi_runtime.specs.Refusals.{with_no_chain}
-use Rattle.cdi_runtime.specs.Standing.{IsServable}
+use Rattle.cdi_runtime.specs.Standing.{HasNumber, IsServable}
 use Rattle.cdi_runtime.proofs.Lists.{mapped_at, passes_at, within}
 
 none_is : {A : Type 0} (xs : List A) → has_none xs ≡ true → xs ≡ []
@@ -207,3 +208,8 @@ module _ (t : RunTables) (small : is_small t ≡ true) where
 -- so is what resolves
 pub small_resolved : (t : RunTables) → IsServable t → (type : ℕ) (uses : List Use) (b : ℕ) → resolution_of t type uses ≡ resolutions.One b → b < 2 ^ 32
 small_resolved t h type uses b e = small_index t h.small b (h.there (record { type = type; qualifiers = uses }) b (ap tables.machine_resolution e))
+
+pub numbered_resolved : (t : RunTables) → IsServable t → (type : ℕ) (uses : List Use) (r : Resolution) → r ≡ resolution_of t type uses → HasNumber r
+numbered_resolved t h type uses (resolutions.One b) e = small_resolved t h type uses b (sym e)
+numbered_resolved t h type uses resolutions.Nothing e = tt
+numbered_resolved t h type uses resolutions.Many e = tt

@@ -1,5 +1,5 @@
 -- What a container works with, as contracts see it, and what is true of it.
-use Rattle.std.specs.Prelude.{ℕ, ◌≡◌, List, Some, true, IsSome}
+use Rattle.std.specs.Prelude.{ℕ, ◌≡◌, ◌<◌, ◌^◌, List, Some, true, IsSome}
 use Rattle.std.specs.List.{AllByRecursion}
 use Rattle.cdi_base.specs.declared.act.Act.{Act}
 use Rattle.cdi_bodies.specs.declared.view.View.{View}
@@ -7,6 +7,8 @@ use Rattle.cdi_machine.specs.Words.{Asked, Fields}
 use Rattle.cdi_machine.specs.Tables as machine
 use Rattle.cdi_machine.specs.World.{World, Invocation}
 use Rattle.cdi_machine.specs.Runs.{Legal}
+use Rattle.cdi_resolve.specs.declared.resolution.Resolution.{Resolution}
+use Rattle.cdi_resolve.specs.declared.resolution.Resolution.TheVariants as resolutions
 use Rattle.cdi_run_tables.specs.Machine.{bean_at, machine_tables}
 use Rattle.cdi_run_tables.specs.Served.{is_served as is_served_deployment}
 use Rattle.cdi_run_tables.specs.Sizes.{is_small}
@@ -39,6 +41,11 @@ pub record IsServable (t : RunTables) : Type 0 where
   pub there :
       (asked : Asked) (b : ℕ) → (machine_tables t).resolve asked ≡ machine.One b
       → IsSome (bean_at t b)
+
+-- a bean to which something resolves has a number
+abbrev pub HasNumber : Resolution → Type 0
+HasNumber (resolutions.One b) = b < 2 ^ 32
+HasNumber _ = Unit {0}
 
 -- the bodies of the invocations under way are there
 abbrev pub AllInvoked : (ℕ → Type 0) → Legal → List Invocation → Type 0

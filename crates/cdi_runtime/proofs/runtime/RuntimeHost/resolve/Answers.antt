@@ -1,22 +1,13 @@
 use Rattle.std.proofs.Common.{◌≡◌, ◌∙◌, sym, ap, subst}
-use Rattle.cdi_machine.specs.Tables as machine
-use Rattle.cdi_run_tables.specs.Machine.{machine_resolution, machine_tables}
-use Rattle.cdi_steps.specs.Asked.{asked_for}
-use Rattle.cdi_runtime.proofs.Served.{small_resolved}
+use Rattle.cdi_run_tables.specs.Machine.{machine_tables, machine_resolution as machine_told}
+use Rattle.cdi_steps.specs.Asked.{asked_for, machine_resolution}
+use Rattle.cdi_runtime.proofs.Served.{numbered_resolved}
 use Rattle.cdi_runtime.proofs.runtime.RuntimeHost.resolve.Goals as goal
 
-pub overflow_cast-result : goal.overflow_cast-result
-overflow_cast-result g c =
-    record {
-      fits = small_resolved c.self.inside.tables c.self.invariant.servable c.args.bean_type c.args.qualifiers.now c.in-One.bean (sym c.resolve.ensures ∙ c.in-One.is);
-    }
+pub numbered-requires : goal.numbered-requires
+numbered-requires g c = numbered_resolved c.self.inside.tables c.self.invariant.servable c.args.bean_type c.args.qualifiers.now c.resolve.result c.resolve.ensures
 
-pub returns-in-One : goal.returns-in-One
-returns-in-One g c =
-    subst (λ r. (machine_tables r.tables).resolve (asked_for c.args.bean_type c.args.qualifiers.now) ≡ machine.Resolution.One c.in-One.bean) c.self.view_is
-    (ap machine_resolution (sym c.resolve.ensures ∙ c.in-One.is))
-
-pub returns-in-Many : goal.returns-in-Many
-returns-in-Many g c =
-    subst (λ r. (machine_tables r.tables).resolve (asked_for c.args.bean_type c.args.qualifiers.now) ≡ machine.Resolution.Many) c.self.view_is
-    (ap machine_resolution (sym c.resolve.ensures ∙ c.in-Many.is))
+pub returns : goal.returns
+returns g c =
+    subst (λ r. (machine_tables r.tables).resolve (asked_for c.args.bean_type c.args.qualifiers.now) ≡ machine_resolution c.numbered.result) c.self.view_is
+    (sym (ap machine_told c.resolve.ensures) ∙ sym c.numbered.ensures)
