@@ -1,5 +1,5 @@
 -- What holds of each entry of a map, once one more is put in.
-use Rattle.std.proofs.Common.{◌≡◌, ◌∙◌, ℕ, Bool, true, false, cond, nat_eq, Option, Some, None, refl, sym, subst}
+use Rattle.std.proofs.Common.{◌≡◌, ◌∙◌, ℕ, Bool, true, false, cond, nat_eq, Option, Some, refl, sym, subst}
 use Rattle.std.proofs.lemmas.Bool.{eqb-true}
 
 module _ {X : Type 0} (P : ℕ → X → Type 0) (key : ℕ) (value : X) (holds : P key value) (old new : ℕ → Option X)

@@ -1,4 +1,4 @@
-use Rattle.std.proofs.Common.{◌≡◌, ◌∙◌, ℕ, Bool, nat_eq, Option, sym, ap}
+use Rattle.std.proofs.Common.{◌≡◌, ◌∙◌, ℕ, Bool, nat_eq, Option, ap}
 use Rattle.std.specs.HashMap.{get}
 use Rattle.cdi_bodies.specs.Table.{entries_of}
 use Rattle.cdi_bodies.specs.declared.shape.Shape.{Shape}
