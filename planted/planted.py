@@ -14,8 +14,8 @@ does with an edit of what other functions cite (a constant, a type, a signature,
 shares no check, since it may be the cause of what is complained of at functions that others turn.
 
 together checks the functions that the edits turn and what these call, and nothing that stands above them: a caller's proof cites the
-contract of what it calls. It begins with what `rt check` kept in out/, if there is any. With --jobs N in front of the names it tries so
-many crates at a time. The last line is 'N refused, M failed'; the status is 0 if M is 0.
+contract of what it calls. It begins with what `rt check` kept in out/, if there is any. With --jobs N in front of the names it builds
+libraries with so many jobs, and tries so many crates at a time. The last line is 'N refused, M failed'; the status is 0 if M is 0.
 """
 import functools
 import importlib.machinery
@@ -377,7 +377,7 @@ def together(crates, at_once):
     refused, failed, _held = 0, 0, rt.rtlib.lock(crates)
     with_edits_here = [it for it in crates if all_edits(it)]
     for crate in with_edits_here:
-        if any(dep.build_rlib(ONE, anew=False) for dep in crate.below()):
+        if any(dep.build_rlib(["--jobs", str(at_once)], anew=False) for dep in crate.below()):
             print(f"planted: what {crate.name} stands on is not proved")
             return 1
     with ThreadPoolExecutor(at_once) as pool:
