@@ -1,9 +1,10 @@
 -- What the registered bodies may give.
-use Rattle.std.specs.Prelude.{◌≡◌, ℕ, ◌==◌, List, Bool, Option, Some, None, is_some, Ok, true, slice_get, option_map, position, MatchOption}
+use Rattle.std.specs.Prelude.{◌≡◌, ℕ, ◌==◌, List, Bool, Option, Some, None, is_some, Ok, true, map, slice_get, option_map, position, MatchOption}
 use Rattle.std.specs.Borrow.{Bor}
 use Rattle.cdi_base.specs.declared.act.Act.{Act}
 use Rattle.cdi_base.specs.declared.fields.Fields.{Fields}
 use Rattle.cdi_bodies.specs.declared.entry.Entry.{Entry}
+use Rattle.cdi_bodies.specs.declared.shape.Lookup.{Lookup}
 use Rattle.cdi_bodies.specs.declared.shape.Shape.{Shape}
 use Rattle.cdi_bodies.specs.declared.view.View.{View}
 use Rattle.cdi_bodies.specs.Shape.{in_shape, no_acts}
@@ -25,6 +26,11 @@ gives entries id fields view act =
 
 abbrev pub shape_at : {X : Type 0} {F : X → Type 0} {g : _} → List (Entry X F g) → ℕ → Option Shape
 shape_at entries id = option_map (λ e. e.shape) (slice_get entries id)
+
+-- the lookups of each body, at its number
+abbrev pub lookups_of : {X : Type 0} {F : X → Type 0} {g : _} → List (Entry X F g)
+    → List (List Lookup)
+lookups_of entries = map (λ e. e.shape.lookups) entries
 
 abbrev pub name_at : {X : Type 0} {F : X → Type 0} {g : _} → List (Entry X F g) → ℕ → Option ℕ
 name_at entries id = option_map (λ e. e.name) (slice_get entries id)

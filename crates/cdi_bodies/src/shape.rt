@@ -3,7 +3,7 @@ ghost use Rattle.std.specs.Prelude.{◌≡◌};
 ghost use Rattle.cdi_bodies.specs.Shape.{no_acts};
 
 use cdi_base::{Name, Seq, Use, Via};
-use std::alloc::Global;
+use std::alloc::{AllocError, Global};
 
 /// A business method that a body may call: the reference to its instance, its name, and the number of values.
 #[derive(Debug, PartialEq, Eq, Drop)]
@@ -33,6 +33,17 @@ pub struct FiredEvent {
 pub struct Lookup {
     pub bean_type: Name,
     pub qualifiers: Seq<Use>,
+}
+
+impl Clone for Lookup {
+    ghost is_clone = { λ l copy. copy ≡ l };
+
+    fn clone(&self) -> Result<Lookup, AllocError> {
+        Ok(Lookup {
+            bean_type: self.bean_type,
+            qualifiers: self.qualifiers.clone()?,
+        })
+    }
 }
 
 /// What a body may do. An act lies in the shape if what it names is listed here; to give a value is always allowed,

@@ -1,14 +1,14 @@
 //! The table of bodies.
 ghost use Rattle.std.specs.Prelude.{◌≡◌, ◌<◌, ◌↔◌, [], length, true, Some, IsTrue, IfOk, OnOk, OnErr, IfErr};
 ghost use Rattle.cdi_bodies.specs.Shape.{in_shape, KeepsShape};
-ghost use Rattle.cdi_bodies.specs.Gives.{Promises, gives, place_of, is_named, shape_at, name_at, LiesInShape, LieInShape};
+ghost use Rattle.cdi_bodies.specs.Gives.{Promises, gives, place_of, is_named, shape_at, name_at, lookups_of, LiesInShape, LieInShape};
 ghost use Rattle.cdi_bodies.specs.Adding.{Adds, IsRefused, body_of, is_repeated, is_full, lacks_room};
 
 use crate::entry::{Body, Entry};
 use crate::error::AddError;
-use crate::shape::Shape;
+use crate::shape::{Lookup, Shape};
 use crate::view::View;
-use cdi_base::{Act, Fields, Name};
+use cdi_base::{Act, Fields, Name, Seq};
 use std::alloc::{AllocError, Global};
 use std::marker::Model;
 
@@ -29,6 +29,15 @@ impl Model for BodyId {
     ghost view = { λ id. id.number };
 
     ghost inverse = { λ n. record { number = n } };
+}
+
+impl BodyId {
+    /// The body's number: from 0 to 4,095.
+    pub fn number(self) -> usize
+        ensures { result ≡ self }
+    {
+        self.number
+    }
 }
 
 /// The registered bodies, each under a name of its own. Contracts see their list by the word `entries_of`.
@@ -63,6 +72,13 @@ fn next_of(entry: &Entry, fields: &Fields, view: &View) -> Result<Act, AllocErro
     ensures within { IfOk result (λ act. in_shape entry.now.shape view.now act ≡ true) }
 {
     ask(entry, fields, view)
+}
+
+/// The lookups of a body.
+fn lookups_in(entry: &Entry) -> Result<Seq<Lookup>, AllocError>
+    ensures { IfOk result (λ lookups. lookups ≡ entry.now.shape.lookups) }
+{
+    Ok(entry.shape.lookups.clone()?)
 }
 
 impl Bodies {
@@ -113,6 +129,17 @@ impl Bodies {
         ensures { shape_at (entries_of self.now) id ≡ Some result.now }
     {
         &self.entries[id.number].shape
+    }
+
+    /// The lookups of each body, by its number. The one error is that memory ran out.
+    pub fn lookups(&self, alloc: Global) -> Result<Seq<Seq<Lookup>>, AllocError>
+        ensures { IfOk result (λ all. all ≡ lookups_of (entries_of self.now)) }
+    {
+        let mut all = Seq::empty(alloc);
+        for entry in &self.entries {
+            all.push(lookups_in(entry)?)?;
+        }
+        Ok(all)
     }
 
     /// Adds a body last, under a name that no other body has. Each act that the closure may answer has to lie in the

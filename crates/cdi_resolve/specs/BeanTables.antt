@@ -22,6 +22,7 @@ bean_tables d list declared enabled flags =
         classes = map (class_bindings declared.bindings) d.classes;
         interceptors = list.interceptors;
       };
+      observers = list.observers;
       disposers = list.disposers;
     }
 

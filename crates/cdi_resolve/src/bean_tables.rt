@@ -7,7 +7,7 @@ ghost use Rattle.cdi_resolve.specs.BeanTables as spec;
 use crate::declared::DeclaredTables;
 use crate::resolver::Resolver;
 use cdi_base::Seq;
-use cdi_beans::{BeanList, DisposerMethod};
+use cdi_beans::{BeanList, DisposerMethod, ObserverMethod};
 use cdi_chains::Chains;
 use cdi_deployment::Deployment;
 use cdi_enable::laws::law_forest;
@@ -28,6 +28,8 @@ pub struct BeanTables {
     pub enabled: EnabledSet,
     pub resolver: Resolver,
     pub chains: Chains,
+    /// The observers of all beans, enabled or not.
+    pub observers: Seq<ObserverMethod>,
     pub disposers: Seq<DisposerMethod>,
 }
 
@@ -39,6 +41,7 @@ impl Drop for BeanTables {
             enabled: _enabled,
             resolver: _resolver,
             chains: _chains,
+            observers: _observers,
             disposers: _disposers,
         } = self;
     }
@@ -74,6 +77,7 @@ fn tables_with(
     let interceptors = mem::replace(&mut list.interceptors, Seq::empty(alloc));
     let chains = Chains::build(alloc, deployment, &declared.bindings, interceptors)?;
     let beans = mem::replace(&mut list.beans, Seq::empty(alloc));
+    let observers = mem::replace(&mut list.observers, Seq::empty(alloc));
     let disposers = mem::replace(&mut list.disposers, Seq::empty(alloc));
     let resolver = Resolver::new(alloc, beans, enabled.flags)?;
     Ok(BeanTables {
@@ -81,6 +85,7 @@ fn tables_with(
         enabled: enabled.set,
         resolver,
         chains,
+        observers,
         disposers,
     })
 }

@@ -1,19 +1,29 @@
 -- What the machine asks of a deployment, answered from its tables.
-use Rattle.std.specs.Prelude.{ℕ, ◌==◌, ◌&&◌, List, [], map, filter, fold, Bool, true, false, not, ◌∷◌, Option, Some, None, option_map, option_and_then, position, slice_get, unwrap_or}
+use Rattle.std.specs.Prelude.{ℕ, ◌==◌, ◌&&◌, List, [], map, filter, fold, Bool, true, false, not, ◌∷◌, Option, Some, None, option_map, option_and_then, position, slice_get, unwrap_or, if◌then◌else◌}
 use Rattle.std.specs.List.{filter_map}
 use Rattle.cdi_base.specs.Fields.{put}
 use Rattle.cdi_base.specs.Maps.{at}
 use Rattle.cdi_base.specs.declared.uses.Use.{Use}
 use Rattle.cdi_bean_check.specs.Qualifiers.{full_uses}
 use Rattle.cdi_beans.specs.declared.bean.Bean.{Bean}
+use Rattle.cdi_beans.specs.declared.bean.EnabledInterceptor.{EnabledInterceptor}
+use Rattle.cdi_beans.specs.declared.bean.ObserverMethod.{ObserverMethod}
 use Rattle.cdi_bodies.specs.declared.entry.Entry.{Entry}
+use Rattle.cdi_bodies.specs.declared.shape.Lookup.{Lookup}
+use Rattle.cdi_body_check.specs.Exceptions.{is_checked}
+use Rattle.cdi_body_check.specs.Sites.{method_body}
+use Rattle.cdi_deployment.specs.declared.deployment.Class.{Class}
 use Rattle.cdi_deployment.specs.declared.deployment.Deployment.{Deployment}
 use Rattle.cdi_deployment.specs.declared.deployment.Field.{Field}
+use Rattle.cdi_deployment.specs.declared.deployment.InjectedField.{InjectedField}
+use Rattle.cdi_deployment.specs.declared.deployment.Interceptor.{Interceptor}
+use Rattle.cdi_deployment.specs.declared.deployment.Observer.{Observer}
 use Rattle.cdi_deployment.specs.declared.deployment.Point.{Point}
 use Rattle.cdi_beans.specs.Kinds.{is_managed}
 use Rattle.cdi_machine.specs.Words.{Name, Asked, Fields}
 use Rattle.cdi_machine.specs.Tables as machine
 use Rattle.cdi_name_check.specs.UnknownName.{is_type, are_qualifiers}
+use Rattle.cdi_plans.specs.Observers.{observer_of, observer_method}
 use Rattle.cdi_plans.specs.declared.plan.BusinessMethod.{BusinessMethod}
 use Rattle.cdi_plans.specs.declared.plan.Code.{Code}
 use Rattle.cdi_plans.specs.declared.plan.InjectedMethod.{InjectedMethod}
@@ -26,14 +36,17 @@ use Rattle.cdi_plans.specs.declared.plan.Source.{Source}
 use Rattle.cdi_plans.specs.declared.plan.Source.TheVariants as sources
 use Rattle.cdi_plans.specs.declared.plan.Step.{Step}
 use Rattle.cdi_plans.specs.declared.plan.Step.TheVariants as steps
-use Rattle.cdi_resolve.specs.Filters.{enabled_of}
+use Rattle.cdi_resolve.specs.Filters.{enabled_of, is_enabled}
 use Rattle.cdi_resolve.specs.Resolution.{resolution}
 use Rattle.cdi_resolve.specs.declared.resolution.Resolution.{Resolution}
 use Rattle.cdi_resolve.specs.declared.resolution.Resolution.TheVariants as resolutions
+use Rattle.cdi_run_tables.specs.Events.{Group, groups_of, hears, written_uses}
 use Rattle.cdi_run_tables.specs.Ids.{id_in, AreIdsIn}
 use Rattle.cdi_run_tables.specs.declared.planned.PlannedBean.{PlannedBean}
 use Rattle.cdi_run_tables.specs.declared.tables.Method.{Method}
 use Rattle.cdi_run_tables.specs.declared.tables.RunTables.{RunTables}
+use Rattle.cdi_shape_check.specs.References.{point_of_field, point_of_lookup}
+use Rattle.cdi_shape_check.specs.WrittenNames.{is_event}
 
 -- ---- plans
 
@@ -182,19 +195,90 @@ machine_resolution resolutions.Many = machine.Resolution.Many
 abbrev pub is_known : Deployment → Name → List Use → Bool
 is_known d type qualifiers = is_type d type && are_qualifiers d qualifiers
 
--- What is served so far: there are no instances of interceptors, no observers, no lookups and no checked exceptions, and no event is
--- fired by a command or has qualifiers to be written.
+-- ---- interceptors
+
+abbrev pub injection : InjectedField → Name × Asked
+injection f = (f.name, asked_by (point_of_field f))
+
+-- An interceptor has those methods that it declares; one whose body isn't registered has the number of no body.
+abbrev pub machine_interceptor : (ℕ → Option ℕ) → Interceptor → machine.Interceptor
+machine_interceptor ids j =
+    record {
+      name = j.name;
+      fields = first_values j.fields;
+      injected = map injection j.inject;
+      body = λ role. option_map (body_number ids) (method_body j role);
+    }
+
+-- the declaration of an enabled interceptor, by its place among the enabled ones
+abbrev pub declared_at : RunTables → ℕ → Option Interceptor
+declared_at t i =
+    option_and_then (λ (j : EnabledInterceptor). slice_get t.deployment.interceptors j.index)
+    (slice_get t.tables.chains.interceptors i)
+
+abbrev pub interceptor_at : RunTables → ℕ → Option machine.Interceptor
+interceptor_at t i = option_map (machine_interceptor (id_of t)) (declared_at t i)
+
+-- ---- observers
+
+abbrev pub observer_with : RunTables → ObserverMethod → ℕ → Class × Observer → machine.Observer
+observer_with t o bean declared =
+    record {
+      bean = bean;
+      member = machine_member (id_of t) (observer_method t.tables.chains o.bean declared);
+      conditional = o.if_exists;
+    }
+
+-- one of a bean that is enabled
+abbrev pub observer_of_bean : RunTables → ObserverMethod → ℕ → Option machine.Observer
+observer_of_bean t o bean =
+    if is_enabled t.tables.resolver.flags bean
+    then option_map (observer_with t o bean) (observer_of t.deployment.classes o) else None
+
+abbrev pub machine_observer : RunTables → ObserverMethod → Option machine.Observer
+machine_observer t o =
+    option_and_then (observer_of_bean t o) (managed_bean t.tables.resolver.beans o.bean)
+
+-- that hear an event of a class with qualifiers, as these were written
+abbrev pub hearers : RunTables → Name → List Use → List ObserverMethod
+hearers t class qualifiers =
+    filter
+    (hears t.tables.declared.types class (full_uses t.tables.declared.qualifiers qualifiers))
+    t.tables.observers
+
+-- in groups by priority, of which none is empty
+abbrev pub observers_of : RunTables → Name → List Use → List (List machine.Observer)
+observers_of t class qualifiers =
+    filter (λ group. not (has_none group))
+    (map (λ (g : Group). filter_map (machine_observer t) g.observers)
+    (groups_of (hearers t class qualifiers)))
+
+-- ---- lookups
+
+abbrev pub asked_by_lookup : Lookup → Asked
+asked_by_lookup l = asked_by (point_of_lookup l)
+
+-- those of the body with a number
+abbrev pub lookups_at : RunTables → ℕ → Option (List Lookup)
+lookups_at t body = slice_get t.lookups body
+
+abbrev pub lookup_in : Option (List Lookup) → ℕ → Option Asked
+lookup_in all k = option_map asked_by_lookup (option_and_then (λ ls. slice_get ls k) all)
+
+-- ---- the whole
+
 abbrev pub machine_tables : RunTables → machine.Tables
 machine_tables t =
     record {
       bean = bean_at t;
-      interceptor = λ i. None;
+      interceptor = interceptor_at t;
       resolve = λ asked. machine_resolution (resolution_of t asked.type asked.qualifiers);
-      written = λ qualifiers. qualifiers;
-      observers = λ class qualifiers. [];
-      lookup = λ body k. None;
-      is_checked = λ x. false;
+      written = written_uses t.deployment.names t.tables.declared.qualifiers;
+      observers = observers_of t;
+      lookup = λ body k. lookup_in (lookups_at t body) k;
+      is_checked = is_checked t.deployment.exceptions;
       text = slice_get t.deployment.names;
       is_known = λ asked. is_known t.deployment asked.type asked.qualifiers;
-      is_event = λ class qualifiers. false;
+      is_event = λ class qualifiers. is_event t.deployment
+          (record { class = class; qualifiers = qualifiers });
     }

@@ -48,7 +48,8 @@ has_texts d =
 
 -- what a container serves of a deployment, enabled or not
 abbrev pub is_served : RunTables → Bool
-is_served t = list_all is_served_bean t.beans && has_texts t.deployment
+is_served t =
+    list_all is_served_bean t.beans && has_texts t.deployment && has_none t.tables.observers
 
 -- ---- bodies
 

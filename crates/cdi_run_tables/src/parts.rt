@@ -1,6 +1,7 @@
 //! A deployment with its tables and the plans of its beans.
 ghost use Rattle.std.specs.Prelude.{◌≡◌, slice_get, option_map, IfOk};
 ghost use Rattle.std.specs.List.{AllZip};
+ghost use Rattle.cdi_bodies.specs.Gives.{lookups_of};
 ghost use Rattle.cdi_bodies.specs.Table.{entries_of};
 ghost use Rattle.cdi_resolve.specs.BeanTables.{AreTablesOf};
 ghost use Rattle.cdi_run_tables.specs.Machine as spec;
@@ -9,19 +10,21 @@ ghost use Rattle.cdi_run_tables.specs.Planned.{IsPlanned, IsTabled, plan_tables}
 use crate::ids::BodyIds;
 use crate::planned::{PlannedBean, planned_beans};
 use cdi_base::Seq;
-use cdi_bodies::Bodies;
+use cdi_bodies::{Bodies, Lookup};
 use cdi_deployment::Deployment;
 use cdi_plans::Planner;
 use cdi_plans::laws::law_beans_are_declared;
 use cdi_resolve::BeanTables;
 use std::alloc::{AllocError, Global};
 
-/// A deployment with its tables, the plans of its beans and the numbers of its bodies.
+/// A deployment with its tables, the plans of its beans, and the numbers and lookups of its bodies.
 pub struct RunParts {
     pub(crate) deployment: Deployment,
     pub(crate) tables: BeanTables,
     pub(crate) beans: Seq<PlannedBean>,
     pub(crate) ids: BodyIds,
+    /// Those of each registered body, by its number.
+    pub(crate) lookups: Seq<Seq<Lookup>>,
 }
 
 /// In one call, so that the proof of each function that owns all parts has one step here, and not one for each of them.
@@ -32,6 +35,7 @@ impl Drop for RunParts {
             tables: _tables,
             beans: _beans,
             ids: _ids,
+            lookups: _lookups,
         } = self;
     }
 }
@@ -71,14 +75,18 @@ impl RunParts {
         ensures tables { IfOk result (λ t. t.tables ≡ tables) }
         ensures tabled { IfOk result IsTabled }
         ensures ids { IfOk result (spec.AreIdsOf (entries_of bodies.now)) }
+        ensures lookups { IfOk result (λ t.
+            t.lookups ≡ lookups_of (entries_of bodies.now)) }
     {
         let beans = plans_of(alloc, &deployment, &tables)?;
         let ids = BodyIds::build(alloc, &deployment, bodies)?;
+        let lookups = bodies.lookups(alloc)?;
         Ok(RunParts {
             deployment,
             tables,
             beans,
             ids,
+            lookups,
         })
     }
 

@@ -170,12 +170,14 @@ fn serve_methods(bodies: &Bodies, beans: &[PlannedBean]) -> bool
 
 impl RunTables {
     /// Whether a container serves what the deployment declares: managed beans of the application scope or dependent ones, which have no
-    /// constructors, initializers, callbacks and interceptors. It is `false` for what isn't served yet, enabled or not. Each declared
+    /// constructors, initializers, callbacks, interceptors and observers. It is `false` for what isn't served yet, enabled or not. Each declared
     /// exception and each built-in name has to have a text, as they have in a deployment that was read.
     pub fn is_served(&self) -> bool
         ensures { result ≡ spec.is_served self.now }
     {
-        are_served_beans(self.parts.beans.as_slice()) && has_texts(&self.parts.deployment)
+        are_served_beans(self.parts.beans.as_slice())
+            && has_texts(&self.parts.deployment)
+            && has_none(&self.parts.tables.observers)
     }
 
     /// Whether a container serves the registered bodies of the beans' methods: they call through injected fields alone, and neither read

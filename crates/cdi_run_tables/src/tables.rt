@@ -1,6 +1,7 @@
 //! All that the machine asks of a deployment.
 ghost use Rattle.std.specs.Prelude.{◌≡◌, slice_get, option_map, IfOk};
 ghost use Rattle.std.specs.Option.{option_copied};
+ghost use Rattle.cdi_bodies.specs.Gives.{lookups_of};
 ghost use Rattle.cdi_bodies.specs.Table.{entries_of};
 ghost use Rattle.cdi_resolve.specs.BeanTables.{AreTablesOf};
 ghost use Rattle.cdi_run_tables.specs.Index.{IsIndexAt};
@@ -74,6 +75,8 @@ impl RunTables {
         ensures tables { IfOk result (λ t. t.tables ≡ tables) }
         ensures tabled { IfOk result IsTabled }
         ensures ids { IfOk result (spec.AreIdsOf (entries_of bodies.now)) }
+        ensures lookups { IfOk result (λ t.
+            t.lookups ≡ lookups_of (entries_of bodies.now)) }
     {
         let parts = RunParts::build(alloc, deployment, tables, bodies)?;
         let index = RunIndex::build(alloc, &parts)?;
