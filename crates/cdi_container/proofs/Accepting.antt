@@ -1,38 +1,33 @@
 -- A deployment without problems that is served is accepted.
 use Rattle.std.proofs.Common.{◌≡◌, ◌&&◌, List, [], true, IsTrue, is_some, refl, sym, ap, subst}
 use Rattle.std.proofs.lemmas.Bool.{and_parts}
+use Rattle.cdi_bodies.specs.Gives.{lookups_of}
 use Rattle.cdi_bodies.specs.declared.entry.Entry.{Entry}
 use Rattle.cdi_body_check.specs.Shapes.{shape_of}
 use Rattle.cdi_check.specs.Late.{AreLateProblems, AreProblemsIn}
 use Rattle.cdi_check.specs.Problems.{AreProblemsOf}
 use Rattle.cdi_check.specs.Tables.{setting_by}
 use Rattle.cdi_deployment.specs.declared.deployment.Deployment.{Deployment}
-use Rattle.cdi_fit.specs.Fits.{Fits}
-use Rattle.cdi_machine.specs.Registered.{legal_of}
 use Rattle.cdi_problems.specs.declared.problem.Problem.{Problem}
-use Rattle.cdi_run_tables.specs.Machine.{AreIdsOf, machine_tables}
+use Rattle.cdi_run_tables.specs.Machine.{AreIdsOf}
 use Rattle.cdi_run_tables.specs.Planned.{IsTabled}
+use Rattle.cdi_container.proofs.Faultless.{texts_served}
 use Rattle.cdi_run_tables.specs.Served.{is_served, serves_shapes}
 use Rattle.cdi_run_tables.specs.Sizes.{is_small}
 use Rattle.cdi_run_tables.specs.declared.tables.RunTables.{RunTables}
 use Rattle.cdi_runtime.specs.Knowing.{KnowsServed}
 use Rattle.cdi_resolve.specs.declared.bean_tables.BeanTables.{BeanTables}
+use Rattle.cdi_site_fit.specs.Accepted.{WholeFits}
 use Rattle.cdi_container.specs.Accepted.{AreTablesWith, IsAccepted, serves}
 
 module _ {X : Type 0} {F : X → Type 0} {g : _} (entries : List (Entry X F g)) where
-  -- the tables of accepted deployments that are served fit these bodies
-  abbrev pub FitServed : Type 0
-  FitServed =
-      (t : RunTables) → IsTabled t → AreIdsOf entries t → IsTrue (is_served t) → IsTrue (serves_shapes (shape_of entries) t)
-      → AreProblemsIn t.deployment (shape_of entries) t.tables.enabled (setting_by t.deployment t.tables) [] → Fits (machine_tables t) (legal_of entries)
-
   pub accepted : (t : RunTables) → AreTablesWith t.deployment entries t → serves (shape_of entries) t ≡ true
       → AreProblemsIn t.deployment (shape_of entries) t.tables.enabled (setting_by t.deployment t.tables) []
-      → FitServed → KnowsServed entries → IsAccepted t.deployment entries t
+      → WholeFits entries → KnowsServed entries → IsAccepted t.deployment entries t
   accepted t are served faultless fit knows =
       let one = and_parts (is_served t && serves_shapes (shape_of entries) t) (is_small t) served in
       let two = and_parts (is_served t) (serves_shapes (shape_of entries) t) one.0 in
-      let fits = fit t are.tabled are.ids two.0 two.1 faultless in
+      let fits = fit t (record { tabled = are.tabled; ids = are.ids; lookups = are.lookups; texts = texts_served t two.0; problems = faultless }) in
       record {
         are = are;
         served = served;
@@ -47,8 +42,8 @@ module _ {X : Type 0} {F : X → Type 0} {g : _} (entries : List (Entry X F g)) 
 
   module _ (d : Deployment) (tables : BeanTables) (problems : List Problem) (none : problems ≡ []) (t : RunTables) (deployment : t.deployment ≡ d) (has : t.tables ≡ tables) where
     -- what is told of the deployment with its tables is told of these
-    pub tables_with : AreLateProblems d (shape_of entries) problems → IsTabled t → AreIdsOf entries t → AreTablesWith t.deployment entries t
-    tables_with late tabled ids =
+    pub tables_with : AreLateProblems d (shape_of entries) problems → IsTabled t → AreIdsOf entries t → t.lookups ≡ lookups_of entries → AreTablesWith t.deployment entries t
+    tables_with late tabled ids lookups =
         let P : List Problem → Type 0 = λ ps. AreLateProblems d (shape_of entries) ps in
         let Q : Deployment → Type 0 = λ k. AreProblemsOf k (shape_of entries) [] in
         record {
@@ -56,6 +51,7 @@ module _ {X : Type 0} {F : X → Type 0} {g : _} (entries : List (Entry X F g)) 
           deployment_is = refl;
           tabled = tabled;
           ids = ids;
+          lookups = lookups;
         }
 
     pub faultless_by : AreProblemsIn d (shape_of entries) tables.enabled (setting_by d tables) problems

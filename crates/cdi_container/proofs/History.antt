@@ -1,37 +1,28 @@
--- What a container has written since its start is a ledger, until memory runs out.
-use Rattle.std.proofs.Common.{◌≡◌, ◌∙◌, ◌⊎◌, inl, inr, List, Some, None, refl, sym, ap, subst}
-use Rattle.cdi_base.specs.declared.reply.Cause.TheVariants as causes
-use Rattle.cdi_machine.specs.Tables.{Tables}
-use Rattle.cdi_machine.specs.World.{World, at_begin}
-use Rattle.cdi_machine.specs.Commands.{Command, task}
-use Rattle.cdi_machine.specs.Container.{refusal}
-use Rattle.cdi_machine.specs.Runs.{Legal, Outcome, Cut, Runs}
+-- What a container has written since its start is in order, and each destruction begins its callbacks exactly once, since so it is in
+-- each story of the machine.
+use Rattle.std.proofs.Common.{◌≡◌, List, None, refl, sym, subst}
+use Rattle.cdi_farewells.specs.Beginnings.{BeginsOnce}
 use Rattle.cdi_ledger.specs.Ledger as ledger
 use Rattle.cdi_ledger.specs.Ledger.{Item, items_of, InOrder, Ledger, KeepsOrderIfShort}
-use Rattle.cdi_container.specs.States.{ContainerState, CarriesOut, AnswersCommand, machine_state, cause_of}
-use Rattle.cdi_container.specs.History.{History, KeepsOrder, carried_items}
-use Rattle.cdi_container.proofs.Missing.{works_on}
+use Rattle.cdi_ledger.specs.Stories.{Story}
+use Rattle.cdi_machine.specs.Commands.{Command, task}
+use Rattle.cdi_machine.specs.Container.{State, refusal}
+use Rattle.cdi_machine.specs.Runs.{Legal, Outcome, Runs}
+use Rattle.cdi_machine.specs.Tables.{Tables}
+use Rattle.cdi_machine.specs.World.{World, at_begin}
+use Rattle.cdi_machine.proofs.Refused.{refused}
+use Rattle.cdi_container.specs.History.{BeginsFarewellsOnce, KeepsOrder}
+use Rattle.cdi_container.proofs.Stories.{holds_throughout}
+
+-- ---- stories
 
 module _ (tables : Tables) (legal : Legal) (order : ledger.KeepsOrder tables legal) (short : KeepsOrderIfShort tables legal) where
-  -- a ledger of the machine, at the same world but for its trace
-  record IsLedger (s : ContainerState) (h : List Item) : Type 0 where
+  -- what a story has written is a ledger, which ends in the same world but for the trace
+  record IsLedger (s : State) (h : List Item) : Type 0 where
     at : World
     ledger : Ledger tables legal at h
     alike : at_begin s.world ≡ at_begin at
 
-  -- or memory ran out, and no command is carried out any more
-  abbrev Keeps : ContainerState → List Item → Type 0
-  Keeps s h = IsLedger s h ⊎ (InOrder h × (s.halted ≡ Some causes.Memory))
-
-  in_order : (s : ContainerState) (h : List Item) → Keeps s h → InOrder h
-  in_order s h (inl l) = order l.at h l.ledger
-  in_order s h (inr k) = k.0
-
-  still : (s t : ContainerState) (h : List Item) → at_begin t.world ≡ at_begin s.world → t.halted ≡ s.halted → Keeps s h → Keeps t h
-  still s t h w e (inl l) = inl (record { at = l.at; ledger = l.ledger; alike = w ∙ l.alike })
-  still s t h w e (inr k) = inr (k.0, e ∙ k.1)
-
-  -- from the world at the begin on
   longer : (c : Command) (w v : World) (h : List Item) (o : Outcome) → Ledger tables legal w h → (u : World) → at_begin w ≡ u
       → (r : Runs tables legal ⊥ (task c) u o v) → Ledger tables legal v (items_of h r)
   longer c w v h o l u e =
@@ -42,25 +33,33 @@ module _ (tables : Tables) (legal : Legal) (order : ledger.KeepsOrder tables leg
   shortened c w v h o l u e =
       subst (λ x. (r : Runs tables legal (Unit {0}) (task c) x o v) → InOrder (items_of h r)) e (λ r. short w v h c o l r)
 
-  carried : (c : Command) (s t : ContainerState) (h : List Item) (o : Outcome) → IsLedger s h → t.halted ≡ cause_of o
-      → (k : CarriesOut tables legal (Unit {0}) (task c) (at_begin s.world) o t.world) → Keeps t (carried_items h k)
-  carried c s t h o l e (CarriesOut.ends r) =
-      inl (record { at = t.world; ledger = longer c l.at t.world h o l.ledger (at_begin s.world) (sym l.alike) r; alike = refl })
-  carried c s t h o l e (CarriesOut.starves starved r) =
-      inr (shortened c l.at t.world h (Cut causes.Memory) l.ledger (at_begin s.world) (sym l.alike) r, e)
+  is_ledger : {s : State} {h : List Item} → Story tables legal s h → IsLedger s h
+  is_ledger (Story.begins ticks depth) = record { at = _; ledger = Ledger.begins ticks depth; alike = refl }
+  is_ledger (Story.refuses {s = s} {h = h} c r before e) =
+      let l = is_ledger before in
+      let same = record { at = l.at; ledger = l.ledger; alike = l.alike } in
+      refused (λ t. IsLedger t h) s same same
+  is_ledger (Story.goes {s = s} {h = h} {o = o} {v = v} c before e r) =
+      let l = is_ledger before in
+      record { at = v; ledger = longer c l.at v h o l.ledger (at_begin s.world) (sym l.alike) r; alike = refl }
 
-  goes_on : (c : Command) (s t : ContainerState) (h : List Item) (o : Outcome) → refusal tables (machine_state s) c ≡ None → Keeps s h → t.halted ≡ cause_of o
-      → (k : CarriesOut tables legal (Unit {0}) (task c) (at_begin s.world) o t.world) → Keeps t (carried_items h k)
-  goes_on c s t h o e (inl l) halts k = carried c s t h o l halts k
-  goes_on c s t h o e (inr stopped) halts k = let none = works_on tables s c e in absurd (cc (stopped.1, none))
+  story_in_order : (s : State) (h : List Item) → Story tables legal s h → InOrder h
+  story_in_order s h story = let l = is_ledger story in order l.at h l.ledger
 
-  keeps : (s : ContainerState) (h : List Item) → History tables legal (Unit {0}) s h → Keeps s h
-  keeps _ _ (History.begins ticks depth) = inl (record { at = _; ledger = Ledger.begins ticks depth; alike = refl })
-  keeps t _ (History.answers {s = s} {h = h} before (AnswersCommand.refuses r e is stays)) =
-      still s t h (ap (λ (x : ContainerState). at_begin x.world) stays) (ap (λ (x : ContainerState). x.halted) stays) (keeps s h before)
-  keeps t _ (History.answers {s = s} {h = h} {c = c} before (AnswersCommand.carries_out o e k halts is)) =
-      goes_on c s t h o e (keeps s h before) halts k
-  keeps _ _ (History.refuses_line {s = s} {h = h} before) = still s _ h refl refl (keeps s h before)
+  story_if_short : (s : State) (h : List Item) (c : Command) (o : Outcome) (v : World) → Story tables legal s h → refusal tables s c ≡ None
+      → (r : Runs tables legal (Unit {0}) (task c) (at_begin s.world) o v) → InOrder (items_of h r)
+  story_if_short s h c o v story e =
+      let l = is_ledger story in
+      shortened c l.at v h o l.ledger (at_begin s.world) (sym l.alike)
 
   pub keeps_order : KeepsOrder tables legal
-  keeps_order s h history = in_order s h (keeps s h history)
+  keeps_order = holds_throughout tables legal InOrder story_in_order story_if_short
+
+-- ---- farewells
+
+module _ (tables : Tables) (legal : Legal) where
+  pub begins_once : ((s : State) (h : List Item) → Story tables legal s h → BeginsOnce tables h)
+      → ((s : State) (h : List Item) (c : Command) (o : Outcome) (v : World) → Story tables legal s h → refusal tables s c ≡ None
+      → (r : Runs tables legal (Unit {0}) (task c) (at_begin s.world) o v) → BeginsOnce tables (items_of h r))
+      → BeginsFarewellsOnce tables legal
+  begins_once with_memory short = holds_throughout tables legal (BeginsOnce tables) with_memory short

@@ -1,9 +1,13 @@
 pub mod Accepting
+pub mod Faultless
+pub mod Halted
 pub mod Keeping
 pub mod Replying
+pub mod Stories
 pub mod Missing
 pub mod Thrown
 pub mod History
 pub mod OnItsWay
 pub mod Resting
+pub mod Sound
 pub mod Traces

@@ -2,12 +2,12 @@
 use Rattle.std.specs.Prelude.{ℕ, ◌≡◌, ◌≢◌, ◌<◌, ◌&&◌, List, [], length, Bool, true, false, Option}
 use Rattle.cdi_base.specs.declared.or_memory.OrMemory.{OrMemory}
 use Rattle.cdi_base.specs.declared.or_memory.OrMemory.TheVariants as errors
+use Rattle.cdi_bodies.specs.Gives.{lookups_of}
 use Rattle.cdi_bodies.specs.declared.entry.Entry.{Entry}
 use Rattle.cdi_bodies.specs.declared.shape.Shape.{Shape}
 use Rattle.cdi_body_check.specs.Shapes.{shape_of}
 use Rattle.cdi_check.specs.Problems.{AreProblemsOf}
 use Rattle.cdi_deployment.specs.declared.deployment.Deployment.{Deployment}
-use Rattle.cdi_fit.specs.Fits.{Fits}
 use Rattle.cdi_machine.specs.Registered.{legal_of}
 use Rattle.cdi_run_tables.specs.Machine.{AreIdsOf, machine_tables}
 use Rattle.cdi_run_tables.specs.Planned.{IsTabled}
@@ -15,6 +15,7 @@ use Rattle.cdi_run_tables.specs.Served.{is_served, serves_shapes}
 use Rattle.cdi_run_tables.specs.Sizes.{is_small}
 use Rattle.cdi_run_tables.specs.declared.tables.RunTables.{RunTables}
 use Rattle.cdi_runtime.specs.Standing.{IsServable, KnowsMethods}
+use Rattle.cdi_worlds_fit.specs.Fits.{Fits}
 use Rattle.cdi_container.specs.declared.acceptance.Unaccepted.{Unaccepted}
 use Rattle.cdi_container.specs.declared.acceptance.Unaccepted.TheVariants as reasons
 
@@ -29,6 +30,7 @@ pub record AreTablesWith {X : Type 0} {F : X → Type 0} {g : _}
   pub deployment_is : t.deployment ≡ deployment
   pub tabled : IsTabled t
   pub ids : AreIdsOf entries t
+  pub lookups : t.lookups ≡ lookups_of entries
 
 -- it is served with these bodies, and this is what a container needs of it
 pub record IsAccepted {X : Type 0} {F : X → Type 0} {g : _}

@@ -6,6 +6,7 @@ use Rattle.cdi_machine.specs.World.{World}
 use Rattle.cdi_machine.specs.Programs.{Given, Prog}
 use Rattle.cdi_machine.specs.Commands.{Command}
 use Rattle.cdi_machine.specs.Runs.{Legal, Outcome}
+use Rattle.cdi_farewells.specs.Beginnings.{BeginsOnce}
 use Rattle.cdi_ledger.specs.Ledger.{Item, items_of, InOrder}
 use Rattle.cdi_container.specs.States.{ContainerState, CarriesOut, AnswersCommand, before_start, after_refusal}
 
@@ -37,3 +38,9 @@ pub data History (tables : Tables) (legal : Legal) (Starved : Type 0)
 abbrev pub KeepsOrder : Tables → Legal → Type 0
 KeepsOrder tables legal =
     (s : ContainerState) (h : List Item) → History tables legal (Unit {0}) s h → InOrder h
+
+-- and each destruction begins its callbacks exactly once
+abbrev pub BeginsFarewellsOnce : Tables → Legal → Type 0
+BeginsFarewellsOnce tables legal =
+    (s : ContainerState) (h : List Item) → History tables legal (Unit {0}) s h
+    → BeginsOnce tables h

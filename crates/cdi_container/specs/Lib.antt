@@ -9,4 +9,5 @@ pub mod Missing
 pub mod Thrown
 pub mod OnItsWay
 pub mod Resting
+pub mod Sound
 pub mod Traces

@@ -1,13 +1,14 @@
 -- Between two commands nothing is running in a container.
-use Rattle.std.specs.Prelude.{ℕ, ◌≡◌, List, None}
+use Rattle.std.specs.Prelude.{◌≡◌, List, None}
+use Rattle.cdi_ledger.specs.Ledger.{Item}
 use Rattle.cdi_machine.specs.Laws.{IsAtRest}
 use Rattle.cdi_machine.specs.Runs.{Legal}
 use Rattle.cdi_machine.specs.Tables.{Tables}
-use Rattle.cdi_container.specs.Missing.{Works}
+use Rattle.cdi_container.specs.History.{History}
 use Rattle.cdi_container.specs.States.{ContainerState}
 
--- so in each state from its start on, unless it is halted
+-- so in each state, unless it is halted
 abbrev pub NothingRuns : Tables → Legal → Type 0
 NothingRuns tables legal =
-    (names : List (List ℕ)) (s : ContainerState) → Works names tables legal s → s.halted ≡ None
+    (s : ContainerState) (h : List Item) → History tables legal (Unit {0}) s h → s.halted ≡ None
     → IsAtRest s.world

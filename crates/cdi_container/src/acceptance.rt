@@ -9,7 +9,6 @@ ghost use Rattle.cdi_check.specs.Tables.{setting_by};
 ghost use Rattle.cdi_container.specs.Accepted as spec;
 ghost use Rattle.cdi_container.specs.declared.acceptance.Unaccepted.TheVariants.{Problems};
 
-use cdi_accepted::fitting_laws::law_fits;
 use cdi_base::{Names, OrMemory, Seq};
 use cdi_beans::BeanList;
 use cdi_bodies::Bodies;
@@ -19,6 +18,7 @@ use cdi_problems::Problem;
 use cdi_resolve::BeanTables;
 use cdi_run_tables::RunTables;
 use cdi_runtime::laws::law_knows_methods;
+use cdi_site_fit::laws::law_whole_fits;
 use std::alloc::Global;
 
 /// Why a deployment isn't accepted.
@@ -58,7 +58,7 @@ fn served_tables(tables: RunTables, bodies: &Bodies) -> Result<RunTables, OrMemo
     ensures ok { IfOk result (spec.IsAccepted tables.deployment (entries_of bodies.now)) }
     ensures err { IfErr result (spec.IsUnaccepted tables.deployment (entries_of bodies.now)) }
 {
-    law_fits(bodies);
+    law_whole_fits(bodies);
     law_knows_methods(bodies);
     if serves(&tables, bodies) {
         Ok(tables)

@@ -6,6 +6,8 @@ use Rattle.std.proofs.lemmas.Bool.{and_parts, leb-true, ltb-true, true≢false}
 use Rattle.std.proofs.lemmas.Option.{same_Some}
 use Rattle.cdi_base.specs.Maps.{at}
 use Rattle.cdi_base.specs.declared.uses.Use.{Use}
+use Rattle.cdi_bean_check.specs.Qualifiers.{full_uses}
+use Rattle.cdi_beans.specs.declared.bean.ObserverMethod.{ObserverMethod}
 use Rattle.cdi_deployment.specs.declared.deployment.Point.{Point}
 use Rattle.cdi_machine.specs.Words.{Name}
 use Rattle.cdi_machine.specs.Tables as machine
@@ -18,7 +20,8 @@ use Rattle.cdi_plans.specs.declared.plan.Step.TheVariants as steps
 use Rattle.cdi_resolve.specs.declared.resolution.Resolution.{Resolution}
 use Rattle.cdi_resolve.specs.declared.resolution.Resolution.TheVariants as resolutions
 use Rattle.cdi_run_tables.specs.Machine as tables
-use Rattle.cdi_run_tables.specs.Machine.{asked_by, bean_at, bean_with, does_something, has_none, id_of, is_idle, machine_code, machine_lifecycle, machine_managed, machine_method, machine_methods, machine_step, machine_steps, machine_tables, method_of, method_with, resolution_of, without_chain}
+use Rattle.cdi_run_tables.specs.Events.{Group, groups_of, hears}
+use Rattle.cdi_run_tables.specs.Machine.{asked_by, bean_at, bean_with, does_something, has_none, id_of, is_idle, machine_code, machine_lifecycle, machine_managed, machine_method, machine_methods, machine_observer, machine_step, machine_steps, machine_tables, method_of, method_with, observers_of, resolution_of, without_chain}
 use Rattle.cdi_run_tables.specs.Managed as managed
 use Rattle.cdi_run_tables.specs.Managed.{injected, injections_of, managed_plan}
 use Rattle.cdi_run_tables.specs.Served.{has_texts, is_served, is_served_bean, is_served_plan, is_served_scope, is_served_step}
@@ -102,8 +105,19 @@ whole_method (Some m) free =
     λ i. Some (record { code = m.code; count = m.count; chain = sym none i })
 
 module _ (t : RunTables) (served : is_served t ≡ true) where
+  -- beans and texts are served, and there are no observers
+  both : ((list_all is_served_bean t.beans && has_texts t.deployment) ≡ true) × (has_none t.tables.observers ≡ true)
+  both = and_parts (list_all is_served_bean t.beans && has_texts t.deployment) (has_none t.tables.observers) served
+
   all_served : list_all is_served_bean t.beans ≡ true
-  all_served = (and_parts (list_all is_served_bean t.beans) (has_texts t.deployment) served).0
+  all_served = (and_parts (list_all is_served_bean t.beans) (has_texts t.deployment) both.0).0
+
+  -- no event has an observer
+  pub unobserved : (class : ℕ) (qualifiers : List Use) → observers_of t class qualifiers ≡ []
+  unobserved class qualifiers =
+      let hearing = hears t.tables.declared.types class (full_uses t.tables.declared.qualifiers qualifiers) in
+      ap (λ (os : List ObserverMethod). filter (λ group. not (has_none group)) (map (λ (g : Group). filter_map (machine_observer t) g.observers) (groups_of (filter hearing os))))
+      (none_is t.tables.observers both.1)
 
   served_at : (n : ℕ) (b : PlannedBean) → slice_get t.beans n ≡ Some b → ServedPlan b
   served_at n b e = served_plan b (passes_at is_served_bean t.beans n b all_served e)

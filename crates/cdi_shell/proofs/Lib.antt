@@ -10,6 +10,8 @@ pub mod WorkedLines
 pub mod Thrown
 pub mod Serving
 pub mod StandIns
-pub mod FittingScripts
+pub mod LessLegal
+pub mod Lookups
+pub mod SoundScripts
 pub mod NamedLines
 mod Picked

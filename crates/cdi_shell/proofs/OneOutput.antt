@@ -220,9 +220,9 @@ module _ (depth ticks : ℕ) (input held : List ℕ) (s s' : Streams) (e e' : En
   plays_one ss d (PlaysScripts.starves q) p' = absurd (subst IsSettled q.is_ending settled)
   plays_one ss d p (PlaysScripts.starves q) = absurd (subst IsSettled q.is_ending settled')
   plays_one ss d (PlaysScripts.refuses {problems = these} a some w) (PlaysScripts.refuses {problems = those} b some' w') = refused_one ss d these those a b w w'
-  plays_one ss d (PlaysScripts.refuses {problems = these} a some w) (PlaysScripts.runs b t l) = absurd (some (problems_one ss d these [] a b))
-  plays_one ss d (PlaysScripts.runs a t l) (PlaysScripts.refuses {problems = those} b some w') = absurd (some (problems_one ss d those [] b a))
-  plays_one ss d (PlaysScripts.runs {t = x} a t l) (PlaysScripts.runs {t = y} b t' l') =
+  plays_one ss d (PlaysScripts.refuses {problems = these} a some w) (PlaysScripts.runs b t q l) = absurd (some (problems_one ss d these [] a b))
+  plays_one ss d (PlaysScripts.runs a t q l) (PlaysScripts.refuses {problems = those} b some w') = absurd (some (problems_one ss d those [] b a))
+  plays_one ss d (PlaysScripts.runs {t = x} a t q l) (PlaysScripts.runs {t = y} b t' q' l') =
       lives_one x y (legal_by ss) (one_by ss) (ap (λ (k : Deployment). k.names) (t.deployment_is ∙ sym t'.deployment_is)) (same_machine ss d x y t t') l l'
 
   readied_one : (r : Result Readied (List ℕ)) → DrivesReadied depth ticks r s e → DrivesReadied depth ticks r s' e' → SameOutput s s' e e'

@@ -33,6 +33,8 @@ use Rattle.cdi_shell.specs.declared.ending.Ending.{Ending}
 use Rattle.cdi_shell.specs.Drive.{Streams, AreTablesWith, IsRefusable, IsServedWith, Lives, PlaysScripts, Refuses, RefusesOr, RefusesUnaccepted, legal_by}
 use Rattle.cdi_shell.proofs.Attended.{attended}
 use Rattle.cdi_shell.proofs.Holding.{within}
+use Rattle.cdi_shell.proofs.Lookups.{same_lookups}
+use Rattle.cdi_shell.proofs.SoundScripts.{sound_scripts}
 use Rattle.cdi_shell.proofs.Wider.{answers_more, line_more}
 
 -- what is legal for the bodies is legal for their scripts
@@ -70,6 +72,7 @@ module _ {X : Type 0} {F : X → Type 0} {g : _} (d : Deployment) (es : List (En
             a.ids.told name
             ∙ ap (λ (o : Option ℕ). if is_named (sites_of t.deployment) name then Some o else None) (same_place es ss name h)
             ∙ ap (λ (k : Deployment). told_of (place_under ss) (sites_of k) name) a.deployment_is;
+        lookups = a.lookups ∙ same_lookups es ss h;
       }
 
   -- a deployment that is served isn't told to be unserved
@@ -79,9 +82,11 @@ module _ {X : Type 0} {F : X → Type 0} {g : _} (d : Deployment) (es : List (En
   refusable served errors.Memory told = tt
 
 module _ {X : Type 0} {F : X → Type 0} {g : _} (depth ticks : ℕ) (d : Deployment) (es : List (Entry X F g)) (ss : List NamedScript) (streams : Streams) (e : Ending) (h : AreBodiesOf es ss) where
-  pub accepted_plays : {Y : Type 0} {G : Y → Type 0} {k : _} (chooser : Chooser Y G k) (t : RunTables) → ((candidates count i : ℕ) → picks chooser candidates count i → i ≡ 0) → IsAccepted d es t → Lives depth ticks t (chosen_by es chooser) streams e → PlaysScripts depth ticks d ss streams e
-  accepted_plays chooser t first a l =
-      PlaysScripts.runs (problems_with d es ss h [] a.are.faultless) (tables_with d es ss h t a.are)
+  pub accepted_plays : {Y : Type 0} {G : Y → Type 0} {k : _} (chooser : Chooser Y G k) (t : RunTables) → ((candidates count i : ℕ) → picks chooser candidates count i → i ≡ 0) → IsServedWith ss d → IsAccepted d es t → Lives depth ticks t (chosen_by es chooser) streams e → PlaysScripts depth ticks d ss streams e
+  accepted_plays chooser t first served a l =
+      let none = problems_with d es ss h [] a.are.faultless in
+      let tables = tables_with d es ss h t a.are in
+      PlaysScripts.runs none tables (sound_scripts ss d t none tables served)
       (lives_wider depth ticks t (chosen_by es chooser) (legal_by ss) streams e (within chooser es ss first h) l)
 
   pub refused_plays : (u : OrMemory Unaccepted) → IsUnaccepted d es u → streams.unread_after ≡ streams.unread → RefusesUnaccepted u streams.held streams.held_after e → PlaysScripts depth ticks d ss streams e

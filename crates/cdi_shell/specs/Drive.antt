@@ -1,10 +1,11 @@
 -- A run of the program, from the bytes of a deployment and of its input to the bytes of its output.
-use Rattle.std.specs.Prelude.{◌≡◌, ◌≢◌, ℕ, List, [], nat_eq, true, Option, Result, Ok, Err, slice_get, MatchOption}
+use Rattle.std.specs.Prelude.{◌≡◌, ◌≢◌, ℕ, List, [], map, nat_eq, true, Option, Result, Ok, Err, slice_get, MatchOption}
 use Rattle.std.specs.HashMap.{get}
 use Rattle.cdi_base.specs.declared.or_memory.OrMemory.{OrMemory}
 use Rattle.cdi_base.specs.declared.or_memory.OrMemory.TheVariants as errors
 use Rattle.cdi_base.specs.declared.reply.Reply.{Reply}
 use Rattle.cdi_stage.specs.Stage.{served}
+use Rattle.cdi_bodies.specs.declared.shape.Lookup.{Lookup}
 use Rattle.cdi_body_check.specs.Sites.{sites_of}
 use Rattle.cdi_deployment.specs.declared.deployment.Deployment.{Deployment}
 use Rattle.cdi_machine.specs.Runs.{Legal}
@@ -13,11 +14,13 @@ use Rattle.cdi_run_tables.specs.Ids.{told_of}
 use Rattle.cdi_run_tables.specs.Machine.{machine_tables}
 use Rattle.cdi_run_tables.specs.Planned.{IsTabled}
 use Rattle.cdi_run_tables.specs.declared.tables.RunTables.{RunTables}
+use Rattle.cdi_script.specs.Listed.{shape_of}
 use Rattle.cdi_script.specs.Next.{next_of}
 use Rattle.cdi_container.specs.Accepted.{serves}
 use Rattle.cdi_container.specs.declared.acceptance.Unaccepted.{Unaccepted}
 use Rattle.cdi_container.specs.declared.acceptance.Unaccepted.TheVariants as reasons
 use Rattle.cdi_container.specs.Sessions.{AnswersLine, Served}
+use Rattle.cdi_container.specs.Sound.{IsSound}
 use Rattle.cdi_container.specs.States.{ContainerState, Boots}
 use Rattle.cdi_shell.specs.declared.ending.Ending.{Ending}
 use Rattle.cdi_lines.specs.declared.fault.ServeFault.{ServeFault}
@@ -84,6 +87,10 @@ pub record Lives (depth ticks : ℕ) (t : RunTables) (legal : Legal) (streams : 
       streams.unread streams.unread_after streams.held streams.held_after result
   pub is_ending : ending ≡ after_serving result ended.halted
 
+-- the lookups of each script, at its body's number
+abbrev pub lookups_by : List NamedScript → List (List Lookup)
+lookups_by scripts = map (λ s. (shape_of s.script).lookups) scripts
+
 -- these are the tables of a deployment whose bodies are scripts
 pub record AreTablesWith (scripts : List NamedScript) (d : Deployment) (t : RunTables)
     : Type 0 where
@@ -91,13 +98,15 @@ pub record AreTablesWith (scripts : List NamedScript) (d : Deployment) (t : RunT
   pub tabled : IsTabled t
   pub ids :
       (name : ℕ) → get nat_eq t.ids.ids name ≡ told_of (place_under scripts) (sites_of d) name
+  pub lookups : t.lookups ≡ lookups_by scripts
 
 -- all tables of the deployment are served with these scripts as bodies
 abbrev pub IsServedWith : List NamedScript → Deployment → Type 0
 IsServedWith scripts d =
     (t : RunTables) → AreTablesWith scripts d t → serves (shape_under scripts) t ≡ true
 
--- A deployment whose bodies are these scripts is run: its problems are written or, if it has none, its container lives.
+-- A deployment whose bodies are these scripts is run: its problems are written or, if it has none, its container lives, and
+-- whatever it is asked, its runs are sound.
 pub data PlaysScripts (depth ticks : ℕ) (d : Deployment) (scripts : List NamedScript)
     (streams : Streams) (ending : Ending) : Type 0 where
   starves : IsSilent streams ending → PlaysScripts depth ticks d scripts streams ending
@@ -105,6 +114,7 @@ pub data PlaysScripts (depth ticks : ℕ) (d : Deployment) (scripts : List Named
       → Writes (problem_lines d.names problems) streams ending
       → PlaysScripts depth ticks d scripts streams ending
   runs : {t : RunTables} → AreProblemsWith scripts d [] → AreTablesWith scripts d t
+      → IsSound t (legal_by scripts)
       → Lives depth ticks t (legal_by scripts) streams ending
       → PlaysScripts depth ticks d scripts streams ending
 

@@ -4,6 +4,8 @@ use Rattle.cdi_base.specs.declared.reply.Reply.{Reply}
 use Rattle.cdi_base.specs.declared.reply.Reply.TheVariants as replies
 use Rattle.cdi_base.specs.Name.{is_name}
 use Rattle.cdi_bodies.specs.declared.entry.Entry.{Entry}
+use Rattle.cdi_ledger.specs.Ledger.{Item}
+use Rattle.cdi_machine.specs.Commands.{Command}
 use Rattle.cdi_machine.specs.Registered.{legal_of}
 use Rattle.cdi_machine.specs.Runs.{Legal}
 use Rattle.cdi_machine.specs.Tables.{Tables}
@@ -15,9 +17,9 @@ use Rattle.cdi_text.specs.Command.{command_in}
 use Rattle.cdi_problems.specs.Places.{name_text}
 use Rattle.cdi_text.specs.ReplyText.{reply_line}
 use Rattle.cdi_container.specs.Accepted.{IsAccepted}
+use Rattle.cdi_container.specs.History.{History}
 use Rattle.cdi_container.specs.Sessions.{AnswersRead, Served}
-use Rattle.cdi_container.specs.States.{ContainerState}
-use Rattle.cdi_container.specs.Thrown.{Replies}
+use Rattle.cdi_container.specs.States.{ContainerState, AnswersCommand}
 use Rattle.cdi_shell.specs.declared.ending.Ending.{Ending}
 use Rattle.cdi_shell.specs.Drive.{AreTablesWith, Lives, Streams, legal_by, readied}
 
@@ -26,14 +28,20 @@ abbrev pub TellsTrueName : List (List ℕ) → Reply → Type 0
 TellsTrueName names (replies.Threw class) = IsTrue (is_name (name_text names class))
 TellsTrueName names _ = Unit {0}
 
+-- each exception that a container of these tables replies is told by a name
+abbrev pub TellsThem : RunTables → Legal → Type 0
+TellsThem t legal =
+    (s u : ContainerState) (h : List Item) → History (machine_tables t) legal (Unit {0}) s h
+    → (c : Command) (reply : Reply)
+    → AnswersCommand (machine_tables t) legal (Unit {0}) s c reply u
+    → TellsTrueName t.deployment.names reply
+
 -- In a container of a deployment that bytes are with its scripts, accepted with bodies of these entries, each exception
 -- that is replied is told by a name.
 abbrev pub TellsTrueNames : {X : Type 0} {F : X → Type 0} {g : _} → List (Entry X F g) → Type 0
 TellsTrueNames entries =
     (bytes : List ℕ) → IfOk (readied bytes) (λ r.
-    (t : RunTables) → IsAccepted r.deployment entries t
-    → (reply : Reply) → Replies t.deployment.names (machine_tables t) (legal_of entries) reply
-    → TellsTrueName t.deployment.names reply)
+    (t : RunTables) → IsAccepted r.deployment entries t → TellsThem t (legal_of entries))
 
 -- ---- the lines of a run
 

@@ -20,7 +20,7 @@ pub fn law_one_output()
 pub fn law_tells_true_names(bodies: &Bodies)
     ensures { TellsTrueNames (entries_of bodies.now) }
 {
-    container::law_accepted_throws_names(bodies);
+    container::law_accepted_is_sound(bodies);
     serving::law_reads_facts();
 }
 

@@ -19,7 +19,7 @@ use Rattle.cdi_worlds_fit.proofs.Whole.{HeldBy}
 use Rattle.cdi_worlds_fit.specs.Fits.{HasMethod, AnswersCalls, Fits}
 use Rattle.cdi_whole.specs.Thrown.{ThrowsWithText}
 use Rattle.cdi_machine.specs.Programs.{Threw}
-use Rattle.cdi_whole.specs.Missing.{NothingMissing, MissesNothing}
+use Rattle.cdi_whole.specs.Missing.{AsksWhatIsThere, NothingMissing, MissesNothing}
 use Rattle.cdi_whole.proofs.Safe.{misses_none, UnlessCut}
 use Rattle.cdi_worlds_fit.proofs.Terms.{Pre, Post}
 use Rattle.cdi_worlds_fit.proofs.Moves.{Moves}
@@ -59,12 +59,16 @@ answers_by t b bean name count known h = by bean.kind refl h
     by (Kind.Class c) e q = record { class = c; is = record { bean = bean; known = known; is = e }; takes = taken c name count q }
     by (Kind.Producer p) e q = absurd (cc)
 
+pub asks_what_is_there : (t : Tables) → AsksWhatIsThere t
+asks_what_is_there t s r asked method args e b bean resolves known =
+    let c = Command.Call r asked method args in
+    let y = past (refused_by_contexts s.world.contexts c) (refused_by_tables t c) (past_any t s c e) in
+    let z = (passes (not (t.is_known asked)) refusals.UnknownName (call_refusals (bean_of t (t.resolve asked)) method (length args)) y).1 in
+    answers_by t b bean method (length args) known (subst (λ o. first_that_holds (call_refusals o method (length args)) ≡ None) (ap (bean_of t) resolves ∙ known) z)
+
 module _ (t : Tables) (legal : Legal) where
   admitted : (s : State) (c : Command) → refusal t s c ≡ None → IsAdmitted t legal c
-  admitted s (Command.Call r asked method args) e = λ b resolves served.
-      let y = past (refused_by_contexts s.world.contexts (Command.Call r asked method args)) (refused_by_tables t (Command.Call r asked method args)) (past_any t s (Command.Call r asked method args) e) in
-      let z = (passes (not (t.is_known asked)) refusals.UnknownName (call_refusals (bean_of t (t.resolve asked)) method (length args)) y).1 in
-      answers_by t b served.bean method (length args) served.known (subst (λ o. first_that_holds (call_refusals o method (length args)) ≡ None) (ap (bean_of t) resolves ∙ served.known) z)
+  admitted s (Command.Call r asked method args) e = λ b resolves served. asks_what_is_there t s r asked method args e b served.bean resolves served.known
   admitted s Command.Boot e = tt
   admitted s (Command.Begin r n) e = tt
   admitted s (Command.End r) e = tt

@@ -14,7 +14,7 @@ pub served_tables-requires-clause-are : goal.served_tables-requires-clause-are
 served_tables-requires-clause-are g c =
     let none : c.in_ok-problems.problems ≡ [] = search rules in
     let made = c.in_ok-tables.ensures in
-    tables_with (entries_of c.args.bodies.now) c.args.deployment c.in_ok-listed.listed c.in_ok-problems.problems none c.in_ok-tables.tables made.deployment made.tables c.in_ok-problems.ensures.late made.tabled made.ids
+    tables_with (entries_of c.args.bodies.now) c.args.deployment c.in_ok-listed.listed c.in_ok-problems.problems none c.in_ok-tables.tables made.deployment made.tables c.in_ok-problems.ensures.late made.tabled made.ids made.lookups
 
 pub served_tables-requires-clause-faultless : goal.served_tables-requires-clause-faultless
 served_tables-requires-clause-faultless g c =

@@ -68,7 +68,7 @@ returns-in_ok-new-in-Ok-accept-clause-plays g c =
     (λ candidates count i h.
     made_post own-2 at-2-1 c.into_dyn_box-in_ok-new-in-Ok-accept.ensures.1 (candidates, (count, tt)) i
     (picked c.new-chooser.result c.into_dyn_box-in_ok-new-in-Ok-accept.result c.new-chooser.ensures candidates count i h))
-    c.in-Ok-accept.ensures.ok c.live.ensures.lives
+    c.requires.served c.in-Ok-accept.ensures.ok c.live.ensures.lives
 
 pub returns-in-Err-clause-plays : goal.returns-in-Err-clause-plays
 returns-in-Err-clause-plays g c =

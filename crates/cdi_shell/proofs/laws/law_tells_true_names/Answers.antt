@@ -5,4 +5,4 @@ use Rattle.cdi_shell.proofs.laws.law_tells_true_names.Goals as goal
 
 pub returns : goal.returns
 returns g c =
-    tells_true_names (entries_of c.args.bodies.now) c.law_accepted_throws_names.ensures (c.law_reads_facts.ensures served)
+    tells_true_names (entries_of c.args.bodies.now) c.law_accepted_is_sound.ensures (c.law_reads_facts.ensures served)

@@ -1,5 +1,0 @@
-pub mod Fits
-pub mod Missing
-pub mod Left
-pub mod Thrown
-pub mod Worked
