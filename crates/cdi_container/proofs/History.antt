@@ -1,12 +1,12 @@
 -- What a container has written since its start is in order, and each destruction begins its callbacks exactly once, since so it is in
 -- each story of the machine.
-use Rattle.std.proofs.Common.{◌≡◌, List, None, refl, sym, subst}
+use Rattle.std.proofs.Common.{◌≡◌, List, length, None, refl, sym, subst}
 use Rattle.cdi_farewells.specs.Beginnings.{BeginsOnce}
 use Rattle.cdi_ledger.specs.Ledger as ledger
 use Rattle.cdi_ledger.specs.Ledger.{Item, items_of, InOrder, Ledger, KeepsOrderIfShort}
 use Rattle.cdi_ledger.specs.Stories.{Story}
 use Rattle.cdi_machine.specs.Commands.{Command, task}
-use Rattle.cdi_machine.specs.Container.{State, refusal}
+use Rattle.cdi_machine.specs.Container.{State, idle_state, refusal}
 use Rattle.cdi_machine.specs.Runs.{Legal, Outcome, Runs}
 use Rattle.cdi_machine.specs.Tables.{Tables}
 use Rattle.cdi_machine.specs.World.{World, at_begin}
@@ -37,8 +37,9 @@ module _ (tables : Tables) (legal : Legal) (order : ledger.KeepsOrder tables leg
   is_ledger (Story.begins ticks depth) = record { at = _; ledger = Ledger.begins ticks depth; alike = refl }
   is_ledger (Story.refuses {s = s} {h = h} c r before e) =
       let l = is_ledger before in
-      let same = record { at = l.at; ledger = l.ledger; alike = l.alike } in
-      refused (λ t. IsLedger t h) s same same
+      let busy : IsLedger (record s { shown_from = length s.world.trace }) h = record { at = l.at; ledger = l.ledger; alike = l.alike } in
+      let idle : IsLedger (idle_state (at_begin s.world) s.halted) h = record { at = l.at; ledger = l.ledger; alike = l.alike } in
+      refused (λ t. IsLedger t h) s busy idle
   is_ledger (Story.goes {s = s} {h = h} {o = o} {v = v} c before e r) =
       let l = is_ledger before in
       record { at = v; ledger = longer c l.at v h o l.ledger (at_begin s.world) (sym l.alike) r; alike = refl }

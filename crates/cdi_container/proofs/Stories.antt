@@ -1,5 +1,5 @@
 -- What a container has written since its start is a story of the machine, until memory runs out.
-use Rattle.std.proofs.Common.{◌≡◌, ◌∙◌, ◌⊎◌, inl, inr, List, [], ◌∷◌, ◌++◌, Bool, Some, None, refl, sym, ap, ap₂, subst}
+use Rattle.std.proofs.Common.{◌≡◌, ◌∙◌, ◌⊎◌, inl, inr, List, [], ◌∷◌, ◌++◌, Bool, false, Some, None, refl, sym, ap, ap₂, subst}
 use Rattle.std.specs.Prelude.{ℕ, is_some}
 use Rattle.cdi_base.specs.declared.reply.Cause.TheVariants as causes
 use Rattle.cdi_base.specs.declared.reply.Reply.{Reply}
@@ -63,7 +63,7 @@ module _ (tables : Tables) (legal : Legal) where
       (short : (s : State) (h : List Item) (c : Command) (o : Outcome) (v : World) → Story tables legal s h → refusal tables s c ≡ None
       → (r : Runs tables legal (Unit {0}) (task c) (at_begin s.world) o v) → P (items_of h r)) where
     -- or memory ran out, and no command is carried out any more
-    pub Keeps : ContainerState → List Item → Type 0
+    abbrev pub Keeps : ContainerState → List Item → Type 0
     Keeps s h = IsStory s h ⊎ (P h × (s.halted ≡ Some causes.Memory))
 
     still : (s t : ContainerState) (h : List Item) → at_begin t.world ≡ at_begin s.world → t.halted ≡ s.halted → Keeps s h → Keeps t h
