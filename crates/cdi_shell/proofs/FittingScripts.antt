@@ -2,6 +2,7 @@
 use Rattle.std.proofs.Common.{ℕ, ◌≡◌, ◌∙◌, ◌&&◌, List, [], true, refl, sym, ap, subst, Option, Some, None, if◌then◌else◌}
 use Rattle.std.proofs.lemmas.Bool.{and_parts}
 use Rattle.cdi_accepted.proofs.Fitting.{accepted_fits}
+use Rattle.cdi_beans.specs.declared.declared.DeclaredTables.{DeclaredTables}
 use Rattle.cdi_bodies.specs.declared.shape.Shape.{Shape}
 use Rattle.cdi_body_check.specs.Shapes.{shape_of}
 use Rattle.cdi_body_check.specs.Sites.{sites_of}
@@ -21,7 +22,6 @@ use Rattle.cdi_run_tables.specs.Sizes.{is_small}
 use Rattle.cdi_run_tables.specs.declared.tables.RunTables.{RunTables}
 use Rattle.cdi_resolve.specs.BeanTables.{AreTablesOf, bean_tables}
 use Rattle.cdi_resolve.specs.declared.bean_tables.BeanTables.{BeanTables}
-use Rattle.cdi_resolve.specs.declared.declared.DeclaredTables.{DeclaredTables}
 use Rattle.cdi_types.specs.Declarations.{declarations_of}
 use Rattle.cdi_accepted.proofs.Tables.{one_tables}
 use Rattle.cdi_prepare.specs.declared.scripts.NamedScript.{NamedScript}
