@@ -1,6 +1,7 @@
 pub mod Adds
 pub mod BeanLists
 pub mod Beans
+pub mod Declarations
 pub mod DisposerMethods
 pub mod Kinds
 pub mod Interceptors

@@ -4,9 +4,11 @@
 pub mod bean;
 mod beans;
 mod build;
+pub mod declared;
 mod disposers;
 mod interceptors;
 pub mod list;
+pub mod listed;
 mod observers;
 mod tables;
 mod types;
@@ -15,4 +17,6 @@ mod uses;
 pub use bean::{
     Bean, BeanKind, BeanList, BeanMember, DisposerMethod, EnabledInterceptor, ObserverMethod,
 };
+pub use declared::DeclaredTables;
 pub use list::list_beans;
+pub use listed::ListedBeans;

@@ -1,8 +1,9 @@
 //! A question as it was written.
-ghost use Rattle.std.specs.Prelude.{◌≡◌, true};
+ghost use Rattle.std.specs.Prelude.{◌↔◌, IsTrue};
+ghost use Rattle.cdi_cache.specs.Written.{IsSame};
 
-use crate::value::{hash_value, is_same_value};
-use cdi_base::{MemberValue, Name, Use};
+use crate::value::hash_value;
+use cdi_base::{Name, Use};
 use std::hash::{BuildHasher, BuildHasherDefault, FoldHasher, Hash, Hasher};
 
 /// A required type, with the required qualifiers as they were written.
@@ -10,46 +11,6 @@ use std::hash::{BuildHasher, BuildHasherDefault, FoldHasher, Hash, Hasher};
 pub struct WrittenQuestion<'a> {
     pub ty: Name,
     pub uses: &'a [Use],
-}
-
-fn is_same_member(a: &MemberValue, b: &MemberValue) -> bool
-    ensures { result ≡ true → a.now ≡ b.now }
-{
-    a.name == b.name && is_same_value(&a.value, &b.value)
-}
-
-fn are_same_members(a: &[MemberValue], b: &[MemberValue]) -> bool
-    ensures { result ≡ true → a.now ≡ b.now }
-{
-    if a.len() != b.len() {
-        return false;
-    }
-    for i in 0..a.len() {
-        if !is_same_member(&a[i], &b[i]) {
-            return false;
-        }
-    }
-    true
-}
-
-fn is_same_use(a: &Use, b: &Use) -> bool
-    ensures { result ≡ true → a.now ≡ b.now }
-{
-    a.name == b.name && are_same_members(a.members.as_slice(), b.members.as_slice())
-}
-
-fn are_same_uses(a: &[Use], b: &[Use]) -> bool
-    ensures { result ≡ true → a.now ≡ b.now }
-{
-    if a.len() != b.len() {
-        return false;
-    }
-    for i in 0..a.len() {
-        if !is_same_use(&a[i], &b[i]) {
-            return false;
-        }
-    }
-    true
 }
 
 fn hash_use<H: Hasher>(written: &Use, state: &mut H) {
@@ -61,12 +22,12 @@ fn hash_use<H: Hasher>(written: &Use, state: &mut H) {
 }
 
 impl WrittenQuestion<'_> {
-    /// Whether another one asks for the same in the same words.
+    /// Whether another one asks for the same in the same words: its uses stand in the same order, and give the same values to the
+    /// same members in the same order.
     pub fn is_same(&self, other: &WrittenQuestion<'_>) -> bool
-        ensures ty { result ≡ true → self.now.ty ≡ other.now.ty }
-        ensures uses { result ≡ true → self.now.uses.now ≡ other.now.uses.now }
+        ensures { IsTrue result ↔ IsSame self.now other.now }
     {
-        self.ty == other.ty && are_same_uses(self.uses, other.uses)
+        self.ty == other.ty && self.uses == other.uses
     }
 
     /// A hash of it. Others may have the same.

@@ -1,5 +1,6 @@
 //! All problems of a deployment with its registered bodies.
 ghost use Rattle.std.specs.Prelude.{IfOk};
+ghost use Rattle.cdi_beans.specs.Declarations.{AreDeclaredBy};
 ghost use Rattle.cdi_beans.specs.Problems.{IsMadeOf};
 ghost use Rattle.cdi_bodies.specs.Table.{entries_of};
 ghost use Rattle.cdi_body_check.specs.Shapes.{shape_of};
@@ -10,7 +11,7 @@ ghost use Rattle.cdi_resolve.specs.BeanTables.{AreTablesOf};
 
 use crate::settings::problems_by;
 use cdi_base::{OrMemory, Seq};
-use cdi_beans::BeanList;
+use cdi_beans::ListedBeans;
 use cdi_bodies::Bodies;
 use cdi_deployment::Deployment;
 use cdi_problems::Problem;
@@ -40,14 +41,15 @@ pub fn late_problems(
 fn problems_with(
     alloc: Global,
     deployment: &Deployment,
-    list: BeanList,
+    beans: ListedBeans,
     bodies: &Bodies,
 ) -> Result<Seq<Problem>, AllocError>
-    requires { IsMadeOf deployment.now list }
+    requires list { IsMadeOf deployment.now beans.list }
+    requires declared { AreDeclaredBy deployment.now beans.declared }
     ensures { IfOk result
         (AreLateProblems deployment.now (shape_of (entries_of bodies.now))) }
 {
-    let tables = BeanTables::build(alloc, deployment, list)?;
+    let tables = BeanTables::build(alloc, deployment, beans)?;
     late_problems(alloc, deployment, &tables, bodies)
 }
 
@@ -62,8 +64,8 @@ pub fn check(
     ensures { IfOk result
         (AreProblemsOf deployment.now (shape_of (entries_of bodies.now))) }
 {
-    match BeanList::build(alloc, deployment) {
-        Ok(list) => problems_with(alloc, deployment, list, bodies),
+    match ListedBeans::build(alloc, deployment) {
+        Ok(beans) => problems_with(alloc, deployment, beans, bodies),
         Err(OrMemory::Fault(problems)) => Ok(problems),
         Err(OrMemory::Memory) => Err(AllocError),
     }

@@ -1,6 +1,7 @@
 //! Which deployments a container is started for.
 ghost use Rattle.std.specs.Prelude.{◌≡◌, [], true, IfOk, IfErr};
 ghost use Rattle.cdi_base.specs.declared.or_memory.OrMemory.TheVariants.{Fault};
+ghost use Rattle.cdi_beans.specs.Declarations.{AreDeclaredBy};
 ghost use Rattle.cdi_beans.specs.Problems.{IsMadeOf};
 ghost use Rattle.cdi_bodies.specs.Table.{entries_of};
 ghost use Rattle.cdi_body_check.specs.Shapes.{shape_of};
@@ -10,7 +11,7 @@ ghost use Rattle.cdi_container.specs.Accepted as spec;
 ghost use Rattle.cdi_container.specs.declared.acceptance.Unaccepted.TheVariants.{Problems};
 
 use cdi_base::{Names, OrMemory, Seq};
-use cdi_beans::BeanList;
+use cdi_beans::ListedBeans;
 use cdi_bodies::Bodies;
 use cdi_check::late_problems;
 use cdi_deployment::Deployment;
@@ -71,14 +72,15 @@ fn served_tables(tables: RunTables, bodies: &Bodies) -> Result<RunTables, OrMemo
 fn accept_listed(
     alloc: Global,
     deployment: Deployment,
-    list: BeanList,
+    beans: ListedBeans,
     bodies: &Bodies,
 ) -> Result<RunTables, OrMemory<Unaccepted>>
-    requires { IsMadeOf deployment list }
+    requires list { IsMadeOf deployment beans.list }
+    requires declared { AreDeclaredBy deployment beans.declared }
     ensures ok { IfOk result (spec.IsAccepted deployment (entries_of bodies.now)) }
     ensures err { IfErr result (spec.IsUnaccepted deployment (entries_of bodies.now)) }
 {
-    let listed = BeanTables::build(alloc, &deployment, list)?;
+    let listed = BeanTables::build(alloc, &deployment, beans)?;
     let problems = late_problems(alloc, &deployment, &listed, bodies)?;
     if !problems.is_empty() {
         return Err(refused(deployment, problems));
@@ -98,8 +100,8 @@ pub fn accept(
     ensures ok { IfOk result (spec.IsAccepted deployment (entries_of bodies.now)) }
     ensures err { IfErr result (spec.IsUnaccepted deployment (entries_of bodies.now)) }
 {
-    match BeanList::build(alloc, &deployment) {
-        Ok(list) => accept_listed(alloc, deployment, list, bodies),
+    match ListedBeans::build(alloc, &deployment) {
+        Ok(beans) => accept_listed(alloc, deployment, beans, bodies),
         Err(OrMemory::Fault(problems)) => Err(refused(deployment, problems)),
         Err(OrMemory::Memory) => Err(OrMemory::Memory),
     }

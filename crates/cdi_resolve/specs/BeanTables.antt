@@ -1,14 +1,13 @@
 -- What is made from a deployment and its bean list.
 use Rattle.std.specs.Prelude.{◌≡◌, Bool, List, map}
+use Rattle.cdi_beans.specs.Declarations.{AreDeclaredBy}
 use Rattle.cdi_beans.specs.Problems.{IsMadeOf}
 use Rattle.cdi_beans.specs.declared.bean.BeanList.{BeanList}
+use Rattle.cdi_beans.specs.declared.declared.DeclaredTables.{DeclaredTables}
 use Rattle.cdi_chains.specs.Bindings.{class_bindings}
 use Rattle.cdi_deployment.specs.declared.deployment.Deployment.{Deployment}
 use Rattle.cdi_enable.specs.Enablement.{AreFlags, Enablement, enablement_of}
-use Rattle.cdi_quals.specs.Types.{AreQualifiersOf, AreTypesOf}
-use Rattle.cdi_types.specs.Declarations.{declarations_of}
 use Rattle.cdi_resolve.specs.declared.bean_tables.BeanTables.{BeanTables}
-use Rattle.cdi_resolve.specs.declared.declared.DeclaredTables.{DeclaredTables}
 
 -- the tables of a deployment with its bean list, by what it declares and which beans are enabled
 abbrev pub bean_tables : Deployment → BeanList → DeclaredTables → Enablement → List Bool
@@ -25,11 +24,6 @@ bean_tables d list declared enabled flags =
       observers = list.observers;
       disposers = list.disposers;
     }
-
-pub record AreDeclaredBy (d : Deployment) (t : DeclaredTables) : Type 0 where
-  pub types : t.types ≡ declarations_of d
-  pub qualifiers : AreQualifiersOf d t.qualifiers
-  pub bindings : AreTypesOf d.names d.bindings t.bindings
 
 pub record AreBeanTables (d : Deployment) (list : BeanList) (t : BeanTables) : Type 0 where
   pub declared : AreDeclaredBy d t.declared

@@ -1,13 +1,13 @@
 //! The tables that a bean list gives.
 ghost use Rattle.std.specs.Prelude.{◌≡◌, [], IfOk};
+ghost use Rattle.cdi_beans.specs.Declarations.{AreDeclaredBy};
 ghost use Rattle.cdi_beans.specs.Problems.{IsMadeOf};
 ghost use Rattle.cdi_enable.specs.Enablement.{AreFlags, enablement_of};
 ghost use Rattle.cdi_resolve.specs.BeanTables as spec;
 
-use crate::declared::DeclaredTables;
 use crate::resolver::Resolver;
 use cdi_base::Seq;
-use cdi_beans::{BeanList, DisposerMethod, ObserverMethod};
+use cdi_beans::{BeanList, DeclaredTables, DisposerMethod, ListedBeans, ObserverMethod};
 use cdi_chains::Chains;
 use cdi_deployment::Deployment;
 use cdi_enable::laws::law_forest;
@@ -91,16 +91,17 @@ fn tables_with(
 }
 
 impl BeanTables {
-    /// The tables of a deployment with its bean list.
+    /// The tables of a deployment with its bean list and the tables of what it declares.
     pub fn build(
         alloc: Global,
         deployment: &Deployment,
-        list: BeanList,
+        beans: ListedBeans,
     ) -> Result<BeanTables, AllocError>
-        requires { IsMadeOf deployment.now list }
-        ensures { IfOk result (spec.AreBeanTables deployment.now list) }
+        requires list { IsMadeOf deployment.now beans.list }
+        requires declared { AreDeclaredBy deployment.now beans.declared }
+        ensures { IfOk result (spec.AreBeanTables deployment.now beans.list) }
     {
-        let declared = DeclaredTables::build(alloc, deployment)?;
+        let ListedBeans { list, declared } = beans;
         let enabled = enabled_beans(alloc, deployment, &list)?;
         tables_with(alloc, deployment, list, declared, enabled)
     }

@@ -1,9 +1,8 @@
 //! Typesafe resolution: which bean a type and qualifiers stand for (Jakarta CDI 4.0, *Typesafe resolution*); and the tables that a
-//! deployment and its bean list give: what it declares, which beans are enabled, what resolves to what, and the chains of interceptors.
+//! deployment and its bean list give: which beans are enabled, what resolves to what, and the chains of interceptors.
 #![tactic(auto)]
 
 pub mod bean_tables;
-pub mod declared;
 mod filter;
 pub mod laws;
 mod question;
@@ -14,7 +13,6 @@ pub mod resolving;
 mod type_index;
 
 pub use bean_tables::BeanTables;
-pub use declared::DeclaredTables;
 pub use resolution::Resolution;
 pub use resolver::Resolver;
 pub use resolving::Resolving;

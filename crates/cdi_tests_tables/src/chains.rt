@@ -4,10 +4,9 @@
 use crate::listed::PROBLEMS;
 use crate::words::{push_declared, push_name, push_word};
 use cdi_base::{InterceptorMethod, Name, Names, OrMemory, Seq};
-use cdi_beans::{Bean, BeanKind, BeanList, BeanMember, EnabledInterceptor};
+use cdi_beans::{Bean, BeanKind, BeanMember, ListedBeans};
 use cdi_chains::{Chain, Chains};
 use cdi_deployment::Deployment;
-use cdi_quals::QualifierTypes;
 use std::alloc::{AllocError, Global};
 use std::mem;
 
@@ -150,29 +149,21 @@ fn lines_of(
     Ok(text)
 }
 
-fn chains_of(
-    alloc: Global,
-    deployment: &Deployment,
-    interceptors: Seq<EnabledInterceptor>,
-) -> Result<Chains, AllocError> {
-    let bindings = QualifierTypes::bindings_of(alloc, deployment)?;
-    Chains::build(alloc, deployment, &bindings, interceptors)
-}
-
 fn list_lines(
     alloc: Global,
     deployment: &Deployment,
-    mut list: BeanList,
+    beans: ListedBeans,
 ) -> Result<String, AllocError> {
+    let ListedBeans { mut list, declared } = beans;
     let interceptors = mem::replace(&mut list.interceptors, Seq::empty(alloc));
-    let chains = chains_of(alloc, deployment, interceptors)?;
+    let chains = Chains::build(alloc, deployment, &declared.bindings, interceptors)?;
     lines_of(alloc, &deployment.names, &chains, list.beans.as_slice())
 }
 
 /// Which interceptors stand round what.
 pub(crate) fn chains_answers(alloc: Global, deployment: &Deployment) -> Result<String, AllocError> {
-    match BeanList::build(alloc, deployment) {
-        Ok(list) => list_lines(alloc, deployment, list),
+    match ListedBeans::build(alloc, deployment) {
+        Ok(beans) => list_lines(alloc, deployment, beans),
         Err(OrMemory::Fault(_)) => String::from_str(alloc, PROBLEMS),
         Err(OrMemory::Memory) => Err(AllocError),
     }

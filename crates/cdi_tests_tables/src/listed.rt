@@ -1,6 +1,6 @@
 //! The bean list of a deployment with the enabled ones of its beans.
 use cdi_base::OrMemory;
-use cdi_beans::BeanList;
+use cdi_beans::{BeanList, ListedBeans};
 use cdi_deployment::Deployment;
 use cdi_enable::laws::law_forest;
 use cdi_enable::{EnabledSet, enabled};
@@ -22,8 +22,9 @@ pub(crate) fn list_of(
     deployment: &Deployment,
 ) -> Result<Option<Listed>, AllocError> {
     law_forest();
-    match BeanList::build(alloc, deployment) {
-        Ok(list) => {
+    match ListedBeans::build(alloc, deployment) {
+        Ok(beans) => {
+            let list = beans.list;
             let enabled = enabled(alloc, &list)?;
             Ok(Some(Listed { list, enabled }))
         }

@@ -4,7 +4,7 @@ ghost use Rattle.cdi_base.specs.declared.act.Act.TheVariants.{Give};
 ghost use Rattle.cdi_base.specs.declared.value.Value.TheVariants.{Null};
 
 use cdi_base::{Act, Fields, OrMemory, Seq, Value};
-use cdi_beans::BeanList;
+use cdi_beans::ListedBeans;
 use cdi_bodies::{Bodies, Body, Shape, View};
 use cdi_deployment::Deployment;
 use cdi_problems::Problem;
@@ -18,8 +18,8 @@ pub(crate) fn tables_of(
     alloc: Global,
     deployment: Deployment,
 ) -> Result<RunTables, OrMemory<Seq<Problem>>> {
-    let list = BeanList::build(alloc, &deployment)?;
-    let tables = BeanTables::build(alloc, &deployment, list)?;
+    let beans = ListedBeans::build(alloc, &deployment)?;
+    let tables = BeanTables::build(alloc, &deployment, beans)?;
     let body: Body = Box::new(
         alloc,
         |_fields: &Fields, _view: &View| -> Result<Act, AllocError>

@@ -3,7 +3,7 @@ use Rattle.std.specs.Prelude.{◌≢◌}
 use Rattle.cdi_name_check.specs.NameProblems.{AreNameProblems}
 use Rattle.cdi_problems.specs.declared.problem.Problem.{Problem}
 use Rattle.cdi_beans.specs.Problems.{AreEarlyProblemsOf}
-use Rattle.cdi_beans.proofs.bean.BeanList.build.Goals as goal
+use Rattle.cdi_beans.proofs.listed.ListedBeans.build.Goals as goal
 
 pub returns-then-not-is_empty-2-clause-refused : goal.returns-then-not-is_empty-2-clause-refused
 returns-then-not-is_empty-2-clause-refused c =
@@ -12,5 +12,5 @@ returns-then-not-is_empty-2-clause-refused c =
     let some : c.in_ok-problems-2.problems ≢ [] = search rules in
     record {
       some = some;
-      are = AreEarlyProblemsOf.of_beans c.in_ok-qualifiers.ensures (subst P names_well c.in_ok-problems.ensures) c.in_ok-problems-2.ensures;
+      are = AreEarlyProblemsOf.of_beans c.in_ok-declared.ensures.qualifiers (subst P names_well c.in_ok-problems.ensures) c.in_ok-problems-2.ensures;
     }
