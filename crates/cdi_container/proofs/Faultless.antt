@@ -13,7 +13,7 @@ use Rattle.cdi_deployment.specs.declared.deployment.Deployment.{Deployment}
 use Rattle.cdi_enable.specs.Enablement.{enablement_of}
 use Rattle.cdi_resolve.specs.BeanTables.{AreTablesOf, bean_tables}
 use Rattle.cdi_resolve.specs.declared.bean_tables.BeanTables.{BeanTables}
-use Rattle.cdi_resolve.specs.declared.declared.DeclaredTables.{DeclaredTables}
+use Rattle.cdi_beans.specs.declared.declared.DeclaredTables.{DeclaredTables}
 use Rattle.cdi_run_tables.specs.Machine.{has_none}
 use Rattle.cdi_run_tables.specs.Served.{has_texts, is_served, is_served_bean, serves_shapes}
 use Rattle.cdi_run_tables.specs.Sizes.{is_small}
