@@ -1,3 +1,4 @@
 pub mod Standing
 pub mod Refusals
 pub mod Knowing
+pub mod Remembered

@@ -47,14 +47,18 @@ impl Model for AskedTables {
 
 impl CommandAnswer {
     /// What a question resolves to, with a copy of the question.
-    fn new(question: &WrittenQuestion<'_>, told: Resolution) -> Result<CommandAnswer, AllocError>
+    fn new(
+        alloc: Global,
+        question: &WrittenQuestion<'_>,
+        told: Resolution,
+    ) -> Result<CommandAnswer, AllocError>
         ensures { IfOk result (λ answer. answer ≡ record {
           bean_type = question.now.ty;
           qualifiers = question.now.uses.now;
           told = told;
         }) }
     {
-        let mut qualifiers = Seq::empty(Global);
+        let mut qualifiers = Seq::empty(alloc);
         for written in question.uses {
             qualifiers.push(written.clone()?)?;
         }
@@ -123,21 +127,30 @@ impl AskedTables {
         }
     }
 
+    /// A question was asked once more.
+    fn promote(&mut self, question: &WrittenQuestion<'_>)
+        ensures { self.new ≡ self.old }
+    {
+        if let Some(answers) = &mut self.answers {
+            answers.promote(&question.hash());
+        }
+    }
+
     /// Remembers an answer, if there is memory.
-    fn remember(&mut self, question: &WrittenQuestion<'_>, told: Resolution)
+    fn remember(&mut self, alloc: Global, question: &WrittenQuestion<'_>, told: Resolution)
         requires { told ≡ resolution_of self.old question.now.ty question.now.uses.now }
         ensures { self.new ≡ self.old }
     {
         let Some(answers) = &mut self.answers else {
             return;
         };
-        if let Ok(answer) = CommandAnswer::new(question, told) {
+        if let Ok(answer) = CommandAnswer::new(alloc, question, told) {
             let _ = answers.put(question.hash(), answer);
         }
     }
 
     /// The same for a command: it is remembered as the last that was asked for.
-    pub(crate) fn ask(&mut self, bean_type: Name, qualifiers: &[Use]) -> Resolution
+    pub(crate) fn ask(&mut self, alloc: Global, bean_type: Name, qualifiers: &[Use]) -> Resolution
         ensures told { result ≡ resolution_of self.old bean_type qualifiers.now }
         ensures kept { self.new ≡ self.old }
     {
@@ -152,18 +165,9 @@ impl AskedTables {
             }
             None => {
                 let told = self.tables.resolve(bean_type, qualifiers);
-                self.remember(&question, told);
+                self.remember(alloc, &question, told);
                 told
             }
-        }
-    }
-
-    /// A question was asked once more.
-    fn promote(&mut self, question: &WrittenQuestion<'_>)
-        ensures { self.new ≡ self.old }
-    {
-        if let Some(answers) = &mut self.answers {
-            answers.promote(&question.hash());
         }
     }
 }

@@ -6,12 +6,14 @@ ghost use Rattle.cdi_run_tables.specs.Machine.{machine_tables};
 ghost use Rattle.cdi_steps.specs.Words.{command_of};
 ghost use Rattle.cdi_runtime.specs.Refusals.{bean_refusal, call_refusal, in_request, method_refusal, with_no_chain};
 
+use crate::asked::AskedTables;
 use crate::runtime::Runtime;
 use cdi_base::{Name, Refusal, Text};
 use cdi_machine::Driver;
 use cdi_resolve::Resolution;
 use cdi_run_tables::{Method, RunTables};
 use cdi_steps::{BeanCall, Job};
+use std::alloc::Global;
 
 /// Why a method that was looked for can't be called with so many values.
 fn refuses_method(method: Option<Method>, count: usize) -> Option<Refusal>
@@ -43,29 +45,31 @@ fn refuses_resolved(
 }
 
 /// Why a call of a method of the bean with a type and qualifiers is refused: one of these isn't known, or they resolve to a bean that has
-/// no such method with so many values.
-fn refuses_call(tables: &RunTables, call: &BeanCall) -> Option<Refusal>
-    ensures { result ≡ call_refusal tables.now
+/// no such method with so many values. What they resolve to is remembered.
+fn refuses_call(alloc: Global, tables: &mut AskedTables, call: &BeanCall) -> Option<Refusal>
+    ensures refusal { result ≡ call_refusal tables.old
         call.now.bean_type call.now.qualifiers call.now.method (length call.now.args) }
+    ensures kept { tables.new ≡ tables.old }
 {
     let qualifiers = call.qualifiers.as_slice();
-    if !tables.is_known(call.bean_type, qualifiers) {
+    if !tables.tables().is_known(call.bean_type, qualifiers) {
         return Some(Refusal::UnknownName);
     }
-    let resolution = tables.resolve(call.bean_type, qualifiers);
-    refuses_resolved(tables, resolution, call.method, call.args.len())
+    let resolution = tables.ask(alloc, call.bean_type, qualifiers);
+    refuses_resolved(tables.tables(), resolution, call.method, call.args.len())
 }
 
 impl<D: Driver> Runtime<D> {
     /// Why what a command asks for is refused, if it is: the first refusal that holds, in the order of [`Refusal`]. A
     /// container that has halted or is down refuses all, none is ever busy, and no request is ever open.
-    pub fn refusal(&self, halted: bool, request: Option<&Text>, job: &Job) -> Option<Refusal>
-        ensures refusal { result ≡ machine.refusal (machine_tables self.now.tables)
-            (machine.idle_state self.now.world halted)
+    pub fn refusal(&mut self, halted: bool, request: Option<&Text>, job: &Job) -> Option<Refusal>
+        ensures refusal { result ≡ machine.refusal (machine_tables self.old.tables)
+            (machine.idle_state self.old.world halted)
             (in_request (option_map (λ r. r.now) request.entry) (command_of job.now)) }
         ensures alone { result ≡ None
             → in_request (option_map (λ r. r.now) request.entry) (command_of job.now)
             ≡ command_of job.now }
+        ensures kept { self.new ≡ self.old }
     {
         if halted {
             return Some(Refusal::Halted);
@@ -80,7 +84,7 @@ impl<D: Driver> Runtime<D> {
                 if request.is_some() {
                     return Some(Refusal::NoRequest);
                 }
-                refuses_call(&self.tables, call)
+                refuses_call(self.alloc, &mut self.tables, call)
             }
         }
     }
