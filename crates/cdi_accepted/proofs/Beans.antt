@@ -1,33 +1,21 @@
--- An enabled bean of a container that is served, with its plan and the line of its class.
-use Rattle.std.proofs.Common.{ℕ, zero, suc, ◌≡◌, ◌∙◌, ◌+◌, inl, inr, Bool, true, false, cond, nat_eq, List, [], ◌∷◌, map, Option, Some, refl, sym, ap, subst, arith}
-use Rattle.std.proofs.lemmas.Bool.{and_parts, eq-eqb, eqb-true, true≢false}
+-- The enabled bean to which something resolves, with lemmas of lists side by side and of maps.
+use Rattle.std.proofs.Common.{ℕ, zero, suc, ◌≡◌, ◌∙◌, ◌+◌, inl, inr, Bool, true, false, cond, nat_eq, List, [], ◌∷◌, Option, Some, refl, sym, ap, subst, arith}
+use Rattle.std.proofs.lemmas.Bool.{eq-eqb, eqb-true, true≢false}
 use Rattle.std.proofs.lemmas.Option.{same_Some}
-use Rattle.std.specs.List.{AllZip, enumerate_from, flat_map, list_all, slice_get}
+use Rattle.std.specs.List.{AllZip, enumerate_from, slice_get}
 use Rattle.cdi_base.specs.Maps.{at}
-use Rattle.cdi_beans.specs.Beans.{IsBeanOf, Source, bean_member, sources_in}
+use Rattle.cdi_bean_check.specs.Qualifiers.{full_uses}
 use Rattle.cdi_beans.specs.declared.bean.Bean.{Bean}
-use Rattle.cdi_beans.specs.declared.bean.BeanKind.TheVariants as kinds
-use Rattle.cdi_deployment.specs.declared.deployment.Class.{Class}
-use Rattle.cdi_deployment.specs.declared.deployment.Constructor.{Constructor}
-use Rattle.cdi_deployment.specs.declared.deployment.Deployment.{Deployment}
-use Rattle.cdi_types.proofs.Lines.{one_line}
-use Rattle.cdi_types.specs.Line.{IsLineOf}
-use Rattle.cdi_types.specs.Members.{members_of}
-use Rattle.cdi_plans.specs.Plans.{IsManagedPlan, IsPlanOf, constructor_of, managed_plan}
-use Rattle.cdi_plans.specs.Tables.{PlanTables}
-use Rattle.cdi_plans.specs.declared.plan.ManagedPlan.{ManagedPlan}
-use Rattle.cdi_plans.specs.declared.plan.Plan.{Plan}
-use Rattle.cdi_plans.specs.declared.plan.Plan.TheVariants as plans
-use Rattle.cdi_quals.specs.declared.types.QualifierType.{QualifierType}
+use Rattle.cdi_machine.specs.Tables as machine
+use Rattle.cdi_machine.specs.Words.{Asked}
+use Rattle.cdi_resolve.proofs.Eligible.{one_is_eligible}
 use Rattle.cdi_resolve.specs.Filters.{enabled_of, is_enabled}
-use Rattle.cdi_run_tables.specs.Planned.{IsPlanned, IsTabled, plan_tables}
-use Rattle.cdi_run_tables.specs.Served.{is_served, is_served_bean, is_served_plan, has_texts}
-use Rattle.cdi_run_tables.specs.declared.planned.PlannedBean.{PlannedBean}
+use Rattle.cdi_resolve.specs.Resolution.{resolution}
+use Rattle.cdi_resolve.specs.declared.resolution.Resolution.{Resolution}
+use Rattle.cdi_resolve.specs.declared.resolution.Resolution.TheVariants as resolutions
+use Rattle.cdi_run_tables.specs.Machine.{machine_resolution, machine_tables, resolution_of}
 use Rattle.cdi_run_tables.specs.declared.tables.RunTables.{RunTables}
-use Rattle.cdi_resolve.specs.declared.bean_tables.BeanTables.{BeanTables}
-use Rattle.cdi_types.specs.Declarations.{declarations_of}
-use Rattle.cdi_types.specs.declared.declaration.TypeDeclaration.{TypeDeclaration}
-use Rattle.cdi_accepted.proofs.Lists.{Among, all_pass, at_among, of_filter}
+use Rattle.cdi_accepted.proofs.Lists.{Among, contains_among, of_filter}
 
 -- ---- lists side by side, and maps
 
@@ -127,75 +115,31 @@ module _ {X : Type 0} where
 
 -- ---- beans
 
--- a managed bean of the list has the members of the line of its class
-record IsManaged (d : Deployment) (b : Bean) : Type 0 where
-  line : List Class
-  is_line : IsLineOf (declarations_of d) d.classes b.class line
-  are : b.members ≡ map bean_member (members_of line)
-
-is_managed : (d : Deployment) (qualifiers : List QualifierType) (s : Source) (b : Bean) → b.kind ≡ kinds.Managed → IsBeanOf d qualifiers s b → IsManaged d b
-is_managed d qualifiers (Source.AClass c) b kind (IsBeanOf.managed uses by has with) =
-    let P : ℕ → Type 0 = λ n. IsLineOf (declarations_of d) d.classes n has.had.line in
-    record { line = has.had.line; is_line = subst P (sym by.class) has.had.is_line; are = has.are ∙ ap (map bean_member) has.had.are }
-is_managed d qualifiers (Source.AProducer c m) b kind (IsBeanOf.produced by with) = let other = with.kind_is in absurd cc
-is_managed d qualifiers (Source.AProducer c m) b kind (IsBeanOf.held by with) = let other = with.kind_is in absurd cc
-
--- the plan of a bean that is served
-record IsServedPlan (t : PlanTables) (b : Bean) (plan : Plan) : Type 0 where
-  managed : ManagedPlan
-  is : plan ≡ plans.Managed managed
-  kind : b.kind ≡ kinds.Managed
-  by : IsManagedPlan t b managed
-
-served_plan : (t : PlanTables) (b : Bean) (plan : Plan) → is_served_plan plan ≡ true → IsPlanOf t b plan → IsServedPlan t b plan
-served_plan t b (plans.Managed plan) e (IsPlanOf.managed kind is) = record { managed = plan; is = refl; kind = kind; by = is }
-served_plan t b (plans.Product plan) e (IsPlanOf.product is) = absurd (true≢false (sym e))
-
--- a bean with its plan, by the line of its class
-pub record HasPlan (t : RunTables) (b : ℕ) (listed : Bean) : Type 0 where
-  pub planned : PlannedBean
-  pub has : slice_get t.beans b ≡ Some planned
-  pub served : is_served_bean planned ≡ true
-  pub plan : ManagedPlan
-  pub is_plan : planned.plan ≡ plans.Managed plan
-  pub line : List Class
-  pub is_line : IsLineOf (declarations_of t.deployment) t.deployment.classes listed.class line
-  pub constructor : Option Constructor
-  pub is : plan ≡ managed_plan t.tables.chains constructor listed line
-  pub members : listed.members ≡ map bean_member (members_of line)
-
--- each bean of the list has a plan that is served
-pub has_plan : (t : RunTables) → IsTabled t → is_served t ≡ true → (b : ℕ) (listed : Bean) → slice_get t.tables.resolver.beans b ≡ Some listed → HasPlan t b listed
-has_plan t tabled e b listed stands =
-    let d = t.deployment in
-    let planning = plan_tables d t.tables in
-    let found = beside (IsPlanned planning) t.tables.resolver.beans t.beans b listed tabled.planned stands in
-    let served : is_served_bean found.item ≡ true =
-    all_pass is_served_bean t.beans found.item (and_parts (list_all is_served_bean t.beans) (has_texts d) e).0 (at_among t.beans b found.item found.stands) in
-    let plan = served_plan planning listed found.item.plan (and_parts _ (is_served_plan found.item.plan) served).1 found.related.plan in
-    let Q : List TypeDeclaration → Type 0 = λ types. IsLineOf types d.classes listed.class plan.by.line in
-    let is_line : IsLineOf (declarations_of d) d.classes listed.class plan.by.line = subst Q tabled.tables.are.declared.types plan.by.is_line in
-    let made = tabled.tables.made in
-    let P : BeanTables → Type 0 = λ s. Among listed s.resolver.beans in
-    let among : Among listed tabled.tables.list.beans = subst P tabled.tables.are.are (at_among t.tables.resolver.beans b listed stands) in
-    let source = before (IsBeanOf d made.qualifiers) (flat_map sources_in d.classes) tabled.tables.list.beans listed made.is.beans among in
-    let managed = is_managed d made.qualifiers source.item listed plan.kind source.related in
-    let same : managed.line ≡ plan.by.line = one_line (declarations_of d) d.classes listed.class managed.line plan.by.line managed.is_line is_line in
-    record {
-      planned = found.item;
-      has = found.stands;
-      served = served;
-      plan = plan.managed;
-      is_plan = plan.is;
-      line = plan.by.line;
-      is_line = is_line;
-      constructor = constructor_of d.classes listed.class;
-      is = plan.by.is;
-      members = managed.are ∙ ap (λ l. map bean_member (members_of l)) same;
-    }
-
 -- an enabled bean stands in the list at its index
 pub stands_listed : (t : RunTables) (b : ℕ) (listed : Bean) → Among (b, listed) (enabled_of t.tables.resolver) → slice_get t.tables.resolver.beans b ≡ Some listed
 stands_listed t b listed a =
     let beans = t.tables.resolver.beans in
     place_of beans b listed (of_filter (λ p. is_enabled t.tables.resolver.flags p.0) (enumerate_from 0 beans) (b, listed) a).0
+
+-- ---- what resolves to one bean
+
+-- the enabled bean to which something resolves
+pub record IsTarget (t : RunTables) (asked : Asked) (b : ℕ) : Type 0 where
+  pub resolves : resolution asked.type (full_uses t.tables.declared.qualifiers asked.qualifiers) (enabled_of t.tables.resolver) ≡ resolutions.One b
+  pub bean : Bean
+  pub enabled : Among (b, bean) (enabled_of t.tables.resolver)
+  pub has : at (enabled_of t.tables.resolver) b ≡ Some bean
+
+one_bean : (r : Resolution) (b : ℕ) → machine_resolution r ≡ machine.Resolution.One b → r ≡ resolutions.One b
+one_bean (resolutions.One a) b e = let same : a ≡ b = cc in ap (λ n. resolutions.One n) same
+one_bean resolutions.Nothing b e = absurd cc
+one_bean resolutions.Many b e = absurd cc
+
+pub target : (t : RunTables) (asked : Asked) (b : ℕ) → (machine_tables t).resolve asked ≡ machine.Resolution.One b → IsTarget t asked b
+target t asked b e =
+    let beans = enabled_of t.tables.resolver in
+    let uses = full_uses t.tables.declared.qualifiers asked.qualifiers in
+    let resolves : resolution asked.type uses beans ≡ resolutions.One b = one_bean (resolution_of t asked.type asked.qualifiers) b e in
+    let eligible = one_is_eligible asked.type uses beans b resolves in
+    let kept = is_kept beans b eligible.bean (contains_among beans (b, eligible.bean) eligible.stands) in
+    record { resolves = resolves; bean = kept.value; enabled = kept.stands; has = kept.has }

@@ -6,11 +6,7 @@ pub mod Members
 pub mod Fields
 pub mod Beans
 pub mod Registered
-pub mod Methods
-pub mod Acts
-pub mod Calls
 pub mod Texts
-pub mod Fitting
 pub mod DeterminedLists
 pub mod OneLine
 pub mod Types

@@ -4,11 +4,17 @@ use Rattle.std.proofs.lemmas.Bool.{true≢false, and_parts}
 use Rattle.std.proofs.lemmas.List.Elements.{All-head, All-tail}
 use Rattle.std.proofs.lemmas.Option.{same_Some}
 use Rattle.std.specs.List.{All, Contains, cons_option, enumerate_from, filter_map, find, flat_map, list_all, list_any, slice_get}
+use Rattle.cdi_ownership.specs.Whose.{IsIn}
 use Rattle.cdi_types.specs.ListsThose.{ListsThose}
 
 abbrev pub Among : {X : Type 0} → X → List X → Type 0
 Among x [] = ⊥
 Among x (y ∷ ys) = (x ≡ y) ⊎ Among x ys
+
+pub of_is_in : {X : Type 0} (x : X) (xs : List X) → IsIn x xs → Among x xs
+of_is_in x [] a = a
+of_is_in x (y ∷ ys) (inl same) = inl (sym same)
+of_is_in x (y ∷ ys) (inr a) = inr (of_is_in x ys a)
 
 pub neither : (a b : Bool) → (a || b) ≡ false → (a ≡ false) × (b ≡ false)
 neither true b e = absurd (true≢false e)

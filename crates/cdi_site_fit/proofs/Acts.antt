@@ -25,9 +25,10 @@ use Rattle.cdi_deployment.specs.declared.deployment.InjectedField.{InjectedField
 use Rattle.cdi_deployment.specs.declared.deployment.Point.{Point}
 use Rattle.cdi_machine.specs.Tables as machine
 use Rattle.cdi_machine.specs.Words.{Asked}
-use Rattle.cdi_run_tables.specs.Machine.{AreIdsOf, asked_by}
+use Rattle.cdi_run_tables.specs.Machine.{AreIdsOf, asked_by, asked_by_lookup, lookup_in, lookups_at, machine_tables}
 use Rattle.cdi_run_tables.specs.Planned.{IsTabled}
 use Rattle.cdi_run_tables.specs.Served.{has_texts}
+use Rattle.cdi_run_tables.specs.declared.tables.RunTables.{RunTables}
 use Rattle.cdi_name_check.specs.UnknownName.{is_event_qualifier_use}
 use Rattle.cdi_shape_check.specs.Application.{Application}
 use Rattle.cdi_shape_check.specs.BodyOutsideShape.{lacks_call, lacks_cell, lacks_field, lacks_local, lacks_method, names_missing, names_unknown}
@@ -37,7 +38,6 @@ use Rattle.cdi_shape_check.specs.WrittenNames.{is_concrete, is_event, is_excepti
 use Rattle.cdi_types.specs.Line.{class_named}
 use Rattle.cdi_ownership.specs.Whose.{IsIn}
 use Rattle.cdi_worlds_fit.specs.Fits.{AnswersCalls, FitsAct, HasMethod, IsThere, LeadsTo, Site}
-use Rattle.cdi_whole_tables.specs.Whole.{WholeTables, asked_by_lookup, whole_tables}
 use Rattle.cdi_accepted.proofs.Lists.{neither, none_passes, passing}
 use Rattle.cdi_accepted.proofs.Registered.{app_of}
 use Rattle.cdi_accepted.proofs.Texts.{exception_text}
@@ -121,13 +121,13 @@ listed_cell app parts params s none via h =
 -- ---- what a site has
 
 -- A site has what the check says of an own instance, of the body's parameters and of its shape.
-pub record Covers (w : WholeTables) (parts : OwnParts) (params : List Point) (s : Shape) (site : Site) : Type 0 where
+pub record Covers (t : RunTables) (parts : OwnParts) (params : List Point) (s : Shape) (site : Site) : Type 0 where
   pub sets : (field : ℕ) → parts.has_field field ≡ true → has site.fields field ≡ true
   pub owns : (name count : ℕ) → parts.has_method name count ≡ true → HasMethod site.methods name count
   pub injected : (field : ℕ) (asked : Asked) → IsIn (field, asked) site.injected → (f : InjectedField) → parts.injected field ≡ Some f → asked ≡ asked_by (point_of_field f)
   pub there : (field : ℕ) (f : InjectedField) → parts.injected field ≡ Some f → (asked : Asked) × IsIn (field, asked) site.injected
   pub points : site.points ≡ map asked_by params
-  pub shape : w.shape_at site.body ≡ Some s
+  pub lookups : lookups_at t site.body ≡ Some s.lookups
   pub chained : s.chain ≡ true → site.chained ≡ true
 
 -- a point among mapped ones
@@ -154,11 +154,11 @@ there_below (x ∷ xs) (suc k) lt = there_below xs k (omega arith)
 there_at : {X : Type 0} (xs : List X) (k : ℕ) → nat_lt k (length xs) ≡ true → (x : X) × (slice_get xs k ≡ Some x)
 there_at xs k e = there_below xs k (ltb-true k (length xs) e)
 
-module _ {X : Type 0} {F : X → Type 0} {g : _} (entries : List (Entry X F g)) (w : WholeTables) (tabled : IsTabled w.run) (ids : AreIdsOf entries w.run)
-    (sound : AreBodiesSound w.run.deployment (shape_of entries) (setting_by w.run.deployment w.run.tables)) (texts : has_texts w.run.deployment ≡ true)
-    (parts : OwnParts) (params : List Point) (s : Shape) (site : Site) (inside : names_missing (app_of w.run) parts params s ≡ false) (covers : Covers w parts params s site) where
+module _ {X : Type 0} {F : X → Type 0} {g : _} (entries : List (Entry X F g)) (t : RunTables) (tabled : IsTabled t) (ids : AreIdsOf entries t)
+    (sound : AreBodiesSound t.deployment (shape_of entries) (setting_by t.deployment t.tables)) (texts : has_texts t.deployment ≡ true)
+    (parts : OwnParts) (params : List Point) (s : Shape) (site : Site) (inside : names_missing (app_of t) parts params s ≡ false) (covers : Covers t parts params s site) where
   abbrev app : Application
-  app = app_of w.run
+  app = app_of t
 
   is_within : IsWithin app parts params s
   is_within = within app parts params s inside
@@ -166,63 +166,63 @@ module _ {X : Type 0} {F : X → Type 0} {g : _} (entries : List (Entry X F g)) 
   -- the point behind a reference, by which it isn't refused
   record IsPointed (call : MethodCall) (b : ℕ) : Type 0 where
     point : Point
-    accepted : refuses_call w.run.deployment.classes call (bean_at app point) ≡ false
-    resolves : (whole_tables w).resolve (asked_by point) ≡ machine.Resolution.One b
+    accepted : refuses_call t.deployment.classes call (bean_at app point) ≡ false
+    resolves : (machine_tables t).resolve (asked_by point) ≡ machine.Resolution.One b
 
-  lookup_at : (k : ℕ) (asked : Asked) → (whole_tables w).lookup site.body k ≡ Some asked → (l : Lookup) × (slice_get s.lookups k ≡ Some l) × (asked ≡ asked_by_lookup l)
-  lookup_at k asked e = by (slice_get s.lookups k) refl (sym (ap (λ o. option_map asked_by_lookup (option_and_then (λ (z : Shape). slice_get z.lookups k) o)) covers.shape) ∙ e)
+  lookup_at : (k : ℕ) (asked : Asked) → (machine_tables t).lookup site.body k ≡ Some asked → (l : Lookup) × (slice_get s.lookups k ≡ Some l) × (asked ≡ asked_by_lookup l)
+  lookup_at k asked e = by (slice_get s.lookups k) refl (sym (ap (λ (o : Option (List Lookup)). lookup_in o k) covers.lookups) ∙ e)
     where
       by : (o : Option Lookup) → slice_get s.lookups k ≡ o → option_map asked_by_lookup o ≡ Some asked → (l : Lookup) × (slice_get s.lookups k ≡ Some l) × (asked ≡ asked_by_lookup l)
       by None is h = absurd cc
       by (Some l) is h = (l, is, sym (same_Some (asked_by_lookup l) asked h))
 
-  behind : (via : Via) (call : MethodCall) (b : ℕ) → is_call_missing app call (point_at parts params s.lookups via) ≡ false → LeadsTo (whole_tables w) site via b → IsPointed call b
+  behind : (via : Via) (call : MethodCall) (b : ℕ) → is_call_missing app call (point_at parts params s.lookups via) ≡ false → LeadsTo (machine_tables t) site via b → IsPointed call b
   behind (vias.Field field) call b there leads = by (parts.injected field) refl there
     where
       by : (o : Option InjectedField) → parts.injected field ≡ o → is_call_missing app call (option_map point_of_field o) ≡ false → IsPointed call b
       by None is m = absurd (true≢false m)
       by (Some f) is m =
           let same = covers.injected field leads.0 leads.1 f is in
-          record { point = point_of_field f; accepted = m; resolves = ap (λ a. (whole_tables w).resolve a) (sym same) ∙ leads.2 }
+          record { point = point_of_field f; accepted = m; resolves = ap (λ a. (machine_tables t).resolve a) (sym same) ∙ leads.2 }
   behind (vias.Param k) call b there leads =
       let found = mapped_at params k leads.0 (ap (λ ps. slice_get ps k) (sym covers.points) ∙ leads.1) in
       record {
         point = found.point;
         accepted = ap (is_call_missing app call) (sym found.has) ∙ there;
-        resolves = ap (λ a. (whole_tables w).resolve a) (sym found.is) ∙ leads.2;
+        resolves = ap (λ a. (machine_tables t).resolve a) (sym found.is) ∙ leads.2;
       }
   behind (vias.Local k) call b there leads =
       let found = lookup_at k leads.0 leads.1 in
       record {
         point = point_of_lookup found.0;
         accepted = ap (λ o. is_call_missing app call (option_map point_of_lookup o)) (sym found.1) ∙ there;
-        resolves = ap (λ a. (whole_tables w).resolve a) (sym found.2) ∙ leads.2;
+        resolves = ap (λ a. (machine_tables t).resolve a) (sym found.2) ∙ leads.2;
       }
 
-  local_there : (k : ℕ) (l : Lookup) → slice_get s.lookups k ≡ Some l → IsThere (whole_tables w) site (vias.Local k)
+  local_there : (k : ℕ) (l : Lookup) → slice_get s.lookups k ≡ Some l → IsThere (machine_tables t) site (vias.Local k)
   local_there k l e = (
     asked_by_lookup l,
-    ap (λ o. option_map asked_by_lookup (option_and_then (λ (z : Shape). slice_get z.lookups k) o)) covers.shape ∙ ap (option_map asked_by_lookup) e,
+    ap (λ (o : Option (List Lookup)). lookup_in o k) covers.lookups ∙ ap (option_map asked_by_lookup) e,
   )
 
   -- what stands behind a reference for the check does so for the machine
-  is_there : (via : Via) (p : Point) → point_at parts params s.lookups via ≡ Some p → IsThere (whole_tables w) site via
+  is_there : (via : Via) (p : Point) → point_at parts params s.lookups via ≡ Some p → IsThere (machine_tables t) site via
   is_there (vias.Field field) p e = by (parts.injected field) refl e
     where
-      by : (o : Option InjectedField) → parts.injected field ≡ o → option_map point_of_field o ≡ Some p → IsThere (whole_tables w) site (vias.Field field)
+      by : (o : Option InjectedField) → parts.injected field ≡ o → option_map point_of_field o ≡ Some p → IsThere (machine_tables t) site (vias.Field field)
       by None is h = absurd cc
       by (Some f) is h = covers.there field f is
   is_there (vias.Param k) p e = (asked_by p, ap (λ ps. slice_get ps k) covers.points ∙ mapped_there params k p e)
   is_there (vias.Local k) p e = by (slice_get s.lookups k) refl e
     where
-      by : (o : Option Lookup) → slice_get s.lookups k ≡ o → option_map point_of_lookup o ≡ Some p → IsThere (whole_tables w) site (vias.Local k)
+      by : (o : Option Lookup) → slice_get s.lookups k ≡ o → option_map point_of_lookup o ≡ Some p → IsThere (machine_tables t) site (vias.Local k)
       by None is h = absurd cc
       by (Some l) is h = local_there k l is
 
-  held_there : (via : Via) → list_any (λ v. via_eq v via) s.cells ≡ true → IsThere (whole_tables w) site via
+  held_there : (via : Via) → list_any (λ v. via_eq v via) s.cells ≡ true → IsThere (machine_tables t) site via
   held_there via h = let found = listed_cell app parts params s is_within.cells via h in is_there via found.0 found.1
 
-  pub fits_act : (view : View) (a : Act) → in_shape s view a ≡ true → FitsAct (whole_tables w) site view a
+  pub fits_act : (view : View) (a : Act) → in_shape s view a ≡ true → FitsAct (machine_tables t) site view a
   fits_act view (acts.Set field v) h =
       let found = passing (λ f. nat_eq f field) s.sets h in
       let there = not-false _ (none_passes (λ name. not (parts.has_field name)) s.sets found.item is_within.sets found.stands) in
@@ -241,19 +241,19 @@ module _ {X : Type 0} {F : X → Type 0} {g : _} (entries : List (Entry X F g)) 
         is_there via stands.0 stands.1,
         λ b leads.
             let point = behind via found.call b found.there leads in
-            let P : ℕ → Type 0 = λ n. AnswersCalls (whole_tables w) b n found.call.count in
-            let Q : ℕ → Type 0 = λ n. AnswersCalls (whole_tables w) b name n in
-            subst Q found.takes (subst P found.method (answered entries w tabled ids sound point.point found.call b point.accepted point.resolves)),
+            let P : ℕ → Type 0 = λ n. AnswersCalls (machine_tables t) b n found.call.count in
+            let Q : ℕ → Type 0 = λ n. AnswersCalls (machine_tables t) b name n in
+            subst Q found.takes (subst P found.method (answered entries t tabled ids sound point.point found.call b point.accepted point.resolves)),
       )
   fits_act view (acts.Throw x) h = by (or_cases (list_any (λ y. nat_eq y x) s.throws) (is_thrown x (last_answer view)) h)
     where
-      by : (list_any (λ y. nat_eq y x) s.throws ≡ true) ⊎ (is_thrown x (last_answer view) ≡ true) → FitsAct (whole_tables w) site view (acts.Throw x)
+      by : (list_any (λ y. nat_eq y x) s.throws ≡ true) ⊎ (is_thrown x (last_answer view) ≡ true) → FitsAct (machine_tables t) site view (acts.Throw x)
       by (inr thrown) = inr thrown
       by (inl e) =
           let found = passing (λ y. nat_eq y x) s.throws e in
           let there = not-false _ (none_passes (λ y. not (is_exception app.deployment y)) s.throws found.item is_within.throws found.stands) in
           let P : ℕ → Type 0 = λ n. is_exception app.deployment n ≡ true in
-          inl (exception_text w.run.deployment texts x (subst P (eqb-true found.item x found.passes) there))
+          inl (exception_text t.deployment texts x (subst P (eqb-true found.item x found.passes) there))
   fits_act view (acts.Find k) h =
       let found = there_at s.lookups k h in
       local_there k found.0 found.1

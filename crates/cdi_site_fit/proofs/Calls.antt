@@ -18,15 +18,13 @@ use Rattle.cdi_machine.specs.Tables as machine
 use Rattle.cdi_types.specs.Line.{class_named}
 use Rattle.cdi_types.specs.Members.{members_of}
 use Rattle.cdi_resolve.specs.Filters.{enabled_of}
-use Rattle.cdi_run_tables.specs.Machine.{AreIdsOf, asked_by, bean_with}
+use Rattle.cdi_run_tables.specs.Machine.{AreIdsOf, asked_by, bean_with, machine_tables}
 use Rattle.cdi_run_tables.specs.Planned.{IsTabled}
 use Rattle.cdi_run_tables.specs.declared.tables.RunTables.{RunTables}
 use Rattle.cdi_shape_check.specs.OwnParts.{declares_method}
 use Rattle.cdi_shape_check.specs.References.{answers_call, bean_at, bean_told, declares_called, is_called, refuses_call}
 use Rattle.cdi_worlds_fit.specs.Fits.{AnswersCalls, HasMethod}
-use Rattle.cdi_whole_tables.specs.Whole.{WholeTables, whole_tables}
-use Rattle.cdi_accepted.proofs.Beans.{stands_listed}
-use Rattle.cdi_accepted.proofs.Calls.{target}
+use Rattle.cdi_accepted.proofs.Beans.{stands_listed, target}
 use Rattle.cdi_accepted.proofs.Lists.{Among, any_passes, mapped, passing}
 use Rattle.cdi_accepted.proofs.Members.{of_line}
 use Rattle.cdi_accepted.proofs.Registered.{app_of}
@@ -39,11 +37,8 @@ called_class classes call m c is e =
     let test = (and_parts (nat_eq m.name call.method) (declares_called call (class_named classes m.class)) e).1 in
     ap (declares_called call) (sym is) ∙ test
 
-module _ {X : Type 0} {F : X → Type 0} {g : _} (entries : List (Entry X F g)) (w : WholeTables) (tabled : IsTabled w.run) (ids : AreIdsOf entries w.run)
-    (sound : AreBodiesSound w.run.deployment (shape_of entries) (setting_by w.run.deployment w.run.tables)) where
-  abbrev t : RunTables
-  t = w.run
-
+module _ {X : Type 0} {F : X → Type 0} {g : _} (entries : List (Entry X F g)) (t : RunTables) (tabled : IsTabled t) (ids : AreIdsOf entries t)
+    (sound : AreBodiesSound t.deployment (shape_of entries) (setting_by t.deployment t.tables)) where
   abbrev d : Deployment
   d = t.deployment
 
@@ -62,8 +57,8 @@ module _ {X : Type 0} {F : X → Type 0} {g : _} (entries : List (Entry X F g)) 
       (any_passes (declares_method call.method call.count) plan.line class of.class (called_class d.classes call member.item class named member.passes))
 
   -- what a point resolves to, where the check didn't refuse the call
-  pub answered : (p : Point) (call : MethodCall) (b : ℕ) → refuses_call d.classes call (bean_at (app_of t) p) ≡ false → (whole_tables w).resolve (asked_by p) ≡ machine.Resolution.One b
-      → AnswersCalls (whole_tables w) b call.method call.count
+  pub answered : (p : Point) (call : MethodCall) (b : ℕ) → refuses_call d.classes call (bean_at (app_of t) p) ≡ false → (machine_tables t).resolve (asked_by p) ≡ machine.Resolution.One b
+      → AnswersCalls (machine_tables t) b call.method call.count
   answered p call b there resolves =
       let it = target t (asked_by p) b resolves in
       let told : refuses_call d.classes call (Some it.bean) ≡ false =

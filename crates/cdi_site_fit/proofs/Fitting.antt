@@ -17,25 +17,23 @@ use Rattle.cdi_plans.specs.Plans.{IsPlanOf}
 use Rattle.cdi_plans.specs.Tables.{PlanTables}
 use Rattle.cdi_plans.specs.declared.plan.Plan.{Plan}
 use Rattle.cdi_plans.specs.declared.plan.Plan.TheVariants as plans
-use Rattle.cdi_run_tables.specs.Machine.{bean_with, id_of, machine_bean, machine_kind, managed_bean, product_with}
+use Rattle.cdi_run_tables.specs.Machine.{bean_with, id_of, machine_bean, machine_kind, machine_tables, managed_bean, product_with}
 use Rattle.cdi_run_tables.specs.Planned.{IsPlanned, plan_tables}
 use Rattle.cdi_run_tables.specs.declared.planned.PlannedBean.{PlannedBean}
 use Rattle.cdi_run_tables.specs.declared.tables.RunTables.{RunTables}
 use Rattle.cdi_worlds_fit.specs.Fits.{FitsClass}
-use Rattle.cdi_whole_tables.specs.Whole.{WholeTables, whole_tables}
-use Rattle.cdi_accepted.proofs.Beans.{beside, stands_listed}
-use Rattle.cdi_accepted.proofs.Calls.{target}
+use Rattle.cdi_accepted.proofs.Beans.{beside, stands_listed, target}
 use Rattle.cdi_site_fit.proofs.Methods.{known, managed}
 use Rattle.cdi_site_fit.proofs.Plans.{has_plan}
 use Rattle.cdi_site_fit.proofs.Ready.{class_fits}
-use Rattle.cdi_site_fit.specs.Accepted.{IsAcceptedWhole, ManagedFit}
+use Rattle.cdi_site_fit.specs.Accepted.{IsFaultless, ManagedFit}
 
-pub sound : {X : Type 0} {F : X → Type 0} {g : _} (entries : List (Entry X F g)) (w : WholeTables) → IsAcceptedWhole entries w → AreBodiesSound w.run.deployment (shape_of entries) (setting_by w.run.deployment w.run.tables)
-sound entries w a =
+pub sound : {X : Type 0} {F : X → Type 0} {g : _} (entries : List (Entry X F g)) (t : RunTables) → IsFaultless entries t → AreBodiesSound t.deployment (shape_of entries) (setting_by t.deployment t.tables)
+sound entries t a =
     let problems = a.problems in
     let all = append_none (problems.of_bodies ++ problems.of_points) problems.of_enabled problems.are in
     let two = append_none problems.of_bodies problems.of_points all.0 in
-    bodies_sound w.run.deployment (shape_of entries) (setting_by w.run.deployment w.run.tables) problems.of_bodies two.0 problems.are_of_bodies
+    bodies_sound t.deployment (shape_of entries) (setting_by t.deployment t.tables) problems.of_bodies two.0 problems.are_of_bodies
 
 -- what the machine has as a class is a managed bean
 pub class_is_managed : (t : RunTables) (planning : PlanTables) (listed : Bean) (planned : PlannedBean) (plan : Plan) → IsPlanOf planning listed plan → (bean : machine.Bean) (c : machine.Managed)
@@ -54,19 +52,17 @@ pub same_class : (x y : machine.Managed) → machine.Kind.Class x ≡ machine.Ki
 same_class x y e = cc
 
 pub managed_fit : {X : Type 0} {F : X → Type 0} {g : _} (entries : List (Entry X F g)) → LieInShape entries → ManagedFit entries
-managed_fit entries lies w a asked b resolves bean known_bean c kind_is =
-    let t = w.run in
-    let whole = a.whole in
-    let bodies = sound entries w a in
+managed_fit entries lies t a asked b resolves bean known_bean c kind_is =
+    let bodies = sound entries t a in
     let it = target t asked b resolves in
     let stands = stands_listed t b it.bean it.enabled in
-    let found = beside (IsPlanned (plan_tables t.deployment t.tables)) t.tables.resolver.beans t.beans b it.bean whole.tabled.planned stands in
+    let found = beside (IsPlanned (plan_tables t.deployment t.tables)) t.tables.resolver.beans t.beans b it.bean a.tabled.planned stands in
     let has : option_map (bean_with found.item) (machine_kind (id_of t) t.tables.resolver.beans found.item.plan) ≡ Some bean =
     sym (ap (option_and_then (machine_bean (id_of t) t.tables.resolver.beans)) found.stands) ∙ known_bean in
     let kind = class_is_managed t (plan_tables t.deployment t.tables) it.bean found.item found.item.plan found.related.plan bean c has kind_is in
-    let plan = has_plan t whole.tabled b it.bean stands kind in
-    let own : machine.Managed = managed entries t whole.tabled a.ids bodies b it.bean it.enabled plan in
-    let one : bean_with plan.planned (machine.Kind.Class own) ≡ bean = same_Some (bean_with plan.planned (machine.Kind.Class own)) bean (sym (known entries t whole.tabled a.ids bodies b it.bean it.enabled plan) ∙ known_bean) in
+    let plan = has_plan t a.tabled b it.bean stands kind in
+    let own : machine.Managed = managed entries t a.tabled a.ids bodies b it.bean it.enabled plan in
+    let one : bean_with plan.planned (machine.Kind.Class own) ≡ bean = same_Some (bean_with plan.planned (machine.Kind.Class own)) bean (sym (known entries t a.tabled a.ids bodies b it.bean it.enabled plan) ∙ known_bean) in
     let same : own ≡ c = same_class own c (ap (λ (x : machine.Bean). x.kind) one ∙ kind_is) in
-    let P : machine.Managed → Type 0 = λ m. FitsClass (whole_tables w) (legal_of entries) m in
-    subst P same (class_fits entries lies w whole a.ids bodies a.texts b it.bean it.enabled plan (ap is_managed kind))
+    let P : machine.Managed → Type 0 = λ m. FitsClass (machine_tables t) (legal_of entries) m in
+    subst P same (class_fits entries lies t a.tabled a.lookups a.ids bodies a.texts b it.bean it.enabled plan (ap is_managed kind))

@@ -7,7 +7,7 @@ use Rattle.cdi_base.specs.declared.place.InterceptorMethod.{InterceptorMethod}
 use Rattle.cdi_base.specs.declared.place.InterceptorMethod.TheVariants as methods
 use Rattle.cdi_beans.specs.Interceptors.{Indexed, IsEnabledInterceptor, has_priority, listed}
 use Rattle.cdi_beans.specs.declared.bean.EnabledInterceptor.{EnabledInterceptor}
-use Rattle.cdi_bodies.specs.Gives.{LieInShape}
+use Rattle.cdi_bodies.specs.Gives.{LieInShape, lookups_of}
 use Rattle.cdi_bodies.specs.declared.entry.Entry.{Entry}
 use Rattle.cdi_body_check.specs.Shapes.{shape_of}
 use Rattle.cdi_body_check.specs.Sites.{Site, method_body}
@@ -21,7 +21,7 @@ use Rattle.cdi_deployment.specs.declared.deployment.Interceptor.{Interceptor}
 use Rattle.cdi_machine.specs.Registered.{legal_of}
 use Rattle.cdi_machine.specs.Tables as machine
 use Rattle.cdi_machine.specs.Words.{Asked}
-use Rattle.cdi_run_tables.specs.Machine.{AreIdsOf, asked_by, body_number, id_of}
+use Rattle.cdi_run_tables.specs.Machine.{AreIdsOf, asked_by, body_number, id_of, injection, machine_interceptor, machine_tables}
 use Rattle.cdi_run_tables.specs.Planned.{IsTabled}
 use Rattle.cdi_run_tables.specs.Served.{has_texts}
 use Rattle.cdi_run_tables.specs.declared.tables.RunTables.{RunTables}
@@ -30,14 +30,12 @@ use Rattle.cdi_shape_check.specs.References.{point_of_field}
 use Rattle.cdi_resolve.specs.declared.bean_tables.BeanTables.{BeanTables}
 use Rattle.cdi_ownership.specs.Whose.{IsIn}
 use Rattle.cdi_worlds_fit.specs.Fits.{FitsBody, FitsRole, IsThereInterceptor, interceptor_site}
-use Rattle.cdi_whole_tables.specs.Whole.{AreWhole, WholeTables, injection, machine_interceptor, whole_tables}
 use Rattle.cdi_accepted.proofs.Beans.{before, place_of}
-use Rattle.cdi_accepted.proofs.Calls.{of_is_in}
-use Rattle.cdi_accepted.proofs.Lists.{Among, among_contains, among_map, among_parts, at_among, contains_among, found_among, given, mapped, of_filter}
+use Rattle.cdi_accepted.proofs.Lists.{Among, among_contains, among_map, among_parts, at_among, contains_among, found_among, given, mapped, of_filter, of_is_in}
 use Rattle.cdi_site_fit.proofs.Apart.{field_has, named_apart}
 use Rattle.cdi_site_fit.proofs.Bodies.{registered}
 use Rattle.cdi_site_fit.proofs.Live.{method_live, method_stands}
-use Rattle.cdi_site_fit.proofs.Sites.{fits_body, shape_there}
+use Rattle.cdi_site_fit.proofs.Sites.{fits_body, lookups_there}
 
 to_is_in : {X : Type 0} (x : X) (xs : List X) → Among x xs → IsIn x xs
 to_is_in x [] a = a
@@ -86,23 +84,20 @@ declared t tabled e stands =
     of_role methods.PostConstruct p e is = is.post
     of_role methods.PreDestroy p e is = is.pre
 
-module _ {X : Type 0} {F : X → Type 0} {g : _} (entries : List (Entry X F g)) (lies : LieInShape entries) (w : WholeTables) (whole : AreWhole entries w) (ids : AreIdsOf entries w.run)
-    (sound : AreBodiesSound w.run.deployment (shape_of entries) (setting_by w.run.deployment w.run.tables)) (texts : has_texts w.run.deployment ≡ true) where
-  abbrev t : RunTables
-  t = w.run
-
+module _ {X : Type 0} {F : X → Type 0} {g : _} (entries : List (Entry X F g)) (lies : LieInShape entries) (t : RunTables) (tabled : IsTabled t) (lookups : t.lookups ≡ lookups_of entries) (ids : AreIdsOf entries t)
+    (sound : AreBodiesSound t.deployment (shape_of entries) (setting_by t.deployment t.tables)) (texts : has_texts t.deployment ≡ true) where
   abbrev d : Deployment
   d = t.deployment
 
   module _ (i : ℕ) (e : EnabledInterceptor) (enabled : slice_get t.tables.chains.interceptors i ≡ Some e) where
     pub of : IsDeclared d e
-    of = declared t whole.tabled e (at_among t.tables.chains.interceptors i e enabled)
+    of = declared t tabled e (at_among t.tables.chains.interceptors i e enabled)
 
     abbrev pub own : machine.Interceptor
     own = machine_interceptor (id_of t) of.interceptor
 
     -- the interceptor as the machine has it
-    pub known_interceptor : (whole_tables w).interceptor i ≡ Some own
+    pub known_interceptor : (machine_tables t).interceptor i ≡ Some own
     known_interceptor =
         ap (λ o. option_map (machine_interceptor (id_of t)) (option_and_then (λ (j : EnabledInterceptor). slice_get d.interceptors j.index) o)) enabled
         ∙ ap (option_map (machine_interceptor (id_of t))) of.has
@@ -116,7 +111,7 @@ module _ {X : Type 0} {F : X → Type 0} {g : _} (entries : List (Entry X F g)) 
         let found = mapped injection j.inject (field, asked) (of_is_in (field, asked) (map injection j.inject) a) in
         let first = found_among (λ (k : InjectedField). nat_eq k.name field) j.inject f is in
         let name : field ≡ found.item.name = ap (λ (q : ℕ × Asked). q.0) found.is in
-        let one : found.item ≡ f = named_apart d whole.tabled.tables.made.names_well j stands found.item f found.stands first.0 (sym name ∙ sym (eqb-true f.name field first.1)) in
+        let one : found.item ≡ f = named_apart d tabled.tables.made.names_well j stands found.item f found.stands first.0 (sym name ∙ sym (eqb-true f.name field first.1)) in
         ap (λ (q : ℕ × Asked). q.1) found.is ∙ ap (λ k. asked_by (point_of_field k)) one
 
     injects_it : (field : ℕ) (f : InjectedField) → (parts_of_interceptor of.interceptor).injected field ≡ Some f → (asked : Asked) × IsIn (field, asked) own.injected
@@ -127,30 +122,30 @@ module _ {X : Type 0} {F : X → Type 0} {g : _} (entries : List (Entry X F g)) 
         (asked_by (point_of_field f), subst P (eqb-true f.name field first.1) (to_is_in (injection f) (map injection j.inject) (among_map injection j.inject f first.0)))
 
     -- whatever the body of one of its methods gives fits
-    pub method_fits : (role : InterceptorMethod) (body : ℕ) → method_body of.interceptor role ≡ Some body → FitsBody (whole_tables w) (legal_of entries) (interceptor_site own (body_number (id_of t) body))
+    pub method_fits : (role : InterceptorMethod) (body : ℕ) → method_body of.interceptor role ≡ Some body → FitsBody (machine_tables t) (legal_of entries) (interceptor_site own (body_number (id_of t) body))
     method_fits role body is =
         let j = of.interceptor in
         let s = Site.AnInterceptorMethod j role body in
         let there = method_stands d j role body is stands in
         let live = method_live t i j e role body (at_among t.tables.chains.interceptors i e enabled) of.name in
         let shape = (registered entries t ids sound s there live).shape in
-        fits_body entries lies w whole ids sound texts s there live (parts_of_interceptor j) refl (interceptor_site own (body_number (id_of t) body)) refl
+        fits_body entries lies t tabled lookups ids sound texts s there live (parts_of_interceptor j) refl (interceptor_site own (body_number (id_of t) body)) refl
         (record {
           sets = λ field h. field_has j.fields field h;
           owns = λ name count h. absurd (true≢false (sym h));
           injected = point_of;
           there = injects_it;
           points = refl;
-          shape = shape_there entries lies w whole ids sound texts s there live;
+          lookups = lookups_there entries lies t tabled lookups ids sound texts s there live;
           chained = λ c. refl;
         })
 
     -- it is in the tables
-    pub there_interceptor : IsThereInterceptor (whole_tables w) i
+    pub there_interceptor : IsThereInterceptor (machine_tables t) i
     there_interceptor = (own, known_interceptor)
 
   -- what has a role has it in the tables
-  pub role_fits : (i : ℕ) (role : InterceptorMethod) → HasRole t.tables.chains i role → FitsRole (whole_tables w) (legal_of entries) i role
+  pub role_fits : (i : ℕ) (role : InterceptorMethod) → HasRole t.tables.chains i role → FitsRole (machine_tables t) (legal_of entries) i role
   role_fits i role r =
       let e = r.interceptor in
       let one : IsDeclared d e = of i e r.enabled in

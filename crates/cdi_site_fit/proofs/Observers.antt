@@ -1,5 +1,5 @@
 -- The observers of enabled beans fit.
-use Rattle.std.proofs.Common.{ℕ, zero, suc, ◌≡◌, ◌<◌, ◌∙◌, ◌+◌, ◌⊎◌, ◌&&◌, inl, inr, Bool, true, false, cond, nat_eq, List, [], ◌∷◌, ◌++◌, map, filter, length, get_or, Option, Some, None, refl, sym, ap, subst, arith}
+use Rattle.std.proofs.Common.{ℕ, zero, suc, ◌≡◌, ◌<◌, ◌∙◌, ◌+◌, ◌⊎◌, ◌&&◌, not, inl, inr, Bool, true, false, cond, nat_eq, List, [], ◌∷◌, ◌++◌, map, filter, length, get_or, Option, Some, None, refl, sym, ap, subst, arith}
 use Rattle.std.specs.Prelude.{int_lt, option_and_then, option_map, position, slice_get, if◌then◌else◌}
 use Rattle.std.specs.Ordering.{int_eq}
 use Rattle.std.proofs.lemmas.Bool.{and_parts, eqb-true}
@@ -12,7 +12,7 @@ use Rattle.cdi_bean_check.specs.ManagedBeans.{is_bean}
 use Rattle.cdi_beans.specs.ObserverMethods.{AreObserversOf, IsObserverOf, observer}
 use Rattle.cdi_beans.specs.declared.bean.Bean.{Bean}
 use Rattle.cdi_beans.specs.declared.bean.ObserverMethod.{ObserverMethod}
-use Rattle.cdi_bodies.specs.Gives.{LieInShape}
+use Rattle.cdi_bodies.specs.Gives.{LieInShape, lookups_of}
 use Rattle.cdi_bodies.specs.declared.entry.Entry.{Entry}
 use Rattle.cdi_body_check.specs.Shapes.{shape_of}
 use Rattle.cdi_check.specs.Accepted.{AreBodiesSound}
@@ -33,14 +33,15 @@ use Rattle.cdi_types.specs.Members.{members_of}
 use Rattle.cdi_plans.specs.Codes.{injected_method}
 use Rattle.cdi_plans.specs.Observers.{as_observer, observer_in, observer_named, observer_of}
 use Rattle.cdi_quals.specs.declared.types.QualifierType.{QualifierType}
+use Rattle.cdi_resolve.specs.declared.bean_tables.BeanTables.{BeanTables}
 use Rattle.cdi_resolve.specs.Filters.{enabled_of, is_enabled}
-use Rattle.cdi_run_tables.specs.Machine.{AreIdsOf, bean_with, id_of, machine_member, managed_bean}
+use Rattle.cdi_run_tables.specs.Machine.{AreIdsOf, bean_with, has_none, hearers, id_of, machine_member, machine_observer, machine_tables, managed_bean, observer_of_bean, observer_with, observers_of}
+use Rattle.cdi_run_tables.specs.Planned.{IsTabled}
 use Rattle.cdi_run_tables.specs.Served.{has_texts}
 use Rattle.cdi_run_tables.specs.declared.tables.RunTables.{RunTables}
 use Rattle.cdi_types.specs.Declarations.{declarations_of}
 use Rattle.cdi_worlds_fit.specs.Fits.{FitsManaged, FitsMember, FitsObserver}
-use Rattle.cdi_whole_tables.specs.Events.{Group, groups_of, new_group, with_observer}
-use Rattle.cdi_whole_tables.specs.Whole.{AreWhole, WholeTables, has_some, hearers, machine_observer, observer_of_bean, observer_with, observers_of, whole_tables}
+use Rattle.cdi_run_tables.specs.Events.{Group, groups_of, new_group, with_observer}
 use Rattle.cdi_accepted.proofs.Lists.{Among, among_filter, found_among, given, mapped, of_filter}
 use Rattle.cdi_accepted.proofs.Members.{IsOfLine, of_line}
 use Rattle.cdi_site_fit.proofs.Methods.{apart, front, known, managed}
@@ -177,16 +178,13 @@ numbered_at {A} first (y ∷ ys) (suc i) x e =
     let one : (first + 1) + i ≡ first + suc i = omega arith in
     inr (subst (λ (n : ℕ). Among (n, x) (enumerate_from (first + 1) ys)) one (numbered_at (first + 1) ys i x e))
 
-module _ {X : Type 0} {F : X → Type 0} {g : _} (entries : List (Entry X F g)) (lies : LieInShape entries) (w : WholeTables) (whole : AreWhole entries w) (ids : AreIdsOf entries w.run)
-    (sound : AreBodiesSound w.run.deployment (shape_of entries) (setting_by w.run.deployment w.run.tables)) (texts : has_texts w.run.deployment ≡ true) where
-  abbrev t : RunTables
-  t = w.run
-
+module _ {X : Type 0} {F : X → Type 0} {g : _} (entries : List (Entry X F g)) (lies : LieInShape entries) (t : RunTables) (tabled : IsTabled t) (lookups : t.lookups ≡ lookups_of entries) (ids : AreIdsOf entries t)
+    (sound : AreBodiesSound t.deployment (shape_of entries) (setting_by t.deployment t.tables)) (texts : has_texts t.deployment ≡ true) where
   abbrev d : Deployment
   d = t.deployment
 
   abbrev T : machine.Tables
-  T = whole_tables w
+  T = machine_tables t
 
   abbrev L : Legal
   L = legal_of entries
@@ -212,22 +210,22 @@ module _ {X : Type 0} {F : X → Type 0} {g : _} (entries : List (Entry X F g)) 
         enabled = among_filter (λ p. is_enabled t.tables.resolver.flags p.0) (enumerate_from 0 beans) (n, found.item) placed on;
         kind = kind;
         of_class = eqb-true found.item.class class both.1;
-        plan = has_plan t whole.tabled n found.item found.has (kind_of found.item.kind kind);
+        plan = has_plan t tabled n found.item found.has (kind_of found.item.kind kind);
       }
 
-  pub class_at : (n class : ℕ) (at : IsManagedAt n class) → FitsManaged T L n (managed entries t whole.tabled ids sound n at.listed at.enabled at.plan)
+  pub class_at : (n class : ℕ) (at : IsManagedAt n class) → FitsManaged T L n (managed entries t tabled ids sound n at.listed at.enabled at.plan)
   class_at n class at =
       record {
         is =
             record {
-              bean = bean_with at.plan.planned (machine.Kind.Class (managed entries t whole.tabled ids sound n at.listed at.enabled at.plan));
-              known = known entries t whole.tabled ids sound n at.listed at.enabled at.plan;
+              bean = bean_with at.plan.planned (machine.Kind.Class (managed entries t tabled ids sound n at.listed at.enabled at.plan));
+              known = known entries t tabled ids sound n at.listed at.enabled at.plan;
               is = refl;
             };
-        fits = class_fits entries lies w whole ids sound texts n at.listed at.enabled at.plan at.kind;
+        fits = class_fits entries lies t tabled lookups ids sound texts n at.listed at.enabled at.plan at.kind;
       }
 
-  module _ (o : ObserverMethod) (n : ℕ) (at : IsManagedAt n o.bean) (inside : IsObserverIn d whole.tabled.tables.made.qualifiers o) where
+  module _ (o : ObserverMethod) (n : ℕ) (at : IsManagedAt n o.bean) (inside : IsObserverIn d tabled.tables.made.qualifiers o) where
     -- it stands among the members of the bean
     stands : Among (inside.declared.0, members.Observer inside.declared.1) (members_of at.plan.line)
     stands =
@@ -249,7 +247,7 @@ module _ {X : Type 0} {F : X → Type 0} {g : _} (entries : List (Entry X F g)) 
         at_class : observer_of d.classes o ≡ observer_in o.name inside.declared.0
         at_class =
             ap (λ (k : ℕ). option_and_then (observer_in o.name) (class_named d.classes k)) inside.is.of_class
-            ∙ ap (option_and_then (observer_in o.name)) (front entries t whole.tabled ids sound n at.listed at.enabled at.plan inside.declared.0 of.class).named
+            ∙ ap (option_and_then (observer_in o.name)) (front entries t tabled ids sound n at.listed at.enabled at.plan inside.declared.0 of.class).named
 
         by : (k : Option Observer) → observer_named o.name inside.declared.0.members ≡ k → option_map (λ (x : Observer). (inside.declared.0, x)) k ≡ Some found → found ≡ inside.declared
         by None is h = absurd cc
@@ -259,7 +257,7 @@ module _ {X : Type 0} {F : X → Type 0} {g : _} (entries : List (Entry X F g)) 
             let P : Member → Type 0 = λ m. Among m inside.declared.0.members in
             let there : Among (members.Observer x) inside.declared.0.members = subst P (of_as_observer member.item x member.is) member.stands in
             let name : x.name ≡ inside.declared.1.name = eqb-true x.name o.name first.1 ∙ inside.is.name in
-            let one = (apart entries t whole.tabled ids sound n at.listed at.enabled at.plan inside.declared.0 of.class).members (members.Observer x) (members.Observer inside.declared.1) there of.member name in
+            let one = (apart entries t tabled ids sound n at.listed at.enabled at.plan inside.declared.0 of.class).members (members.Observer x) (members.Observer inside.declared.1) there of.member name in
             let same : x ≡ inside.declared.1 = same_observer x inside.declared.1 one in
             sym (same_Some (inside.declared.0, x) found h) ∙ ap (λ (k : Observer). (inside.declared.0, k)) same
           where
@@ -268,21 +266,22 @@ module _ {X : Type 0} {F : X → Type 0} {g : _} (entries : List (Entry X F g)) 
 
     observer_at : (found : Class × Observer) → observer_of d.classes o ≡ Some found → FitsObserver T L (observer_with t o n found)
     observer_at found e =
-        let own = managed entries t whole.tabled ids sound n at.listed at.enabled at.plan in
+        let own = managed entries t tabled ids sound n at.listed at.enabled at.plan in
         let c = inside.declared.0 in
         let x = inside.declared.1 in
-        let fit = member_is_fit entries lies w whole ids sound texts n at.listed at.enabled at.plan c (members.Observer x) x.body refl stands in
+        let fit = member_is_fit entries lies t tabled lookups ids sound texts n at.listed at.enabled at.plan c (members.Observer x) x.body refl stands in
         let P : ℕ → Type 0 = λ k. FitsMember T L own (machine_member (id_of t) (injected_method t.tables.chains k c x.name x.body x.params)) in
         let Q : Class × Observer → Type 0 = λ p. FitsObserver T L (observer_with t o n p) in
         subst Q (sym (declared_is found e)) (record { class = own; observes = class_at n o.bean at; member = subst P at.of_class fit })
 
-  one_observer : (o : ObserverMethod) → Among o w.observers → (x : machine.Observer) → machine_observer t o ≡ Some x → FitsObserver T L x
+  one_observer : (o : ObserverMethod) → Among o t.tables.observers → (x : machine.Observer) → machine_observer t o ≡ Some x → FitsObserver T L x
   one_observer o stands x e = by (managed_bean t.tables.resolver.beans o.bean) refl e
     where
-      inside : IsObserverIn d whole.tabled.tables.made.qualifiers o
+      inside : IsObserverIn d tabled.tables.made.qualifiers o
       inside =
           let P : List ObserverMethod → Type 0 = λ os. Among o os in
-          observer_in_list d whole.tabled.tables.made.qualifiers (filter is_bean d.classes) whole.tabled.tables.list.observers whole.tabled.tables.made.is.observers o (subst P whole.observers stands)
+          let observers_are : t.tables.observers ≡ tabled.tables.list.observers = ap (λ (s : BeanTables). s.observers) tabled.tables.are.are in
+          observer_in_list d tabled.tables.made.qualifiers (filter is_bean d.classes) tabled.tables.list.observers tabled.tables.made.is.observers o (subst P observers_are stands)
 
       found : (n : ℕ) → IsManagedAt n o.bean → (k : Option (Class × Observer)) → observer_of d.classes o ≡ k → option_map (observer_with t o n) k ≡ Some x → FitsObserver T L x
       found n at None is h = absurd cc
@@ -297,17 +296,17 @@ module _ {X : Type 0} {F : X → Type 0} {g : _} (entries : List (Entry X F g)) 
       by None is h = absurd cc
       by (Some n) is h = enabled n is (is_enabled t.tables.resolver.flags n) refl h
 
-  pub observed : (class : Name) (qualifiers : List Use) → AllByRecursion (AllByRecursion (FitsObserver T L)) (observers_of w class qualifiers)
+  pub observed : (class : Name) (qualifiers : List Use) → AllByRecursion (AllByRecursion (FitsObserver T L)) (observers_of t class qualifiers)
   observed class qualifiers =
-      all_of (AllByRecursion (FitsObserver T L)) (observers_of w class qualifiers) (λ xs a. in_group xs a)
+      all_of (AllByRecursion (FitsObserver T L)) (observers_of t class qualifiers) (λ xs a. in_group xs a)
     where
-      in_group : (xs : List machine.Observer) → Among xs (observers_of w class qualifiers) → AllByRecursion (FitsObserver T L) xs
+      in_group : (xs : List machine.Observer) → Among xs (observers_of t class qualifiers) → AllByRecursion (FitsObserver T L) xs
       in_group xs a =
-          let kept = of_filter has_some (map (λ (g : Group). filter_map (machine_observer t) g.observers) (groups_of (hearers w class qualifiers))) xs a in
-          let group = mapped (λ (g : Group). filter_map (machine_observer t) g.observers) (groups_of (hearers w class qualifiers)) xs kept.0 in
+          let kept = of_filter (λ group. not (has_none group)) (map (λ (g : Group). filter_map (machine_observer t) g.observers) (groups_of (hearers t class qualifiers))) xs a in
+          let group = mapped (λ (g : Group). filter_map (machine_observer t) g.observers) (groups_of (hearers t class qualifiers)) xs kept.0 in
           all_of (FitsObserver T L) xs
           (λ x b.
           let P : List machine.Observer → Type 0 = λ l. Among x l in
           let from = given (machine_observer t) group.item.observers x (subst P group.is b) in
-          let there = in_groups (hearers w class qualifiers) group.item from.item group.stands from.stands in
-          one_observer from.item (of_filter _ w.observers from.item there).0 x from.is)
+          let there = in_groups (hearers t class qualifiers) group.item from.item group.stands from.stands in
+          one_observer from.item (of_filter _ t.tables.observers from.item there).0 x from.is)

@@ -20,10 +20,9 @@ use Rattle.cdi_run_tables.specs.Machine.{machine_code}
 use Rattle.cdi_types.specs.Line.{class_named}
 use Rattle.cdi_types.specs.Members.{comes_down, declares, is_inherited, members_of, parts_of}
 use Rattle.cdi_ownership.specs.Whose.{IsIn}
-use Rattle.cdi_accepted.proofs.Calls.{of_is_in}
 use Rattle.cdi_accepted.proofs.Duplicates.{OnceBy, is_free, members_once}
 use Rattle.cdi_accepted.proofs.Lines.{is_listed}
-use Rattle.cdi_accepted.proofs.Lists.{Among, any_passes, given, mapped, of_filter}
+use Rattle.cdi_accepted.proofs.Lists.{Among, any_passes, given, mapped, of_filter, of_is_in}
 use Rattle.cdi_accepted.proofs.Members.{of_line}
 use Rattle.cdi_site_fit.proofs.Places.{of_pre_destroy}
 use Rattle.cdi_site_fit.proofs.Planned.{placed}

@@ -38,7 +38,7 @@ use Rattle.cdi_plans.specs.declared.plan.Source.TheVariants as sources
 use Rattle.cdi_plans.specs.declared.plan.Step.{Step}
 use Rattle.cdi_plans.specs.declared.plan.Step.TheVariants as steps
 use Rattle.cdi_resolve.specs.Filters.{is_enabled}
-use Rattle.cdi_run_tables.specs.Machine.{bean_at, bean_with, does_something, id_of, machine_bean, machine_code, machine_kind, machine_managed, machine_member, machine_method, machine_methods, machine_source, machine_step, machine_steps, managed_bean, method_with, product_with}
+use Rattle.cdi_run_tables.specs.Machine.{bean_at, bean_with, does_something, id_of, machine_bean, machine_code, machine_kind, machine_managed, machine_member, machine_method, machine_methods, machine_observer, machine_source, machine_step, machine_steps, managed_bean, method_with, observer_of_bean, observer_with, product_with}
 use Rattle.cdi_run_tables.specs.Planned.{IsPlanned, IsTabled, plan_tables}
 use Rattle.cdi_run_tables.specs.declared.planned.PlannedBean.{PlannedBean}
 use Rattle.cdi_run_tables.specs.declared.tables.RunTables.{RunTables}
@@ -47,12 +47,10 @@ use Rattle.cdi_types.specs.Line.{IsLineOf, class_named}
 use Rattle.cdi_types.specs.Members.{comes_down, members_of, parts_of}
 use Rattle.cdi_ownership.specs.Whose.{IsIn}
 use Rattle.cdi_ledger.specs.Callbacks.{codes_in}
-use Rattle.cdi_whole_tables.specs.Whole.{machine_observer, observer_of_bean, observer_with}
 use Rattle.cdi_accepted.proofs.Beans.{kept_at}
-use Rattle.cdi_accepted.proofs.Calls.{of_is_in}
 use Rattle.cdi_accepted.proofs.Duplicates.{named_apart}
 use Rattle.cdi_accepted.proofs.Lines.{front_of, is_listed, is_of_name}
-use Rattle.cdi_accepted.proofs.Lists.{Among, among_parts, found_among, given, mapped, of_filter}
+use Rattle.cdi_accepted.proofs.Lists.{Among, among_parts, found_among, given, mapped, of_filter, of_is_in}
 use Rattle.cdi_accepted.proofs.Members.{of_line}
 use Rattle.cdi_site_fit.proofs.Fitting.{class_is_managed, same_class}
 use Rattle.cdi_site_fit.proofs.Observers.{of_as_observer}

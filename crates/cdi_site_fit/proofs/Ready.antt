@@ -9,7 +9,7 @@ use Rattle.cdi_base.specs.declared.place.InterceptorMethod.TheVariants as roles
 use Rattle.cdi_beans.specs.Beans.{bean_member}
 use Rattle.cdi_beans.specs.declared.bean.Bean.{Bean}
 use Rattle.cdi_beans.specs.declared.bean.BeanMember.{BeanMember}
-use Rattle.cdi_bodies.specs.Gives.{LieInShape}
+use Rattle.cdi_bodies.specs.Gives.{LieInShape, lookups_of}
 use Rattle.cdi_bodies.specs.declared.entry.Entry.{Entry}
 use Rattle.cdi_body_check.specs.Shapes.{shape_of}
 use Rattle.cdi_body_check.specs.Sites.{member_body}
@@ -40,12 +40,12 @@ use Rattle.cdi_plans.specs.declared.plan.ManagedPlan.{ManagedPlan}
 use Rattle.cdi_plans.specs.declared.plan.Step.{Step}
 use Rattle.cdi_plans.specs.declared.plan.Step.TheVariants as steps
 use Rattle.cdi_resolve.specs.Filters.{enabled_of}
-use Rattle.cdi_run_tables.specs.Machine.{AreIdsOf, asked_by, body_number, does_something, id_of, machine_code, machine_lifecycle, machine_member, machine_step, machine_steps}
+use Rattle.cdi_run_tables.specs.Machine.{AreIdsOf, asked_by, body_number, does_something, id_of, machine_code, machine_lifecycle, machine_member, machine_step, machine_steps, machine_tables}
+use Rattle.cdi_run_tables.specs.Planned.{IsTabled}
 use Rattle.cdi_run_tables.specs.Served.{has_texts}
 use Rattle.cdi_run_tables.specs.declared.tables.RunTables.{RunTables}
 use Rattle.cdi_ownership.specs.Whose.{IsIn}
 use Rattle.cdi_worlds_fit.specs.Fits.{FitsBody, FitsChain, FitsClass, FitsLifecycle, FitsMember, FitsMethod, FitsRole, FitsStep, FitsSteps, IsThereInterceptor, class_site, intercepted_by, ready_after}
-use Rattle.cdi_whole_tables.specs.Whole.{AreWhole, WholeTables, whole_tables}
 use Rattle.cdi_accepted.proofs.Lists.{Among, among_left, among_map, among_parts, among_right, given, mapped}
 use Rattle.cdi_site_fit.proofs.Interceptors.{role_fits, there_interceptor}
 use Rattle.cdi_site_fit.proofs.Methods.{managed, method_of_plan}
@@ -129,23 +129,20 @@ of_injections (c ∷ below) s a = by (of_injections below s) (among_parts (class
     by more (inl x) = in_class (among_parts (map injection c.inject) (filter_map initialization own) s x)
     by more (inr x) = from_more own (members_of below) s (more x)
 
-module _ {X : Type 0} {F : X → Type 0} {g : _} (entries : List (Entry X F g)) (lies : LieInShape entries) (w : WholeTables) (whole : AreWhole entries w) (ids : AreIdsOf entries w.run)
-    (sound : AreBodiesSound w.run.deployment (shape_of entries) (setting_by w.run.deployment w.run.tables)) (texts : has_texts w.run.deployment ≡ true) where
-  abbrev t : RunTables
-  t = w.run
-
+module _ {X : Type 0} {F : X → Type 0} {g : _} (entries : List (Entry X F g)) (lies : LieInShape entries) (t : RunTables) (tabled : IsTabled t) (lookups : t.lookups ≡ lookups_of entries) (ids : AreIdsOf entries t)
+    (sound : AreBodiesSound t.deployment (shape_of entries) (setting_by t.deployment t.tables)) (texts : has_texts t.deployment ≡ true) where
   abbrev d : Deployment
   d = t.deployment
 
   abbrev T : machine.Tables
-  T = whole_tables w
+  T = machine_tables t
 
   abbrev L : Legal
   L = legal_of entries
 
   module _ (b : ℕ) (listed : Bean) (enabled : Among (b, listed) (enabled_of t.tables.resolver)) (plan : HasPlan t b listed) where
     abbrev pub own : machine.Managed
-    own = managed entries t whole.tabled ids sound b listed enabled plan
+    own = managed entries t tabled ids sound b listed enabled plan
 
     abbrev wanted : List ℕ
     wanted = interceptors_of t.tables.chains listed
@@ -157,7 +154,7 @@ module _ {X : Type 0} {F : X → Type 0} {g : _} (entries : List (Entry X F g)) 
         all_of (λ i. FitsRole T L i role × IsIn i ready) (life_chain t.tables.chains listed.class role)
         (λ i a.
         let x = life_of t.tables.chains listed role i q (to_is_in i (life_chain t.tables.chains listed.class role) a) in
-        (role_fits entries lies w whole ids sound texts i role x.0, h i x.1))
+        (role_fits entries lies t tabled lookups ids sound texts i role x.0, h i x.1))
 
     all_planned : Holds wanted (intercepted_by own.plan)
     all_planned i a =
@@ -173,13 +170,13 @@ module _ {X : Type 0} {F : X → Type 0} {g : _} (entries : List (Entry X F g)) 
         all_of (λ i. FitsRole T L i roles.AroundInvoke × IsIn i (intercepted_by own.plan)) chain
         (λ i a.
         let x = member_chain t.tables.chains listed (bean_member (c, m)) i member (to_is_in i chain a) in
-        (role_fits entries lies w whole ids sound texts i roles.AroundInvoke x.0, all_planned i x.1))
+        (role_fits entries lies t tabled lookups ids sound texts i roles.AroundInvoke x.0, all_planned i x.1))
 
     -- ---- callbacks and initializers
 
     body_of_member : (c : Class) (m : Member) (body : ℕ) → member_body m ≡ Some body → Among (c, m) (members_of plan.line)
         → FitsBody T L (class_site own (map asked_by (member_params m)) (body_number (id_of t) body))
-    body_of_member = member_fits entries lies w whole ids sound texts b listed enabled plan
+    body_of_member = member_fits entries lies t tabled lookups ids sound texts b listed enabled plan
 
     abbrev FitsCode : Code → Type 0
     FitsCode code = FitsBody T L (class_site own [] (body_number (id_of t) code.body))
@@ -234,7 +231,7 @@ module _ {X : Type 0} {F : X → Type 0} {g : _} (entries : List (Entry X F g)) 
 
     pub method_fits : (name : Name) (m : machine.Method) → at own.methods name ≡ Some m → FitsMethod T L own m
     method_fits name m e =
-        let from = method_of_plan entries t whole.tabled ids sound b listed enabled plan name m e in
+        let from = method_of_plan entries t tabled ids sound b listed enabled plan name m e in
         let number : body_number (id_of t) from.method.body ≡ m.code.body = ap (λ o. unwrap_or o 4096) from.id in
         let P : ℕ → Type 0 = λ n. FitsBody T L (class_site own [] n) in
         let Q : List ℕ → Type 0 = λ is. FitsChain T L roles.AroundInvoke (intercepted_by own.plan) is in
@@ -254,7 +251,7 @@ module _ {X : Type 0} {F : X → Type 0} {g : _} (entries : List (Entry X F g)) 
     there_all i a =
         let x = placed (intercepts t.tables.chains listed) 0 t.tables.chains.interceptors i a in
         let e : i ≡ x.0 = (let r = x.1 in omega arith) in
-        there_interceptor entries lies w whole ids sound texts i x.2 (ap (slice_get t.tables.chains.interceptors) e ∙ x.3)
+        there_interceptor entries lies t tabled lookups ids sound texts i x.2 (ap (slice_get t.tables.chains.interceptors) e ∙ x.3)
 
     module _ (kind : is_managed listed.kind ≡ true) where
       construction_fits : (now : List ℕ) → Holds wanted now → FitsStep T L own now (machine_step (id_of t) (construction t.tables.chains listed.class plan.constructor))
@@ -265,7 +262,7 @@ module _ {X : Type 0} {F : X → Type 0} {g : _} (entries : List (Entry X F g)) 
           bodies : (c : Class) → class_named d.classes listed.class ≡ Some c → (k : Constructor) → c.constructor ≡ Some k → (o : Option ℕ) → k.body ≡ o
               → AllByRecursion (λ m. FitsBody T L (class_site own (map asked_by k.params) m.body)) (map (machine_code (id_of t)) (constructor_body listed.class o))
           bodies c named k has None is = tt
-          bodies c named k has (Some body) is = (constructor_fits entries lies w whole ids sound texts b listed enabled plan kind c named k body has is, tt)
+          bodies c named k has (Some body) is = (constructor_fits entries lies t tabled lookups ids sound texts b listed enabled plan kind c named k body has is, tt)
 
           of_class : (c : Class) → class_named d.classes listed.class ≡ Some c → (o : Option Constructor) → c.constructor ≡ o → FitsStep T L own now (machine_step (id_of t) (construction t.tables.chains listed.class o))
           of_class c named None has = record { chain = life_fits roles.AroundConstruct tt now h; callbacks = tt }

@@ -1,12 +1,13 @@
 -- Bodies on instances of managed beans: whatever they give fits.
-use Rattle.std.proofs.Common.{ℕ, ◌≡◌, ◌∙◌, ◌||◌, inl, inr, Bool, true, nat_eq, List, [], ◌∷◌, ◌++◌, map, Option, Some, refl, sym, ap, subst, append-nil}
+use Rattle.std.proofs.Common.{ℕ, ◌≡◌, ◌∙◌, ◌||◌, inl, inr, Bool, true, nat_eq, List, [], ◌∷◌, ◌++◌, map, Option, Some, None, refl, sym, ap, subst, append-nil}
+use Rattle.std.specs.Prelude.{option_map, slice_get}
 use Rattle.std.proofs.lemmas.Bool.{eqb-true, true≢false}
 use Rattle.std.proofs.lemmas.List.Folds.{list_any-append}
-use Rattle.std.proofs.lemmas.Option.{same_Some}
+use Rattle.std.proofs.lemmas.Option.{same_Some, slice_get-map}
 use Rattle.std.specs.List.{flat_map, list_any}
 use Rattle.cdi_base.specs.Fields.{has}
 use Rattle.cdi_beans.specs.declared.bean.Bean.{Bean}
-use Rattle.cdi_bodies.specs.Gives.{shape_at, LieInShape}
+use Rattle.cdi_bodies.specs.Gives.{LieInShape, lookups_of, shape_at}
 use Rattle.cdi_bodies.specs.Shape.{in_shape}
 use Rattle.cdi_bodies.specs.declared.entry.Entry.{Entry}
 use Rattle.cdi_bodies.specs.declared.shape.Shape.{Shape}
@@ -32,7 +33,8 @@ use Rattle.cdi_plans.specs.declared.plan.Step.{Step}
 use Rattle.cdi_plans.specs.declared.plan.Step.TheVariants as steps
 use Rattle.cdi_resolve.specs.Filters.{enabled_of}
 use Rattle.cdi_plans.specs.Steps.{steps_of}
-use Rattle.cdi_run_tables.specs.Machine.{AreIdsOf, asked_by, body_number, first_values, id_of, machine_steps}
+use Rattle.cdi_run_tables.specs.Machine.{AreIdsOf, asked_by, body_number, first_values, id_of, lookups_at, machine_steps, machine_tables}
+use Rattle.cdi_run_tables.specs.Planned.{IsTabled}
 use Rattle.cdi_run_tables.specs.Served.{has_texts}
 use Rattle.cdi_run_tables.specs.declared.tables.RunTables.{RunTables}
 use Rattle.cdi_shape_check.specs.OwnParts.{ArePartsOf, OwnParts, declares_method, has_field, parts_of_line}
@@ -41,7 +43,6 @@ use Rattle.cdi_types.specs.Declarations.{declarations_of}
 use Rattle.cdi_ownership.specs.Whose.{IsIn}
 use Rattle.cdi_worlds_fit.specs.Fits.{FitsBody, class_site, injected_by}
 use Rattle.cdi_worlds_fit.specs.Fits.{Site as MachineSite}
-use Rattle.cdi_whole_tables.specs.Whole.{AreWhole, WholeTables, whole_tables}
 use Rattle.cdi_accepted.proofs.Fields.{IsInjected, has_first, of_machine, of_steps, one_injected}
 use Rattle.cdi_accepted.proofs.Lines.{is_listed, is_of_name}
 use Rattle.cdi_accepted.proofs.Lists.{Among, among_left, found_among, part_of}
@@ -63,36 +64,43 @@ injected_step (machine.Step.Construct points l ∷ more) field asked a = inr (in
 injected_step (machine.Step.Initialize m points ∷ more) field asked a = inr (injected_step more field asked a)
 injected_step (machine.Step.Complete l ∷ more) field asked a = inr (injected_step more field asked a)
 
-module _ {X : Type 0} {F : X → Type 0} {g : _} (entries : List (Entry X F g)) (lies : LieInShape entries) (w : WholeTables) (whole : AreWhole entries w) (ids : AreIdsOf entries w.run)
-    (sound : AreBodiesSound w.run.deployment (shape_of entries) (setting_by w.run.deployment w.run.tables)) (texts : has_texts w.run.deployment ≡ true) where
-  abbrev t : RunTables
-  t = w.run
+-- the lookups of a registered body are those of its shape
+lookups_by_shape : {X : Type 0} {F : X → Type 0} {g : _} (entries : List (Entry X F g)) (n : ℕ) → slice_get (lookups_of entries) n ≡ option_map (λ (z : Shape). z.lookups) (shape_at entries n)
+lookups_by_shape {X} {F} {g} entries n = slice_get-map (λ (e : Entry X F g). e.shape.lookups) entries n ∙ by (slice_get entries n)
+  where
+    by : (o : Option (Entry X F g)) → option_map (λ (e : Entry X F g). e.shape.lookups) o ≡ option_map (λ (z : Shape). z.lookups) (option_map (λ (e : Entry X F g). e.shape) o)
+    by None = refl
+    by (Some e) = refl
 
+module _ {X : Type 0} {F : X → Type 0} {g : _} (entries : List (Entry X F g)) (lies : LieInShape entries) (t : RunTables) (tabled : IsTabled t) (lookups : t.lookups ≡ lookups_of entries) (ids : AreIdsOf entries t)
+    (sound : AreBodiesSound t.deployment (shape_of entries) (setting_by t.deployment t.tables)) (texts : has_texts t.deployment ≡ true) where
   abbrev d : Deployment
   d = t.deployment
 
   -- a site of the check that the machine's site covers
   pub fits_body : (s : Site) (stands : Among s (sites_of d)) (live : is_live (setting_by d t.tables).enabled s ≡ true) (parts : OwnParts) → ArePartsOf d s parts
-      → (site : MachineSite) → site.body ≡ body_number (id_of t) (body_of s) → Covers w parts (params_of s) (registered entries t ids sound s stands live).shape site
-      → FitsBody (whole_tables w) (legal_of entries) site
+      → (site : MachineSite) → site.body ≡ body_number (id_of t) (body_of s) → Covers t parts (params_of s) (registered entries t ids sound s stands live).shape site
+      → FitsBody (machine_tables t) (legal_of entries) site
   fits_body s stands live parts are site is covers count fields view a given =
       let body = registered entries t ids sound s stands live in
       let lie = lie_at entries lies site.body fields view a given in
       let same : body.id ≡ site.body = sym (is ∙ number entries t ids sound s stands live) in
       let shape : lie.shape ≡ body.shape = same_Some lie.shape body.shape (sym lie.has ∙ ap (shape_at entries) (sym same) ∙ body.has) in
       let P : Shape → Type 0 = λ z. in_shape z view a ≡ true in
-      fits_act entries w whole.tabled ids sound texts parts (params_of s) body.shape site (inside entries t ids sound s stands live parts are) covers view a (subst P shape lie.lies)
+      fits_act entries t tabled ids sound texts parts (params_of s) body.shape site (inside entries t ids sound s stands live parts are) covers view a (subst P shape lie.lies)
 
-  -- the shape under a site's number
-  pub shape_there : (s : Site) (stands : Among s (sites_of d)) (live : is_live (setting_by d t.tables).enabled s ≡ true)
-      → w.shape_at (body_number (id_of t) (body_of s)) ≡ Some (registered entries t ids sound s stands live).shape
-  shape_there s stands live =
-      ap (λ (f : ℕ → Option Shape). f (body_number (id_of t) (body_of s))) whole.shapes
-      ∙ ap (shape_at entries) (number entries t ids sound s stands live) ∙ (registered entries t ids sound s stands live).has
+  -- the lookups under a site's number
+  pub lookups_there : (s : Site) (stands : Among s (sites_of d)) (live : is_live (setting_by d t.tables).enabled s ≡ true)
+      → lookups_at t (body_number (id_of t) (body_of s)) ≡ Some (registered entries t ids sound s stands live).shape.lookups
+  lookups_there s stands live =
+      let n = body_number (id_of t) (body_of s) in
+      ap (λ ls. slice_get ls n) lookups ∙ lookups_by_shape entries n
+      ∙ ap (λ k. option_map (λ (z : Shape). z.lookups) (shape_at entries k)) (number entries t ids sound s stands live)
+      ∙ ap (option_map (λ (z : Shape). z.lookups)) (registered entries t ids sound s stands live).has
 
   module _ (b : ℕ) (listed : Bean) (enabled : Among (b, listed) (enabled_of t.tables.resolver)) (plan : HasPlan t b listed) where
     abbrev own : machine.Managed
-    own = managed entries t whole.tabled ids sound b listed enabled plan
+    own = managed entries t tabled ids sound b listed enabled plan
 
     on_line : (test : Class → Bool) (fronts rest : List Class) → plan.line ≡ fronts ++ rest → list_any test fronts ≡ true → list_any test plan.line ≡ true
     on_line test fronts rest are e = ap (list_any test) are ∙ list_any-append test fronts rest ∙ ap (λ k. k || list_any test rest) e
@@ -104,7 +112,7 @@ module _ {X : Type 0} {F : X → Type 0} {g : _} (entries : List (Entry X F g)) 
         let P : List Step → Type 0 = λ all. Among (steps.Inject field step.point) all in
         let from = of_steps t.tables.chains plan.constructor listed plan.line field step.point (subst P (ap (λ (p : ManagedPlan). p.steps) plan.is) step.stands) in
         let one : from.injected ≡ f =
-        one_injected plan.line (pairs entries t whole.tabled ids sound b listed enabled plan) (apart entries t whole.tabled ids sound b listed enabled plan) from.injected f from.is stands (sym from.name ∙ sym name) in
+        one_injected plan.line (pairs entries t tabled ids sound b listed enabled plan) (apart entries t tabled ids sound b listed enabled plan) from.injected f from.is stands (sym from.name ∙ sym name) in
         step.is ∙ ap asked_by from.point_is ∙ ap (λ k. asked_by (point_of_field k)) one
 
     -- what is injected by a front of the line is injected by the line
@@ -124,40 +132,40 @@ module _ {X : Type 0} {F : X → Type 0} {g : _} (entries : List (Entry X F g)) 
         (asked, subst Q name (subst P (sym plan.is) (injects (id_of t) (steps_of t.tables.chains plan.constructor listed plan.line) f.name (point_of_field f) listed_too)))
 
     -- an instance of the bean has what the classes of a front of its line declare
-    pub class_covers : (fronts rest : List Class) → plan.line ≡ fronts ++ rest → (params : List Point) (n : ℕ) (shape : Shape) → w.shape_at n ≡ Some shape → (shape.chain ≡ true → ⊥)
-        → Covers w (parts_of_line fronts) params shape (class_site own (map asked_by params) n)
+    pub class_covers : (fronts rest : List Class) → plan.line ≡ fronts ++ rest → (params : List Point) (n : ℕ) (shape : Shape) → lookups_at t n ≡ Some shape.lookups → (shape.chain ≡ true → ⊥)
+        → Covers t (parts_of_line fronts) params shape (class_site own (map asked_by params) n)
     class_covers fronts rest are params n shape there never =
         record {
           sets = λ field e. ap (λ (p : ManagedPlan). has (first_values p.fields) field) plan.is ∙ has_first plan.line field (on_line (λ c. has_field field c.fields) fronts rest are e);
-          owns = λ name count e. has_method entries t whole.tabled ids sound b listed enabled plan name count (on_line (declares_method name count) fronts rest are e);
+          owns = λ name count e. has_method entries t tabled ids sound b listed enabled plan name count (on_line (declares_method name count) fronts rest are e);
           injected = λ field asked a f e. (let found = on_front fronts rest are field f e in point_of field f found.0 found.1 asked a);
           there = λ field f e. (let found = on_front fronts rest are field f e in injects_it field f found.0 found.1);
           points = refl;
-          shape = there;
+          lookups = there;
           chained = λ c. absurd (never c);
         }
 
     -- the body of a member of the bean: of a method, an initializer, a callback, an observer; also of a producer or a disposer
     pub member_fits : (c : Class) (m : Member) (body : ℕ) → member_body m ≡ Some body → Among (c, m) (members_of plan.line)
-        → FitsBody (whole_tables w) (legal_of entries) (class_site own (map asked_by (member_params m)) (body_number (id_of t) body))
+        → FitsBody (machine_tables t) (legal_of entries) (class_site own (map asked_by (member_params m)) (body_number (id_of t) body))
     member_fits c m body is stands =
         let s = Site.AMember c m body in
         let of = of_line plan.line c m stands in
-        let there = member_stands d c m body is (declared_class entries t whole.tabled ids sound b listed enabled plan c of.class) of.member in
+        let there = member_stands d c m body is (declared_class entries t tabled ids sound b listed enabled plan c of.class) of.member in
         let live = member_live t b listed enabled plan.line plan.members c m body stands in
-        let fronts = front entries t whole.tabled ids sound b listed enabled plan c of.class in
+        let fronts = front entries t tabled ids sound b listed enabled plan c of.class in
         let shape = (registered entries t ids sound s there live).shape in
         fits_body s there live (parts_of_line fronts.front) (record { line = fronts.front; is_line = fronts.is_line; are = refl })
         (class_site own (map asked_by (member_params m)) (body_number (id_of t) body)) refl
-        (class_covers fronts.front fronts.rest fronts.are (member_params m) (body_number (id_of t) body) shape (shape_there s there live)
+        (class_covers fronts.front fronts.rest fronts.are (member_params m) (body_number (id_of t) body) shape (lookups_there s there live)
         (λ e. true≢false (sym (proceeds entries t ids sound s there live e))))
 
     -- the body of the constructor
     pub constructor_fits : is_managed listed.kind ≡ true → (c : Class) → class_named d.classes listed.class ≡ Some c → (k : Constructor) (body : ℕ) → c.constructor ≡ Some k → k.body ≡ Some body
-        → FitsBody (whole_tables w) (legal_of entries) (class_site own (map asked_by k.params) (body_number (id_of t) body))
+        → FitsBody (machine_tables t) (legal_of entries) (class_site own (map asked_by k.params) (body_number (id_of t) body))
     constructor_fits kind c named k body has is =
         let s = Site.AConstructor c k body in
-        let well = whole.tabled.tables.made.names_well in
+        let well = tabled.tables.made.names_well in
         let name : c.name ≡ listed.class = is_of_name d well listed.class c named in
         let there = constructor_stands d c k body has is (is_listed d well listed.class c named) in
         let live = constructor_live t b listed enabled kind c k body (sym name) in
@@ -165,5 +173,5 @@ module _ {X : Type 0} {F : X → Type 0} {g : _} (entries : List (Entry X F g)) 
         let shape = (registered entries t ids sound s there live).shape in
         fits_body s there live (parts_of_line plan.line) (record { line = plan.line; is_line = subst P (sym name) plan.is_line; are = refl })
         (class_site own (map asked_by k.params) (body_number (id_of t) body)) refl
-        (class_covers plan.line [] (sym (append-nil plan.line)) k.params (body_number (id_of t) body) shape (shape_there s there live)
+        (class_covers plan.line [] (sym (append-nil plan.line)) k.params (body_number (id_of t) body) shape (lookups_there s there live)
         (λ e. true≢false (sym (proceeds entries t ids sound s there live e))))

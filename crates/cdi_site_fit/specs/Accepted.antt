@@ -1,5 +1,6 @@
--- That the tables of an accepted deployment, answered whole, fit its bodies.
+-- That the tables of an accepted deployment fit its bodies.
 use Rattle.std.specs.Prelude.{ℕ, ◌≡◌, true, List, [], Some, None}
+use Rattle.cdi_bodies.specs.Gives.{lookups_of}
 use Rattle.cdi_bodies.specs.declared.entry.Entry.{Entry}
 use Rattle.cdi_body_check.specs.Shapes.{shape_of}
 use Rattle.cdi_check.specs.Late.{AreProblemsIn}
@@ -15,49 +16,51 @@ use Rattle.cdi_machine.specs.Runs.{Outcome, Runs}
 use Rattle.cdi_machine.specs.Tables.{Managed, Bean, Kind, One}
 use Rattle.cdi_machine.specs.Words.{Asked}
 use Rattle.cdi_machine.specs.World.{World, at_begin}
-use Rattle.cdi_run_tables.specs.Machine.{AreIdsOf}
+use Rattle.cdi_run_tables.specs.Machine.{AreIdsOf, machine_tables}
+use Rattle.cdi_run_tables.specs.Planned.{IsTabled}
 use Rattle.cdi_run_tables.specs.Served.{has_texts}
+use Rattle.cdi_run_tables.specs.declared.tables.RunTables.{RunTables}
 use Rattle.cdi_worlds_fit.specs.Fits.{Fits, FitsClass}
-use Rattle.cdi_whole_tables.specs.Whole.{AreWhole, WholeTables, whole_tables}
 
--- the whole tables of a deployment that has no problems with these registered bodies, and texts of its exceptions
-pub record IsAcceptedWhole {X : Type 0} {F : X → Type 0} {g : _} (entries : List (Entry X F g)) (w : WholeTables) : Type 0 where
-  pub whole : AreWhole entries w
-  pub ids : AreIdsOf entries w.run
-  pub texts : has_texts w.run.deployment ≡ true
-  pub problems : AreProblemsIn w.run.deployment (shape_of entries) w.run.tables.enabled
-      (setting_by w.run.deployment w.run.tables) []
+-- the tables of a deployment that has no problems with these registered bodies, and texts of its exceptions
+pub record IsFaultless {X : Type 0} {F : X → Type 0} {g : _} (entries : List (Entry X F g)) (t : RunTables) : Type 0 where
+  pub tabled : IsTabled t
+  pub ids : AreIdsOf entries t
+  pub lookups : t.lookups ≡ lookups_of entries
+  pub texts : has_texts t.deployment ≡ true
+  pub problems : AreProblemsIn t.deployment (shape_of entries) t.tables.enabled
+      (setting_by t.deployment t.tables) []
 
 -- each managed bean to which something resolves: its plan, its methods, its pre-destroy lifecycle
 abbrev pub ManagedFit : {X : Type 0} {F : X → Type 0} {g : _} → List (Entry X F g) → Type 0
 ManagedFit entries =
-    (w : WholeTables) → IsAcceptedWhole entries w → (asked : Asked) (b : ℕ) → (whole_tables w).resolve asked ≡ One b
-    → (bean : Bean) → (whole_tables w).bean b ≡ Some bean → (c : Managed) → bean.kind ≡ Kind.Class c
-    → FitsClass (whole_tables w) (legal_of entries) c
+    (t : RunTables) → IsFaultless entries t → (asked : Asked) (b : ℕ) → (machine_tables t).resolve asked ≡ One b
+    → (bean : Bean) → (machine_tables t).bean b ≡ Some bean → (c : Managed) → bean.kind ≡ Kind.Class c
+    → FitsClass (machine_tables t) (legal_of entries) c
 
 -- the whole
 abbrev pub WholeFits : {X : Type 0} {F : X → Type 0} {g : _} → List (Entry X F g) → Type 0
-WholeFits entries = (w : WholeTables) → IsAcceptedWhole entries w → Fits (whole_tables w) (legal_of entries)
+WholeFits entries = (t : RunTables) → IsFaultless entries t → Fits (machine_tables t) (legal_of entries)
 
 -- the bodies of a destruction are told from all others by their places
 abbrev pub FarewellsApart : {X : Type 0} {F : X → Type 0} {g : _} → List (Entry X F g) → Type 0
 FarewellsApart entries =
-    (w : WholeTables) → IsAcceptedWhole entries w
-    → PlacesOfBodiesAreApart (whole_tables w) × FirstsStandOnce (whole_tables w)
+    (t : RunTables) → IsFaultless entries t
+    → PlacesOfBodiesAreApart (machine_tables t) × FirstsStandOnce (machine_tables t)
 
 -- so each destruction begins its callbacks exactly once
 abbrev pub FarewellsBeginOnce : {X : Type 0} {F : X → Type 0} {g : _} → List (Entry X F g) → Type 0
 FarewellsBeginOnce entries =
-    (w : WholeTables) → IsAcceptedWhole entries w
-    → (s : State) (h : List Item) → Story (whole_tables w) (legal_of entries) s h
-    → BeginsOnce (whole_tables w) h
+    (t : RunTables) → IsFaultless entries t
+    → (s : State) (h : List Item) → Story (machine_tables t) (legal_of entries) s h
+    → BeginsOnce (machine_tables t) h
 
 -- also if memory runs out in one more command
 abbrev pub FarewellsBeginOnceIfShort : {X : Type 0} {F : X → Type 0} {g : _} → List (Entry X F g) → Type 0
 FarewellsBeginOnceIfShort entries =
-    (w : WholeTables) → IsAcceptedWhole entries w
+    (t : RunTables) → IsFaultless entries t
     → (s : State) (h : List Item) (c : Command) (o : Outcome) (v : World)
-    → Story (whole_tables w) (legal_of entries) s h
-    → refusal (whole_tables w) s c ≡ None
-    → (r : Runs (whole_tables w) (legal_of entries) (Unit {0}) (task c) (at_begin s.world) o v)
-    → BeginsOnce (whole_tables w) (items_of h r)
+    → Story (machine_tables t) (legal_of entries) s h
+    → refusal (machine_tables t) s c ≡ None
+    → (r : Runs (machine_tables t) (legal_of entries) (Unit {0}) (task c) (at_begin s.world) o v)
+    → BeginsOnce (machine_tables t) (items_of h r)

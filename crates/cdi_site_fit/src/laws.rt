@@ -12,14 +12,14 @@ pub fn law_managed_fit(bodies: &Bodies)
     Bodies::gives_in_shape(bodies);
 }
 
-/// The tables of an accepted deployment, answered whole, fit its bodies.
+/// The tables of an accepted deployment fit its bodies.
 pub fn law_whole_fits(bodies: &Bodies)
     ensures { WholeFits (entries_of bodies.now) }
 {
     Bodies::gives_in_shape(bodies);
 }
 
-/// The tables of an accepted deployment, answered whole, tell the bodies of a destruction from all others by their places; and so
+/// The tables of an accepted deployment tell the bodies of a destruction from all others by their places; and so
 /// each destruction begins its callbacks exactly once, also if memory runs out (Jakarta CDI 4.0, *Lifecycle of managed beans*;
 /// Jakarta Interceptors 2.1, *Interceptor Methods for Lifecycle Event Callbacks*).
 pub fn law_farewells_begin_once(bodies: &Bodies)
