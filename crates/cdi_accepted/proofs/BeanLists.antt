@@ -1,5 +1,5 @@
 -- A deployment has one bean list.
-use Rattle.std.proofs.Common.{◌≡◌, ◌∙◌, ℕ, List, [], ◌∷◌, ◌++◌, map, filter, Option, Some, None, refl, sym, ap, subst, Ordering, Less, Equal, Greater}
+use Rattle.std.proofs.Common.{◌≡◌, ◌∙◌, List, ◌++◌, map, filter, refl, sym, ap, subst, Ordering, Less, Equal, Greater}
 use Rattle.std.specs.FinMap.{nat_cmp-IsAntisymmetric}
 use Rattle.std.specs.List.{AllZip, Contains, enumerate_from, filter_map, flat_map}
 use Rattle.std.specs.Option.{option_cmp}
@@ -7,7 +7,6 @@ use Rattle.std.specs.Ordering.{int_cmp, nat_cmp, ordering_then}
 use Rattle.cdi_deployment.specs.declared.deployment.Class.{Class}
 use Rattle.cdi_deployment.specs.declared.deployment.Deployment.{Deployment}
 use Rattle.cdi_deployment.specs.declared.deployment.Disposer.{Disposer}
-use Rattle.cdi_deployment.specs.declared.deployment.Member.{Member}
 use Rattle.cdi_deployment.specs.declared.deployment.Observer.{Observer}
 use Rattle.cdi_deployment.specs.Member.{member_name}
 use Rattle.cdi_quals.specs.declared.types.QualifierType.{QualifierType}

@@ -1,5 +1,5 @@
 -- The enabled bean to which something resolves, with lemmas of lists side by side and of maps.
-use Rattle.std.proofs.Common.{ℕ, zero, suc, ◌≡◌, ◌∙◌, ◌+◌, inl, inr, Bool, true, false, cond, nat_eq, List, [], ◌∷◌, Option, Some, refl, sym, ap, subst, arith}
+use Rattle.std.proofs.Common.{ℕ, zero, suc, ◌≡◌, ◌∙◌, ◌+◌, inl, inr, Bool, true, false, cond, nat_eq, List, [], ◌∷◌, Some, refl, sym, ap, subst, arith}
 use Rattle.std.proofs.lemmas.Bool.{eq-eqb, eqb-true, true≢false}
 use Rattle.std.proofs.lemmas.Option.{same_Some}
 use Rattle.std.specs.List.{AllZip, enumerate_from, slice_get}

@@ -1,5 +1,5 @@
 -- Where problems hold, and the early problems of a deployment, are one.
-use Rattle.std.proofs.Common.{◌≡◌, ◌∙◌, ℕ, List, [], ◌∷◌, ◌++◌, map, refl, sym, ap, subst}
+use Rattle.std.proofs.Common.{◌≡◌, ◌∙◌, List, [], ◌++◌, map, refl, sym, ap, subst}
 use Rattle.cdi_base.specs.declared.place.Place.{Place}
 use Rattle.cdi_bean_rules.specs.Tiers.{AreBeanProblems, AreTooMany}
 use Rattle.cdi_beans.specs.Problems.{AreAllProblemsOf, AreEarlyProblemsOf, IsMadeOf}

@@ -1,18 +1,16 @@
 -- A source makes one bean.
-use Rattle.std.proofs.Common.{◌≡◌, ◌∙◌, ℕ, ℤ, Bool, List, [], ◌∷◌, map, Option, Some, None, refl, sym, ap, subst}
+use Rattle.std.proofs.Common.{◌≡◌, ◌∙◌, ℕ, List, map, Option, Some, sym, ap, subst}
 use Rattle.std.specs.Prelude.{option_map}
 use Rattle.cdi_base.specs.declared.scope.Scope.{Scope}
 use Rattle.cdi_base.specs.declared.uses.Use.{Use}
 use Rattle.cdi_deployment.specs.declared.deployment.Class.{Class}
 use Rattle.cdi_deployment.specs.declared.deployment.Deployment.{Deployment}
-use Rattle.cdi_quals.specs.declared.qualifier.Qualifier.{Qualifier}
 use Rattle.cdi_quals.specs.declared.types.QualifierType.{QualifierType}
 use Rattle.cdi_bean_check.specs.BeanTypes.{restriction}
 use Rattle.cdi_beans.specs.Beans.{Source, IsBeanOf, IsBeanWith, IsDeclaredBy, IsManagedBeanOf, IsProductOf, bean_member}
 use Rattle.cdi_beans.specs.declared.bean.Bean.{Bean}
 use Rattle.cdi_beans.specs.declared.bean.BeanKind.{BeanKind}
 use Rattle.cdi_beans.specs.declared.bean.BeanKind.TheVariants as kinds
-use Rattle.cdi_beans.specs.declared.bean.BeanMember.{BeanMember}
 use Rattle.cdi_accepted.proofs.DeterminedLists.{one_listed}
 use Rattle.cdi_accepted.proofs.OneLine.{one_membership}
 use Rattle.cdi_accepted.proofs.Types.{one_qualifier_set, one_use_list}

@@ -1,10 +1,9 @@
 -- The line of a class, and what a class has of it, are one.
-use Rattle.std.proofs.Common.{◌≡◌, ◌≢◌, ◌∙◌, ℕ, List, [], ◌∷◌, ◌++◌, map, Option, Some, None, refl, sym, ap, subst}
+use Rattle.std.proofs.Common.{◌≡◌, ◌∙◌, ℕ, List, [], ◌∷◌, ◌++◌, Some, None, refl, sym, ap, subst}
 use Rattle.std.specs.List.{filter_map}
 use Rattle.cdi_deployment.specs.declared.deployment.Class.{Class}
 use Rattle.cdi_deployment.specs.declared.deployment.Member.{Member}
-use Rattle.cdi_types.specs.Lineage.{IsLineage, superclass_of}
-use Rattle.cdi_types.specs.Subtype.{object}
+use Rattle.cdi_types.specs.Lineage.{IsLineage}
 use Rattle.cdi_types.specs.declared.declaration.TypeDeclaration.{TypeDeclaration}
 use Rattle.cdi_types.specs.Line.{IsLineOf, class_named}
 use Rattle.cdi_types.specs.Members.{members_of}

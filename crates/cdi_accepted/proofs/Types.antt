@@ -1,5 +1,5 @@
 -- The types of qualifiers and bindings are one, and so are sets of qualifiers and the uses that make a bean's.
-use Rattle.std.proofs.Common.{◌≡◌, ◌∙◌, ℕ, List, [], ◌∷◌, ◌++◌, map, Option, Some, None, refl, sym, ap, subst}
+use Rattle.std.proofs.Common.{◌≡◌, ◌∙◌, ℕ, List, ◌∷◌, ◌++◌, map, Some, refl, sym, ap, subst}
 use Rattle.cdi_base.specs.declared.uses.Use.{Use}
 use Rattle.cdi_deployment.specs.declared.deployment.AnnotationType.{AnnotationType}
 use Rattle.cdi_deployment.specs.declared.deployment.Class.{Class}
@@ -8,7 +8,6 @@ use Rattle.cdi_quals.proofs.Orders.{names_total, names_apart, qualifiers_total, 
 use Rattle.cdi_quals.specs.Qualifiers.{full_use}
 use Rattle.cdi_quals.specs.Types.{member_type, IsTypeOf, AreTypesOf, built_in_qualifiers, AreQualifiersOf}
 use Rattle.cdi_quals.specs.declared.qualifier.Qualifier.{Qualifier}
-use Rattle.cdi_quals.specs.declared.types.MemberType.{MemberType}
 use Rattle.cdi_quals.specs.declared.types.QualifierType.{QualifierType}
 use Rattle.cdi_bean_check.specs.Qualifiers.{AreUsesOf, IsSetOf, specializing_uses, declared_uses}
 use Rattle.cdi_accepted.proofs.DeterminedLists.{one_set}

@@ -1,5 +1,5 @@
 -- The problems of a deployment with its bodies are one list.
-use Rattle.std.proofs.Common.{◌≡◌, ◌∙◌, ℕ, Bool, List, [], ◌∷◌, ◌++◌, Option, refl, sym, ap, subst}
+use Rattle.std.proofs.Common.{◌≡◌, ◌∙◌, ℕ, Bool, List, ◌++◌, Option, sym, subst}
 use Rattle.cdi_beans.specs.declared.bean.BeanList.{BeanList}
 use Rattle.cdi_bodies.specs.declared.shape.Shape.{Shape}
 use Rattle.cdi_check.specs.Late.{AreBodyProblems, AreEnabledProblems, AreLateProblems, ArePointProblems, AreProblemsIn, setting_of}
