@@ -1,14 +1,20 @@
 -- What is looked up of a deployment in a run.
-use Rattle.std.specs.Prelude.{ℕ, ◌≡◌, List, [], Option, Some, None, nat_eq, option_map, option_and_then, slice_get}
+use Rattle.std.specs.Prelude.{ℕ, ◌≡◌, List, [], map, Bool, Option, Some, None, nat_eq, option_map, option_and_then, slice_get}
 use Rattle.std.specs.HashMap.{HashMap, get}
 use Rattle.std.specs.List.{AllZip, filter_map}
+use Rattle.cdi_beans.specs.declared.bean.EnabledInterceptor.{EnabledInterceptor}
+use Rattle.cdi_body_check.specs.Exceptions.{is_checked}
+use Rattle.cdi_deployment.specs.declared.deployment.Class.{Class}
+use Rattle.cdi_deployment.specs.declared.deployment.InjectedField.{InjectedField}
+use Rattle.cdi_deployment.specs.declared.deployment.Interceptor.{Interceptor}
 use Rattle.cdi_deployment.specs.declared.deployment.Point.{Point}
 use Rattle.cdi_machine.specs.Words.{Name}
-use Rattle.cdi_name_check.specs.NameSets.{HasDeclared}
+use Rattle.cdi_name_check.specs.NameSets.{HasDeclared, HasNames}
 use Rattle.cdi_plans.specs.declared.plan.ManagedPlan.{ManagedPlan}
 use Rattle.cdi_plans.specs.declared.plan.Plan.{Plan}
 use Rattle.cdi_plans.specs.declared.plan.Step.{Step}
 use Rattle.cdi_resolve.specs.Filters.{Candidates, enabled_of}
+use Rattle.cdi_resolve.specs.declared.resolution.Resolution.{Resolution}
 use Rattle.cdi_run_tables.specs.Ids.{id_in}
 use Rattle.cdi_run_tables.specs.Machine.{method_in, resolution_of, without_chain}
 use Rattle.cdi_run_tables.specs.Managed.{injected, managed_of}
@@ -18,6 +24,8 @@ use Rattle.cdi_run_tables.specs.declared.injected.Injected.{Injected}
 use Rattle.cdi_run_tables.specs.declared.parts.RunParts.{RunParts}
 use Rattle.cdi_run_tables.specs.declared.planned.PlannedBean.{PlannedBean}
 use Rattle.cdi_run_tables.specs.declared.tables.Method.{Method}
+use Rattle.cdi_shape_check.specs.WrittenNames.{is_concrete}
+use Rattle.cdi_types.specs.Line.{class_named}
 
 -- the methods of a plan, by their names
 pub record AreMethodsOf {S : Type 0} (ids : ℕ → Option ℕ) (plan : Plan)
@@ -61,7 +69,29 @@ IsIndexAt t None (Some i) = ⊥
 IsIndexAt t (Some b) None = ⊥
 IsIndexAt t (Some b) (Some i) = IsBeanIndex t b i
 
--- the names that the deployment declares, and the methods and injected fields of each bean
+-- what the injection point of an interceptor's field resolves to
+abbrev pub field_resolution : RunParts → InjectedField → Resolution
+field_resolution t f = resolution_of t f.ty f.quals
+
+abbrev pub field_resolutions : RunParts → Option Interceptor → List Resolution
+field_resolutions t None = []
+field_resolutions t (Some j) = map (field_resolution t) j.inject
+
+-- those of an enabled interceptor, in the order of its fields
+abbrev pub interceptor_resolutions : RunParts → EnabledInterceptor → List Resolution
+interceptor_resolutions t j =
+    field_resolutions t (slice_get t.deployment.interceptors j.index)
+
+-- a class of which there are instances; of classes with one name the first counts
+abbrev pub is_event_class : List Class → ℕ → Bool
+is_event_class classes name = is_concrete (class_named classes name)
+
+-- The names that the deployment declares, those of its checked exceptions and of the classes of events; the methods and injected fields
+-- of each bean; what the injected fields of each enabled interceptor resolve to.
 pub record IsIndexOf (t : RunParts) (i : RunIndex) : Type 0 where
   pub names : HasDeclared t.deployment i.names
+  pub checked : HasNames (is_checked t.deployment.exceptions) i.checked
+  pub event_classes : HasNames (is_event_class t.deployment.classes) i.event_classes
   pub beans : AllZip (IsBeanIndex t) t.beans i.beans
+  pub interceptors :
+      i.interceptors ≡ map (interceptor_resolutions t) t.tables.chains.interceptors

@@ -1,6 +1,7 @@
 pub mod Events
 pub mod Ids
 pub mod Index
+pub mod Interceptors
 pub mod Machine
 pub mod Managed
 pub mod Planned

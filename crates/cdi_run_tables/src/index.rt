@@ -4,7 +4,10 @@ ghost use Rattle.std.specs.HashMap.{get};
 ghost use Rattle.std.specs.List.{AllZip};
 ghost use Rattle.cdi_run_tables.specs.Index as spec;
 
+use crate::event_classes::event_classes;
+use crate::exceptions::checked_exceptions;
 use crate::injected::{Injected, injected_by};
+use crate::interceptors::all_resolutions;
 use crate::methods::methods_of;
 use crate::parts::RunParts;
 use crate::planned::PlannedBean;
@@ -13,9 +16,9 @@ use cdi_base::{Name, Seq};
 use cdi_cache::Lookup;
 use cdi_name_check::NameSets;
 use cdi_plans::Plan;
-use cdi_resolve::Resolver;
+use cdi_resolve::{Resolution, Resolver};
 use std::alloc::{AllocError, Global};
-use std::collections::HashMap;
+use std::collections::{HashMap, HashSet};
 use std::num::NonZeroUsize;
 
 /// How many answers of resolution are remembered while the injection points of a deployment are resolved.
@@ -32,7 +35,13 @@ pub(crate) struct BeanIndex {
 /// What is looked up of a deployment.
 pub(crate) struct RunIndex {
     pub(crate) names: NameSets,
+    /// The names of the checked exceptions.
+    pub(crate) checked: HashSet<Name>,
+    /// The names of the classes of which there are instances.
+    pub(crate) event_classes: HashSet<Name>,
     pub(crate) beans: Seq<BeanIndex>,
+    /// What the injected fields of each enabled interceptor resolve to.
+    pub(crate) interceptors: Seq<Seq<Resolution>>,
 }
 
 /// In one call, so that the proof of each function that owns an index has one step here, and not one for each of its parts.
@@ -40,7 +49,10 @@ impl Drop for RunIndex {
     fn drop(self) {
         let RunIndex {
             names: _names,
+            checked: _checked,
+            event_classes: _event_classes,
             beans: _beans,
+            interceptors: _interceptors,
         } = self;
     }
 }
@@ -88,14 +100,18 @@ impl BeanIndex {
 }
 
 /// Those of the beans of a deployment, in their order.
-fn bean_indices(alloc: Global, parts: &RunParts) -> Result<Seq<BeanIndex>, AllocError>
-    ensures { IfOk result (AllZip (spec.IsBeanIndex parts.now) parts.now.beans) }
+fn bean_indices(
+    alloc: Global,
+    parts: &RunParts,
+    lookup: &mut Lookup<&Resolver>,
+) -> Result<Seq<BeanIndex>, AllocError>
+    requires { spec.AsksOf parts.now lookup.old.now }
+    ensures all { IfOk result (AllZip (spec.IsBeanIndex parts.now) parts.now.beans) }
+    ensures kept { spec.AsksOf parts.now lookup.new.now }
 {
-    let capacity = NonZeroUsize::new(REMEMBERED).unwrap();
-    let mut lookup = Lookup::new(alloc, &parts.tables.resolver, capacity)?;
     let mut indices = Seq::empty(alloc);
     for bean in parts.beans.as_slice() {
-        indices.push(BeanIndex::build(alloc, parts, &mut lookup, bean)?)?;
+        indices.push(BeanIndex::build(alloc, parts, lookup, bean)?)?;
     }
     Ok(indices)
 }
@@ -105,9 +121,15 @@ impl RunIndex {
     pub(crate) fn build(alloc: Global, parts: &RunParts) -> Result<RunIndex, AllocError>
         ensures { IfOk result (spec.IsIndexOf parts.now) }
     {
+        let deployment = &parts.deployment;
+        let capacity = NonZeroUsize::new(REMEMBERED).unwrap();
+        let mut lookup = Lookup::new(alloc, &parts.tables.resolver, capacity)?;
         Ok(RunIndex {
-            names: NameSets::of(alloc, &parts.deployment)?,
-            beans: bean_indices(alloc, parts)?,
+            names: NameSets::of(alloc, deployment)?,
+            checked: checked_exceptions(alloc, deployment.exceptions.as_slice())?,
+            event_classes: event_classes(alloc, deployment.classes.as_slice())?,
+            beans: bean_indices(alloc, parts, &mut lookup)?,
+            interceptors: all_resolutions(alloc, parts, &mut lookup)?,
         })
     }
 }

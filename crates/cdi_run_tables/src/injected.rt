@@ -9,9 +9,8 @@ ghost use Rattle.cdi_run_tables.specs.Managed as spec;
 
 use crate::managed::Injection;
 use crate::parts::RunParts;
-use cdi_base::Seq;
+use cdi_base::{Name, Seq, Use};
 use cdi_cache::Lookup;
-use cdi_deployment::Point;
 use cdi_plans::Step;
 use cdi_quals::QualSet;
 use cdi_resolve::{Resolution, Resolver};
@@ -24,25 +23,25 @@ pub(crate) struct Injected {
     pub(crate) resolution: Resolution,
 }
 
-/// What an injection point of a deployment resolves to.
-fn resolution_at(
+/// What an injection point of a deployment with this type and these qualifiers resolves to.
+pub(crate) fn resolution_at(
     alloc: Global,
     parts: &RunParts,
     lookup: &mut Lookup<&Resolver>,
-    point: &Point,
+    ty: Name,
+    uses: &[Use],
 ) -> Result<Resolution, AllocError>
     requires { index.AsksOf parts.now lookup.old.now }
-    ensures told { IfOk result (λ told.
-        told ≡ resolution_of parts.now point.now.ty point.now.quals) }
+    ensures told { IfOk result (λ told. told ≡ resolution_of parts.now ty uses.now) }
     ensures kept { index.AsksOf parts.now lookup.new.now }
 {
     let qualifiers = QualSet::new(
         alloc,
         &parts.deployment.names,
         &parts.tables.declared.qualifiers,
-        point.quals.as_slice(),
+        uses,
     )?;
-    Ok(lookup.find(point.ty, &qualifiers))
+    Ok(lookup.find(ty, &qualifiers))
 }
 
 /// The injected fields that some steps have.
@@ -59,7 +58,7 @@ pub(crate) fn injected_by(
     let mut all = Seq::empty(alloc);
     for (step, done) in steps.iter().enumerate() {
         if let Step::Inject { point, .. } = done {
-            let resolution = resolution_at(alloc, parts, lookup, point)?;
+            let resolution = resolution_at(alloc, parts, lookup, point.ty, point.quals.as_slice())?;
             all.push(Injected { step, resolution })?;
         }
     }

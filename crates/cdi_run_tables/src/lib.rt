@@ -1,10 +1,15 @@
-//! What the machine asks of a deployment: its beans with the plans of their instances, and what types and qualifiers resolve to
-//! (Jakarta CDI 4.0, *Beans*, *Typesafe resolution*).
+//! What the machine asks of a deployment: its beans with the plans of their instances, its enabled interceptors, what types and
+//! qualifiers resolve to, what can be fired and thrown, and what bodies look up (Jakarta CDI 4.0, *Beans*, *Typesafe resolution*;
+//! Jakarta Interceptors 2.1, *Enabling Interceptors*).
 #![tactic(auto)]
 
+mod event_classes;
+mod exceptions;
 pub mod ids;
 mod index;
 mod injected;
+mod interceptors;
+mod lookups;
 mod managed;
 mod methods;
 pub mod parts;
@@ -13,6 +18,7 @@ mod served;
 mod sizes;
 pub mod tables;
 
+pub use interceptors::InterceptorInjection;
 pub use managed::Injection;
 pub use planned::PlannedBean;
 pub use sizes::MAX_BEANS;

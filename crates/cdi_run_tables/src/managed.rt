@@ -30,7 +30,7 @@ fn managed_plan(bean: &PlannedBean) -> Option<&ManagedPlan>
 }
 
 /// The fields, each with its first value.
-fn fields_of(alloc: Global, fields: &[Field]) -> Result<Fields, AllocError>
+pub(crate) fn fields_of(alloc: Global, fields: &[Field]) -> Result<Fields, AllocError>
     ensures { IfOk result (λ all. all ≡ first_values fields.now) }
 {
     let mut all = Fields::new(alloc);

@@ -20,7 +20,8 @@ use std::alloc::{AllocError, Global};
 use std::marker::Model;
 
 /// A deployment with its tables and the plans of its beans, which contracts see. It never changes. What is asked in a run is looked
-/// up in an index, whose size makes no difference.
+/// up in an index that is made once, so that the size of the deployment makes no difference; but resolution of what a call names
+/// ([`RunTables::resolve`]) goes over the enabled beans that have the type.
 pub struct RunTables {
     pub(crate) parts: RunParts,
     pub(crate) index: RunIndex,
@@ -115,7 +116,7 @@ impl RunTables {
     }
 
     /// What a type and qualifiers, as they were written, resolve to among the enabled beans (Jakarta CDI 4.0, *Typesafe resolution*).
-    /// No qualifiers stand for `Default`.
+    /// No qualifiers stand for `Default`. It goes over the enabled beans that have the type.
     pub fn resolve(&self, ty: Name, uses: &[Use]) -> Resolution
         ensures { result ≡ spec.resolution_of self.now ty uses.now }
     {

@@ -13,7 +13,7 @@ loop-step-preserved c =
     elim c.match-done.branch [
       | in-Inject+in_ok-resolution+in_ok-push w ↦ (
         rw (w.all-is, w.in_ok-push.ensures.ok)
-            (one_injected t steps i.step done.result c.loop-step-test.true done.is i.all i.invariant.0 (w.in-Inject.field, w.in-Inject.point) (ap injected w.in-Inject.is) w.in_ok-resolution.resolution w.in_ok-resolution.ensures.told),
+            (one_injected t steps i.step done.result c.loop-step-test.true done.is i.all i.invariant.0 (w.in-Inject.field, w.in-Inject.point) (ap injected w.in-Inject.is) w.in_ok-resolution.resolution (rw w.as_slice.ensures at w.in_ok-resolution.ensures.told)),
         rw w.lookup-is w.in_ok-resolution.ensures.kept,
       )
       | in_default w ↦ (

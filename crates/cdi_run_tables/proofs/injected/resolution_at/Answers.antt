@@ -8,8 +8,8 @@ use Rattle.cdi_run_tables.proofs.injected.resolution_at.Goals as goal
 pub returns-clause-told : goal.returns-clause-told
 returns-clause-told c =
     let t = c.args.parts.now in
-    let p = c.args.point.now in
     let types = t.tables.declared.qualifiers in
     let set = c.in_ok-qualifiers.qualifiers in
-    let is : IsSetOf t.deployment.names types p.quals set = rw c.as_slice.ensures at c.in_ok-qualifiers.ensures in
-    c.find.ensures.told ∙ ap (resolution p.ty set) c.requires ∙ same_resolution (full_uses types p.quals) set is p.ty (enabled_of t.tables.resolver)
+    let uses = c.args.uses.now in
+    let is : IsSetOf t.deployment.names types uses set = c.in_ok-qualifiers.ensures in
+    c.find.ensures.told ∙ ap (resolution c.args.ty set) c.requires ∙ same_resolution (full_uses types uses) set is c.args.ty (enabled_of t.tables.resolver)

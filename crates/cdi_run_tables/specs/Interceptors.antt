@@ -1,0 +1,24 @@
+-- What is asked of an enabled interceptor.
+use Rattle.std.specs.Prelude.{ℕ, List, [], Option, Some, None, option_and_then}
+use Rattle.cdi_base.specs.declared.place.InterceptorMethod.{InterceptorMethod}
+use Rattle.cdi_body_check.specs.Sites.{method_body}
+use Rattle.cdi_deployment.specs.declared.deployment.Interceptor.{Interceptor}
+use Rattle.cdi_machine.specs.Tables as machine
+use Rattle.cdi_machine.specs.Words.{Name, Asked, Fields}
+use Rattle.cdi_run_tables.specs.Machine.{declared_at, id_of}
+use Rattle.cdi_run_tables.specs.declared.tables.RunTables.{RunTables}
+
+-- where there is no interceptor, there are no fields
+abbrev pub fields_in : Option machine.Interceptor → Fields
+fields_in None = []
+fields_in (Some j) = j.fields
+
+abbrev pub injected_in : Option machine.Interceptor → List (Name × Asked)
+injected_in None = []
+injected_in (Some j) = j.injected
+
+-- the number of the body of the method that the interceptor at a place has for a role, if it has one and that is registered
+abbrev pub registered_body : RunTables → ℕ → InterceptorMethod → Option ℕ
+registered_body t place role =
+    option_and_then (id_of t)
+    (option_and_then (λ (j : Interceptor). method_body j role) (declared_at t place))
