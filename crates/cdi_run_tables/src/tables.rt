@@ -140,15 +140,4 @@ impl RunTables {
         let names = DeclaredNames::new(&self.parts.deployment, &self.index.names);
         names.is_type(ty) && are_qualifiers(&names, uses)
     }
-
-    /// Whether an exception's class is declared as checked.
-    pub fn is_checked(&self, exception: Name) -> bool
-        ensures { result ≡ (spec.machine_tables self.now).is_checked exception }
-    {
-        self.parts
-            .deployment
-            .exceptions
-            .iter()
-            .any(|declared| declared.name == exception && declared.checked)
-    }
 }
