@@ -2,7 +2,10 @@ pub mod Empty
 pub mod EventClasses
 pub mod FirstMethods
 pub mod Grouped
+pub mod Heard
 pub mod Indexed
+pub mod ManagedPlaces
+pub mod Placed
 pub mod Resolving
 pub mod Subtypes
 pub mod Zips

@@ -18,6 +18,7 @@ use Rattle.cdi_resolve.specs.declared.resolution.Resolution.{Resolution}
 use Rattle.cdi_run_tables.specs.Ids.{id_in}
 use Rattle.cdi_run_tables.specs.Machine.{method_in, resolution_of, without_chain}
 use Rattle.cdi_run_tables.specs.Managed.{injected, managed_of}
+use Rattle.cdi_run_tables.specs.Observers.{observer_groups}
 use Rattle.cdi_run_tables.specs.declared.index.BeanIndex.{BeanIndex}
 use Rattle.cdi_run_tables.specs.declared.index.RunIndex.{RunIndex}
 use Rattle.cdi_run_tables.specs.declared.injected.Injected.{Injected}
@@ -87,7 +88,7 @@ abbrev pub is_event_class : List Class → ℕ → Bool
 is_event_class classes name = is_concrete (class_named classes name)
 
 -- The names that the deployment declares, those of its checked exceptions and of the classes of events; the methods and injected fields
--- of each bean; what the injected fields of each enabled interceptor resolve to.
+-- of each bean; what the injected fields of each enabled interceptor resolve to; the observers of enabled beans.
 pub record IsIndexOf (t : RunParts) (i : RunIndex) : Type 0 where
   pub names : HasDeclared t.deployment i.names
   pub checked : HasNames (is_checked t.deployment.exceptions) i.checked
@@ -95,3 +96,4 @@ pub record IsIndexOf (t : RunParts) (i : RunIndex) : Type 0 where
   pub beans : AllZip (IsBeanIndex t) t.beans i.beans
   pub interceptors :
       i.interceptors ≡ map (interceptor_resolutions t) t.tables.chains.interceptors
+  pub observers : i.observers ≡ observer_groups t

@@ -4,6 +4,7 @@ pub mod Index
 pub mod Interceptors
 pub mod Machine
 pub mod Managed
+pub mod Observers
 pub mod Planned
 pub mod Served
 pub mod Sizes

@@ -3,12 +3,14 @@ ghost use Rattle.std.specs.Prelude.{◌≡◌, nat_eq, IfOk};
 ghost use Rattle.std.specs.HashMap.{get};
 ghost use Rattle.std.specs.List.{AllZip};
 ghost use Rattle.cdi_run_tables.specs.Index as spec;
+ghost use Rattle.cdi_run_tables.specs.Planned.{IsTabled};
 
 use crate::event_classes::event_classes;
 use crate::exceptions::checked_exceptions;
 use crate::injected::{Injected, injected_by};
 use crate::interceptors::all_resolutions;
 use crate::methods::methods_of;
+use crate::observer_groups::{ObserverGroup, observer_groups};
 use crate::parts::RunParts;
 use crate::planned::PlannedBean;
 use crate::tables::Method;
@@ -42,6 +44,8 @@ pub(crate) struct RunIndex {
     pub(crate) beans: Seq<BeanIndex>,
     /// What the injected fields of each enabled interceptor resolve to.
     pub(crate) interceptors: Seq<Seq<Resolution>>,
+    /// The observers of enabled beans, by ascending priority.
+    pub(crate) observers: Seq<ObserverGroup>,
 }
 
 /// In one call, so that the proof of each function that owns an index has one step here, and not one for each of its parts.
@@ -53,6 +57,7 @@ impl Drop for RunIndex {
             event_classes: _event_classes,
             beans: _beans,
             interceptors: _interceptors,
+            observers: _observers,
         } = self;
     }
 }
@@ -119,6 +124,7 @@ fn bean_indices(
 impl RunIndex {
     /// That of a deployment.
     pub(crate) fn build(alloc: Global, parts: &RunParts) -> Result<RunIndex, AllocError>
+        requires { IsTabled parts.now }
         ensures { IfOk result (spec.IsIndexOf parts.now) }
     {
         let deployment = &parts.deployment;
@@ -130,6 +136,7 @@ impl RunIndex {
             event_classes: event_classes(alloc, deployment.classes.as_slice())?,
             beans: bean_indices(alloc, parts, &mut lookup)?,
             interceptors: all_resolutions(alloc, parts, &mut lookup)?,
+            observers: observer_groups(alloc, parts)?,
         })
     }
 }

@@ -20,8 +20,9 @@ use std::alloc::{AllocError, Global};
 use std::marker::Model;
 
 /// A deployment with its tables and the plans of its beans, which contracts see. It never changes. What is asked in a run is looked
-/// up in an index that is made once, so that the size of the deployment makes no difference; but resolution of what a call names
-/// ([`RunTables::resolve`]) goes over the enabled beans that have the type.
+/// up in an index that is made once, so that the size of the deployment makes no difference, but for two questions: resolution of what a
+/// call names ([`RunTables::resolve`]) goes over the enabled beans that have the type, and who hears an event ([`RunTables::observers`])
+/// is asked of each observer of an enabled bean.
 pub struct RunTables {
     pub(crate) parts: RunParts,
     pub(crate) index: RunIndex,

@@ -1,4 +1,4 @@
-use Rattle.std.proofs.Common.{◌≡◌, ◌∙◌, nat_eq, true, false, sym, ap, arith}
+use Rattle.std.proofs.Common.{◌≡◌, ◌∙◌, nat_eq, sym, ap, arith}
 use Rattle.std.proofs.lemmas.List.{take_all}
 use Rattle.cdi_name_check.proofs.NameSteps.{one_taken, none_taken, and_all, and_none}
 use Rattle.cdi_run_tables.proofs.EventClasses.{all_named, is_named_among, takes}

@@ -7,4 +7,5 @@ returns c = record {
   event_classes = rw c.as_slice-2.ensures at c.in_ok-event_classes.ensures;
   beans = c.in_ok-bean_indices.ensures.all;
   interceptors = c.in_ok-all_resolutions.ensures.all;
+  observers = c.in_ok-observer_groups.ensures;
 }

@@ -1,0 +1,224 @@
+-- The observers that are told to hear an event are those that the machine asks for.
+use Rattle.std.proofs.Common.{ℕ, ℤ, ◌≡◌, ◌↔◌, ◌∙◌, Bool, true, false, cond, not, IsTrue, List, [], ◌∷◌, ◌++◌, map, filter, Option, Some, None, option_map, option_and_then, refl, sym, ap}
+use Rattle.std.specs.Prelude.{int_lt, fold}
+use Rattle.std.specs.List.{cons_option, filter_map}
+use Rattle.std.specs.Ordering.{int_eq}
+use Rattle.std.proofs.lemmas.Option.{same_Some}
+use Rattle.cdi_base.specs.declared.uses.Use.{Use}
+use Rattle.cdi_bean_check.specs.Qualifiers.{full_uses}
+use Rattle.cdi_beans.specs.declared.bean.ObserverMethod.{ObserverMethod}
+use Rattle.cdi_deployment.specs.declared.deployment.Class.{Class}
+use Rattle.cdi_deployment.specs.declared.deployment.Observer.{Observer}
+use Rattle.cdi_machine.specs.Tables as machine
+use Rattle.cdi_machine.specs.Words.{Name}
+use Rattle.cdi_plans.specs.Observers.{observer_method, observer_of}
+use Rattle.cdi_plans.specs.declared.plan.InjectedMethod.{InjectedMethod}
+use Rattle.cdi_quals.specs.Qualifiers.{agree}
+use Rattle.cdi_quals.specs.declared.qualifier.QualifierMember.{QualifierMember}
+use Rattle.cdi_resolve.specs.Filters.{is_enabled}
+use Rattle.cdi_run_tables.specs.Events as events
+use Rattle.cdi_run_tables.specs.Events.{Group, groups_of, with_observer}
+use Rattle.cdi_run_tables.specs.Machine as whole
+use Rattle.cdi_run_tables.specs.Machine.{has_none, managed_bean, observers_of}
+use Rattle.cdi_run_tables.specs.Observers.{heard_among, is_heard_by, machine_observer, member_of, observer_groups, planned_observer, planned_of_bean, planned_with, with_planned, with_told}
+use Rattle.cdi_run_tables.specs.declared.observer_groups.ObserverGroup.{ObserverGroup}
+use Rattle.cdi_run_tables.specs.declared.observers.PlannedObserver.{PlannedObserver}
+use Rattle.cdi_run_tables.specs.declared.parts.RunParts.{RunParts}
+use Rattle.cdi_run_tables.proofs.Empty.{has_none_if_empty}
+use Rattle.cdi_run_tables.proofs.Grouped.{added, back, front, grouped, grouped_by_back, items, kept, told, told_of, with_item}
+
+-- members agree with none only if there are none
+pub agrees_with_none : (members : List QualifierMember) (empty : Bool) → IsTrue empty ↔ (members ≡ []) → empty ≡ agree members []
+agrees_with_none [] empty is = has_none_if_empty {X = QualifierMember} [] empty is
+agrees_with_none (m ∷ ms) empty is = has_none_if_empty (m ∷ ms) empty is
+
+-- ---- groups as pairs
+
+abbrev pub by_priority : Group → ℤ × List ObserverMethod
+by_priority g = (g.priority, g.observers)
+
+abbrev pub planned_by_priority : ObserverGroup → ℤ × List PlannedObserver
+planned_by_priority g = (g.priority, g.observers)
+
+abbrev pub ranked : ObserverMethod → ℤ × ObserverMethod
+ranked o = (o.priority, o)
+
+one_more : (o : ObserverMethod) (gs : List Group) → map by_priority (with_observer o gs) ≡ front o.priority o (map by_priority gs)
+one_more o [] = refl
+one_more o (g ∷ more) = by (int_eq o.priority g.priority) (int_lt o.priority g.priority) (one_more o more)
+  where
+    merged : Group
+    merged = record { priority = g.priority; observers = o ∷ g.observers }
+
+    alone : Group
+    alone = record { priority = o.priority; observers = o ∷ [] }
+
+    by : (b c : Bool) → map by_priority (with_observer o more) ≡ front o.priority o (map by_priority more)
+        → map by_priority (cond b (merged ∷ more) (cond c (alone ∷ g ∷ more) (g ∷ with_observer o more)))
+        ≡ cond b ((g.priority, o ∷ g.observers) ∷ map by_priority more) (cond c ((o.priority, o ∷ []) ∷ by_priority g ∷ map by_priority more) (by_priority g ∷ front o.priority o (map by_priority more)))
+    by true c rec = refl
+    by false true rec = refl
+    by false false rec = ap (λ gs. by_priority g ∷ gs) rec
+
+groups_are : (os : List ObserverMethod) → map by_priority (groups_of os) ≡ grouped (map ranked os)
+groups_are [] = refl
+groups_are (o ∷ os) = one_more o (groups_of os) ∙ ap (front o.priority o) (groups_are os)
+
+one_planned : (p : ℤ) (o : PlannedObserver) (gs : List ObserverGroup) → map planned_by_priority (with_planned p o gs) ≡ back p o (map planned_by_priority gs)
+one_planned p o [] = refl
+one_planned p o (g ∷ more) = by (int_eq p g.priority) (int_lt p g.priority) (one_planned p o more)
+  where
+    merged : ObserverGroup
+    merged = record { priority = g.priority; observers = g.observers ++ o ∷ [] }
+
+    alone : ObserverGroup
+    alone = record { priority = p; observers = o ∷ [] }
+
+    by : (b c : Bool) → map planned_by_priority (with_planned p o more) ≡ back p o (map planned_by_priority more)
+        → map planned_by_priority (cond b (merged ∷ more) (cond c (alone ∷ g ∷ more) (g ∷ with_planned p o more)))
+        ≡ cond b ((g.priority, g.observers ++ o ∷ []) ∷ map planned_by_priority more) (cond c ((p, o ∷ []) ∷ planned_by_priority g ∷ map planned_by_priority more) (planned_by_priority g ∷ back p o (map planned_by_priority more)))
+    by true c rec = refl
+    by false true rec = refl
+    by false false rec = ap (λ gs. planned_by_priority g ∷ gs) rec
+
+-- the groups of what is planned
+module _ (plan : ObserverMethod → Option PlannedObserver) where
+  abbrev next : List ObserverGroup → ObserverMethod → List ObserverGroup
+  next gs o = with_told o.priority (plan o) gs
+
+  planned_from : (os : List ObserverMethod) (gs : List ObserverGroup) → map planned_by_priority (fold next gs os) ≡ fold added (map planned_by_priority gs) (items plan (map ranked os))
+  planned_from [] gs = refl
+  planned_from (o ∷ os) gs = by (plan o) (λ hs. planned_from os hs)
+    where
+      by : (m : Option PlannedObserver) → ((hs : List ObserverGroup) → map planned_by_priority (fold next hs os) ≡ fold added (map planned_by_priority hs) (items plan (map ranked os)))
+          → map planned_by_priority (fold next (with_told o.priority m gs) os) ≡ fold added (map planned_by_priority gs) (with_item plan o.priority m (items plan (map ranked os)))
+      by None rec = rec gs
+      by (Some x) rec = rec (with_planned o.priority x gs) ∙ ap (λ hs. fold added hs (items plan (map ranked os))) (one_planned o.priority x gs)
+
+  planned_are : (os : List ObserverMethod) → map planned_by_priority (fold next [] os) ≡ grouped (items plan (map ranked os))
+  planned_are os = planned_from os [] ∙ grouped_by_back (items plan (map ranked os))
+
+-- ---- what is told of groups
+
+abbrev second : {Y : Type 0} → ℤ × List Y → List Y
+second g = g.1
+
+-- of the machine's groups
+module _ {Y : Type 0} (k : ObserverMethod → Option Y) where
+  told_is : (gs : List Group) → filter (λ group. not (has_none group)) (map (λ (g : Group). filter_map k g.observers) gs) ≡ map second (told k (map by_priority gs))
+  told_is [] = refl
+  told_is (g ∷ gs) = by (filter_map k g.observers) (told_is gs)
+    where
+      by : (ys : List Y) → filter (λ group. not (has_none group)) (map (λ (g : Group). filter_map k g.observers) gs) ≡ map second (told k (map by_priority gs))
+          → cond (not (has_none ys)) (ys ∷ filter (λ group. not (has_none group)) (map (λ (g : Group). filter_map k g.observers) gs)) (filter (λ group. not (has_none group)) (map (λ (g : Group). filter_map k g.observers) gs))
+          ≡ map second (kept k g.priority ys (told k (map by_priority gs)))
+      by [] rec = rec
+      by (y ∷ ys) rec = ap (λ rest. (y ∷ ys) ∷ rest) rec
+
+-- of the planned ones
+module _ (hears : PlannedObserver → Bool) where
+  abbrev shown : PlannedObserver → Option machine.Observer
+  shown o = cond (hears o) (Some (machine_observer o)) None
+
+  shown_heard : (os : List PlannedObserver) → filter_map shown os ≡ map machine_observer (filter hears os)
+  shown_heard [] = refl
+  shown_heard (o ∷ os) = by (hears o) (shown_heard os)
+    where
+      by : (b : Bool) → filter_map shown os ≡ map machine_observer (filter hears os) → cons_option (cond b (Some (machine_observer o)) None) (filter_map shown os) ≡ map machine_observer (cond b (o ∷ filter hears os) (filter hears os))
+      by true rec = ap (λ rest. machine_observer o ∷ rest) rec
+      by false rec = rec
+
+  heard_told : (gs : List ObserverGroup) → map (map machine_observer) (heard_among hears gs) ≡ map second (told shown (map planned_by_priority gs))
+  heard_told [] = refl
+  heard_told (g ∷ gs) =
+      by (filter hears g.observers) (heard_told gs)
+      ∙ ap (λ ys. map second (kept shown g.priority ys (told shown (map planned_by_priority gs)))) (sym (shown_heard g.observers))
+    where
+      by : (os : List PlannedObserver) → map (map machine_observer) (heard_among hears gs) ≡ map second (told shown (map planned_by_priority gs))
+          → map (map machine_observer) (cond (not (has_none os)) (os ∷ heard_among hears gs) (heard_among hears gs))
+          ≡ map second (kept shown g.priority (map machine_observer os) (told shown (map planned_by_priority gs)))
+      by [] rec = rec
+      by (o ∷ os) rec = ap (λ rest. map machine_observer (o ∷ os) ∷ rest) rec
+
+-- ---- observer by observer
+
+record AreAlike (test : ObserverMethod → Bool) (k : ObserverMethod → Option machine.Observer) (plan : ObserverMethod → Option PlannedObserver) (hears : PlannedObserver → Bool) (o : ObserverMethod) : Type 0 where
+  same : k o ≡ option_map machine_observer (plan o)
+  heard : (x : PlannedObserver) → plan o ≡ Some x → hears x ≡ test o
+
+module _ (test : ObserverMethod → Bool) (k : ObserverMethod → Option machine.Observer) (plan : ObserverMethod → Option PlannedObserver) (hears : PlannedObserver → Bool) (alike : (o : ObserverMethod) → AreAlike test k plan hears o) where
+  same_items : (os : List ObserverMethod) → items k (map ranked (filter test os)) ≡ items (shown hears) (items plan (map ranked os))
+  same_items [] = refl
+  same_items (o ∷ os) = by (plan o) refl (test o) refl (same_items os)
+    where
+      rest : List ObserverMethod
+      rest = filter test os
+
+      told_on : (b : Bool) (m : Option machine.Observer) → k o ≡ m → items k (map ranked (cond b (o ∷ filter test os) (filter test os))) ≡ cond b (with_item k o.priority m (items k (map ranked (filter test os)))) (items k (map ranked (filter test os)))
+      told_on true m e = ap (λ n. with_item k o.priority n (items k (map ranked (filter test os)))) e
+      told_on false m e = refl
+
+      by : (m : Option PlannedObserver) → plan o ≡ m → (b : Bool) → test o ≡ b → items k (map ranked (filter test os)) ≡ items (shown hears) (items plan (map ranked os))
+          → items k (map ranked (cond b (o ∷ filter test os) (filter test os))) ≡ items (shown hears) (with_item plan o.priority m (items plan (map ranked os)))
+      by None e true f rec = told_on true None ((alike o).same ∙ ap (option_map machine_observer) e) ∙ rec
+      by None e false f rec = rec
+      by (Some x) e true f rec =
+          told_on true (Some (machine_observer x)) ((alike o).same ∙ ap (option_map machine_observer) e)
+          ∙ ap (λ r. (o.priority, machine_observer x) ∷ r) rec
+          ∙ ap (λ c. with_item (shown hears) o.priority (cond c (Some (machine_observer x)) None) (items (shown hears) (items plan (map ranked os)))) (sym ((alike o).heard x e ∙ f))
+      by (Some x) e false f rec =
+          rec
+          ∙ ap (λ c. with_item (shown hears) o.priority (cond c (Some (machine_observer x)) None) (items (shown hears) (items plan (map ranked os)))) (sym ((alike o).heard x e ∙ f))
+
+  same_groups : (os : List ObserverMethod) → map (map machine_observer) (heard_among hears (fold (next plan) [] os))
+      ≡ filter (λ group. not (has_none group)) (map (λ (g : Group). filter_map k g.observers) (groups_of (filter test os)))
+  same_groups os =
+      let all = map ranked os in
+      let kept_ones = map ranked (filter test os) in
+      heard_told hears (fold (next plan) [] os)
+      ∙ ap (λ gs. map second (told (shown hears) gs)) (planned_are plan os)
+      ∙ ap (map second) (told_of (shown hears) (items plan all))
+      ∙ ap (λ is. map second (grouped is)) (sym (same_items os))
+      ∙ ap (map second) (sym (told_of k kept_ones))
+      ∙ ap (λ gs. map second (told k gs)) (sym (groups_are (filter test os)))
+      ∙ sym (told_is k (groups_of (filter test os)))
+
+-- ---- of a deployment
+
+module _ (t : RunParts) (class : Name) (uses : List Use) where
+  abbrev test_of : ObserverMethod → Bool
+  test_of = events.hears t.tables.declared.types class (full_uses t.tables.declared.qualifiers uses)
+
+  module _ (o : ObserverMethod) where
+    planned_is : whole.machine_observer t o ≡ option_map machine_observer (planned_observer t o)
+    planned_is = by (managed_bean t.tables.resolver.beans o.bean)
+      where
+        declared : (bean : ℕ) (b : Bool) (d : Option (Class × Observer)) → cond b (option_map (whole.observer_with t o bean) d) None ≡ option_map machine_observer (cond b (option_map (planned_with t o bean) (option_map (observer_method t.tables.chains o.bean) d)) None)
+        declared bean true (Some d) = refl
+        declared bean true None = refl
+        declared bean false d = refl
+
+        by : (m : Option ℕ) → option_and_then (whole.observer_of_bean t o) m ≡ option_map machine_observer (option_and_then (planned_of_bean t o) m)
+        by None = refl
+        by (Some bean) = declared bean (is_enabled t.tables.resolver.flags bean) (observer_of t.deployment.classes o)
+
+    heard_alike : (x : PlannedObserver) → planned_observer t o ≡ Some x → is_heard_by t class uses x ≡ test_of o
+    heard_alike x e = by (managed_bean t.tables.resolver.beans o.bean) e
+      where
+        of : (bean : ℕ) (member : InjectedMethod) → planned_with t o bean member ≡ x → is_heard_by t class uses x ≡ test_of o
+        of bean member is = sym (ap (is_heard_by t class uses) is)
+
+        declared : (bean : ℕ) (b : Bool) (d : Option InjectedMethod) → cond b (option_map (planned_with t o bean) d) None ≡ Some x → is_heard_by t class uses x ≡ test_of o
+        declared bean true (Some member) is = of bean member (same_Some (planned_with t o bean member) x is)
+        declared bean true None is = absurd cc
+        declared bean false d is = absurd cc
+
+        by : (m : Option ℕ) → option_and_then (planned_of_bean t o) m ≡ Some x → is_heard_by t class uses x ≡ test_of o
+        by None is = absurd cc
+        by (Some bean) is = declared bean (is_enabled t.tables.resolver.flags bean) (member_of t o) is
+
+    alike_of : AreAlike test_of (whole.machine_observer t) (planned_observer t) (is_heard_by t class uses) o
+    alike_of = record { same = planned_is; heard = heard_alike }
+
+  pub heard_observers : map (map machine_observer) (heard_among (is_heard_by t class uses) (observer_groups t)) ≡ observers_of t class uses
+  heard_observers = same_groups test_of (whole.machine_observer t) (planned_observer t) (is_heard_by t class uses) alike_of t.tables.observers
