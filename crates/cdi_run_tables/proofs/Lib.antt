@@ -9,3 +9,4 @@ pub mod Placed
 pub mod Resolving
 pub mod Subtypes
 pub mod Zips
+pub mod Remembered

@@ -15,6 +15,7 @@ use Rattle.cdi_plans.specs.declared.plan.Plan.{Plan}
 use Rattle.cdi_plans.specs.declared.plan.Step.{Step}
 use Rattle.cdi_resolve.specs.Filters.{Candidates, enabled_of}
 use Rattle.cdi_resolve.specs.declared.resolution.Resolution.{Resolution}
+use Rattle.cdi_run_tables.specs.Asked.{AreTold}
 use Rattle.cdi_run_tables.specs.Ids.{id_in}
 use Rattle.cdi_run_tables.specs.Machine.{method_in, resolution_of, without_chain}
 use Rattle.cdi_run_tables.specs.Managed.{injected, managed_of}
@@ -97,3 +98,4 @@ pub record IsIndexOf (t : RunParts) (i : RunIndex) : Type 0 where
   pub interceptors :
       i.interceptors ≡ map (interceptor_resolutions t) t.tables.chains.interceptors
   pub observers : i.observers ≡ observer_groups t
+  pub asked : AreTold t i.asked

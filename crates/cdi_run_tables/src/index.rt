@@ -5,6 +5,7 @@ ghost use Rattle.std.specs.List.{AllZip};
 ghost use Rattle.cdi_run_tables.specs.Index as spec;
 ghost use Rattle.cdi_run_tables.specs.Planned.{IsTabled};
 
+use crate::asked::CommandAnswers;
 use crate::event_classes::event_classes;
 use crate::exceptions::checked_exceptions;
 use crate::injected::{Injected, injected_by};
@@ -46,6 +47,8 @@ pub(crate) struct RunIndex {
     pub(crate) interceptors: Seq<Seq<Resolution>>,
     /// The observers of enabled beans, by ascending priority.
     pub(crate) observers: Seq<ObserverGroup>,
+    /// What the last commands asked for resolves to.
+    pub(crate) asked: CommandAnswers,
 }
 
 /// In one call, so that the proof of each function that owns an index has one step here, and not one for each of its parts.
@@ -58,6 +61,7 @@ impl Drop for RunIndex {
             beans: _beans,
             interceptors: _interceptors,
             observers: _observers,
+            asked: _asked,
         } = self;
     }
 }
@@ -137,6 +141,7 @@ impl RunIndex {
             beans: bean_indices(alloc, parts, &mut lookup)?,
             interceptors: all_resolutions(alloc, parts, &mut lookup)?,
             observers: observer_groups(alloc, parts)?,
+            asked: CommandAnswers::new(alloc)?,
         })
     }
 }

@@ -3,6 +3,7 @@
 //! Jakarta Interceptors 2.1, *Enabling Interceptors*).
 #![tactic(auto)]
 
+mod asked;
 mod event_classes;
 mod events;
 mod exceptions;

@@ -13,6 +13,7 @@ use crate::parts::RunParts;
 use crate::planned::PlannedBean;
 use cdi_base::{Name, Place, Use};
 use cdi_bodies::{Bodies, BodyId};
+use cdi_cache::WrittenQuestion;
 use cdi_deployment::Deployment;
 use cdi_name_check::{DeclaredNames, are_qualifiers};
 use cdi_resolve::{BeanTables, Resolution};
@@ -21,7 +22,7 @@ use std::marker::Model;
 
 /// A deployment with its tables and the plans of its beans, which contracts see. It never changes. What is asked in a run is looked
 /// up in an index that is made once, so that the size of the deployment makes no difference, but for two questions: resolution of what a
-/// call names ([`RunTables::resolve`]) goes over the enabled beans that have the type, and who hears an event ([`RunTables::observers`])
+/// call names ([`RunTables::ask`]), if it is none of the last ones, goes over the enabled beans that have the type, and who hears an event ([`RunTables::observers`])
 /// is asked of each observer of an enabled bean.
 pub struct RunTables {
     pub(crate) parts: RunParts,
@@ -117,14 +118,36 @@ impl RunTables {
     }
 
     /// What a type and qualifiers, as they were written, resolve to among the enabled beans (Jakarta CDI 4.0, *Typesafe resolution*).
-    /// No qualifiers stand for `Default`. It goes over the enabled beans that have the type.
+    /// No qualifiers stand for `Default`. What no command asked for lately goes over the enabled beans that have the type.
     pub fn resolve(&self, ty: Name, uses: &[Use]) -> Resolution
+        ensures { result ≡ spec.resolution_of self.now ty uses.now }
+    {
+        match self.index.asked.known(&WrittenQuestion { ty, uses }) {
+            Some(told) => told,
+            None => self.resolve_anew(ty, uses),
+        }
+    }
+
+    /// The same, whatever was asked for before.
+    fn resolve_anew(&self, ty: Name, uses: &[Use]) -> Resolution
         ensures { result ≡ spec.resolution_of self.now ty uses.now }
     {
         let tables = &self.parts.tables;
         tables
             .resolver
             .resolve_written(&tables.declared.qualifiers, ty, uses)
+    }
+
+    /// The same for a command. It is remembered, if there is memory, beside the last answers to commands, 256 at most.
+    pub fn ask(&mut self, alloc: Global, ty: Name, uses: &[Use]) -> Resolution
+        ensures told { result ≡ spec.resolution_of self.old ty uses.now }
+        ensures kept { self.new ≡ self.old }
+    {
+        let told = self.resolve(ty, uses);
+        self.index
+            .asked
+            .remember(alloc, &WrittenQuestion { ty, uses }, told);
+        told
     }
 
     /// The text of a name.

@@ -1,4 +1,3 @@
 pub mod Standing
 pub mod Refusals
 pub mod Knowing
-pub mod Remembered

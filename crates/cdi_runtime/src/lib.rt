@@ -1,7 +1,6 @@
 //! What a container works with at run time: the tables of its deployment, what drives it, and its world.
 #![tactic(auto)]
 
-mod asked;
 pub mod laws;
 mod refusal;
 mod runtime;

@@ -6,7 +6,6 @@ ghost use Rattle.cdi_run_tables.specs.Machine.{machine_tables};
 ghost use Rattle.cdi_steps.specs.Words.{command_of};
 ghost use Rattle.cdi_runtime.specs.Refusals.{bean_refusal, call_refusal, in_request, method_refusal, with_no_chain};
 
-use crate::asked::AskedTables;
 use crate::runtime::Runtime;
 use cdi_base::{Name, Refusal, Text};
 use cdi_machine::Driver;
@@ -46,17 +45,17 @@ fn refuses_resolved(
 
 /// Why a call of a method of the bean with a type and qualifiers is refused: one of these isn't known, or they resolve to a bean that has
 /// no such method with so many values. What they resolve to is remembered.
-fn refuses_call(alloc: Global, tables: &mut AskedTables, call: &BeanCall) -> Option<Refusal>
+fn refuses_call(alloc: Global, tables: &mut RunTables, call: &BeanCall) -> Option<Refusal>
     ensures refusal { result ≡ call_refusal tables.old
         call.now.bean_type call.now.qualifiers call.now.method (length call.now.args) }
     ensures kept { tables.new ≡ tables.old }
 {
     let qualifiers = call.qualifiers.as_slice();
-    if !tables.tables().is_known(call.bean_type, qualifiers) {
+    if !tables.is_known(call.bean_type, qualifiers) {
         return Some(Refusal::UnknownName);
     }
     let resolution = tables.ask(alloc, call.bean_type, qualifiers);
-    refuses_resolved(tables.tables(), resolution, call.method, call.args.len())
+    refuses_resolved(tables, resolution, call.method, call.args.len())
 }
 
 impl<D: Driver> Runtime<D> {

@@ -8,4 +8,5 @@ returns c = record {
   beans = c.in_ok-bean_indices.ensures.all;
   interceptors = c.in_ok-all_resolutions.ensures.all;
   observers = c.in_ok-observer_groups.ensures;
+  asked = c.in_ok-new.ensures c.args.parts.now;
 }

@@ -1,0 +1,16 @@
+use Rattle.std.proofs.Common.{◌∙◌, sym, ap}
+use Rattle.cdi_run_tables.specs.Machine.{resolution_of}
+use Rattle.cdi_run_tables.proofs.tables.RunTables.ask.Goals as goal
+
+pub invariant_of-self : goal.invariant_of-self
+invariant_of-self c =
+    let is = c.self.invariant in
+    record {
+      names = is.names;
+      checked = is.checked;
+      event_classes = is.event_classes;
+      beans = is.beans;
+      interceptors = is.interceptors;
+      observers = is.observers;
+      asked = c.remember.ensures c.self.inside.parts is.asked (c.resolve-told.ensures ∙ ap (λ t. resolution_of t c.args.ty c.args.uses.now) (sym c.self.view_is));
+    }
