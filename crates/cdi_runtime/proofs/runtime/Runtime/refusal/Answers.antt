@@ -19,7 +19,7 @@ returns-else-is_some-clause-refusal g c =
     let down : world.down ≡ false = search rules in
     let alone = none_if c.args.request (sym c.is_some.ensures ∙ c.if-is_some.false) in
     let told : c.refuses_call.result ≡ refusal (machine_tables tables) (idle_state world c.args.halted) (Command.Call None (asked_for k.bean_type k.qualifiers) k.method k.args) =
-    (rw c.deref.ensures at c.refuses_call.ensures)
+    (rw c.deref.ensures at c.refuses_call.ensures.refusal)
     ∙ sym (call_refused tables c.self.invariant.servable k.bean_type k.qualifiers k.method k.args world c.args.halted c.if-halted.false down) in
     rw (c.in-Call.is, alone)
     (subst (λ r. c.refuses_call.result ≡ refusal (machine_tables r.tables) (idle_state r.world c.args.halted) (Command.Call None (asked_for k.bean_type k.qualifiers) k.method k.args)) c.self.view_is told)
