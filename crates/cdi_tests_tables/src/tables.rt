@@ -3,17 +3,46 @@ ghost use Rattle.std.specs.Prelude.{◌≡◌, IfOk};
 ghost use Rattle.cdi_base.specs.declared.act.Act.TheVariants.{Give};
 ghost use Rattle.cdi_base.specs.declared.value.Value.TheVariants.{Null};
 
-use cdi_base::{Act, Fields, OrMemory, Seq, Value};
+use cdi_base::{Act, Fields, Names, OrMemory, Seq, Use, Value};
 use cdi_beans::BeanList;
-use cdi_bodies::{Bodies, Body, Shape, View};
+use cdi_bodies::{Bodies, Body, Lookup, Shape, View};
 use cdi_deployment::Deployment;
 use cdi_problems::Problem;
 use cdi_resolve::BeanTables;
 use cdi_run_tables::RunTables;
 use std::alloc::{AllocError, Global};
 
+/// Registers a body that may look up `S`, and `T` with the qualifier `A`.
+fn add_looking(alloc: Global, names: &Names, bodies: &mut Bodies) -> Result<(), AllocError> {
+    let body: Body = Box::new(
+        alloc,
+        |_fields: &Fields, _view: &View| -> Result<Act, AllocError>
+            ensures { IfOk result (λ act. act ≡ Give Null) }
+        { Ok(Act::Give { value: Value::Null }) },
+    )
+    .map_err(AllocError::from)?;
+    let mut shape = Shape::new(alloc);
+    shape.lookups.push(Lookup {
+        bean_type: names.name_for("S"),
+        qualifiers: Seq::empty(alloc),
+    })?;
+    let mut qualifiers = Seq::empty(alloc);
+    qualifiers.push(Use {
+        name: names.name_for("A"),
+        members: Seq::empty(alloc),
+    })?;
+    shape.lookups.push(Lookup {
+        bean_type: names.name_for("T"),
+        qualifiers,
+    })?;
+    match bodies.add(names.name_for("look"), shape, body) {
+        Ok(_) => Ok(()),
+        Err(_) => Err(AllocError),
+    }
+}
+
 /// The tables of a deployment, unless it has problems of names or beans. A body is made in the function that registers it, since none
-/// may hand out a closure that it boxed.
+/// may hand out a closure that it boxed. The body `look` is registered if the deployment names it.
 pub(crate) fn tables_of(
     alloc: Global,
     deployment: Deployment,
@@ -28,6 +57,9 @@ pub(crate) fn tables_of(
     )
     .map_err(AllocError::from)?;
     let mut bodies = Bodies::new(alloc);
+    if deployment.names.find("look").is_some() {
+        add_looking(alloc, &deployment.names, &mut bodies)?;
+    }
     match bodies.add(deployment.names.name_for("b"), Shape::new(alloc), body) {
         Ok(_) => Ok(RunTables::build(alloc, deployment, tables, &bodies)?),
         Err(_) => Err(OrMemory::Memory),
