@@ -9,7 +9,7 @@
 //! | `interceptors` | a line for each enabled interceptor: its fields, its injected fields with what they resolve to, and which of its methods have a registered body |
 //! | `lookups` | a line for each lookup of the body of the method `m` of the first bean |
 //!
-//! The bodies `b` and `look` are registered.
+//! The body `b` is registered, which may look up `S`, and `T` with the qualifier `A`.
 use crate::listed::PROBLEMS;
 use crate::places::add_place;
 use crate::plans::add_injected;

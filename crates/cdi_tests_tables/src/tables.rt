@@ -12,37 +12,27 @@ use cdi_resolve::BeanTables;
 use cdi_run_tables::RunTables;
 use std::alloc::{AllocError, Global};
 
-/// Registers a body that may look up `S`, and `T` with the qualifier `A`.
-fn add_looking(alloc: Global, names: &Names, bodies: &mut Bodies) -> Result<(), AllocError> {
-    let body: Body = Box::new(
-        alloc,
-        |_fields: &Fields, _view: &View| -> Result<Act, AllocError>
-            ensures { IfOk result (λ act. act ≡ Give Null) }
-        { Ok(Act::Give { value: Value::Null }) },
-    )
-    .map_err(AllocError::from)?;
-    let mut shape = Shape::new(alloc);
-    shape.lookups.push(Lookup {
-        bean_type: names.name_for("S"),
-        qualifiers: Seq::empty(alloc),
-    })?;
+/// The shape of a body that may look up `S`, and `T` with the qualifier `A`.
+fn looking_shape(alloc: Global, names: &Names) -> Result<Shape, AllocError> {
     let mut qualifiers = Seq::empty(alloc);
     qualifiers.push(Use {
         name: names.name_for("A"),
         members: Seq::empty(alloc),
     })?;
+    let mut shape = Shape::new(alloc);
+    shape.lookups.push(Lookup {
+        bean_type: names.name_for("S"),
+        qualifiers: Seq::empty(alloc),
+    })?;
     shape.lookups.push(Lookup {
         bean_type: names.name_for("T"),
         qualifiers,
     })?;
-    match bodies.add(names.name_for("look"), shape, body) {
-        Ok(_) => Ok(()),
-        Err(_) => Err(AllocError),
-    }
+    Ok(shape)
 }
 
 /// The tables of a deployment, unless it has problems of names or beans. A body is made in the function that registers it, since none
-/// may hand out a closure that it boxed. The body `look` is registered if the deployment names it.
+/// may hand out a closure that it boxed.
 pub(crate) fn tables_of(
     alloc: Global,
     deployment: Deployment,
@@ -57,10 +47,8 @@ pub(crate) fn tables_of(
     )
     .map_err(AllocError::from)?;
     let mut bodies = Bodies::new(alloc);
-    if deployment.names.find("look").is_some() {
-        add_looking(alloc, &deployment.names, &mut bodies)?;
-    }
-    match bodies.add(deployment.names.name_for("b"), Shape::new(alloc), body) {
+    let shape = looking_shape(alloc, &deployment.names)?;
+    match bodies.add(deployment.names.name_for("b"), shape, body) {
         Ok(_) => Ok(RunTables::build(alloc, deployment, tables, &bodies)?),
         Err(_) => Err(OrMemory::Memory),
     }
