@@ -6,9 +6,11 @@
 //! | `chains` | which interceptors stand round what | `chains` |
 //! | `observers` | which observers hear events of the injected fields of the last class | `observers` |
 //! | `plans` | the plans of the beans | `plans` |
+//! | `run` and a word | what a run asks | `runs` |
 use crate::chains::chains_answers;
 use crate::observers::observers_answers;
 use crate::plans::plans_answers;
+use crate::runs::run_answers;
 use cdi_deploy::read_at;
 use cdi_deployment::Deployment;
 use cdi_stage::WHOLE;
@@ -22,6 +24,7 @@ fn answers_of(alloc: Global, deployment: Deployment, words: &[&str]) -> Result<S
         ["chains"] => chains_answers(alloc, &deployment),
         ["observers"] => observers_answers(alloc, &deployment),
         ["plans"] => plans_answers(alloc, deployment),
+        ["run", word] => run_answers(alloc, deployment, word),
         _ => String::from_str(alloc, "nothing has these words\n"),
     }
 }

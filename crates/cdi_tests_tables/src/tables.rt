@@ -3,14 +3,33 @@ ghost use Rattle.std.specs.Prelude.{◌≡◌, IfOk};
 ghost use Rattle.cdi_base.specs.declared.act.Act.TheVariants.{Give};
 ghost use Rattle.cdi_base.specs.declared.value.Value.TheVariants.{Null};
 
-use cdi_base::{Act, Fields, OrMemory, Seq, Value};
+use cdi_base::{Act, Fields, Names, OrMemory, Seq, Use, Value};
 use cdi_beans::ListedBeans;
-use cdi_bodies::{Bodies, Body, Shape, View};
+use cdi_bodies::{Bodies, Body, Lookup, Shape, View};
 use cdi_deployment::Deployment;
 use cdi_problems::Problem;
 use cdi_resolve::BeanTables;
 use cdi_run_tables::RunTables;
 use std::alloc::{AllocError, Global};
+
+/// The shape of a body that may look up `S`, and `T` with the qualifier `A`.
+fn looking_shape(alloc: Global, names: &Names) -> Result<Shape, AllocError> {
+    let mut qualifiers = Seq::empty(alloc);
+    qualifiers.push(Use {
+        name: names.name_for("A"),
+        members: Seq::empty(alloc),
+    })?;
+    let mut shape = Shape::new(alloc);
+    shape.lookups.push(Lookup {
+        bean_type: names.name_for("S"),
+        qualifiers: Seq::empty(alloc),
+    })?;
+    shape.lookups.push(Lookup {
+        bean_type: names.name_for("T"),
+        qualifiers,
+    })?;
+    Ok(shape)
+}
 
 /// The tables of a deployment, unless it has problems of names or beans. A body is made in the function that registers it, since none
 /// may hand out a closure that it boxed.
@@ -28,7 +47,8 @@ pub(crate) fn tables_of(
     )
     .map_err(AllocError::from)?;
     let mut bodies = Bodies::new(alloc);
-    match bodies.add(deployment.names.name_for("b"), Shape::new(alloc), body) {
+    let shape = looking_shape(alloc, &deployment.names)?;
+    match bodies.add(deployment.names.name_for("b"), shape, body) {
         Ok(_) => Ok(RunTables::build(alloc, deployment, tables, &bodies)?),
         Err(_) => Err(OrMemory::Memory),
     }
