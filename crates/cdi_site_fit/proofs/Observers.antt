@@ -1,15 +1,13 @@
 -- The observers of enabled beans fit.
-use Rattle.std.proofs.Common.{ℕ, zero, suc, ◌≡◌, ◌<◌, ◌∙◌, ◌+◌, ◌⊎◌, ◌&&◌, not, inl, inr, Bool, true, false, cond, nat_eq, List, [], ◌∷◌, ◌++◌, map, filter, length, get_or, Option, Some, None, refl, sym, ap, subst, arith}
-use Rattle.std.specs.Prelude.{int_lt, option_and_then, option_map, position, slice_get, if◌then◌else◌}
+use Rattle.std.proofs.Common.{ℕ, ◌≡◌, ◌∙◌, ◌+◌, ◌&&◌, not, inl, inr, Bool, true, false, cond, nat_eq, List, [], ◌∷◌, map, filter, Option, Some, None, refl, sym, ap, subst, arith}
+use Rattle.std.specs.Prelude.{int_lt, option_and_then, option_map, if◌then◌else◌}
 use Rattle.std.specs.Ordering.{int_eq}
 use Rattle.std.proofs.lemmas.Bool.{and_parts, eqb-true}
-use Rattle.std.proofs.lemmas.List.Quantifiers.{position-Some}
 use Rattle.std.proofs.lemmas.Option.{same_Some}
-use Rattle.std.specs.List.{AllByRecursion, AllZip, enumerate_from, filter_map}
+use Rattle.std.specs.List.{AllByRecursion, enumerate_from, filter_map}
 use Rattle.cdi_base.specs.declared.uses.Use.{Use}
-use Rattle.cdi_bean_check.specs.Inherited.{AreMembersOf}
 use Rattle.cdi_bean_check.specs.ManagedBeans.{is_bean}
-use Rattle.cdi_beans.specs.ObserverMethods.{AreObserversOf, IsObserverOf, observer}
+use Rattle.cdi_beans.specs.ObserverMethods.{observer}
 use Rattle.cdi_beans.specs.declared.bean.Bean.{Bean}
 use Rattle.cdi_beans.specs.declared.bean.ObserverMethod.{ObserverMethod}
 use Rattle.cdi_bodies.specs.Gives.{LieInShape, lookups_of}
@@ -32,7 +30,6 @@ use Rattle.cdi_types.specs.Line.{IsLineOf, class_named}
 use Rattle.cdi_types.specs.Members.{members_of}
 use Rattle.cdi_plans.specs.Codes.{injected_method}
 use Rattle.cdi_plans.specs.Observers.{as_observer, observer_in, observer_named, observer_of}
-use Rattle.cdi_quals.specs.declared.types.QualifierType.{QualifierType}
 use Rattle.cdi_resolve.specs.declared.bean_tables.BeanTables.{BeanTables}
 use Rattle.cdi_resolve.specs.Filters.{enabled_of, is_enabled}
 use Rattle.cdi_run_tables.specs.Machine.{AreIdsOf, bean_with, has_none, hearers, id_of, machine_member, machine_observer, machine_tables, managed_bean, observer_of_bean, observer_with, observers_of}

@@ -1,17 +1,11 @@
 -- Products of enabled beans fit.
-use Rattle.std.proofs.Common.{ℕ, zero, suc, ◌≡◌, ◌∙◌, inl, inr, Bool, true, false, not, nat_eq, List, [], ◌∷◌, ◌++◌, map, filter, Option, Some, None, IsTrue, refl, sym, ap, subst, if◌then◌else◌, arith}
+use Rattle.std.proofs.Common.{ℕ, zero, suc, ◌≡◌, ◌∙◌, inl, inr, Bool, true, false, not, nat_eq, List, [], ◌∷◌, ◌++◌, map, filter, Option, Some, None, IsTrue, refl, sym, ap, subst, arith}
 use Rattle.std.specs.Prelude.{option_and_then, option_map, slice_get, slice_index_or}
 use Rattle.std.proofs.lemmas.Bool.{and_parts, true≢false}
 use Rattle.std.proofs.lemmas.List.Elements.{filter_map-append}
 use Rattle.std.proofs.lemmas.Option.{same_Some}
-use Rattle.std.specs.List.{AllZip, cons_option, filter_map, find, flat_map, list_any}
-use Rattle.cdi_base.specs.Fields.{has}
-use Rattle.cdi_bean_check.specs.ManagedBeans.{is_bean}
-use Rattle.cdi_beans.specs.Beans.{IsBeanOf, Source, products_in, sources_in}
-use Rattle.cdi_bean_rules.specs.Limits.{is_producer}
-use Rattle.cdi_beans.specs.declared.bean.Bean.{Bean}
+use Rattle.std.specs.List.{cons_option, filter_map, find, list_any}
 use Rattle.cdi_beans.specs.declared.bean.BeanKind.{BeanKind}
-use Rattle.cdi_beans.specs.declared.bean.BeanKind.TheVariants as kinds
 use Rattle.cdi_check.proofs.Accepted.{append_none, none_told}
 use Rattle.cdi_deployment.specs.declared.deployment.Class.{Class}
 use Rattle.cdi_deployment.specs.declared.deployment.Deployment.{Deployment}
@@ -29,13 +23,12 @@ use Rattle.cdi_name_check.specs.UnknownName.{HasUnknownName, knows_member}
 use Rattle.cdi_plans.specs.Products.{is_producer_of, producer_in, producer_of}
 use Rattle.cdi_problems.specs.Elements.{Element, elements_of}
 use Rattle.cdi_problems.specs.declared.problem.ProblemKind.TheVariants as problem_kinds
-use Rattle.cdi_quals.specs.declared.types.QualifierType.{QualifierType}
 use Rattle.cdi_types.specs.ListsThose.{ListsThose}
 use Rattle.cdi_types.specs.Declarations.{declarations_of}
 use Rattle.cdi_types.specs.Lineage.{IsLineage}
 use Rattle.cdi_accepted.proofs.Duplicates.{no_built_in}
 use Rattle.cdi_accepted.proofs.Lines.{is_listed, is_of_name}
-use Rattle.cdi_accepted.proofs.Lists.{Among, among_filter, among_flat_map, among_left, among_map, among_right, found_among, holds_among, mapped, part_of}
+use Rattle.cdi_accepted.proofs.Lists.{Among, among_filter, among_left, among_map, among_right, found_among, holds_among}
 use Rattle.cdi_accepted.proofs.Repeats.{index, is_member_element}
 
 -- ---- the own members of a class

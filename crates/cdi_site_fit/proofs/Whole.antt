@@ -1,7 +1,7 @@
 -- The tables of an accepted deployment fit.
-use Rattle.std.proofs.Common.{ℕ, suc, ◌≡◌, ◌<◌, ◌+◌, ◌∙◌, ◌∷◌, ◌&&◌, not, cond, arith, inl, inr, Bool, true, false, nat_eq, List, [], map, length, Some, None, refl, sym, ap, subst}
-use Rattle.std.specs.Prelude.{option_and_then, option_map, position, slice_get}
-use Rattle.std.proofs.lemmas.Bool.{and_from, and_parts, eq-eqb, eqb-true, lt-ltb, true≢false}
+use Rattle.std.proofs.Common.{ℕ, ◌≡◌, ◌∙◌, ◌&&◌, Bool, true, nat_eq, List, map, Some, refl, sym, ap, subst}
+use Rattle.std.specs.Prelude.{option_and_then, option_map, slice_get}
+use Rattle.std.proofs.lemmas.Bool.{and_from, and_parts, eq-eqb, eqb-true}
 use Rattle.std.proofs.lemmas.Option.{same_Some}
 use Rattle.std.specs.List.{AllByRecursion, enumerate_from, filter_map, list_any, position_or_len}
 use Rattle.cdi_base.specs.Fields.{has}

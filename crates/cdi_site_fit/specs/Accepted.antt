@@ -23,7 +23,8 @@ use Rattle.cdi_run_tables.specs.declared.tables.RunTables.{RunTables}
 use Rattle.cdi_worlds_fit.specs.Fits.{Fits, FitsClass}
 
 -- the tables of a deployment that has no problems with these registered bodies, and texts of its exceptions
-pub record IsFaultless {X : Type 0} {F : X → Type 0} {g : _} (entries : List (Entry X F g)) (t : RunTables) : Type 0 where
+pub record IsFaultless {X : Type 0} {F : X → Type 0} {g : _} (entries : List (Entry X F g))
+    (t : RunTables) : Type 0 where
   pub tabled : IsTabled t
   pub ids : AreIdsOf entries t
   pub lookups : t.lookups ≡ lookups_of entries
@@ -34,13 +35,15 @@ pub record IsFaultless {X : Type 0} {F : X → Type 0} {g : _} (entries : List (
 -- each managed bean to which something resolves: its plan, its methods, its pre-destroy lifecycle
 abbrev pub ManagedFit : {X : Type 0} {F : X → Type 0} {g : _} → List (Entry X F g) → Type 0
 ManagedFit entries =
-    (t : RunTables) → IsFaultless entries t → (asked : Asked) (b : ℕ) → (machine_tables t).resolve asked ≡ One b
+    (t : RunTables) → IsFaultless entries t
+    → (asked : Asked) (b : ℕ) → (machine_tables t).resolve asked ≡ One b
     → (bean : Bean) → (machine_tables t).bean b ≡ Some bean → (c : Managed) → bean.kind ≡ Kind.Class c
     → FitsClass (machine_tables t) (legal_of entries) c
 
 -- the whole
 abbrev pub WholeFits : {X : Type 0} {F : X → Type 0} {g : _} → List (Entry X F g) → Type 0
-WholeFits entries = (t : RunTables) → IsFaultless entries t → Fits (machine_tables t) (legal_of entries)
+WholeFits entries =
+    (t : RunTables) → IsFaultless entries t → Fits (machine_tables t) (legal_of entries)
 
 -- the bodies of a destruction are told from all others by their places
 abbrev pub FarewellsApart : {X : Type 0} {F : X → Type 0} {g : _} → List (Entry X F g) → Type 0
