@@ -4,6 +4,7 @@ use Rattle.cdi_bodies.specs.Gives.{lookups_of}
 use Rattle.cdi_bodies.specs.declared.entry.Entry.{Entry}
 use Rattle.cdi_body_check.specs.Shapes.{shape_of}
 use Rattle.cdi_check.specs.Late.{AreProblemsIn}
+use Rattle.cdi_check.specs.Problems.{AreProblemsOf}
 use Rattle.cdi_check.specs.Tables.{setting_by}
 use Rattle.cdi_farewells.specs.Beginnings.{BeginsOnce}
 use Rattle.cdi_ledger.specs.Callbacks.{FirstsStandOnce, PlacesOfBodiesAreApart}
@@ -31,6 +32,14 @@ pub record IsFaultless {X : Type 0} {F : X → Type 0} {g : _} (entries : List (
   pub texts : has_texts t.deployment ≡ true
   pub problems : AreProblemsIn t.deployment (shape_of entries) t.tables.enabled
       (setting_by t.deployment t.tables) []
+
+-- an accepted deployment's tables with these bodies are such
+abbrev pub AcceptedIsFaultless : {X : Type 0} {F : X → Type 0} {g : _} → List (Entry X F g) → Type 0
+AcceptedIsFaultless entries =
+    (t : RunTables) → AreProblemsOf t.deployment (shape_of entries) []
+    → has_texts t.deployment ≡ true → IsTabled t → AreIdsOf entries t
+    → t.lookups ≡ lookups_of entries
+    → IsFaultless entries t
 
 -- each managed bean to which something resolves: its plan, its methods, its pre-destroy lifecycle
 abbrev pub ManagedFit : {X : Type 0} {F : X → Type 0} {g : _} → List (Entry X F g) → Type 0

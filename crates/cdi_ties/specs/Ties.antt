@@ -41,5 +41,6 @@ GroupsAre =
 abbrev pub WrittenAre : Type 0
 WrittenAre =
     (t : RunTables) (uses : List Use) (set : List Qualifier)
-    → IsSetOf t.deployment.names t.tables.declared.qualifiers (filter (λ u. not (is_any u)) uses) set
+    → IsSetOf t.deployment.names t.tables.declared.qualifiers
+    (filter (λ u. not (is_any u)) uses) set
     → (machine_tables t).written uses ≡ map written_use set
