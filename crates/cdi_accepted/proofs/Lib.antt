@@ -5,6 +5,9 @@ pub mod Repeats
 pub mod Members
 pub mod Fields
 pub mod Beans
+pub mod Managed
+pub mod Positions
+pub mod Observing
 pub mod Registered
 pub mod Texts
 pub mod DeterminedLists

@@ -1,9 +1,10 @@
 -- The problems of a deployment with its bodies are one list.
-use Rattle.std.proofs.Common.{◌≡◌, ◌∙◌, ℕ, Bool, List, ◌++◌, Option, sym, subst}
+use Rattle.std.proofs.Common.{◌≡◌, ◌∙◌, ℕ, Bool, List, [], ◌++◌, Option, refl, sym, subst}
 use Rattle.cdi_beans.specs.declared.bean.BeanList.{BeanList}
 use Rattle.cdi_bodies.specs.declared.shape.Shape.{Shape}
 use Rattle.cdi_check.specs.Late.{AreBodyProblems, AreEnabledProblems, AreLateProblems, ArePointProblems, AreProblemsIn, setting_of}
 use Rattle.cdi_check.specs.Problems.{AreProblemsOf}
+use Rattle.cdi_check.specs.Tables.{setting_by}
 use Rattle.cdi_live.specs.OwnPoints.{Inventory}
 use Rattle.cdi_deployment.specs.declared.deployment.Deployment.{Deployment}
 use Rattle.cdi_enable.specs.Enablement.{Enablement, AreFlags, enablement_of}
@@ -11,6 +12,8 @@ use Rattle.cdi_problems.specs.Words.{problems_at}
 use Rattle.cdi_problems.specs.declared.problem.Problem.{Problem}
 use Rattle.cdi_problems.specs.declared.problem.ProblemKind.TheVariants as kinds
 use Rattle.cdi_quals.specs.declared.types.QualifierType.{QualifierType}
+use Rattle.cdi_resolve.specs.BeanTables.{AreTablesOf}
+use Rattle.cdi_resolve.specs.declared.bean_tables.BeanTables.{BeanTables}
 use Rattle.cdi_accepted.proofs.BeanLists.{one_list}
 use Rattle.cdi_accepted.proofs.Findings.{no_early, one_early, one_place_list}
 use Rattle.cdi_accepted.proofs.Tables.{one_flags}
@@ -84,3 +87,24 @@ module _ (d : Deployment) (shape_of : ℕ → Option Shape) where
   one_verdict these those (AreProblemsOf.early h) (AreProblemsOf.late k) = absurd (no_early d k.list these k.made h)
   one_verdict these those (AreProblemsOf.late h) (AreProblemsOf.early k) = absurd (no_early d h.list those h.made k)
   one_verdict these those (AreProblemsOf.late h) (AreProblemsOf.late k) = one_late these those h k
+
+  -- where there is none, the tables of the deployment show none
+  pub none_by_tables : (t : BeanTables) → AreTablesOf d t → AreProblemsOf d shape_of [] → AreProblemsIn d shape_of t.enabled (setting_by d t) []
+  none_by_tables t tables (AreProblemsOf.early h) = absurd (h.some refl)
+  none_by_tables t tables (AreProblemsOf.late h) =
+      let list : h.list ≡ tables.list = one_list d h.list tables.list h.made tables.made in
+      let qualifiers : h.qualifiers ≡ t.declared.qualifiers =
+      one_qualifier_list d h.qualifiers t.declared.qualifiers h.are_qualifiers tables.are.declared.qualifiers in
+      let bindings : h.bindings ≡ t.declared.bindings = one_type_list d.names h.are_bindings tables.are.declared.bindings in
+      let flags : h.flags ≡ t.resolver.flags =
+      one_flags (enablement_of tables.list) h.flags t.resolver.flags (subst (λ l. AreFlags (enablement_of l) h.flags) list h.are_flags) tables.are.flags in
+      let P : BeanList → List Bool → List QualifierType → List QualifierType → Type 0 =
+      λ l fs qs bs. AreProblemsIn d shape_of (enablement_of l) (setting_of d l fs qs bs) [] in
+      let in_list : P tables.list h.flags h.qualifiers h.bindings = subst (λ l. P l h.flags h.qualifiers h.bindings) list h.are in
+      let in_flags : P tables.list t.resolver.flags h.qualifiers h.bindings = subst (λ fs. P tables.list fs h.qualifiers h.bindings) flags in_list in
+      let in_qualifiers : P tables.list t.resolver.flags t.declared.qualifiers h.bindings =
+      subst (λ qs. P tables.list t.resolver.flags qs h.bindings) qualifiers in_flags in
+      let in_all : P tables.list t.resolver.flags t.declared.qualifiers t.declared.bindings =
+      subst (λ bs. P tables.list t.resolver.flags t.declared.qualifiers bs) bindings in_qualifiers in
+      let Q : BeanTables → Type 0 = λ s. AreProblemsIn d shape_of s.enabled (setting_by d s) [] in
+      subst Q (sym tables.are.are) in_all

@@ -1,15 +1,13 @@
 -- The observers of enabled beans fit.
-use Rattle.std.proofs.Common.{ℕ, zero, suc, ◌≡◌, ◌<◌, ◌∙◌, ◌+◌, ◌⊎◌, ◌&&◌, not, inl, inr, Bool, true, false, cond, nat_eq, List, [], ◌∷◌, ◌++◌, map, filter, length, get_or, Option, Some, None, refl, sym, ap, subst, arith}
-use Rattle.std.specs.Prelude.{int_lt, option_and_then, option_map, position, slice_get, if◌then◌else◌}
+use Rattle.std.proofs.Common.{ℕ, ◌≡◌, ◌∙◌, ◌+◌, ◌&&◌, not, inl, inr, Bool, true, false, cond, nat_eq, List, [], ◌∷◌, map, filter, Option, Some, None, refl, sym, ap, subst, arith}
+use Rattle.std.specs.Prelude.{int_lt, option_and_then, option_map, if◌then◌else◌}
 use Rattle.std.specs.Ordering.{int_eq}
 use Rattle.std.proofs.lemmas.Bool.{and_parts, eqb-true}
-use Rattle.std.proofs.lemmas.List.Quantifiers.{position-Some}
 use Rattle.std.proofs.lemmas.Option.{same_Some}
-use Rattle.std.specs.List.{AllByRecursion, AllZip, enumerate_from, filter_map}
+use Rattle.std.specs.List.{AllByRecursion, enumerate_from, filter_map}
 use Rattle.cdi_base.specs.declared.uses.Use.{Use}
-use Rattle.cdi_bean_check.specs.Inherited.{AreMembersOf}
 use Rattle.cdi_bean_check.specs.ManagedBeans.{is_bean}
-use Rattle.cdi_beans.specs.ObserverMethods.{AreObserversOf, IsObserverOf, observer}
+use Rattle.cdi_beans.specs.ObserverMethods.{observer}
 use Rattle.cdi_beans.specs.declared.bean.Bean.{Bean}
 use Rattle.cdi_beans.specs.declared.bean.ObserverMethod.{ObserverMethod}
 use Rattle.cdi_bodies.specs.Gives.{LieInShape, lookups_of}
@@ -32,7 +30,6 @@ use Rattle.cdi_types.specs.Line.{IsLineOf, class_named}
 use Rattle.cdi_types.specs.Members.{members_of}
 use Rattle.cdi_plans.specs.Codes.{injected_method}
 use Rattle.cdi_plans.specs.Observers.{as_observer, observer_in, observer_named, observer_of}
-use Rattle.cdi_quals.specs.declared.types.QualifierType.{QualifierType}
 use Rattle.cdi_resolve.specs.declared.bean_tables.BeanTables.{BeanTables}
 use Rattle.cdi_resolve.specs.Filters.{enabled_of, is_enabled}
 use Rattle.cdi_run_tables.specs.Machine.{AreIdsOf, bean_with, has_none, hearers, id_of, machine_member, machine_observer, machine_tables, managed_bean, observer_of_bean, observer_with, observers_of}
@@ -44,6 +41,8 @@ use Rattle.cdi_worlds_fit.specs.Fits.{FitsManaged, FitsMember, FitsObserver}
 use Rattle.cdi_run_tables.specs.Events.{Group, groups_of, new_group, with_observer}
 use Rattle.cdi_accepted.proofs.Lists.{Among, among_filter, found_among, given, mapped, of_filter}
 use Rattle.cdi_accepted.proofs.Members.{IsOfLine, of_line}
+use Rattle.cdi_accepted.proofs.Observing.{IsObserverIn, as_member, observer_in_list, of_as_observer}
+use Rattle.cdi_accepted.proofs.Positions.{found_at, numbered_at}
 use Rattle.cdi_site_fit.proofs.Methods.{apart, front, known, managed}
 use Rattle.cdi_site_fit.proofs.Plans.{HasPlan, has_plan, kind_of}
 use Rattle.cdi_site_fit.proofs.Ready.{all_of, class_fits, member_is_fit}
@@ -95,89 +94,6 @@ in_groups (x ∷ os) g o s a = by (λ h. in_groups os h o) (one_added x o g (gro
     by rec (IsOld.new e) = inl e
     by rec (IsOld.old h q r) = inr (rec h q r)
 
--- ---- the observers of a bean list
-
-record IsObserverIn (d : Deployment) (qualifiers : List QualifierType) (o : ObserverMethod) : Type 0 where
-  bean : Class
-  has : List (Class × Member)
-  are : AreMembersOf d.classes (declarations_of d) bean has
-  declared : Class × Observer
-  stands : Among declared (filter_map observer has)
-  is : IsObserverOf d qualifiers bean declared o
-
-beside_one : {A B : Type 0} (R : A → B → Type 0) (xs : List A) (ys : List B) (y : B) → AllZip R xs ys → Among y ys → (x : A) × Among x xs × R x y
-beside_one R [] [] y zip a = absurd a
-beside_one R [] (z ∷ ys) y zip a = absurd zip
-beside_one R (x ∷ xs) [] y zip a = absurd zip
-beside_one {A} {B} R (x ∷ xs) (z ∷ ys) y zip (inl e) = (x, inl refl, subst (λ (k : B). R x k) (sym e) zip.0)
-beside_one R (x ∷ xs) (z ∷ ys) y zip (inr a) = let more = beside_one R xs ys y zip.1 a in (more.0, inr more.1, more.2)
-
-parted : {A : Type 0} (xs ys : List A) (x : A) → Among x (xs ++ ys) → Among x xs ⊎ Among x ys
-parted [] ys x a = inr a
-parted (z ∷ xs) ys x (inl e) = inl (inl e)
-parted {A} (z ∷ xs) ys x (inr a) = by (parted xs ys x a)
-  where
-    by : Among x xs ⊎ Among x ys → Among x (z ∷ xs) ⊎ Among x ys
-    by (inl q) = inl (inr q)
-    by (inr q) = inr q
-
-observer_in_list : (d : Deployment) (qualifiers : List QualifierType) (cs : List Class) (os : List ObserverMethod) → AreObserversOf d qualifiers cs os → (o : ObserverMethod) → Among o os → IsObserverIn d qualifiers o
-observer_in_list d qualifiers cs os AreObserversOf.none o a = absurd a
-observer_in_list d qualifiers cs os (AreObserversOf.next {c = c} {cs = rest_cs} {has = has} {rest = rest} first are zip more) o a =
-    by (observer_in_list d qualifiers rest_cs rest more o) (parted first rest o a)
-  where
-    by : (Among o rest → IsObserverIn d qualifiers o) → Among o first ⊎ Among o rest → IsObserverIn d qualifiers o
-    by rec (inl q) =
-        let x = beside_one (IsObserverOf d qualifiers c) (filter_map observer has) first o zip q in
-        record { bean = c; has = has; are = are; declared = x.0; stands = x.1; is = x.2 }
-    by rec (inr q) = rec q
-
-as_member : (p : Class × Member) (declared : Class × Observer) → observer p ≡ Some declared → p ≡ (declared.0, members.Observer declared.1)
-as_member (c, members.Observer o) declared e = ap (λ (x : Class × Observer). (x.0, members.Observer x.1)) (same_Some (c, o) declared e)
-as_member (c, members.Method m) declared e = absurd cc
-as_member (c, members.Initializer m) declared e = absurd cc
-as_member (c, members.PostConstruct m) declared e = absurd cc
-as_member (c, members.PreDestroy m) declared e = absurd cc
-as_member (c, members.Producer m) declared e = absurd cc
-as_member (c, members.ProducerField m) declared e = absurd cc
-as_member (c, members.Disposer m) declared e = absurd cc
-
-pub of_as_observer : (m : Member) (o : Observer) → as_observer m ≡ Some o → m ≡ members.Observer o
-of_as_observer (members.Observer x) o e = ap (λ k. members.Observer k) (same_Some x o e)
-of_as_observer (members.Method m) o e = absurd cc
-of_as_observer (members.Initializer m) o e = absurd cc
-of_as_observer (members.PostConstruct m) o e = absurd cc
-of_as_observer (members.PreDestroy m) o e = absurd cc
-of_as_observer (members.Producer m) o e = absurd cc
-of_as_observer (members.ProducerField m) o e = absurd cc
-of_as_observer (members.Disposer m) o e = absurd cc
-
--- ---- managed beans by their classes
-
--- what stands at a position passes
-pub record IsFound {A : Type 0} (p : A → Bool) (xs : List A) (n : ℕ) : Type 0 where
-  pub item : A
-  pub has : slice_get xs n ≡ Some item
-  pub passes : p item ≡ true
-
-got : {A : Type 0} (xs : List A) (n : ℕ) (d : A) → n < length xs → slice_get xs n ≡ Some (get_or xs n d)
-got [] n d lt = absurd (omega arith)
-got (x ∷ xs) zero d lt = refl
-got (x ∷ xs) (suc n) d lt = got xs n d (omega arith)
-
-pub found_at : {A : Type 0} (p : A → Bool) (xs : List A) (n : ℕ) → position p xs ≡ Some n → IsFound p xs n
-found_at p [] n e = absurd cc
-found_at {A} p (x ∷ xs) n e =
-    let at = position-Some p (x ∷ xs) n x e in
-    record { item = get_or (x ∷ xs) n x; has = got (x ∷ xs) n x at.0; passes = at.1 }
-
-pub numbered_at : {A : Type 0} (first : ℕ) (xs : List A) (i : ℕ) (x : A) → slice_get xs i ≡ Some x → Among (first + i, x) (enumerate_from first xs)
-numbered_at first [] i x e = absurd cc
-numbered_at {A} first (y ∷ ys) zero x e = let one : first + 0 ≡ first = omega arith in inl (ap (λ (n : ℕ). (n, x)) one ∙ ap (λ (z : A). (first, z)) (sym (same_Some y x e)))
-numbered_at {A} first (y ∷ ys) (suc i) x e =
-    let one : (first + 1) + i ≡ first + suc i = omega arith in
-    inr (subst (λ (n : ℕ). Among (n, x) (enumerate_from (first + 1) ys)) one (numbered_at (first + 1) ys i x e))
-
 module _ {X : Type 0} {F : X → Type 0} {g : _} (entries : List (Entry X F g)) (lies : LieInShape entries) (t : RunTables) (tabled : IsTabled t) (lookups : t.lookups ≡ lookups_of entries) (ids : AreIdsOf entries t)
     (sound : AreBodiesSound t.deployment (shape_of entries) (setting_by t.deployment t.tables)) (texts : has_texts t.deployment ≡ true) where
   abbrev d : Deployment
@@ -225,7 +141,7 @@ module _ {X : Type 0} {F : X → Type 0} {g : _} (entries : List (Entry X F g)) 
         fits = class_fits entries lies t tabled lookups ids sound texts n at.listed at.enabled at.plan at.kind;
       }
 
-  module _ (o : ObserverMethod) (n : ℕ) (at : IsManagedAt n o.bean) (inside : IsObserverIn d tabled.tables.made.qualifiers o) where
+  module _ (o : ObserverMethod) (n : ℕ) (at : IsManagedAt n o.bean) (inside : IsObserverIn d tabled.tables.made.qualifiers (filter is_bean d.classes) o) where
     -- it stands among the members of the bean
     stands : Among (inside.declared.0, members.Observer inside.declared.1) (members_of at.plan.line)
     stands =
@@ -277,7 +193,7 @@ module _ {X : Type 0} {F : X → Type 0} {g : _} (entries : List (Entry X F g)) 
   one_observer : (o : ObserverMethod) → Among o t.tables.observers → (x : machine.Observer) → machine_observer t o ≡ Some x → FitsObserver T L x
   one_observer o stands x e = by (managed_bean t.tables.resolver.beans o.bean) refl e
     where
-      inside : IsObserverIn d tabled.tables.made.qualifiers o
+      inside : IsObserverIn d tabled.tables.made.qualifiers (filter is_bean d.classes) o
       inside =
           let P : List ObserverMethod → Type 0 = λ os. Among o os in
           let observers_are : t.tables.observers ≡ tabled.tables.list.observers = ap (λ (s : BeanTables). s.observers) tabled.tables.are.are in

@@ -53,7 +53,7 @@ use Rattle.cdi_accepted.proofs.Lines.{front_of, is_listed, is_of_name}
 use Rattle.cdi_accepted.proofs.Lists.{Among, among_parts, found_among, given, mapped, of_filter, of_is_in}
 use Rattle.cdi_accepted.proofs.Members.{of_line}
 use Rattle.cdi_site_fit.proofs.Fitting.{class_is_managed, same_class}
-use Rattle.cdi_site_fit.proofs.Observers.{of_as_observer}
+use Rattle.cdi_accepted.proofs.Observing.{of_as_observer}
 use Rattle.cdi_site_fit.proofs.Plans.{HasPlan, has_plan}
 use Rattle.cdi_site_fit.proofs.Products.{of_those, producer_is}
 

@@ -1,17 +1,11 @@
 -- Products of enabled beans fit.
-use Rattle.std.proofs.Common.{ℕ, zero, suc, ◌≡◌, ◌∙◌, inl, inr, Bool, true, false, not, nat_eq, List, [], ◌∷◌, ◌++◌, map, filter, Option, Some, None, IsTrue, refl, sym, ap, subst, if◌then◌else◌, arith}
+use Rattle.std.proofs.Common.{ℕ, zero, suc, ◌≡◌, ◌∙◌, inl, inr, Bool, true, false, not, nat_eq, List, [], ◌∷◌, ◌++◌, map, filter, Option, Some, None, IsTrue, refl, sym, ap, subst, arith}
 use Rattle.std.specs.Prelude.{option_and_then, option_map, slice_get, slice_index_or}
 use Rattle.std.proofs.lemmas.Bool.{and_parts, true≢false}
 use Rattle.std.proofs.lemmas.List.Elements.{filter_map-append}
 use Rattle.std.proofs.lemmas.Option.{same_Some}
-use Rattle.std.specs.List.{AllZip, cons_option, filter_map, find, flat_map, list_any}
-use Rattle.cdi_base.specs.Fields.{has}
-use Rattle.cdi_bean_check.specs.ManagedBeans.{is_bean}
-use Rattle.cdi_beans.specs.Beans.{IsBeanOf, Source, products_in, sources_in}
-use Rattle.cdi_bean_rules.specs.Limits.{is_producer}
-use Rattle.cdi_beans.specs.declared.bean.Bean.{Bean}
+use Rattle.std.specs.List.{cons_option, filter_map, find, list_any}
 use Rattle.cdi_beans.specs.declared.bean.BeanKind.{BeanKind}
-use Rattle.cdi_beans.specs.declared.bean.BeanKind.TheVariants as kinds
 use Rattle.cdi_check.proofs.Accepted.{append_none, none_told}
 use Rattle.cdi_deployment.specs.declared.deployment.Class.{Class}
 use Rattle.cdi_deployment.specs.declared.deployment.Deployment.{Deployment}
@@ -29,13 +23,12 @@ use Rattle.cdi_name_check.specs.UnknownName.{HasUnknownName, knows_member}
 use Rattle.cdi_plans.specs.Products.{is_producer_of, producer_in, producer_of}
 use Rattle.cdi_problems.specs.Elements.{Element, elements_of}
 use Rattle.cdi_problems.specs.declared.problem.ProblemKind.TheVariants as problem_kinds
-use Rattle.cdi_quals.specs.declared.types.QualifierType.{QualifierType}
 use Rattle.cdi_types.specs.ListsThose.{ListsThose}
 use Rattle.cdi_types.specs.Declarations.{declarations_of}
 use Rattle.cdi_types.specs.Lineage.{IsLineage}
 use Rattle.cdi_accepted.proofs.Duplicates.{no_built_in}
 use Rattle.cdi_accepted.proofs.Lines.{is_listed, is_of_name}
-use Rattle.cdi_accepted.proofs.Lists.{Among, among_filter, among_flat_map, among_left, among_map, among_right, found_among, holds_among, mapped, part_of}
+use Rattle.cdi_accepted.proofs.Lists.{Among, among_filter, among_left, among_map, among_right, found_among, holds_among}
 use Rattle.cdi_accepted.proofs.Repeats.{index, is_member_element}
 
 -- ---- the own members of a class
@@ -85,68 +78,6 @@ module _ (d : Deployment) (well : AreNameProblems d []) where
       by : (b : Bool) → (IsTrue (not b) → ⊥) → b ≡ true
       by true h = refl
       by false h = absurd (h refl)
-
--- ---- the managed bean that declares a product
-
-after_one : {A B : Type 0} (R : A → B → Type 0) (xs : List A) (ys : List B) (x : A) → AllZip R xs ys → Among x xs → (y : B) × Among y ys × R x y
-after_one R [] [] x zip a = absurd a
-after_one R [] (z ∷ ys) x zip a = absurd zip
-after_one R (z ∷ xs) [] x zip a = absurd zip
-after_one {A} {B} R (x ∷ xs) (z ∷ ys) y zip (inl e) = (z, inl refl, subst (λ (k : A). R k z) (sym e) zip.0)
-after_one R (x ∷ xs) (z ∷ ys) y zip (inr a) = let more = after_one R xs ys y zip.1 a in (more.0, inr more.1, more.2)
-
-before_one : {A B : Type 0} (R : A → B → Type 0) (xs : List A) (ys : List B) (y : B) → AllZip R xs ys → Among y ys → (x : A) × Among x xs × R x y
-before_one R [] [] y zip a = absurd a
-before_one R [] (z ∷ ys) y zip a = absurd zip
-before_one R (x ∷ xs) [] y zip a = absurd zip
-before_one {A} {B} R (x ∷ xs) (z ∷ ys) y zip (inl e) = (x, inl refl, subst (λ (k : B). R x k) (sym e) zip.0)
-before_one R (x ∷ xs) (z ∷ ys) y zip (inr a) = let more = before_one R xs ys y zip.1 a in (more.0, inr more.1, more.2)
-
-abbrev source_class : Source → ℕ
-source_class (Source.AClass c) = c.name
-source_class (Source.AProducer c m) = c.name
-
-class_of : (d : Deployment) (qualifiers : List QualifierType) (s : Source) (b : Bean) → IsBeanOf d qualifiers s b → b.class ≡ source_class s
-class_of d qualifiers (Source.AClass c) b (IsBeanOf.managed uses by has with) = by.class
-class_of d qualifiers (Source.AProducer c m) b (IsBeanOf.produced by with) = by.declared.class
-class_of d qualifiers (Source.AProducer c m) b (IsBeanOf.held by with) = by.declared.class
-
-managed_parts : (d : Deployment) (qualifiers : List QualifierType) (c : Class) (b : Bean) → IsBeanOf d qualifiers (Source.AClass c) b → (b.kind ≡ kinds.Managed) × (b.class ≡ c.name)
-managed_parts d qualifiers c b (IsBeanOf.managed uses by has with) = (with.kind_is, by.class)
-
--- a class that makes a bean is one
-record MakesClass (s : Source) (c : Class) : Type 0 where
-  named : source_class s ≡ c.name
-  makes : Among (Source.AClass c) (sources_in c)
-
-makes_class : (s : Source) (c : Class) → Among s (sources_in c) → MakesClass s c
-makes_class s c a = by (is_bean c) refl a
-  where
-    all : List Source
-    all = Source.AClass c ∷ products_in c c.members
-
-    by : (k : Bool) → is_bean c ≡ k → Among s (if k then Source.AClass c ∷ products_in c c.members else []) → MakesClass s c
-    by false e a = absurd a
-    by true e (inl q) =
-        record { named = ap source_class q; makes = subst (λ (k : Bool). Among (Source.AClass c) (if k then Source.AClass c ∷ products_in c c.members else [])) (sym e) (inl refl) }
-    by true e (inr q) =
-        let m = mapped (Source.AProducer c) (filter is_producer c.members) s q in
-        record { named = ap source_class m.is; makes = subst (λ (k : Bool). Among (Source.AClass c) (if k then Source.AClass c ∷ products_in c c.members else [])) (sym e) (inl refl) }
-
-pub record HasManaged (beans : List Bean) (class : ℕ) : Type 0 where
-  pub bean : Bean
-  pub stands : Among bean beans
-  pub kind : bean.kind ≡ kinds.Managed
-  pub of_class : bean.class ≡ class
-
-pub has_managed : (d : Deployment) (qualifiers : List QualifierType) (beans : List Bean) → AllZip (IsBeanOf d qualifiers) (flat_map sources_in d.classes) beans → (b : Bean) → Among b beans → HasManaged beans b.class
-has_managed d qualifiers beans zip b a =
-    let source = before_one (IsBeanOf d qualifiers) (flat_map sources_in d.classes) beans b zip a in
-    let part = part_of sources_in d.classes source.0 source.1 in
-    let makes = makes_class source.0 part.item part.part in
-    let other = after_one (IsBeanOf d qualifiers) (flat_map sources_in d.classes) beans (Source.AClass part.item) zip (among_flat_map sources_in d.classes part.item (Source.AClass part.item) part.stands makes.makes) in
-    let both = managed_parts d qualifiers part.item other.0 other.2 in
-    record { bean = other.0; stands = other.1; kind = both.0; of_class = both.1 ∙ sym makes.named ∙ sym (class_of d qualifiers source.0 b source.2) }
 
 -- ---- beans of one class are enabled together
 

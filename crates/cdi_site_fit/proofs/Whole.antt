@@ -1,7 +1,7 @@
 -- The tables of an accepted deployment fit.
-use Rattle.std.proofs.Common.{ℕ, suc, ◌≡◌, ◌<◌, ◌+◌, ◌∙◌, ◌∷◌, ◌&&◌, not, cond, arith, inl, inr, Bool, true, false, nat_eq, List, [], map, length, Some, None, refl, sym, ap, subst}
-use Rattle.std.specs.Prelude.{option_and_then, option_map, position, slice_get}
-use Rattle.std.proofs.lemmas.Bool.{and_from, and_parts, eq-eqb, eqb-true, lt-ltb, true≢false}
+use Rattle.std.proofs.Common.{ℕ, ◌≡◌, ◌∙◌, ◌&&◌, Bool, true, nat_eq, List, map, Some, refl, sym, ap, subst}
+use Rattle.std.specs.Prelude.{option_and_then, option_map, slice_get}
+use Rattle.std.proofs.lemmas.Bool.{and_from, and_parts, eq-eqb, eqb-true}
 use Rattle.std.proofs.lemmas.Option.{same_Some}
 use Rattle.std.specs.List.{AllByRecursion, enumerate_from, filter_map, list_any, position_or_len}
 use Rattle.cdi_base.specs.Fields.{has}
@@ -47,28 +47,16 @@ use Rattle.cdi_accepted.proofs.Beans.{beside, stands_listed, target}
 use Rattle.cdi_accepted.proofs.Fields.{has_first}
 use Rattle.cdi_accepted.proofs.Lines.{is_listed, is_of_name}
 use Rattle.cdi_accepted.proofs.Lists.{Among, any_passes, at_among, given, mapped, of_filter}
+use Rattle.cdi_accepted.proofs.Managed.{HasManaged, has_managed}
+use Rattle.cdi_accepted.proofs.Positions.{found_at, some_position}
 use Rattle.cdi_accepted.proofs.Texts.{built_in_text}
 use Rattle.cdi_site_fit.proofs.Fitting.{sound}
 use Rattle.cdi_site_fit.proofs.Methods.{known, managed}
-use Rattle.cdi_site_fit.proofs.Observers.{IsManagedAt, class_at, managed_at, observed, found_at}
+use Rattle.cdi_site_fit.proofs.Observers.{IsManagedAt, class_at, managed_at, observed}
 use Rattle.cdi_site_fit.proofs.Plans.{has_plan}
-use Rattle.cdi_site_fit.proofs.Products.{HasManaged, IsProducerOf, has_managed, mapped_get, names_field, of_those, own_class, own_member, producer_is, same_flag}
+use Rattle.cdi_site_fit.proofs.Products.{IsProducerOf, mapped_get, names_field, of_those, own_class, own_member, producer_is, same_flag}
 use Rattle.cdi_site_fit.proofs.Ready.{all_of, class_fits, member_is_fit}
 use Rattle.cdi_site_fit.specs.Accepted.{WholeFits}
-
--- ---- positions
-
-first_below : {A : Type 0} (p : A → Bool) (xs : List A) (x : A) → Among x xs → p x ≡ true → position_or_len p xs < length xs
-first_below p [] x a e = absurd a
-first_below {A} p (y ∷ ys) x a e = by (p y) refl a (first_below p ys x)
-  where
-    by : (b : Bool) → p y ≡ b → Among x (y ∷ ys) → (Among x ys → p x ≡ true → position_or_len p ys < length ys) → cond (not b) (1 + position_or_len p ys) 0 < suc (length ys)
-    by true f q rec = omega arith
-    by false f (inl same) rec = absurd (true≢false (sym e ∙ ap p same ∙ f))
-    by false f (inr q) rec = let lt = rec q e in omega arith
-
-some_position : {A : Type 0} (p : A → Bool) (xs : List A) (x : A) → Among x xs → p x ≡ true → position p xs ≡ Some (position_or_len p xs)
-some_position p xs x a e = ap (λ b. cond b (Some (position_or_len p xs)) None) (lt-ltb (position_or_len p xs) (length xs) (first_below p xs x a e))
 
 of_kind : (b : Bean) → b.kind ≡ kinds.Managed → is_managed b.kind ≡ true
 of_kind b e = ap is_managed e

@@ -4,6 +4,7 @@ use Rattle.cdi_bodies.specs.Gives.{lookups_of}
 use Rattle.cdi_bodies.specs.declared.entry.Entry.{Entry}
 use Rattle.cdi_body_check.specs.Shapes.{shape_of}
 use Rattle.cdi_check.specs.Late.{AreProblemsIn}
+use Rattle.cdi_check.specs.Problems.{AreProblemsOf}
 use Rattle.cdi_check.specs.Tables.{setting_by}
 use Rattle.cdi_farewells.specs.Beginnings.{BeginsOnce}
 use Rattle.cdi_ledger.specs.Callbacks.{FirstsStandOnce, PlacesOfBodiesAreApart}
@@ -23,7 +24,8 @@ use Rattle.cdi_run_tables.specs.declared.tables.RunTables.{RunTables}
 use Rattle.cdi_worlds_fit.specs.Fits.{Fits, FitsClass}
 
 -- the tables of a deployment that has no problems with these registered bodies, and texts of its exceptions
-pub record IsFaultless {X : Type 0} {F : X → Type 0} {g : _} (entries : List (Entry X F g)) (t : RunTables) : Type 0 where
+pub record IsFaultless {X : Type 0} {F : X → Type 0} {g : _} (entries : List (Entry X F g))
+    (t : RunTables) : Type 0 where
   pub tabled : IsTabled t
   pub ids : AreIdsOf entries t
   pub lookups : t.lookups ≡ lookups_of entries
@@ -31,16 +33,26 @@ pub record IsFaultless {X : Type 0} {F : X → Type 0} {g : _} (entries : List (
   pub problems : AreProblemsIn t.deployment (shape_of entries) t.tables.enabled
       (setting_by t.deployment t.tables) []
 
+-- an accepted deployment's tables with these bodies are such
+abbrev pub AcceptedIsFaultless : {X : Type 0} {F : X → Type 0} {g : _} → List (Entry X F g) → Type 0
+AcceptedIsFaultless entries =
+    (t : RunTables) → AreProblemsOf t.deployment (shape_of entries) []
+    → has_texts t.deployment ≡ true → IsTabled t → AreIdsOf entries t
+    → t.lookups ≡ lookups_of entries
+    → IsFaultless entries t
+
 -- each managed bean to which something resolves: its plan, its methods, its pre-destroy lifecycle
 abbrev pub ManagedFit : {X : Type 0} {F : X → Type 0} {g : _} → List (Entry X F g) → Type 0
 ManagedFit entries =
-    (t : RunTables) → IsFaultless entries t → (asked : Asked) (b : ℕ) → (machine_tables t).resolve asked ≡ One b
+    (t : RunTables) → IsFaultless entries t
+    → (asked : Asked) (b : ℕ) → (machine_tables t).resolve asked ≡ One b
     → (bean : Bean) → (machine_tables t).bean b ≡ Some bean → (c : Managed) → bean.kind ≡ Kind.Class c
     → FitsClass (machine_tables t) (legal_of entries) c
 
 -- the whole
 abbrev pub WholeFits : {X : Type 0} {F : X → Type 0} {g : _} → List (Entry X F g) → Type 0
-WholeFits entries = (t : RunTables) → IsFaultless entries t → Fits (machine_tables t) (legal_of entries)
+WholeFits entries =
+    (t : RunTables) → IsFaultless entries t → Fits (machine_tables t) (legal_of entries)
 
 -- the bodies of a destruction are told from all others by their places
 abbrev pub FarewellsApart : {X : Type 0} {F : X → Type 0} {g : _} → List (Entry X F g) → Type 0

@@ -1,9 +1,15 @@
 //! Laws on what an accepted deployment gives the whole machine. A call of one of these does nothing: its contract is the law.
 ghost use Rattle.cdi_bodies.specs.Table.{entries_of};
-ghost use Rattle.cdi_site_fit.specs.Accepted.{FarewellsApart, FarewellsBeginOnce, FarewellsBeginOnceIfShort, ManagedFit, WholeFits};
+ghost use Rattle.cdi_site_fit.specs.Accepted.{AcceptedIsFaultless, FarewellsApart, FarewellsBeginOnce, FarewellsBeginOnceIfShort, ManagedFit, WholeFits};
 ghost use Rattle.cdi_site_fit.specs.Chains.{InvokesPlanned, LivesPlanned};
 
 use cdi_bodies::Bodies;
+
+/// A deployment that has no problem with these bodies has tables of which the laws below speak (Jakarta CDI 4.0, *Problems detected
+/// automatically by the container*).
+pub fn law_accepted_is_faultless(bodies: &Bodies)
+    ensures { AcceptedIsFaultless (entries_of bodies.now) }
+{}
 
 /// In an accepted deployment each managed bean to which something resolves fits.
 pub fn law_managed_fit(bodies: &Bodies)

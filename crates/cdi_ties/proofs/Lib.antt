@@ -1,0 +1,6 @@
+pub mod Inserted
+pub mod Written
+pub mod Subtypes
+pub mod Grouped
+pub mod Enabled
+pub mod Heard
