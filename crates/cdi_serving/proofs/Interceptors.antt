@@ -16,7 +16,7 @@ none_listed [] = refl
 none_listed (name ∷ order) = none_listed order
 
 -- nothing stands beside the items of an empty list
-none_zipped : {X Y : Type 0} (R : X → Y → Type 0) (ys : List Y) → AllZip R [] ys → ys ≡ []
+pub none_zipped : {X Y : Type 0} (R : X → Y → Type 0) (ys : List Y) → AllZip R [] ys → ys ≡ []
 none_zipped R [] z = refl
 none_zipped R (y ∷ ys) z = absurd z
 

@@ -15,6 +15,7 @@ pub mod Methods
 pub mod Within
 pub mod BeanCounts
 pub mod Interceptors
+pub mod Observers
 pub mod Chains
 pub mod Injections
 pub mod ServedBeans

@@ -1,9 +1,10 @@
 -- The tables of a deployment that has only parts that are served are served.
-use Rattle.std.proofs.Common.{ℕ, ◌≡◌, ◌∙◌, true, List, [], ◌∷◌, Option, Some, None, refl, sym, ap, subst}
+use Rattle.std.proofs.Common.{ℕ, ◌≡◌, ◌∙◌, ◌&&◌, true, List, [], ◌∷◌, Option, Some, None, filter, refl, sym, ap, subst}
 use Rattle.std.specs.Prelude.{option_and_then, option_map}
 use Rattle.std.proofs.lemmas.Bool.{and_from}
 use Rattle.std.proofs.lemmas.List.Elements.{recursion_from_All}
 use Rattle.std.specs.List.{AllByRecursion, AllZip, find, list_all}
+use Rattle.cdi_bean_check.specs.ManagedBeans.{is_bean}
 use Rattle.cdi_beans.specs.declared.bean.Bean.{Bean}
 use Rattle.cdi_beans.specs.declared.bean.BeanKind.{BeanKind}
 use Rattle.cdi_beans.specs.declared.bean.BeanKind.TheVariants as kinds
@@ -19,6 +20,7 @@ use Rattle.cdi_plans.specs.declared.plan.ManagedPlan.{ManagedPlan}
 use Rattle.cdi_plans.specs.declared.plan.Plan.{Plan}
 use Rattle.cdi_plans.specs.declared.plan.Plan.TheVariants as plans
 use Rattle.cdi_run_tables.specs.Planned.{IsPlanned, IsTabled, plan_tables}
+use Rattle.cdi_run_tables.specs.Machine.{has_none}
 use Rattle.cdi_run_tables.specs.Served.{has_text, has_texts, is_served, is_served_bean, is_served_plan, is_served_scope}
 use Rattle.cdi_run_tables.specs.declared.planned.PlannedBean.{PlannedBean}
 use Rattle.cdi_run_tables.specs.declared.tables.RunTables.{RunTables}
@@ -26,6 +28,7 @@ use Rattle.cdi_resolve.specs.declared.bean_tables.BeanTables.{BeanTables}
 use Rattle.cdi_serving.proofs.Each.{all_pass, each_zipped}
 use Rattle.cdi_serving.proofs.Interceptors.{no_interceptors}
 use Rattle.cdi_serving.proofs.Lines.{each_in_line, of_class_named}
+use Rattle.cdi_serving.proofs.Observers.{no_observers}
 use Rattle.cdi_serving.proofs.ServedBeans.{IsServedManaged, each_bean}
 use Rattle.cdi_serving.proofs.ServedPlans.{served_plan}
 use Rattle.cdi_serving.specs.Parts.{AreServedParts, HasServedParts}
@@ -113,11 +116,18 @@ tables_are_served t tabled parts =
     let none : t.tables.chains.interceptors ≡ [] =
     ap (λ (k : BeanTables). k.chains.interceptors) tabled.tables.are.are
     ∙ no_interceptors d made.bindings list.interceptors parts.interceptors made.is.interceptors in
+    let classes : AllByRecursion HasServedParts d.classes =
+    recursion_from_All HasServedParts d.classes parts.classes in
     let managed : AllByRecursion IsServedManaged t.tables.resolver.beans =
     subst (AllByRecursion IsServedManaged) (sym beans)
     (each_bean d made.qualifiers list.beans parts.classes made.is.beans) in
-    and_from (list_all is_served_bean t.beans) (has_texts d)
-    (of_beans (plan_tables d t.tables) none
-    (recursion_from_All HasServedParts d.classes parts.classes)
-    t.tables.resolver.beans t.beans managed tabled.planned)
-    (texts d parts)
+    let unobserved : t.tables.observers ≡ [] =
+    ap (λ (k : BeanTables). k.observers) tabled.tables.are.are
+    ∙ no_observers d made.qualifiers classes (filter is_bean d.classes) list.observers
+    made.is.observers in
+    and_from (list_all is_served_bean t.beans && has_texts d) (has_none t.tables.observers)
+    (and_from (list_all is_served_bean t.beans) (has_texts d)
+    (of_beans (plan_tables d t.tables) none classes t.tables.resolver.beans t.beans managed
+    tabled.planned)
+    (texts d parts))
+    (ap has_none unobserved)
