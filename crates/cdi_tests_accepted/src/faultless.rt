@@ -1,0 +1,42 @@
+//! The tables of deployments without problems.
+ghost use Rattle.std.specs.Prelude.{◌≡◌, true, IfOk};
+ghost use Rattle.cdi_bodies.specs.Table.{entries_of};
+ghost use Rattle.cdi_ledger.specs.Callbacks.{PlacesOfBodiesAreApart};
+ghost use Rattle.cdi_machine.specs.Registered.{legal_of};
+ghost use Rattle.cdi_run_tables.specs.Machine.{machine_tables};
+ghost use Rattle.cdi_run_tables.specs.Served.{has_texts};
+ghost use Rattle.cdi_site_fit.specs.Accepted.{IsFaultless};
+ghost use Rattle.cdi_worlds_fit.specs.Fits.{Fits};
+
+use cdi_base::{OrMemory, Seq};
+use cdi_beans::BeanList;
+use cdi_bodies::Bodies;
+use cdi_check::late_problems;
+use cdi_deployment::Deployment;
+use cdi_problems::Problem;
+use cdi_resolve::BeanTables;
+use cdi_run_tables::RunTables;
+use cdi_site_fit::laws::{law_farewells_begin_once, law_whole_fits};
+use std::alloc::Global;
+
+/// The tables of a deployment with these bodies, unless it has problems.
+pub fn faultless_tables(
+    alloc: Global,
+    deployment: Deployment,
+    bodies: &Bodies,
+) -> Result<RunTables, OrMemory<Seq<Problem>>>
+    requires { has_texts deployment ≡ true }
+    ensures faultless { IfOk result (IsFaultless (entries_of bodies.now)) }
+    ensures fits { IfOk result (λ t. Fits (machine_tables t) (legal_of (entries_of bodies.now))) }
+    ensures apart { IfOk result (λ t. PlacesOfBodiesAreApart (machine_tables t)) }
+{
+    law_whole_fits(bodies);
+    law_farewells_begin_once(bodies);
+    let list = BeanList::build(alloc, &deployment)?;
+    let tables = BeanTables::build(alloc, &deployment, list)?;
+    let problems = late_problems(alloc, &deployment, &tables, bodies)?;
+    if !problems.is_empty() {
+        return Err(OrMemory::Fault(problems));
+    }
+    Ok(RunTables::build(alloc, deployment, tables, bodies)?)
+}

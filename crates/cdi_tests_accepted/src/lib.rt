@@ -1,0 +1,8 @@
+//! Tests of deployments of the whole form that have no problem: their tables fit their bodies, whether or not a container serves them.
+//! This library serves these tests alone.
+#![tactic(auto)]
+
+#[cfg(test)]
+mod accepted;
+pub mod deployments;
+pub mod faultless;
