@@ -140,6 +140,19 @@ impl<D: Driver> Container<D> {
         reply_of(valued, outcome)
     }
 
+    /// Why what a job asks for in a request, or in none, is refused, if it is.
+    fn refusal(&mut self, request: Option<&Text>, job: &Job) -> Option<Refusal>
+        ensures refusal { result ≡ machine_refusal
+            (spec.tables_of self.old) (machine_state (spec.state_of self.old))
+            (in_request (option_map (λ r. r.now) request.entry) (command_of job.now)) }
+        ensures alone { result ≡ None
+            → in_request (option_map (λ r. r.now) request.entry) (command_of job.now)
+            ≡ command_of job.now }
+        ensures kept { self.new ≡ self.old }
+    {
+        self.runtime.refusal(self.halted.is_some(), request, job)
+    }
+
     /// Carries a job out in a request, or in none, or refuses it.
     fn ask(&mut self, request: Option<&Text>, job: Job) -> Reply
         ensures answers { AnswersCommand
@@ -150,7 +163,7 @@ impl<D: Driver> Container<D> {
         ensures same { spec.SameParts
             (D.legal self.old.runtime.driver) (D.legal self.new.runtime.driver) self.old self.new }
     {
-        match self.runtime.refusal(self.halted.is_some(), request, &job) {
+        match self.refusal(request, &job) {
             Some(refusal) => self.refuse(refusal),
             None => self.perform(job),
         }

@@ -9,7 +9,7 @@ ghost use Rattle.cdi_site_fit.specs.Accepted.{IsFaultless};
 ghost use Rattle.cdi_worlds_fit.specs.Fits.{Fits};
 
 use cdi_base::{OrMemory, Seq};
-use cdi_beans::BeanList;
+use cdi_beans::ListedBeans;
 use cdi_bodies::Bodies;
 use cdi_check::late_problems;
 use cdi_deployment::Deployment;
@@ -32,8 +32,8 @@ pub fn faultless_tables(
 {
     law_whole_fits(bodies);
     law_farewells_begin_once(bodies);
-    let list = BeanList::build(alloc, &deployment)?;
-    let tables = BeanTables::build(alloc, &deployment, list)?;
+    let beans = ListedBeans::build(alloc, &deployment)?;
+    let tables = BeanTables::build(alloc, &deployment, beans)?;
     let problems = late_problems(alloc, &deployment, &tables, bodies)?;
     if !problems.is_empty() {
         return Err(OrMemory::Fault(problems));

@@ -2,6 +2,7 @@
 ghost use Rattle.std.specs.Prelude.{◌≡◌, IfOk};
 ghost use Rattle.cdi_base.specs.declared.act.Act.TheVariants.{Give};
 ghost use Rattle.cdi_base.specs.declared.value.Value.TheVariants.{Null};
+ghost use Rattle.cdi_resolve.specs.BeanTables.{AreTablesOf};
 
 use cdi_base::{Act, Fields, Names, OrMemory, Seq, Use, Value};
 use cdi_beans::ListedBeans;
@@ -31,14 +32,24 @@ fn looking_shape(alloc: Global, names: &Names) -> Result<Shape, AllocError> {
     Ok(shape)
 }
 
+/// The tables of a deployment's bean list, unless it has problems of names or beans.
+fn listed_tables(
+    alloc: Global,
+    deployment: &Deployment,
+) -> Result<BeanTables, OrMemory<Seq<Problem>>>
+    ensures { IfOk result (AreTablesOf deployment.now) }
+{
+    let beans = ListedBeans::build(alloc, deployment)?;
+    Ok(BeanTables::build(alloc, deployment, beans)?)
+}
+
 /// The tables of a deployment, unless it has problems of names or beans. A body is made in the function that registers it, since none
 /// may hand out a closure that it boxed.
 pub(crate) fn tables_of(
     alloc: Global,
     deployment: Deployment,
 ) -> Result<RunTables, OrMemory<Seq<Problem>>> {
-    let beans = ListedBeans::build(alloc, &deployment)?;
-    let tables = BeanTables::build(alloc, &deployment, beans)?;
+    let tables = listed_tables(alloc, &deployment)?;
     let body: Body = Box::new(
         alloc,
         |_fields: &Fields, _view: &View| -> Result<Act, AllocError>
