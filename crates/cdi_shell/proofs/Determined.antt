@@ -22,7 +22,7 @@ use Rattle.cdi_lines.specs.Served.{Replies}
 use Rattle.cdi_container.specs.Commands.{machine_command}
 use Rattle.cdi_container.specs.Sessions.{AnswersRead, AnswersLine}
 use Rattle.cdi_container.specs.States.{ContainerState, CarriesOut, AnswersCommand, machine_state, cause_of}
-use Rattle.cdi_container.proofs.Missing.{works_on}
+use Rattle.cdi_container.proofs.Halted.{works_on}
 
 -- memory has not run out
 abbrev pub IsFed : ContainerState → Type 0

@@ -3,12 +3,13 @@ use Rattle.std.proofs.Common.{ℕ, List, [], ◌∷◌}
 use Rattle.std.specs.List.{AllByRecursion}
 use Rattle.cdi_base.specs.declared.act.Act.{Act}
 use Rattle.cdi_base.specs.declared.place.InterceptorMethod.{InterceptorMethod}
+use Rattle.cdi_base.specs.declared.place.InterceptorMethod.TheVariants as roles
 use Rattle.cdi_bodies.specs.declared.view.View.{View}
 use Rattle.cdi_machine.specs.Runs.{Legal}
 use Rattle.cdi_machine.specs.Tables.{Bean, Interceptor, Kind, Lifecycle, Managed, Member, Method, Observer, Product, Source, Step, Tables}
 use Rattle.cdi_machine.specs.Words.{Asked, Fields}
 use Rattle.cdi_ownership.specs.Whose.{IsIn}
-use Rattle.cdi_worlds_fit.specs.Fits.{Fits, FitsBean, FitsBody, FitsChain, FitsClass, FitsKind, FitsLifecycle, FitsManaged, FitsMember, FitsMethod, FitsObserver, FitsProduct, FitsRole, FitsSource, FitsStep, FitsSteps, Site, ready_after}
+use Rattle.cdi_worlds_fit.specs.Fits.{Fits, FitsBean, FitsBody, FitsChain, FitsClass, FitsKind, FitsLifecycle, FitsManaged, FitsMember, FitsMethod, FitsObserver, FitsProduct, FitsRole, FitsSource, FitsStep, FitsSteps, Site, class_site, intercepted_by, interceptor_site, ready_after}
 
 each : {A : Type 0} (P Q : A → Type 0) → ((x : A) → P x → Q x) → (xs : List A) → AllByRecursion P xs → AllByRecursion Q xs
 each P Q f [] h = tt
@@ -19,7 +20,7 @@ module _ (t : Tables) (large small : Legal) (less : (id count : ℕ) (fields : F
   body_less s f count fields view a given = f count fields view a (less s.body count fields view a given)
 
   role_less : (i : ℕ) (role : InterceptorMethod) → FitsRole t large i role → FitsRole t small i role
-  role_less i role f = record { interceptor = f.interceptor; known = f.known; body = f.body; has = f.has; fits = body_less _ f.fits }
+  role_less i role f = record { interceptor = f.interceptor; known = f.known; body = f.body; has = f.has; fits = body_less (interceptor_site f.interceptor f.body) f.fits }
 
   chain_less : (role : InterceptorMethod) (ready chain : List ℕ) → FitsChain t large role ready chain → FitsChain t small role ready chain
   chain_less role ready chain =
@@ -29,21 +30,21 @@ module _ (t : Tables) (large small : Legal) (less : (id count : ℕ) (fields : F
   lifecycle_less c points role ready l f =
       record {
         chain = chain_less role ready l.chain f.chain;
-        callbacks = each _ _ (λ m. body_less _) l.callbacks f.callbacks;
+        callbacks = each (λ m. FitsBody t large (class_site c points m.body)) (λ m. FitsBody t small (class_site c points m.body)) (λ m. body_less (class_site c points m.body)) l.callbacks f.callbacks;
       }
 
   member_less : (c : Managed) (m : Member) → FitsMember t large c m → FitsMember t small c m
-  member_less c m f = record { chain = chain_less _ _ m.chain f.chain; body = body_less _ f.body }
+  member_less c m f = record { chain = chain_less roles.AroundInvoke (intercepted_by c.plan) m.chain f.chain; body = body_less (class_site c m.points m.code.body) f.body }
 
   method_less : (c : Managed) (m : Method) → FitsMethod t large c m → FitsMethod t small c m
-  method_less c m f = record { chain = chain_less _ _ m.chain f.chain; body = body_less _ f.body }
+  method_less c m f = record { chain = chain_less roles.AroundInvoke (intercepted_by c.plan) m.chain f.chain; body = body_less (class_site c [] m.code.body) f.body }
 
   step_less : (c : Managed) (ready : List ℕ) (s : Step) → FitsStep t large c ready s → FitsStep t small c ready s
   step_less c ready (Step.Intercept i) f = f
-  step_less c ready (Step.Construct points l) f = lifecycle_less c points _ ready l f
+  step_less c ready (Step.Construct points l) f = lifecycle_less c points roles.AroundConstruct ready l f
   step_less c ready (Step.Inject field point) f = f
-  step_less c ready (Step.Initialize m points) f = body_less _ f
-  step_less c ready (Step.Complete l) f = lifecycle_less c [] _ ready l f
+  step_less c ready (Step.Initialize m points) f = body_less (class_site c points m.body) f
+  step_less c ready (Step.Complete l) f = lifecycle_less c [] roles.PostConstruct ready l f
 
   steps_less : (c : Managed) (ready : List ℕ) (ss : List Step) → FitsSteps t large c ready ss → FitsSteps t small c ready ss
   steps_less c ready [] f = tt
@@ -54,7 +55,7 @@ module _ (t : Tables) (large small : Legal) (less : (id count : ℕ) (fields : F
       record {
         steps = steps_less c [] c.plan f.steps;
         methods = λ name m has. method_less c m (f.methods name m has);
-        pre_destroy = lifecycle_less c [] _ _ c.pre_destroy f.pre_destroy;
+        pre_destroy = lifecycle_less c [] roles.PreDestroy (intercepted_by c.plan) c.pre_destroy f.pre_destroy;
       }
 
   source_less : (c : Managed) (s : Source) → FitsSource t large c s → FitsSource t small c s
@@ -70,7 +71,7 @@ module _ (t : Tables) (large small : Legal) (less : (id count : ℕ) (fields : F
         class = f.class;
         declares = managed_less p.declaring f.class f.declares;
         source = source_less f.class p.source f.source;
-        disposers = each _ _ (member_less f.class) p.disposers f.disposers;
+        disposers = each (FitsMember t large f.class) (FitsMember t small f.class) (member_less f.class) p.disposers f.disposers;
       }
 
   kind_less : (k : Kind) → FitsKind t large k → FitsKind t small k
