@@ -1,0 +1,3 @@
+pub mod OfProducts
+pub mod Replied
+pub mod Counts
