@@ -2,7 +2,10 @@
 ghost use Rattle.std.specs.Prelude.{◌≡◌, ◌≤◌, ◌↔◌, IsSome, IfSome};
 
 /// The deepest level of bodies that may be asked for.
-pub const MAX_DEPTH: u32 = 32;
+pub const MAX_DEPTH: u32 = 1_024;
+
+/// The deepest level of bodies of a program that asks for none.
+const USUAL_DEPTH: u32 = 32;
 
 /// The most entries of a command that may be asked for.
 pub const MAX_TICKS: u32 = 100_000;
@@ -15,7 +18,7 @@ pub struct Limits {
     /// The entries, from 1 to [`MAX_TICKS`].
     pub ticks: u32,
     ghost deep: { 1 ≤ depth },
-    ghost within_depth: { depth ≤ 32 },
+    ghost within_depth: { depth ≤ 1024 },
     ghost long: { 1 ≤ ticks },
     ghost within_ticks: { ticks ≤ 100000 },
 }
@@ -23,7 +26,7 @@ pub struct Limits {
 impl Limits {
     ghost use Rattle.cdi_base.specs.Limits.{AreInRange};
 
-    /// The limits, or `None` where one of them is out of its range.
+    /// The limits, or `None` if one of them is out of its range.
     pub fn new(depth: u32, ticks: u32) -> Option<Limits>
         ensures in_range { IsSome result ↔ AreInRange depth ticks }
         ensures value { IfSome result (λ limits. (limits.depth ≡ depth) × (limits.ticks ≡ ticks)) }
@@ -40,7 +43,7 @@ impl Default for Limits {
 
     fn default() -> Limits {
         Limits {
-            depth: MAX_DEPTH,
+            depth: USUAL_DEPTH,
             ticks: MAX_TICKS,
         }
     }
