@@ -24,7 +24,8 @@ use Rattle.cdi_beans.specs.declared.bean.EnabledInterceptor.{EnabledInterceptor}
 use Rattle.cdi_beans.specs.declared.bean.ObserverMethod.{ObserverMethod}
 use Rattle.cdi_accepted.proofs.OneBean.{one_bean}
 use Rattle.cdi_accepted.proofs.OneLine.{one_membership}
-use Rattle.cdi_accepted.proofs.DeterminedLists.{kept_in, one_at, one_listed, one_set_of, one_zipped}
+use Rattle.cdi_event_tables.proofs.OneSet.{one_set_of}
+use Rattle.cdi_accepted.proofs.DeterminedLists.{kept_in, one_at, one_listed, one_zipped}
 use Rattle.cdi_accepted.proofs.Types.{one_qualifier_list, one_qualifier_set, one_type_list}
 
 -- ---- interceptors

@@ -4,12 +4,9 @@ use Rattle.std.proofs.lemmas.Bool.{true≢false, and_parts}
 use Rattle.std.proofs.lemmas.List.Elements.{All-head, All-tail}
 use Rattle.std.proofs.lemmas.Option.{same_Some}
 use Rattle.std.specs.List.{All, Contains, cons_option, enumerate_from, filter_map, find, flat_map, list_all, list_any, slice_get}
+pub use Rattle.cdi_event_tables.proofs.Among.{Among, among_contains, among_filter, contains_among, of_filter}
 use Rattle.cdi_ownership.specs.Whose.{IsIn}
 use Rattle.cdi_types.specs.ListsThose.{ListsThose}
-
-abbrev pub Among : {X : Type 0} → X → List X → Type 0
-Among x [] = ⊥
-Among x (y ∷ ys) = (x ≡ y) ⊎ Among x ys
 
 pub of_is_in : {X : Type 0} (x : X) (xs : List X) → IsIn x xs → Among x xs
 of_is_in x [] a = a
@@ -72,28 +69,6 @@ module _ {X : Type 0} where
       by (inl b) = inl (inr b)
       by (inr b) = inr b
 
-  pub among_filter : (p : X → Bool) (xs : List X) (x : X) → Among x xs → p x ≡ true → Among x (filter p xs)
-  among_filter p [] x a e = absurd a
-  among_filter p (y ∷ ys) x (inl same) e = by (p y) (sym (ap p same) ∙ e)
-    where
-      by : (b : Bool) → b ≡ true → Among x (cond b (y ∷ filter p ys) (filter p ys))
-      by true t = inl same
-      by false t = absurd (true≢false (sym t))
-  among_filter p (y ∷ ys) x (inr a) e = by (p y) (among_filter p ys x a e)
-    where
-      by : (b : Bool) → Among x (filter p ys) → Among x (cond b (y ∷ filter p ys) (filter p ys))
-      by true t = inr t
-      by false t = t
-
-  pub of_filter : (p : X → Bool) (xs : List X) (x : X) → Among x (filter p xs) → Among x xs × (p x ≡ true)
-  of_filter p [] x a = absurd a
-  of_filter p (y ∷ ys) x a = by (p y) refl a (of_filter p ys x)
-    where
-      by : (b : Bool) → p y ≡ b → Among x (cond b (y ∷ filter p ys) (filter p ys)) → (Among x (filter p ys) → Among x ys × (p x ≡ true)) → Among x (y ∷ ys) × (p x ≡ true)
-      by true h (inl same) more = (inl same, ap p same ∙ h)
-      by true h (inr t) more = let found = more t in (inr found.0, found.1)
-      by false h t more = let found = more t in (inr found.0, found.1)
-
   pub found_among : (p : X → Bool) (xs : List X) (x : X) → find p xs ≡ Some x → Among x xs × (p x ≡ true)
   found_among p [] x e = absurd cc
   found_among p (y ∷ ys) x e = by (p y) refl e (found_among p ys x)
@@ -106,19 +81,6 @@ module _ {X : Type 0} where
   holds_among P [] x all a = absurd a
   holds_among P (y ∷ ys) x all (inl same) = subst P (sym same) (All-head P y ys all)
   holds_among P (y ∷ ys) x all (inr a) = holds_among P ys x (All-tail P y ys all) a
-
-  pub among_contains : (xs : List X) (x : X) → Among x xs → Contains xs x
-  among_contains [] x a = absurd a
-  among_contains (y ∷ ys) x (inl same) = (zero, omega arith, sym same)
-  among_contains (y ∷ ys) x (inr a) = by (among_contains ys x a)
-    where
-      by : Contains ys x → Contains (y ∷ ys) x
-      by (k, lt, is) = (suc k, omega arith, is)
-
-  pub contains_among : (xs : List X) (x : X) → Contains xs x → Among x xs
-  contains_among [] x (k, lt, is) = absurd (omega arith)
-  contains_among (y ∷ ys) x (zero, lt, is) = inl (sym is)
-  contains_among (y ∷ ys) x (suc k, lt, is) = inr (contains_among ys x (k, omega arith, is))
 
   pub at_among : (xs : List X) (i : ℕ) (x : X) → slice_get xs i ≡ Some x → Among x xs
   at_among [] i x e = absurd cc

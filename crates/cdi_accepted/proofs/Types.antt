@@ -10,7 +10,7 @@ use Rattle.cdi_quals.specs.Types.{member_type, IsTypeOf, AreTypesOf, built_in_qu
 use Rattle.cdi_quals.specs.declared.qualifier.Qualifier.{Qualifier}
 use Rattle.cdi_quals.specs.declared.types.QualifierType.{QualifierType}
 use Rattle.cdi_bean_check.specs.Qualifiers.{AreUsesOf, IsSetOf, specializing_uses, declared_uses}
-use Rattle.cdi_accepted.proofs.DeterminedLists.{one_set}
+use Rattle.cdi_event_tables.proofs.OneSet.{one_set}
 use Rattle.cdi_accepted.proofs.OneLine.{neither}
 
 type_with : AnnotationType → List ℕ → QualifierType

@@ -189,19 +189,20 @@ fn add_of_class(
     add_of_line(alloc, class, line.classes(), found)
 }
 
-/// Where classes repeat names of their superclasses: the name of a class, and that of a field or a member. For each class it goes
-/// over all its superclasses.
+/// Where classes repeat names of their superclasses: the name of a class, and that of a field or a member. This is the index of the
+/// classes. For each class it goes over all its superclasses.
 pub fn repeated_of_superclasses(
     alloc: Global,
     classes: &[Class],
+    index: &ClassIndex<'_>,
     types: &TypeTable,
 ) -> Result<HashSet<(Name, Name)>, AllocError>
+    requires { index.now ≡ classes.now }
     ensures { IfOk result (HasPlaces (spec.IsRepeatedAt classes.now types.now)) }
 {
-    let index = ClassIndex::build(alloc, classes)?;
     let mut found = HashSet::new(alloc);
     for class in classes {
-        add_of_class(alloc, &index, types, class, &mut found)?;
+        add_of_class(alloc, index, types, class, &mut found)?;
     }
     Ok(found)
 }

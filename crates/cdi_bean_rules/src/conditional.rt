@@ -85,18 +85,19 @@ fn add_of_class(
 }
 
 /// Where conditional observers are declared that a bean of the dependent pseudo-scope has: the name of a class, and that of a
-/// member. For each such bean it goes over the class and all its superclasses.
+/// member. This is the index of the classes. For each such bean it goes over the class and all its superclasses.
 pub fn conditional_of_dependent(
     alloc: Global,
     classes: &[Class],
+    index: &ClassIndex<'_>,
     types: &TypeTable,
 ) -> Result<HashSet<(Name, Name)>, AllocError>
+    requires { index.now ≡ classes.now }
     ensures { IfOk result (HasPlaces (spec.IsConditionalAt classes.now types.now)) }
 {
-    let index = ClassIndex::build(alloc, classes)?;
     let mut found = HashSet::new(alloc);
     for class in classes {
-        add_of_class(alloc, &index, types, class, &mut found)?;
+        add_of_class(alloc, index, types, class, &mut found)?;
     }
     Ok(found)
 }

@@ -7,9 +7,11 @@ pub mod disposers;
 pub mod limits;
 pub mod problems;
 pub mod required;
+pub mod tables;
 
 pub use conditional::{ConditionalDependent, conditional_of_dependent};
 pub use disposers::{TwoDisposers, UnmatchedDisposer, serves};
 pub use limits::{MAX_BEANS, MAX_OBSERVERS, has_too_many};
 pub use problems::bean_problems;
 pub use required::has_required;
+pub use tables::RuleTables;

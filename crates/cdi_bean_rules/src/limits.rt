@@ -84,26 +84,33 @@ fn observers_of(
 }
 
 /// How many observers the beans have, with those that they inherit. It stops at the greatest number.
-fn observer_count(alloc: Global, classes: &[Class], types: &TypeTable) -> Result<usize, AllocError>
+fn observer_count(
+    alloc: Global,
+    classes: &[Class],
+    index: &ClassIndex<'_>,
+    types: &TypeTable,
+) -> Result<usize, AllocError>
+    requires { index.now ≡ classes.now }
     ensures { IfOk result (λ n. spec.IsObserverCountUpTo classes.now types.now usize.MAX n) }
 {
-    let index = ClassIndex::build(alloc, classes)?;
     let mut count = 0usize;
     for class in classes {
         if is_bean(class) {
-            count = count.saturating_add(observers_of(alloc, &index, types, class)?);
+            count = count.saturating_add(observers_of(alloc, index, types, class)?);
         }
     }
     Ok(count)
 }
 
 /// Whether there are more than [`MAX_BEANS`] managed beans and products together, or more than [`MAX_OBSERVERS`] observers with the
-/// inherited ones.
+/// inherited ones. This is the index of the classes.
 pub fn has_too_many(
     alloc: Global,
     deployment: &Deployment,
+    index: &ClassIndex<'_>,
     types: &TypeTable,
 ) -> Result<bool, AllocError>
+    requires { index.now ≡ deployment.now.classes }
     ensures { IfOk result (λ too_many. MatchBool too_many
         (spec.HasTooMany deployment.now.classes types.now)
         (¬ spec.HasTooMany deployment.now.classes types.now)) }
@@ -112,6 +119,6 @@ pub fn has_too_many(
     if bean_count(classes) > MAX_BEANS {
         return Ok(true);
     }
-    let observers = observer_count(alloc, classes, types)?;
+    let observers = observer_count(alloc, classes, index, types)?;
     Ok(observers > MAX_OBSERVERS)
 }

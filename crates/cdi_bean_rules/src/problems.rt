@@ -12,6 +12,7 @@ ghost use Rattle.cdi_bean_rules.specs.Tiers.{AddsProblems, AddsExcess, AreBeanPr
 use crate::conditional::{ConditionalDependent, conditional_of_dependent};
 use crate::disposers::{TwoDisposers, UnmatchedDisposer};
 use crate::limits::has_too_many;
+use crate::tables::RuleTables;
 use cdi_base::{Place, Seq};
 use cdi_bean_check::abstract_bean::AbstractBean;
 use cdi_bean_check::bean_classes::BeanClasses;
@@ -22,11 +23,8 @@ use cdi_bean_check::repeated::{RepeatsSuperclass, repeated_of_superclasses};
 use cdi_bean_check::specialization::SpecializesNothing;
 use cdi_bean_check::typed::TypedNotAType;
 use cdi_deployment::{Class, Deployment};
-use cdi_problems::{
-    Element, Problem, ProblemKind, Rule, add_problems_at, elements_of, places_where,
-};
-use cdi_quals::QualifierTypes;
-use cdi_types::TypeTable;
+use cdi_problems::{Element, Problem, ProblemKind, Rule, add_problems_at, places_where};
+use cdi_types::{ClassIndex, TypeTable};
 use std::alloc::{AllocError, Global};
 
 /// Adds the problems of a kind where its rule holds.
@@ -47,14 +45,16 @@ fn add_found<R: Rule>(
 fn add_repeated(
     alloc: Global,
     classes: &[Class],
+    index: &ClassIndex<'_>,
     types: &TypeTable,
     elements: &[Element<'_>],
     problems: &mut Seq<Problem>,
 ) -> Result<(), AllocError>
+    requires { index.now ≡ classes.now }
     ensures { OnOk result (AddsProblems (Repeats classes.now types.now) (shown elements.now)
         ProblemKind.DuplicateName problems.old problems.new) }
 {
-    let places = repeated_of_superclasses(alloc, classes, types)?;
+    let places = repeated_of_superclasses(alloc, classes, index, types)?;
     let rule = RepeatsSuperclass { places: &places };
     add_found(alloc, ProblemKind::DuplicateName, &rule, elements, problems)
 }
@@ -81,19 +81,15 @@ fn add_specializing(
 
 fn add_losing(
     alloc: Global,
-    classes: &[Class],
+    beans: &BeanClasses<'_>,
     types: &TypeTable,
     elements: &[Element<'_>],
     problems: &mut Seq<Problem>,
 ) -> Result<(), AllocError>
-    ensures { OnOk result (AddsProblems (HasSpecializedTypeLost classes.now types.now)
+    ensures { OnOk result (AddsProblems (HasSpecializedTypeLost beans.now types.now)
         (shown elements.now) ProblemKind.SpecializedTypeLost problems.old problems.new) }
 {
-    let beans = BeanClasses::build(alloc, classes)?;
-    let rule = SpecializedTypeLost {
-        beans: &beans,
-        types,
-    };
+    let rule = SpecializedTypeLost { beans, types };
     add_found(
         alloc,
         ProblemKind::SpecializedTypeLost,
@@ -106,14 +102,16 @@ fn add_losing(
 fn add_conditional(
     alloc: Global,
     classes: &[Class],
+    index: &ClassIndex<'_>,
     types: &TypeTable,
     elements: &[Element<'_>],
     problems: &mut Seq<Problem>,
 ) -> Result<(), AllocError>
+    requires { index.now ≡ classes.now }
     ensures { OnOk result (AddsProblems (IsConditionalDependent classes.now types.now)
         (shown elements.now) ProblemKind.ConditionalDependent problems.old problems.new) }
 {
-    let places = conditional_of_dependent(alloc, classes, types)?;
+    let places = conditional_of_dependent(alloc, classes, index, types)?;
     let rule = ConditionalDependent { places: &places };
     add_found(
         alloc,
@@ -128,13 +126,15 @@ fn add_conditional(
 fn add_excess(
     alloc: Global,
     deployment: &Deployment,
+    index: &ClassIndex<'_>,
     types: &TypeTable,
     problems: &mut Seq<Problem>,
 ) -> Result<(), AllocError>
-    requires { types.now ≡ declarations_of deployment.now }
+    requires classes { index.now ≡ deployment.now.classes }
+    requires types { types.now ≡ declarations_of deployment.now }
     ensures { OnOk result (AddsExcess deployment.now problems.old problems.new) }
 {
-    let too_many = has_too_many(alloc, deployment, types)?;
+    let too_many = has_too_many(alloc, deployment, index, types)?;
     if too_many {
         problems.push(Problem {
             kind: ProblemKind::TooMany,
@@ -147,23 +147,29 @@ fn add_excess(
 /// Adds all problems of the elements, where there were none.
 fn add_all(
     alloc: Global,
-    deployment: &Deployment,
-    types: &TypeTable,
-    qualifiers: &QualifierTypes,
-    elements: &[Element<'_>],
+    tables: &RuleTables<'_>,
     problems: &mut Seq<Problem>,
 ) -> Result<(), AllocError>
-    requires declared { types.now ≡ declarations_of deployment.now }
-    requires all { shown elements.now ≡ all_elements deployment.now }
+    requires all { shown tables.now.elements.now ≡ all_elements tables.now.deployment.now }
     requires none { problems.old ≡ [] }
-    ensures { OnOk result (AreBeanProblems deployment.now qualifiers.now problems.new) }
+    ensures { OnOk result (AreBeanProblems
+        tables.now.deployment.now tables.now.qualifiers.now problems.new) }
 {
+    let RuleTables {
+        deployment,
+        elements,
+        types,
+        qualifiers,
+        classes: index,
+        beans,
+        ..
+    } = *tables;
     let classes = deployment.classes.as_slice();
     let typed = TypedNotAType { types };
     let unmatched = UnmatchedDisposer { types, qualifiers };
     let two = TwoDisposers { types, qualifiers };
     let bound = TwoBindingsOfOneType;
-    add_repeated(alloc, classes, types, elements, problems)?;
+    add_repeated(alloc, classes, index, types, elements, problems)?;
     add_found(
         alloc,
         ProblemKind::AbstractBean,
@@ -179,7 +185,7 @@ fn add_all(
         problems,
     )?;
     add_specializing(alloc, classes, elements, problems)?;
-    add_losing(alloc, classes, types, elements, problems)?;
+    add_losing(alloc, beans, types, elements, problems)?;
     add_found(
         alloc,
         ProblemKind::UnmatchedDisposer,
@@ -188,7 +194,7 @@ fn add_all(
         problems,
     )?;
     add_found(alloc, ProblemKind::TwoDisposers, &two, elements, problems)?;
-    add_conditional(alloc, classes, types, elements, problems)?;
+    add_conditional(alloc, classes, index, types, elements, problems)?;
     add_found(
         alloc,
         ProblemKind::TwoBindingsOfOneType,
@@ -196,29 +202,18 @@ fn add_all(
         elements,
         problems,
     )?;
-    add_excess(alloc, deployment, types, problems)
+    add_excess(alloc, deployment, index, types, problems)
 }
 
 /// The problems of beans, in a deployment in which all names are known and no type is its own supertype (Jakarta CDI 4.0, *Problems
-/// detected automatically by the container*): by their numbers, and those of a number in the order of the places.
-pub fn bean_problems(
-    alloc: Global,
-    deployment: &Deployment,
-    types: &TypeTable,
-    qualifiers: &QualifierTypes,
-) -> Result<Seq<Problem>, AllocError>
-    requires { types.now ≡ declarations_of deployment.now }
-    ensures { IfOk result (AreBeanProblems deployment.now qualifiers.now) }
+/// detected automatically by the container*): by their numbers, and those of a number in the order of the places. The tables have its
+/// elements.
+pub fn bean_problems(alloc: Global, tables: &RuleTables<'_>) -> Result<Seq<Problem>, AllocError>
+    requires { shown tables.now.elements.now ≡ all_elements tables.now.deployment.now }
+    ensures { IfOk result (AreBeanProblems
+        tables.now.deployment.now tables.now.qualifiers.now) }
 {
-    let elements = elements_of(alloc, deployment)?;
     let mut problems = Seq::empty(alloc);
-    add_all(
-        alloc,
-        deployment,
-        types,
-        qualifiers,
-        elements.as_slice(),
-        &mut problems,
-    )?;
+    add_all(alloc, tables, &mut problems)?;
     Ok(problems)
 }

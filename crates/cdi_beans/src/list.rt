@@ -1,6 +1,5 @@
 //! The bean list of a deployment.
 ghost use Rattle.std.specs.Prelude.{◌≡◌, IfOk};
-ghost use Rattle.cdi_types.specs.Declarations.{declarations_of};
 ghost use Rattle.cdi_beans.specs.BeanLists.{IsBeanListOf};
 
 use crate::bean::BeanList;
@@ -10,9 +9,8 @@ use crate::interceptors::interceptors_of;
 use crate::observers::observers_of;
 use crate::tables::Tables;
 use cdi_base::{Name, Seq};
-use cdi_deployment::Deployment;
+use cdi_bean_rules::RuleTables;
 use cdi_quals::QualifierTypes;
-use cdi_types::TypeTable;
 use std::alloc::{AllocError, Global};
 
 fn copy_of(alloc: Global, names: &[Name]) -> Result<Seq<Name>, AllocError>
@@ -21,20 +19,19 @@ fn copy_of(alloc: Global, names: &[Name]) -> Result<Seq<Name>, AllocError>
     Ok(Seq::new(Vec::from_slice(alloc, names)?))
 }
 
-/// The beans of a deployment, and what belongs to them, by the table of its types, the types of its qualifiers and those of its
-/// interceptor bindings (Jakarta CDI 4.0, *Beans*). Of classes with one name the first counts where a name is looked up: among all
+/// The beans of a deployment, and what belongs to them, by the tables that the rules of beans look at and the types of its interceptor
+/// bindings (Jakarta CDI 4.0, *Beans*). Of classes with one name the first counts where a name is looked up: among all
 /// classes for what a class inherits, and among those that are beans for what it specializes.
 pub fn list_beans(
     alloc: Global,
-    deployment: &Deployment,
-    types: &TypeTable,
-    qualifiers: &QualifierTypes,
+    tables: &RuleTables<'_>,
     bindings: &QualifierTypes,
 ) -> Result<BeanList, AllocError>
-    requires { types.now ≡ declarations_of deployment.now }
-    ensures { IfOk result (IsBeanListOf deployment.now qualifiers.now bindings.now) }
+    ensures { IfOk result (IsBeanListOf
+        tables.now.deployment.now tables.now.qualifiers.now bindings.now) }
 {
-    let tables = Tables::build(alloc, deployment, types, qualifiers)?;
+    let deployment = tables.deployment;
+    let tables = Tables::of(tables);
     let beans = beans_of(alloc, &tables)?;
     let selected = copy_of(alloc, deployment.selected.as_slice())?;
     let interceptors = interceptors_of(alloc, deployment, bindings)?;

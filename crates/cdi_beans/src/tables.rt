@@ -11,45 +11,38 @@ use crate::types::bean_types;
 use crate::uses::uses_of;
 use cdi_base::{Name, Seq, Use};
 use cdi_bean_check::BeanClasses;
+use cdi_bean_rules::RuleTables;
 use cdi_deployment::{Class, Deployment, Member};
 use cdi_quals::{QualSet, QualifierTypes};
 use cdi_types::{ClassIndex, ClassPart, TypeTable};
 use std::alloc::{AllocError, Global};
 
 /// A deployment with the tables of its types, its qualifiers and its classes.
-#[derive(Drop)]
+#[derive(Clone, Copy)]
 pub(crate) struct Tables<'a> {
     pub(crate) deployment: &'a Deployment,
     pub(crate) types: &'a TypeTable,
     pub(crate) qualifiers: &'a QualifierTypes,
-    pub(crate) classes: ClassIndex<'a>,
-    pub(crate) beans: BeanClasses<'a>,
+    pub(crate) classes: &'a ClassIndex<'a>,
+    pub(crate) beans: &'a BeanClasses<'a>,
     ghost types_are: { types.now ≡ declarations_of deployment.now },
-    ghost classes_are: { classes ≡ deployment.now.classes },
-    ghost beans_are: { beans ≡ deployment.now.classes },
+    ghost classes_are: { classes.now ≡ deployment.now.classes },
+    ghost beans_are: { beans.now ≡ deployment.now.classes },
 }
 
 impl<'a> Tables<'a> {
-    /// The tables of a deployment.
-    pub(crate) fn build(
-        alloc: Global,
-        deployment: &'a Deployment,
-        types: &'a TypeTable,
-        qualifiers: &'a QualifierTypes,
-    ) -> Result<Tables<'a>, AllocError>
-        requires { types.now ≡ declarations_of deployment.now }
-        ensures deployment { IfOk result (λ tables. tables.deployment.now ≡ deployment.now) }
-        ensures qualifiers { IfOk result (λ tables. tables.qualifiers.now ≡ qualifiers.now) }
+    /// The same tables as the rules of beans look at.
+    pub(crate) fn of(tables: &RuleTables<'a>) -> Tables<'a>
+        ensures deployment { result.deployment.now ≡ tables.now.deployment.now }
+        ensures qualifiers { result.qualifiers.now ≡ tables.now.qualifiers.now }
     {
-        let classes = ClassIndex::build(alloc, deployment.classes.as_slice())?;
-        let beans = BeanClasses::build(alloc, deployment.classes.as_slice())?;
-        Ok(Tables {
-            deployment,
-            types,
-            qualifiers,
-            classes,
-            beans,
-        })
+        Tables {
+            deployment: tables.deployment,
+            types: tables.types,
+            qualifiers: tables.qualifiers,
+            classes: tables.classes,
+            beans: tables.beans,
+        }
     }
 
     /// The bean types of what has this type and is restricted so.
@@ -80,7 +73,7 @@ impl<'a> Tables<'a> {
         ensures { IfOk result (λ uses. AreUsesOf self.now.deployment.now.classes class.now uses) }
     {
         self.types.law_sound();
-        uses_of(alloc, &self.beans, class)
+        uses_of(alloc, self.beans, class)
     }
 
     /// The class of the bean that a class directly specializes, if it does.

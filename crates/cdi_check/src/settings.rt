@@ -4,6 +4,7 @@ ghost use Rattle.cdi_bodies.specs.Table.{entries_of};
 ghost use Rattle.cdi_body_check.specs.Shapes.{shape_of};
 ghost use Rattle.cdi_check.specs.Late.{AreProblemsIn};
 ghost use Rattle.cdi_check.specs.Tables.{setting_by};
+ghost use Rattle.cdi_name_check.specs.NameSets.{HasDeclared};
 ghost use Rattle.cdi_types.specs.Declarations.{declarations_of};
 
 use crate::late::all_problems;
@@ -18,21 +19,22 @@ use cdi_resolve::BeanTables;
 use cdi_types::ClassIndex;
 use std::alloc::{AllocError, Global};
 
-/// The last tier of problems, by these tables and by what is live.
+/// The last tier of problems, by these names and tables and by what is live.
 fn problems_where_live<'a>(
     alloc: Global,
     deployment: &'a Deployment,
+    names: &'a NameSets,
     beans: &'a BeanTables,
     bodies: &Bodies,
     live: &'a LiveTables<'_>,
 ) -> Result<Seq<Problem>, AllocError>
+    requires names { HasDeclared deployment.now names.now }
     requires types { beans.now.declared.types ≡ declarations_of deployment.now }
     requires live { live.now ≡ (setting_by deployment.now beans.now).enabled }
     ensures { IfOk result (AreProblemsIn deployment.now (shape_of (entries_of bodies.now))
         beans.now.enabled (setting_by deployment.now beans.now)) }
 {
-    let sets = NameSets::of(alloc, deployment)?;
-    let names = DeclaredNames::new(deployment, &sets);
+    let names = DeclaredNames::new(deployment, names);
     let classes = ClassIndex::build(alloc, deployment.classes.as_slice())?;
     let exceptions = DeclaredExceptions::build(alloc, deployment.exceptions.as_slice())?;
     let elements = all_elements(alloc, deployment)?;
@@ -75,17 +77,19 @@ fn live_of<'a>(
     )
 }
 
-/// The last tier of problems, by these tables.
+/// The last tier of problems, by these names and tables.
 pub(crate) fn problems_by(
     alloc: Global,
     deployment: &Deployment,
+    names: &NameSets,
     tables: &BeanTables,
     bodies: &Bodies,
 ) -> Result<Seq<Problem>, AllocError>
-    requires { tables.now.declared.types ≡ declarations_of deployment.now }
+    requires names { HasDeclared deployment.now names.now }
+    requires types { tables.now.declared.types ≡ declarations_of deployment.now }
     ensures { IfOk result (AreProblemsIn deployment.now (shape_of (entries_of bodies.now))
         tables.now.enabled (setting_by deployment.now tables.now)) }
 {
     let live = live_of(alloc, deployment, tables)?;
-    problems_where_live(alloc, deployment, tables, bodies, &live)
+    problems_where_live(alloc, deployment, names, tables, bodies, &live)
 }

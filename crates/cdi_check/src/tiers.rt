@@ -7,6 +7,7 @@ ghost use Rattle.cdi_body_check.specs.Shapes.{shape_of};
 ghost use Rattle.cdi_check.specs.Late.{AreLateProblems, AreProblemsIn};
 ghost use Rattle.cdi_check.specs.Problems.{AreProblemsOf};
 ghost use Rattle.cdi_check.specs.Tables.{setting_by};
+ghost use Rattle.cdi_name_check.specs.NameSets.{HasDeclared};
 ghost use Rattle.cdi_resolve.specs.BeanTables.{AreTablesOf};
 
 use crate::settings::problems_by;
@@ -14,26 +15,29 @@ use cdi_base::{OrMemory, Seq};
 use cdi_beans::ListedBeans;
 use cdi_bodies::Bodies;
 use cdi_deployment::Deployment;
+use cdi_name_check::NameSets;
 use cdi_problems::Problem;
 use cdi_resolve::BeanTables;
 use std::alloc::{AllocError, Global};
 
-/// The last tier of problems of a deployment whose names and beans have none, by its tables: those that look at what is enabled. They
-/// stand by their numbers, and those of a number in the order of the places.
+/// The last tier of problems of a deployment whose names and beans have none, by the names that it declares and its tables: those that
+/// look at what is enabled. They stand by their numbers, and those of a number in the order of the places.
 pub fn late_problems(
     alloc: Global,
     deployment: &Deployment,
+    names: &NameSets,
     tables: &BeanTables,
     bodies: &Bodies,
 ) -> Result<Seq<Problem>, AllocError>
-    requires { AreTablesOf deployment.now tables.now }
+    requires names { HasDeclared deployment.now names.now }
+    requires tables { AreTablesOf deployment.now tables.now }
     ensures late { IfOk result
         (AreLateProblems deployment.now (shape_of (entries_of bodies.now))) }
     ensures by_tables { IfOk result (AreProblemsIn deployment.now
         (shape_of (entries_of bodies.now)) tables.now.enabled
         (setting_by deployment.now tables.now)) }
 {
-    let problems = problems_by(alloc, deployment, tables, bodies)?;
+    let problems = problems_by(alloc, deployment, names, tables, bodies)?;
     Ok(problems)
 }
 
@@ -46,11 +50,17 @@ fn problems_with(
 ) -> Result<Seq<Problem>, AllocError>
     requires list { IsMadeOf deployment.now beans.list }
     requires declared { AreDeclaredBy deployment.now beans.declared }
+    requires names { HasDeclared deployment.now beans.names }
     ensures { IfOk result
         (AreLateProblems deployment.now (shape_of (entries_of bodies.now))) }
 {
-    let tables = BeanTables::build(alloc, deployment, beans)?;
-    late_problems(alloc, deployment, &tables, bodies)
+    let ListedBeans {
+        list,
+        declared,
+        names,
+    } = beans;
+    let tables = BeanTables::build(alloc, deployment, list, declared)?;
+    late_problems(alloc, deployment, &names, &tables, bodies)
 }
 
 /// The problems of a deployment with its registered bodies (Jakarta CDI 4.0, *Problems detected automatically by the container*): those

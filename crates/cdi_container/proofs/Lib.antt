@@ -1,7 +1,6 @@
 pub mod Accepting
 pub mod Faultless
 pub mod Halted
-pub mod Keeping
 pub mod Replying
 pub mod Stories
 pub mod Missing

@@ -9,6 +9,7 @@ ghost use Rattle.cdi_check.specs.Late.{AreProblemsIn};
 ghost use Rattle.cdi_check.specs.Tables.{setting_by};
 ghost use Rattle.cdi_container.specs.Accepted as spec;
 ghost use Rattle.cdi_container.specs.declared.acceptance.Unaccepted.TheVariants.{Problems};
+ghost use Rattle.cdi_name_check.specs.NameSets.{HasDeclared};
 
 use cdi_base::{Names, OrMemory, Seq};
 use cdi_beans::ListedBeans;
@@ -77,15 +78,21 @@ fn accept_listed(
 ) -> Result<RunTables, OrMemory<Unaccepted>>
     requires list { IsMadeOf deployment beans.list }
     requires declared { AreDeclaredBy deployment beans.declared }
+    requires names { HasDeclared deployment beans.names }
     ensures ok { IfOk result (spec.IsAccepted deployment (entries_of bodies.now)) }
     ensures err { IfErr result (spec.IsUnaccepted deployment (entries_of bodies.now)) }
 {
-    let listed = BeanTables::build(alloc, &deployment, beans)?;
-    let problems = late_problems(alloc, &deployment, &listed, bodies)?;
+    let ListedBeans {
+        list,
+        declared,
+        names,
+    } = beans;
+    let listed = BeanTables::build(alloc, &deployment, list, declared)?;
+    let problems = late_problems(alloc, &deployment, &names, &listed, bodies)?;
     if !problems.is_empty() {
         return Err(refused(deployment, problems));
     }
-    let tables = RunTables::build(alloc, deployment, listed, bodies)?;
+    let tables = RunTables::build(alloc, deployment, names, listed, bodies)?;
     served_tables(tables, bodies)
 }
 

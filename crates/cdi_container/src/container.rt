@@ -19,7 +19,8 @@ use cdi_frames::run::run;
 use cdi_machine::Driver;
 use cdi_run_tables::RunTables;
 use cdi_runtime::Runtime;
-use cdi_steps::{Host, Job, Outcome};
+use cdi_steps::task::Task;
+use cdi_steps::{Job, Outcome};
 use std::alloc::{AllocError, Global};
 use std::marker::Model;
 
@@ -64,7 +65,13 @@ fn carry_out<D: Driver>(runtime: &mut Runtime<D>, job: Job) -> Outcome
         (D.legal runtime.old.driver) (D.legal runtime.new.driver) runtime.old runtime.new }
 {
     runtime.begin();
-    match run(runtime, job) {
+    let task = Task::Begin(job);
+    match run(
+        &runtime.tables,
+        &mut runtime.driver,
+        &mut runtime.world,
+        task,
+    ) {
         Ok(outcome) => outcome,
         Err(_) => Outcome::Cut(Cause::Memory),
     }
@@ -195,7 +202,7 @@ impl<D: Driver> Container<D> {
                 args,
             } => {
                 let call = call_for(
-                    self.runtime.alloc(),
+                    self.runtime.alloc,
                     self.names(),
                     &bean_type,
                     qualifiers.as_slice(),

@@ -1,15 +1,21 @@
 -- Each step lowers the load of a stack.
-use Rattle.std.proofs.Common.{ℕ, zero, suc, ◌≡◌, ◌+◌, ◌-◌, ◌*◌, ◌^◌, ◌<◌, ◌≤◌, inl, inr, List, [], ◌∷◌, length, refl, ap, arith}
+use Rattle.std.proofs.Common.{ℕ, zero, suc, ◌≡◌, ◌+◌, ◌-◌, ◌*◌, ◌^◌, ◌<◌, ◌≤◌, List, [], ◌∷◌, length, refl, ap, arith}
 use Rattle.std.proofs.Math.Nat.{mul-le-mul_right, suc-mul}
 use Rattle.cdi_machine.specs.Tables.{Tables}
-use Rattle.cdi_machine.specs.World.{World}
+use Rattle.cdi_machine.specs.World.{World, with_entry}
 use Rattle.cdi_machine.specs.Runs.{Legal, Runs}
-use Rattle.cdi_steps.specs.Setting.{Setting}
 use Rattle.cdi_steps.specs.Words.{outcome_of}
-use Rattle.cdi_steps.specs.Meanings.{first}
-use Rattle.cdi_steps.specs.Leads.{MovesTo}
-use Rattle.cdi_steps.specs.Falls.{rank, frame_rank, gave_rank, back_rank, weight, entries_left, Falls}
-use Rattle.cdi_steps.proofs.Cost.{rank_below, frame_below, thrown_below, thrown_above, same_left, adds_left, destroy_left}
+use Rattle.cdi_steps.specs.Meanings.{first, node}
+use Rattle.cdi_steps.specs.Leads.{Comes}
+use Rattle.cdi_steps.specs.Ranks.{rank, continuation_rank, frame_rank, gave_rank, back_rank, weight}
+use Rattle.cdi_steps.proofs.Ranks.{rank_below, frame_below, thrown_below, thrown_above}
+use Rattle.cdi_machine.proofs.Order.{Still, longer}
+use Rattle.cdi_frames.proofs.Kept.{comes_still, still_left, destroy_left}
+use Rattle.cdi_frames.specs.Hearing.{Written, Spent}
+use Rattle.cdi_base.specs.declared.entry.Entry.{Entry}
+use Rattle.cdi_base.specs.declared.reply.Cause.TheVariants as causes
+use Rattle.cdi_steps.specs.declared.task.Continuation.{Continuation}
+use Rattle.cdi_steps.specs.declared.task.Continuation.TheVariants as continuations
 use Rattle.cdi_steps.specs.declared.task.Call.{Call}
 use Rattle.cdi_steps.specs.declared.task.Call.TheVariants as calls
 use Rattle.cdi_steps.specs.declared.task.Completion.TheVariants as completions
@@ -23,8 +29,8 @@ use Rattle.cdi_steps.specs.declared.task.Next.TheVariants as nexts
 use Rattle.cdi_frames.specs.declared.stack.Pending.{Pending}
 use Rattle.cdi_frames.specs.declared.stack.Pending.TheVariants as pendings
 use Rattle.cdi_frames.specs.declared.stack.Stack.{Stack}
-use Rattle.cdi_frames.specs.Stacks.{frames_with, pending_for, AddsAtMost}
-use Rattle.cdi_frames.specs.Loads.{mass, greatest_mass, top_rank, behind_load, frames_load, own_load, load, load_of}
+use Rattle.cdi_frames.specs.Stacks.{frames_with, pending_for, entries_left, entries_due, AddsAtMost, HasRoomFor, IsSpent, StopsAt}
+use Rattle.cdi_frames.specs.Loads.{mass, greatest_mass, top_rank, behind_load, frames_load, own_load, load_of}
 use Rattle.cdi_frames.proofs.Sound.{from_comes, over_runs}
 
 -- ---- numbers
@@ -37,6 +43,10 @@ mass_above : (n : ℕ) → 0 < mass n
 unfolding mass
 mass_above zero = omega arith
 mass_above (suc n) = let h = mass_above n in omega (arith, h)
+
+mass_more : (n : ℕ) → 0 < n → 1 < mass n
+mass_more zero h = absurd (omega (arith, h))
+mass_more (suc n) h = let a = mass_suc n in let b = mass_above n in omega (arith, a, b)
 
 mass_up : (d m n : ℕ) → n ≡ d + m → mass m ≤ mass n
 mass_up zero m n e = let q : n ≡ m = omega (arith, e) in rw q (omega arith)
@@ -66,6 +76,11 @@ fewer a b c h = let l : suc a * c ≤ b * c = mul-le-mul_right {m = suc a} {n = 
 rank_above : (t : Task) → 0 < rank t
 rank_above (tasks.Start (calls.Obtain b)) = omega arith
 rank_above (tasks.Start _) = omega arith
+rank_above (tasks.Continue a) = by a
+  where
+    by : (a : Continuation) → 0 < continuation_rank a
+    by (continuations.Making n b owner) = omega arith
+    by _ = omega arith
 rank_above _ = omega arith
 
 top_below : (d : Pending) (k : Frame) → top_rank d k ≤ frame_rank k
@@ -89,9 +104,11 @@ top_below (pendings.Does t) k = let a = gave_most t k in let b = thrown_below k 
     gave_most (tasks.Using bean_call) k = omega arith
     gave_most (tasks.Through call) k = omega arith
     gave_most (tasks.Creating n b left) k = omega arith
+    gave_most (tasks.Continue a) k = omega arith
 top_below (pendings.Gives (outcomes.Cut cause)) k = let a = thrown_above k in let b = thrown_below k in omega (arith, a, b)
 top_below (pendings.Gives (outcomes.Ends (completions.Gave g))) k = omega arith
 top_below (pendings.Gives (outcomes.Ends (completions.Threw x))) k = thrown_below k
+top_below (pendings.Writes e a) k = let b = thrown_above k in let c = thrown_below k in omega (arith, b, c)
 
 -- what goes on without an entry is no destruction
 same_top : (t : Task) → 1 < rank t → (k : Frame) → frame_rank k ≤ top_rank (pendings.Does t) k
@@ -112,6 +129,7 @@ same_top (tasks.Begin job) h k = omega arith
 same_top (tasks.Using bean_call) h k = omega arith
 same_top (tasks.Through call) h k = omega arith
 same_top (tasks.Creating n b left) h k = omega arith
+same_top (tasks.Continue a) h k = omega arith
 
 module _ (tables : Tables) (legal : Legal) where
   -- what ended without an entry is gone on with at no greater rank
@@ -136,6 +154,11 @@ module _ (tables : Tables) (legal : Legal) where
       by (tasks.Using bean_call) r = omega arith
       by (tasks.Through call) r = omega arith
       by (tasks.Creating n b left) r = omega arith
+      by (tasks.Continue a) r = omega arith
+
+-- an entry that is due puts all behind it off
+due_top : (t : Task) (k : Frame) → 1 ≤ top_rank (pendings.Does t) k
+due_top t k = let a = thrown_above k in omega (arith, a)
 
 -- ---- what waits
 
@@ -165,95 +188,93 @@ next_less : (ks : List Frame) (next : Next) (n : ℕ) → weight next < n → af
 next_less ks (nexts.Finished o) n h = let a = load_below (pendings.Gives o) ks in let b = mass_above n in omega (arith, a, b)
 next_less ks (nexts.Goes p) n h =
     let a = load_below (pendings.Does p) ks in let b = mass_less (rank p) n (omega (arith, h)) in let c = mass_above (rank p) in omega (arith, a, b, c)
+next_less ks (nexts.Writes e a) n h =
+    let b = load_below (pendings.Writes e a) ks in let c = mass_more n (omega (arith, h)) in omega (arith, b, c)
 next_less ks (nexts.Needs p k) n h =
     let b = mass_less (rank p) n (omega (arith, h)) in
     let c = mass_less (top_rank (pendings.Does p) k) n (omega (arith, h)) in
     let d = mass_above (rank p) in
     omega (arith, b, c, d)
 
--- and after any step
-next_most : (ks : List Frame) (next : Next) → after_next ks next ≤ behind_load ks + (greatest_mass + greatest_mass)
-next_most ks (nexts.Finished o) = let a = load_below (pendings.Gives o) ks in omega (arith, a)
-next_most ks (nexts.Goes p) =
-    let a = load_below (pendings.Does p) ks in let b = mass_bound (rank p) (rank_below p) in omega (arith, a, b)
-next_most ks (nexts.Needs p k) =
-    let b = mass_bound (rank p) (rank_below p) in
-    let a = mass_le (top_rank (pendings.Does p) k) (frame_rank k) (top_below (pendings.Does p) k) in
-    let c = mass_bound (frame_rank k) (frame_below k) in
-    omega (arith, a, b, c)
-
--- an entry was written
-entry_less : (l m x y z : ℕ) → l < m → y ≤ x + (greatest_mass + greatest_mass) → x ≤ z + greatest_mass → l * (4 * greatest_mass) + y < m * (4 * greatest_mass) + z
-entry_less l m x y z h a b =
-    let f = fewer l m (4 * greatest_mass) h in
-    let g = greatest_mass_above in
-    omega (arith, f, a, b, g)
-
-pub does_cheaper : (s : Setting) (ks : List Frame) (t : Task) (next : Next) (w v : World) → MovesTo s t w next v → Falls (rank t) w next v
-    → load (frames_with ks next) (pending_for next) v < load ks (pendings.Does t) w
-does_cheaper s ks t next w v m (inl l) =
-    let d = pendings.Does t in
-    let e = adds_left l in
-    let a = next_most ks next in
-    let b = load_above d ks in
-    let z : behind_load ks ≤ frames_load d ks + own_load d + greatest_mass = omega (arith, b) in
-    entry_less (entries_left v) (entries_left w) (behind_load ks) (after_next ks next) (frames_load d ks + own_load d) e a z
-does_cheaper s ks t next w v m (inr r) =
-    let e : entries_left v ≡ entries_left w = same_left r.same in
-    let h = by next m r.rank e in
-    rw e (omega (arith, h))
+pub does_lowers : (t : Tables) (legal : Legal) (a b : Stack) (p : Task) (next : Next) (w v : World) → a.pending ≡ pendings.Does p → b.frames ≡ frames_with a.frames next → b.pending ≡ pending_for next
+    → Comes t legal (first p) w (node next) v → weight next < rank p → load_of b v < load_of a w
+does_lowers t legal a b p next w v e f g m h = rw (e, f, g) (rw (still_left (comes_still t m)) (let q = by next m h (still_left (comes_still t m)) in omega (arith, q)))
   where
-    by : (next : Next) → MovesTo s t w next v → weight next < rank t → entries_left v ≡ entries_left w → after_next ks next < frames_load (pendings.Does t) ks + mass (rank t)
+    by : (next : Next) → Comes t legal (first p) w (node next) v → weight next < rank p → entries_left v ≡ entries_left w → after_next a.frames next < frames_load (pendings.Does p) a.frames + mass (rank p)
     by (nexts.Finished o) m h e =
-        let r = from_comes s.tables s.legal ⊥ m (over_runs s.tables s.legal ⊥ o) in
-        let a = load_alike (pendings.Gives o) (pendings.Does t) (ended_top s.tables s.legal t o w v r e) ks in
-        let b = mass_above (rank t) in
-        omega (arith, a, b)
-    by (nexts.Goes p) m h e =
-        let o = rank_above p in
-        let a = load_whole (pendings.Does t) (same_top t (omega (arith, o, h))) ks in
-        let b = next_less ks (nexts.Goes p) (rank t) h in
-        omega (arith, a, b)
-    by (nexts.Needs p k) m h e =
-        let o = rank_above p in
-        let a = load_whole (pendings.Does t) (same_top t (omega (arith, o, h))) ks in
-        let b = next_less ks (nexts.Needs p k) (rank t) h in
-        omega (arith, a, b)
-
-pub gives_cheaper : (ks : List Frame) (k : Frame) (o : Outcome) (next : Next) (w v : World) → Falls (back_rank k o) w next v
-    → load (frames_with ks next) (pending_for next) v < load (k ∷ ks) (pendings.Gives o) w
-gives_cheaper ks k o next w v (inl l) =
-    let e = adds_left l in
-    let a = next_most ks next in
-    let z : behind_load ks ≤ mass (back_rank k o) + behind_load ks + 0 + greatest_mass = omega arith in
-    entry_less (entries_left v) (entries_left w) (behind_load ks) (after_next ks next) (mass (back_rank k o) + behind_load ks + 0) e a z
-gives_cheaper ks k o next w v (inr r) =
-    let e : entries_left v ≡ entries_left w = same_left r.same in
-    let h = next_less ks next (back_rank k o) r.rank in
-    rw e (omega (arith, h))
-
-pub does_lowers : (s : Setting) (a b : Stack) (t : Task) (next : Next) (w v : World) → a.pending ≡ pendings.Does t → b.frames ≡ frames_with a.frames next → b.pending ≡ pending_for next
-    → MovesTo s t w next v → Falls (rank t) w next v → load_of b v < load_of a w
-does_lowers s a b t next w v e f g m h = rw (e, f, g) (does_cheaper s a.frames t next w v m h)
+        let r = from_comes t legal ⊥ m (over_runs t legal ⊥ o) in
+        let x = load_alike (pendings.Gives o) (pendings.Does p) (ended_top t legal p o w v r e) a.frames in
+        let y = mass_above (rank p) in
+        omega (arith, x, y)
+    by (nexts.Goes q) m h e =
+        let o = rank_above q in
+        let x = load_whole (pendings.Does p) (same_top p (omega (arith, o, h))) a.frames in
+        let y = next_less a.frames (nexts.Goes q) (rank p) h in
+        omega (arith, x, y)
+    by (nexts.Needs q k) m h e =
+        let o = rank_above q in
+        let x = load_whole (pendings.Does p) (same_top p (omega (arith, o, h))) a.frames in
+        let y = next_less a.frames (nexts.Needs q k) (rank p) h in
+        omega (arith, x, y)
+    by (nexts.Writes i c) m h e =
+        let x = load_alike (pendings.Writes i c) (pendings.Does p) (due_top p) a.frames in
+        let y = mass_more (rank p) (omega (arith, h)) in
+        omega (arith, x, y)
 
 pub gives_lowers : (a b : Stack) (ks : List Frame) (k : Frame) (o : Outcome) (next : Next) (w v : World) → a.frames ≡ k ∷ ks → a.pending ≡ pendings.Gives o
-    → b.frames ≡ frames_with ks next → b.pending ≡ pending_for next → Falls (back_rank k o) w next v → load_of b v < load_of a w
-gives_lowers a b ks k o next w v c e f g h = rw (c, e, f, g) (gives_cheaper ks k o next w v h)
+    → b.frames ≡ frames_with ks next → b.pending ≡ pending_for next → Still w v → weight next < back_rank k o → load_of b v < load_of a w
+gives_lowers a b ks k o next w v c e f g s h =
+    rw (c, e, f, g) (rw (still_left s) (let q = next_less ks next (back_rank k o) h in omega (arith, q)))
+
+-- behind an entry all is counted anew
+pub writes_lowers : (a b : Stack) (e : Entry) (x : Continuation) (w v : World) → a.pending ≡ pendings.Writes e x → b.frames ≡ a.frames → b.pending ≡ pendings.Does (tasks.Continue x)
+    → Written e w v → load_of b v < load_of a w
+writes_lowers a b e x w v p f g k =
+    let l = longer w.trace e in
+    let r = k.room in
+    rw (p, f, g, k.world)
+    (let less : entries_left (with_entry e w) < entries_left w = omega (arith, l, r) in
+    let m = fewer (entries_left (with_entry e w)) (entries_left w) (4 * greatest_mass) less in
+    let y = load_below (pendings.Does (tasks.Continue x)) a.frames in
+    let z = load_above (pendings.Writes e x) a.frames in
+    let q = mass_bound (continuation_rank x) (rank_below (tasks.Continue x)) in
+    let n = greatest_mass_above in
+    omega (arith, m, y, z, q, n))
+
+pub fills_lowers : (a b : Stack) (e : Entry) (x : Continuation) (w v : World) → a.pending ≡ pendings.Writes e x → b.frames ≡ a.frames → b.pending ≡ pendings.Gives (outcomes.Cut causes.Ticks)
+    → Spent w v → load_of b v < load_of a w
+fills_lowers a b e x w v p f g k =
+    rw (p, f, g, k.world) (let y = load_alike (pendings.Gives (outcomes.Cut causes.Ticks)) (pendings.Writes e x) (λ k. omega arith) a.frames in omega (arith, y))
 
 -- ---- entries
 
-pub grown_none : (most : ℕ) (w : World) → AddsAtMost most w w
-grown_none most w = record { low = omega arith; high = omega arith; budget = refl }
-
-pub grown_step : (n : ℕ) (next : Next) (w v : World) → Falls n w next v → AddsAtMost 1 w v
-grown_step n next w v (inl a) =
-    let r = a.room in let t = a.trace in let k = a.ticks in
-    record { low = omega (arith, t); high = omega (arith, t); budget = omega (arith, r, t, k) }
-grown_step n next w v (inr l) =
-    let t : length v.trace ≡ length w.trace = ap length l.same.trace in let k = l.same.ticks in
+pub grown_none : (most : ℕ) {w v : World} → Still w v → AddsAtMost most w v
+grown_none most {w} {v} s =
+    let t : length v.trace ≡ length w.trace = ap length s.trace in let k = s.ticks in
     record { low = omega (arith, t); high = omega (arith, t); budget = omega (arith, t, k) }
 
-pub grown_on : (most : ℕ) (w u v : World) → AddsAtMost most w u → length u.trace < length w.trace + most → AddsAtMost 1 u v → AddsAtMost most w v
-grown_on most w u v g h s =
-    let a = g.low in let b = g.budget in let c = s.low in let d = s.high in let e = s.budget in
-    record { low = omega (arith, a, c); high = omega (arith, h, d); budget = omega (arith, b, e) }
+pub grown_same : (most : ℕ) {w v : World} → v ≡ w → AddsAtMost most w v
+grown_same most e = rw e (grown_none most (record { trace = refl; ticks = refl }))
+
+pub grown_one : (e : Entry) (w v : World) → Written e w v → AddsAtMost 1 w v
+grown_one e w v k =
+    let l = longer w.trace e in
+    let r = k.room in
+    rw k.world (record { low = omega (arith, l); high = omega (arith, l); budget = omega (arith, l, r) })
+
+pub grown_on : (most first : ℕ) (d : Pending) (w u v : World) → first ≡ length w.trace → AddsAtMost most w u → HasRoomFor (entries_due d) first most u → AddsAtMost (entries_due d) u v → AddsAtMost most w v
+grown_on most first d w u v f g h s = by d h s
+  where
+    on : (n : ℕ) → length u.trace + n ≤ length w.trace + most → AddsAtMost n u v → AddsAtMost most w v
+    on n h s =
+        let a = g.low in let b = g.budget in let c = s.low in let d = s.high in let e = s.budget in
+        record { low = omega (arith, a, c); high = omega (arith, h, d); budget = omega (arith, b, e) }
+
+    by : (d : Pending) → HasRoomFor (entries_due d) first most u → AddsAtMost (entries_due d) u v → AddsAtMost most w v
+    by (pendings.Does p) h s = let a = g.high in on 0 (omega (arith, a)) s
+    by (pendings.Gives o) h s = let a = g.high in on 0 (omega (arith, a)) s
+    by (pendings.Writes e x) h s = let a = h (omega arith) in on 1 (omega (arith, a, f)) s
+
+-- a turn that is spent has written just as many
+pub spent_stops : (most first : ℕ) (a : Stack) (w u : World) → first ≡ length w.trace → AddsAtMost most w u → IsSpent first most a u → StopsAt most w a u
+spent_stops most first a w u f g h = let c = h.count in let d = g.high in record { count = omega (arith, f, c, d); due = h.due }

@@ -1,17 +1,18 @@
 -- What frames do once what they wait for has ended is what the machine does.
 use Rattle.std.proofs.Common.{ℕ, ◌≡◌, refl, sym}
 use Rattle.std.specs.Global.{Box}
-use Rattle.cdi_steps.specs.declared.task.Running.{Running}
 use Rattle.cdi_base.specs.declared.value.Value.TheVariants as values
 use Rattle.cdi_base.specs.declared.place.InterceptorMethod.{InterceptorMethod}
 use Rattle.cdi_base.specs.declared.place.InterceptorMethod.TheVariants as roles
 use Rattle.cdi_base.specs.declared.reply.Cause.{Cause}
 use Rattle.cdi_machine.specs.Words.{Name}
+use Rattle.cdi_machine.specs.Tables.{Tables}
+use Rattle.cdi_machine.specs.Programs as machine
 use Rattle.cdi_machine.specs.World.{World, Change, after_change}
-use Rattle.cdi_steps.specs.Setting.{Setting}
 use Rattle.cdi_steps.specs.Words.{given_at_end}
 use Rattle.cdi_steps.specs.Meanings.{after}
-use Rattle.cdi_steps.specs.Leads.{Comes, ComesTo, GoesOn}
+use Rattle.cdi_steps.specs.Leads.{Comes}
+use Rattle.cdi_steps.proofs.Ways.{ComesTo, WaitsTo}
 use Rattle.cdi_steps.specs.declared.task.Call.TheVariants as calls
 use Rattle.cdi_steps.specs.declared.task.Completion.{Completion}
 use Rattle.cdi_steps.specs.declared.task.Completion.TheVariants as completions
@@ -22,73 +23,71 @@ use Rattle.cdi_steps.specs.declared.task.Task.TheVariants as tasks
 use Rattle.cdi_steps.specs.declared.task.Frame.{Frame}
 use Rattle.cdi_steps.specs.declared.task.Frame.TheVariants as frames
 use Rattle.cdi_steps.specs.declared.task.Next.TheVariants as nexts
-use Rattle.cdi_frames.proofs.CommandSteps.{starting_leads, closing_leads, finishing_leads, emptied_leads}
-use Rattle.cdi_steps.proofs.AfterEntries.{stays_falls, lowers_falls}
 
-module _ (s : Setting) where
-  pub cut_leads : (k : Frame) (cause : Cause) (w : World) → ComesTo s (after k (outcomes.Cut cause)) w (nexts.Finished (outcomes.Cut cause)) w
+module _ (t : Tables) where
+  pub cut_leads : (k : Frame) (cause : Cause) (w : World) → ComesTo t (after k (outcomes.Cut cause)) w (nexts.Finished (outcomes.Cut cause)) w
   cut_leads k cause w = Comes.same refl
 
   -- ---- a chain, a body, an invocation
 
   pub reached_leads : (role : InterceptorMethod) (g : Given) (w : World)
-      → GoesOn s (frames.AtEnd role) (completions.Gave g) w (nexts.Finished (outcomes.Ends (completions.Gave (given_at_end role g)))) (after_change Change.Reach w)
+      → WaitsTo t (frames.AtEnd role) (completions.Gave g) w (nexts.Finished (outcomes.Ends (completions.Gave (given_at_end role g)))) (after_change Change.Reach w)
   reached_leads roles.AroundInvoke g w = Comes.same refl
   reached_leads roles.AroundConstruct g w = Comes.same refl
   reached_leads roles.PostConstruct g w = Comes.same refl
   reached_leads roles.PreDestroy g w = Comes.same refl
 
   pub stopped_leads : (c : Completion) (w : World)
-      → GoesOn s frames.Stopping c w (nexts.Finished (outcomes.Ends c)) (after_change Change.Stop w)
+      → WaitsTo t frames.Stopping c w (nexts.Finished (outcomes.Ends c)) (after_change Change.Stop w)
   stopped_leads (completions.Gave g) w = Comes.same refl
   stopped_leads (completions.Threw x) w = Comes.same refl
 
   pub exited_leads : (c : Completion) (w : World)
-      → GoesOn s frames.Exiting c w (nexts.Finished (outcomes.Ends c)) (after_change Change.Exit w)
+      → WaitsTo t frames.Exiting c w (nexts.Finished (outcomes.Ends c)) (after_change Change.Exit w)
   exited_leads (completions.Gave g) w = Comes.same refl
   exited_leads (completions.Threw x) w = Comes.same refl
 
   -- ---- destruction
 
   pub cleaned_up_leads : (n : ℕ) (c : Completion) (w : World)
-      → GoesOn s (frames.CleaningUp n) c w (nexts.Needs (tasks.Start (calls.Release n)) (frames.Releasing n)) (after_change Change.Exit w)
+      → WaitsTo t (frames.CleaningUp n) c w (nexts.Needs (tasks.Start (calls.Release n)) (frames.Releasing n)) (after_change Change.Exit w)
   cleaned_up_leads n c w = Comes.same refl
 
   pub freeing_leads : (n : ℕ) (g : Given) (w : World)
-      → GoesOn s (frames.Freeing n) (completions.Gave g) w (nexts.Goes (tasks.Start (calls.Release n))) w
+      → WaitsTo t (frames.Freeing n) (completions.Gave g) w (nexts.Goes (tasks.Start (calls.Release n))) w
   freeing_leads n g w = Comes.same refl
 
   pub dismissing_leads : (g : Given) (w : World)
-      → GoesOn s frames.Dismissing (completions.Gave g) w (nexts.Goes (tasks.Start calls.Dismiss)) w
+      → WaitsTo t frames.Dismissing (completions.Gave g) w (nexts.Goes (tasks.Start calls.Dismiss)) w
   dismissing_leads g w = Comes.same refl
 
   pub clearing_leads : (g : Given) (w : World)
-      → GoesOn s frames.Clearing (completions.Gave g) w (nexts.Goes (tasks.Start calls.Clear)) w
+      → WaitsTo t frames.Clearing (completions.Gave g) w (nexts.Goes (tasks.Start calls.Clear)) w
   clearing_leads g w = Comes.same refl
 
   -- ---- commands
 
   pub returned_leads : (told : Box Completion) {c : Completion} (g : Given) (w : World) → c ≡ told.value
-      → GoesOn s (frames.Returning told) (completions.Gave g) w (nexts.Finished (outcomes.Ends c)) (after_change Change.Return w)
+      → WaitsTo t (frames.Returning told) (completions.Gave g) w (nexts.Finished (outcomes.Ends c)) (after_change Change.Return w)
   returned_leads told {c = completions.Gave h} g w e = rw (sym e) (Comes.same refl)
   returned_leads told {c = completions.Threw x} g w e = rw (sym e) (Comes.same refl)
 
   pub threw_at_return : (told : Box Completion) (x : Name) (w : World)
-      → GoesOn s (frames.Returning told) (completions.Threw x) w (nexts.Finished (outcomes.Ends (completions.Threw x))) (after_change Change.Return w)
+      → WaitsTo t (frames.Returning told) (completions.Threw x) w (nexts.Finished (outcomes.Ends (completions.Threw x))) (after_change Change.Return w)
   threw_at_return told x w = Comes.same refl
 
   pub started_leads : (c : Completion) (w : World)
-      → GoesOn s frames.Starting c w (nexts.Finished (outcomes.Ends (completions.Gave (givens.Result values.Null)))) w
+      → WaitsTo t frames.Starting c w (nexts.Finished (outcomes.Ends (completions.Gave (givens.Result values.Null)))) w
   started_leads c w = Comes.same refl
 
   pub gone_down_leads : (c : Completion) (w : World)
-      → GoesOn s frames.GoingDown c w (nexts.Finished (outcomes.Ends (completions.Gave (givens.Result values.Null)))) (after_change Change.Down w)
+      → WaitsTo t frames.GoingDown c w (nexts.Finished (outcomes.Ends (completions.Gave (givens.Result values.Null)))) (after_change Change.Down w)
   gone_down_leads c w = Comes.same refl
 
   -- these end with what was thrown
   pub threw_leads : (x : Name) (k : Frame) (w : World)
       → (k ≡ frames.Stopping → ⊥)
-      → ((r : Box Running) → k ≡ frames.Answering r → ⊥)
+      → ((r : Box machine.Running) → k ≡ frames.Answering r → ⊥)
       → ((n : ℕ) → k ≡ frames.CleaningUp n → ⊥)
       → (k ≡ frames.Exiting → ⊥)
       → (k ≡ frames.Using → ⊥)
@@ -99,7 +98,7 @@ module _ (s : Setting) where
       → (k ≡ frames.Finishing → ⊥)
       → (k ≡ frames.GoingDown → ⊥)
       → ((n b left : ℕ) (field : Name) → k ≡ frames.Injecting n b left field → ⊥)
-      → GoesOn s k (completions.Threw x) w (nexts.Finished (outcomes.Ends (completions.Threw x))) w
+      → WaitsTo t k (completions.Threw x) w (nexts.Finished (outcomes.Ends (completions.Threw x))) w
   threw_leads x (frames.AtEnd role) w h1 h2 h3 h4 h5 h6 h7 h8 h9 h10 h11 h12 = Comes.same refl
   threw_leads x (frames.Releasing n) w h1 h2 h3 h4 h5 h6 h7 h8 h9 h10 h11 h12 = Comes.same refl
   threw_leads x (frames.Freeing n) w h1 h2 h3 h4 h5 h6 h7 h8 h9 h10 h11 h12 = Comes.same refl
@@ -121,5 +120,3 @@ module _ (s : Setting) where
   threw_leads x frames.Closing w h1 h2 h3 h4 h5 h6 h7 h8 h9 h10 h11 h12 = absurd (h9 refl)
   threw_leads x frames.Finishing w h1 h2 h3 h4 h5 h6 h7 h8 h9 h10 h11 h12 = absurd (h10 refl)
   threw_leads x frames.GoingDown w h1 h2 h3 h4 h5 h6 h7 h8 h9 h10 h11 h12 = absurd (h11 refl)
-
-pub ruleset leads = (cut_leads, reached_leads, stopped_leads, exited_leads, cleaned_up_leads, freeing_leads, dismissing_leads, clearing_leads, returned_leads, threw_at_return, started_leads, gone_down_leads, starting_leads, closing_leads, finishing_leads, emptied_leads, stays_falls, lowers_falls)

@@ -5,15 +5,19 @@ use Rattle.std.specs.Prelude.{Result as Either}
 use Rattle.cdi_base.specs.declared.reply.Cause.TheVariants as causes
 use Rattle.cdi_machine.specs.declared.driver.Failure.{Failure}
 use Rattle.cdi_machine.specs.Tables.{Tables, written_act}
-use Rattle.cdi_machine.specs.World.{World}
+use Rattle.cdi_machine.specs.World.{World, with_entry}
 use Rattle.cdi_machine.specs.Programs.{Given, Completion, Gave, Threw, Prog, ret, throw, cut, miss, see, change, tick, mark, act, choose, nested}
 use Rattle.cdi_machine.specs.Runs as runs
 use Rattle.cdi_machine.specs.Runs.{Legal, Runs, rest_after}
-use Rattle.cdi_steps.specs.Setting.{Setting, Narrows}
 use Rattle.cdi_steps.specs.Words.{outcome_of}
-use Rattle.cdi_steps.specs.Meanings.{over, around, node, first, waits, after}
-use Rattle.cdi_steps.specs.Leads.{ComesTo, MovesTo, IsOnWay}
-use Rattle.cdi_steps.proofs.Narrowing.{comes_before}
+use Rattle.cdi_steps.specs.Meanings.{over, around, node, first, continuation, waits, after}
+use Rattle.cdi_steps.specs.Leads.{Comes}
+use Rattle.cdi_steps.proofs.Ways.{wider_comes}
+use Rattle.cdi_machine.specs.Laws.{IsWithin}
+use Rattle.cdi_base.specs.declared.entry.Entry.{Entry}
+use Rattle.cdi_steps.specs.declared.task.Continuation.{Continuation}
+use Rattle.cdi_steps.specs.declared.task.Task.TheVariants as tasks
+use Rattle.cdi_frames.specs.Hearing.{Written, Spent}
 use Rattle.cdi_steps.specs.declared.task.Outcome.{Outcome}
 use Rattle.cdi_steps.specs.declared.task.Outcome.TheVariants as outcomes
 use Rattle.cdi_steps.specs.declared.task.Task.{Task}
@@ -26,7 +30,7 @@ use Rattle.cdi_frames.specs.declared.stack.Stack.{Stack}
 use Rattle.cdi_frames.specs.declared.stack.Turn.{Turn}
 use Rattle.cdi_frames.specs.declared.stack.Turn.TheVariants as turns
 use Rattle.cdi_frames.specs.Stacks.{program_ahead, program_within, program_of, frames_with, pending_for, Steps, StepsTo, TurnsTo}
-use Rattle.cdi_frames.proofs.Sound.{from_comes, around_runs, needed_runs, rest_runs, over_runs, runs_before}
+use Rattle.cdi_frames.proofs.Sound.{from_comes, full_in, around_runs, needed_runs, rest_runs, over_runs, wider}
 
 -- a run of what is inside, and one of what is around it
 pub record Then (A B : runs.Outcome → World → Type 0) : Type 0 where
@@ -118,97 +122,105 @@ module _ (tables : Tables) (legal : Legal) (Starved : Type 0) where
   placed ks (nexts.Finished a) w o v h = h
   placed ks (nexts.Goes t) w o v h = left_map ks (node (nexts.Goes t)) (first t) w w (λ a u r. rest_runs tables legal Starved t r) o v h
   placed ks (nexts.Needs d k) w o v h = pushed ks d k w o v h
+  placed ks (nexts.Writes e a) w o v h = h
 
   pub starved : Starved → (ks : List Frame) (p : Prog Given) (w : World) → Left ks p w (runs.Cut causes.Memory) w
   starved s [] p w = Runs.starves s
   starved s (k ∷ ks) p w = record { outcome = runs.Cut causes.Memory; world = w; inner = Runs.starves s; outer = starved s ks (cut causes.Memory) w }
 
-module _ (s : Setting) (Starved : Type 0) where
+module _ (t : Tables) (legal : Legal) (Starved : Type 0) where
   -- what a stack meant follows from what it means after its steps
-  steps_left : {ks js : List Frame} {d e : Pending} {w u : World} → Steps s ks d w js e u → (o : runs.Outcome) (v : World)
-      → Left s.tables s.legal Starved js (program_ahead e) u o v → Left s.tables s.legal Starved ks (program_ahead d) w o v
+  steps_left : {ks js : List Frame} {d e : Pending} {w u : World} → Steps t legal ks d w js e u → (o : runs.Outcome) (v : World)
+      → Left t legal Starved js (program_ahead e) u o v → Left t legal Starved ks (program_ahead d) w o v
   steps_left Steps.stays o v h = h
-  steps_left (Steps.does {ks = ks} {t = t} {w = w} {u = u} next m r) o v h =
-      left_map s.tables s.legal Starved ks (first t) (node next) w u (λ a x y. from_comes s.tables s.legal Starved m y) o v
-      (placed s.tables s.legal Starved ks next u o v (steps_left r o v h))
+  steps_left (Steps.does {ks = ks} {p = p} {w = w} {u = u} next m r) o v h =
+      left_map t legal Starved ks (first p) (node next) w u (λ a x y. from_comes t legal Starved m y) o v
+      (placed t legal Starved ks next u o v (steps_left r o v h))
   steps_left (Steps.gives {ks = ks} {k = k} {o = a} {w = w} {u = u} next m r) o v h =
-      popped s.tables s.legal Starved ks k a w o v
-      (left_map s.tables s.legal Starved ks (after k a) (node next) w u (λ b x y. from_comes s.tables s.legal Starved m y) o v
-      (placed s.tables s.legal Starved ks next u o v (steps_left r o v h)))
+      popped t legal Starved ks k a w o v
+      (left_map t legal Starved ks (after k a) (node next) w u (λ b x y. from_comes t legal Starved m y) o v
+      (placed t legal Starved ks next u o v (steps_left r o v h)))
+  steps_left (Steps.writes {ks = ks} {a = a} {i = i} {w = w} room r) o v h =
+      left_map t legal Starved ks (tick i (continuation a)) (continuation a) w (with_entry i w) (λ b x y. Runs.writes room y) o v (steps_left r o v h)
+  steps_left (Steps.fills {ks = ks} {a = a} {i = i} {w = w} full r) o v h =
+      left_map t legal Starved ks (tick i (continuation a)) (cut causes.Ticks) w w (λ b x y. full_in t legal Starved full y) o v (steps_left r o v h)
 
-  pub steps_run : (a b : Stack) (w u : World) → StepsTo s a w b u → (o : runs.Outcome) (v : World)
-      → Runs s.tables s.legal Starved (program_of b) u o v → Runs s.tables s.legal Starved (program_of a) w o v
+  pub steps_run : (a b : Stack) (w u : World) → StepsTo t legal a w b u → (o : runs.Outcome) (v : World)
+      → Runs t legal Starved (program_of b) u o v → Runs t legal Starved (program_of a) w o v
   steps_run a b w u r o v h =
-      to_within s.tables s.legal Starved a.frames (program_ahead a.pending) w o v
-      (steps_left r o v (from_within s.tables s.legal Starved b.frames (program_ahead b.pending) u o v h))
+      to_within t legal Starved a.frames (program_ahead a.pending) w o v
+      (steps_left r o v (from_within t legal Starved b.frames (program_ahead b.pending) u o v h))
 
 -- ---- steps in a row
 
-pub steps_then : (s : Setting) {ks js is : List Frame} {d e f : Pending} {w u v : World} → Steps s ks d w js e u → Steps s js e u is f v → Steps s ks d w is f v
-steps_then s Steps.stays r = r
-steps_then s (Steps.does next m q) r = Steps.does next m (steps_then s q r)
-steps_then s (Steps.gives next m q) r = Steps.gives next m (steps_then s q r)
+pub steps_then : {t : Tables} {legal : Legal} {ks js is : List Frame} {d e f : Pending} {w u v : World} → Steps t legal ks d w js e u → Steps t legal js e u is f v → Steps t legal ks d w is f v
+steps_then Steps.stays r = r
+steps_then (Steps.does next m q) r = Steps.does next m (steps_then q r)
+steps_then (Steps.gives next m q) r = Steps.gives next m (steps_then q r)
+steps_then (Steps.writes room q) r = Steps.writes room (steps_then q r)
+steps_then (Steps.fills full q) r = Steps.fills full (steps_then q r)
 
-module _ {r s : Setting} (n : Narrows r s) where
-  pub steps_before : {ks js : List Frame} {d e : Pending} {w v : World} → Steps s ks d w js e v → Steps r ks d w js e v
+module _ (t : Tables) {small large : Legal} (n : IsWithin small large) where
+  pub steps_before : {ks js : List Frame} {d e : Pending} {w v : World} → Steps t small ks d w js e v → Steps t large ks d w js e v
   steps_before Steps.stays = Steps.stays
-  steps_before (Steps.does next m q) = Steps.does next (comes_before n m) (steps_before q)
-  steps_before (Steps.gives next m q) = Steps.gives next (comes_before n m) (steps_before q)
+  steps_before (Steps.does next m q) = Steps.does next (wider_comes n m) (steps_before q)
+  steps_before (Steps.gives next m q) = Steps.gives next (wider_comes n m) (steps_before q)
+  steps_before (Steps.writes room q) = Steps.writes room (steps_before q)
+  steps_before (Steps.fills full q) = Steps.fills full (steps_before q)
 
   -- a turn after steps
-  pub turned_after : (a b : Stack) (w u : World) (x : Either Turn Failure) (v : World) → StepsTo r a w b u → TurnsTo s b u x v → TurnsTo r a w x v
-  turned_after a b w u (Ok (turns.Running c)) v q h = steps_then r q (steps_before h)
-  turned_after a b w u (Ok (turns.Finished o)) v q h = steps_run r ⊥ a b w u q (outcome_of o) v (runs_before n (program_of b) (λ x. x) h)
-  turned_after a b w u (Err failure) v q h = steps_run r (Unit {0}) a b w u q (runs.Cut causes.Memory) v (runs_before n (program_of b) (λ x. x) h)
+  pub turned_after : (a b : Stack) (w u : World) (x : Either Turn Failure) (v : World) → StepsTo t large a w b u → TurnsTo t small b u x v → TurnsTo t large a w x v
+  turned_after a b w u (Ok (turns.Running c)) v q h = steps_then q (steps_before h)
+  turned_after a b w u (Ok (turns.Finished o)) v q h = steps_run t large ⊥ a b w u q (outcome_of o) v (wider n (λ x. x) h)
+  turned_after a b w u (Err failure) v q h = steps_run t large (Unit {0}) a b w u q (runs.Cut causes.Memory) v (wider n (λ x. x) h)
 
 -- ---- what one step comes to
 
--- a task's step, and the stack after it
-pub does_step : (s : Setting) (a b : Stack) (t : Task) (next : Next) (w v : World) → a.pending ≡ pendings.Does t → b.frames ≡ frames_with a.frames next → b.pending ≡ pending_for next
-    → MovesTo s t w next v → StepsTo s a w b v
-does_step s a b t next w v e f g m =
-    rw (e, f, g) (Steps.does next m Steps.stays)
+module _ (t : Tables) (legal : Legal) where
+  -- a task's step, and the stack after it
+  pub does_step : (a b : Stack) (p : Task) (next : Next) (w v : World) → a.pending ≡ pendings.Does p → b.frames ≡ frames_with a.frames next → b.pending ≡ pending_for next
+      → Comes t legal (first p) w (node next) v → StepsTo t legal a w b v
+  does_step a b p next w v e f g m = rw (e, f, g) (Steps.does next m Steps.stays)
 
-pub gives_step : (s : Setting) (a b : Stack) (k : Frame) (ks : List Frame) (o : Outcome) (next : Next) (w v : World) → a.frames ≡ k ∷ ks → a.pending ≡ pendings.Gives o
-    → b.frames ≡ frames_with ks next → b.pending ≡ pending_for next → ComesTo s (after k o) w next v → StepsTo s a w b v
-gives_step s a b k ks o next w v c e f g m =
-    rw (c, e, f, g) (Steps.gives next m Steps.stays)
+  pub gives_step : (a b : Stack) (k : Frame) (ks : List Frame) (o : Outcome) (next : Next) (w v : World) → a.frames ≡ k ∷ ks → a.pending ≡ pendings.Gives o
+      → b.frames ≡ frames_with ks next → b.pending ≡ pending_for next → Comes t legal (after k o) w (node next) v → StepsTo t legal a w b v
+  gives_step a b k ks o next w v c e f g m = rw (c, e, f, g) (Steps.gives next m Steps.stays)
 
--- nothing waits for the outcome
-pub ends_step : (s : Setting) (a : Stack) (o : Outcome) (w : World) → a.frames ≡ [] → a.pending ≡ pendings.Gives o → Runs s.tables s.legal ⊥ (program_of a) w (outcome_of o) w
-ends_step s a o w c e = rw (c, e) (over_runs s.tables s.legal ⊥ o)
+  -- an entry that is written, and one that has no room
+  pub writes_step : (a b : Stack) (i : Entry) (x : Continuation) (w v : World) → a.pending ≡ pendings.Writes i x → b.frames ≡ a.frames → b.pending ≡ pendings.Does (tasks.Continue x)
+      → Written i w v → StepsTo t legal a w b v
+  writes_step a b i x w v e f g k = rw (e, f, g, k.world) (Steps.writes k.room Steps.stays)
 
--- ---- failures
+  pub fills_step : (a b : Stack) (i : Entry) (x : Continuation) (w v : World) → a.pending ≡ pendings.Writes i x → b.frames ≡ a.frames → b.pending ≡ pendings.Gives (outcomes.Cut causes.Ticks)
+      → Spent w v → StepsTo t legal a w b v
+  fills_step a b i x w v e f g k = rw (e, f, g, k.world) (Steps.fills k.full Steps.stays)
 
-abbrev pub Starves : Setting → Stack → World → World → Type 0
-Starves s a w v = Runs s.tables s.legal (Unit {0}) (program_of a) w (runs.Cut causes.Memory) v
+  -- nothing waits for the outcome
+  pub ends_step : (a : Stack) (o : Outcome) (w : World) → a.frames ≡ [] → a.pending ≡ pendings.Gives o → Runs t legal ⊥ (program_of a) w (outcome_of o) w
+  ends_step a o w c e = rw (c, e) (over_runs t legal ⊥ o)
 
-pub turned_err : (s : Setting) (a : Stack) (w v : World) (x : Either Turn Failure) → IsErr x → Starves s a w v → TurnsTo s a w x v
-turned_err s a w v (Ok o) h r = absurd (true≢false (sym h))
-turned_err s a w v (Err e) h r = r
+  -- ---- failures
 
-pub starves_here : (s : Setting) (a : Stack) (w : World) → Starves s a w w
-starves_here s a w = Runs.starves tt
+  abbrev pub Starves : Stack → World → World → Type 0
+  Starves a w v = Runs t legal (Unit {0}) (program_of a) w (runs.Cut causes.Memory) v
 
--- on the way of a task
-pub starves_on_way : (s : Setting) (a : Stack) (t : Task) (w v : World) → a.pending ≡ pendings.Does t → IsOnWay s (first t) w v → Starves s a w v
-starves_on_way s a t w v e c =
-    to_within s.tables s.legal (Unit {0}) a.frames (program_ahead a.pending) w (runs.Cut causes.Memory) v
-    (rw e (left_map s.tables s.legal (Unit {0}) a.frames (first t) c.left w v (λ o x y. from_comes s.tables s.legal (Unit {0}) c.comes y) (runs.Cut causes.Memory) v (starved s.tables s.legal (Unit {0}) tt a.frames c.left v)))
+  pub turned_err : (a : Stack) (w v : World) (x : Either Turn Failure) → IsErr x → Starves a w v → TurnsTo t legal a w x v
+  turned_err a w v (Ok o) h r = absurd (true≢false (sym h))
+  turned_err a w v (Err e) h r = r
 
--- after a step
-pub starves_after : (s : Setting) (a b : Stack) (w v : World) → StepsTo s a w b v → Starves s a w v
-starves_after s a b w v q = steps_run s (Unit {0}) a b w v q (runs.Cut causes.Memory) v (Runs.starves tt)
+  -- nothing has changed
+  pub starves_here : (a : Stack) (w v : World) → v ≡ w → Starves a w v
+  starves_here a w v e = rw e (Runs.starves tt)
 
--- after a step that had no memory for what waits
-pub starves_moved : (s : Setting) (a : Stack) (t : Task) (next : Next) (w v : World) → a.pending ≡ pendings.Does t → MovesTo s t w next v → Starves s a w v
-starves_moved s a t next w v e m =
-    to_within s.tables s.legal (Unit {0}) a.frames (program_ahead a.pending) w (runs.Cut causes.Memory) v
-    (rw e (left_map s.tables s.legal (Unit {0}) a.frames (first t) (node next) w v (λ o x y. from_comes s.tables s.legal (Unit {0}) m y) (runs.Cut causes.Memory) v (starved s.tables s.legal (Unit {0}) tt a.frames (node next) v)))
+  -- after a step that had no memory for what waits
+  pub starves_moved : (a : Stack) (p : Task) (next : Next) (w v : World) → a.pending ≡ pendings.Does p → Comes t legal (first p) w (node next) v → Starves a w v
+  starves_moved a p next w v e m =
+      to_within t legal (Unit {0}) a.frames (program_ahead a.pending) w (runs.Cut causes.Memory) v
+      (rw e (left_map t legal (Unit {0}) a.frames (first p) (node next) w v (λ o x y. from_comes t legal (Unit {0}) m y) (runs.Cut causes.Memory) v (starved t legal (Unit {0}) tt a.frames (node next) v)))
 
-pub starves_went : (s : Setting) (a : Stack) (k : Frame) (ks : List Frame) (o : Outcome) (next : Next) (w v : World) → a.frames ≡ k ∷ ks → a.pending ≡ pendings.Gives o
-    → ComesTo s (after k o) w next v → Starves s a w v
-starves_went s a k ks o next w v c e m =
-    to_within s.tables s.legal (Unit {0}) a.frames (program_ahead a.pending) w (runs.Cut causes.Memory) v
-    (rw (c, e) (popped s.tables s.legal (Unit {0}) ks k o w (runs.Cut causes.Memory) v
-    (left_map s.tables s.legal (Unit {0}) ks (after k o) (node next) w v (λ b x y. from_comes s.tables s.legal (Unit {0}) m y) (runs.Cut causes.Memory) v (starved s.tables s.legal (Unit {0}) tt ks (node next) v))))
+  pub starves_went : (a : Stack) (k : Frame) (ks : List Frame) (o : Outcome) (next : Next) (w v : World) → a.frames ≡ k ∷ ks → a.pending ≡ pendings.Gives o
+      → Comes t legal (after k o) w (node next) v → Starves a w v
+  starves_went a k ks o next w v c e m =
+      to_within t legal (Unit {0}) a.frames (program_ahead a.pending) w (runs.Cut causes.Memory) v
+      (rw (c, e) (popped t legal (Unit {0}) ks k o w (runs.Cut causes.Memory) v
+      (left_map t legal (Unit {0}) ks (after k o) (node next) w v (λ b x y. from_comes t legal (Unit {0}) m y) (runs.Cut causes.Memory) v (starved t legal (Unit {0}) tt ks (node next) v))))

@@ -1,79 +1,146 @@
-//! The engine: a loop over its steps, which can stop between any two of them.
-ghost use Rattle.std.specs.Prelude.{◌<◌, IfOk, IfErr};
-ghost use Rattle.cdi_machine.specs.Commands.{task};
-ghost use Rattle.cdi_steps.specs.Setting.{Narrows};
-ghost use Rattle.cdi_steps.specs.Hearing.{HasFailed};
-ghost use Rattle.cdi_steps.specs.Words.{command_of};
+//! The engine: a loop over its steps, which alone writes entries, and can stop before each of them.
+ghost use Rattle.std.specs.Prelude.{◌≡◌, ◌≤◌, length, false, IfOk, IfErr, OnErr, IsTrue};
+ghost use Rattle.cdi_steps.specs.Meanings.{first};
 ghost use Rattle.cdi_steps.specs.Leads.{Ran};
-ghost use Rattle.cdi_frames.specs.Stacks.{program_of, KeepsMeaning, TurnsTo, AddsAtMost, KeepsCount, KnownStack, KnownTurn};
-ghost use Rattle.cdi_frames.specs.Hearing.{HearsTurn, HearsOutcome};
+ghost use Rattle.cdi_steps.specs.Known.{AllInvoked, Known};
+ghost use Rattle.cdi_steps.specs.Driving.{Drives, HasFailed, Narrows};
+ghost use Rattle.cdi_frames.specs.Stacks.{program_of, KeepsMeaning, TurnsTo, AddsAtMost, KeepsCount, HasRoomFor, IsSpent, entries_due, KnownStack, KnownTurn};
+ghost use Rattle.cdi_frames.specs.Hearing.{Noted, ToldIf, HearsTurn, HearsOutcome, HasFailedAt};
 ghost use Rattle.cdi_frames.specs.Loads.{IsCheaper};
 
 use crate::resume::resume;
 use crate::stack::{Pending, Stack, Turn, after_step};
 use crate::step::step;
-use cdi_machine::Failure;
+use cdi_base::{Cause, Entry};
+use cdi_host::{Contents, Tables};
+use cdi_machine::{Driver, Failure};
+use cdi_steps::Outcome;
 use cdi_steps::task::Task;
-use cdi_steps::{Host, Job, Outcome};
 
-/// Does one step: that of what is next, or that of the innermost frame, which gets the outcome that it waits for. It writes
-/// at most one entry.
+/// Writes an entry of which the driver is told, if the command may have one more. An error comes from the driver, or memory is
+/// wanting; on an error the world is the same.
+#[tactic(auto, using(cdi_steps::proofs::Driving::driving))]
+fn write<D: Driver, W: Contents>(
+    driver: &mut D,
+    world: &mut W,
+    entry: Entry,
+) -> Result<bool, Failure>
+    ensures noted { IfOk result (λ written. Noted entry
+        (W.world world.old) written (W.world world.new)) }
+    ensures told { IfOk result (λ written. ToldIf written entry
+        (D.heard driver.old) (D.heard driver.new)) }
+    ensures kept { OnErr result (W.world world.new ≡ W.world world.old) }
+    ensures failed { IfErr result (HasFailed (D.may_end driver.old)
+        (D.heard driver.old) (D.heard driver.new) (D.ended driver.new)) }
+    ensures narrows { Narrows (D.legal driver.old) (D.legal driver.new)
+        (D.may_end driver.old) (D.may_end driver.new) (D.knows driver.old) (D.knows driver.new) }
+{
+    if !world.has_room() {
+        drop(entry);
+        return Ok(false);
+    }
+    driver.tell(&entry, world.entries())?;
+    world.write(entry)?;
+    Ok(true)
+}
+
+/// Does one step: that of what is next, or that of the innermost frame, which gets the outcome that it waits for, or writes the
+/// entry that is due.
 #[inline(always)]
-fn advance<H: Host>(host: &mut H, stack: Stack) -> Result<Turn, Failure>
-    requires { KnownStack (H.setting host.old) stack }
-    ensures turned { TurnsTo (H.setting host.old) stack
-        (H.world host.old) result (H.world host.new) }
+fn advance<T: Tables, D: Driver, W: Contents>(
+    tables: &T,
+    driver: &mut D,
+    world: &mut W,
+    stack: Stack,
+) -> Result<Turn, Failure>
+    requires drives { Drives (T.tables tables.now) (D.knows driver.old) (D.legal driver.old) }
+    requires known { KnownStack (T.tables tables.now) (W.world world.old) stack }
+    ensures turned { TurnsTo (T.tables tables.now) (D.legal driver.old) stack
+        (W.world world.old) result (W.world world.new) }
     ensures cheaper { IfOk result (λ turn. IsCheaper stack
-        (H.world host.old) turn (H.world host.new)) }
-    ensures grown { IfOk result (λ turn. AddsAtMost 1 (H.world host.old) (H.world host.new)) }
-    ensures known { IfOk result (KnownTurn (H.setting host.new)) }
-    ensures hears { IfOk result (λ turn. HearsTurn (H.setting host.old) stack
-        (H.world host.old) turn (H.setting host.new) (H.world host.new)) }
-    ensures failed { IfErr result (HasFailed (H.setting host.old) (H.world host.old)
-        (H.setting host.new) (H.world host.new)) }
-    ensures narrows { Narrows (H.setting host.old) (H.setting host.new) }
+        (W.world world.old) turn (W.world world.new)) }
+    ensures grown { AddsAtMost (entries_due stack.pending) (W.world world.old) (W.world world.new) }
+    ensures known { IfOk result (KnownTurn (T.tables tables.now) (W.world world.new)) }
+    ensures invoked { AllInvoked (T.tables tables.now) (W.world world.new) }
+    ensures hears { IfOk result (λ turn. HearsTurn (D.heard driver.old) stack (W.world world.old)
+        turn (D.heard driver.new) (W.world world.new)) }
+    ensures failed { IfErr result (HasFailedAt (D.may_end driver.old)
+        (D.heard driver.old) stack.pending (W.world world.old)
+        (D.heard driver.new) (D.ended driver.new) (W.world world.new)) }
+    ensures narrows { Narrows (D.legal driver.old) (D.legal driver.new)
+        (D.may_end driver.old) (D.may_end driver.new) (D.knows driver.old) (D.knows driver.new) }
 {
     let Stack { frames, pending } = stack;
     let mut frames = frames;
     match pending {
         Pending::Does(task) => {
-            let next = step(host, task)?;
+            let next = step(tables, driver, world, task)?;
             Ok(Turn::Running(after_step(frames, next)?))
         }
         Pending::Gives(outcome) => match frames.take() {
             None => Ok(Turn::Finished(outcome)),
             Some(frame) => {
-                let next = resume(host, frame, outcome)?;
+                let next = resume(tables, world, frame, outcome)?;
                 Ok(Turn::Running(after_step(frames, next)?))
             }
         },
+        Pending::Writes(entry, continuation) => {
+            if !write(driver, world, entry)? {
+                let pending = Pending::Gives(Outcome::Cut(Cause::Ticks));
+                return Ok(Turn::Running(Stack { frames, pending }));
+            }
+            let pending = Pending::Does(Task::Continue(continuation));
+            Ok(Turn::Running(Stack { frames, pending }))
+        }
     }
 }
 
-/// Goes on until so many entries are written, or the run is over: a turn of 0 does nothing. If it is running, exactly so
-/// many were written, and the steps from the one stack to the other are those of the machine; if it is finished, what the
-/// stack meant has run to this outcome. On an error, memory ran out or the driver gave nothing, and what was written is what
-/// such a run writes first.
-pub fn turn<H: Host>(host: &mut H, stack: Stack, most: usize) -> Result<Turn, Failure>
-    requires { KnownStack (H.setting host.old) stack }
-    ensures turned { TurnsTo (H.setting host.old) stack
-        (H.world host.old) result (H.world host.new) }
-    ensures counted { IfOk result (λ turn. KeepsCount most
-        (H.world host.old) turn (H.world host.new)) }
-    ensures known { IfOk result (KnownTurn (H.setting host.new)) }
-    ensures hears { IfOk result (λ turn. HearsTurn (H.setting host.old) stack
-        (H.world host.old) turn (H.setting host.new) (H.world host.new)) }
-    ensures failed { IfErr result (HasFailed (H.setting host.old) (H.world host.old)
-        (H.setting host.new) (H.world host.new)) }
-    ensures narrows { Narrows (H.setting host.old) (H.setting host.new) }
+/// Whether a turn that began behind so many entries may do one step more: no entry is due, or it is among the most that the turn may
+/// write.
+fn may_go_on<W: Contents>(world: &W, stack: &Stack, first: u64, most: u64) -> bool
+    requires low { first ≤ length (W.world world.now).trace }
+    ensures goes_on { IsTrue result →
+        HasRoomFor (entries_due stack.now.pending) first most (W.world world.now) }
+    ensures stops { result ≡ false → IsSpent first most stack.now (W.world world.now) }
 {
-    let first = host.written();
+    !stack.is_due() || world.entries() - first < most
+}
+
+/// Goes on until one entry more than so many is due, or the run is over; a turn of 0 goes on to the first entry. If it is running,
+/// exactly so many were written, and the steps from the one stack to the other are those of the machine; if it is finished, what the
+/// stack meant has run to this outcome. On an error, memory ran out or the driver gave nothing, and what was written is what
+/// such a run writes first. No turn writes more.
+pub fn turn<T: Tables, D: Driver, W: Contents>(
+    tables: &T,
+    driver: &mut D,
+    world: &mut W,
+    stack: Stack,
+    most: u64,
+) -> Result<Turn, Failure>
+    requires drives { Drives (T.tables tables.now) (D.knows driver.old) (D.legal driver.old) }
+    requires known { KnownStack (T.tables tables.now) (W.world world.old) stack }
+    ensures turned { TurnsTo (T.tables tables.now) (D.legal driver.old) stack
+        (W.world world.old) result (W.world world.new) }
+    ensures counted { IfOk result (λ turn. KeepsCount most
+        (W.world world.old) turn (W.world world.new)) }
+    ensures grown { AddsAtMost most (W.world world.old) (W.world world.new) }
+    ensures known { IfOk result (KnownTurn (T.tables tables.now) (W.world world.new)) }
+    ensures invoked { AllInvoked (T.tables tables.now) (W.world world.new) }
+    ensures hears { IfOk result (λ turn. HearsTurn (D.heard driver.old) stack (W.world world.old)
+        turn (D.heard driver.new) (W.world world.new)) }
+    ensures failed { IfErr result (HasFailedAt (D.may_end driver.old)
+        (D.heard driver.old) stack.pending (W.world world.old)
+        (D.heard driver.new) (D.ended driver.new) (W.world world.new)) }
+    ensures narrows { Narrows (D.legal driver.old) (D.legal driver.new)
+        (D.may_end driver.old) (D.may_end driver.new) (D.knows driver.old) (D.knows driver.new) }
+{
+    let first = world.entries();
     let mut stack = stack;
     'steps: loop {
-        if host.written() - first == most {
+        if !may_go_on(world, &stack, first, most) {
             return Ok(Turn::Running(stack));
         }
-        match advance(host, stack)? {
+        match advance(tables, driver, world, stack)? {
             Turn::Finished(outcome) => return Ok(Turn::Finished(outcome)),
             Turn::Running(then) => stack = then,
         }
@@ -81,19 +148,28 @@ pub fn turn<H: Host>(host: &mut H, stack: Stack, most: usize) -> Result<Turn, Fa
 }
 
 /// Goes on from a stack to the end of its run.
-fn finish<H: Host>(host: &mut H, stack: Stack) -> Result<Outcome, Failure>
-    requires { KnownStack (H.setting host.old) stack }
-    ensures ran { Ran (H.setting host.old) (program_of stack)
-        (H.world host.old) result (H.world host.new) }
-    ensures hears { IfOk result (λ outcome. HearsTurn (H.setting host.old) stack
-        (H.world host.old) (Turn.Finished outcome) (H.setting host.new) (H.world host.new)) }
-    ensures failed { IfErr result (HasFailed (H.setting host.old) (H.world host.old)
-        (H.setting host.new) (H.world host.new)) }
-    ensures narrows { Narrows (H.setting host.old) (H.setting host.new) }
+fn finish<T: Tables, D: Driver, W: Contents>(
+    tables: &T,
+    driver: &mut D,
+    world: &mut W,
+    stack: Stack,
+) -> Result<Outcome, Failure>
+    requires drives { Drives (T.tables tables.now) (D.knows driver.old) (D.legal driver.old) }
+    requires known { KnownStack (T.tables tables.now) (W.world world.old) stack }
+    ensures ran { Ran (T.tables tables.now) (D.legal driver.old) (program_of stack)
+        (W.world world.old) result (W.world world.new) }
+    ensures invoked { AllInvoked (T.tables tables.now) (W.world world.new) }
+    ensures hears { IfOk result (λ outcome. HearsTurn (D.heard driver.old) stack (W.world world.old)
+        (Turn.Finished outcome) (D.heard driver.new) (W.world world.new)) }
+    ensures failed { IfErr result (HasFailedAt (D.may_end driver.old)
+        (D.heard driver.old) stack.pending (W.world world.old)
+        (D.heard driver.new) (D.ended driver.new) (W.world world.new)) }
+    ensures narrows { Narrows (D.legal driver.old) (D.legal driver.new)
+        (D.may_end driver.old) (D.may_end driver.new) (D.knows driver.old) (D.knows driver.new) }
 {
     let mut stack = stack;
     'steps: loop {
-        match advance(host, stack)? {
+        match advance(tables, driver, world, stack)? {
             Turn::Finished(outcome) => return Ok(outcome),
             Turn::Running(then) => stack = then,
         }
@@ -101,23 +177,34 @@ fn finish<H: Host>(host: &mut H, stack: Stack) -> Result<Outcome, Failure>
 }
 
 /// What a stack meant follows from what it means after its steps, with memory and short of it.
-pub fn law_steps<H: Host>(_host: &H)
-    ensures whole { KeepsMeaning (H.setting _host.now) ⊥ }
-    ensures short { KeepsMeaning (H.setting _host.now) (Unit {0}) }
+pub fn law_steps<T: Tables, D: Driver>(_tables: &T, _driver: &D)
+    ensures whole { KeepsMeaning (T.tables _tables.now) (D.legal _driver.now) ⊥ }
+    ensures short { KeepsMeaning (T.tables _tables.now) (D.legal _driver.now) (Unit {0}) }
 {}
 
-/// Carries out what a command asks for, on a stack of its own. The world is then that of a run of the machine, in which the bodies give and
+/// Carries out any task, on a stack of its own. The world is then that of a run of the machine, in which the bodies give and
 /// the chooser picks what was legal. If memory ran out, or the driver had nothing to give, what was written is what
 /// such a run writes first.
-pub fn run<H: Host>(host: &mut H, job: Job) -> Result<Outcome, Failure>
-    ensures ran { Ran (H.setting host.old) (task (command_of job))
-        (H.world host.old) result (H.world host.new) }
-    ensures hears { IfOk result (λ outcome. HearsOutcome (H.setting host.old)
-        (H.world host.old) outcome (H.setting host.new) (H.world host.new)) }
-    ensures failed { IfErr result (HasFailed (H.setting host.old) (H.world host.old)
-        (H.setting host.new) (H.world host.new)) }
-    ensures narrows { Narrows (H.setting host.old) (H.setting host.new) }
+pub fn run<T: Tables, D: Driver, W: Contents>(
+    tables: &T,
+    driver: &mut D,
+    world: &mut W,
+    task: Task,
+) -> Result<Outcome, Failure>
+    requires drives { Drives (T.tables tables.now) (D.knows driver.old) (D.legal driver.old) }
+    requires invoked { AllInvoked (T.tables tables.now) (W.world world.old) }
+    requires known { Known (T.tables tables.now) (W.world world.old) task }
+    ensures ran { Ran (T.tables tables.now) (D.legal driver.old) (first task)
+        (W.world world.old) result (W.world world.new) }
+    ensures invoked { AllInvoked (T.tables tables.now) (W.world world.new) }
+    ensures hears { IfOk result (λ outcome. HearsOutcome (D.heard driver.old) (W.world world.old)
+        outcome (D.heard driver.new) (W.world world.new)) }
+    ensures failed { IfErr result (HasFailedAt (D.may_end driver.old)
+        (D.heard driver.old) (Pending.Does task) (W.world world.old)
+        (D.heard driver.new) (D.ended driver.new) (W.world world.new)) }
+    ensures narrows { Narrows (D.legal driver.old) (D.legal driver.new)
+        (D.may_end driver.old) (D.may_end driver.new) (D.knows driver.old) (D.knows driver.new) }
 {
-    let stack = Stack::start(host.alloc(), Task::Begin(job));
-    finish(host, stack)
+    let stack = Stack::start(world.alloc(), task);
+    finish(tables, driver, world, stack)
 }

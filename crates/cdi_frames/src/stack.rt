@@ -1,9 +1,10 @@
 //! The engine's stack: what is next, and what waits for its outcome.
-ghost use Rattle.std.specs.Prelude.{◌≡◌, [], IfOk};
-ghost use Rattle.cdi_frames.specs.Stacks.{frames_with, pending_for};
+ghost use Rattle.std.specs.Prelude.{◌≡◌, ◌↔◌, [], IfOk, IsTrue};
+ghost use Rattle.cdi_frames.specs.Stacks.{frames_with, pending_for, IsDue};
 
+use cdi_base::Entry;
 use cdi_stacks::Stack as Waiting;
-use cdi_steps::task::{Frame, Next, Outcome, Task};
+use cdi_steps::task::{Continuation, Frame, Next, Outcome, Task};
 use std::alloc::{AllocError, Global};
 
 /// What is next.
@@ -13,6 +14,8 @@ pub enum Pending {
     Does(Task),
     /// An outcome is given to what waits for it.
     Gives(Outcome),
+    /// An entry is due, and then what comes after it.
+    Writes(Entry, Continuation),
 }
 
 /// A run between two of its steps: what is next, and what waits, the innermost first.
@@ -42,6 +45,13 @@ impl Stack {
             pending: Pending::Does(task),
         }
     }
+
+    /// Whether an entry is due.
+    pub fn is_due(&self) -> bool
+        ensures { IsTrue result ↔ IsDue self.now.pending }
+    {
+        matches!(self.pending, Pending::Writes(..))
+    }
 }
 
 /// The stack after a step.
@@ -53,6 +63,7 @@ pub(crate) fn after_step(frames: Waiting<Frame>, next: Next) -> Result<Stack, Al
     let mut frames = frames;
     let pending = match next {
         Next::Finished(outcome) => Pending::Gives(outcome),
+        Next::Writes(entry, continuation) => Pending::Writes(entry, continuation),
         Next::Goes(task) => Pending::Does(task),
         Next::Needs(task, frame) => {
             frames.push(frame)?;

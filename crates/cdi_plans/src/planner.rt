@@ -67,6 +67,13 @@ impl<'a> Planner<'a> {
         })
     }
 
+    /// The classes of the deployment, by their names.
+    pub fn classes(&self) -> &ClassIndex<'a>
+        ensures { result.now ≡ self.now.classes }
+    {
+        &self.classes
+    }
+
     /// The constructor of a class, if that declares one.
     fn constructor(&self, class: Name) -> Option<&'a Constructor>
         ensures { option_copied result ≡ spec.constructor_of self.now.classes class }

@@ -7,7 +7,7 @@ ghost use Rattle.cdi_resolve.specs.BeanTables as spec;
 
 use crate::resolver::Resolver;
 use cdi_base::Seq;
-use cdi_beans::{BeanList, DeclaredTables, DisposerMethod, ListedBeans, ObserverMethod};
+use cdi_beans::{BeanList, DeclaredTables, DisposerMethod, ObserverMethod};
 use cdi_chains::Chains;
 use cdi_deployment::Deployment;
 use cdi_enable::laws::law_forest;
@@ -95,13 +95,13 @@ impl BeanTables {
     pub fn build(
         alloc: Global,
         deployment: &Deployment,
-        beans: ListedBeans,
+        list: BeanList,
+        declared: DeclaredTables,
     ) -> Result<BeanTables, AllocError>
-        requires list { IsMadeOf deployment.now beans.list }
-        requires declared { AreDeclaredBy deployment.now beans.declared }
-        ensures { IfOk result (spec.AreBeanTables deployment.now beans.list) }
+        requires list { IsMadeOf deployment.now list }
+        requires declared { AreDeclaredBy deployment.now declared }
+        ensures { IfOk result (spec.AreBeanTables deployment.now list) }
     {
-        let ListedBeans { list, declared } = beans;
         let enabled = enabled_beans(alloc, deployment, &list)?;
         tables_with(alloc, deployment, list, declared, enabled)
     }

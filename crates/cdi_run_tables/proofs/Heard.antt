@@ -1,5 +1,5 @@
 -- The observers that are told to hear an event are those that the machine asks for.
-use Rattle.std.proofs.Common.{ℕ, ℤ, ◌≡◌, ◌↔◌, ◌∙◌, Bool, true, false, cond, not, IsTrue, List, [], ◌∷◌, ◌++◌, map, filter, Option, Some, None, option_map, option_and_then, refl, sym, ap}
+use Rattle.std.proofs.Common.{ℕ, ℤ, ◌≡◌, ◌∙◌, Bool, true, false, cond, not, List, [], ◌∷◌, ◌++◌, map, filter, Option, Some, None, option_map, option_and_then, refl, sym, ap}
 use Rattle.std.specs.Prelude.{int_lt, fold}
 use Rattle.std.specs.List.{cons_option, filter_map}
 use Rattle.std.specs.Ordering.{int_eq}
@@ -13,24 +13,19 @@ use Rattle.cdi_machine.specs.Tables as machine
 use Rattle.cdi_machine.specs.Words.{Name}
 use Rattle.cdi_plans.specs.Observers.{observer_method, observer_of}
 use Rattle.cdi_plans.specs.declared.plan.InjectedMethod.{InjectedMethod}
-use Rattle.cdi_quals.specs.Qualifiers.{agree}
-use Rattle.cdi_quals.specs.declared.qualifier.QualifierMember.{QualifierMember}
 use Rattle.cdi_resolve.specs.Filters.{is_enabled}
-use Rattle.cdi_run_tables.specs.Events as events
-use Rattle.cdi_run_tables.specs.Events.{Group, groups_of, with_observer}
+use Rattle.cdi_event_tables.specs.Events as events
+use Rattle.cdi_event_tables.specs.Events.{Group, groups_of, with_observer}
+use Rattle.cdi_event_tables.specs.Observers as planned
+use Rattle.cdi_event_tables.specs.Observers.{is_heard_by, managed_bean, member_of, planned_with, with_planned, with_told}
+use Rattle.cdi_event_tables.specs.declared.observer_groups.ObserverGroup.{ObserverGroup}
+use Rattle.cdi_event_tables.specs.declared.observers.PlannedObserver.{PlannedObserver}
+use Rattle.cdi_event_tables.proofs.Grouped.{added, back, front, grouped, grouped_by_back, items, kept, told, told_of, with_item}
 use Rattle.cdi_run_tables.specs.Machine as whole
-use Rattle.cdi_run_tables.specs.Machine.{has_none, managed_bean, observers_of}
-use Rattle.cdi_run_tables.specs.Observers.{heard_among, is_heard_by, machine_observer, member_of, observer_groups, planned_observer, planned_of_bean, planned_with, with_planned, with_told}
-use Rattle.cdi_run_tables.specs.declared.observer_groups.ObserverGroup.{ObserverGroup}
-use Rattle.cdi_run_tables.specs.declared.observers.PlannedObserver.{PlannedObserver}
+use Rattle.cdi_run_tables.specs.Machine.{has_none, observers_of}
+use Rattle.cdi_run_tables.specs.Observers.{heard_among, machine_observer, planned_groups}
+use Rattle.cdi_run_tables.specs.Planned.{plan_tables}
 use Rattle.cdi_run_tables.specs.declared.parts.RunParts.{RunParts}
-use Rattle.cdi_run_tables.proofs.Empty.{has_none_if_empty}
-use Rattle.cdi_run_tables.proofs.Grouped.{added, back, front, grouped, grouped_by_back, items, kept, told, told_of, with_item}
-
--- members agree with none only if there are none
-pub agrees_with_none : (members : List QualifierMember) (empty : Bool) → IsTrue empty ↔ (members ≡ []) → empty ≡ agree members []
-agrees_with_none [] empty is = has_none_if_empty {X = QualifierMember} [] empty is
-agrees_with_none (m ∷ ms) empty is = has_none_if_empty (m ∷ ms) empty is
 
 -- ---- groups as pairs
 
@@ -189,36 +184,45 @@ module _ (t : RunParts) (class : Name) (uses : List Use) where
   abbrev test_of : ObserverMethod → Bool
   test_of = events.hears t.tables.declared.types class (full_uses t.tables.declared.qualifiers uses)
 
+  abbrev pub plan_of : ObserverMethod → Option PlannedObserver
+  plan_of = planned.planned_observer (plan_tables t.deployment t.tables) t.tables.resolver t.ids
+
+  abbrev pub of_bean : ObserverMethod → ℕ → Option PlannedObserver
+  of_bean = planned.planned_of_bean (plan_tables t.deployment t.tables) t.tables.resolver t.ids
+
+  abbrev pub hears_it : PlannedObserver → Bool
+  hears_it = is_heard_by t.tables.declared class uses
+
   module _ (o : ObserverMethod) where
-    planned_is : whole.machine_observer t o ≡ option_map machine_observer (planned_observer t o)
+    planned_is : whole.machine_observer t o ≡ option_map machine_observer (plan_of o)
     planned_is = by (managed_bean t.tables.resolver.beans o.bean)
       where
-        declared : (bean : ℕ) (b : Bool) (d : Option (Class × Observer)) → cond b (option_map (whole.observer_with t o bean) d) None ≡ option_map machine_observer (cond b (option_map (planned_with t o bean) (option_map (observer_method t.tables.chains o.bean) d)) None)
+        declared : (bean : ℕ) (b : Bool) (d : Option (Class × Observer)) → cond b (option_map (whole.observer_with t o bean) d) None ≡ option_map machine_observer (cond b (option_map (planned_with t.ids o bean) (option_map (observer_method t.tables.chains o.bean) d)) None)
         declared bean true (Some d) = refl
         declared bean true None = refl
         declared bean false d = refl
 
-        by : (m : Option ℕ) → option_and_then (whole.observer_of_bean t o) m ≡ option_map machine_observer (option_and_then (planned_of_bean t o) m)
+        by : (m : Option ℕ) → option_and_then (whole.observer_of_bean t o) m ≡ option_map machine_observer (option_and_then (of_bean o) m)
         by None = refl
         by (Some bean) = declared bean (is_enabled t.tables.resolver.flags bean) (observer_of t.deployment.classes o)
 
-    heard_alike : (x : PlannedObserver) → planned_observer t o ≡ Some x → is_heard_by t class uses x ≡ test_of o
+    heard_alike : (x : PlannedObserver) → plan_of o ≡ Some x → hears_it x ≡ test_of o
     heard_alike x e = by (managed_bean t.tables.resolver.beans o.bean) e
       where
-        of : (bean : ℕ) (member : InjectedMethod) → planned_with t o bean member ≡ x → is_heard_by t class uses x ≡ test_of o
-        of bean member is = sym (ap (is_heard_by t class uses) is)
+        of : (bean : ℕ) (member : InjectedMethod) → planned_with t.ids o bean member ≡ x → hears_it x ≡ test_of o
+        of bean member is = sym (ap hears_it is)
 
-        declared : (bean : ℕ) (b : Bool) (d : Option InjectedMethod) → cond b (option_map (planned_with t o bean) d) None ≡ Some x → is_heard_by t class uses x ≡ test_of o
-        declared bean true (Some member) is = of bean member (same_Some (planned_with t o bean member) x is)
+        declared : (bean : ℕ) (b : Bool) (d : Option InjectedMethod) → cond b (option_map (planned_with t.ids o bean) d) None ≡ Some x → hears_it x ≡ test_of o
+        declared bean true (Some member) is = of bean member (same_Some (planned_with t.ids o bean member) x is)
         declared bean true None is = absurd cc
         declared bean false d is = absurd cc
 
-        by : (m : Option ℕ) → option_and_then (planned_of_bean t o) m ≡ Some x → is_heard_by t class uses x ≡ test_of o
+        by : (m : Option ℕ) → option_and_then (of_bean o) m ≡ Some x → hears_it x ≡ test_of o
         by None is = absurd cc
-        by (Some bean) is = declared bean (is_enabled t.tables.resolver.flags bean) (member_of t o) is
+        by (Some bean) is = declared bean (is_enabled t.tables.resolver.flags bean) (member_of (plan_tables t.deployment t.tables) o) is
 
-    alike_of : AreAlike test_of (whole.machine_observer t) (planned_observer t) (is_heard_by t class uses) o
+    alike_of : AreAlike test_of (whole.machine_observer t) plan_of hears_it o
     alike_of = record { same = planned_is; heard = heard_alike }
 
-  pub heard_observers : map (map machine_observer) (heard_among (is_heard_by t class uses) (observer_groups t)) ≡ observers_of t class uses
-  heard_observers = same_groups test_of (whole.machine_observer t) (planned_observer t) (is_heard_by t class uses) alike_of t.tables.observers
+  pub heard_observers : map (map machine_observer) (heard_among hears_it (planned_groups t)) ≡ observers_of t class uses
+  heard_observers = same_groups test_of (whole.machine_observer t) plan_of hears_it alike_of t.tables.observers

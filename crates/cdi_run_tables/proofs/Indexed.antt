@@ -10,7 +10,7 @@ use Rattle.std.proofs.lemmas.Slice.Zip.{AllZip-long}
 use Rattle.cdi_deployment.specs.declared.deployment.Point.{Point}
 use Rattle.cdi_machine.specs.Words.{Name}
 use Rattle.cdi_plans.specs.declared.plan.ManagedPlan.{ManagedPlan}
-use Rattle.cdi_run_tables.specs.Ids.{id_in}
+use Rattle.cdi_event_tables.specs.Ids.{id_in}
 use Rattle.cdi_run_tables.specs.Index.{AreInjectionsOf, IsBeanIndex, IsIndexAt, IsInjected, steps_in}
 use Rattle.cdi_run_tables.specs.Machine.{method_in, resolution_of, without_chain}
 use Rattle.cdi_run_tables.specs.Managed.{injected, injections_of, managed_plan}

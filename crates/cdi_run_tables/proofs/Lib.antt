@@ -1,12 +1,7 @@
 pub mod Empty
-pub mod EventClasses
 pub mod FirstMethods
-pub mod Grouped
 pub mod Heard
 pub mod Indexed
-pub mod ManagedPlaces
-pub mod Placed
 pub mod Resolving
-pub mod Subtypes
 pub mod Zips
 pub mod Remembered

@@ -1,13 +1,15 @@
 -- What is looked up of a deployment in a run.
-use Rattle.std.specs.Prelude.{ℕ, ◌≡◌, List, [], map, Bool, Option, Some, None, nat_eq, option_map, option_and_then, slice_get}
+use Rattle.std.specs.Prelude.{ℕ, ◌≡◌, List, [], map, Option, Some, None, nat_eq, option_map, option_and_then, slice_get}
 use Rattle.std.specs.HashMap.{HashMap, get}
 use Rattle.std.specs.List.{AllZip, filter_map}
 use Rattle.cdi_beans.specs.declared.bean.EnabledInterceptor.{EnabledInterceptor}
 use Rattle.cdi_body_check.specs.Exceptions.{is_checked}
-use Rattle.cdi_deployment.specs.declared.deployment.Class.{Class}
 use Rattle.cdi_deployment.specs.declared.deployment.InjectedField.{InjectedField}
 use Rattle.cdi_deployment.specs.declared.deployment.Interceptor.{Interceptor}
 use Rattle.cdi_deployment.specs.declared.deployment.Point.{Point}
+use Rattle.cdi_event_tables.specs.Ids.{id_in}
+use Rattle.cdi_event_tables.specs.Tables.{AreEventTables}
+use Rattle.cdi_event_tables.specs.declared.tables.EventTables.{EventTables}
 use Rattle.cdi_machine.specs.Words.{Name}
 use Rattle.cdi_name_check.specs.NameSets.{HasDeclared, HasNames}
 use Rattle.cdi_plans.specs.declared.plan.ManagedPlan.{ManagedPlan}
@@ -16,18 +18,15 @@ use Rattle.cdi_plans.specs.declared.plan.Step.{Step}
 use Rattle.cdi_resolve.specs.Filters.{Candidates, enabled_of}
 use Rattle.cdi_resolve.specs.declared.resolution.Resolution.{Resolution}
 use Rattle.cdi_run_tables.specs.Asked.{AreTold}
-use Rattle.cdi_run_tables.specs.Ids.{id_in}
 use Rattle.cdi_run_tables.specs.Machine.{method_in, resolution_of, without_chain}
 use Rattle.cdi_run_tables.specs.Managed.{injected, managed_of}
-use Rattle.cdi_run_tables.specs.Observers.{observer_groups}
+use Rattle.cdi_run_tables.specs.Planned.{plan_tables}
 use Rattle.cdi_run_tables.specs.declared.index.BeanIndex.{BeanIndex}
 use Rattle.cdi_run_tables.specs.declared.index.RunIndex.{RunIndex}
 use Rattle.cdi_run_tables.specs.declared.injected.Injected.{Injected}
 use Rattle.cdi_run_tables.specs.declared.parts.RunParts.{RunParts}
 use Rattle.cdi_run_tables.specs.declared.planned.PlannedBean.{PlannedBean}
 use Rattle.cdi_run_tables.specs.declared.tables.Method.{Method}
-use Rattle.cdi_shape_check.specs.WrittenNames.{is_concrete}
-use Rattle.cdi_types.specs.Line.{class_named}
 
 -- the methods of a plan, by their names
 pub record AreMethodsOf {S : Type 0} (ids : ℕ → Option ℕ) (plan : Plan)
@@ -84,18 +83,18 @@ abbrev pub interceptor_resolutions : RunParts → EnabledInterceptor → List Re
 interceptor_resolutions t j =
     field_resolutions t (slice_get t.deployment.interceptors j.index)
 
--- a class of which there are instances; of classes with one name the first counts
-abbrev pub is_event_class : List Class → ℕ → Bool
-is_event_class classes name = is_concrete (class_named classes name)
+-- what is looked up of events
+abbrev pub AreEventsOf : RunParts → EventTables → Type 0
+AreEventsOf t events =
+    AreEventTables (plan_tables t.deployment t.tables) t.tables t.ids events
 
--- The names that the deployment declares, those of its checked exceptions and of the classes of events; the methods and injected fields
--- of each bean; what the injected fields of each enabled interceptor resolve to; the observers of enabled beans.
+-- The names that the deployment declares and those of its checked exceptions; what is looked up of its events; the methods and injected
+-- fields of each bean; what the injected fields of each enabled interceptor resolve to.
 pub record IsIndexOf (t : RunParts) (i : RunIndex) : Type 0 where
   pub names : HasDeclared t.deployment i.names
   pub checked : HasNames (is_checked t.deployment.exceptions) i.checked
-  pub event_classes : HasNames (is_event_class t.deployment.classes) i.event_classes
+  pub events : AreEventsOf t i.events
   pub beans : AllZip (IsBeanIndex t) t.beans i.beans
   pub interceptors :
       i.interceptors ≡ map (interceptor_resolutions t) t.tables.chains.interceptors
-  pub observers : i.observers ≡ observer_groups t
   pub asked : AreTold t i.asked

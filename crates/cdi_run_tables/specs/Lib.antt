@@ -1,6 +1,4 @@
 pub mod Asked
-pub mod Events
-pub mod Ids
 pub mod Index
 pub mod Interceptors
 pub mod Machine

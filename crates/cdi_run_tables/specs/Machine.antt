@@ -1,5 +1,5 @@
 -- What the machine asks of a deployment, answered from its tables.
-use Rattle.std.specs.Prelude.{ℕ, ◌==◌, ◌&&◌, List, [], map, filter, fold, Bool, true, false, not, ◌∷◌, Option, Some, None, option_map, option_and_then, position, slice_get, unwrap_or, if◌then◌else◌}
+use Rattle.std.specs.Prelude.{ℕ, ◌&&◌, List, [], map, filter, fold, Bool, true, false, not, ◌∷◌, Option, Some, None, option_map, option_and_then, slice_get, unwrap_or, if◌then◌else◌}
 use Rattle.std.specs.List.{filter_map}
 use Rattle.cdi_base.specs.Fields.{put}
 use Rattle.cdi_base.specs.Maps.{at}
@@ -19,7 +19,6 @@ use Rattle.cdi_deployment.specs.declared.deployment.InjectedField.{InjectedField
 use Rattle.cdi_deployment.specs.declared.deployment.Interceptor.{Interceptor}
 use Rattle.cdi_deployment.specs.declared.deployment.Observer.{Observer}
 use Rattle.cdi_deployment.specs.declared.deployment.Point.{Point}
-use Rattle.cdi_beans.specs.Kinds.{is_managed}
 use Rattle.cdi_machine.specs.Words.{Name, Asked, Fields}
 use Rattle.cdi_machine.specs.Tables as machine
 use Rattle.cdi_name_check.specs.UnknownName.{is_type, are_qualifiers}
@@ -40,8 +39,9 @@ use Rattle.cdi_resolve.specs.Filters.{enabled_of, is_enabled}
 use Rattle.cdi_resolve.specs.Resolution.{resolution}
 use Rattle.cdi_resolve.specs.declared.resolution.Resolution.{Resolution}
 use Rattle.cdi_resolve.specs.declared.resolution.Resolution.TheVariants as resolutions
-use Rattle.cdi_run_tables.specs.Events.{Group, groups_of, hears, written_uses}
-use Rattle.cdi_run_tables.specs.Ids.{id_in, AreIdsIn}
+use Rattle.cdi_event_tables.specs.Events.{Group, groups_of, hears, written_uses}
+use Rattle.cdi_event_tables.specs.Ids.{id_in, AreIdsIn}
+use Rattle.cdi_event_tables.specs.Observers.{managed_bean}
 use Rattle.cdi_run_tables.specs.declared.planned.PlannedBean.{PlannedBean}
 use Rattle.cdi_run_tables.specs.declared.tables.Method.{Method}
 use Rattle.cdi_run_tables.specs.declared.tables.RunTables.{RunTables}
@@ -126,10 +126,6 @@ machine_source ids (sources.ProducerMethod m) =
 machine_source ids (sources.ProducerField field) = machine.Source.ProducerField field
 
 -- ---- beans
-
--- the managed bean of a class, by its index
-abbrev pub managed_bean : List Bean → Name → Option ℕ
-managed_bean beans class = position (λ b. is_managed b.kind && (b.class == class)) beans
 
 abbrev pub product_with : (ℕ → Option ℕ) → ProductPlan → ℕ → machine.Kind
 product_with ids p declaring =

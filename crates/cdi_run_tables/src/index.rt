@@ -2,21 +2,20 @@
 ghost use Rattle.std.specs.Prelude.{◌≡◌, nat_eq, IfOk};
 ghost use Rattle.std.specs.HashMap.{get};
 ghost use Rattle.std.specs.List.{AllZip};
+ghost use Rattle.cdi_name_check.specs.NameSets.{HasDeclared};
 ghost use Rattle.cdi_run_tables.specs.Index as spec;
-ghost use Rattle.cdi_run_tables.specs.Planned.{IsTabled};
 
 use crate::asked::CommandAnswers;
-use crate::event_classes::event_classes;
 use crate::exceptions::checked_exceptions;
 use crate::injected::{Injected, injected_by};
 use crate::interceptors::all_resolutions;
 use crate::methods::methods_of;
-use crate::observer_groups::{ObserverGroup, observer_groups};
 use crate::parts::RunParts;
 use crate::planned::PlannedBean;
 use crate::tables::Method;
 use cdi_base::{Name, Seq};
 use cdi_cache::Lookup;
+use cdi_event_tables::EventTables;
 use cdi_name_check::NameSets;
 use cdi_plans::Plan;
 use cdi_resolve::{Resolution, Resolver};
@@ -40,13 +39,10 @@ pub(crate) struct RunIndex {
     pub(crate) names: NameSets,
     /// The names of the checked exceptions.
     pub(crate) checked: HashSet<Name>,
-    /// The names of the classes of which there are instances.
-    pub(crate) event_classes: HashSet<Name>,
+    pub(crate) events: EventTables,
     pub(crate) beans: Seq<BeanIndex>,
     /// What the injected fields of each enabled interceptor resolve to.
     pub(crate) interceptors: Seq<Seq<Resolution>>,
-    /// The observers of enabled beans, by ascending priority.
-    pub(crate) observers: Seq<ObserverGroup>,
     /// What the last commands asked for resolves to.
     pub(crate) asked: CommandAnswers,
 }
@@ -57,10 +53,9 @@ impl Drop for RunIndex {
         let RunIndex {
             names: _names,
             checked: _checked,
-            event_classes: _event_classes,
+            events: _events,
             beans: _beans,
             interceptors: _interceptors,
-            observers: _observers,
             asked: _asked,
         } = self;
     }
@@ -126,21 +121,26 @@ fn bean_indices(
 }
 
 impl RunIndex {
-    /// That of a deployment.
-    pub(crate) fn build(alloc: Global, parts: &RunParts) -> Result<RunIndex, AllocError>
-        requires { IsTabled parts.now }
+    /// That of a deployment with the names that it declares and what is looked up of its events.
+    pub(crate) fn build(
+        alloc: Global,
+        parts: &RunParts,
+        names: NameSets,
+        events: EventTables,
+    ) -> Result<RunIndex, AllocError>
+        requires names { HasDeclared parts.now.deployment names }
+        requires events { spec.AreEventsOf parts.now events }
         ensures { IfOk result (spec.IsIndexOf parts.now) }
     {
         let deployment = &parts.deployment;
         let capacity = NonZeroUsize::new(REMEMBERED).unwrap();
         let mut lookup = Lookup::new(alloc, &parts.tables.resolver, capacity)?;
         Ok(RunIndex {
-            names: NameSets::of(alloc, deployment)?,
+            names,
             checked: checked_exceptions(alloc, deployment.exceptions.as_slice())?,
-            event_classes: event_classes(alloc, deployment.classes.as_slice())?,
+            events,
             beans: bean_indices(alloc, parts, &mut lookup)?,
             interceptors: all_resolutions(alloc, parts, &mut lookup)?,
-            observers: observer_groups(alloc, parts)?,
             asked: CommandAnswers::new(alloc)?,
         })
     }

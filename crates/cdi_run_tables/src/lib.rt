@@ -4,28 +4,24 @@
 #![tactic(auto)]
 
 mod asked;
-mod event_classes;
 mod events;
 mod exceptions;
-pub mod ids;
+mod firing;
 mod index;
 mod injected;
 mod interceptors;
 mod lookups;
 mod managed;
 mod methods;
-mod observer_groups;
-pub mod observers;
 pub mod parts;
 pub mod planned;
 mod served;
 mod sizes;
 pub mod tables;
-mod written;
 
+pub use cdi_event_tables::PlannedObserver;
 pub use interceptors::InterceptorInjection;
 pub use managed::Injection;
-pub use observers::PlannedObserver;
 pub use planned::PlannedBean;
 pub use sizes::MAX_BEANS;
 pub use tables::{Method, RunTables};

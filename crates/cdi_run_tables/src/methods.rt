@@ -3,13 +3,13 @@ ghost use Rattle.std.specs.Prelude.{◌≡◌, ◌∷◌, [], ℕ, nat_eq, optio
 ghost use Rattle.std.specs.HashMap.{get};
 ghost use Rattle.std.specs.Option.{option_or};
 ghost use Rattle.cdi_base.specs.Maps.{at};
-ghost use Rattle.cdi_run_tables.specs.Ids.{id_in};
+ghost use Rattle.cdi_event_tables.specs.Ids.{id_in};
 ghost use Rattle.cdi_run_tables.specs.Index.{AreMethodsOf};
 ghost use Rattle.cdi_run_tables.specs.Machine as spec;
 
-use crate::ids::BodyIds;
 use crate::tables::Method;
 use cdi_base::Name;
+use cdi_event_tables::BodyIds;
 use cdi_plans::{BusinessMethod, Plan};
 use std::alloc::{AllocError, Global};
 use std::collections::HashMap;

@@ -27,12 +27,6 @@ fn is_idle(lifecycle: &Lifecycle) -> bool
     has_none(&lifecycle.chain) && has_none(&lifecycle.callbacks)
 }
 
-fn is_served_scope(scope: Scope) -> bool
-    ensures { result ≡ spec.is_served_scope scope }
-{
-    matches!(scope, Scope::ApplicationScoped | Scope::Dependent)
-}
-
 fn is_served_step(step: &Step) -> bool
     ensures { result ≡ spec.is_served_step step.now }
 {
@@ -72,7 +66,7 @@ fn is_served_plan(plan: &Plan) -> bool
 fn is_served_bean(bean: &PlannedBean) -> bool
     ensures { result ≡ spec.is_served_bean bean.now }
 {
-    is_served_scope(bean.scope) && is_served_plan(&bean.plan)
+    matches!(bean.scope, Scope::ApplicationScoped | Scope::Dependent) && is_served_plan(&bean.plan)
 }
 
 fn are_served_beans(beans: &[PlannedBean]) -> bool
@@ -103,16 +97,10 @@ fn has_texts(deployment: &Deployment) -> bool
         && have_texts(names, deployment.exceptions.as_slice())
 }
 
-fn is_field(via: Via) -> bool
-    ensures { result ≡ spec.is_field via }
-{
-    matches!(via, Via::Field(_))
-}
-
 fn call_fields(calls: &[MethodCall]) -> bool
     ensures { result ≡ list_all (λ call. spec.is_field call.via) calls.now }
 {
-    calls.iter().all(|call| is_field(call.via))
+    calls.iter().all(|call| matches!(call.via, Via::Field(_)))
 }
 
 fn is_served_shape(shape: &Shape) -> bool

@@ -3,19 +3,20 @@ ghost use Rattle.std.specs.Prelude.{◌≡◌, slice_get, option_map, IfOk};
 ghost use Rattle.std.specs.Option.{option_copied};
 ghost use Rattle.cdi_bodies.specs.Gives.{lookups_of};
 ghost use Rattle.cdi_bodies.specs.Table.{entries_of};
+ghost use Rattle.cdi_name_check.specs.NameSets.{HasDeclared};
 ghost use Rattle.cdi_resolve.specs.BeanTables.{AreTablesOf};
 ghost use Rattle.cdi_run_tables.specs.Index.{IsIndexAt};
 ghost use Rattle.cdi_run_tables.specs.Machine as spec;
 ghost use Rattle.cdi_run_tables.specs.Planned.{IsTabled};
 
 use crate::index::{BeanIndex, RunIndex};
-use crate::parts::RunParts;
+use crate::parts::{PartsWithEvents, RunParts};
 use crate::planned::PlannedBean;
 use cdi_base::{Name, Place, Use};
 use cdi_bodies::{Bodies, BodyId};
 use cdi_cache::WrittenQuestion;
 use cdi_deployment::Deployment;
-use cdi_name_check::{DeclaredNames, are_qualifiers};
+use cdi_name_check::{DeclaredNames, NameSets, are_qualifiers};
 use cdi_resolve::{BeanTables, Resolution};
 use std::alloc::{AllocError, Global};
 use std::marker::Model;
@@ -65,15 +66,17 @@ pub struct Method {
 }
 
 impl RunTables {
-    /// The tables of a deployment whose names and beans have no problem, with the tables of its bean list. Its members have the bodies
-    /// that are registered under their names.
+    /// The tables of a deployment whose names and beans have no problem, with the names that it declares and the tables of its bean list.
+    /// Its members have the bodies that are registered under their names.
     pub fn build(
         alloc: Global,
         deployment: Deployment,
+        names: NameSets,
         tables: BeanTables,
         bodies: &Bodies,
     ) -> Result<RunTables, AllocError>
-        requires { AreTablesOf deployment tables }
+        requires names { HasDeclared deployment names }
+        requires tables { AreTablesOf deployment tables }
         ensures deployment { IfOk result (λ t. t.deployment ≡ deployment) }
         ensures tables { IfOk result (λ t. t.tables ≡ tables) }
         ensures tabled { IfOk result IsTabled }
@@ -81,8 +84,9 @@ impl RunTables {
         ensures lookups { IfOk result (λ t.
             t.lookups ≡ lookups_of (entries_of bodies.now)) }
     {
-        let parts = RunParts::build(alloc, deployment, tables, bodies)?;
-        let index = RunIndex::build(alloc, &parts)?;
+        let made = PartsWithEvents::build(alloc, deployment, tables, bodies)?;
+        let PartsWithEvents { parts, events } = made;
+        let index = RunIndex::build(alloc, &parts, names, events)?;
         Ok(RunTables { parts, index })
     }
 

@@ -26,16 +26,17 @@ use Rattle.cdi_machine.specs.Words.{Fields}
 use Rattle.cdi_plans.specs.declared.plan.BusinessMethod.{BusinessMethod}
 use Rattle.cdi_plans.specs.declared.plan.Plan.{Plan}
 use Rattle.cdi_plans.specs.declared.plan.Plan.TheVariants as plans
-use Rattle.cdi_run_tables.specs.Ids.{is_named}
+use Rattle.cdi_event_tables.specs.Ids.{is_named}
 use Rattle.cdi_run_tables.specs.Machine as tables
-use Rattle.cdi_run_tables.specs.Machine.{AreIdsOf, bean_with, has_none, id_of, machine_methods, machine_tables, managed_bean, method_with, product_with}
+use Rattle.cdi_event_tables.specs.Observers.{managed_bean}
+use Rattle.cdi_run_tables.specs.Machine.{AreIdsOf, bean_with, has_none, id_of, machine_methods, machine_tables, method_with, product_with}
 use Rattle.cdi_run_tables.specs.Served.{is_field, is_served_body, is_served_shape, serves_methods, serves_shapes}
 use Rattle.cdi_run_tables.specs.declared.planned.PlannedBean.{PlannedBean}
 use Rattle.cdi_run_tables.specs.declared.tables.RunTables.{RunTables}
-use Rattle.cdi_steps.specs.Asked.{method_at, method_in}
-use Rattle.cdi_steps.specs.Setting.{is_served}
+use Rattle.cdi_host.specs.Asked.{method_at, method_in}
+use Rattle.cdi_steps.specs.Driving.{IsServedBody}
+use Rattle.cdi_steps.specs.Known.{is_served}
 use Rattle.cdi_runtime.specs.Knowing.{KnowsServed}
-use Rattle.cdi_runtime.specs.Standing.{IsServedBody}
 use Rattle.cdi_runtime.proofs.Lists.{none_passes, passes_at}
 
 -- ---- acts

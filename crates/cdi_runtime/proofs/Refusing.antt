@@ -16,7 +16,7 @@ use Rattle.cdi_run_tables.specs.Machine as tables
 use Rattle.cdi_run_tables.specs.Machine.{bean_at, id_of, is_known, machine_resolution, machine_tables, method_of, resolution_of, without_chain}
 use Rattle.cdi_run_tables.specs.declared.planned.PlannedBean.{PlannedBean}
 use Rattle.cdi_run_tables.specs.declared.tables.RunTables.{RunTables}
-use Rattle.cdi_steps.specs.Asked.{asked_for}
+use Rattle.cdi_host.specs.Asked.{asked_for}
 use Rattle.cdi_runtime.specs.Refusals.{method_refusal, bean_refusal, call_refusal, with_no_chain}
 use Rattle.cdi_runtime.specs.Standing.{IsServable}
 use Rattle.cdi_runtime.proofs.Served.{at_index}

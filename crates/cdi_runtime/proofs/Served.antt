@@ -20,7 +20,7 @@ use Rattle.cdi_plans.specs.declared.plan.Step.TheVariants as steps
 use Rattle.cdi_resolve.specs.declared.resolution.Resolution.{Resolution}
 use Rattle.cdi_resolve.specs.declared.resolution.Resolution.TheVariants as resolutions
 use Rattle.cdi_run_tables.specs.Machine as tables
-use Rattle.cdi_run_tables.specs.Events.{Group, groups_of, hears}
+use Rattle.cdi_event_tables.specs.Events.{Group, groups_of, hears}
 use Rattle.cdi_run_tables.specs.Machine.{asked_by, bean_at, bean_with, does_something, has_none, id_of, is_idle, machine_code, machine_lifecycle, machine_managed, machine_method, machine_methods, machine_observer, machine_step, machine_steps, machine_tables, method_of, method_with, observers_of, resolution_of, without_chain}
 use Rattle.cdi_run_tables.specs.Managed as managed
 use Rattle.cdi_run_tables.specs.Managed.{injected, injections_of, managed_plan}
@@ -28,9 +28,9 @@ use Rattle.cdi_run_tables.specs.Served.{has_texts, is_served, is_served_bean, is
 use Rattle.cdi_run_tables.specs.Sizes.{has_few_injections, is_small}
 use Rattle.cdi_run_tables.specs.declared.planned.PlannedBean.{PlannedBean}
 use Rattle.cdi_run_tables.specs.declared.tables.RunTables.{RunTables}
-use Rattle.cdi_steps.specs.Asked as steps_asked
-use Rattle.cdi_steps.specs.Asked.{asked_for, fields_of, head_of, method_at, method_in, no_lifecycle, plan_of, IsServedBean}
-use Rattle.cdi_steps.specs.declared.beans.BeanHead.{BeanHead}
+use Rattle.cdi_host.specs.Asked as host
+use Rattle.cdi_host.specs.Asked.{asked_for, fields_of, head_of, method_at, method_in, no_lifecycle, plan_of, IsServedBean}
+use Rattle.cdi_host.specs.declared.beans.BeanHead.{BeanHead}
 use Rattle.cdi_runtime.specs.Refusals.{with_no_chain}
 use Rattle.cdi_runtime.specs.Standing.{HasNumber, IsServable}
 use Rattle.cdi_runtime.proofs.Lists.{mapped_at, passes_at, within}
@@ -160,7 +160,7 @@ module _ (t : RunTables) (served : is_served t ≡ true) where
   pub head_at : (n : ℕ) → option_map head_of (bean_at t n) ≡ option_map head (slice_get t.beans n)
   head_at n = at_index (λ x y z. option_map head_of y ≡ option_map head x) n refl (λ b s. refl)
 
-  scope_as : (b : PlannedBean) (s : ServedPlan b) → steps_asked.is_served_scope b.scope ≡ true
+  scope_as : (b : PlannedBean) (s : ServedPlan b) → host.is_served_scope b.scope ≡ true
   scope_as b s = s.scope
 
   silent : (b : PlannedBean) (s : ServedPlan b) → machine_lifecycle (id_of t) s.plan.pre_destroy ≡ no_lifecycle

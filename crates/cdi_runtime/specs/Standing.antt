@@ -1,34 +1,25 @@
 -- What a container works with, as contracts see it, and what is true of it.
-use Rattle.std.specs.Prelude.{ℕ, ◌≡◌, ◌<◌, ◌^◌, List, Some, true, IsSome}
-use Rattle.std.specs.List.{AllByRecursion}
-use Rattle.cdi_base.specs.declared.act.Act.{Act}
-use Rattle.cdi_bodies.specs.declared.view.View.{View}
-use Rattle.cdi_machine.specs.Words.{Asked, Fields}
+use Rattle.std.specs.Prelude.{ℕ, ◌≡◌, ◌<◌, ◌^◌, Some, true, IsSome}
+use Rattle.cdi_machine.specs.Words.{Asked}
 use Rattle.cdi_machine.specs.Tables as machine
-use Rattle.cdi_machine.specs.World.{World, Invocation}
+use Rattle.cdi_machine.specs.World.{World}
 use Rattle.cdi_machine.specs.Runs.{Legal}
+use Rattle.cdi_host.specs.Asked.{method_at}
 use Rattle.cdi_resolve.specs.declared.resolution.Resolution.{Resolution}
 use Rattle.cdi_resolve.specs.declared.resolution.Resolution.TheVariants as resolutions
 use Rattle.cdi_run_tables.specs.Machine.{bean_at, machine_tables}
 use Rattle.cdi_run_tables.specs.Served.{is_served as is_served_deployment}
 use Rattle.cdi_run_tables.specs.Sizes.{is_small}
 use Rattle.cdi_run_tables.specs.declared.tables.RunTables.{RunTables}
-use Rattle.cdi_steps.specs.Asked.{method_at}
-use Rattle.cdi_steps.specs.Setting.{is_served}
+use Rattle.cdi_steps.specs.Driving.{Drives, IsServedBody}
+use Rattle.cdi_steps.specs.Known.{AllInvoked}
 
 pub record RuntimeParts (Driving : Type 0) : Type 0 where
   pub tables : RunTables
   pub driver : Driving
   pub world : World
 
--- the driver has the body, and that gives only acts that the engine carries out
-pub record IsServedBody (IsBody : ℕ → Type 0) (legal : Legal) (body : ℕ) : Type 0 where
-  pub known : IsBody body
-  pub served :
-      (entries : ℕ) (fields : Fields) (view : View) (a : Act)
-      → legal.gives body entries fields view a → is_served a ≡ true
-
--- so for each method of each bean
+-- the driver has each method's body, and that gives only acts that the engine carries out
 abbrev pub KnowsMethods : (ℕ → Type 0) → Legal → machine.Tables → Type 0
 KnowsMethods IsBody legal t =
     (bean name : ℕ) (m : machine.Method) → method_at t bean name ≡ Some m
@@ -47,14 +38,8 @@ abbrev pub HasNumber : Resolution → Type 0
 HasNumber (resolutions.One b) = b < 2 ^ 32
 HasNumber _ = Unit {0}
 
--- the bodies of the invocations under way are there
-abbrev pub AllInvoked : (ℕ → Type 0) → Legal → List Invocation → Type 0
-AllInvoked IsBody legal vs =
-    AllByRecursion (λ v. AllByRecursion (λ m. IsServedBody IsBody legal m.body) v.members) vs
-
--- the driver has a body for each method, its acts are served, and no other body is under way
+-- what the engine asks, and leaves so: the driver has each method's body, and no other is under way
 pub record IsWorking (IsBody : ℕ → Type 0) (legal : Legal) (t : RunTables) (w : World)
     : Type 0 where
-  pub knows : KnowsMethods IsBody legal (machine_tables t)
-  pub servable : IsServable t
-  pub invoked : AllInvoked IsBody legal w.invocations
+  pub drives : Drives (machine_tables t) IsBody legal
+  pub invoked : AllInvoked (machine_tables t) w

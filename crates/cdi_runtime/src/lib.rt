@@ -4,5 +4,7 @@
 pub mod laws;
 mod refusal;
 mod runtime;
+mod served_tables;
 
 pub use runtime::Runtime;
+pub use served_tables::ServedTables;

@@ -4,10 +4,13 @@ ghost use Rattle.cdi_contexts.specs.Refusals.{first_that_holds};
 ghost use Rattle.cdi_machine.specs.Container as machine;
 ghost use Rattle.cdi_run_tables.specs.Machine.{machine_tables};
 ghost use Rattle.cdi_steps.specs.Words.{command_of};
+ghost use Rattle.cdi_runtime.specs.Standing.{IsServable};
 ghost use Rattle.cdi_runtime.specs.Refusals.{bean_refusal, call_refusal, in_request, method_refusal, with_no_chain};
 
 use crate::runtime::Runtime;
+use crate::served_tables::ServedTables;
 use cdi_base::{Name, Refusal, Text};
+use cdi_host::Contents;
 use cdi_machine::Driver;
 use cdi_resolve::Resolution;
 use cdi_run_tables::{Method, RunTables};
@@ -45,17 +48,24 @@ fn refuses_resolved(
 
 /// Why a call of a method of the bean with a type and qualifiers is refused: one of these isn't known, or they resolve to a bean that has
 /// no such method with so many values. What they resolve to is remembered.
-fn refuses_call(alloc: Global, tables: &mut RunTables, call: &BeanCall) -> Option<Refusal>
+fn refuses_call(alloc: Global, tables: &mut ServedTables, call: &BeanCall) -> Option<Refusal>
     ensures refusal { result ≡ call_refusal tables.old
         call.now.bean_type call.now.qualifiers call.now.method (length call.now.args) }
     ensures kept { tables.new ≡ tables.old }
+    ensures servable { IsServable tables.old }
 {
     let qualifiers = call.qualifiers.as_slice();
-    if !tables.is_known(call.bean_type, qualifiers) {
+    let known = tables.run_tables().is_known(call.bean_type, qualifiers);
+    if !known {
         return Some(Refusal::UnknownName);
     }
     let resolution = tables.ask(alloc, call.bean_type, qualifiers);
-    refuses_resolved(tables, resolution, call.method, call.args.len())
+    refuses_resolved(
+        tables.run_tables(),
+        resolution,
+        call.method,
+        call.args.len(),
+    )
 }
 
 impl<D: Driver> Runtime<D> {

@@ -15,7 +15,7 @@ use Rattle.cdi_machine.specs.Laws.{IsWithin}
 use Rattle.cdi_machine.specs.Registered.{chosen_by}
 use Rattle.cdi_machine.specs.Runs.{Legal}
 use Rattle.cdi_problems.specs.declared.problem.Problem.{Problem}
-use Rattle.cdi_run_tables.specs.Ids.{is_named, told_of}
+use Rattle.cdi_event_tables.specs.Ids.{is_named, told_of}
 use Rattle.cdi_run_tables.specs.Machine.{machine_tables}
 use Rattle.cdi_run_tables.specs.declared.tables.RunTables.{RunTables}
 use Rattle.cdi_container.specs.Accepted as container

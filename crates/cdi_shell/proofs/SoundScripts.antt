@@ -11,7 +11,7 @@ use Rattle.cdi_check.specs.Tables.{setting_by}
 use Rattle.cdi_deployment.specs.declared.deployment.Deployment.{Deployment}
 use Rattle.cdi_machine.specs.Registered.{legal_of}
 use Rattle.cdi_ledger.specs.Callbacks.{FirstsStandOnce, PlacesOfBodiesAreApart}
-use Rattle.cdi_run_tables.specs.Ids.{is_named, told_of}
+use Rattle.cdi_event_tables.specs.Ids.{is_named, told_of}
 use Rattle.cdi_run_tables.specs.Machine.{AreIdsOf, machine_tables}
 use Rattle.cdi_run_tables.specs.Served.{is_served, serves_shapes}
 use Rattle.cdi_run_tables.specs.Sizes.{is_small}

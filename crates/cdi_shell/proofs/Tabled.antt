@@ -13,8 +13,9 @@ use Rattle.cdi_plans.specs.Observers.{observer_of, observer_method}
 use Rattle.cdi_plans.specs.Tables.{PlanTables}
 use Rattle.cdi_resolve.specs.Filters.{enabled_of, is_enabled}
 use Rattle.cdi_resolve.specs.Resolution.{resolution}
-use Rattle.cdi_run_tables.specs.Events.{Group, groups_of, hears, written_uses}
-use Rattle.cdi_run_tables.specs.Machine.{has_none, id_of, interceptor_at, is_known, lookup_in, machine_bean, machine_interceptor, machine_member, machine_observer, machine_resolution, machine_tables, managed_bean, observers_of}
+use Rattle.cdi_event_tables.specs.Events.{Group, groups_of, hears, written_uses}
+use Rattle.cdi_event_tables.specs.Observers.{managed_bean}
+use Rattle.cdi_run_tables.specs.Machine.{has_none, id_of, interceptor_at, is_known, lookup_in, machine_bean, machine_interceptor, machine_member, machine_observer, machine_resolution, machine_tables, observers_of}
 use Rattle.cdi_run_tables.specs.Planned.{IsPlanned, plan_tables}
 use Rattle.cdi_run_tables.specs.declared.tables.RunTables.{RunTables}
 use Rattle.cdi_resolve.specs.BeanTables.{AreTablesOf}

@@ -14,7 +14,7 @@ use Rattle.cdi_machine.specs.Commands.{Command}
 use Rattle.cdi_machine.specs.Container.{before_commands, refusal}
 use Rattle.cdi_machine.specs.Deployments.{Deployment, managed_bean, method, no_chain, tables_of}
 use Rattle.cdi_machine.specs.Tables.{Nothing, One}
-use Rattle.cdi_steps.specs.Asked.{of_type}
+use Rattle.cdi_host.specs.Asked.{of_type}
 use Rattle.cdi_script.specs.declared.fault.ScriptFault.TheVariants as script_faults
 use Rattle.cdi_lines.specs.Lines.{complete_lines, all_lines}
 use Rattle.cdi_prepare.specs.FaultText.{fault_line, script_line}

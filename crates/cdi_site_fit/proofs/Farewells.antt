@@ -17,7 +17,7 @@ use Rattle.cdi_run_tables.specs.Planned.{IsTabled}
 use Rattle.cdi_types.specs.Members.{members_of}
 use Rattle.cdi_ownership.specs.Whose.{IsIn}
 use Rattle.cdi_ledger.specs.Callbacks.{FirstsStandOnce, IsOrdinary, PlacesOfBodiesAreApart}
-use Rattle.cdi_run_tables.specs.Events.{Group, groups_of}
+use Rattle.cdi_event_tables.specs.Events.{Group, groups_of}
 use Rattle.cdi_run_tables.specs.declared.tables.RunTables.{RunTables}
 use Rattle.cdi_accepted.proofs.Lists.{Among, given, mapped, of_filter, of_is_in}
 use Rattle.cdi_farewells.proofs.Beginning.{begin_once, begin_once_if_short}

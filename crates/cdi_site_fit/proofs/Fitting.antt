@@ -17,7 +17,8 @@ use Rattle.cdi_plans.specs.Plans.{IsPlanOf}
 use Rattle.cdi_plans.specs.Tables.{PlanTables}
 use Rattle.cdi_plans.specs.declared.plan.Plan.{Plan}
 use Rattle.cdi_plans.specs.declared.plan.Plan.TheVariants as plans
-use Rattle.cdi_run_tables.specs.Machine.{bean_with, id_of, machine_bean, machine_kind, machine_tables, managed_bean, product_with}
+use Rattle.cdi_event_tables.specs.Observers.{managed_bean}
+use Rattle.cdi_run_tables.specs.Machine.{bean_with, id_of, machine_bean, machine_kind, machine_tables, product_with}
 use Rattle.cdi_run_tables.specs.Planned.{IsPlanned, plan_tables}
 use Rattle.cdi_run_tables.specs.declared.planned.PlannedBean.{PlannedBean}
 use Rattle.cdi_run_tables.specs.declared.tables.RunTables.{RunTables}

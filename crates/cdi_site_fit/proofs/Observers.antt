@@ -32,13 +32,14 @@ use Rattle.cdi_plans.specs.Codes.{injected_method}
 use Rattle.cdi_plans.specs.Observers.{as_observer, observer_in, observer_named, observer_of}
 use Rattle.cdi_resolve.specs.declared.bean_tables.BeanTables.{BeanTables}
 use Rattle.cdi_resolve.specs.Filters.{enabled_of, is_enabled}
-use Rattle.cdi_run_tables.specs.Machine.{AreIdsOf, bean_with, has_none, hearers, id_of, machine_member, machine_observer, machine_tables, managed_bean, observer_of_bean, observer_with, observers_of}
+use Rattle.cdi_event_tables.specs.Observers.{managed_bean}
+use Rattle.cdi_run_tables.specs.Machine.{AreIdsOf, bean_with, has_none, hearers, id_of, machine_member, machine_observer, machine_tables, observer_of_bean, observer_with, observers_of}
 use Rattle.cdi_run_tables.specs.Planned.{IsTabled}
 use Rattle.cdi_run_tables.specs.Served.{has_texts}
 use Rattle.cdi_run_tables.specs.declared.tables.RunTables.{RunTables}
 use Rattle.cdi_types.specs.Declarations.{declarations_of}
 use Rattle.cdi_worlds_fit.specs.Fits.{FitsManaged, FitsMember, FitsObserver}
-use Rattle.cdi_run_tables.specs.Events.{Group, groups_of, new_group, with_observer}
+use Rattle.cdi_event_tables.specs.Events.{Group, groups_of, new_group, with_observer}
 use Rattle.cdi_accepted.proofs.Lists.{Among, among_filter, found_among, given, mapped, of_filter}
 use Rattle.cdi_accepted.proofs.Members.{IsOfLine, of_line}
 use Rattle.cdi_accepted.proofs.Observing.{IsObserverIn, as_member, observer_in_list, of_as_observer}

@@ -38,7 +38,8 @@ use Rattle.cdi_plans.specs.declared.plan.Source.TheVariants as sources
 use Rattle.cdi_plans.specs.declared.plan.Step.{Step}
 use Rattle.cdi_plans.specs.declared.plan.Step.TheVariants as steps
 use Rattle.cdi_resolve.specs.Filters.{is_enabled}
-use Rattle.cdi_run_tables.specs.Machine.{bean_at, bean_with, does_something, id_of, machine_bean, machine_code, machine_kind, machine_managed, machine_member, machine_method, machine_methods, machine_observer, machine_source, machine_step, machine_steps, managed_bean, method_with, observer_of_bean, observer_with, product_with}
+use Rattle.cdi_event_tables.specs.Observers.{managed_bean}
+use Rattle.cdi_run_tables.specs.Machine.{bean_at, bean_with, does_something, id_of, machine_bean, machine_code, machine_kind, machine_managed, machine_member, machine_method, machine_methods, machine_observer, machine_source, machine_step, machine_steps, method_with, observer_of_bean, observer_with, product_with}
 use Rattle.cdi_run_tables.specs.Planned.{IsPlanned, IsTabled, plan_tables}
 use Rattle.cdi_run_tables.specs.declared.planned.PlannedBean.{PlannedBean}
 use Rattle.cdi_run_tables.specs.declared.tables.RunTables.{RunTables}

@@ -35,7 +35,8 @@ use Rattle.cdi_plans.specs.declared.plan.ProductPlan.{ProductPlan}
 use Rattle.cdi_plans.specs.declared.plan.Source.{Source}
 use Rattle.cdi_plans.specs.declared.plan.Source.TheVariants as sources
 use Rattle.cdi_resolve.specs.Filters.{enabled_of, is_enabled}
-use Rattle.cdi_run_tables.specs.Machine.{AreIdsOf, bean_with, first_values, id_of, machine_bean, machine_kind, machine_member, machine_source, machine_tables, managed_bean, product_with}
+use Rattle.cdi_event_tables.specs.Observers.{managed_bean}
+use Rattle.cdi_run_tables.specs.Machine.{AreIdsOf, bean_with, first_values, id_of, machine_bean, machine_kind, machine_member, machine_source, machine_tables, product_with}
 use Rattle.cdi_run_tables.specs.Planned.{IsPlanned, IsTabled, plan_tables}
 use Rattle.cdi_run_tables.specs.Served.{has_texts}
 use Rattle.cdi_run_tables.specs.declared.planned.PlannedBean.{PlannedBean}

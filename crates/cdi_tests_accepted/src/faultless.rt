@@ -33,10 +33,15 @@ pub fn faultless_tables(
     law_whole_fits(bodies);
     law_farewells_begin_once(bodies);
     let beans = ListedBeans::build(alloc, &deployment)?;
-    let tables = BeanTables::build(alloc, &deployment, beans)?;
-    let problems = late_problems(alloc, &deployment, &tables, bodies)?;
+    let ListedBeans {
+        list,
+        declared,
+        names,
+    } = beans;
+    let tables = BeanTables::build(alloc, &deployment, list, declared)?;
+    let problems = late_problems(alloc, &deployment, &names, &tables, bodies)?;
     if !problems.is_empty() {
         return Err(OrMemory::Fault(problems));
     }
-    Ok(RunTables::build(alloc, deployment, tables, bodies)?)
+    Ok(RunTables::build(alloc, deployment, names, tables, bodies)?)
 }

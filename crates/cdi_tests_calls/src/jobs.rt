@@ -11,18 +11,34 @@
 //! | `count` | how many these are | the number |
 //! | `live` | how many instances live | the number |
 //! | `next` | the next number of an instance | it, or `none` |
+ghost use Rattle.std.specs.Prelude.{IfOk};
+ghost use Rattle.cdi_frames.specs.Stacks.{KnownStack, KnownTurn};
+ghost use Rattle.cdi_run_tables.specs.Machine.{machine_tables};
+
 use crate::entries::{push_entries, push_name, push_value};
 use crate::heard::{beans_of, hear};
 use cdi_base::{Names, Seq, Value};
 use cdi_frames::run::{run, turn};
 use cdi_frames::stack::{Stack, Turn};
-use cdi_machine::Driver;
+use cdi_host::Contents;
+use cdi_machine::{Driver, Failure};
 use cdi_runtime::Runtime;
 use cdi_steps::task::Task;
 use cdi_steps::{BeanCall, Completion, Given, Job, Outcome};
 use cdi_tests_player::Ledger;
 use cdi_world::World;
 use std::alloc::{AllocError, Global};
+
+/// What is told of the jobs of a runtime.
+#[derive(Drop)]
+pub(crate) struct Told {
+    /// The answers to the lines.
+    pub(crate) text: String,
+    /// The entries of all jobs.
+    pub(crate) entries: String,
+    /// In slices of how many entries jobs are carried out, unless at once.
+    slice: Option<u64>,
+}
 
 // ---- jobs
 
@@ -84,42 +100,102 @@ fn push_end(text: &mut String, names: &Names, outcome: &Outcome) -> Result<(), A
     }
 }
 
-/// Carries a job out, with a trace of its own, and tells how it ended.
+/// How many turns a job may take.
+const MOST_TURNS: u32 = 1_000_000;
+
+/// A job begins that is carried out in turns.
+fn start_turns<D: Driver>(runtime: &mut Runtime<D>, job: Job) -> Stack
+    ensures known { KnownStack (machine_tables runtime.new.tables) runtime.new.world result }
+{
+    runtime.begin();
+    Stack::start(runtime.world.alloc(), Task::Begin(job))
+}
+
+/// One turn of a job, of so many entries.
+fn take_turn<D: Driver>(runtime: &mut Runtime<D>, stack: Stack, most: u64) -> Result<Turn, Failure>
+    requires known { KnownStack (machine_tables runtime.old.tables) runtime.old.world stack }
+    ensures known { IfOk result (KnownTurn
+        (machine_tables runtime.new.tables) runtime.new.world) }
+{
+    turn(
+        &runtime.tables,
+        &mut runtime.driver,
+        &mut runtime.world,
+        stack,
+        most,
+    )
+}
+
+/// How a job ends that is carried out in turns of so many entries.
+fn end_of_turns<D: Driver>(runtime: &mut Runtime<D>, most: u64, job: Job) -> Option<Outcome> {
+    let mut stack = start_turns(runtime, job);
+    'turns: for _ in 0..MOST_TURNS {
+        match take_turn(runtime, stack, most) {
+            Ok(Turn::Running(then)) => stack = then,
+            Ok(Turn::Finished(outcome)) => return Some(outcome),
+            Err(_) => return None,
+        }
+    }
+    None
+}
+
+/// How a job ends that is carried out at once.
+fn end_of_run<D: Driver>(runtime: &mut Runtime<D>, job: Job) -> Option<Outcome> {
+    runtime.begin();
+    let task = Task::Begin(job);
+    let ended = run(
+        &runtime.tables,
+        &mut runtime.driver,
+        &mut runtime.world,
+        task,
+    );
+    ended.ok()
+}
+
+/// Carries a job out, with a trace of its own, at once or in slices of so many entries, and tells how it ended.
 fn carry_out<D: Driver>(
-    text: &mut String,
+    alloc: Global,
+    told: &mut Told,
     runtime: &mut Runtime<D>,
     ledger: &mut Ledger,
     job: Job,
 ) -> Result<(), AllocError> {
     let ends_all = matches!(job, Job::Shutdown);
-    runtime.begin();
-    match run(runtime, job) {
-        Ok(outcome) => {
+    let ended = match told.slice {
+        Some(most) => end_of_turns(runtime, most, job),
+        None => end_of_run(runtime, job),
+    };
+    push_entries(
+        &mut told.entries,
+        &runtime.tables().deployment().names,
+        runtime.world().trace(),
+    )?;
+    match ended {
+        Some(outcome) => {
             hear(ledger, runtime.world(), ends_all, &outcome)?;
-            push_end(text, &runtime.tables().deployment().names, &outcome)
+            push_end(
+                &mut told.text,
+                &runtime.tables().deployment().names,
+                &outcome,
+            )
         }
-        Err(_) => text.push_str("no end"),
+        None => told.text.push_str("no end"),
     }
 }
-
-/// How many turns a job may take.
-const MOST_TURNS: u32 = 1_000;
 
 /// Carries a job out in turns of so many entries, with a trace of its own, and tells how many entries it had after each turn,
 /// and how it ended.
 fn carry_out_in_turns<D: Driver>(
-    alloc: Global,
     text: &mut String,
     runtime: &mut Runtime<D>,
     ledger: &mut Ledger,
-    most: usize,
+    most: u64,
     job: Job,
 ) -> Result<(), AllocError> {
     let ends_all = matches!(job, Job::Shutdown);
-    runtime.begin();
-    let mut stack = Stack::start(alloc, Task::Begin(job));
+    let mut stack = start_turns(runtime, job);
     'turns: for _ in 0..MOST_TURNS {
-        let turned = turn(runtime, stack, most);
+        let turned = take_turn(runtime, stack, most);
         push_count(text, runtime.world())?;
         text.push(' ')?;
         match turned {
@@ -175,14 +251,14 @@ fn push_answer<D: Driver>(
 /// Carries out the job of words, or answers what they ask.
 fn push_told<D: Driver>(
     alloc: Global,
-    text: &mut String,
+    told: &mut Told,
     runtime: &mut Runtime<D>,
     ledger: &mut Ledger,
     words: &[&str],
 ) -> Result<(), AllocError> {
     match job_of(alloc, &runtime.tables().deployment().names, words)? {
-        Some(job) => carry_out(text, runtime, ledger, job),
-        None => push_answer(alloc, text, runtime, words.first().unwrap_or(&"")),
+        Some(job) => carry_out(alloc, told, runtime, ledger, job),
+        None => push_answer(alloc, &mut told.text, runtime, words.first().unwrap_or(&"")),
     }
 }
 
@@ -192,11 +268,11 @@ fn push_turns<D: Driver>(
     text: &mut String,
     runtime: &mut Runtime<D>,
     ledger: &mut Ledger,
-    most: usize,
+    most: u64,
     words: &[&str],
 ) -> Result<(), AllocError> {
     match job_of(alloc, &runtime.tables().deployment().names, words)? {
-        Some(job) => carry_out_in_turns(alloc, text, runtime, ledger, most, job),
+        Some(job) => carry_out_in_turns(text, runtime, ledger, most, job),
         None => text.push_str("no job"),
     }
 }
@@ -204,23 +280,24 @@ fn push_turns<D: Driver>(
 /// Does it so many times, and tells what came of the last.
 fn push_again<D: Driver>(
     alloc: Global,
-    text: &mut String,
+    told: &mut Told,
     runtime: &mut Runtime<D>,
     ledger: &mut Ledger,
     times: u32,
     words: &[&str],
 ) -> Result<(), AllocError> {
-    let mut told = String::new(alloc);
+    let before = String::from_str(alloc, told.text.as_str())?;
     for _ in 0..times {
-        told.clear();
-        push_told(alloc, &mut told, runtime, ledger, words)?;
+        told.text.clear();
+        told.text.push_str(before.as_str())?;
+        push_told(alloc, told, runtime, ledger, words)?;
     }
-    text.push_str(told.as_str())
+    Ok(())
 }
 
 fn push_line<D: Driver>(
     alloc: Global,
-    text: &mut String,
+    told: &mut Told,
     runtime: &mut Runtime<D>,
     ledger: &mut Ledger,
     line: &str,
@@ -228,37 +305,37 @@ fn push_line<D: Driver>(
     let words: Vec<&str> = line.split_whitespace().collect(alloc)?;
     match words.as_slice() {
         ["again", times, job @ ..] => {
-            push_again(
-                alloc,
-                text,
-                runtime,
-                ledger,
-                times.parse().unwrap_or(0),
-                job,
-            )
+            let times = times.parse().unwrap_or(0);
+            push_again(alloc, told, runtime, ledger, times, job)
         }
         ["turns", most, job @ ..] => {
-            push_turns(alloc, text, runtime, ledger, most.parse().unwrap_or(0), job)
+            let most = most.parse().unwrap_or(0);
+            push_turns(alloc, &mut told.text, runtime, ledger, most, job)
         }
-        words => push_told(alloc, text, runtime, ledger, words),
+        words => push_told(alloc, told, runtime, ledger, words),
     }
 }
 
-/// What a runtime answers to each line; and behind that the sentence of the ledger that the entries of all jobs broke first, if they
-/// broke one.
+/// What a runtime answers to each line, with its jobs carried out at once or in slices; and behind that the sentence of the ledger that
+/// the entries of all jobs broke first, if they broke one.
 pub(crate) fn answers<D: Driver>(
     alloc: Global,
     runtime: &mut Runtime<D>,
+    slice: Option<u64>,
     input: &str,
-) -> Result<String, AllocError> {
-    let mut text = String::new(alloc);
+) -> Result<Told, AllocError> {
+    let mut told = Told {
+        text: String::new(alloc),
+        entries: String::new(alloc),
+        slice,
+    };
     let mut ledger = Ledger::new(alloc, beans_of(alloc, runtime.tables().deployment())?);
     for line in input.lines() {
-        push_line(alloc, &mut text, runtime, &mut ledger, line)?;
-        text.push('\n')?;
+        push_line(alloc, &mut told, runtime, &mut ledger, line)?;
+        told.text.push('\n')?;
     }
     if let Some(sentence) = ledger.broken() {
-        writeln!(text, "ledger: {sentence}")?;
+        writeln!(told.text, "ledger: {sentence}")?;
     }
-    Ok(text)
+    Ok(told)
 }

@@ -3,13 +3,14 @@ ghost use Rattle.std.specs.Prelude.{IfOk};
 ghost use Rattle.cdi_run_tables.specs.Machine.{machine_tables};
 ghost use Rattle.cdi_runtime.specs.Standing.{IsServable, KnowsMethods};
 
-use crate::jobs::answers;
+use crate::jobs::{Told, answers};
 use cdi_base::{Limits, OrMemory};
 use cdi_container::Unaccepted;
 use cdi_machine::Driver;
 use cdi_problems::Problem;
 use cdi_run_tables::RunTables;
 use cdi_runtime::Runtime;
+use cdi_world::World;
 use std::alloc::{AllocError, Global};
 
 /// What is asked of a runtime: its limits, and the lines.
@@ -40,7 +41,16 @@ fn refusal_lines(alloc: Global, unaccepted: &OrMemory<Unaccepted>) -> Result<Str
     }
 }
 
-/// What a runtime answers that nothing has been done with.
+/// All is done again in slices of so many entries.
+const SLICES: [u64; 4] = [1, 2, 3, 1_000];
+
+/// Nothing has been done with a runtime any more.
+fn start_anew<D: Driver>(runtime: &mut Runtime<D>, limits: Limits) {
+    runtime.world = World::new(runtime.alloc, limits);
+}
+
+/// What a runtime answers that nothing has been done with. In slices, of any length, it answers the same and writes the same entries;
+/// else what it answers in the first slices that are told otherwise.
 fn answers_by<D: Driver + Drop>(
     alloc: Global,
     tables: RunTables,
@@ -51,7 +61,16 @@ fn answers_by<D: Driver + Drop>(
     requires servable { IsServable tables }
 {
     let mut runtime = Runtime::new(alloc, tables, driver, asking.limits);
-    answers(alloc, &mut runtime, asking.input)
+    let told = answers(alloc, &mut runtime, None, asking.input)?;
+    for slice in SLICES {
+        start_anew(&mut runtime, asking.limits);
+        let sliced = answers(alloc, &mut runtime, Some(slice), asking.input)?;
+        if sliced.text != told.text || sliced.entries != told.entries {
+            return format!(in alloc; "in slices of {slice}:\n{}", sliced.text);
+        }
+    }
+    let Told { text, .. } = told;
+    Ok(text)
 }
 
 /// What is told of a deployment that was looked at with bodies, which this driver has: what its runtime answers, or why it isn't

@@ -154,7 +154,11 @@ fn list_lines(
     deployment: &Deployment,
     beans: ListedBeans,
 ) -> Result<String, AllocError> {
-    let ListedBeans { mut list, declared } = beans;
+    let ListedBeans {
+        mut list,
+        declared,
+        names: _names,
+    } = beans;
     let interceptors = mem::replace(&mut list.interceptors, Seq::empty(alloc));
     let chains = Chains::build(alloc, deployment, &declared.bindings, interceptors)?;
     lines_of(alloc, &deployment.names, &chains, list.beans.as_slice())

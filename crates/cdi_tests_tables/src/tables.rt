@@ -2,12 +2,14 @@
 ghost use Rattle.std.specs.Prelude.{◌≡◌, IfOk};
 ghost use Rattle.cdi_base.specs.declared.act.Act.TheVariants.{Give};
 ghost use Rattle.cdi_base.specs.declared.value.Value.TheVariants.{Null};
+ghost use Rattle.cdi_name_check.specs.NameSets.{HasDeclared};
 ghost use Rattle.cdi_resolve.specs.BeanTables.{AreTablesOf};
 
 use cdi_base::{Act, Fields, Names, OrMemory, Seq, Use, Value};
 use cdi_beans::ListedBeans;
 use cdi_bodies::{Bodies, Body, Lookup, Shape, View};
 use cdi_deployment::Deployment;
+use cdi_name_check::NameSets;
 use cdi_problems::Problem;
 use cdi_resolve::BeanTables;
 use cdi_run_tables::RunTables;
@@ -32,15 +34,29 @@ fn looking_shape(alloc: Global, names: &Names) -> Result<Shape, AllocError> {
     Ok(shape)
 }
 
-/// The tables of a deployment's bean list, unless it has problems of names or beans.
+/// The tables of a deployment's bean list, and the names that it declares.
+#[derive(Drop)]
+struct ListedTables {
+    tables: BeanTables,
+    names: NameSets,
+}
+
+/// Those of a deployment, unless it has problems of names or beans.
 fn listed_tables(
     alloc: Global,
     deployment: &Deployment,
-) -> Result<BeanTables, OrMemory<Seq<Problem>>>
-    ensures { IfOk result (AreTablesOf deployment.now) }
+) -> Result<ListedTables, OrMemory<Seq<Problem>>>
+    ensures tables { IfOk result (λ listed. AreTablesOf deployment.now listed.tables) }
+    ensures names { IfOk result (λ listed. HasDeclared deployment.now listed.names) }
 {
     let beans = ListedBeans::build(alloc, deployment)?;
-    Ok(BeanTables::build(alloc, deployment, beans)?)
+    let ListedBeans {
+        list,
+        declared,
+        names,
+    } = beans;
+    let tables = BeanTables::build(alloc, deployment, list, declared)?;
+    Ok(ListedTables { tables, names })
 }
 
 /// The tables of a deployment, unless it has problems of names or beans. A body is made in the function that registers it, since none
@@ -49,7 +65,7 @@ pub(crate) fn tables_of(
     alloc: Global,
     deployment: Deployment,
 ) -> Result<RunTables, OrMemory<Seq<Problem>>> {
-    let tables = listed_tables(alloc, &deployment)?;
+    let ListedTables { tables, names } = listed_tables(alloc, &deployment)?;
     let body: Body = Box::new(
         alloc,
         |_fields: &Fields, _view: &View| -> Result<Act, AllocError>
@@ -60,7 +76,7 @@ pub(crate) fn tables_of(
     let mut bodies = Bodies::new(alloc);
     let shape = looking_shape(alloc, &deployment.names)?;
     match bodies.add(deployment.names.name_for("b"), shape, body) {
-        Ok(_) => Ok(RunTables::build(alloc, deployment, tables, &bodies)?),
+        Ok(_) => Ok(RunTables::build(alloc, deployment, names, tables, &bodies)?),
         Err(_) => Err(OrMemory::Memory),
     }
 }

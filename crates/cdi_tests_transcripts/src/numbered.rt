@@ -90,8 +90,9 @@ fn with_counts(alloc: Global, played: Played) -> Result<Played, AllocError> {
     })
 }
 
-/// What a run comes to of which each `#` of the deployment is a number, from 0 on. A line of the input with a `#` stands so many times,
-/// with these numbers; and a line of the output stands behind the count of those that are the same, one after the other.
+/// What a run comes to of which each `#` of the deployment is a number, from 0 on, and each `^` the number of the `#` that comes next.
+/// A line of the input with a `#` stands so many times, with these numbers; and a line of the output stands behind the count of those
+/// that are the same, one after the other.
 pub(crate) fn play_numbered(
     alloc: Global,
     words: &[&str],

@@ -21,7 +21,8 @@ use Rattle.cdi_observers.proofs.Retained.{not_enabled}
 use Rattle.cdi_plans.specs.Observers.{as_observer, observer_in, observer_of}
 use Rattle.cdi_resolve.specs.Filters.{is_enabled}
 use Rattle.cdi_resolve.specs.declared.bean_tables.BeanTables.{BeanTables}
-use Rattle.cdi_run_tables.specs.Machine.{machine_observer, managed_bean, observer_of_bean, observer_with}
+use Rattle.cdi_event_tables.specs.Observers.{managed_bean}
+use Rattle.cdi_run_tables.specs.Machine.{machine_observer, observer_of_bean, observer_with}
 use Rattle.cdi_run_tables.specs.Planned.{IsTabled}
 use Rattle.cdi_run_tables.specs.declared.tables.RunTables.{RunTables}
 use Rattle.cdi_types.specs.Line.{class_named}

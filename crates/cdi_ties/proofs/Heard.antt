@@ -22,7 +22,7 @@ use Rattle.cdi_observers.specs.Observers.{Hears, IsTableOf, ObserverTable, any}
 use Rattle.cdi_observers.specs.declared.group.ObserverGroup.{ObserverGroup}
 use Rattle.cdi_quals.specs.Qualifiers.{has_all}
 use Rattle.cdi_quals.specs.declared.qualifier.Qualifier.{Qualifier}
-use Rattle.cdi_run_tables.specs.Events.{Group, hears, is_subtype}
+use Rattle.cdi_event_tables.specs.Events.{Group, hears, is_subtype}
 use Rattle.cdi_run_tables.specs.Machine.{has_none, machine_observer, machine_tables}
 use Rattle.cdi_run_tables.specs.Planned.{IsTabled}
 use Rattle.cdi_run_tables.specs.declared.tables.RunTables.{RunTables}
@@ -33,7 +33,7 @@ use Rattle.cdi_accepted.proofs.Beans.{place_of}
 use Rattle.cdi_accepted.proofs.Lists.{Among, among_contains, among_filter, among_filter_map, among_map, contains_among, mapped, of_filter}
 use Rattle.cdi_ties.proofs.Enabled.{IsTold, told}
 use Rattle.cdi_ties.proofs.Grouped.{group_of, groups_by_priority, of_priority, priorities, priority}
-use Rattle.cdi_ties.proofs.Inserted.{order_rises, to_order}
+use Rattle.cdi_event_tables.proofs.Inserted.{order_rises, to_order}
 use Rattle.cdi_ties.proofs.Subtypes.{subtypes_are}
 use Rattle.cdi_ties.specs.Ties.{GroupsAre, machine_group}
 

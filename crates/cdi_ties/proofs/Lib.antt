@@ -1,4 +1,3 @@
-pub mod Inserted
 pub mod Written
 pub mod Subtypes
 pub mod Grouped

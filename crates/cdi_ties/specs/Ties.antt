@@ -9,7 +9,7 @@ use Rattle.cdi_observers.specs.Groups.{AreGroupsOf}
 use Rattle.cdi_observers.specs.Observers.{IsTableOf, ObserverTable}
 use Rattle.cdi_observers.specs.declared.group.ObserverGroup.{ObserverGroup}
 use Rattle.cdi_quals.specs.declared.qualifier.Qualifier.{Qualifier}
-use Rattle.cdi_run_tables.specs.Events.{is_subtype, written_use}
+use Rattle.cdi_event_tables.specs.Events.{is_subtype, written_use}
 use Rattle.cdi_run_tables.specs.Machine.{machine_observer, machine_tables}
 use Rattle.cdi_run_tables.specs.Planned.{IsTabled}
 use Rattle.cdi_run_tables.specs.declared.tables.RunTables.{RunTables}

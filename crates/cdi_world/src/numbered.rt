@@ -3,7 +3,7 @@ ghost use Rattle.std.specs.Prelude.{◌≡◌, IsErr, IsSome, OnOk, OnErr};
 ghost use Rattle.std.specs.Option.{option_copied};
 ghost use Rattle.cdi_base.specs.Maps.{at};
 ghost use Rattle.cdi_store.specs.Live.{owner_at, with_field, with_leaving, with_ready, with_reference};
-ghost use Rattle.cdi_store.specs.Live.{without_instance};
+ghost use Rattle.cdi_store.specs.Live.{with_value, without_instance};
 
 use cdi_base::{Name, Value};
 use cdi_store::{Instance, Reference, Store};
@@ -27,6 +27,17 @@ pub(crate) fn set_in(store: &mut Store, number: u32, field: Name, value: Value)
 {
     if let Some(key) = store.key(number) {
         let _ = store.set(key, field, value);
+    }
+}
+
+/// Gives the instance, a product, its value.
+pub(crate) fn hold_in(store: &mut Store, number: u32, value: Value)
+    ensures { store.new ≡ record store.old {
+      instances = with_value number value store.old.instances;
+    } }
+{
+    if let Some(key) = store.key(number) {
+        let _ = store.hold(key, value);
     }
 }
 

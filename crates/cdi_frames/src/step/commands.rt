@@ -1,51 +1,41 @@
 //! The steps of commands, and of the container's own events.
-ghost use Rattle.std.specs.Prelude.{◌≡◌, IfOk, OnErr, IfErr, OnOk};
+ghost use Rattle.std.specs.Prelude.{◌≡◌, IfOk, OnErr};
 ghost use Rattle.cdi_store.specs.declared.instance.Context.TheVariants.{Application};
 ghost use Rattle.cdi_machine.specs.World.{after_change};
 ghost use Rattle.cdi_machine.specs.World.Change.{Return, Finish, Close, Down};
-ghost use Rattle.cdi_steps.specs.Setting.{Narrows};
-ghost use Rattle.cdi_steps.specs.Hearing.{Hears, HasFailed};
-ghost use Rattle.cdi_steps.specs.Leads.{MovesTo, GoesOn};
-ghost use Rattle.cdi_steps.specs.Falls.{Falls, rank, call_rank, frame_rank};
+ghost use Rattle.cdi_steps.specs.Steps.{Moves, GoesOn};
 ghost use Rattle.cdi_steps.specs.declared.task.Outcome.{Outcome};
 ghost use Rattle.cdi_steps.specs.declared.task.Given.{Given};
 ghost use Rattle.cdi_base.specs.declared.value.Value.{Value};
-ghost use Rattle.cdi_steps.specs.Known.{KnownNext};
 
 use crate::events::entry_of;
-use cdi_base::Cause;
-use cdi_machine::Failure;
-use cdi_steps::Host;
-use cdi_steps::ends::{cut, ended, null};
-use cdi_steps::entries::write;
-use cdi_steps::task::{BeanCall, Call, Completion, ContainerEvent, Frame, Job, Next, Task};
+use cdi_host::{Contents, Tables};
+use cdi_steps::ends::{ended, null};
+use cdi_steps::task::{
+    BeanCall, Call, Completion, ContainerEvent, Continuation, Frame, Job, Next, Task,
+};
 use std::alloc::{AllocError, Global};
 
 /// Begins what a command asks for: for the boot, the event of the application's begin (Jakarta CDI 4.0, *Context
 /// management for built-in scopes*), for the shutdown that of the container's end (*Shutdown event*).
-#[tactic(auto, using(crate::proofs::CommandSteps::leads, cdi_steps::proofs::Hearing::hears))]
-pub(super) fn begin<H: Host>(host: &mut H, job: Job) -> Result<Next, Failure>
-    ensures leads { IfOk result (λ next. MovesTo (H.setting host.old) (Task.Begin job)
-        (H.world host.old) next (H.world host.new)) }
-    ensures falls { IfOk result (λ next. Falls (rank (Task.Begin job))
-        (H.world host.old) next (H.world host.new)) }
-    ensures known { IfOk result (KnownNext (H.setting host.new)) }
-    ensures narrows { Narrows (H.setting host.old) (H.setting host.new) }
-    ensures hears { OnOk result (Hears (H.setting host.old) (H.world host.old)
-        (H.setting host.new) (H.world host.new)) }
-    ensures failed { IfErr result (HasFailed (H.setting host.old) (H.world host.old)
-        (H.setting host.new) (H.world host.new)) }
-    ensures kept { OnErr result (H.world host.new ≡ H.world host.old) }
+pub(super) fn begin<T: Tables, W: Contents>(
+    tables: &T,
+    world: &mut W,
+    job: Job,
+) -> Result<Next, AllocError>
+    ensures step { IfOk result (λ next. Moves (T.tables tables.now) (Task.Begin job)
+        (W.world world.old) next (W.world world.new)) }
+    ensures kept { OnErr result (W.world world.new ≡ W.world world.old) }
 {
     match job {
         Job::Boot => {
             let call = Task::Start(Call::Fire(ContainerEvent::Initialized));
             Ok(Next::Needs(call, Frame::Initializing))
         }
-        Job::Call(call) => call_bean(host, call),
+        Job::Call(call) => call_bean(tables, world, call),
         Job::Shutdown => {
-            host.law_alone();
-            host.stand_alone();
+            world.law_alone();
+            world.stand_alone();
             let call = Task::Start(Call::Fire(ContainerEvent::Shutdown));
             Ok(Next::Needs(call, Frame::Closing))
         }
@@ -65,45 +55,35 @@ pub(crate) fn starting() -> Next
 // ---- a call
 
 /// Calls a method of the bean with a type and qualifiers, with what is borrowed for the time of the command.
-#[tactic(auto, using(crate::proofs::CommandSteps::leads, cdi_steps::proofs::Hearing::hears))]
-fn call_bean<H: Host>(host: &mut H, call: Box<BeanCall>) -> Result<Next, Failure>
-    ensures leads { IfOk result (λ next. MovesTo (H.setting host.old)
-        (Task.Begin (Job.Call call)) (H.world host.old) next (H.world host.new)) }
-    ensures falls { IfOk result (λ next. Falls (rank (Task.Begin (Job.Call call)))
-        (H.world host.old) next (H.world host.new)) }
-    ensures known { IfOk result (KnownNext (H.setting host.new)) }
-    ensures narrows { Narrows (H.setting host.old) (H.setting host.new) }
-    ensures hears { OnOk result (Hears (H.setting host.old) (H.world host.old)
-        (H.setting host.new) (H.world host.new)) }
-    ensures failed { IfErr result (HasFailed (H.setting host.old) (H.world host.old)
-        (H.setting host.new) (H.world host.new)) }
-    ensures kept { OnErr result (H.world host.new ≡ H.world host.old) }
+fn call_bean<T: Tables, W: Contents>(
+    _tables: &T,
+    world: &mut W,
+    call: Box<BeanCall>,
+) -> Result<Next, AllocError>
+    ensures step { IfOk result (λ next. Moves (T.tables _tables.now) (Task.Begin (Job.Call call))
+        (W.world world.old) next (W.world world.new)) }
+    ensures kept { OnErr result (W.world world.new ≡ W.world world.old) }
 {
-    host.borrow()?;
-    host.stand_alone();
+    world.borrow()?;
+    world.stand_alone();
     Ok(Next::Needs(Task::Using(call), Frame::Using))
 }
 
 /// The use of the bean has ended: what was borrowed is destroyed and given back, at once if nothing was.
-#[tactic(auto, using(crate::proofs::CommandSteps::leads, cdi_steps::proofs::Hearing::hears))]
-pub(crate) fn returning<H: Host>(host: &mut H, completion: Completion) -> Result<Next, Failure>
-    ensures leads { IfOk result (λ next. GoesOn (H.setting host.old) Frame.Using completion
-        (H.world host.old) next (H.world host.new)) }
-    ensures falls { IfOk result (λ next. Falls (frame_rank Frame.Using)
-        (H.world host.old) next (H.world host.new)) }
-    ensures known { IfOk result (KnownNext (H.setting host.new)) }
-    ensures narrows { Narrows (H.setting host.old) (H.setting host.new) }
-    ensures hears { OnOk result (Hears (H.setting host.old) (H.world host.old)
-        (H.setting host.new) (H.world host.new)) }
-    ensures failed { IfErr result (HasFailed (H.setting host.old) (H.world host.old)
-        (H.setting host.new) (H.world host.new)) }
-    ensures kept { OnErr result (H.world host.new ≡ H.world host.old) }
+pub(crate) fn returning<T: Tables, W: Contents>(
+    _tables: &T,
+    world: &mut W,
+    completion: Completion,
+) -> Result<Next, AllocError>
+    ensures step { IfOk result (λ next. GoesOn (T.tables _tables.now) Frame.Using completion
+        (W.world world.old) next (W.world world.new)) }
+    ensures kept { OnErr result (W.world world.new ≡ W.world world.old) }
 {
-    if let Some(None) = host.latest_temporary() {
-        return Ok(returned(host, completion));
+    if let Some(None) = world.latest_temporary() {
+        return Ok(returned(world, completion));
     }
-    let behind_load = Frame::Returning(boxed(host.alloc(), completion)?);
-    Ok(Next::Needs(Task::Start(Call::Dismiss), behind_load))
+    let told = boxed(world.alloc(), completion)?;
+    Ok(Next::Needs(Task::Start(Call::Dismiss), Frame::Returning(told)))
 }
 
 /// How a use ended, in a box.
@@ -114,41 +94,40 @@ fn boxed(alloc: Global, completion: Completion) -> Result<Box<Completion>, Alloc
 }
 
 /// What was borrowed is given back.
-#[tactic(auto, using(cdi_steps::proofs::Hearing::hears))]
-pub(crate) fn returned<H: Host>(host: &mut H, completion: Completion) -> Next
+pub(crate) fn returned<W: Contents>(world: &mut W, completion: Completion) -> Next
     ensures next { result ≡ Next.Finished (Outcome.Ends completion) }
-    ensures world { H.world host.new ≡ after_change Return (H.world host.old) }
-    ensures narrows { Narrows (H.setting host.old) (H.setting host.new) }
-    ensures hears { Hears (H.setting host.old) (H.world host.old)
-        (H.setting host.new) (H.world host.new) }
+    ensures world { W.world world.new ≡ after_change Return (W.world world.old) }
 {
-    host.give_back();
+    world.give_back();
     ended(completion)
 }
 
 // ---- events
 
-/// Fires an event of the container itself, which nothing observes (Jakarta CDI 4.0, *Firing events*).
-#[tactic(auto, using(crate::proofs::CommandSteps::leads, cdi_steps::proofs::Hearing::hears))]
-pub(super) fn fire<H: Host>(host: &mut H, event: ContainerEvent) -> Result<Next, Failure>
-    ensures leads { IfOk result (λ next. MovesTo (H.setting host.old) (Task.Start (Call.Fire event))
-        (H.world host.old) next (H.world host.new)) }
-    ensures falls { IfOk result (λ next. Falls (call_rank (Call.Fire event))
-        (H.world host.old) next (H.world host.new)) }
-    ensures known { IfOk result (KnownNext (H.setting host.new)) }
-    ensures narrows { Narrows (H.setting host.old) (H.setting host.new) }
-    ensures hears { OnOk result (Hears (H.setting host.old) (H.world host.old)
-        (H.setting host.new) (H.world host.new)) }
-    ensures failed { IfErr result (HasFailed (H.setting host.old) (H.world host.old)
-        (H.setting host.new) (H.world host.new)) }
-    ensures kept { OnErr result (H.world host.new ≡ H.world host.old) }
+/// Fires an event of the container itself (Jakarta CDI 4.0, *Firing events*). Memory can be wanting.
+pub(super) fn fire<T: Tables, W: Contents>(
+    _tables: &T,
+    world: &W,
+    event: ContainerEvent,
+) -> Result<Next, AllocError>
+    ensures { IfOk result (λ next. Moves (T.tables _tables.now) (Task.Start (Call.Fire event))
+        (W.world world.now) next (W.world world.now)) }
 {
-    host.law_unobserved();
-    let entry = entry_of(host.alloc(), event)?;
-    if !write(host, entry)? {
-        return Ok(cut(Cause::Ticks));
-    }
-    Ok(null())
+    let entry = entry_of(world.alloc(), event)?;
+    Ok(Next::Writes(entry, Continuation::Delivering(event)))
+}
+
+/// Delivers an event of the container itself, which nothing observes (Jakarta CDI 4.0, *Observer notification*).
+pub(super) fn deliver<T: Tables, W: Contents>(
+    tables: &T,
+    _world: &W,
+    _event: ContainerEvent,
+) -> Next
+    ensures { Moves (T.tables tables.now) (Task.Continue (Continuation.Delivering _event))
+        (W.world _world.now) result (W.world _world.now) }
+{
+    tables.law_unobserved();
+    null()
 }
 
 // ---- shutdown
@@ -163,43 +142,31 @@ pub(crate) fn closing() -> Next
 }
 
 /// Ends the application context (Jakarta CDI 4.0, *Context management for built-in scopes*).
-#[tactic(auto, using(cdi_steps::proofs::Hearing::hears))]
-pub(crate) fn finishing<H: Host>(host: &mut H) -> Next
+pub(crate) fn finishing<W: Contents>(world: &mut W) -> Next
     ensures next { result ≡ Next.Needs (Task.Start Call.Clear) Frame.Emptying }
-    ensures world { H.world host.new ≡ after_change (Finish Application) (H.world host.old) }
-    ensures narrows { Narrows (H.setting host.old) (H.setting host.new) }
-    ensures hears { Hears (H.setting host.old) (H.world host.old)
-        (H.setting host.new) (H.world host.new) }
+    ensures world { W.world world.new ≡ after_change (Finish Application) (W.world world.old) }
 {
-    host.finish_application();
+    world.finish_application();
     Next::Needs(Task::Start(Call::Clear), Frame::Emptying)
 }
 
 /// The application context is gone.
-#[tactic(auto, using(cdi_steps::proofs::Hearing::hears))]
-pub(crate) fn emptied<H: Host>(host: &mut H) -> Next
+pub(crate) fn emptied<W: Contents>(world: &mut W) -> Next
     ensures next { result ≡ Next.Needs (Task.Start (Call.Fire ContainerEvent.Destroyed))
         Frame.GoingDown }
-    ensures world { H.world host.new ≡ after_change (Close Application) (H.world host.old) }
-    ensures narrows { Narrows (H.setting host.old) (H.setting host.new) }
-    ensures hears { Hears (H.setting host.old) (H.world host.old)
-        (H.setting host.new) (H.world host.new) }
+    ensures world { W.world world.new ≡ after_change (Close Application) (W.world world.old) }
 {
-    host.close_application();
+    world.close_application();
     let call = Task::Start(Call::Fire(ContainerEvent::Destroyed));
     Next::Needs(call, Frame::GoingDown)
 }
 
 /// The container is down.
-#[tactic(auto, using(cdi_steps::proofs::Hearing::hears))]
-pub(crate) fn gone_down<H: Host>(host: &mut H) -> Next
+pub(crate) fn gone_down<W: Contents>(world: &mut W) -> Next
     ensures next { result
         ≡ Next.Finished (Outcome.Ends (Completion.Gave (Given.Result Value.Null))) }
-    ensures world { H.world host.new ≡ after_change Down (H.world host.old) }
-    ensures narrows { Narrows (H.setting host.old) (H.setting host.new) }
-    ensures hears { Hears (H.setting host.old) (H.world host.old)
-        (H.setting host.new) (H.world host.new) }
+    ensures world { W.world world.new ≡ after_change Down (W.world world.old) }
 {
-    host.bring_down();
+    world.bring_down();
     null()
 }

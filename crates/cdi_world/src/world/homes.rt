@@ -7,7 +7,7 @@ ghost use Rattle.cdi_world.specs.Home.{home_of, with_home, without_home};
 
 use super::World;
 use crate::home::{Home, home_for};
-use crate::numbered::{leave_in, settle_in};
+use crate::numbered::{instance_in, leave_in, settle_in};
 use cdi_contexts::Held;
 use std::alloc::AllocError;
 
@@ -18,7 +18,7 @@ impl World {
         ensures alone { IsAlone self.now.contexts }
     {
         self.contexts.law_alone();
-        let instance = self.instance(number)?;
+        let instance = instance_in(&self.store, number)?;
         Some(home_for(instance.component, &instance.owner))
     }
 

@@ -2,42 +2,18 @@
 ghost use Rattle.std.specs.Prelude.{◌≡◌, ◌<◌, ◌^◌, None, IsErr, IsSome, IsOk, IsTrue, OnOk, OnErr};
 ghost use Rattle.cdi_contexts.specs.Contexts.{entry_in};
 ghost use Rattle.cdi_contexts.specs.declared.context.Held.TheVariants.{Making};
-ghost use Rattle.cdi_machine.specs.World.{after_change};
-ghost use Rattle.cdi_machine.specs.World.Change.{Make};
-ghost use Rattle.cdi_world.specs.Application.{IsAlone};
 ghost use Rattle.cdi_world.specs.Home.{with_instance, with_shared};
 
 use super::World;
-use crate::home::{Home, home_for};
 use cdi_base::{Fields, Scope};
 use cdi_contexts::Held;
 use cdi_store::{Component, Owner};
 use std::alloc::AllocError;
 
 impl World {
-    /// A new instance gets the next number, of which one has to be left; if a context owns it, that has
-    /// it as one that is being made (Jakarta CDI 4.0, *Lifecycle of managed beans*). Memory can be
-    /// wanting; on an error nothing changes.
-    pub fn make(
-        &mut self,
-        component: Component,
-        owner: Owner,
-        fields: Fields,
-    ) -> Result<(), AllocError>
-        requires { self.old.next < 2 ^ 32 }
-        ensures ok { OnOk result (self.new ≡ after_change (Make component owner fields) self.old) }
-        ensures err { OnErr result (self.new ≡ self.old) }
-    {
-        self.law_alone();
-        match home_for(component, &owner) {
-            Home::Application(bean) => self.make_shared(bean, component, owner, fields),
-            Home::Temporaries | Home::Nothing => self.add_instance(component, owner, fields),
-        }
-    }
-
     /// A new instance gets the next number, and the application has it for the bean as one that is
     /// being made.
-    fn make_shared(
+    pub(super) fn make_shared(
         &mut self,
         bean: u32,
         component: Component,
@@ -100,7 +76,7 @@ impl World {
     }
 
     /// A new instance gets the next number. On an error nothing changes.
-    fn add_instance(
+    pub(super) fn add_instance(
         &mut self,
         component: Component,
         owner: Owner,

@@ -4,5 +4,5 @@ use Rattle.cdi_bean_rules.proofs.conditional.conditional_of_dependent.Goals as g
 
 pub loop-class-preserved : goal.loop-class-preserved
 loop-class-preserved c =
-    let adds = rw c.in_ok-index.ensures at c.in_ok-add_of_class.ensures in
+    let adds = rw c.requires at c.in_ok-add_of_class.ensures in
     one_more (HasConditionalAt c.args.classes.now c.args.types.now) c.args.classes.now c.loop-class.class-index c.class-item.result c.loop-class-test.true c.class-item.is c.loop-class.found c.add_of_class.new.found adds c.loop-class.invariant

@@ -18,7 +18,7 @@ loop-class-preserved c =
     let R : Class → List (Class × Member) → Type 0 = AreMembersOf classes c.args.types.now in
     elim c.if-is_bean.branch [
       | then-is_bean+in_ok-observers_of w ↦ (
-          let own : IsObserverCountOf classes c.args.types.now class w.in_ok-observers_of.field-0 = rw (← c.in_ok-index.ensures) w.in_ok-observers_of.ensures in
+          let own : IsObserverCountOf classes c.args.types.now class w.in_ok-observers_of.field-0 = rw (← c.requires) w.in_ok-observers_of.ensures in
           let P : List Class → Type 0 = λ beans. AllZip R beans (inv.lists ++ own.has ∷ []) in
           record {
             lists = inv.lists ++ own.has ∷ [];

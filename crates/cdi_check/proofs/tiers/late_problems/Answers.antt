@@ -14,13 +14,13 @@ returns-clause-late g c =
     let problems = c.in_ok-problems.problems in
     let P : BeanTables → Type 0 = λ s. AreProblemsIn d shapes s.enabled (setting_by d s) problems in
     record {
-      list = c.requires.list;
-      made = c.requires.made;
+      list = c.requires.tables.list;
+      made = c.requires.tables.made;
       qualifiers = t.declared.qualifiers;
-      are_qualifiers = c.requires.are.declared.qualifiers;
+      are_qualifiers = c.requires.tables.are.declared.qualifiers;
       bindings = t.declared.bindings;
-      are_bindings = c.requires.are.declared.bindings;
+      are_bindings = c.requires.tables.are.declared.bindings;
       flags = t.resolver.flags;
-      are_flags = c.requires.are.flags;
-      are = subst P c.requires.are.are c.in_ok-problems.ensures;
+      are_flags = c.requires.tables.are.flags;
+      are = subst P c.requires.tables.are.are c.in_ok-problems.ensures;
     }

@@ -1,31 +1,25 @@
+use Rattle.std.proofs.Common.{◌∙◌, subst}
+use Rattle.cdi_machine.specs.Commands.{task}
+use Rattle.cdi_run_tables.specs.Machine.{machine_tables}
+use Rattle.cdi_runtime.specs.Standing.{RuntimeParts}
+use Rattle.cdi_steps.proofs.Driving.{still_drives}
+use Rattle.cdi_steps.specs.Leads.{Ran}
+use Rattle.cdi_steps.specs.Words.{command_of}
 use Rattle.cdi_container.specs.States.CarriesOut.{ends, starves}
-use Rattle.cdi_container.proofs.Keeping.{same_names}
 use Rattle.cdi_container.proofs.container.carry_out.Goals as goal
+use Rattle.cdi_container.proofs.container.carry_out.Goals.{in-Ok, in-Err}
 
-pub returns-in-Ok-clause-carries : goal.returns-in-Ok-clause-carries
-returns-in-Ok-clause-carries g c = ends (rw c.begin.ensures at c.in-Ok.ensures.ran)
+pub invariant_of-runtime : goal.invariant_of-runtime
+invariant_of-runtime g c =
+    record { drives = still_drives c.run.ensures.narrows c.runtime.invariant.drives; invoked = c.run.ensures.invoked }
 
-pub returns-in-Ok-clause-keeps : goal.returns-in-Ok-clause-keeps
-returns-in-Ok-clause-keeps g c =
-    let before = c.args.runtime.now in
-    let after = c.run.new.host in
-    let tables = rw c.begin.ensures at c.in-Ok.ensures.narrows.tables in
-    record {
-      names = same_names before.tables after.tables tables;
-      tables = tables;
-      legal = rw c.begin.ensures at c.in-Ok.ensures.narrows.legal;
-    }
-
-pub returns-in-Err-clause-carries : goal.returns-in-Err-clause-carries
-returns-in-Err-clause-carries g c = starves tt (rw c.begin.ensures at c.in-Err.ensures.ran)
-
-pub returns-in-Err-clause-keeps : goal.returns-in-Err-clause-keeps
-returns-in-Err-clause-keeps g c =
-    let before = c.args.runtime.now in
-    let after = c.run.new.host in
-    let tables = rw c.begin.ensures at c.in-Err.ensures.narrows.tables in
-    record {
-      names = same_names before.tables after.tables tables;
-      tables = tables;
-      legal = rw c.begin.ensures at c.in-Err.ensures.narrows.legal;
-    }
+pub returns-clause-carries : goal.returns-clause-carries
+returns-clause-carries g c =
+    let ran =
+    subst
+    (λ (r : RuntimeParts _). Ran (machine_tables r.tables) (g.D.Driver.legal r.driver) (task (command_of c.args.job)) r.world c.run.result c.run.new.world)
+    (c.runtime.view_is ∙ c.begin.ensures) c.run.ensures.ran in
+    elim c.match-run.branch [
+      | in-Ok w ↦ rw w.result-is (ends (rw w.in-Ok.is at ran))
+      | in-Err w ↦ rw w.result-is (starves tt (rw w.in-Err.is at ran))
+    ]

@@ -1,11 +1,13 @@
-use Rattle.cdi_steps.specs.declared.task.Task.TheVariants as tasks
 use Rattle.cdi_steps.proofs.Results.{map_ok}
 use Rattle.cdi_frames.proofs.Hearing.{run_hears}
 use Rattle.cdi_frames.proofs.run.run.Goals as goal
 
 pub finish-requires : goal.finish-requires
 finish-requires g c =
-    record { frames = rw c.start-stack.ensures.frames tt; pending = rw c.start-stack.ensures.pending tt }
+    record {
+      drives = c.requires.drives;
+      known = record { frames = rw c.start-stack.ensures.frames tt; pending = rw c.start-stack.ensures.pending c.requires.known; invoked = c.requires.invoked };
+    }
 
 pub returns-clause-ran : goal.returns-clause-ran
 returns-clause-ran g c =
@@ -13,4 +15,4 @@ returns-clause-ran g c =
 
 pub returns-clause-hears : goal.returns-clause-hears
 returns-clause-hears g c =
-    map_ok c.finish.result (λ o h. run_hears (g.H.Host.setting c.args.host.now) (g.H.Host.setting c.finish.new.host) c.start-stack.result (tasks.Begin c.args.job) o (g.H.Host.world c.args.host.now) (g.H.Host.world c.finish.new.host) c.start-stack.ensures.pending h) c.finish.ensures.hears
+    map_ok c.finish.result (λ o h. run_hears c.start-stack.result c.args.task o (g.W.Contents.world c.args.world.now) (g.W.Contents.world c.finish.new.world) c.start-stack.ensures.pending h) c.finish.ensures.hears

@@ -1,25 +1,39 @@
+use Rattle.cdi_steps.proofs.Driving.{passed_on, starves_alone}
+use Rattle.cdi_steps.proofs.Made.{driven}
 use Rattle.cdi_frames.proofs.step.start.Goals as goal
 
-pub returns-in-Acts-clause-leads : goal.returns-in-Acts-clause-leads
-returns-in-Acts-clause-leads g c =
-    rw c.in-Acts.is c.acts.ensures.leads
+pub returns-in_err-rest-in-Rest-clause-failed : goal.returns-in_err-rest-in-Rest-clause-failed
+returns-in_err-rest-in-Rest-clause-failed g c = passed_on _ c.from_residual.result starves_alone c.from_residual.ensures
 
-pub returns-in-Release-clause-leads : goal.returns-in-Release-clause-leads
-returns-in-Release-clause-leads g c =
-    rw c.in-Release.is c.release.ensures.leads
+pub returns-in_err-fire-in-Fire-clause-failed : goal.returns-in_err-fire-in-Fire-clause-failed
+returns-in_err-fire-in-Fire-clause-failed g c = passed_on _ c.from_residual-in_err-fire-in-Fire.result starves_alone c.from_residual-in_err-fire-in-Fire.ensures
 
-pub returns-in-Create-clause-leads : goal.returns-in-Create-clause-leads
-returns-in-Create-clause-leads g c =
-    rw c.in-Create.is c.create.ensures.leads
+pub returns-in_ok-rest-in-Rest-clause-step : goal.returns-in_ok-rest-in-Rest-clause-step
+returns-in_ok-rest-in-Rest-clause-step g c = rw c.in-Rest.is (driven (g.D.Driver.legal c.args.driver.now) c.in_ok-rest-in-Rest.ensures.step)
 
-pub returns-in-Body-clause-leads : goal.returns-in-Body-clause-leads
-returns-in-Body-clause-leads g c =
-    rw c.in-Body.is c.body.ensures.leads
+pub returns-in_ok-fire-in-Fire-clause-step : goal.returns-in_ok-fire-in-Fire-clause-step
+returns-in_ok-fire-in-Fire-clause-step g c = rw c.in-Fire.is (driven (g.D.Driver.legal c.args.driver.now) c.in_ok-fire-in-Fire.ensures)
 
-pub returns-in-Destroy-clause-leads : goal.returns-in-Destroy-clause-leads
-returns-in-Destroy-clause-leads g c =
-    rw c.in-Destroy.is c.destroy.ensures.leads
+pub returns-in-Obtain-clause-step : goal.returns-in-Obtain-clause-step
+returns-in-Obtain-clause-step g c = rw c.in-Obtain.is (driven (g.D.Driver.legal c.args.driver.now) c.obtain.ensures)
 
-pub returns-in-Fire-clause-leads : goal.returns-in-Fire-clause-leads
-returns-in-Fire-clause-leads g c =
-    rw c.in-Fire.is c.fire.ensures.leads
+pub returns-in-Create-clause-step : goal.returns-in-Create-clause-step
+returns-in-Create-clause-step g c = rw c.in-Create.is (driven (g.D.Driver.legal c.args.driver.now) c.create.ensures)
+
+pub returns-in-Body-clause-step : goal.returns-in-Body-clause-step
+returns-in-Body-clause-step g c = rw c.in-Body.is (driven (g.D.Driver.legal c.args.driver.now) c.begin.ensures)
+
+pub returns-in-Destroy-clause-step : goal.returns-in-Destroy-clause-step
+returns-in-Destroy-clause-step g c = rw c.in-Destroy.is (driven (g.D.Driver.legal c.args.driver.now) c.destroy.ensures)
+
+pub returns-in-Dismiss-clause-step : goal.returns-in-Dismiss-clause-step
+returns-in-Dismiss-clause-step g c = rw c.in-Dismiss.is (driven (g.D.Driver.legal c.args.driver.now) c.dismiss.ensures)
+
+pub returns-in-Clear-clause-step : goal.returns-in-Clear-clause-step
+returns-in-Clear-clause-step g c = rw c.in-Clear.is (driven (g.D.Driver.legal c.args.driver.now) c.clear.ensures)
+
+pub returns-in-Acts-clause-step : goal.returns-in-Acts-clause-step
+returns-in-Acts-clause-step g c = rw c.in-Acts.is c.act.ensures.step
+
+pub returns-in-Release-clause-step : goal.returns-in-Release-clause-step
+returns-in-Release-clause-step g c = rw c.in-Release.is c.release.ensures.step

@@ -1,6 +1,6 @@
 use Rattle.std.proofs.Common.{◌∙◌, nat_eq, sym}
 use Rattle.std.specs.HashMap.{get}
-use Rattle.cdi_run_tables.specs.Ids.{id_in}
+use Rattle.cdi_event_tables.specs.Ids.{id_in}
 use Rattle.cdi_run_tables.proofs.FirstMethods.{registered}
 use Rattle.cdi_run_tables.proofs.methods.add_method.Goals as goal
 

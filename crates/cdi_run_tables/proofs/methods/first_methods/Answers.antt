@@ -1,6 +1,6 @@
 use Rattle.std.proofs.Common.{◌∙◌, Option, [], ◌∷◌, ap, sym}
 use Rattle.std.specs.Option.{option_or}
-use Rattle.cdi_run_tables.specs.Ids.{id_in}
+use Rattle.cdi_event_tables.specs.Ids.{id_in}
 use Rattle.cdi_run_tables.specs.declared.tables.Method.{Method}
 use Rattle.cdi_run_tables.proofs.FirstMethods.{found_in, found_next}
 use Rattle.cdi_run_tables.proofs.methods.first_methods.Goals as goal

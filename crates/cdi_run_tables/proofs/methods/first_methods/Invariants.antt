@@ -1,7 +1,7 @@
 use Rattle.std.proofs.Common.{◌≡◌, ℕ, nat_eq, option_map, take}
 use Rattle.std.specs.HashMap.{get}
 use Rattle.cdi_base.specs.Maps.{at}
-use Rattle.cdi_run_tables.specs.Ids.{id_in}
+use Rattle.cdi_event_tables.specs.Ids.{id_in}
 use Rattle.cdi_run_tables.specs.Machine.{machine_methods, without_chain}
 use Rattle.cdi_run_tables.proofs.methods.first_methods.Given as goal
 

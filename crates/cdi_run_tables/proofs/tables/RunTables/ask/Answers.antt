@@ -8,9 +8,8 @@ invariant_of-self c =
     record {
       names = is.names;
       checked = is.checked;
-      event_classes = is.event_classes;
+      events = is.events;
       beans = is.beans;
       interceptors = is.interceptors;
-      observers = is.observers;
       asked = c.remember.ensures c.self.inside.parts is.asked (c.resolve-told.ensures ∙ ap (λ t. resolution_of t c.args.ty c.args.uses.now) (sym c.self.view_is));
     }

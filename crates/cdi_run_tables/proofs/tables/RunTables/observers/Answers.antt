@@ -1,7 +1,9 @@
 use Rattle.std.proofs.Common.{◌≡◌, ◌∙◌, List, [], ◌∷◌, Bor, map, refl, ap, arith}
 use Rattle.std.proofs.lemmas.List.{take_all}
-use Rattle.cdi_run_tables.specs.Observers.{heard_among, is_heard_by, machine_observer, observer_groups}
-use Rattle.cdi_run_tables.specs.declared.observers.PlannedObserver.{PlannedObserver}
+use Rattle.cdi_event_tables.specs.Observers.{is_heard_by}
+use Rattle.cdi_event_tables.specs.declared.observers.PlannedObserver.{PlannedObserver}
+use Rattle.cdi_run_tables.specs.Observers.{heard_among, machine_observer, planned_groups}
+use Rattle.cdi_run_tables.specs.declared.parts.RunParts.{RunParts}
 use Rattle.cdi_run_tables.proofs.Heard.{heard_observers}
 use Rattle.cdi_run_tables.proofs.tables.RunTables.observers.Goals as goal
 
@@ -20,9 +22,13 @@ pub returns : goal.returns
 returns c =
     let l = c.loop-group in
     let t = c.args.self.now in
+    let inside = c.self.inside.parts in
     let uses = c.args.qualifiers.now in
     let items = c.as_slice-group-items.result.now in
-    let are : items ≡ observer_groups t = c.as_slice-group-items.ensures ∙ c.self.invariant.observers ∙ ap observer_groups c.self.view_is in
+    let are : items ≡ planned_groups inside = c.as_slice-group-items.ensures ∙ c.self.invariant.events.observers in
     all_shown l.groups
-    ∙ ap (map (map machine_observer)) (l.invariant ∙ ap (heard_among (is_heard_by t c.args.class uses)) (take_all l.group-index items (omega arith) ∙ are))
+    ∙ ap (map (map machine_observer))
+    (l.invariant
+    ∙ ap (heard_among (is_heard_by inside.tables.declared c.args.class uses)) (take_all l.group-index items (omega arith) ∙ are)
+    ∙ ap (λ (p : RunParts). heard_among (is_heard_by p.tables.declared c.args.class uses) (planned_groups p)) c.self.view_is)
     ∙ heard_observers t c.args.class uses

@@ -1,12 +1,18 @@
 use Rattle.std.proofs.Common.{sym, subst}
-use Rattle.cdi_machine.specs.World.{World}
-use Rattle.cdi_runtime.specs.Standing.{AllInvoked}
+use Rattle.cdi_run_tables.specs.Machine.{machine_tables}
+use Rattle.cdi_run_tables.specs.declared.tables.RunTables.{RunTables}
+use Rattle.cdi_steps.specs.Driving.{Drives}
+use Rattle.cdi_steps.specs.Known.{AllInvoked}
+use Rattle.cdi_runtime.proofs.Working.{drives}
 use Rattle.cdi_runtime.proofs.runtime.Runtime.new.Goals as goal
 
 pub invariant_of-result : goal.invariant_of-result
 invariant_of-result g c =
+    let knows = g.D.Driver.knows c.args.driver in
+    let legal = g.D.Driver.legal c.args.driver in
     record {
-      knows = c.requires.knows;
-      servable = c.requires.servable;
-      invoked = subst (λ (w : World). AllInvoked (g.D.Driver.knows c.args.driver) (g.D.Driver.legal c.args.driver) w.invocations) (sym c.new.ensures) tt;
+      drives =
+          subst (λ (t : RunTables). Drives (machine_tables t) knows legal) (sym c.new.ensures)
+          (drives knows legal (machine_tables c.args.tables) c.requires.knows);
+      invoked = subst (AllInvoked (machine_tables c.new.result)) (sym c.new-2.ensures) (record { all = tt });
     }

@@ -1,0 +1,10 @@
+pub mod Among
+pub mod EventClasses
+pub mod Grouped
+pub mod Inserted
+pub mod ManagedPlaces
+pub mod NoMembers
+pub mod OneSet
+pub mod Placed
+pub mod Subtypes
+pub mod Written

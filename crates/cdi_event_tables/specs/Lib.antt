@@ -1,0 +1,4 @@
+pub mod Events
+pub mod Ids
+pub mod Observers
+pub mod Tables

@@ -1,0 +1,139 @@
+-- What is asked of the tables and of the world, as the definition has it.
+use Rattle.std.specs.Prelude.{ℕ, ◌^◌, ◌<◌, List, [], ◌∷◌, ◌≡◌, ◌-◌, length, drop, Bool, true, false, Option, Some, None, nat_lt, option_map, option_and_then}
+use Rattle.cdi_base.specs.declared.scope.Scope.{Scope}
+use Rattle.cdi_base.specs.declared.scope.Scope.TheVariants as scopes
+use Rattle.cdi_base.specs.declared.uses.Use.{Use}
+use Rattle.cdi_base.specs.Fields.{has}
+use Rattle.cdi_base.specs.Maps.{at}
+use Rattle.cdi_store.specs.declared.instance.Component.{Component}
+use Rattle.cdi_store.specs.declared.instance.Component.TheVariants as components
+use Rattle.cdi_store.specs.declared.instance.Instance.{Instance}
+use Rattle.cdi_store.specs.declared.references.Reference.{Reference}
+use Rattle.cdi_store.specs.Owned.{dependents_in}
+use Rattle.cdi_contexts.specs.declared.context.Held.{Held}
+use Rattle.cdi_contexts.specs.declared.context.Status.{Status}
+use Rattle.cdi_contexts.specs.Contexts.{active_context, entry_in}
+use Rattle.cdi_machine.specs.Words.{Name, Fields, Asked}
+use Rattle.cdi_machine.specs.Tables as machine
+use Rattle.cdi_machine.specs.Tables.{Tables, Bean, Managed, Lifecycle, Method, Kind, Step}
+use Rattle.cdi_machine.specs.Creation.{first_fields}
+use Rattle.cdi_machine.specs.World.{World}
+use Rattle.cdi_machine.specs.Bodies.{reference_at}
+use Rattle.cdi_machine.specs.Destruction.{latest}
+use Rattle.cdi_host.specs.declared.beans.BeanHead.{BeanHead}
+use Rattle.cdi_host.specs.declared.beans.Method.{Method as CodeMethod}
+use Rattle.cdi_host.specs.declared.beans.Resolution.{Resolution}
+use Rattle.cdi_host.specs.declared.beans.Resolution.TheVariants.{One, Nothing, Many}
+
+-- ---- the deployment
+
+-- a type with qualifiers as they are written
+abbrev pub asked_for : Name → List Use → Asked
+asked_for type qualifiers = record { type = type; qualifiers = qualifiers }
+
+-- with the qualifier Default
+abbrev pub of_type : Name → Asked
+of_type type = asked_for type []
+
+abbrev pub machine_resolution : Resolution → machine.Resolution
+machine_resolution (One b) = machine.Resolution.One b
+machine_resolution Nothing = machine.Resolution.Nothing
+machine_resolution Many = machine.Resolution.Many
+
+abbrev pub head_of : Bean → BeanHead
+head_of bean = record { place = bean.place; scope = bean.scope }
+
+abbrev pub is_served_scope : Scope → Bool
+is_served_scope scopes.ApplicationScoped = true
+is_served_scope scopes.Dependent = true
+is_served_scope _ = false
+
+abbrev pub no_lifecycle : Lifecycle
+no_lifecycle = record { chain = []; callbacks = [] }
+
+-- a managed bean of one of these scopes, whose destruction calls nothing
+pub record IsServedBean (bean : Bean) : Type 0 where
+  pub class : Managed
+  pub is_class : bean.kind ≡ Kind.Class class
+  pub scope : is_served_scope bean.scope ≡ true
+  pub pre_destroy : class.pre_destroy ≡ no_lifecycle
+
+-- the fields of a new instance
+abbrev pub fields_of : Option Bean → Fields
+fields_of None = []
+fields_of (Some bean) = first_fields bean.kind
+
+-- the bean of a component
+abbrev pub bean_in : Tables → Component → Option Bean
+bean_in t (components.Bean b) = t.bean b
+bean_in t (components.Interceptor i) = None
+
+-- the steps by which an instance is created
+abbrev pub plan_in : Kind → List Step
+plan_in (Kind.Class c) = c.plan
+plan_in (Kind.Producer p) = []
+
+abbrev pub plan_of : Option Bean → List Step
+plan_of None = []
+plan_of (Some bean) = plan_in bean.kind
+
+-- so many steps, the last ones
+abbrev pub last_of : {X : Type 0} → ℕ → List X → List X
+last_of left xs = drop (length xs - left) xs
+
+-- no interceptor stands round a method
+abbrev pub machine_method : CodeMethod → Method
+machine_method m =
+    record { code = record { place = m.place; body = m.body }; count = m.count; chain = [] }
+
+abbrev pub method_in : Kind → Name → Option Method
+method_in (Kind.Class c) name = at c.methods name
+method_in (Kind.Producer p) name = None
+
+-- the method of a bean
+abbrev pub method_at : Tables → ℕ → Name → Option Method
+method_at t b name = option_and_then (λ (bean : Bean). method_in bean.kind name) (t.bean b)
+
+-- the method of an instance of a bean
+abbrev pub method_of_component : Tables → Component → Name → Option Method
+method_of_component t (components.Bean b) name = method_at t b name
+method_of_component t (components.Interceptor i) name = None
+
+abbrev pub method_of_instance : Tables → Option Instance → Name → Option Method
+method_of_instance t None name = None
+method_of_instance t (Some o) name = method_of_component t o.component name
+
+-- ---- the world
+
+abbrev pub has_field_in : Option Instance → Name → Bool
+has_field_in None field = false
+has_field_in (Some o) field = has o.fields field
+
+abbrev pub reference_in : Option Instance → Name → Option Reference
+reference_in None field = None
+reference_in (Some o) field = Some (reference_at (at o.references field))
+
+abbrev pub fields_in : Option Instance → Fields
+fields_in None = []
+fields_in (Some o) = o.fields
+
+-- it has two dependents or more
+abbrev pub HasSeveral : Option Instance → Type 0
+HasSeveral o = 1 < length (dependents_in o)
+
+abbrev pub status_in : World → Scope → Option Status
+status_in w scope = option_map (λ a. a.status) (active_context w.contexts w.environment scope)
+
+abbrev pub held_in : World → Scope → ℕ → Option Held
+held_in w scope b = entry_in (active_context w.contexts w.environment scope) b
+
+-- the next number, if there is one
+abbrev pub number_left : World → Option ℕ
+number_left w = elim (nat_lt w.next (2 ^ 32)) [ true ↦ Some w.next | false ↦ None ]
+
+abbrev pub top_of : {X : Type 0} → List X → Option X
+top_of [] = None
+top_of (x ∷ xs) = Some x
+
+abbrev pub latest_in : World → Option (Option ℕ)
+latest_in w = option_map latest (top_of w.temporaries)

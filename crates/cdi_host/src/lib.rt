@@ -1,0 +1,11 @@
+//! What the engine works upon, as traits: the tables of a deployment, and what a container holds. The third part is the
+//! [`Driver`](cdi_machine::Driver).
+#![tactic(auto)]
+
+pub mod beans;
+pub mod contents;
+pub mod tables;
+
+pub use beans::{BeanHead, Injection, Method, Resolution};
+pub use contents::Contents;
+pub use tables::Tables;

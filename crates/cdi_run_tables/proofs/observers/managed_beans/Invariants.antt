@@ -1,8 +1,0 @@
-use Rattle.std.proofs.Common.{◌≡◌, ℕ, nat_eq, take}
-use Rattle.std.specs.HashMap.{get}
-use Rattle.cdi_run_tables.specs.Machine.{managed_bean}
-use Rattle.cdi_run_tables.proofs.observers.managed_beans.Given as goal
-
--- those of the beans that were looked at
-abbrev pub invariant-loop-place : goal.invariant-loop-place
-invariant-loop-place l = (class : ℕ) → get nat_eq l.places class ≡ managed_bean (take l.place l.beans) class

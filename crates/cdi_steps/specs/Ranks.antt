@@ -1,0 +1,98 @@
+-- Ranks: each step lowers them, until an entry is due, so that every run ends.
+use Rattle.std.specs.Prelude.{ℕ, ◌+◌, ◌*◌, ◌^◌, min, max}
+use Rattle.cdi_steps.specs.declared.task.Call.{Call}
+use Rattle.cdi_steps.specs.declared.task.Call.TheVariants as calls
+use Rattle.cdi_steps.specs.declared.task.Completion.TheVariants as completions
+use Rattle.cdi_steps.specs.declared.task.Outcome.{Outcome}
+use Rattle.cdi_steps.specs.declared.task.Outcome.TheVariants as outcomes
+use Rattle.cdi_steps.specs.declared.task.Continuation.{Continuation}
+use Rattle.cdi_steps.specs.declared.task.Continuation.TheVariants as continuations
+use Rattle.cdi_steps.specs.declared.task.Task.{Task}
+use Rattle.cdi_steps.specs.declared.task.Task.TheVariants as tasks
+use Rattle.cdi_steps.specs.declared.task.Frame.{Frame}
+use Rattle.cdi_steps.specs.declared.task.Frame.TheVariants as frames
+use Rattle.cdi_steps.specs.declared.task.Next.{Next}
+use Rattle.cdi_steps.specs.declared.task.Next.TheVariants as nexts
+
+abbrev pub call_rank : Call → ℕ
+call_rank (calls.Obtain b) = 2
+call_rank (calls.Create b owner) = 1
+call_rank calls.Rest = 2
+call_rank (calls.Body r) = 1
+call_rank (calls.Acts r) = 1
+call_rank (calls.Destroy n) = 1
+call_rank (calls.Release n) = 2
+call_rank (calls.Fire event) = 1
+call_rank calls.Dismiss = 2
+call_rank calls.Clear = 2
+
+-- of a creation by the steps that are left, which are fewer than this
+abbrev pub creation_rank : ℕ → ℕ
+creation_rank left = 2 * min left (2 ^ 32) + 2
+
+abbrev pub continuation_rank : Continuation → ℕ
+continuation_rank (continuations.Making n b owner) = creation_rank (2 ^ 32) + 1
+continuation_rank (continuations.Settling n) = 1
+continuation_rank (continuations.Discarding n x) = 1
+continuation_rank (continuations.Starting r) = 2
+continuation_rank (continuations.Performing p) = 5
+continuation_rank (continuations.Leaving n) = 4
+continuation_rank (continuations.Removing n) = 1
+continuation_rank (continuations.Freeing n dependent) = 2
+continuation_rank (continuations.Delivering event) = 1
+
+abbrev pub rank : Task → ℕ
+rank (tasks.Start c) = call_rank c
+rank (tasks.Begin job) = 5
+rank (tasks.Using bean_call) = 4
+rank (tasks.Through field_call) = 4
+rank (tasks.Creating n b left) = creation_rank left
+rank (tasks.Continue a) = continuation_rank a
+
+-- what comes after the frame's call, if that gave something
+abbrev pub frame_rank : Frame → ℕ
+frame_rank (frames.AtEnd role) = 1
+frame_rank frames.Stopping = 1
+frame_rank (frames.Answering r) = 2
+frame_rank (frames.Injecting n b left field) = creation_rank left + 1
+frame_rank (frames.Discarding n x) = 1
+frame_rank (frames.CleaningUp n) = 3
+frame_rank (frames.Releasing n) = 1
+frame_rank (frames.Freeing n) = 3
+frame_rank frames.Dismissing = 3
+frame_rank frames.Clearing = 3
+frame_rank (frames.Reaching method args) = 3
+frame_rank (frames.Borrowing method args) = 3
+frame_rank frames.Exiting = 1
+frame_rank frames.Using = 3
+frame_rank (frames.Returning told) = 1
+frame_rank frames.Initializing = 2
+frame_rank frames.Starting = 1
+frame_rank frames.Closing = 4
+frame_rank frames.Finishing = 3
+frame_rank frames.Emptying = 2
+frame_rank frames.GoingDown = 1
+
+-- and if it threw: these go on without a call
+abbrev pub thrown_rank : Frame → ℕ
+thrown_rank (frames.Freeing n) = 1
+thrown_rank frames.Dismissing = 1
+thrown_rank frames.Clearing = 1
+thrown_rank k = frame_rank k
+
+abbrev pub back_rank : Frame → Outcome → ℕ
+back_rank k (outcomes.Ends (completions.Gave g)) = frame_rank k
+back_rank k (outcomes.Ends (completions.Threw x)) = thrown_rank k
+back_rank k (outcomes.Cut cause) = 1
+
+-- a destruction that gives anything has written an entry
+abbrev pub gave_rank : Task → Frame → ℕ
+gave_rank (tasks.Start (calls.Destroy n)) k = 1
+gave_rank _ k = frame_rank k
+
+-- what is next: the greatest rank of what is left until an entry is written
+abbrev pub weight : Next → ℕ
+weight (nexts.Finished o) = 0
+weight (nexts.Goes p) = rank p
+weight (nexts.Needs p k) = max (rank p) (max (gave_rank p k) (thrown_rank k))
+weight (nexts.Writes e p) = 0
