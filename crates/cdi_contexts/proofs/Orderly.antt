@@ -38,3 +38,8 @@ orderly a m n h i = record {
   requests = length-map m (λ p. p.0) ∙ sym (length-map m (λ p. request_of p.1));
   sessions = length-map n (λ p. p.0) ∙ sym (length-map n (λ p. session_of p.1));
 }
+
+-- the names in their order
+pub names_seen : {D Y : Type 0} (view : Kept D → Y) (name_of : Y → List ℕ) → ((k : Kept D) → name_of (view k) ≡ k.name) → (m : Map (Kept D)) → map (λ p. p.1.name) m ≡ map name_of (map (λ p. view p.1) m)
+names_seen view name_of names [] = refl
+names_seen view name_of names (p ∷ more) = λ i. sym (names p.1) i ∷ names_seen view name_of names more i

@@ -1,5 +1,5 @@
 -- What a change in one slot is to what is there.
-use Rattle.std.proofs.Common.{◌≡◌, ◌==◌, ◌∙◌, ℕ, suc, ◌+◌, refl, ap, sym, subst, List, [], ◌∷◌, ◌++◌, cond, not, true, false, true≢false, Bool, Some, None, Option, option_map, position, nat_eq, is_some, bytes_eq, slice_get, Ok, Err, OnErr, OnOk, arith}
+use Rattle.std.proofs.Common.{◌≡◌, ◌≢◌, ◌==◌, ◌∙◌, ℕ, suc, ◌+◌, refl, ap, sym, subst, List, [], ◌∷◌, ◌++◌, cond, not, true, false, true≢false, Bool, Some, None, Option, option_map, position, nat_eq, is_some, bytes_eq, slice_get, Ok, Err, OnErr, OnOk, arith}
 use Rattle.std.specs.Prelude.{Result}
 use Rattle.std.specs.Map.{lookup, remove_entry, keys_of, values_of}
 use Rattle.std.specs.List.{position_or_len}
@@ -13,7 +13,7 @@ use Rattle.cdi_base.proofs.Tables.{place_of}
 use Rattle.cdi_store.proofs.Entries.{at-lookup}
 use Rattle.cdi_contexts.specs.Named.{named}
 use Rattle.cdi_contexts.specs.Contexts.{Active}
-use Rattle.cdi_contexts.specs.Group.{kept_named, with_table, outline, AreApart, IsFree}
+use Rattle.cdi_contexts.specs.Group.{kept_named, with_table, outline, AreApart, AreTaken}
 use Rattle.cdi_contexts.specs.declared.group.Kept.{Kept}
 
 pub same_bytes : (a b : List ℕ) → bytes_eq a b ≡ true → a ≡ b
@@ -40,6 +40,24 @@ ok_then (Err e) P Q h f = tt
 
 pub own_number : (n : ℕ) → (n == n) ≡ true
 own_number n = grind arith
+
+-- what is equal to one number
+one_of : (j slot k : ℕ) → (j == k) ≡ true → (slot == k) ≡ true → (j == slot) ≡ true
+one_of j slot k h i = grind arith
+
+joined : (j slot k : ℕ) → (j == k) ≡ true → (j == slot) ≡ true → (slot == k) ≡ true
+joined j slot k h i = grind arith
+
+other_than : (j slot : ℕ) → (j == slot) ≡ false → j ≢ slot
+other_than j slot h = λ e. true≢false (sym (own_number j) ∙ ap (λ n. j == n) e ∙ h)
+
+-- a slot that isn't taken is no one's
+pub vacant : {X Y : Type 0} (taken : Slab Y) (m : Map X) (slot : ℕ) → AreTaken taken m → get taken slot ≡ None → at m slot ≡ None
+vacant taken m slot h none = by (at m slot) (sym (h slot) ∙ ap is_some none)
+  where
+    by : {X : Type 0} (o : Option X) → is_some o ≡ false → o ≡ None
+    by None e = refl
+    by (Some x) e = absurd (true≢false e)
 
 module _ {X : Type 0} where
   -- a write by index
@@ -142,6 +160,39 @@ module _ {X : Type 0} where
       by true e rest = rest
       by false e rest = rw e rest
 
+  -- whether something stands in a slot
+  there-push : (m : Map X) (slot j : ℕ) (x : X) → is_some (at (m ++ (slot, x) ∷ []) j) ≡ cond (j == slot) true (is_some (at m j))
+  there-push [] slot j x = by (j == slot)
+    where
+      by : (b : Bool) → is_some (cond b (Some x) None) ≡ cond b true false
+      by true = refl
+      by false = refl
+  there-push (p ∷ more) slot j x = by (j == p.0) (j == slot) (there-push more slot j x)
+    where
+      by : (b t : Bool) → is_some (at (more ++ (slot, x) ∷ []) j) ≡ cond t true (is_some (at more j))
+          → is_some (cond b (Some p.1) (at (more ++ (slot, x) ∷ []) j)) ≡ cond t true (is_some (cond b (Some p.1) (at more j)))
+      by true true rest = refl
+      by true false rest = refl
+      by false t rest = rest
+
+  there-without : (m : Map X) (slot j : ℕ) → is_some (at (without slot m) j) ≡ cond (j == slot) false (is_some (at m j))
+  there-without [] slot j = by (j == slot)
+    where
+      by : (b : Bool) → false ≡ cond b false false
+      by true = refl
+      by false = refl
+  there-without (p ∷ more) slot j = by (slot == p.0) (j == p.0) (j == slot) refl refl refl (there-without more slot j)
+    where
+      by : (b t s : Bool) → (slot == p.0) ≡ b → (j == p.0) ≡ t → (j == slot) ≡ s → is_some (at (without slot more) j) ≡ cond s false (is_some (at more j))
+          → is_some (at (cond (not b) (p ∷ without slot more) (without slot more)) j) ≡ cond s false (is_some (cond t (Some p.1) (at more j)))
+      by true true true e i k rest = rest
+      by true true false e i k rest = absurd (true≢false (sym (one_of j slot p.0 i e) ∙ k))
+      by true false true e i k rest = rest
+      by true false false e i k rest = rest
+      by false true true e i k rest = absurd (true≢false (sym (joined j slot p.0 i k) ∙ e))
+      by false true false e i k rest = rw i refl
+      by false false s e i k rest = rw i rest
+
 pub nothing : {A B : Type 0} (f : A → B) (o : Option A) → option_map f o ≡ None → o ≡ None
 nothing f None h = refl
 nothing f (Some x) h = absurd cc
@@ -176,16 +227,24 @@ module _ {D : Type 0} where
   pub apart-adjusted : (m : Map (Kept D)) (slot : ℕ) (f : Kept D → Kept D) → ((k : Kept D) → (f k).name ≡ k.name) → AreApart (outline m) → AreApart (outline (adjusted slot f m))
   apart-adjusted m slot f e h = subst AreApart (sym (same_name m slot f e)) h
 
-  pub free-adjusted : {Y : Type 0} (taken : Slab Y) (m : Map (Kept D)) (slot : ℕ) (f : Kept D → Kept D) → ((k : Kept D) → (f k).name ≡ k.name) → IsFree taken m → IsFree taken (adjusted slot f m)
-  free-adjusted taken m slot f e h = λ j i.
-      nothing (λ k. k.name) _ (sym (at-outline (adjusted slot f m) j) ∙ ap (λ o. at o j) (same_name m slot f e) ∙ at-outline m j ∙ ap (option_map (λ k. k.name)) (h j i))
+  -- what is there, by the outline
+  there-outline : (m : Map (Kept D)) (slot : ℕ) → is_some (at (outline m) slot) ≡ is_some (at m slot)
+  there-outline m slot = ap is_some (at-outline m slot) ∙ by (at m slot)
+    where
+      by : (o : Option (Kept D)) → is_some (option_map (λ k. k.name) o) ≡ is_some o
+      by None = refl
+      by (Some k) = refl
+
+  pub taken-adjusted : {Y : Type 0} (taken : Slab Y) (m : Map (Kept D)) (slot : ℕ) (f : Kept D → Kept D) → ((k : Kept D) → (f k).name ≡ k.name) → AreTaken taken m → AreTaken taken (adjusted slot f m)
+  taken-adjusted taken m slot f e h = λ j.
+      h j ∙ sym (there-outline m j) ∙ sym (ap (λ o. is_some (at o j)) (same_name m slot f e)) ∙ there-outline (adjusted slot f m) j
 
   -- a change of what one has
   pub apart-with_table : (m : Map (Kept D)) (slot : ℕ) (f : Active → Active) → AreApart (outline m) → AreApart (outline (with_table slot f m))
   apart-with_table m slot f h = apart-adjusted m slot (λ k. record k { table = f k.table }) (λ k. refl) h
 
-  pub free-with_table : {Y : Type 0} (taken : Slab Y) (m : Map (Kept D)) (slot : ℕ) (f : Active → Active) → IsFree taken m → IsFree taken (with_table slot f m)
-  free-with_table taken m slot f h = free-adjusted taken m slot (λ k. record k { table = f k.table }) (λ k. refl) h
+  pub taken-with_table : {Y : Type 0} (taken : Slab Y) (m : Map (Kept D)) (slot : ℕ) (f : Active → Active) → AreTaken taken m → AreTaken taken (with_table slot f m)
+  taken-with_table taken m slot f h = taken-adjusted taken m slot (λ k. record k { table = f k.table }) (λ k. refl) h
 
 named-push : (o : List (ℕ × List ℕ)) (slot : ℕ) (name n : List ℕ) → named (λ q. q.1) o n ≡ None → bytes_eq name n ≡ false → named (λ q. q.1) (o ++ (slot, name) ∷ []) n ≡ None
 named-push [] slot name n h e = rw e refl
@@ -248,23 +307,23 @@ module _ {D : Type 0} where
       subst AreApart (sym (outline-push m slot k))
       (apart-push (outline m) slot k.name h (at-outline m slot ∙ ap (option_map (λ k. k.name)) s) (named-outline m k.name ∙ ap (option_map (λ p. (p.0, p.1.name))) n))
 
-  pub free_pushed : {Y : Type 0} (taken after : Slab Y) (m : Map (Kept D)) (slot : ℕ) (k : Kept D) (y : Y) → IsFree taken m → Updates taken after slot (Some y) → IsFree after (m ++ (slot, k) ∷ [])
-  free_pushed taken after m slot k y h u = λ j e. by (j == slot) j refl e
+  pub taken_pushed : {Y : Type 0} (taken after : Slab Y) (m : Map (Kept D)) (slot : ℕ) (k : Kept D) (y : Y) → AreTaken taken m → Updates taken after slot (Some y) → AreTaken after (m ++ (slot, k) ∷ [])
+  taken_pushed taken after m slot k y h u = λ j. by (j == slot) j refl
     where
-      by : (b : Bool) (j : ℕ) → (j == slot) ≡ b → get after j ≡ None → at (m ++ (slot, k) ∷ []) j ≡ None
-      by true j i e = let same : get after j ≡ Some y = ap (get after) (exact_unsigned_eq j slot i) ∙ u.changed in absurd cc
-      by false j i e = at-push m slot j k (h j (sym (u.others j (λ s. true≢false (sym (own_number j) ∙ ap (λ n. j == n) s ∙ i))) ∙ e)) i
+      by : (b : Bool) (j : ℕ) → (j == slot) ≡ b → is_some (get after j) ≡ is_some (at (m ++ (slot, k) ∷ []) j)
+      by true j i = ap (λ n. is_some (get after n)) (exact_unsigned_eq j slot i) ∙ ap is_some u.changed ∙ sym (there-push m slot j k ∙ ap (λ b. cond b true (is_some (at m j))) i)
+      by false j i = ap is_some (u.others j (other_than j slot i)) ∙ h j ∙ sym (there-push m slot j k ∙ ap (λ b. cond b true (is_some (at m j))) i)
 
   -- without what is in a slot
   pub apart_removed : (m : Map (Kept D)) (slot : ℕ) → AreApart (outline m) → AreApart (outline (without slot m))
   apart_removed m slot h = subst AreApart (sym (outline-without m slot)) (apart-without (outline m) slot h)
 
-  pub free_removed : {Y : Type 0} (taken after : Slab Y) (m : Map (Kept D)) (slot : ℕ) → IsFree taken m → Updates taken after slot None → IsFree after (without slot m)
-  free_removed taken after m slot h u = λ j e. by (j == slot) j refl e
+  pub taken_removed : {Y : Type 0} (taken after : Slab Y) (m : Map (Kept D)) (slot : ℕ) → AreTaken taken m → Updates taken after slot None → AreTaken after (without slot m)
+  taken_removed taken after m slot h u = λ j. by (j == slot) j refl
     where
-      by : (b : Bool) (j : ℕ) → (j == slot) ≡ b → get after j ≡ None → at (without slot m) j ≡ None
-      by true j i e = ap (at (without slot m)) (exact_unsigned_eq j slot i) ∙ at-without-own m slot
-      by false j i e = at-without m slot j (h j (sym (u.others j (λ s. true≢false (sym (own_number j) ∙ ap (λ n. j == n) s ∙ i))) ∙ e))
+      by : (b : Bool) (j : ℕ) → (j == slot) ≡ b → is_some (get after j) ≡ is_some (at (without slot m) j)
+      by true j i = ap (λ n. is_some (get after n)) (exact_unsigned_eq j slot i) ∙ ap is_some u.changed ∙ sym (there-without m slot j ∙ ap (λ b. cond b false (is_some (at m j))) i)
+      by false j i = ap is_some (u.others j (other_than j slot i)) ∙ h j ∙ sym (there-without m slot j ∙ ap (λ b. cond b false (is_some (at m j))) i)
 
   pub removed : (m : Map (Kept D)) (slot : ℕ) → AreApart (outline m) → remove_entry (nat_eq slot) m ≡ without slot m
   removed [] slot h = refl

@@ -48,6 +48,11 @@ request_in = named (λ r. r.name)
 abbrev pub session_in : List OpenSession → List ℕ → Option OpenSession
 session_in = named (λ s. s.name)
 
+-- the session that a request belongs to, if the request is there and has one
+abbrev pub session_of_request : Contexts → List ℕ → Option (List ℕ)
+session_of_request c name =
+    elim (request_in c.requests name) [ None ↦ None | Some r ↦ r.session ]
+
 -- the context, unless it is gone
 abbrev pub context_at : Contexts → Context → Option Active
 context_at c Application = c.application

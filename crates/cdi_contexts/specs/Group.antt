@@ -1,5 +1,5 @@
 -- Requests or sessions in their slots, in the order in which they came.
-use Rattle.std.specs.Prelude.{◌≡◌, ℕ, Bool, true, ◌∷◌, [], List, map, Option, Some, None, option_map}
+use Rattle.std.specs.Prelude.{◌≡◌, ℕ, Bool, true, ◌∷◌, [], List, map, Option, Some, None, is_some, option_map}
 use Rattle.std.specs.Borrow.{Bor}
 use Rattle.slab.specs.Slab.{Slab, get}
 use Rattle.cdi_base.specs.Maps.{Map, at, adjusted, without}
@@ -59,9 +59,9 @@ abbrev pub IsIndexOf : List (ℕ × List ℕ) → NameIndex → Type 0
 IsIndexOf o index =
     (name : List ℕ) → slot_of index name ≡ option_map (λ p. p.0) (named (λ q. q.1) o name)
 
--- a slot that isn't taken is no one's
-abbrev pub IsFree : {X Y : Type 0} → Slab Y → Map X → Type 0
-IsFree taken m = (slot : ℕ) → get taken slot ≡ None → at m slot ≡ None
+-- a slot is taken exactly if something stands in it
+abbrev pub AreTaken : {X Y : Type 0} → Slab Y → Map X → Type 0
+AreTaken taken m = (slot : ℕ) → is_some (get taken slot) ≡ is_some (at m slot)
 
 -- a request and a session
 abbrev pub request_of : Kept (Option (List ℕ)) → OpenRequest

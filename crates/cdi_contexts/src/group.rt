@@ -44,11 +44,11 @@ impl<D> Model for Group<D> {
 
     ghost Value = { List (ℕ × AnyKept D) };
 
-    ghost use Rattle.cdi_contexts.specs.Group.{outline, AreApart, IsFree, IsIndexOf};
+    ghost use Rattle.cdi_contexts.specs.Group.{outline, AreApart, AreTaken, IsIndexOf};
 
     ghost view = { λ g. g.kept.entries };
 
-    ghost invariant = { λ g. IsFree g.taken g.kept.entries × AreApart (outline g.kept.entries)
+    ghost invariant = { λ g. AreTaken g.taken g.kept.entries × AreApart (outline g.kept.entries)
         × IsIndexOf (outline g.kept.entries) g.names };
 }
 
@@ -69,6 +69,17 @@ impl<D> Group<D> {
         ensures { result ≡ length self.now }
     {
         self.kept.len()
+    }
+
+    /// Their names, in their order. Memory can be wanting.
+    pub fn names(&self, alloc: Global) -> Result<Vec<Text>, AllocError>
+        ensures { IfOk result (λ names. names.items ≡ map (λ p. p.1.name) self.now) }
+    {
+        let mut names = Vec::new(alloc);
+        for (_slot, kept) in self.kept.iter() {
+            names.push(kept.name.clone()?)?;
+        }
+        Ok(names)
     }
 
     /// No two have one slot or one name. A call does nothing: its contract is the law.
@@ -130,8 +141,10 @@ impl<D> Group<D> {
     {
         let name = kept.name.clone()?.into_string();
         self.kept.reserve(1)?;
-        let slot = self.taken.insert(())?;
-        self.names.add(name, slot)?;
+        self.taken.reserve(1)?;
+        self.names.add(name, self.taken.vacant_key())?;
+        // From here on there is memory for all.
+        let slot = self.taken.insert_reserved(());
         self.kept.insert(slot, kept)?;
         Ok(slot)
     }

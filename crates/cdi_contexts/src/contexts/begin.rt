@@ -55,8 +55,8 @@ impl Contexts {
         }
     }
 
-    /// Whether a session is named that isn't there.
-    fn opens_session(&self, session: Option<&str>) -> bool
+    /// Whether a session is named that isn't there, so that it begins with a request in it.
+    pub fn opens_session(&self, session: Option<&str>) -> bool
         ensures { result ≡ opens_session self.now.contexts (option_copied session.entry) }
     {
         match session {

@@ -142,14 +142,18 @@ impl Contexts {
         }
     }
 
-    fn request_slot(&self, name: &str) -> Option<usize>
+    /// The slot of the request of a name, for an [`Env`] (Jakarta CDI 4.0, *Context management for
+    /// built-in scopes*); there is none if no request of this name is there.
+    pub fn request_slot(&self, name: &str) -> Option<usize>
         ensures { request_name_at self.now result ≡ request_name self.now name.now }
     {
         let (slot, _kept) = self.request(name)?;
         Some(slot)
     }
 
-    fn session_slot(&self, name: &str) -> Option<usize>
+    /// The slot of the session of a name, for an [`Env`] (Jakarta CDI 4.0, *Context management for
+    /// built-in scopes*); there is none if no session of this name is there.
+    pub fn session_slot(&self, name: &str) -> Option<usize>
         ensures { session_name_at self.now result ≡ session_name self.now name.now }
     {
         let (slot, _kept) = self.session(name)?;
@@ -169,7 +173,9 @@ impl Contexts {
         }
     }
 
-    fn status(&self, scope: Scope, env: Env) -> Option<Status>
+    /// Whether instances are made in the active context of a scope (Jakarta CDI 4.0, *The active
+    /// context object for a scope*); nothing where the scope has no active context.
+    pub fn status(&self, scope: Scope, env: Env) -> Option<Status>
         ensures { result ≡ option_map (λ a. a.status) (active_in self.now env scope) }
     {
         Some(self.table(scope, env)?.status())

@@ -1,6 +1,8 @@
 //! Requests and sessions by their names.
-ghost use Rattle.std.specs.Prelude.{◌≡◌, is_some, IfSome, option_map};
+ghost use Rattle.std.specs.Prelude.{◌≡◌, is_some, map, IfOk, IfSome, option_map};
 ghost use Rattle.std.specs.Option.{option_copied};
+ghost use Rattle.std.specs.List.{list_any};
+ghost use Rattle.cdi_contexts.specs.Contexts.{belongs_to, session_of_request};
 ghost use Rattle.cdi_contexts.specs.Refusals.{request_refusal};
 ghost use Rattle.cdi_contexts.specs.Group.{request_found, session_found, IsRequestOf, IsSessionOf};
 ghost use Rattle.cdi_contexts.specs.Standing.{first_open_request, first_open_session};
@@ -9,6 +11,7 @@ ghost use Rattle.cdi_contexts.specs.Standing.{request_by, session_by};
 use super::Contexts;
 use crate::group::Kept;
 use cdi_base::{Refusal, Text};
+use std::alloc::{AllocError, Global};
 
 impl Contexts {
     /// The request of a name, with its slot.
@@ -55,6 +58,40 @@ impl Contexts {
         ensures { result ≡ is_some (session_by self.now name.now) }
     {
         self.session(name).is_some()
+    }
+
+    /// The session that a request belongs to (Jakarta CDI 4.0, *Context management for built-in
+    /// scopes*); there is none if no request of this name is there, or it belongs to none.
+    pub fn session_of(&self, request: &str) -> Option<&Text>
+        ensures { option_copied result ≡ session_of_request self.now.contexts request.now }
+    {
+        let (_slot, kept) = self.request(request)?;
+        kept.detail.as_ref()
+    }
+
+    /// Whether a request that is there belongs to a session.
+    pub fn is_used(&self, session: &str) -> bool
+        ensures { result ≡ list_any (belongs_to session.now) self.now.contexts.requests }
+    {
+        self.requests.has_member(session)
+    }
+
+    /// The names of the requests that are there, in the order of their begin. Memory can be
+    /// wanting.
+    pub fn request_names(&self, alloc: Global) -> Result<Vec<Text>, AllocError>
+        ensures { IfOk result (λ names.
+            names.items ≡ map (λ r. r.name) self.now.contexts.requests) }
+    {
+        self.requests.names(alloc)
+    }
+
+    /// The names of the sessions that are there, in the order of their creation. Memory can be
+    /// wanting.
+    pub fn session_names(&self, alloc: Global) -> Result<Vec<Text>, AllocError>
+        ensures { IfOk result (λ names.
+            names.items ≡ map (λ s. s.name) self.now.contexts.sessions) }
+    {
+        self.sessions.names(alloc)
     }
 
     /// Why nothing is done in a request, if it isn't: [`Refusal::NoRequest`] if a request is named that

@@ -2,7 +2,7 @@ use Rattle.std.proofs.Common.{◌∙◌, ap, sym, refl}
 use Rattle.cdi_base.specs.Maps.{adjusted}
 use Rattle.cdi_contexts.specs.Group.{marked}
 use Rattle.cdi_contexts.proofs.Indexed.{index-adjusted}
-use Rattle.cdi_contexts.proofs.Slots.{written, untouched, absent, apart-adjusted, free-adjusted}
+use Rattle.cdi_contexts.proofs.Slots.{written, untouched, absent, apart-adjusted, taken-adjusted}
 use Rattle.cdi_contexts.proofs.group.Group+bool.mark.Goals as goal
 
 pub invariant_of-self : goal.invariant_of-self
@@ -10,7 +10,7 @@ invariant_of-self c =
     let m = c.self.inside.kept.entries in
     let k = c.index_mut-kept.result.now in
     let is = written m c.args.slot c.in-Some.index k (marked k) marked c.in-Some.ensures.index c.in-Some.ensures.value c.index_mut-kept.ensures.value refl in
-    rw is (free-adjusted c.self.inside.taken m c.args.slot marked (λ k. refl) c.self.invariant.0, apart-adjusted m c.args.slot marked (λ k. refl) c.self.invariant.1, index-adjusted m c.args.slot marked c.self.inside.names (λ k. refl) c.self.invariant.2)
+    rw is (taken-adjusted c.self.inside.taken m c.args.slot marked (λ k. refl) c.self.invariant.0, apart-adjusted m c.args.slot marked (λ k. refl) c.self.invariant.1, index-adjusted m c.args.slot marked c.self.inside.names (λ k. refl) c.self.invariant.2)
 
 pub returns-in-Some-clause-marked : goal.returns-in-Some-clause-marked
 returns-in-Some-clause-marked c =

@@ -3,7 +3,7 @@ use Rattle.cdi_contexts.specs.Contexts.{Active}
 use Rattle.cdi_contexts.specs.declared.context.Status.TheVariants.{Ending}
 use Rattle.cdi_contexts.specs.Group.{with_table}
 use Rattle.cdi_contexts.proofs.Indexed.{index-with_table}
-use Rattle.cdi_contexts.proofs.Slots.{written, untouched, absent, apart-with_table, free-with_table}
+use Rattle.cdi_contexts.proofs.Slots.{written, untouched, absent, apart-with_table, taken-with_table}
 use Rattle.cdi_contexts.proofs.group.Group.end.Goals as goal
 
 pub invariant_of-self : goal.invariant_of-self
@@ -12,7 +12,7 @@ invariant_of-self g c =
     let k = c.index_mut-kept.result.now in
     let f = (λ (a : Active). record a { status = Ending }) in
     let is = written m c.args.slot c.in-Some.index k (record k { table = c.end.new.self }) (λ k. record k { table = f k.table }) c.in-Some.ensures.index c.in-Some.ensures.value c.index_mut-kept.ensures.value (ap (λ t. record k { table = t }) c.end.ensures) in
-    rw is (free-with_table c.self.inside.taken m c.args.slot f c.self.invariant.0, apart-with_table m c.args.slot f c.self.invariant.1, index-with_table m c.args.slot f c.self.inside.names c.self.invariant.2)
+    rw is (taken-with_table c.self.inside.taken m c.args.slot f c.self.invariant.0, apart-with_table m c.args.slot f c.self.invariant.1, index-with_table m c.args.slot f c.self.inside.names c.self.invariant.2)
 
 pub returns-in-Some-clause-ended : goal.returns-in-Some-clause-ended
 returns-in-Some-clause-ended g c =

@@ -4,7 +4,7 @@ use Rattle.cdi_store.proofs.Entries.{at-lookup}
 use Rattle.cdi_contexts.specs.Contexts.{Active}
 use Rattle.cdi_contexts.specs.Group.{with_table, table_at}
 use Rattle.cdi_contexts.proofs.Indexed.{index-with_table}
-use Rattle.cdi_contexts.proofs.Slots.{written, rewritten, untouched, absent, apart-with_table, free-with_table, on_err}
+use Rattle.cdi_contexts.proofs.Slots.{written, rewritten, untouched, absent, apart-with_table, taken-with_table, on_err}
 use Rattle.cdi_contexts.proofs.group.Group.put.Goals as goal
 
 pub returns-in_default-clause-ok : goal.returns-in_default-clause-ok
@@ -41,7 +41,7 @@ invariant_of-self-2 g c =
     let k = c.index_mut-kept.result.now in
     let f = (λ (a : Active). record a { holds = put_in_order c.args.bean c.args.held a.holds }) in
     let is = written m c.args.slot c.in-Some.index k (record k { table = c.put.new.self }) (λ k. record k { table = f k.table }) c.in-Some.ensures.index c.in-Some.ensures.value c.index_mut-kept.ensures.value (ap (λ t. record k { table = t }) c.in_ok-put.ensures.ok) in
-    rw is (free-with_table c.self.inside.taken m c.args.slot f c.self.invariant.0, apart-with_table m c.args.slot f c.self.invariant.1, index-with_table m c.args.slot f c.self.inside.names c.self.invariant.2)
+    rw is (taken-with_table c.self.inside.taken m c.args.slot f c.self.invariant.0, apart-with_table m c.args.slot f c.self.invariant.1, index-with_table m c.args.slot f c.self.inside.names c.self.invariant.2)
 
 pub returns-clause-ok : goal.returns-clause-ok
 returns-clause-ok g c =
