@@ -1,12 +1,14 @@
-//! Calls of what holds instances, by the first word of a run.
+//! Calls of what holds instances and of what is under way, by the first word of a run.
 //!
 //! | Words | What is called | Module |
 //! |---|---|---|
 //! | `store FIRST` | a store whose first instance has this number | `store` |
 //! | `contexts` | the contexts at the boot | `contexts` |
 //! | `choices` | a chooser | `choices` |
+//! | `invocations` | what is under way: invocations, a running body, temporaries | `invocations` |
 use crate::choices::choices_answers;
 use crate::contexts::contexts_answers;
+use crate::invocations::invocations_answers;
 use crate::store::store_answers;
 use crate::words::number;
 use cdi_tests_player::{Played, Player, Scene};
@@ -18,6 +20,7 @@ fn answers(alloc: Global, words: &[&str], input: &str) -> Result<String, AllocEr
         ["store", first] => store_answers(alloc, number(first), input),
         ["contexts"] => contexts_answers(alloc, input),
         ["choices"] => choices_answers(alloc, input),
+        ["invocations"] => invocations_answers(alloc, input),
         _ => String::from_str(alloc, "no such run\n"),
     }
 }

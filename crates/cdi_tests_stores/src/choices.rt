@@ -1,7 +1,9 @@
-//! What a chooser answers, behind the word `choices`: it takes the candidate at the number of entries, counted round. Each line is a
-//! number of candidates and one of entries, and is answered by the place of the one that is chosen.
+//! What a chooser answers, behind the word `choices`: it takes the candidate at the number of entries, counted round. The lines are those
+//! of the module `lines`: a call is a number of candidates and one of entries, and is answered by the place of the one that is chosen.
 ghost use Rattle.std.specs.Prelude.{◌≡◌, ◌<◌, ◌%◌};
 
+use crate::lines::{Answering, answers_to_lines};
+use crate::words::number;
 use cdi_bodies::{Choice, Chooser};
 use std::alloc::{AllocError, Global};
 
@@ -18,19 +20,23 @@ fn push_choice(
     write!(text, "{chosen}")
 }
 
-fn push_line(text: &mut String, chooser: &Chooser, line: &str) -> Result<(), AllocError> {
-    let (count, entries) = line.split_once(' ').unwrap_or((line, ""));
-    let count = count.parse().unwrap_or(0);
-    push_choice(text, chooser, count, entries.parse().unwrap_or(0))
-}
-
-fn choice_lines(alloc: Global, chooser: &Chooser, input: &str) -> Result<String, AllocError> {
-    let mut text = String::new(alloc);
-    for line in input.lines() {
-        push_line(&mut text, chooser, line)?;
-        text.push('\n')?;
+impl Answering for Chooser {
+    fn answer(
+        &mut self,
+        _alloc: Global,
+        words: &[&str],
+        text: &mut String,
+    ) -> Result<(), AllocError> {
+        match words {
+            [count, entries] => push_choice(
+                text,
+                self,
+                number(count),
+                entries.parse().unwrap_or(0),
+            ),
+            _ => text.push_str("no such line"),
+        }
     }
-    Ok(text)
 }
 
 /// What the chooser answers to each line.
@@ -42,5 +48,5 @@ pub(crate) fn choices_answers(alloc: Global, input: &str) -> Result<String, Allo
             ensures { result ≡ entries % count }
         { (entries % u64::from(count)) as u32 },
     )?;
-    choice_lines(alloc, &Chooser::new(choice), input)
+    answers_to_lines(alloc, &mut Chooser::new(choice), input)
 }

@@ -1,6 +1,7 @@
-//! Calls of a store, behind the word `store` and the number of its first instance. Instances are told by their keys.
+//! Calls of a store, behind the word `store` and the number of its first instance. The lines are those of the module `lines`. Instances
+//! are told by their keys.
 //!
-//! | Line | What is called | Answer |
+//! | Call | What is called | Answer |
 //! |---|---|---|
 //! | `make BEAN OWNER` | makes an instance of a bean, with no fields | `Ok(..)` with its key, or `Err(..)` |
 //! | `free KEY` | takes the instance out of the store | `Ok(())` or `Err(Stale)` |
@@ -13,6 +14,7 @@
 //! | `length` | how many instances live | the number |
 //! | `state KEY` | the phase, the owner and the value of the instance | these, or `Err(Stale)` |
 //! | `dependents KEY` | the numbers of its dependents | `Ok(..)` or `Err(Stale)` |
+use crate::lines::{Answering, answers_to_lines};
 use crate::words::{key_of, number, owner_of};
 use cdi_base::{Fields, Value};
 use cdi_store::{ChangeError, Component, Instance, Key, MakeError, Owner, Stale, Store};
@@ -108,19 +110,20 @@ fn answer_joining(store: &mut Store, words: &[&str], text: &mut String) -> Resul
     }
 }
 
-/// Makes the call of a line, and adds what the store answers.
-fn answer_store(
-    alloc: Global,
-    store: &mut Store,
-    words: &[&str],
-    text: &mut String,
-) -> Result<(), AllocError> {
-    match words {
-        ["make", bean, owner] => {
-            let made = make(alloc, store, number(bean), owner_of(owner));
-            write!(text, "{made:?}")
+impl Answering for Store {
+    fn answer(
+        &mut self,
+        alloc: Global,
+        words: &[&str],
+        text: &mut String,
+    ) -> Result<(), AllocError> {
+        match words {
+            ["make", bean, owner] => {
+                let made = make(alloc, self, number(bean), owner_of(owner));
+                write!(text, "{made:?}")
+            }
+            _ => answer_joining(self, words, text),
         }
-        _ => answer_joining(store, words, text),
     }
 }
 
@@ -133,18 +136,8 @@ fn store_from(alloc: Global, first: u32) -> Store {
     }
 }
 
-fn store_lines(alloc: Global, store: &mut Store, input: &str) -> Result<String, AllocError> {
-    let mut text = String::new(alloc);
-    for line in input.lines() {
-        let words: Vec<&str> = line.split_whitespace().collect(alloc)?;
-        answer_store(alloc, store, words.as_slice(), &mut text)?;
-        text.push('\n')?;
-    }
-    Ok(text)
-}
-
 /// What a store with this first number answers to each line.
 pub(crate) fn store_answers(alloc: Global, first: u32, input: &str) -> Result<String, AllocError> {
     let mut store = store_from(alloc, first);
-    store_lines(alloc, &mut store, input)
+    answers_to_lines(alloc, &mut store, input)
 }

@@ -6,7 +6,7 @@
 //! | `tables` | chains, plans and observers | `cdi_tests_tables`: `asked` |
 //! | `ledger` | stories of instances, and what they break | `cdi_tests_player`: `stories` |
 //! | `jobs` | the engine, with bodies that no run of the program has | `cdi_tests_calls`: `report` |
-//! | `store`, `contexts`, `choices` | calls that no run of the program makes | `cdi_tests_stores`: `calls` |
+//! | `store`, `contexts`, `choices`, `invocations` | calls that no run of the program makes | `cdi_tests_stores`: `calls` |
 use crate::words::Program;
 use cdi_tests_calls::Calls;
 use cdi_tests_player::{Played, Player, Scene, Stories};
@@ -26,7 +26,9 @@ impl Player for Topics<'_> {
             ["tables", words @ ..] => Tables.play(alloc, words, scene),
             ["ledger"] => Stories.play(alloc, words, scene),
             ["jobs", ..] => Calls.play(alloc, words, scene),
-            ["store" | "contexts" | "choices", ..] => StoreCalls.play(alloc, words, scene),
+            ["store" | "contexts" | "choices" | "invocations", ..] => StoreCalls.play(
+                alloc, words, scene,
+            ),
             _ => self.program.play(alloc, words, scene),
         }
     }
