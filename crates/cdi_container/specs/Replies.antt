@@ -13,7 +13,7 @@ use Rattle.cdi_steps.specs.declared.task.Job.TheVariants as jobs
 
 -- a call is answered by its value
 abbrev pub has_value : Job → Bool
-has_value (jobs.Call call) = true
+has_value (jobs.Call request call) = true
 has_value _ = false
 
 abbrev pub given_reply : Bool → Given → Reply

@@ -1,20 +1,19 @@
 //! The container: it carries out commands, one after the other.
-ghost use Rattle.std.specs.Prelude.{◌≡◌, None, IsTrue, IfOk, OnErr, option_map};
+ghost use Rattle.std.specs.Prelude.{◌≡◌, None, IsTrue, IfOk, OnErr};
 ghost use Rattle.cdi_machine.specs.Commands.{task};
 ghost use Rattle.cdi_machine.specs.Container.{refusal as machine_refusal};
 ghost use Rattle.cdi_machine.specs.World.{at_begin};
 ghost use Rattle.cdi_run_tables.specs.Machine.{machine_tables};
 ghost use Rattle.cdi_runtime.specs.Standing.{IsServable, KnowsMethods};
 ghost use Rattle.cdi_steps.specs.Words.{command_of, outcome_of};
-ghost use Rattle.cdi_runtime.specs.Refusals.{in_request};
-ghost use Rattle.cdi_text.specs.Command.{is_served};
+ghost use Rattle.cdi_steps.specs.Known.{KnownJob};
 ghost use Rattle.cdi_container.specs.Standing as spec;
 ghost use Rattle.cdi_container.specs.States.{AnswersCommand, CarriesOut, after_refusal, machine_state};
 ghost use Rattle.cdi_base.specs.declared.reply.Reply.TheVariants.{Refused};
 
 use crate::asked::call_for;
 use crate::reply::{cause, has_value, reply_of};
-use cdi_base::{Cause, Command, Limits, Names, Refusal, Reply, Text};
+use cdi_base::{Cause, Command, Limits, Names, Refusal, Reply};
 use cdi_frames::run::run;
 use cdi_machine::Driver;
 use cdi_run_tables::RunTables;
@@ -58,6 +57,7 @@ impl<D: Driver> Model for Container<D> {
 
 /// Carries a job out, with a trace of its own. It is cut if memory runs out, and a driver that ends cuts it in the same way.
 fn carry_out<D: Driver>(runtime: &mut Runtime<D>, job: Job) -> Outcome
+    requires { KnownJob runtime.old.world job }
     ensures carries { CarriesOut
         (spec.tables_in runtime.old) (D.legal runtime.old.driver) (Unit {0})
         (task (command_of job)) (at_begin runtime.old.world) (outcome_of result) runtime.new.world }
@@ -78,7 +78,7 @@ fn carry_out<D: Driver>(runtime: &mut Runtime<D>, job: Job) -> Outcome
 }
 
 impl<D: Driver> Container<D> {
-    ghost use Rattle.cdi_container.specs.Commands.{IsCall, machine_command};
+    ghost use Rattle.cdi_container.specs.Commands.{IsCall, is_carried_out, machine_command};
 
     /// Starts a container (Jakarta CDI 4.0, *Container lifecycle events*). A start that is cut gives a container that has
     /// halted. The deployment has to be served, and the driver has to have a body for each of its methods, which gives only
@@ -147,30 +147,24 @@ impl<D: Driver> Container<D> {
         reply_of(valued, outcome)
     }
 
-    /// Why what a job asks for in a request, or in none, is refused, if it is.
-    fn refusal(&mut self, request: Option<&Text>, job: &Job) -> Option<Refusal>
+    /// Why what a job asks for is refused, if it is.
+    fn refusal(&mut self, job: &Job) -> Option<Refusal>
         ensures refusal { result ≡ machine_refusal
-            (spec.tables_of self.old) (machine_state (spec.state_of self.old))
-            (in_request (option_map (λ r. r.now) request.entry) (command_of job.now)) }
-        ensures alone { result ≡ None
-            → in_request (option_map (λ r. r.now) request.entry) (command_of job.now)
-            ≡ command_of job.now }
+            (spec.tables_of self.old) (machine_state (spec.state_of self.old)) (command_of job.now) }
         ensures kept { self.new ≡ self.old }
     {
-        self.runtime.refusal(self.halted.is_some(), request, job)
+        self.runtime.refusal(self.halted.is_some(), job)
     }
 
-    /// Carries a job out in a request, or in none, or refuses it.
-    fn ask(&mut self, request: Option<&Text>, job: Job) -> Reply
+    /// Carries a job out, or refuses it.
+    fn ask(&mut self, job: Job) -> Reply
         ensures answers { AnswersCommand
             (spec.tables_of self.old) (D.legal self.old.runtime.driver) (Unit {0})
-            (spec.state_of self.old)
-            (in_request (option_map (λ r. r.now) request.entry) (command_of job))
-            result (spec.state_of self.new) }
+            (spec.state_of self.old) (command_of job) result (spec.state_of self.new) }
         ensures same { spec.SameParts
             (D.legal self.old.runtime.driver) (D.legal self.new.runtime.driver) self.old self.new }
     {
-        match self.refusal(request, &job) {
+        match self.refusal(&job) {
             Some(refusal) => self.refuse(refusal),
             None => self.perform(job),
         }
@@ -178,12 +172,12 @@ impl<D: Driver> Container<D> {
 
     /// Carries a command out, or refuses it: the first refusal that holds, in the order of [`Refusal`]. A refused
     /// command leaves all as it was, but for the trace, which is empty. A command that is cut, for want of memory
-    /// too, is answered as halted with the cause, and every later one is refused. The command has to be one that is
-    /// served, as what [`read_command`](cdi_text::read_command) gives is.
+    /// too, is answered as halted with the cause, and every later one is refused. A read, a fired event and `live` aren't
+    /// carried out yet.
     ///
     /// The one error is [`AllocError`], if memory ran out before a call was carried out: nothing has changed then.
     pub fn command(&mut self, command: Command) -> Result<Reply, AllocError>
-        requires { IsTrue (is_served command) }
+        requires { IsTrue (is_carried_out command) }
         ensures answers { IfOk result (λ reply.
             AnswersCommand (spec.tables_of self.old) (D.legal self.old.runtime.driver) (Unit {0})
             (spec.state_of self.old) (machine_command (spec.names_of self.old) command)
@@ -210,11 +204,14 @@ impl<D: Driver> Container<D> {
                     args,
                 );
                 match call {
-                    Ok(call) => Ok(self.ask(request.as_ref(), Job::Call(call))),
+                    Ok(call) => Ok(self.ask(Job::Call { request, call })),
                     Err(_) => Err(AllocError),
                 }
             }
-            Command::Shutdown => Ok(self.ask(None, Job::Shutdown)),
+            Command::Begin { request, session } => Ok(self.ask(Job::Begin { request, session })),
+            Command::End { request } => Ok(self.ask(Job::End { request })),
+            Command::Invalidate { session } => Ok(self.ask(Job::Invalidate { session })),
+            Command::Shutdown => Ok(self.ask(Job::Shutdown)),
             _ => unreachable!(),
         }
     }

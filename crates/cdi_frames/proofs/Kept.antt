@@ -1,4 +1,4 @@
--- A way of a program writes nothing, and a destruction that gives anything has written an entry.
+-- A way of a program writes nothing, and a destruction that gives anything, or an event that ended, has written an entry.
 use Rattle.std.proofs.Common.{ℕ, zero, suc, ◌≡◌, ◌<◌, ◌≤◌, ◌++◌, ◌∙◌, length, length-append, refl, ap, arith, Option, Some, None}
 use Rattle.cdi_base.specs.declared.entry.Entry.TheVariants as entries
 use Rattle.cdi_store.specs.declared.instance.Instance.{Instance}
@@ -12,7 +12,10 @@ use Rattle.cdi_machine.specs.Runs as runs
 use Rattle.cdi_machine.specs.Runs.{Legal, Runs}
 use Rattle.cdi_machine.specs.Laws.{Goes}
 use Rattle.cdi_machine.proofs.Order.{Still, changed_still, goes, longer}
+use Rattle.cdi_steps.specs.Words.{class_of, qualifiers_of, task_of}
 use Rattle.cdi_steps.specs.Leads.{next_stop, after_steps, Comes}
+use Rattle.cdi_steps.specs.declared.task.Call.TheVariants as calls
+use Rattle.cdi_steps.specs.declared.task.ContainerEvent.{ContainerEvent}
 use Rattle.cdi_frames.specs.Stacks.{entries_left}
 
 still_self : (w : World) → Still w w
@@ -89,3 +92,11 @@ module _ (tables : Tables) (legal : Legal) where
 
   pub destroy_left : {n : ℕ} {v x : World} {g : machine.Given} → Runs tables legal ⊥ (definition.machine (machine.Destroy n)) v (runs.Ends (machine.Gave g)) x → entries_left x < entries_left v
   destroy_left {n = n} (Runs.sees r) = destroyed n _ r
+
+  -- so has an event that ended, whatever it came to
+  pub fire_left : (event : ContainerEvent) {v x : World} {c : machine.Completion machine.Given}
+      → Runs tables legal ⊥ (definition.machine (task_of (calls.Fire event))) v (runs.Ends c) x → entries_left x < entries_left v
+  fire_left event {v = v} (Runs.writes room r) =
+      let g = goes_left (goes tables legal ⊥ r) in
+      let a = longer v.trace (entries.Event (class_of event) (qualifiers_of event)) in
+      omega arith

@@ -7,10 +7,10 @@ use Rattle.cdi_machine.specs.Runs.{Legal, Runs}
 use Rattle.cdi_steps.specs.Words.{outcome_of}
 use Rattle.cdi_steps.specs.Meanings.{first, node}
 use Rattle.cdi_steps.specs.Leads.{Comes}
-use Rattle.cdi_steps.specs.Ranks.{rank, continuation_rank, frame_rank, gave_rank, back_rank, weight}
+use Rattle.cdi_steps.specs.Ranks.{rank, continuation_rank, frame_rank, thrown_rank, awaited_rank, gave_rank, back_rank, weight}
 use Rattle.cdi_steps.proofs.Ranks.{rank_below, frame_below, thrown_below, thrown_above}
 use Rattle.cdi_machine.proofs.Order.{Still, longer}
-use Rattle.cdi_frames.proofs.Kept.{comes_still, still_left, destroy_left}
+use Rattle.cdi_frames.proofs.Kept.{comes_still, still_left, destroy_left, fire_left}
 use Rattle.cdi_frames.specs.Hearing.{Written, Spent}
 use Rattle.cdi_base.specs.declared.entry.Entry.{Entry}
 use Rattle.cdi_base.specs.declared.reply.Cause.TheVariants as causes
@@ -84,33 +84,33 @@ rank_above (tasks.Continue a) = by a
 rank_above _ = omega arith
 
 top_below : (d : Pending) (k : Frame) → top_rank d k ≤ frame_rank k
-top_below (pendings.Does t) k = let a = gave_most t k in let b = thrown_below k in omega (arith, a, b)
+top_below (pendings.Does t) k = awaited_most t k
   where
-    call_most : (c : Call) (k : Frame) → gave_rank (tasks.Start c) k ≤ frame_rank k
+    call_most : (c : Call) (k : Frame) → awaited_rank (tasks.Start c) k ≤ frame_rank k
     call_most (calls.Destroy n) k = let a = thrown_above k in let b = thrown_below k in omega (arith, a, b)
-    call_most (calls.Obtain b) k = omega arith
-    call_most (calls.Create b owner) k = omega arith
-    call_most calls.Rest k = omega arith
-    call_most (calls.Body r) k = omega arith
-    call_most (calls.Acts r) k = omega arith
-    call_most (calls.Release n) k = omega arith
-    call_most (calls.Fire event) k = omega arith
-    call_most calls.Dismiss k = omega arith
-    call_most calls.Clear k = omega arith
+    call_most (calls.Obtain b) k = let b = thrown_below k in omega (arith, b)
+    call_most (calls.Create b owner) k = let b = thrown_below k in omega (arith, b)
+    call_most calls.Rest k = let b = thrown_below k in omega (arith, b)
+    call_most (calls.Body r) k = let b = thrown_below k in omega (arith, b)
+    call_most (calls.Acts r) k = let b = thrown_below k in omega (arith, b)
+    call_most (calls.Release n) k = let b = thrown_below k in omega (arith, b)
+    call_most (calls.Fire event) k = let a = thrown_above k in let b = thrown_below k in omega (arith, a, b)
+    call_most calls.Dismiss k = let b = thrown_below k in omega (arith, b)
+    call_most (calls.Clear c) k = let b = thrown_below k in omega (arith, b)
 
-    gave_most : (t : Task) (k : Frame) → gave_rank t k ≤ frame_rank k
-    gave_most (tasks.Start c) k = call_most c k
-    gave_most (tasks.Begin job) k = omega arith
-    gave_most (tasks.Using bean_call) k = omega arith
-    gave_most (tasks.Through call) k = omega arith
-    gave_most (tasks.Creating n b left) k = omega arith
-    gave_most (tasks.Continue a) k = omega arith
+    awaited_most : (t : Task) (k : Frame) → awaited_rank t k ≤ frame_rank k
+    awaited_most (tasks.Start c) k = call_most c k
+    awaited_most (tasks.Begin job) k = let b = thrown_below k in omega (arith, b)
+    awaited_most (tasks.Using bean_call) k = let b = thrown_below k in omega (arith, b)
+    awaited_most (tasks.Through call) k = let b = thrown_below k in omega (arith, b)
+    awaited_most (tasks.Creating n b left) k = let b = thrown_below k in omega (arith, b)
+    awaited_most (tasks.Continue a) k = let b = thrown_below k in omega (arith, b)
 top_below (pendings.Gives (outcomes.Cut cause)) k = let a = thrown_above k in let b = thrown_below k in omega (arith, a, b)
 top_below (pendings.Gives (outcomes.Ends (completions.Gave g))) k = omega arith
 top_below (pendings.Gives (outcomes.Ends (completions.Threw x))) k = thrown_below k
 top_below (pendings.Writes e a) k = let b = thrown_above k in let c = thrown_below k in omega (arith, b, c)
 
--- what goes on without an entry is no destruction
+-- what goes on without an entry is no destruction and no event
 same_top : (t : Task) → 1 < rank t → (k : Frame) → frame_rank k ≤ top_rank (pendings.Does t) k
 same_top (tasks.Start c) h k = by c h
   where
@@ -122,21 +122,64 @@ same_top (tasks.Start c) h k = by c h
     by (calls.Body r) h = omega arith
     by (calls.Acts r) h = omega arith
     by (calls.Release n) h = omega arith
-    by (calls.Fire event) h = omega arith
+    by (calls.Fire event) h = absurd (omega (arith, h))
     by calls.Dismiss h = omega arith
-    by calls.Clear h = omega arith
+    by (calls.Clear c) h = omega arith
 same_top (tasks.Begin job) h k = omega arith
 same_top (tasks.Using bean_call) h k = omega arith
 same_top (tasks.Through call) h k = omega arith
 same_top (tasks.Creating n b left) h k = omega arith
 same_top (tasks.Continue a) h k = omega arith
 
+awaited_above : (t : Task) (k : Frame) → 1 ≤ top_rank (pendings.Does t) k
+awaited_above t k = by t
+  where
+    call : (c : Call) → 1 ≤ top_rank (pendings.Does (tasks.Start c)) k
+    call (calls.Fire event) = omega arith
+    call (calls.Obtain b) = let a = thrown_above k in omega (arith, a)
+    call (calls.Create b owner) = let a = thrown_above k in omega (arith, a)
+    call calls.Rest = let a = thrown_above k in omega (arith, a)
+    call (calls.Body r) = let a = thrown_above k in omega (arith, a)
+    call (calls.Acts r) = let a = thrown_above k in omega (arith, a)
+    call (calls.Destroy n) = let a = thrown_above k in omega (arith, a)
+    call (calls.Release n) = let a = thrown_above k in omega (arith, a)
+    call calls.Dismiss = let a = thrown_above k in omega (arith, a)
+    call (calls.Clear c) = let a = thrown_above k in omega (arith, a)
+
+    by : (t : Task) → 1 ≤ top_rank (pendings.Does t) k
+    by (tasks.Start c) = call c
+    by (tasks.Begin job) = let a = thrown_above k in omega (arith, a)
+    by (tasks.Using bean_call) = let a = thrown_above k in omega (arith, a)
+    by (tasks.Through call) = let a = thrown_above k in omega (arith, a)
+    by (tasks.Creating n b left) = let a = thrown_above k in omega (arith, a)
+    by (tasks.Continue a) = let a = thrown_above k in omega (arith, a)
+
 module _ (tables : Tables) (legal : Legal) where
   -- what ended without an entry is gone on with at no greater rank
   ended_top : (t : Task) (o : Outcome) (w v : World) → Runs tables legal ⊥ (first t) w (outcome_of o) v → entries_left v ≡ entries_left w
       → (k : Frame) → top_rank (pendings.Gives o) k ≤ top_rank (pendings.Does t) k
-  ended_top t (outcomes.Cut cause) w v r e k = let a = thrown_above k in omega (arith, a)
-  ended_top t (outcomes.Ends (completions.Threw x)) w v r e k = omega arith
+  ended_top t (outcomes.Cut cause) w v r e k = awaited_above t k
+  ended_top t (outcomes.Ends (completions.Threw x)) w v r e k = by t r
+    where
+      call : (c : Call) → Runs tables legal ⊥ (first (tasks.Start c)) w (outcome_of (outcomes.Ends (completions.Threw x))) v → thrown_rank k ≤ top_rank (pendings.Does (tasks.Start c)) k
+      call (calls.Fire event) r = let l = fire_left tables legal event r in absurd (omega (arith, l, e))
+      call (calls.Obtain b) r = omega arith
+      call (calls.Create b owner) r = omega arith
+      call calls.Rest r = omega arith
+      call (calls.Body q) r = omega arith
+      call (calls.Acts q) r = omega arith
+      call (calls.Destroy n) r = omega arith
+      call (calls.Release n) r = omega arith
+      call calls.Dismiss r = omega arith
+      call (calls.Clear c) r = omega arith
+
+      by : (t : Task) → Runs tables legal ⊥ (first t) w (outcome_of (outcomes.Ends (completions.Threw x))) v → thrown_rank k ≤ top_rank (pendings.Does t) k
+      by (tasks.Start c) r = call c r
+      by (tasks.Begin job) r = omega arith
+      by (tasks.Using bean_call) r = omega arith
+      by (tasks.Through call) r = omega arith
+      by (tasks.Creating n b left) r = omega arith
+      by (tasks.Continue a) r = omega arith
   ended_top t (outcomes.Ends (completions.Gave g)) w v r e k = by t r
     where
       by : (t : Task) → Runs tables legal ⊥ (first t) w (outcome_of (outcomes.Ends (completions.Gave g))) v → frame_rank k ≤ top_rank (pendings.Does t) k
@@ -147,9 +190,9 @@ module _ (tables : Tables) (legal : Legal) where
       by (tasks.Start (calls.Body q)) r = omega arith
       by (tasks.Start (calls.Acts q)) r = omega arith
       by (tasks.Start (calls.Release n)) r = omega arith
-      by (tasks.Start (calls.Fire event)) r = omega arith
+      by (tasks.Start (calls.Fire event)) r = let l = fire_left tables legal event r in absurd (omega (arith, l, e))
       by (tasks.Start calls.Dismiss) r = omega arith
-      by (tasks.Start calls.Clear) r = omega arith
+      by (tasks.Start (calls.Clear c)) r = omega arith
       by (tasks.Begin job) r = omega arith
       by (tasks.Using bean_call) r = omega arith
       by (tasks.Through call) r = omega arith
@@ -158,7 +201,7 @@ module _ (tables : Tables) (legal : Legal) where
 
 -- an entry that is due puts all behind it off
 due_top : (t : Task) (k : Frame) → 1 ≤ top_rank (pendings.Does t) k
-due_top t k = let a = thrown_above k in omega (arith, a)
+due_top t k = awaited_above t k
 
 -- ---- what waits
 

@@ -5,6 +5,7 @@ use Rattle.cdi_base.specs.declared.value.Value.TheVariants as values
 use Rattle.cdi_base.specs.declared.place.InterceptorMethod.{InterceptorMethod}
 use Rattle.cdi_base.specs.declared.place.InterceptorMethod.TheVariants as roles
 use Rattle.cdi_base.specs.declared.reply.Cause.{Cause}
+use Rattle.cdi_store.specs.declared.instance.Context.{Context}
 use Rattle.cdi_machine.specs.Words.{Name}
 use Rattle.cdi_machine.specs.Tables.{Tables}
 use Rattle.cdi_machine.specs.Programs as machine
@@ -13,7 +14,9 @@ use Rattle.cdi_steps.specs.Words.{given_at_end}
 use Rattle.cdi_steps.specs.Meanings.{after}
 use Rattle.cdi_steps.specs.Leads.{Comes}
 use Rattle.cdi_steps.proofs.Ways.{ComesTo, WaitsTo}
+use Rattle.cdi_steps.specs.declared.task.AfterClose.{AfterClose}
 use Rattle.cdi_steps.specs.declared.task.Call.TheVariants as calls
+use Rattle.cdi_steps.specs.declared.task.Closing.{Closing}
 use Rattle.cdi_steps.specs.declared.task.Completion.{Completion}
 use Rattle.cdi_steps.specs.declared.task.Completion.TheVariants as completions
 use Rattle.cdi_steps.specs.declared.task.Given.{Given}
@@ -61,9 +64,9 @@ module _ (t : Tables) where
       → WaitsTo t frames.Dismissing (completions.Gave g) w (nexts.Goes (tasks.Start calls.Dismiss)) w
   dismissing_leads g w = Comes.same refl
 
-  pub clearing_leads : (g : Given) (w : World)
-      → WaitsTo t frames.Clearing (completions.Gave g) w (nexts.Goes (tasks.Start calls.Clear)) w
-  clearing_leads g w = Comes.same refl
+  pub clearing_leads : (context : Context) (g : Given) (w : World)
+      → WaitsTo t (frames.Clearing context) (completions.Gave g) w (nexts.Goes (tasks.Start (calls.Clear context))) w
+  clearing_leads context g w = Comes.same refl
 
   -- ---- commands
 
@@ -76,13 +79,9 @@ module _ (t : Tables) where
       → WaitsTo t (frames.Returning told) (completions.Threw x) w (nexts.Finished (outcomes.Ends (completions.Threw x))) (after_change Change.Return w)
   threw_at_return told x w = Comes.same refl
 
-  pub started_leads : (c : Completion) (w : World)
-      → WaitsTo t frames.Starting c w (nexts.Finished (outcomes.Ends (completions.Gave (givens.Result values.Null)))) w
-  started_leads c w = Comes.same refl
-
-  pub gone_down_leads : (c : Completion) (w : World)
-      → WaitsTo t frames.GoingDown c w (nexts.Finished (outcomes.Ends (completions.Gave (givens.Result values.Null)))) (after_change Change.Down w)
-  gone_down_leads c w = Comes.same refl
+  pub told_leads : (c : Completion) (w : World)
+      → WaitsTo t frames.Telling c w (nexts.Finished (outcomes.Ends (completions.Gave (givens.Result values.Null)))) w
+  told_leads c w = Comes.same refl
 
   -- these end with what was thrown
   pub threw_leads : (x : Name) (k : Frame) (w : World)
@@ -93,30 +92,32 @@ module _ (t : Tables) where
       → (k ≡ frames.Using → ⊥)
       → ((told : Box Completion) → k ≡ frames.Returning told → ⊥)
       → (k ≡ frames.Initializing → ⊥)
-      → (k ≡ frames.Starting → ⊥)
-      → (k ≡ frames.Closing → ⊥)
-      → (k ≡ frames.Finishing → ⊥)
-      → (k ≡ frames.GoingDown → ⊥)
+      → (k ≡ frames.Opening → ⊥)
+      → (k ≡ frames.Telling → ⊥)
+      → (k ≡ frames.ShuttingDown → ⊥)
+      → ((closing : Box Closing) → k ≡ frames.Finishing closing → ⊥)
+      → ((after : AfterClose) → k ≡ frames.Closed after → ⊥)
       → ((n b left : ℕ) (field : Name) → k ≡ frames.Injecting n b left field → ⊥)
       → WaitsTo t k (completions.Threw x) w (nexts.Finished (outcomes.Ends (completions.Threw x))) w
-  threw_leads x (frames.AtEnd role) w h1 h2 h3 h4 h5 h6 h7 h8 h9 h10 h11 h12 = Comes.same refl
-  threw_leads x (frames.Releasing n) w h1 h2 h3 h4 h5 h6 h7 h8 h9 h10 h11 h12 = Comes.same refl
-  threw_leads x (frames.Freeing n) w h1 h2 h3 h4 h5 h6 h7 h8 h9 h10 h11 h12 = Comes.same refl
-  threw_leads x frames.Dismissing w h1 h2 h3 h4 h5 h6 h7 h8 h9 h10 h11 h12 = Comes.same refl
-  threw_leads x frames.Clearing w h1 h2 h3 h4 h5 h6 h7 h8 h9 h10 h11 h12 = Comes.same refl
-  threw_leads x (frames.Reaching method args) w h1 h2 h3 h4 h5 h6 h7 h8 h9 h10 h11 h12 = Comes.same refl
-  threw_leads x (frames.Borrowing method args) w h1 h2 h3 h4 h5 h6 h7 h8 h9 h10 h11 h12 = Comes.same refl
-  threw_leads x frames.Emptying w h1 h2 h3 h4 h5 h6 h7 h8 h9 h10 h11 h12 = Comes.same refl
-  threw_leads x (frames.Discarding n y) w h1 h2 h3 h4 h5 h6 h7 h8 h9 h10 h11 h12 = Comes.same refl
-  threw_leads x (frames.Injecting n b left field) w h1 h2 h3 h4 h5 h6 h7 h8 h9 h10 h11 h12 = absurd (h12 n b left field refl)
-  threw_leads x frames.Stopping w h1 h2 h3 h4 h5 h6 h7 h8 h9 h10 h11 h12 = absurd (h1 refl)
-  threw_leads x (frames.Answering r) w h1 h2 h3 h4 h5 h6 h7 h8 h9 h10 h11 h12 = absurd (h2 r refl)
-  threw_leads x (frames.CleaningUp n) w h1 h2 h3 h4 h5 h6 h7 h8 h9 h10 h11 h12 = absurd (h3 n refl)
-  threw_leads x frames.Exiting w h1 h2 h3 h4 h5 h6 h7 h8 h9 h10 h11 h12 = absurd (h4 refl)
-  threw_leads x frames.Using w h1 h2 h3 h4 h5 h6 h7 h8 h9 h10 h11 h12 = absurd (h5 refl)
-  threw_leads x (frames.Returning told) w h1 h2 h3 h4 h5 h6 h7 h8 h9 h10 h11 h12 = absurd (h6 told refl)
-  threw_leads x frames.Initializing w h1 h2 h3 h4 h5 h6 h7 h8 h9 h10 h11 h12 = absurd (h7 refl)
-  threw_leads x frames.Starting w h1 h2 h3 h4 h5 h6 h7 h8 h9 h10 h11 h12 = absurd (h8 refl)
-  threw_leads x frames.Closing w h1 h2 h3 h4 h5 h6 h7 h8 h9 h10 h11 h12 = absurd (h9 refl)
-  threw_leads x frames.Finishing w h1 h2 h3 h4 h5 h6 h7 h8 h9 h10 h11 h12 = absurd (h10 refl)
-  threw_leads x frames.GoingDown w h1 h2 h3 h4 h5 h6 h7 h8 h9 h10 h11 h12 = absurd (h11 refl)
+  threw_leads x (frames.AtEnd role) w h1 h2 h3 h4 h5 h6 h7 h8 h9 h10 h11 h12 h13 = Comes.same refl
+  threw_leads x (frames.Releasing n) w h1 h2 h3 h4 h5 h6 h7 h8 h9 h10 h11 h12 h13 = Comes.same refl
+  threw_leads x (frames.Freeing n) w h1 h2 h3 h4 h5 h6 h7 h8 h9 h10 h11 h12 h13 = Comes.same refl
+  threw_leads x frames.Dismissing w h1 h2 h3 h4 h5 h6 h7 h8 h9 h10 h11 h12 h13 = Comes.same refl
+  threw_leads x (frames.Clearing context) w h1 h2 h3 h4 h5 h6 h7 h8 h9 h10 h11 h12 h13 = Comes.same refl
+  threw_leads x (frames.Reaching method args) w h1 h2 h3 h4 h5 h6 h7 h8 h9 h10 h11 h12 h13 = Comes.same refl
+  threw_leads x (frames.Borrowing method args) w h1 h2 h3 h4 h5 h6 h7 h8 h9 h10 h11 h12 h13 = Comes.same refl
+  threw_leads x (frames.Emptying closing) w h1 h2 h3 h4 h5 h6 h7 h8 h9 h10 h11 h12 h13 = Comes.same refl
+  threw_leads x (frames.Discarding n y) w h1 h2 h3 h4 h5 h6 h7 h8 h9 h10 h11 h12 h13 = Comes.same refl
+  threw_leads x frames.Stopping w h1 h2 h3 h4 h5 h6 h7 h8 h9 h10 h11 h12 h13 = absurd (h1 refl)
+  threw_leads x (frames.Answering r) w h1 h2 h3 h4 h5 h6 h7 h8 h9 h10 h11 h12 h13 = absurd (h2 r refl)
+  threw_leads x (frames.CleaningUp n) w h1 h2 h3 h4 h5 h6 h7 h8 h9 h10 h11 h12 h13 = absurd (h3 n refl)
+  threw_leads x frames.Exiting w h1 h2 h3 h4 h5 h6 h7 h8 h9 h10 h11 h12 h13 = absurd (h4 refl)
+  threw_leads x frames.Using w h1 h2 h3 h4 h5 h6 h7 h8 h9 h10 h11 h12 h13 = absurd (h5 refl)
+  threw_leads x (frames.Returning told) w h1 h2 h3 h4 h5 h6 h7 h8 h9 h10 h11 h12 h13 = absurd (h6 told refl)
+  threw_leads x frames.Initializing w h1 h2 h3 h4 h5 h6 h7 h8 h9 h10 h11 h12 h13 = absurd (h7 refl)
+  threw_leads x frames.Opening w h1 h2 h3 h4 h5 h6 h7 h8 h9 h10 h11 h12 h13 = absurd (h8 refl)
+  threw_leads x frames.Telling w h1 h2 h3 h4 h5 h6 h7 h8 h9 h10 h11 h12 h13 = absurd (h9 refl)
+  threw_leads x frames.ShuttingDown w h1 h2 h3 h4 h5 h6 h7 h8 h9 h10 h11 h12 h13 = absurd (h10 refl)
+  threw_leads x (frames.Finishing closing) w h1 h2 h3 h4 h5 h6 h7 h8 h9 h10 h11 h12 h13 = absurd (h11 closing refl)
+  threw_leads x (frames.Closed after) w h1 h2 h3 h4 h5 h6 h7 h8 h9 h10 h11 h12 h13 = absurd (h12 after refl)
+  threw_leads x (frames.Injecting n b left field) w h1 h2 h3 h4 h5 h6 h7 h8 h9 h10 h11 h12 h13 = absurd (h13 n b left field refl)

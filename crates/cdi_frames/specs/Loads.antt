@@ -1,7 +1,7 @@
 -- What each step of a stack lowers: the entries that are left, and then what waits and what is next, by ranks.
-use Rattle.std.specs.Prelude.{ℕ, zero, suc, ◌+◌, ◌*◌, ◌^◌, ◌<◌, max, List, [], ◌∷◌}
+use Rattle.std.specs.Prelude.{ℕ, zero, suc, ◌+◌, ◌*◌, ◌^◌, ◌<◌, List, [], ◌∷◌}
 use Rattle.cdi_machine.specs.World.{World}
-use Rattle.cdi_steps.specs.Ranks.{rank, frame_rank, thrown_rank, gave_rank, back_rank}
+use Rattle.cdi_steps.specs.Ranks.{rank, frame_rank, awaited_rank, back_rank}
 use Rattle.cdi_frames.specs.Stacks.{entries_left}
 use Rattle.cdi_steps.specs.declared.task.Frame.{Frame}
 use Rattle.cdi_frames.specs.declared.stack.Pending.{Pending}
@@ -21,7 +21,7 @@ greatest_mass = mass (2 ^ 40)
 
 -- the rank at which the innermost frame goes on: behind an entry, all is counted anew
 abbrev pub top_rank : Pending → Frame → ℕ
-top_rank (pendings.Does t) k = max (gave_rank t k) (thrown_rank k)
+top_rank (pendings.Does t) k = awaited_rank t k
 top_rank (pendings.Gives o) k = back_rank k o
 top_rank (pendings.Writes e a) k = 1
 

@@ -1,7 +1,6 @@
 -- What is asked of the tables and of the world, as the definition has it.
 use Rattle.std.specs.Prelude.{ℕ, ◌^◌, ◌<◌, List, [], ◌∷◌, ◌≡◌, ◌-◌, length, drop, Bool, true, false, Option, Some, None, nat_lt, option_map, option_and_then}
 use Rattle.cdi_base.specs.declared.scope.Scope.{Scope}
-use Rattle.cdi_base.specs.declared.scope.Scope.TheVariants as scopes
 use Rattle.cdi_base.specs.declared.uses.Use.{Use}
 use Rattle.cdi_base.specs.Fields.{has}
 use Rattle.cdi_base.specs.Maps.{at}
@@ -43,19 +42,13 @@ machine_resolution Many = machine.Resolution.Many
 abbrev pub head_of : Bean → BeanHead
 head_of bean = record { place = bean.place; scope = bean.scope }
 
-abbrev pub is_served_scope : Scope → Bool
-is_served_scope scopes.ApplicationScoped = true
-is_served_scope scopes.Dependent = true
-is_served_scope _ = false
-
 abbrev pub no_lifecycle : Lifecycle
 no_lifecycle = record { chain = []; callbacks = [] }
 
--- a managed bean of one of these scopes, whose destruction calls nothing
+-- a managed bean whose destruction calls nothing
 pub record IsServedBean (bean : Bean) : Type 0 where
   pub class : Managed
   pub is_class : bean.kind ≡ Kind.Class class
-  pub scope : is_served_scope bean.scope ≡ true
   pub pre_destroy : class.pre_destroy ≡ no_lifecycle
 
 -- the fields of a new instance

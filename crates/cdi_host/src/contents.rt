@@ -1,21 +1,24 @@
 //! What a container holds, as the engine asks and changes it.
-use cdi_base::{Entry, Fields, Name, Scope, Seq, Value};
+use cdi_base::{Entry, Fields, Name, Scope, Seq, Text, Value};
 use cdi_contexts::{Held, Status};
-use cdi_stacks::Invocation;
-use cdi_store::{Component, Instance, Owner, Reference};
+use cdi_stacks::{Invocation, Stack};
+use cdi_store::{Component, Context, Instance, Owner, Reference};
 use std::alloc::{AllocError, Global};
 
 /// What a container holds: its instances and contexts, and what is under way in the running command. Each change is one of the
 /// definition.
 pub trait Contents {
-    ghost use Rattle.std.specs.Prelude.{◌≡◌, ◌<◌, ◌^◌, ◌↔◌, [], length, option_map, OnOk, OnErr, IsTrue};
-    ghost use Rattle.cdi_store.specs.declared.instance.Context.TheVariants.{Application};
-    ghost use Rattle.cdi_contexts.specs.Contexts.{context_at};
-    ghost use Rattle.cdi_machine.specs.World.{World, after_change, with_entry, instance_at, no_environment};
-    ghost use Rattle.cdi_machine.specs.World.Change.{Make, Settle, Refer, Discard, Leave, Remove, Assign, Finish, Close, Stand, Enter, Provide, Replace, Keep, Hold, Reach, Exit, Start, Stop, Borrow, Return, Down};
+    ghost use Rattle.std.specs.Prelude.{◌≡◌, ◌<◌, ◌^◌, ◌↔◌, None, Some, length, option_map, IfOk, IsErr, IsSome, OnOk, OnErr, IsTrue};
+    ghost use Rattle.std.specs.Option.{option_copied};
+    ghost use Rattle.cdi_contexts.specs.Contexts.{context_at, context_of};
+    ghost use Rattle.cdi_contexts.specs.Refusals.{begin_refusal, opens_session};
+    ghost use Rattle.cdi_machine.specs.World.{World, after_change, with_entry, instance_at};
+    ghost use Rattle.cdi_machine.specs.World.Change.{Make, Settle, Refer, Discard, Leave, Remove, Assign, Mark, Finish, Close, Enter, Provide, Replace, Keep, Hold, Reach, Exit, Start, Stop, Borrow, Return, Down};
+    ghost use Rattle.cdi_machine.specs.Commands.{is_used, requests_of, sessions_of};
     ghost use Rattle.cdi_machine.specs.Destruction.{greatest_in};
     ghost use Rattle.cdi_store.specs.Owned.{dependents_in};
     ghost use Rattle.cdi_host.specs.Asked.{status_in, held_in, number_left, latest_in, top_of};
+    ghost use Rattle.cdi_host.specs.Standing.{due_session, standing_in, standing_in_session, with_request_begun};
 
     /// The world of the definition.
     ghost world: { Self → World };
@@ -56,9 +59,31 @@ pub trait Contents {
     fn held(&self, scope: Scope, bean: u32) -> Option<Held>
         ensures { held_in (world self.now) scope bean ≡ result };
 
-    /// The greatest number that the application context has.
-    fn last_in_application(&self) -> Option<u32>
-        ensures { greatest_in (context_at (world self.now).contexts Application) ≡ result };
+    /// The context of a scope in the environment of the command, if it has one; the application is in every environment. Memory
+    /// can be wanting for the name of a request or a session.
+    fn context(&self, scope: Scope) -> Result<Option<Context>, AllocError>
+        ensures { IfOk result (λ context. context_of (world self.now).environment scope ≡ context) };
+
+    /// The greatest number of an instance that a context has.
+    fn last_in(&self, context: &Context) -> Option<u32>
+        ensures { greatest_in (context_at (world self.now).contexts context.now) ≡ result };
+
+    /// The session of the command's environment, if it ends: it is marked, and no request that is there belongs to it. Memory can be
+    /// wanting for its name.
+    fn due_session(&self) -> Result<Option<Context>, AllocError>
+        ensures { IfOk result (λ session. due_session (world self.now) ≡ session) };
+
+    /// Whether a request that is there belongs to a session.
+    fn is_used(&self, session: &Text) -> bool
+        ensures { result ≡ is_used (world self.now).contexts session.now };
+
+    /// The names of the requests that are there, in the order of their begin. Memory can be wanting.
+    fn requests(&self) -> Result<Stack<Text>, AllocError>
+        ensures { IfOk result (λ names. names ≡ requests_of (world self.now).contexts) };
+
+    /// The names of the sessions that are there, in the order of their creation. Memory can be wanting.
+    fn sessions(&self) -> Result<Stack<Text>, AllocError>
+        ensures { IfOk result (λ names. names ≡ sessions_of (world self.now).contexts) };
 
     /// The innermost invocation, if one is under way.
     fn invocation(&self) -> Option<&Invocation>
@@ -67,11 +92,6 @@ pub trait Contents {
     /// The latest of the innermost temporaries, if there are temporaries, and if one is there.
     fn latest_temporary(&self) -> Option<Option<u32>>
         ensures { latest_in (world self.now) ≡ result };
-
-    /// No request and no session is there.
-    fn law_alone(&self)
-        ensures requests { (world self.now).contexts.requests ≡ [] }
-        ensures sessions { (world self.now).contexts.sessions ≡ [] };
 
     // ---- the world, changed
 
@@ -117,17 +137,38 @@ pub trait Contents {
     fn assign(&mut self, number: u32, field: Name, value: Value)
         ensures { world self.new ≡ after_change (Assign number field value) (world self.old) };
 
-    /// The application context is being destroyed.
-    fn finish_application(&mut self)
-        ensures { world self.new ≡ after_change (Finish Application) (world self.old) };
+    /// A request begins that isn't refused, in its session if it names one, and the command runs in them. A session that isn't there
+    /// begins with it; whether it does is told. Memory can be wanting; on an error nothing changes.
+    fn begin_request(&mut self, request: Text, session: Option<Text>) -> Result<bool, AllocError>
+        requires { begin_refusal (world self.old).contexts request session ≡ None }
+        ensures begun { OnOk result (world self.new
+            ≡ standing_in (Some request) (with_request_begun request session (world self.old))) }
+        ensures opens { IfOk result (λ opens. opens
+            ≡ opens_session (world self.old).contexts session) }
+        ensures err { OnErr result (world self.new ≡ world self.old) };
 
-    /// The application context is gone.
-    fn close_application(&mut self)
-        ensures { world self.new ≡ after_change (Close Application) (world self.old) };
+    /// A session is marked: it ends with its last request.
+    fn mark(&mut self, session: &Text)
+        ensures { world self.new ≡ after_change (Mark session.now) (world self.old) };
 
-    /// The command runs in no request and no session.
-    fn stand_alone(&mut self)
-        ensures { world self.new ≡ after_change (Stand no_environment) (world self.old) };
+    /// A context is being destroyed.
+    fn finish(&mut self, context: &Context)
+        ensures { world self.new ≡ after_change (Finish context.now) (world self.old) };
+
+    /// A context is gone.
+    fn close(&mut self, context: &Context)
+        ensures { world self.new ≡ after_change (Close context.now) (world self.old) };
+
+    /// The command runs in a request and its session, or in none. Memory can be wanting for the name of the session; on an
+    /// error nothing changes.
+    fn stand_in(&mut self, request: Option<Text>) -> Result<(), AllocError>
+        ensures ok { OnOk result (world self.new ≡ standing_in request (world self.old)) }
+        ensures err { OnErr result (world self.new ≡ world self.old) }
+        ensures memory { IsErr result → IsSome request };
+
+    /// The command runs in a session alone.
+    fn stand_in_session(&mut self, session: Text)
+        ensures { world self.new ≡ standing_in_session session (world self.old) };
 
     /// An invocation begins. Memory can be wanting; on an error nothing changes.
     fn enter(&mut self, invocation: Invocation) -> Result<(), AllocError>

@@ -5,8 +5,6 @@ use Rattle.cdi_base.specs.BuiltIn.{number_of}
 use Rattle.cdi_base.specs.declared.act.Via.{Via}
 use Rattle.cdi_base.specs.declared.act.Via.TheVariants as vias
 use Rattle.cdi_base.specs.declared.built_in.BuiltIn.TheVariants as built_in
-use Rattle.cdi_base.specs.declared.scope.Scope.{Scope}
-use Rattle.cdi_base.specs.declared.scope.Scope.TheVariants as scopes
 use Rattle.cdi_bodies.specs.declared.shape.Shape.{Shape}
 use Rattle.cdi_deployment.specs.declared.deployment.Deployment.{Deployment}
 use Rattle.cdi_plans.specs.declared.plan.Plan.{Plan}
@@ -16,11 +14,6 @@ use Rattle.cdi_plans.specs.declared.plan.Step.TheVariants as steps
 use Rattle.cdi_run_tables.specs.Machine.{has_none, is_idle, does_something}
 use Rattle.cdi_run_tables.specs.declared.planned.PlannedBean.{PlannedBean}
 use Rattle.cdi_run_tables.specs.declared.tables.RunTables.{RunTables}
-
-abbrev pub is_served_scope : Scope → Bool
-is_served_scope scopes.ApplicationScoped = true
-is_served_scope scopes.Dependent = true
-is_served_scope scope = false
 
 -- a field is injected, or nothing runs
 abbrev pub is_served_step : Step → Bool
@@ -35,7 +28,7 @@ is_served_plan (plans.Managed p) =
 is_served_plan (plans.Product p) = false
 
 abbrev pub is_served_bean : PlannedBean → Bool
-is_served_bean b = is_served_scope b.scope && is_served_plan b.plan
+is_served_bean b = is_served_plan b.plan
 
 abbrev pub has_text : List (List ℕ) → ℕ → Bool
 has_text names name = is_some (slice_get names name)

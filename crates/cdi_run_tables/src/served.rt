@@ -8,7 +8,7 @@ ghost use Rattle.cdi_run_tables.specs.Served as spec;
 
 use crate::planned::PlannedBean;
 use crate::tables::RunTables;
-use cdi_base::{BuiltIn, Name, Names, Scope, Seq, Via};
+use cdi_base::{BuiltIn, Name, Names, Seq, Via};
 use cdi_bodies::{Bodies, MethodCall, Shape};
 use cdi_body_check::shape_of;
 use cdi_deployment::{Deployment, Exception};
@@ -66,7 +66,7 @@ fn is_served_plan(plan: &Plan) -> bool
 fn is_served_bean(bean: &PlannedBean) -> bool
     ensures { result ≡ spec.is_served_bean bean.now }
 {
-    matches!(bean.scope, Scope::ApplicationScoped | Scope::Dependent) && is_served_plan(&bean.plan)
+    is_served_plan(&bean.plan)
 }
 
 fn are_served_beans(beans: &[PlannedBean]) -> bool

@@ -154,13 +154,6 @@ impl RunTables {
         told
     }
 
-    /// The text of a name.
-    pub fn text(&self, name: Name) -> Option<&str>
-        ensures { slice_get self.now.deployment.names name ≡ option_map (λ t. t.now) result }
-    {
-        self.parts.deployment.names.get(name)
-    }
-
     /// Whether a type and uses of qualifiers are known, with the members that these give.
     pub fn is_known(&self, ty: Name, uses: &[Use]) -> bool
         ensures { result ≡ spec.is_known self.now.deployment ty uses.now }

@@ -24,7 +24,7 @@ use Rattle.cdi_event_tables.specs.Events.{Group, groups_of, hears}
 use Rattle.cdi_run_tables.specs.Machine.{asked_by, bean_at, bean_with, does_something, has_none, id_of, is_idle, machine_code, machine_lifecycle, machine_managed, machine_method, machine_methods, machine_observer, machine_step, machine_steps, machine_tables, method_of, method_with, observers_of, resolution_of, without_chain}
 use Rattle.cdi_run_tables.specs.Managed as managed
 use Rattle.cdi_run_tables.specs.Managed.{injected, injections_of, managed_plan}
-use Rattle.cdi_run_tables.specs.Served.{has_texts, is_served, is_served_bean, is_served_plan, is_served_scope, is_served_step}
+use Rattle.cdi_run_tables.specs.Served.{has_texts, is_served, is_served_bean, is_served_plan, is_served_step}
 use Rattle.cdi_run_tables.specs.Sizes.{has_few_injections, is_small}
 use Rattle.cdi_run_tables.specs.declared.planned.PlannedBean.{PlannedBean}
 use Rattle.cdi_run_tables.specs.declared.tables.RunTables.{RunTables}
@@ -43,13 +43,12 @@ none_is (x ∷ xs) e = absurd (true≢false (sym e))
 pub record ServedPlan (b : PlannedBean) : Type 0 where
   pub plan : ManagedPlan
   pub is : b.plan ≡ plans.Managed plan
-  pub scope : is_served_scope b.scope ≡ true
   pub served : list_all is_served_step plan.steps ≡ true
   pub unchained : list_all (λ (m : BusinessMethod). has_none m.chain) plan.methods ≡ true
   pub idle : is_idle plan.pre_destroy ≡ true
 
 served_plan : (b : PlannedBean) → is_served_bean b ≡ true → ServedPlan b
-served_plan b h = by b.plan refl (and_parts (is_served_scope b.scope) (is_served_plan b.plan) h).1
+served_plan b h = by b.plan refl h
   where
     by : (plan : Plan) → b.plan ≡ plan → is_served_plan plan ≡ true → ServedPlan b
     by (plans.Product p) e k = absurd (true≢false (sym k))
@@ -58,7 +57,7 @@ served_plan b h = by b.plan refl (and_parts (is_served_scope b.scope) (is_served
         let free = list_all (λ (m : BusinessMethod). has_none m.chain) p.methods in
         let two = and_parts (some && free) (is_idle p.pre_destroy) k in
         let one = and_parts some free two.0 in
-        record { plan = p; is = e; scope = (and_parts (is_served_scope b.scope) (is_served_plan b.plan) h).0; served = one.0; unchained = one.1; idle = two.1 }
+        record { plan = p; is = e; served = one.0; unchained = one.1; idle = two.1 }
 
 -- the head of a bean, and the injected fields as steps
 abbrev pub head : PlannedBean → BeanHead
@@ -160,9 +159,6 @@ module _ (t : RunTables) (served : is_served t ≡ true) where
   pub head_at : (n : ℕ) → option_map head_of (bean_at t n) ≡ option_map head (slice_get t.beans n)
   head_at n = at_index (λ x y z. option_map head_of y ≡ option_map head x) n refl (λ b s. refl)
 
-  scope_as : (b : PlannedBean) (s : ServedPlan b) → host.is_served_scope b.scope ≡ true
-  scope_as b s = s.scope
-
   silent : (b : PlannedBean) (s : ServedPlan b) → machine_lifecycle (id_of t) s.plan.pre_destroy ≡ no_lifecycle
   silent b s =
       let idle = and_parts (has_none s.plan.pre_destroy.chain) (has_none s.plan.pre_destroy.callbacks) s.idle in
@@ -173,7 +169,7 @@ module _ (t : RunTables) (served : is_served t ≡ true) where
   pub served_bean_at : (n : ℕ) → IfSome (bean_at t n) IsServedBean
   served_bean_at n =
       at_index (λ x y z. IfSome y IsServedBean) n tt
-      (λ b s. record { class = machine_managed (id_of t) s.plan; is_class = refl; scope = scope_as b s; pre_destroy = silent b s })
+      (λ b s. record { class = machine_managed (id_of t) s.plan; is_class = refl; pre_destroy = silent b s })
 
   pub fields_at : (n : ℕ) → fields_of (bean_at t n) ≡ managed.fields_of (managed_at n)
   fields_at n = at_index (λ x y z. fields_of y ≡ managed.fields_of z) n refl (λ b s. refl)

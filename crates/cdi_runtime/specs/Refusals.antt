@@ -3,10 +3,11 @@ use Rattle.std.specs.Prelude.{ℕ, List, [], ◌∷◌, Option, Some, None, if�
 use Rattle.cdi_base.specs.declared.reply.Refusal.{Refusal}
 use Rattle.cdi_base.specs.declared.reply.Refusal.TheVariants as refusals
 use Rattle.cdi_base.specs.declared.uses.Use.{Use}
+use Rattle.cdi_contexts.specs.Contexts.{Contexts}
 use Rattle.cdi_contexts.specs.Refusals.{first_that_holds}
 use Rattle.cdi_machine.specs.Tables.{Method}
 use Rattle.cdi_machine.specs.Commands.{Command}
-use Rattle.cdi_machine.specs.Container.{no_method, wrong_count}
+use Rattle.cdi_machine.specs.Container.{no_method, refused_by_contexts, wrong_count}
 use Rattle.cdi_resolve.specs.declared.resolution.Resolution.{Resolution}
 use Rattle.cdi_resolve.specs.declared.resolution.Resolution.TheVariants.{One}
 use Rattle.cdi_run_tables.specs.Machine.{is_known, method_of, resolution_of}
@@ -34,7 +35,11 @@ call_refusal t type uses name count =
     if is_known t.deployment type uses then bean_refusal t (resolution_of t type uses) name count
     else Some refusals.UnknownName
 
--- the command, if a call is made in a request or in none
-abbrev pub in_request : Option (List ℕ) → Command → Command
-in_request request (Command.Call _ asked method args) = Command.Call request asked method args
-in_request request c = c
+-- what the contexts refuse first
+abbrev pub contexts_refusal : Contexts → Command → Option Refusal
+contexts_refusal contexts c = first_that_holds (refused_by_contexts contexts c)
+
+-- the tables are asked behind that
+abbrev pub otherwise : Option Refusal → Option Refusal → Option Refusal
+otherwise None behind = behind
+otherwise (Some refusal) behind = Some refusal

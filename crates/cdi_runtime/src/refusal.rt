@@ -1,20 +1,22 @@
 //! Which commands are refused.
-ghost use Rattle.std.specs.Prelude.{◌≡◌, length, option_map, None};
+ghost use Rattle.std.specs.Prelude.{◌≡◌, None, length, option_map};
+ghost use Rattle.std.specs.Option.{option_copied};
 ghost use Rattle.cdi_contexts.specs.Refusals.{first_that_holds};
 ghost use Rattle.cdi_machine.specs.Container as machine;
 ghost use Rattle.cdi_run_tables.specs.Machine.{machine_tables};
+ghost use Rattle.cdi_steps.specs.Known.{KnownJob};
 ghost use Rattle.cdi_steps.specs.Words.{command_of};
 ghost use Rattle.cdi_runtime.specs.Standing.{IsServable};
-ghost use Rattle.cdi_runtime.specs.Refusals.{bean_refusal, call_refusal, in_request, method_refusal, with_no_chain};
+ghost use Rattle.cdi_runtime.specs.Refusals.{bean_refusal, call_refusal, contexts_refusal, method_refusal, with_no_chain};
 
 use crate::runtime::Runtime;
 use crate::served_tables::ServedTables;
 use cdi_base::{Name, Refusal, Text};
-use cdi_host::Contents;
 use cdi_machine::Driver;
 use cdi_resolve::Resolution;
 use cdi_run_tables::{Method, RunTables};
 use cdi_steps::{BeanCall, Job};
+use cdi_world::World;
 use std::alloc::Global;
 
 /// Why a method that was looked for can't be called with so many values.
@@ -68,16 +70,42 @@ fn refuses_call(alloc: Global, tables: &mut ServedTables, call: &BeanCall) -> Op
     )
 }
 
+/// Why what a command asks for is refused by the contexts, if it is: a request or a session that isn't there, or can't begin.
+fn refuses_in_contexts(world: &World, job: &Job) -> Option<Refusal>
+    ensures { result ≡ contexts_refusal world.now.contexts (command_of job.now) }
+{
+    match job {
+        Job::Boot | Job::Shutdown => None,
+        Job::Begin { request, session } => {
+            world.refuses_begin(request.as_str(), text_of(session.as_ref()))
+        }
+        Job::End { request } => world.refuses_in(Some(request.as_str())),
+        Job::Invalidate { session } => world.refuses_invalidate(session.as_str()),
+        Job::Call {
+            request,
+            call: _call,
+        } => world.refuses_in(text_of(request.as_ref())),
+    }
+}
+
+/// A name, if there is one.
+fn text_of(name: Option<&Text>) -> Option<&str>
+    ensures { option_copied result ≡ option_copied name.entry }
+{
+    match name {
+        Some(name) => Some(name.as_str()),
+        None => None,
+    }
+}
+
 impl<D: Driver> Runtime<D> {
     /// Why what a command asks for is refused, if it is: the first refusal that holds, in the order of [`Refusal`]. A
-    /// container that has halted or is down refuses all, none is ever busy, and no request is ever open.
-    pub fn refusal(&mut self, halted: bool, request: Option<&Text>, job: &Job) -> Option<Refusal>
+    /// container that has halted or is down refuses all, and none is ever busy. What isn't refused can be carried out. Nothing
+    /// changes.
+    pub fn refusal(&mut self, halted: bool, job: &Job) -> Option<Refusal>
         ensures refusal { result ≡ machine.refusal (machine_tables self.old.tables)
-            (machine.idle_state self.old.world halted)
-            (in_request (option_map (λ r. r.now) request.entry) (command_of job.now)) }
-        ensures alone { result ≡ None
-            → in_request (option_map (λ r. r.now) request.entry) (command_of job.now)
-            ≡ command_of job.now }
+            (machine.idle_state self.old.world halted) (command_of job.now) }
+        ensures known { result ≡ None → KnownJob self.old.world job.now }
         ensures kept { self.new ≡ self.old }
     {
         if halted {
@@ -86,15 +114,15 @@ impl<D: Driver> Runtime<D> {
         if self.world.is_down() {
             return Some(Refusal::Down);
         }
+        if let Some(refusal) = refuses_in_contexts(&self.world, job) {
+            return Some(refusal);
+        }
         match job {
-            Job::Boot | Job::Shutdown => None,
-            Job::Call(call) => {
-                self.world.law_alone();
-                if request.is_some() {
-                    return Some(Refusal::NoRequest);
-                }
-                refuses_call(self.alloc, &mut self.tables, call)
-            }
+            Job::Call {
+                request: _request,
+                call,
+            } => refuses_call(self.alloc, &mut self.tables, call),
+            _ => None,
         }
     }
 }

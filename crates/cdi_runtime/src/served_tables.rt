@@ -124,7 +124,7 @@ impl Tables for ServedTables {
     }
 
     fn text(&self, exception: Name) -> Option<&str> {
-        self.tables.text(exception)
+        self.tables.deployment().names.get(exception)
     }
 
     fn law_unobserved(&self) {

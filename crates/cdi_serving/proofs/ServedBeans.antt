@@ -16,7 +16,7 @@ use Rattle.cdi_deployment.specs.declared.deployment.Deployment.{Deployment}
 use Rattle.cdi_deployment.specs.declared.deployment.Member.{Member}
 use Rattle.cdi_deployment.specs.declared.deployment.Member.TheVariants as members
 use Rattle.cdi_quals.specs.declared.types.QualifierType.{QualifierType}
-use Rattle.cdi_run_tables.specs.Served.{is_served_scope}
+use Rattle.cdi_serving.specs.Parts.{is_served_scope}
 use Rattle.cdi_serving.proofs.Each.{each_part, each_zipped, none_kept}
 use Rattle.cdi_serving.proofs.Methods.{each_method}
 use Rattle.cdi_serving.specs.Parts.{HasServedParts, IsMethod}

@@ -21,7 +21,7 @@ use Rattle.cdi_plans.specs.declared.plan.Plan.{Plan}
 use Rattle.cdi_plans.specs.declared.plan.Plan.TheVariants as plans
 use Rattle.cdi_run_tables.specs.Planned.{IsPlanned, IsTabled, plan_tables}
 use Rattle.cdi_run_tables.specs.Machine.{has_none}
-use Rattle.cdi_run_tables.specs.Served.{has_text, has_texts, is_served, is_served_bean, is_served_plan, is_served_scope}
+use Rattle.cdi_run_tables.specs.Served.{has_text, has_texts, is_served, is_served_bean, is_served_plan}
 use Rattle.cdi_run_tables.specs.declared.planned.PlannedBean.{PlannedBean}
 use Rattle.cdi_run_tables.specs.declared.tables.RunTables.{RunTables}
 use Rattle.cdi_resolve.specs.declared.bean_tables.BeanTables.{BeanTables}
@@ -88,9 +88,7 @@ module _ (t : PlanTables) (none : t.chains.interceptors ≡ [])
   of_planned : (b : Bean) (planned : PlannedBean) → IsServedManaged b → IsPlanned t b planned
       → is_served_bean planned ≡ true
   of_planned b planned bean is =
-      and_from (is_served_scope planned.scope) (is_served_plan planned.plan)
-      (ap is_served_scope is.scope ∙ bean.scope)
-      (of_any_plan b planned.plan bean is.plan)
+      of_any_plan b planned.plan bean is.plan
 
   -- the planned beans of managed ones are served
   pub of_beans : (beans : List Bean) (all : List PlannedBean)

@@ -9,7 +9,7 @@ use Rattle.cdi_form.specs.declared.form.Kind.{Kind}
 use Rattle.cdi_form.specs.declared.form.Kind.TheVariants as kinds
 use Rattle.cdi_form.specs.Words.{Word, scope_words, member_words, word_in, served_meaning, scope_named, member_kind}
 use Rattle.cdi_deploy.proofs.Covered.{found-passes}
-use Rattle.cdi_run_tables.specs.Served.{is_served_scope}
+use Rattle.cdi_serving.specs.Parts.{is_served_scope}
 
 implied : (a b : Bool) → (not a || b) ≡ true → a ≡ true → b ≡ true
 implied true b e h = e

@@ -1,5 +1,5 @@
 -- The parts of a deployment at the stage that is served.
-use Rattle.std.specs.Prelude.{◌≡◌, true, [], None, IfSome}
+use Rattle.std.specs.Prelude.{◌≡◌, Bool, true, false, [], None, IfSome}
 use Rattle.std.specs.List.{All}
 use Rattle.cdi_base.specs.BuiltIn.{number_of}
 use Rattle.cdi_base.specs.declared.built_in.BuiltIn.TheVariants as built_in
@@ -7,7 +7,15 @@ use Rattle.cdi_deployment.specs.declared.deployment.Class.{Class}
 use Rattle.cdi_deployment.specs.declared.deployment.Deployment.{Deployment}
 use Rattle.cdi_deployment.specs.declared.deployment.Member.{Member}
 use Rattle.cdi_deployment.specs.declared.deployment.Member.TheVariants as members
-use Rattle.cdi_run_tables.specs.Served.{has_text, is_served_scope}
+use Rattle.cdi_base.specs.declared.scope.Scope.{Scope}
+use Rattle.cdi_base.specs.declared.scope.Scope.TheVariants as scopes
+use Rattle.cdi_run_tables.specs.Served.{has_text}
+
+-- no command begins a request or a session
+abbrev pub is_served_scope : Scope → Bool
+is_served_scope scopes.ApplicationScoped = true
+is_served_scope scopes.Dependent = true
+is_served_scope scope = false
 
 -- a member is a method
 abbrev pub IsMethod : Member → Type 0

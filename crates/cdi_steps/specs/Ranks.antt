@@ -24,7 +24,7 @@ call_rank (calls.Destroy n) = 1
 call_rank (calls.Release n) = 2
 call_rank (calls.Fire event) = 1
 call_rank calls.Dismiss = 2
-call_rank calls.Clear = 2
+call_rank (calls.Clear c) = 2
 
 -- of a creation by the steps that are left, which are fewer than this
 abbrev pub creation_rank : ℕ → ℕ
@@ -60,24 +60,25 @@ frame_rank (frames.CleaningUp n) = 3
 frame_rank (frames.Releasing n) = 1
 frame_rank (frames.Freeing n) = 3
 frame_rank frames.Dismissing = 3
-frame_rank frames.Clearing = 3
+frame_rank (frames.Clearing c) = 3
 frame_rank (frames.Reaching method args) = 3
 frame_rank (frames.Borrowing method args) = 3
 frame_rank frames.Exiting = 1
 frame_rank frames.Using = 3
 frame_rank (frames.Returning told) = 1
 frame_rank frames.Initializing = 2
-frame_rank frames.Starting = 1
-frame_rank frames.Closing = 4
-frame_rank frames.Finishing = 3
-frame_rank frames.Emptying = 2
-frame_rank frames.GoingDown = 1
+frame_rank frames.Opening = 2
+frame_rank frames.Telling = 1
+frame_rank frames.ShuttingDown = 2
+frame_rank (frames.Finishing closing) = 3
+frame_rank (frames.Emptying closing) = 2
+frame_rank (frames.Closed after) = 2
 
 -- and if it threw: these go on without a call
 abbrev pub thrown_rank : Frame → ℕ
 thrown_rank (frames.Freeing n) = 1
 thrown_rank frames.Dismissing = 1
-thrown_rank frames.Clearing = 1
+thrown_rank (frames.Clearing c) = 1
 thrown_rank k = frame_rank k
 
 abbrev pub back_rank : Frame → Outcome → ℕ
@@ -90,9 +91,14 @@ abbrev pub gave_rank : Task → Frame → ℕ
 gave_rank (tasks.Start (calls.Destroy n)) k = 1
 gave_rank _ k = frame_rank k
 
+-- what comes after what a frame waits for, if that writes no entry; an event is an entry itself
+abbrev pub awaited_rank : Task → Frame → ℕ
+awaited_rank (tasks.Start (calls.Fire event)) k = 1
+awaited_rank p k = max (gave_rank p k) (thrown_rank k)
+
 -- what is next: the greatest rank of what is left until an entry is written
 abbrev pub weight : Next → ℕ
 weight (nexts.Finished o) = 0
 weight (nexts.Goes p) = rank p
-weight (nexts.Needs p k) = max (rank p) (max (gave_rank p k) (thrown_rank k))
+weight (nexts.Needs p k) = max (rank p) (awaited_rank p k)
 weight (nexts.Writes e p) = 0

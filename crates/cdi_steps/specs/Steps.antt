@@ -13,6 +13,8 @@ use Rattle.cdi_steps.specs.Known.{AllInvoked, KnownNext}
 use Rattle.cdi_steps.specs.declared.task.Completion.{Completion}
 use Rattle.cdi_steps.specs.declared.task.Frame.{Frame}
 use Rattle.cdi_steps.specs.declared.task.Task.{Task}
+use Rattle.cdi_steps.specs.declared.task.Task.TheVariants as tasks
+use Rattle.cdi_steps.specs.declared.task.Continuation.{Continuation}
 use Rattle.cdi_steps.specs.declared.task.Next.{Next}
 use Rattle.cdi_steps.specs.declared.task.Next.TheVariants as nexts
 
@@ -54,6 +56,10 @@ pub record Settles (t : Tables) (p : Prog Given) (rank : ℕ) (w : World) (next 
 -- what the task does first
 abbrev pub Moves : Tables → Task → World → Next → World → Type 0
 Moves t p w next v = Steps t (first p) (rank p) w next v
+
+-- what comes after an entry
+abbrev pub Follows : Tables → Continuation → World → Next → World → Type 0
+Follows t a w next v = Moves t (tasks.Continue a) w next v
 
 -- what the frame does once the call has ended
 abbrev pub GoesOn : Tables → Frame → Completion → World → Next → World → Type 0

@@ -5,19 +5,22 @@
 //! |---|---|---|
 //! | `boot`, `shutdown` | the job | how it ended: `gave` a value, `threw` an exception, or `cut by` a cause |
 //! | `call TYPE METHOD ARG..` | the job: a call of the bean with a type, with numbers | the same |
+//! | `in REQUEST call TYPE METHOD ARG..` | the same in a request | the same |
+//! | `begin REQUEST`, `begin REQUEST SESSION`, `end REQUEST`, `invalidate SESSION` | the job | the same, or why it is refused |
 //! | `again COUNT JOB` | the job so many times | how the last of them ended |
 //! | `turns MOST JOB` | the job in turns of so many entries | how many entries it had after each turn, and how it ended |
 //! | `entries` | the entries of the last job | each with a semicolon after it |
 //! | `count` | how many these are | the number |
 //! | `live` | how many instances live | the number |
 //! | `next` | the next number of an instance | it, or `none` |
-ghost use Rattle.std.specs.Prelude.{IfOk};
+ghost use Rattle.std.specs.Prelude.{◌≡◌, None, IfOk};
 ghost use Rattle.cdi_frames.specs.Stacks.{KnownStack, KnownTurn};
 ghost use Rattle.cdi_run_tables.specs.Machine.{machine_tables};
+ghost use Rattle.cdi_steps.specs.Known.{KnownJob};
 
 use crate::entries::{push_entries, push_name, push_value};
 use crate::heard::{beans_of, hear};
-use cdi_base::{Names, Seq, Value};
+use cdi_base::{Names, Refusal, Seq, Text, Value};
 use cdi_frames::run::{run, turn};
 use cdi_frames::stack::{Stack, Turn};
 use cdi_host::Contents;
@@ -60,6 +63,7 @@ fn values_of(alloc: Global, words: &[&str]) -> Result<Seq<Value>, AllocError> {
 fn call_of(
     alloc: Global,
     names: &Names,
+    request: Option<&str>,
     bean_type: &str,
     method: &str,
     args: &[&str],
@@ -70,7 +74,33 @@ fn call_of(
         method: names.name_for(method),
         args: values_of(alloc, args)?,
     };
-    Ok(Job::Call(Box::new(alloc, call)?))
+    let request = match request {
+        Some(name) => Some(Text::from_str(alloc, name)?),
+        None => None,
+    };
+    let call = Box::new(alloc, call)?;
+    Ok(Job::Call { request, call })
+}
+
+/// The job of a request or a session that words ask for, if they do.
+fn context_job_of(alloc: Global, words: &[&str]) -> Result<Option<Job>, AllocError> {
+    Ok(Some(match words {
+        ["begin", request] => Job::Begin {
+            request: Text::from_str(alloc, request)?,
+            session: None,
+        },
+        ["begin", request, session] => Job::Begin {
+            request: Text::from_str(alloc, request)?,
+            session: Some(Text::from_str(alloc, session)?),
+        },
+        ["end", request] => Job::End {
+            request: Text::from_str(alloc, request)?,
+        },
+        ["invalidate", session] => Job::Invalidate {
+            session: Text::from_str(alloc, session)?,
+        },
+        _ => return Ok(None),
+    }))
 }
 
 /// The job that words ask for, if they do.
@@ -78,10 +108,28 @@ fn job_of(alloc: Global, names: &Names, words: &[&str]) -> Result<Option<Job>, A
     match words {
         ["boot"] => Ok(Some(Job::Boot)),
         ["call", bean_type, method, args @ ..] => Ok(Some(call_of(
-            alloc, names, bean_type, method, args,
+            alloc, names, None, bean_type, method, args,
+        )?)),
+        ["in", request, "call", bean_type, method, args @ ..] => Ok(Some(call_of(
+            alloc,
+            names,
+            Some(*request),
+            bean_type,
+            method,
+            args,
         )?)),
         ["shutdown"] => Ok(Some(Job::Shutdown)),
-        _ => Ok(None),
+        words => context_job_of(alloc, words),
+    }
+}
+
+/// Why a job of a request or a session is refused, if it is. The others are carried out in any case.
+fn refusal_of<D: Driver>(runtime: &mut Runtime<D>, job: &Job) -> Option<Refusal>
+    ensures known { result ≡ None → KnownJob runtime.new.world job.now }
+{
+    match job {
+        Job::Boot | Job::Call { .. } | Job::Shutdown => None,
+        Job::Begin { .. } | Job::End { .. } | Job::Invalidate { .. } => runtime.refusal(false, job),
     }
 }
 
@@ -105,6 +153,7 @@ const MOST_TURNS: u32 = 1_000_000;
 
 /// A job begins that is carried out in turns.
 fn start_turns<D: Driver>(runtime: &mut Runtime<D>, job: Job) -> Stack
+    requires { KnownJob runtime.old.world job }
     ensures known { KnownStack (machine_tables runtime.new.tables) runtime.new.world result }
 {
     runtime.begin();
@@ -127,7 +176,9 @@ fn take_turn<D: Driver>(runtime: &mut Runtime<D>, stack: Stack, most: u64) -> Re
 }
 
 /// How a job ends that is carried out in turns of so many entries.
-fn end_of_turns<D: Driver>(runtime: &mut Runtime<D>, most: u64, job: Job) -> Option<Outcome> {
+fn end_of_turns<D: Driver>(runtime: &mut Runtime<D>, most: u64, job: Job) -> Option<Outcome>
+    requires { KnownJob runtime.old.world job }
+{
     let mut stack = start_turns(runtime, job);
     'turns: for _ in 0..MOST_TURNS {
         match take_turn(runtime, stack, most) {
@@ -140,7 +191,9 @@ fn end_of_turns<D: Driver>(runtime: &mut Runtime<D>, most: u64, job: Job) -> Opt
 }
 
 /// How a job ends that is carried out at once.
-fn end_of_run<D: Driver>(runtime: &mut Runtime<D>, job: Job) -> Option<Outcome> {
+fn end_of_run<D: Driver>(runtime: &mut Runtime<D>, job: Job) -> Option<Outcome>
+    requires { KnownJob runtime.old.world job }
+{
     runtime.begin();
     let task = Task::Begin(job);
     let ended = run(
@@ -154,12 +207,13 @@ fn end_of_run<D: Driver>(runtime: &mut Runtime<D>, job: Job) -> Option<Outcome> 
 
 /// Carries a job out, with a trace of its own, at once or in slices of so many entries, and tells how it ended.
 fn carry_out<D: Driver>(
-    alloc: Global,
     told: &mut Told,
     runtime: &mut Runtime<D>,
     ledger: &mut Ledger,
     job: Job,
-) -> Result<(), AllocError> {
+) -> Result<(), AllocError>
+    requires { KnownJob runtime.old.world job }
+{
     let ends_all = matches!(job, Job::Shutdown);
     let ended = match told.slice {
         Some(most) => end_of_turns(runtime, most, job),
@@ -191,7 +245,9 @@ fn carry_out_in_turns<D: Driver>(
     ledger: &mut Ledger,
     most: u64,
     job: Job,
-) -> Result<(), AllocError> {
+) -> Result<(), AllocError>
+    requires { KnownJob runtime.old.world job }
+{
     let ends_all = matches!(job, Job::Shutdown);
     let mut stack = start_turns(runtime, job);
     'turns: for _ in 0..MOST_TURNS {
@@ -257,7 +313,10 @@ fn push_told<D: Driver>(
     words: &[&str],
 ) -> Result<(), AllocError> {
     match job_of(alloc, &runtime.tables().deployment().names, words)? {
-        Some(job) => carry_out(alloc, told, runtime, ledger, job),
+        Some(job) => match refusal_of(runtime, &job) {
+            Some(refusal) => write!(told.text, "refused {refusal:?}"),
+            None => carry_out(told, runtime, ledger, job),
+        },
         None => push_answer(alloc, &mut told.text, runtime, words.first().unwrap_or(&"")),
     }
 }
@@ -272,7 +331,10 @@ fn push_turns<D: Driver>(
     words: &[&str],
 ) -> Result<(), AllocError> {
     match job_of(alloc, &runtime.tables().deployment().names, words)? {
-        Some(job) => carry_out_in_turns(text, runtime, ledger, most, job),
+        Some(job) => match refusal_of(runtime, &job) {
+            Some(refusal) => write!(text, "refused {refusal:?}"),
+            None => carry_out_in_turns(text, runtime, ledger, most, job),
+        },
         None => text.push_str("no job"),
     }
 }

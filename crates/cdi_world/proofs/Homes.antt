@@ -1,37 +1,67 @@
--- What is put into a home and taken back.
-use Rattle.std.proofs.Common.{◌≡◌, ℕ, ◌==◌, Bool, true, false, [], ◌∷◌, cond, nat_lt}
-use Rattle.std.proofs.Common.{Option, Some, None, option_map, refl, ap}
-use Rattle.cdi_base.specs.Maps.{Map, at, put_in_order, without}
-use Rattle.cdi_contexts.proofs.Slots.{own_number, without-absent, past}
-use Rattle.cdi_contexts.specs.declared.context.Held.{Held}
-use Rattle.cdi_contexts.specs.Contexts.{Active, entry_in, active_with, active_without}
-use Rattle.cdi_machine.specs.World.{World}
-use Rattle.cdi_world.specs.Home.{with_shared, without_shared}
+-- A home that is changed before the instance is, as the definition changes it after.
+use Rattle.std.proofs.Common.{◌≡◌, ℕ, Option, Some, None, refl, ap}
+use Rattle.cdi_base.specs.Maps.{at, without}
+use Rattle.cdi_store.specs.declared.instance.Component.{Component}
+use Rattle.cdi_store.specs.declared.instance.Component.TheVariants as components
+use Rattle.cdi_store.specs.declared.instance.Owner.{Owner}
+use Rattle.cdi_store.specs.declared.instance.Owner.TheVariants as owners
+use Rattle.cdi_store.specs.declared.instance.Instance.{Instance}
+use Rattle.cdi_store.specs.Live.{with_ready, with_leaving}
+use Rattle.cdi_machine.specs.World.{World, Change, after_change, for_instance, with_instances, with_owned, without_making, without_owned}
+use Rattle.cdi_world.specs.Reached.{with_home, without_home, without_context_home}
+use Rattle.cdi_contexts.proofs.Slots.{without-absent}
+use Rattle.cdi_world.proofs.Absent.{ready_absent, leaving_absent}
 
-module _ {X : Type 0} where
-  -- a new entry that is taken out again
-  taken_out : (m : Map X) (key : ℕ) (x : X) → at m key ≡ None
-      → without key (put_in_order key x m) ≡ m
-  taken_out [] key x none = rw (own_number key) refl
-  taken_out (p ∷ more) key x none =
-      let apart = past (key == p.0) p.1 (at more key) none in
-      rw apart.0 (by (nat_lt key p.0) apart.0 (taken_out more key x apart.1))
-    where
-      by : (b : Bool) → (key == p.0) ≡ false → without key (put_in_order key x more) ≡ more
-          → without key (cond b ((key, x) ∷ p ∷ more) (p ∷ put_in_order key x more)) ≡ p ∷ more
-      by true differs e = rw (own_number key) (without-absent (p ∷ more) key none)
-      by false differs e = rw differs (ap (λ r. p ∷ r) e)
+pub settled : (w : World) (n : ℕ)
+    → with_instances (with_ready n) (with_home n w) ≡ after_change (Change.Settle n) w
+settled w n = by (at w.instances n) refl
+  where
+    of : (component : Component) (owner : Owner)
+        → with_instances (with_ready n) (with_owned n component owner w)
+        ≡ with_owned n component owner (with_instances (with_ready n) w)
+    of (components.Bean b) (owners.Context c) = refl
+    of (components.Interceptor i) (owners.Context c) = refl
+    of component (owners.Instance m) = refl
+    of component owners.Borrower = refl
 
-active_back : (o : Option Active) (bean : ℕ) (held : Held) → entry_in o bean ≡ None
-    → option_map (active_without bean) (option_map (active_with bean held) o) ≡ o
-active_back None bean held none = refl
-active_back (Some a) bean held none =
-    ap (λ holds. let b : Active = record a { holds = holds } in Some b)
-    (taken_out a.holds bean held none)
+    by : (o : Option Instance) → at w.instances n ≡ o
+        → with_instances (with_ready n) (for_instance w o (λ o. with_owned n o.component o.owner w))
+        ≡ for_instance w o (λ o. with_owned n o.component o.owner (with_instances (with_ready n) w))
+    by None e = ap (λ live. let v : World = record w { instances = live } in v) (ready_absent w.instances n e)
+    by (Some o) e = of o.component o.owner
 
--- what the application had nothing for
-pub shared_back : (w : World) (bean : ℕ) (held : Held) → entry_in w.contexts.application bean ≡ None
-    → without_shared bean (with_shared bean held w) ≡ w
-shared_back w bean held none =
-    ap (λ o. let v : World = record w { contexts = record w.contexts { application = o } } in v)
-    (active_back w.contexts.application bean held none)
+pub left : (w : World) (n : ℕ)
+    → with_instances (with_leaving n) (without_home n w) ≡ after_change (Change.Leave n) w
+left w n = by (at w.instances n) refl
+  where
+    of : (component : Component) (owner : Owner)
+        → with_instances (with_leaving n) (without_owned n component owner w)
+        ≡ without_owned n component owner (with_instances (with_leaving n) w)
+    of (components.Bean b) (owners.Context c) = refl
+    of (components.Interceptor i) (owners.Context c) = refl
+    of component (owners.Instance m) = refl
+    of component owners.Borrower = refl
+
+    by : (o : Option Instance) → at w.instances n ≡ o
+        → with_instances (with_leaving n) (for_instance w o (λ o. without_owned n o.component o.owner w))
+        ≡ for_instance w o (λ o. without_owned n o.component o.owner (with_instances (with_leaving n) w))
+    by None e = ap (λ live. let v : World = record w { instances = live } in v) (leaving_absent w.instances n e)
+    by (Some o) e = of o.component o.owner
+
+pub discarded : (w : World) (n : ℕ)
+    → with_instances (without n) (without_context_home n w) ≡ after_change (Change.Discard n) w
+discarded w n = by (at w.instances n) refl
+  where
+    of : (component : Component) (owner : Owner)
+        → with_instances (without n) (without_making component owner w)
+        ≡ without_making component owner (with_instances (without n) w)
+    of (components.Bean b) (owners.Context c) = refl
+    of (components.Interceptor i) (owners.Context c) = refl
+    of component (owners.Instance m) = refl
+    of component owners.Borrower = refl
+
+    by : (o : Option Instance) → at w.instances n ≡ o
+        → with_instances (without n) (for_instance w o (λ o. without_making o.component o.owner w))
+        ≡ for_instance w o (λ o. without_making o.component o.owner (with_instances (without n) w))
+    by None e = ap (λ live. let v : World = record w { instances = live } in v) (without-absent w.instances n e)
+    by (Some o) e = of o.component o.owner

@@ -1,2 +1,6 @@
 pub mod Absent
+pub mod Changed
+pub mod Reached
+pub mod Taken
+pub mod Begun
 pub mod Homes

@@ -1,2 +1,1 @@
-pub mod Application
-pub mod Home
+pub mod Reached

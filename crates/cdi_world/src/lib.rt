@@ -2,8 +2,9 @@
 //! command.
 #![tactic(auto)]
 
-mod application;
-mod home;
+mod environment;
+mod making;
+mod named;
 mod numbered;
 pub mod world;
 

@@ -1,12 +1,12 @@
 //! The store by the numbers of its instances. A number that no live instance has changes nothing.
-ghost use Rattle.std.specs.Prelude.{◌≡◌, IsErr, IsSome, OnOk, OnErr};
+ghost use Rattle.std.specs.Prelude.{◌≡◌, ◌<◌, ◌+◌, ◌^◌, IsErr, IsSome, OnOk, OnErr};
 ghost use Rattle.std.specs.Option.{option_copied};
 ghost use Rattle.cdi_base.specs.Maps.{at};
 ghost use Rattle.cdi_store.specs.Live.{owner_at, with_field, with_leaving, with_ready, with_reference};
-ghost use Rattle.cdi_store.specs.Live.{with_value, without_instance};
+ghost use Rattle.cdi_store.specs.Live.{with_newborn, with_value, without_instance};
 
-use cdi_base::{Name, Value};
-use cdi_store::{Instance, Reference, Store};
+use cdi_base::{Fields, Name, Value};
+use cdi_store::{Component, Instance, Owner, Reference, Store};
 use std::alloc::AllocError;
 
 /// The live instance with a number.
@@ -16,6 +16,25 @@ pub(crate) fn instance_in(store: &Store, number: u32) -> Option<&Instance>
     match store.key(number) {
         Some(key) => store.instance(key).ok(),
         None => None,
+    }
+}
+
+/// A new instance gets the next number. On an error nothing changes.
+pub(crate) fn make_in(
+    store: &mut Store,
+    component: Component,
+    owner: Owner,
+    fields: Fields,
+) -> Result<(), AllocError>
+    requires { store.old.next < 2 ^ 32 }
+    ensures instances { OnOk result (store.new.instances
+        ≡ with_newborn store.old.next component owner fields store.old.instances) }
+    ensures next { OnOk result (store.new.next ≡ store.old.next + 1) }
+    ensures err { OnErr result (store.new ≡ store.old) }
+{
+    match store.make(component, owner, fields) {
+        Ok(_) => Ok(()),
+        Err(_) => Err(AllocError),
     }
 }
 

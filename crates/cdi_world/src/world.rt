@@ -4,22 +4,24 @@ ghost use Rattle.cdi_machine.specs.World.{at_begin, before_boot};
 
 mod contents;
 mod homes;
-mod making;
+mod refusals;
 
-use crate::application::LoneApplication;
+use crate::environment::Environment;
 use cdi_base::{Entry, Limits, Seq};
+use cdi_contexts::Contexts;
 use cdi_stacks::{Invocation, Stack};
 use cdi_store::Store;
 use std::alloc::{AllocError, Global};
 use std::marker::Model;
 
 /// What a container holds: its live instances by number, its contexts, and of the running command
-/// its invocations, the instances with a running body, what is borrowed, and its entries. No
-/// request and no session begins in it yet.
+/// its environment, its invocations, the instances with a running body, what is borrowed, and its
+/// entries.
 pub struct World {
     store: Store,
-    contexts: LoneApplication,
+    contexts: Contexts,
     down: bool,
+    environment: Environment,
     invocations: Stack<Invocation>,
     bodies: Stack<u32>,
     temporaries: Stack<Seq<u32>>,
@@ -36,6 +38,7 @@ impl Drop for World {
             store: _store,
             contexts: _contexts,
             down: _down,
+            environment: _environment,
             invocations: _invocations,
             bodies: _bodies,
             temporaries: _temporaries,
@@ -48,16 +51,16 @@ impl Drop for World {
 }
 
 impl Model for World {
-    ghost use Rattle.cdi_machine.specs.World.{World as AnyWorld, no_environment};
+    ghost use Rattle.cdi_machine.specs.World.{World as AnyWorld};
 
     ghost Value = { AnyWorld };
 
     ghost view = { λ w. record {
       instances = w.store.instances;
       next = w.store.next;
-      contexts = w.contexts;
+      contexts = w.contexts.contexts;
       down = w.down;
-      environment = no_environment;
+      environment = w.environment;
       invocations = w.invocations;
       bodies = w.bodies;
       temporaries = w.temporaries;
@@ -74,8 +77,9 @@ impl World {
     {
         World {
             store: Store::new(alloc),
-            contexts: LoneApplication::new(alloc),
+            contexts: Contexts::new(alloc),
             down: false,
+            environment: Environment::none(),
             invocations: Stack::new(alloc),
             bodies: Stack::new(alloc),
             temporaries: Stack::new(alloc),
@@ -91,6 +95,7 @@ impl World {
         ensures { self.new ≡ at_begin self.old }
     {
         self.trace.clear();
+        self.environment = Environment::none();
     }
 
     /// The numbers of the live instances, ascending.

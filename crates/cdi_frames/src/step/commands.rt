@@ -1,72 +1,143 @@
 //! The steps of commands, and of the container's own events.
 ghost use Rattle.std.specs.Prelude.{◌≡◌, IfOk, OnErr};
-ghost use Rattle.cdi_store.specs.declared.instance.Context.TheVariants.{Application};
 ghost use Rattle.cdi_machine.specs.World.{after_change};
-ghost use Rattle.cdi_machine.specs.World.Change.{Return, Finish, Close, Down};
-ghost use Rattle.cdi_steps.specs.Steps.{Moves, GoesOn};
+ghost use Rattle.cdi_machine.specs.World.Change.{Return};
+ghost use Rattle.cdi_steps.specs.Known.{KnownJob};
+ghost use Rattle.cdi_steps.specs.Steps.{Moves, Follows, GoesOn};
 ghost use Rattle.cdi_steps.specs.declared.task.Outcome.{Outcome};
-ghost use Rattle.cdi_steps.specs.declared.task.Given.{Given};
-ghost use Rattle.cdi_base.specs.declared.value.Value.{Value};
 
 use crate::events::entry_of;
+use cdi_base::{Scope, Text};
 use cdi_host::{Contents, Tables};
+use cdi_steps::contexts;
 use cdi_steps::ends::{ended, null};
 use cdi_steps::task::{
-    BeanCall, Call, Completion, ContainerEvent, Continuation, Frame, Job, Next, Task,
+    AfterClose, BeanCall, Call, Completion, ContainerEvent, Continuation, Frame, Job, Next, Task,
 };
+use cdi_store::Context;
 use std::alloc::{AllocError, Global};
 
 /// Begins what a command asks for: for the boot, the event of the application's begin (Jakarta CDI 4.0, *Context
-/// management for built-in scopes*), for the shutdown that of the container's end (*Shutdown event*).
+/// management for built-in scopes*). On an error nothing changes.
 pub(super) fn begin<T: Tables, W: Contents>(
     tables: &T,
     world: &mut W,
     job: Job,
 ) -> Result<Next, AllocError>
+    requires { KnownJob (W.world world.old) job }
     ensures step { IfOk result (λ next. Moves (T.tables tables.now) (Task.Begin job)
         (W.world world.old) next (W.world world.new)) }
     ensures kept { OnErr result (W.world world.new ≡ W.world world.old) }
 {
     match job {
         Job::Boot => {
-            let call = Task::Start(Call::Fire(ContainerEvent::Initialized));
-            Ok(Next::Needs(call, Frame::Initializing))
+            let event = ContainerEvent::Initialized(Scope::ApplicationScoped);
+            Ok(Next::Needs(Task::Start(Call::Fire(event)), Frame::Initializing))
         }
-        Job::Call(call) => call_bean(tables, world, call),
-        Job::Shutdown => {
-            world.law_alone();
-            world.stand_alone();
-            let call = Task::Start(Call::Fire(ContainerEvent::Shutdown));
-            Ok(Next::Needs(call, Frame::Closing))
-        }
+        Job::Begin { request, session } => begin_request(tables, world, request, session),
+        Job::End { request } => contexts::end_request(tables, world, request, AfterClose::Session),
+        Job::Invalidate { session } => invalidate(tables, world, session),
+        Job::Call { request, call } => call_bean(tables, world, request, call),
+        Job::Shutdown => shut_down(tables, world),
     }
+}
+
+// ---- requests and sessions
+
+/// Begins a request, and its session if that is new (Jakarta CDI 4.0, *Context management for built-in scopes*): both contexts are open
+/// before the first event. On an error nothing changes.
+fn begin_request<T: Tables, W: Contents>(
+    _tables: &T,
+    world: &mut W,
+    request: Text,
+    session: Option<Text>,
+) -> Result<Next, AllocError>
+    requires { KnownJob (W.world world.old) (Job.Begin request session) }
+    ensures step { IfOk result (λ next. Moves (T.tables _tables.now)
+        (Task.Begin (Job.Begin request session)) (W.world world.old) next (W.world world.new)) }
+    ensures kept { OnErr result (W.world world.new ≡ W.world world.old) }
+{
+    if !world.begin_request(request, session)? {
+        return Ok(opened());
+    }
+    let event = ContainerEvent::Initialized(Scope::SessionScoped);
+    Ok(Next::Needs(Task::Start(Call::Fire(event)), Frame::Opening))
+}
+
+/// The session has been initialized, if it is new, and so has the request.
+pub(crate) fn opened() -> Next
+    ensures { result
+        ≡ Next.Needs (Task.Start (Call.Fire (ContainerEvent.Initialized Scope.RequestScoped)))
+        Frame.Telling }
+{
+    let event = ContainerEvent::Initialized(Scope::RequestScoped);
+    Next::Needs(Task::Start(Call::Fire(event)), Frame::Telling)
+}
+
+/// Marks a session, which ends at once if no request has it. On an error nothing changes.
+fn invalidate<T: Tables, W: Contents>(
+    _tables: &T,
+    world: &mut W,
+    session: Text,
+) -> Result<Next, AllocError>
+    ensures step { IfOk result (λ next. Moves (T.tables _tables.now)
+        (Task.Begin (Job.Invalidate session)) (W.world world.old) next (W.world world.new)) }
+    ensures kept { OnErr result (W.world world.new ≡ W.world world.old) }
+{
+    if world.is_used(&session) {
+        world.mark(&session);
+        return Ok(null());
+    }
+    let context = Context::Session(session.clone()?);
+    let next = contexts::close(world.alloc(), context, AfterClose::Nothing)?;
+    world.mark(&session);
+    world.stand_in_session(session);
+    Ok(next)
+}
+
+/// Ends all contexts: requests in the order of their begin, sessions in that of their creation, and the application. On an error
+/// nothing changes.
+fn shut_down<T: Tables, W: Contents>(tables: &T, world: &mut W) -> Result<Next, AllocError>
+    ensures step { IfOk result (λ next. Moves (T.tables tables.now) (Task.Begin Job.Shutdown)
+        (W.world world.old) next (W.world world.new)) }
+    ensures kept { OnErr result (W.world world.new ≡ W.world world.old) }
+{
+    let requests = Box::new(world.alloc(), world.requests()?)?;
+    contexts::end_requests(tables, world, requests)
 }
 
 // ---- boot
 
-/// The application has been initialized: the container has started.
+/// The application has been initialized: the container has started (Jakarta CDI 4.0, *Startup event*).
 pub(crate) fn starting() -> Next
-    ensures { result ≡ Next.Needs (Task.Start (Call.Fire ContainerEvent.Startup)) Frame.Starting }
+    ensures { result ≡ Next.Needs (Task.Start (Call.Fire ContainerEvent.Startup)) Frame.Telling }
 {
     let call = Task::Start(Call::Fire(ContainerEvent::Startup));
-    Next::Needs(call, Frame::Starting)
+    Next::Needs(call, Frame::Telling)
 }
 
 // ---- a call
 
-/// Calls a method of the bean with a type and qualifiers, with what is borrowed for the time of the command.
+/// Calls a method of the bean with a type and qualifiers, in a request or in none, with what is borrowed for the time of the command. On
+/// an error nothing changes.
 fn call_bean<T: Tables, W: Contents>(
     _tables: &T,
     world: &mut W,
+    request: Option<Text>,
     call: Box<BeanCall>,
 ) -> Result<Next, AllocError>
-    ensures step { IfOk result (λ next. Moves (T.tables _tables.now) (Task.Begin (Job.Call call))
-        (W.world world.old) next (W.world world.new)) }
+    ensures step { IfOk result (λ next. Moves (T.tables _tables.now)
+        (Task.Begin (Job.Call request call)) (W.world world.old) next (W.world world.new)) }
     ensures kept { OnErr result (W.world world.new ≡ W.world world.old) }
 {
     world.borrow()?;
-    world.stand_alone();
-    Ok(Next::Needs(Task::Using(call), Frame::Using))
+    match world.stand_in(request) {
+        Ok(()) => Ok(Next::Needs(Task::Using(call), Frame::Using)),
+        Err(error) => {
+            world.give_back();
+            Err(error)
+        }
+    }
 }
 
 /// The use of the bean has ended: what was borrowed is destroyed and given back, at once if nothing was.
@@ -123,50 +194,9 @@ pub(super) fn deliver<T: Tables, W: Contents>(
     _world: &W,
     _event: ContainerEvent,
 ) -> Next
-    ensures { Moves (T.tables tables.now) (Task.Continue (Continuation.Delivering _event))
+    ensures { Follows (T.tables tables.now) (Continuation.Delivering _event)
         (W.world _world.now) result (W.world _world.now) }
 {
     tables.law_unobserved();
-    null()
-}
-
-// ---- shutdown
-
-/// The shutdown event has been delivered: it is told that the application is about to end.
-pub(crate) fn closing() -> Next
-    ensures { result
-        ≡ Next.Needs (Task.Start (Call.Fire ContainerEvent.BeforeDestroyed)) Frame.Finishing }
-{
-    let call = Task::Start(Call::Fire(ContainerEvent::BeforeDestroyed));
-    Next::Needs(call, Frame::Finishing)
-}
-
-/// Ends the application context (Jakarta CDI 4.0, *Context management for built-in scopes*).
-pub(crate) fn finishing<W: Contents>(world: &mut W) -> Next
-    ensures next { result ≡ Next.Needs (Task.Start Call.Clear) Frame.Emptying }
-    ensures world { W.world world.new ≡ after_change (Finish Application) (W.world world.old) }
-{
-    world.finish_application();
-    Next::Needs(Task::Start(Call::Clear), Frame::Emptying)
-}
-
-/// The application context is gone.
-pub(crate) fn emptied<W: Contents>(world: &mut W) -> Next
-    ensures next { result ≡ Next.Needs (Task.Start (Call.Fire ContainerEvent.Destroyed))
-        Frame.GoingDown }
-    ensures world { W.world world.new ≡ after_change (Close Application) (W.world world.old) }
-{
-    world.close_application();
-    let call = Task::Start(Call::Fire(ContainerEvent::Destroyed));
-    Next::Needs(call, Frame::GoingDown)
-}
-
-/// The container is down.
-pub(crate) fn gone_down<W: Contents>(world: &mut W) -> Next
-    ensures next { result
-        ≡ Next.Finished (Outcome.Ends (Completion.Gave (Given.Result Value.Null))) }
-    ensures world { W.world world.new ≡ after_change Down (W.world world.old) }
-{
-    world.bring_down();
     null()
 }

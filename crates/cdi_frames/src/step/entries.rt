@@ -1,11 +1,11 @@
 //! What comes after an entry.
 ghost use Rattle.std.specs.Prelude.{◌≡◌, IfOk, OnErr};
 ghost use Rattle.cdi_steps.specs.Known.{KnownContinuation};
-ghost use Rattle.cdi_steps.specs.Steps.{Moves};
+ghost use Rattle.cdi_steps.specs.Steps.{Follows};
 
 use super::{bodies, commands};
 use cdi_host::{Contents, Tables};
-use cdi_steps::task::{Continuation, Next, Task};
+use cdi_steps::task::{Continuation, Next};
 use cdi_steps::{creation, destruction};
 use std::alloc::AllocError;
 
@@ -16,7 +16,7 @@ pub(super) fn go_on<T: Tables, W: Contents>(
     continuation: Continuation,
 ) -> Result<Next, AllocError>
     requires { KnownContinuation (T.tables tables.now) (W.world world.old) continuation }
-    ensures step { IfOk result (λ next. Moves (T.tables tables.now) (Task.Continue continuation)
+    ensures step { IfOk result (λ next. Follows (T.tables tables.now) continuation
         (W.world world.old) next (W.world world.new)) }
     ensures kept { OnErr result (W.world world.new ≡ W.world world.old) }
 {

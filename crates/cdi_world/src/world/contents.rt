@@ -1,12 +1,14 @@
 //! The world as the engine asks and changes it. A number that no live instance has changes nothing.
 use super::World;
-use crate::home::{Home, home_for};
-use crate::numbered::{free_in, hold_in, instance_in, refer_in, set_in};
-use cdi_base::{Entry, Fields, Name, Scope, Seq, Value};
+use crate::environment::Environment;
+use crate::making::make_shared;
+use crate::named::{begin_in, close_in, finish_in, last_in, mark_in};
+use crate::numbered::{free_in, hold_in, instance_in, make_in, refer_in, set_in};
+use cdi_base::{Entry, Fields, Name, Scope, Seq, Text, Value};
 use cdi_contexts::{Held, Status};
 use cdi_host::Contents;
-use cdi_stacks::Invocation;
-use cdi_store::{Component, Instance, Owner, Reference};
+use cdi_stacks::{Invocation, Stack};
+use cdi_store::{Component, Context, Instance, Owner, Reference};
 use std::alloc::{AllocError, Global};
 
 impl Contents for World {
@@ -45,15 +47,44 @@ impl Contents for World {
 
     /// Whether instances are made in it (Jakarta CDI 4.0, *The active context object for a scope*).
     fn status(&self, scope: Scope) -> Option<Status> {
-        self.contexts.status(scope)
+        let env = self.environment.slots(&self.contexts);
+        self.contexts.status(scope, env)
     }
 
     fn held(&self, scope: Scope, bean: u32) -> Option<Held> {
-        self.contexts.held(scope, bean)
+        let env = self.environment.slots(&self.contexts);
+        self.contexts.entry(scope, bean, env)
     }
 
-    fn last_in_application(&self) -> Option<u32> {
-        self.contexts.last()
+    fn context(&self, scope: Scope) -> Result<Option<Context>, AllocError> {
+        self.environment.context(scope)
+    }
+
+    fn last_in(&self, context: &Context) -> Option<u32> {
+        last_in(&self.contexts, context)
+    }
+
+    /// Jakarta CDI 4.0, *Context management for built-in scopes*.
+    fn due_session(&self) -> Result<Option<Context>, AllocError> {
+        if self.contexts.due(self.environment.slots(&self.contexts)) {
+            self.environment.context(Scope::SessionScoped)
+        } else {
+            Ok(None)
+        }
+    }
+
+    fn is_used(&self, session: &Text) -> bool {
+        self.contexts.is_used(session.as_str())
+    }
+
+    fn requests(&self) -> Result<Stack<Text>, AllocError> {
+        let names = self.contexts.request_names(self.alloc)?;
+        Ok(Stack::from_first(names))
+    }
+
+    fn sessions(&self) -> Result<Stack<Text>, AllocError> {
+        let names = self.contexts.session_names(self.alloc)?;
+        Ok(Stack::from_first(names))
     }
 
     fn invocation(&self) -> Option<&Invocation> {
@@ -62,10 +93,6 @@ impl Contents for World {
 
     fn latest_temporary(&self) -> Option<Option<u32>> {
         self.temporaries.latest()
-    }
-
-    fn law_alone(&self) {
-        self.contexts.law_alone();
     }
 
     // ---- changed
@@ -83,19 +110,17 @@ impl Contents for World {
         owner: Owner,
         fields: Fields,
     ) -> Result<(), AllocError> {
-        self.law_alone();
-        match home_for(component, &owner) {
-            Home::Application(bean) => self.make_shared(bean, component, owner, fields),
-            Home::Temporaries | Home::Nothing => self.add_instance(component, owner, fields),
+        match (component, owner) {
+            (Component::Bean(bean), Owner::Context(context)) => {
+                make_shared(&mut self.contexts, &mut self.store, bean, context, fields)
+            }
+            (component, owner) => make_in(&mut self.store, component, owner, fields),
         }
     }
 
     /// Its context, its owner or the temporaries have it (Jakarta CDI 4.0, *Dependent objects*).
     fn settle(&mut self, number: u32) -> Result<(), AllocError> {
-        let Some(home) = self.home(number) else {
-            return Ok(());
-        };
-        self.take_home(number, home)?;
+        self.take_home(number)?;
         self.set_ready(number)
     }
 
@@ -105,21 +130,13 @@ impl Contents for World {
     }
 
     fn discard(&mut self, number: u32) {
-        let Some(home) = self.home(number) else {
-            return;
-        };
+        self.leave_context(number);
         self.remove(number);
-        if let Home::Application(bean) = home {
-            self.contexts.leave(bean);
-        }
     }
 
     /// It leaves its context, its owner or the temporaries (Jakarta CDI 4.0, *Lifecycle of managed beans*).
     fn leave(&mut self, number: u32) {
-        let Some(home) = self.home(number) else {
-            return;
-        };
-        self.leave_home(number, home);
+        self.leave_home(number);
         self.set_leaving(number);
     }
 
@@ -132,19 +149,35 @@ impl Contents for World {
         set_in(&mut self.store, number, field, value);
     }
 
+    /// Jakarta CDI 4.0, *Context management for built-in scopes*.
+    fn begin_request(&mut self, request: Text, session: Option<Text>) -> Result<bool, AllocError> {
+        let opens = begin_in(&mut self.contexts, &request, &session)?;
+        self.environment = Environment::new(Some(request), session);
+        Ok(opens)
+    }
+
+    /// A session that is marked already, or isn't there, stays as it is.
+    fn mark(&mut self, session: &Text) {
+        mark_in(&mut self.contexts, session);
+    }
+
     /// No more instances are made in it (Jakarta CDI 4.0, *The active context object for a scope*).
-    fn finish_application(&mut self) {
-        self.contexts.end();
+    fn finish(&mut self, context: &Context) {
+        finish_in(&mut self.contexts, context);
     }
 
     /// Jakarta CDI 4.0, *Context management for built-in scopes*.
-    fn close_application(&mut self) {
-        self.contexts.close();
+    fn close(&mut self, context: &Context) {
+        close_in(&mut self.contexts, context);
     }
 
-    fn stand_alone(&mut self) {
-        // No world has another environment yet.
-        let _contexts = &self.contexts;
+    fn stand_in(&mut self, request: Option<Text>) -> Result<(), AllocError> {
+        self.environment = Environment::of_request(&self.contexts, request)?;
+        Ok(())
+    }
+
+    fn stand_in_session(&mut self, session: Text) {
+        self.environment = Environment::new(None, Some(session));
     }
 
     fn enter(&mut self, invocation: Invocation) -> Result<(), AllocError> {

@@ -1,47 +1,63 @@
-//! How an instance comes to its home and leaves it.
-ghost use Rattle.std.specs.Prelude.{◌≡◌, option_map, IsErr, IsSome, OnOk, OnErr};
+//! How an instance comes to the context or the temporaries that own it, and leaves them.
+ghost use Rattle.std.specs.Prelude.{◌≡◌, IsErr, IsSome, OnOk, OnErr};
 ghost use Rattle.cdi_store.specs.Live.{owner_at, with_leaving, with_ready};
-ghost use Rattle.cdi_machine.specs.World.{instance_at, with_instances};
-ghost use Rattle.cdi_world.specs.Application.{IsAlone};
-ghost use Rattle.cdi_world.specs.Home.{home_of, with_home, without_home};
+ghost use Rattle.cdi_machine.specs.World.{with_instances};
+ghost use Rattle.cdi_world.specs.Reached.{with_home, without_context_home, without_home};
 
 use super::World;
-use crate::home::{Home, home_for};
+use crate::named;
 use crate::numbered::{instance_in, leave_in, settle_in};
 use cdi_contexts::Held;
+use cdi_store::{Component, Owner};
 use std::alloc::AllocError;
 
 impl World {
-    /// The home of the live instance with a number.
-    pub(super) fn home(&self, number: u32) -> Option<Home>
-        ensures home { result ≡ option_map home_of (instance_at self.now number) }
-        ensures alone { IsAlone self.now.contexts }
-    {
-        self.contexts.law_alone();
-        let instance = instance_in(&self.store, number)?;
-        Some(home_for(instance.component, &instance.owner))
-    }
-
-    /// The home has the instance. On an error nothing changes.
-    pub(super) fn take_home(&mut self, number: u32, home: Home) -> Result<(), AllocError>
-        ensures ok { OnOk result (self.new ≡ with_home number home self.old) }
+    /// Its context or the temporaries have the instance, if they own it. On an error nothing
+    /// changes.
+    pub(super) fn take_home(&mut self, number: u32) -> Result<(), AllocError>
+        ensures ok { OnOk result (self.new ≡ with_home number self.old) }
         ensures err { OnErr result (self.new ≡ self.old) }
     {
-        match home {
-            Home::Application(bean) => self.contexts.hold(bean, Held::Is(number)),
-            Home::Temporaries => self.temporaries.add(number),
-            Home::Nothing => Ok(()),
+        let Some(instance) = instance_in(&self.store, number) else {
+            return Ok(());
+        };
+        match (instance.component, &instance.owner) {
+            (Component::Bean(bean), Owner::Context(context)) => {
+                named::put_in(&mut self.contexts, context, bean, Held::Is(number))
+            }
+            (_, Owner::Borrower) => self.temporaries.add(number),
+            _ => Ok(()),
         }
     }
 
-    /// The home has the instance no longer.
-    pub(super) fn leave_home(&mut self, number: u32, home: Home)
-        ensures { self.new ≡ without_home number home self.old }
+    /// Its context and the temporaries have the instance no longer.
+    pub(super) fn leave_home(&mut self, number: u32)
+        ensures { self.new ≡ without_home number self.old }
     {
-        match home {
-            Home::Application(bean) => self.contexts.leave(bean),
-            Home::Temporaries => self.temporaries.forget(number, self.alloc),
-            Home::Nothing => {}
+        let Some(instance) = instance_in(&self.store, number) else {
+            return;
+        };
+        match (instance.component, &instance.owner) {
+            (Component::Bean(bean), Owner::Context(context)) => {
+                named::leave_in(&mut self.contexts, context, bean);
+            }
+            (_, Owner::Borrower) => self.temporaries.forget(number, self.alloc),
+            _ => {}
+        }
+    }
+
+    /// Its context has the instance no longer.
+    pub(super) fn leave_context(&mut self, number: u32)
+        ensures { self.new ≡ without_context_home number self.old }
+    {
+        let Some(instance) = instance_in(&self.store, number) else {
+            return;
+        };
+        if let (Component::Bean(bean), Owner::Context(context)) = (
+            instance.component,
+            &instance.owner,
+        ) {
+            named::leave_in(&mut self.contexts, context, bean);
         }
     }
 

@@ -1,8 +1,9 @@
-use Rattle.std.proofs.Common.{◌∙◌, subst}
+use Rattle.std.proofs.Common.{◌∙◌, sym, subst}
 use Rattle.cdi_machine.specs.Commands.{task}
 use Rattle.cdi_run_tables.specs.Machine.{machine_tables}
 use Rattle.cdi_runtime.specs.Standing.{RuntimeParts}
 use Rattle.cdi_steps.proofs.Driving.{still_drives}
+use Rattle.cdi_steps.specs.Known.{KnownJob}
 use Rattle.cdi_steps.specs.Leads.{Ran}
 use Rattle.cdi_steps.specs.Words.{command_of}
 use Rattle.cdi_container.specs.States.CarriesOut.{ends, starves}
@@ -23,3 +24,8 @@ returns-clause-carries g c =
       | in-Ok w ↦ rw w.result-is (ends (rw w.in-Ok.is at ran))
       | in-Err w ↦ rw w.result-is (starves tt (rw w.in-Err.is at ran))
     ]
+
+-- a command that begins changes no contexts
+pub run-requires-clause-known : goal.run-requires-clause-known
+run-requires-clause-known g c =
+    subst (λ (r : RuntimeParts _). KnownJob r.world c.args.job) (sym (c.runtime.view_is ∙ c.begin.ensures)) c.requires

@@ -5,8 +5,8 @@ use Rattle.cdi_steps.proofs.DestructionSteps.{released_leads}
 use Rattle.cdi_steps.proofs.InjectionSteps.{discarded_leads}
 use Rattle.cdi_steps.proofs.Made.{ends, leaves_alone, settled}
 use Rattle.cdi_steps.proofs.Results.{map_ok}
-use Rattle.cdi_frames.proofs.CommandSteps.{starting_leads, closing_leads, finishing_leads, emptied_leads}
-use Rattle.cdi_frames.proofs.ResumeSteps.{reached_leads, stopped_leads, exited_leads, cleaned_up_leads, freeing_leads, dismissing_leads, clearing_leads, returned_leads, started_leads, gone_down_leads}
+use Rattle.cdi_frames.proofs.CommandSteps.{starting_leads, opened_leads}
+use Rattle.cdi_frames.proofs.ResumeSteps.{reached_leads, stopped_leads, exited_leads, cleaned_up_leads, freeing_leads, dismissing_leads, clearing_leads, returned_leads, told_leads}
 use Rattle.cdi_frames.proofs.resume.go_on.Goals as goal
 
 pub returns-in-AtEnd-clause-step : goal.returns-in-AtEnd-clause-step
@@ -37,10 +37,6 @@ pub returns-in-Dismissing-clause-step : goal.returns-in-Dismissing-clause-step
 returns-in-Dismissing-clause-step g c =
     rw c.in-Dismissing.is (leaves_alone (dismissing_leads (g.T.Tables.tables c.args.tables.now) c.args.given (g.W.Contents.world c.args.world.now)) (omega arith) refl tt tt)
 
-pub returns-in-Clearing-clause-step : goal.returns-in-Clearing-clause-step
-returns-in-Clearing-clause-step g c =
-    rw c.in-Clearing.is (leaves_alone (clearing_leads (g.T.Tables.tables c.args.tables.now) c.args.given (g.W.Contents.world c.args.world.now)) (omega arith) refl tt tt)
-
 pub returns-in-Exiting-clause-step : goal.returns-in-Exiting-clause-step
 returns-in-Exiting-clause-step g c =
     rw (c.in-Exiting.is, c.exited.ensures.next, c.exited.ensures.world) (record { leads = exited_leads (g.T.Tables.tables c.args.tables.now) (completions.Gave c.args.given) (g.W.Contents.world c.args.world.now); lowers = omega arith; known = λ h. tt; invoked = exit_invoked; quiet = tt })
@@ -53,29 +49,36 @@ pub returns-in-Initializing-clause-step : goal.returns-in-Initializing-clause-st
 returns-in-Initializing-clause-step g c =
     rw (c.in-Initializing.is, c.starting.ensures) (leaves_alone (starting_leads (g.T.Tables.tables c.args.tables.now) (completions.Gave c.args.given) (g.W.Contents.world c.args.world.now)) (omega arith) refl (tt, tt) tt)
 
-pub returns-in-Starting-clause-step : goal.returns-in-Starting-clause-step
-returns-in-Starting-clause-step g c =
-    rw (c.in-Starting.is, c.null.ensures) (ends (started_leads (g.T.Tables.tables c.args.tables.now) (completions.Gave c.args.given) (g.W.Contents.world c.args.world.now)) (omega arith) refl)
-
-pub returns-in-Closing-clause-step : goal.returns-in-Closing-clause-step
-returns-in-Closing-clause-step g c =
-    rw (c.in-Closing.is, c.closing.ensures) (leaves_alone (closing_leads (g.T.Tables.tables c.args.tables.now) (completions.Gave c.args.given) (g.W.Contents.world c.args.world.now)) (omega arith) refl (tt, tt) tt)
-
-pub returns-in-Finishing-clause-step : goal.returns-in-Finishing-clause-step
-returns-in-Finishing-clause-step g c =
-    rw (c.in-Finishing.is, c.finishing.ensures.next, c.finishing.ensures.world) (leaves_alone (finishing_leads (g.T.Tables.tables c.args.tables.now) (completions.Gave c.args.given) (g.W.Contents.world c.args.world.now)) (omega arith) refl (tt, tt) tt)
-
-pub returns-in-Emptying-clause-step : goal.returns-in-Emptying-clause-step
-returns-in-Emptying-clause-step g c =
-    rw (c.in-Emptying.is, c.emptied.ensures.next, c.emptied.ensures.world) (leaves_alone (emptied_leads (g.T.Tables.tables c.args.tables.now) c.args.given (g.W.Contents.world c.args.world.now)) (omega arith) refl (tt, tt) tt)
-
-pub returns-in-GoingDown-clause-step : goal.returns-in-GoingDown-clause-step
-returns-in-GoingDown-clause-step g c =
-    rw (c.in-GoingDown.is, c.gone_down.ensures.next, c.gone_down.ensures.world) (ends (gone_down_leads (g.T.Tables.tables c.args.tables.now) (completions.Gave c.args.given) (g.W.Contents.world c.args.world.now)) (omega arith) refl)
-
 pub returns-in-Answering-clause-step : goal.returns-in-Answering-clause-step
 returns-in-Answering-clause-step g c =
     rw c.in-Answering.is (map_ok c.answer.result (λ next h. settled refl h (omega arith)) c.answer.ensures)
 
 pub returns-in-Using-clause-step : goal.returns-in-Using-clause-step
 returns-in-Using-clause-step g c = rw c.in-Using.is c.returning.ensures.step
+
+pub returns-in-Clearing-clause-step : goal.returns-in-Clearing-clause-step
+returns-in-Clearing-clause-step g c =
+    rw c.in-Clearing.is (leaves_alone (clearing_leads (g.T.Tables.tables c.args.tables.now) c.in-Clearing.context c.args.given (g.W.Contents.world c.args.world.now)) (omega arith) refl tt tt)
+
+pub returns-in-Opening-clause-step : goal.returns-in-Opening-clause-step
+returns-in-Opening-clause-step g c =
+    rw (c.in-Opening.is, c.opened.ensures) (leaves_alone (opened_leads (g.T.Tables.tables c.args.tables.now) (completions.Gave c.args.given) (g.W.Contents.world c.args.world.now)) (omega arith) refl (tt, tt) tt)
+
+pub returns-in-Telling-clause-step : goal.returns-in-Telling-clause-step
+returns-in-Telling-clause-step g c =
+    rw (c.in-Telling.is, c.null.ensures) (ends (told_leads (g.T.Tables.tables c.args.tables.now) (completions.Gave c.args.given) (g.W.Contents.world c.args.world.now)) (omega arith) refl)
+
+pub returns-in-ShuttingDown-clause-step : goal.returns-in-ShuttingDown-clause-step
+returns-in-ShuttingDown-clause-step g c =
+    rw c.in-ShuttingDown.is (map_ok c.end_application.result (λ next h. settled refl h (omega arith)) c.end_application.ensures)
+
+pub returns-in-Finishing-clause-step : goal.returns-in-Finishing-clause-step
+returns-in-Finishing-clause-step g c =
+    rw c.in-Finishing.is (map_ok c.finishing.result (λ next h. settled refl h (omega arith)) c.finishing.ensures.step)
+
+pub returns-in-Emptying-clause-step : goal.returns-in-Emptying-clause-step
+returns-in-Emptying-clause-step g c = rw c.in-Emptying.is (settled refl c.emptied.ensures (omega arith))
+
+pub returns-in-Closed-clause-step : goal.returns-in-Closed-clause-step
+returns-in-Closed-clause-step g c =
+    rw c.in-Closed.is (map_ok c.closed.result (λ next h. settled refl h (omega arith)) c.closed.ensures.step)

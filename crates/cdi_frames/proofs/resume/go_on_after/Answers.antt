@@ -5,8 +5,8 @@ use Rattle.cdi_steps.proofs.InjectionSteps.{injected_threw}
 use Rattle.cdi_steps.proofs.Made.{ends, leaves_alone, settled}
 use Rattle.cdi_steps.proofs.Ranks.{thrown_above}
 use Rattle.cdi_steps.proofs.Results.{map_ok}
-use Rattle.cdi_frames.proofs.CommandSteps.{starting_leads, closing_leads, finishing_leads}
-use Rattle.cdi_frames.proofs.ResumeSteps.{stopped_leads, exited_leads, cleaned_up_leads, threw_at_return, started_leads, gone_down_leads, threw_leads}
+use Rattle.cdi_frames.proofs.CommandSteps.{starting_leads, opened_leads}
+use Rattle.cdi_frames.proofs.ResumeSteps.{stopped_leads, exited_leads, cleaned_up_leads, threw_at_return, told_leads, threw_leads}
 use Rattle.cdi_frames.proofs.resume.go_on_after.Goals as goal
 
 pub returns-in-Stopping-clause-step : goal.returns-in-Stopping-clause-step
@@ -25,22 +25,6 @@ pub returns-in-Initializing-clause-step : goal.returns-in-Initializing-clause-st
 returns-in-Initializing-clause-step g c =
     rw (c.in-Initializing.is, c.starting.ensures) (leaves_alone (starting_leads (g.T.Tables.tables c.args.tables.now) (completions.Threw c.args.exception) (g.W.Contents.world c.args.world.now)) (omega arith) refl (tt, tt) tt)
 
-pub returns-in-Starting-clause-step : goal.returns-in-Starting-clause-step
-returns-in-Starting-clause-step g c =
-    rw (c.in-Starting.is, c.null.ensures) (ends (started_leads (g.T.Tables.tables c.args.tables.now) (completions.Threw c.args.exception) (g.W.Contents.world c.args.world.now)) (omega arith) refl)
-
-pub returns-in-Closing-clause-step : goal.returns-in-Closing-clause-step
-returns-in-Closing-clause-step g c =
-    rw (c.in-Closing.is, c.closing.ensures) (leaves_alone (closing_leads (g.T.Tables.tables c.args.tables.now) (completions.Threw c.args.exception) (g.W.Contents.world c.args.world.now)) (omega arith) refl (tt, tt) tt)
-
-pub returns-in-Finishing-clause-step : goal.returns-in-Finishing-clause-step
-returns-in-Finishing-clause-step g c =
-    rw (c.in-Finishing.is, c.finishing.ensures.next, c.finishing.ensures.world) (leaves_alone (finishing_leads (g.T.Tables.tables c.args.tables.now) (completions.Threw c.args.exception) (g.W.Contents.world c.args.world.now)) (omega arith) refl (tt, tt) tt)
-
-pub returns-in-GoingDown-clause-step : goal.returns-in-GoingDown-clause-step
-returns-in-GoingDown-clause-step g c =
-    rw (c.in-GoingDown.is, c.gone_down.ensures.next, c.gone_down.ensures.world) (ends (gone_down_leads (g.T.Tables.tables c.args.tables.now) (completions.Threw c.args.exception) (g.W.Contents.world c.args.world.now)) (omega arith) refl)
-
 pub returns-in-Returning-clause-step : goal.returns-in-Returning-clause-step
 returns-in-Returning-clause-step g c =
     rw (c.in-Returning.is, c.returned.ensures.next, c.returned.ensures.world) (ends (threw_at_return (g.T.Tables.tables c.args.tables.now) c.in-Returning._completion c.args.exception (g.W.Contents.world c.args.world.now)) (omega arith) refl)
@@ -56,7 +40,27 @@ returns-in-Answering-clause-step g c =
 pub returns-in-Using-clause-step : goal.returns-in-Using-clause-step
 returns-in-Using-clause-step g c = rw c.in-Using.is c.returning.ensures.step
 
+pub returns-in-Opening-clause-step : goal.returns-in-Opening-clause-step
+returns-in-Opening-clause-step g c =
+    rw (c.in-Opening.is, c.opened.ensures) (leaves_alone (opened_leads (g.T.Tables.tables c.args.tables.now) (completions.Threw c.args.exception) (g.W.Contents.world c.args.world.now)) (omega arith) refl (tt, tt) tt)
+
+pub returns-in-Telling-clause-step : goal.returns-in-Telling-clause-step
+returns-in-Telling-clause-step g c =
+    rw (c.in-Telling.is, c.null.ensures) (ends (told_leads (g.T.Tables.tables c.args.tables.now) (completions.Threw c.args.exception) (g.W.Contents.world c.args.world.now)) (omega arith) refl)
+
+pub returns-in-ShuttingDown-clause-step : goal.returns-in-ShuttingDown-clause-step
+returns-in-ShuttingDown-clause-step g c =
+    rw c.in-ShuttingDown.is (map_ok c.end_application.result (λ next h. settled refl h (omega arith)) c.end_application.ensures)
+
+pub returns-in-Finishing-clause-step : goal.returns-in-Finishing-clause-step
+returns-in-Finishing-clause-step g c =
+    rw c.in-Finishing.is (map_ok c.finishing.result (λ next h. settled refl h (omega arith)) c.finishing.ensures.step)
+
+pub returns-in-Closed-clause-step : goal.returns-in-Closed-clause-step
+returns-in-Closed-clause-step g c =
+    rw c.in-Closed.is (map_ok c.closed.result (λ next h. settled refl h (omega arith)) c.closed.ensures.step)
+
 pub returns-clause-step : goal.returns-clause-step
 returns-clause-step g c =
     let d = c.in_default in
-    rw c.ended.ensures (ends (threw_leads (g.T.Tables.tables c.args.tables.now) c.args.exception c.args.frame (g.W.Contents.world c.args.world.now) d.not-Stopping d.not-Answering d.not-CleaningUp d.not-Exiting d.not-Using d.not-Returning d.not-Initializing d.not-Starting d.not-Closing d.not-Finishing d.not-GoingDown d.not-Injecting) (thrown_above c.args.frame) refl)
+    rw c.ended.ensures (ends (threw_leads (g.T.Tables.tables c.args.tables.now) c.args.exception c.args.frame (g.W.Contents.world c.args.world.now) d.not-Stopping d.not-Answering d.not-CleaningUp d.not-Exiting d.not-Using d.not-Returning d.not-Initializing d.not-Opening d.not-Telling d.not-ShuttingDown d.not-Finishing d.not-Closed d.not-Injecting) (thrown_above c.args.frame) refl)

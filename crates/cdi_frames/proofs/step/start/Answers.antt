@@ -3,7 +3,7 @@ use Rattle.cdi_steps.proofs.Made.{driven}
 use Rattle.cdi_frames.proofs.step.start.Goals as goal
 
 pub returns-in_err-rest-in-Rest-clause-failed : goal.returns-in_err-rest-in-Rest-clause-failed
-returns-in_err-rest-in-Rest-clause-failed g c = passed_on _ c.from_residual.result starves_alone c.from_residual.ensures
+returns-in_err-rest-in-Rest-clause-failed g c = passed_on _ c.from_residual-in_err-rest-in-Rest.result starves_alone c.from_residual-in_err-rest-in-Rest.ensures
 
 pub returns-in_err-fire-in-Fire-clause-failed : goal.returns-in_err-fire-in-Fire-clause-failed
 returns-in_err-fire-in-Fire-clause-failed g c = passed_on _ c.from_residual-in_err-fire-in-Fire.result starves_alone c.from_residual-in_err-fire-in-Fire.ensures
@@ -14,8 +14,11 @@ returns-in_ok-rest-in-Rest-clause-step g c = rw c.in-Rest.is (driven (g.D.Driver
 pub returns-in_ok-fire-in-Fire-clause-step : goal.returns-in_ok-fire-in-Fire-clause-step
 returns-in_ok-fire-in-Fire-clause-step g c = rw c.in-Fire.is (driven (g.D.Driver.legal c.args.driver.now) c.in_ok-fire-in-Fire.ensures)
 
-pub returns-in-Obtain-clause-step : goal.returns-in-Obtain-clause-step
-returns-in-Obtain-clause-step g c = rw c.in-Obtain.is (driven (g.D.Driver.legal c.args.driver.now) c.obtain.ensures)
+pub returns-in_err-obtain-in-Obtain-clause-failed : goal.returns-in_err-obtain-in-Obtain-clause-failed
+returns-in_err-obtain-in-Obtain-clause-failed g c = passed_on _ c.from_residual.result starves_alone c.from_residual.ensures
+
+pub returns-in_ok-obtain-in-Obtain-clause-step : goal.returns-in_ok-obtain-in-Obtain-clause-step
+returns-in_ok-obtain-in-Obtain-clause-step g c = rw c.in-Obtain.is (driven (g.D.Driver.legal c.args.driver.now) c.in_ok-obtain-in-Obtain.ensures)
 
 pub returns-in-Create-clause-step : goal.returns-in-Create-clause-step
 returns-in-Create-clause-step g c = rw c.in-Create.is (driven (g.D.Driver.legal c.args.driver.now) c.create.ensures)

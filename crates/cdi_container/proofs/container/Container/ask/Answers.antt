@@ -1,7 +1,6 @@
-use Rattle.std.proofs.Common.{◌≡◌, ◌∙◌, sym, subst, option_map, Some, None}
+use Rattle.std.proofs.Common.{◌≡◌, ◌∙◌, sym, subst, Some, None}
 use Rattle.cdi_machine.specs.Container.{refusal}
 use Rattle.cdi_steps.specs.Words.{command_of}
-use Rattle.cdi_runtime.specs.Refusals.{in_request}
 use Rattle.cdi_container.specs.Standing.{tables_of, state_of}
 use Rattle.cdi_container.specs.States.{AnswersCommand, machine_state}
 use Rattle.cdi_container.specs.States.AnswersCommand.{refuses}
@@ -9,7 +8,7 @@ use Rattle.cdi_container.proofs.container.Container.ask.Goals as goal
 
 pub returns-in-Some-clause-answers : goal.returns-in-Some-clause-answers
 returns-in-Some-clause-answers g c =
-    let command = in_request (option_map (λ r. r.now) c.args.request) (command_of c.args.job) in
+    let command = command_of c.args.job in
     let told = sym c.refusal.ensures.refusal ∙ c.in-Some.is in
     let refused = subst (λ s. refusal (tables_of s) (machine_state (state_of s)) command ≡ Some c.in-Some.refusal) (sym c.refusal.ensures.kept) told in
     subst (λ s. AnswersCommand (tables_of s) (g.D.Driver.legal s.runtime.driver) (Unit {0}) (state_of s) command c.refuse.result (state_of c.refuse.new.self)) c.refusal.ensures.kept
@@ -17,13 +16,9 @@ returns-in-Some-clause-answers g c =
 
 pub returns-in-None-clause-answers : goal.returns-in-None-clause-answers
 returns-in-None-clause-answers g c =
-    let command = in_request (option_map (λ r. r.now) c.args.request) (command_of c.args.job) in
-    subst (λ s. AnswersCommand (tables_of s) (g.D.Driver.legal s.runtime.driver) (Unit {0}) (state_of s) command c.perform.result (state_of c.perform.new.self)) c.refusal.ensures.kept
-    (rw (c.refusal.ensures.alone c.in-None.is) c.perform.ensures.answers)
+    subst (λ s. AnswersCommand (tables_of s) (g.D.Driver.legal s.runtime.driver) (Unit {0}) (state_of s) (command_of c.args.job) c.perform.result (state_of c.perform.new.self)) c.refusal.ensures.kept
+    c.perform.ensures.answers
 
 pub perform-requires : goal.perform-requires
 perform-requires g c =
-    let command = in_request (option_map (λ r. r.now) c.args.request) (command_of c.args.job) in
-    let told = sym c.refusal.ensures.refusal ∙ c.in-None.is in
-    let asked = subst (λ s. refusal (tables_of s) (machine_state (state_of s)) command ≡ None) (sym c.refusal.ensures.kept) told in
-    subst (λ k. refusal (tables_of c.refusal.new.self) (machine_state (state_of c.refusal.new.self)) k ≡ None) (c.refusal.ensures.alone c.in-None.is) asked
+    subst (λ s. refusal (tables_of s) (machine_state (state_of s)) (command_of c.args.job) ≡ None) (sym c.refusal.ensures.kept) (sym c.refusal.ensures.refusal ∙ c.in-None.is)
