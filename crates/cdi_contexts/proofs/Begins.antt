@@ -7,7 +7,8 @@ use Rattle.cdi_contexts.specs.Contexts.{Active, Contexts, OpenRequest, OpenSessi
 use Rattle.cdi_contexts.specs.Refusals.{begin_refusal}
 use Rattle.cdi_contexts.specs.Standing.{Begins, in_slot}
 use Rattle.cdi_contexts.specs.Group.{kept_named, request_of, session_of, standing}
-use Rattle.cdi_contexts.proofs.Slots.{own_number, same_bytes, nothing}
+use Rattle.cdi_store.proofs.Absent.{nothing}
+use Rattle.cdi_contexts.proofs.Slots.{own_number, same_bytes}
 use Rattle.cdi_contexts.proofs.ByName.{in_slot_seen, named_seen}
 
 -- a request that isn't there may be added

@@ -11,7 +11,8 @@ use Rattle.cdi_contexts.specs.Named.{named, changed, without_name}
 use Rattle.cdi_contexts.specs.Contexts.{OpenSession, belongs_to, is_ending, Active, Contexts, context_among, with_context, without_context}
 use Rattle.cdi_contexts.specs.Standing.{Standing, is_due_in, with_marked, without_env, first_open, in_slot, active_in, in_env, for_context}
 use Rattle.cdi_contexts.specs.Group.{marked, shown, without_at, first_kept, kept_named, with_table, with_table_at, table_at, outline, AreApart, request_of, session_of, standing}
-use Rattle.cdi_contexts.proofs.Slots.{own_number, own_bytes, same_bytes, named-outline, at-outline, nothing, without-absent, untouched}
+use Rattle.cdi_store.proofs.Absent.{nothing, without-absent, untouched}
+use Rattle.cdi_contexts.proofs.Slots.{own_number, own_bytes, same_bytes, named-outline, at-outline}
 
 abbrev standing_of : Contexts → List ℕ → List ℕ → Standing
 standing_of c requests sessions = record { contexts = c; request_slots = requests; session_slots = sessions }

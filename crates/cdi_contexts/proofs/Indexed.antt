@@ -4,11 +4,12 @@ use Rattle.std.proofs.lemmas.Map.Views.{exact_unsigned_eq}
 use Rattle.cdi_base.specs.Maps.{Map, at, adjusted, without}
 use Rattle.cdi_contexts.specs.Named.{named}
 use Rattle.cdi_contexts.specs.Contexts.{Active}
-use Rattle.cdi_contexts.specs.NameIndex.{slot_of, Points, PointsAlike}
+use Rattle.cdi_store.specs.NameIndex.{slot_of, Points, PointsAlike}
 use Rattle.cdi_contexts.specs.Group.{kept_named, with_table, outline, AreApart, IsIndexOf}
 use Rattle.cdi_contexts.specs.declared.group.Kept.{Kept}
-use Rattle.cdi_contexts.specs.declared.name_index.NameIndex.{NameIndex}
-use Rattle.cdi_contexts.proofs.Slots.{same_bytes, other_bytes, own_number, past, nothing, without-absent, at-outline, named-outline, same_name, outline-push, outline-without}
+use Rattle.cdi_store.specs.declared.name_index.NameIndex.{NameIndex}
+use Rattle.cdi_store.proofs.Absent.{nothing, without-absent}
+use Rattle.cdi_contexts.proofs.Slots.{same_bytes, other_bytes, own_number, past, at-outline, named-outline, same_name, outline-push, outline-without}
 
 -- the slot of a name
 abbrev slot_named : List (ℕ × List ℕ) → List ℕ → Option ℕ

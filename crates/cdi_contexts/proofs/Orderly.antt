@@ -9,7 +9,8 @@ use Rattle.cdi_contexts.specs.Group.{kept_named, outline, request_of, session_of
 use Rattle.cdi_contexts.specs.Named.{named, HaveOwnNames}
 use Rattle.cdi_contexts.specs.Standing.{IsOrderly}
 use Rattle.cdi_contexts.proofs.ByName.{named_seen}
-use Rattle.cdi_contexts.proofs.Slots.{named-outline, nothing, past}
+use Rattle.cdi_store.proofs.Absent.{nothing}
+use Rattle.cdi_contexts.proofs.Slots.{named-outline, past}
 
 module _ {D : Type 0} where
   others : (m : Map (Kept D)) (k : ℕ) → at (outline m) k ≡ None → AllByRecursion (λ j. nat_eq k j ≡ false) (map (λ p. p.0) m)

@@ -10,6 +10,7 @@ use Rattle.indexmap.specs.IndexMap.{insert_entry}
 use Rattle.slab.specs.Slab.{Slab, get, Updates}
 use Rattle.cdi_base.specs.Maps.{Map, at, adjusted, without}
 use Rattle.cdi_base.proofs.Tables.{place_of}
+use Rattle.cdi_store.proofs.Absent.{nothing, untouched, without-absent}
 use Rattle.cdi_store.proofs.Entries.{at-lookup}
 use Rattle.cdi_contexts.specs.Named.{named}
 use Rattle.cdi_contexts.specs.Contexts.{Active}
@@ -100,15 +101,6 @@ module _ {X : Type 0} where
   pub rewritten : (m : Map X) (slot i : ℕ) (k w : X) → Some i ≡ position (nat_eq slot) (keys_of m) → slice_get (values_of m) i ≡ lookup (nat_eq slot) m → slice_get (values_of m) i ≡ Some k → w ≡ k → set_value_at m i w ≡ m
   rewritten m slot i k w place found value is = written m slot i k w (λ x. x) place found value is ∙ same m slot
 
-  -- nothing changes in an empty slot
-  pub untouched : (m : Map X) (slot : ℕ) (f : X → X) → at m slot ≡ None → adjusted slot f m ≡ m
-  untouched [] slot f h = refl
-  untouched (p ∷ more) slot f h = by (slot == p.0) h (untouched more slot f)
-    where
-      by : (b : Bool) → cond b (Some p.1) (at more slot) ≡ None → (at more slot ≡ None → adjusted slot f more ≡ more) → cond b ((p.0, f p.1) ∷ more) (p ∷ adjusted slot f more) ≡ p ∷ more
-      by true i rest = absurd cc
-      by false i rest = ap (λ r. p ∷ r) (rest i)
-
   pub absent : (m : Map X) (slot : ℕ) → is_some (lookup (nat_eq slot) m) ≡ false → at m slot ≡ None
   absent m slot h = by (at m slot) refl (ap is_some (sym (at-lookup m slot)) ∙ h)
     where
@@ -135,14 +127,6 @@ module _ {X : Type 0} where
       by false i rest = rest i
 
   -- without what is in an empty slot
-  pub without-absent : (m : Map X) (slot : ℕ) → at m slot ≡ None → without slot m ≡ m
-  without-absent [] slot h = refl
-  without-absent (p ∷ more) slot h = by (slot == p.0) h (without-absent more slot)
-    where
-      by : (b : Bool) → cond b (Some p.1) (at more slot) ≡ None → (at more slot ≡ None → without slot more ≡ more) → cond (not b) (p ∷ without slot more) (without slot more) ≡ p ∷ more
-      by true i rest = absurd cc
-      by false i rest = ap (λ r. p ∷ r) (rest i)
-
   pub at-without : (m : Map X) (slot j : ℕ) → at m j ≡ None → at (without slot m) j ≡ None
   at-without [] slot j h = refl
   at-without (p ∷ more) slot j h = by (slot == p.0) (j == p.0) refl h (at-without more slot j)
@@ -192,10 +176,6 @@ module _ {X : Type 0} where
       by false true true e i k rest = absurd (true≢false (sym (joined j slot p.0 i k) ∙ e))
       by false true false e i k rest = rw i refl
       by false false s e i k rest = rw i rest
-
-pub nothing : {A B : Type 0} (f : A → B) (o : Option A) → option_map f o ≡ None → o ≡ None
-nothing f None h = refl
-nothing f (Some x) h = absurd cc
 
 pub same_name : {D : Type 0} (m : Map (Kept D)) (slot : ℕ) (f : Kept D → Kept D) → ((k : Kept D) → (f k).name ≡ k.name) → outline (adjusted slot f m) ≡ outline m
 same_name [] slot f e = refl

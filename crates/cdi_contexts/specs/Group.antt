@@ -4,11 +4,11 @@ use Rattle.std.specs.Borrow.{Bor}
 use Rattle.slab.specs.Slab.{Slab, get}
 use Rattle.cdi_base.specs.Maps.{Map, at, adjusted, without}
 use Rattle.cdi_contexts.specs.Named.{named}
-use Rattle.cdi_contexts.specs.NameIndex.{slot_of}
+use Rattle.cdi_store.specs.NameIndex.{slot_of}
 use Rattle.cdi_contexts.specs.Contexts.{Active, OpenRequest, OpenSession, fresh}
 use Rattle.cdi_contexts.specs.Standing.{Standing, first_open, request_at, session_at}
 use Rattle.cdi_contexts.specs.declared.group.Kept.{Kept}
-use Rattle.cdi_contexts.specs.declared.name_index.NameIndex.{NameIndex}
+use Rattle.cdi_store.specs.declared.name_index.NameIndex.{NameIndex}
 
 module _ {D : Type 0} where
   -- a request or a session at its begin

@@ -2,6 +2,5 @@ pub mod Named
 pub mod Contexts
 pub mod Refusals
 pub mod Standing
-pub mod NameIndex
 pub mod Group
 pub mod Places

@@ -12,7 +12,7 @@ ghost use Rattle.cdi_contexts.specs.Group.{shown, table_at, without_at, with_tab
 ghost use Rattle.cdi_contexts.specs.Group.{AreApart};
 
 use crate::context::{Held, Status};
-use crate::name_index::NameIndex;
+use cdi_store::NameIndex;
 use crate::table::Table;
 use cdi_base::Text;
 use indexmap::IndexMap;

@@ -4,7 +4,6 @@
 pub mod context;
 pub mod contexts;
 mod group;
-mod name_index;
 mod places;
 mod table;
 

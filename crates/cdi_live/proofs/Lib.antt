@@ -7,4 +7,3 @@ pub mod Rows
 pub mod Within
 pub mod FieldSets
 pub mod MemberSets
-pub mod Pushing

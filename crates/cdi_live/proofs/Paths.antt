@@ -9,7 +9,7 @@ use Rattle.cdi_base.specs.Maps.{at}
 use Rattle.cdi_beans.specs.declared.bean.Bean.{Bean}
 use Rattle.cdi_chains.specs.Chains.{interceptors_of, intercepts}
 use Rattle.cdi_deployment.specs.declared.deployment.Point.{Point}
-use Rattle.cdi_live.specs.Live.{is_bean_of}
+use Rattle.cdi_resolve.specs.Filters.{is_bean_of}
 use Rattle.cdi_bean_check.specs.ManagedBeans.{is_dependent}
 use Rattle.cdi_types.specs.Line.{class_named}
 use Rattle.cdi_types.proofs.Lines.{one_line}

@@ -6,12 +6,9 @@ use Rattle.cdi_beans.specs.declared.bean.EnabledInterceptor.{EnabledInterceptor}
 use Rattle.cdi_beans.specs.Kinds.{is_managed}
 use Rattle.cdi_deployment.specs.declared.deployment.Class.{Class}
 use Rattle.cdi_deployment.specs.Lists.{is_declared_class}
+use Rattle.cdi_resolve.specs.Filters.{is_bean_of}
 use Rattle.cdi_types.specs.Subtype.{IsSubtype}
 use Rattle.cdi_types.specs.declared.declaration.TypeDeclaration.{TypeDeclaration}
-
--- a managed bean of this class
-abbrev pub is_bean_of : ℕ → ℕ × Bean → Bool
-is_bean_of class b = is_managed b.1.kind && (b.1.class == class)
 
 -- an enabled managed bean is of the class, so that its constructor is called
 abbrev pub is_live_class : List (ℕ × Bean) → ℕ → Bool

@@ -8,7 +8,7 @@ use Rattle.cdi_beans.specs.declared.bean.BeanKind.TheVariants as kinds
 use Rattle.cdi_chains.specs.Chains.{interceptors_of}
 use Rattle.cdi_deployment.specs.declared.deployment.Point.{Point}
 use Rattle.cdi_live.specs.Enabled.{Enabled}
-use Rattle.cdi_live.specs.Live.{is_bean_of}
+use Rattle.cdi_resolve.specs.Filters.{is_bean_of}
 use Rattle.cdi_live.specs.PointProblems.{resolved}
 use Rattle.cdi_resolve.specs.declared.resolution.Resolution.{Resolution}
 use Rattle.cdi_resolve.specs.declared.resolution.Resolution.TheVariants.{Nothing, One, Many}

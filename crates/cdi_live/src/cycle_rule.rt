@@ -4,14 +4,14 @@ ghost use Rattle.std.specs.HashSet.{contains};
 ghost use Rattle.std.specs.List.{enumerate_from, list_any};
 ghost use Rattle.cdi_live.specs.Cycles as spec;
 ghost use Rattle.cdi_live.specs.Settings.{setting_of};
-ghost use Rattle.cdi_live.specs.Live.{is_bean_of};
+ghost use Rattle.cdi_resolve.specs.Filters.{is_bean_of};
 ghost use Rattle.cdi_name_check.specs.NameSets.{HasPairs, same_pair};
 ghost use Rattle.cdi_problems.specs.Elements.{shown};
 ghost use Rattle.cdi_problems.specs.Findings.{ArePlacesOf};
 
 use crate::cycles::NeedyFlags;
 use crate::deployment_tables::DeploymentTables;
-use crate::enabled::EnabledBean;
+use cdi_resolve::EnabledBean;
 use crate::live_tables::LiveTables;
 use crate::needs::product_name;
 use cdi_base::{Name, Place, Seq};

@@ -6,7 +6,6 @@
 pub mod cycle_rule;
 mod cycles;
 pub mod deployment_tables;
-pub mod enabled;
 mod graph;
 pub mod live_tables;
 mod needed_at_points;
@@ -19,7 +18,6 @@ mod sets;
 
 pub use cycle_rule::dependent_cycles;
 pub use deployment_tables::DeploymentTables;
-pub use enabled::EnabledBean;
 pub use live_tables::LiveTables;
 pub use node::Node;
 pub use point_problem::PointProblem;

@@ -3,4 +3,5 @@ pub mod Eligible
 pub mod Enabled
 pub mod Filtering
 pub mod Narrowing
+pub mod Pushing
 pub mod Rows

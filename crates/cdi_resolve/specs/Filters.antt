@@ -6,6 +6,7 @@ use Rattle.cdi_base.specs.BuiltIn.{number_of}
 use Rattle.cdi_base.specs.declared.built_in.BuiltIn.TheVariants as names
 use Rattle.cdi_bean_check.specs.Qualifiers.{full_uses}
 use Rattle.cdi_beans.specs.declared.bean.Bean.{Bean}
+use Rattle.cdi_beans.specs.Kinds.{is_managed}
 use Rattle.cdi_quals.specs.Qualifiers.{has_all}
 use Rattle.cdi_quals.specs.declared.qualifier.Qualifier.{Qualifier}
 use Rattle.cdi_resolve.specs.declared.required.Required.{Required}
@@ -40,6 +41,10 @@ is_enabled enabled index = slice_index_or enabled index false
 -- the enabled ones of a list of beans, with their indices
 abbrev pub enabled_beans : List Bean → List Bool → List (ℕ × Bean)
 enabled_beans beans enabled = filter (λ p. is_enabled enabled p.0) (enumerate_from 0 beans)
+
+-- a managed bean of this class
+abbrev pub is_bean_of : ℕ → ℕ × Bean → Bool
+is_bean_of class b = is_managed b.1.kind && (b.1.class == class)
 
 -- some beans, and which of them are enabled
 pub record Candidates : Type 0 where

@@ -3,6 +3,7 @@
 #![tactic(auto)]
 
 pub mod bean_tables;
+pub mod enabled_bean;
 mod filter;
 pub mod laws;
 mod question;
@@ -13,6 +14,7 @@ pub mod resolving;
 mod type_index;
 
 pub use bean_tables::BeanTables;
+pub use enabled_bean::EnabledBean;
 pub use resolution::Resolution;
 pub use resolver::Resolver;
 pub use resolving::Resolving;

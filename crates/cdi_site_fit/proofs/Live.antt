@@ -17,7 +17,8 @@ use Rattle.cdi_deployment.specs.declared.deployment.Deployment.{Deployment}
 use Rattle.cdi_deployment.specs.declared.deployment.Interceptor.{Interceptor}
 use Rattle.cdi_deployment.specs.declared.deployment.Member.{Member}
 use Rattle.cdi_deployment.specs.declared.deployment.Member.TheVariants as members
-use Rattle.cdi_live.specs.Live.{has_member, is_bean_of}
+use Rattle.cdi_resolve.specs.Filters.{is_bean_of}
+use Rattle.cdi_live.specs.Live.{has_member}
 use Rattle.cdi_beans.specs.Kinds.{is_managed}
 use Rattle.cdi_types.specs.Members.{members_of}
 use Rattle.cdi_deployment.specs.Member.{member_name}

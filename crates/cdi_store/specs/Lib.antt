@@ -1,3 +1,4 @@
 pub mod Live
+pub mod NameIndex
 pub mod Owned
 pub mod Slots

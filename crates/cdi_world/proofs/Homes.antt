@@ -9,8 +9,7 @@ use Rattle.cdi_store.specs.declared.instance.Instance.{Instance}
 use Rattle.cdi_store.specs.Live.{with_ready, with_leaving}
 use Rattle.cdi_machine.specs.World.{World, Change, after_change, for_instance, with_instances, with_owned, without_making, without_owned}
 use Rattle.cdi_world.specs.Reached.{with_home, without_home, without_context_home}
-use Rattle.cdi_contexts.proofs.Slots.{without-absent}
-use Rattle.cdi_world.proofs.Absent.{ready_absent, leaving_absent}
+use Rattle.cdi_store.proofs.Absent.{leaving_absent, ready_absent, without-absent}
 
 pub settled : (w : World) (n : ℕ)
     → with_instances (with_ready n) (with_home n w) ≡ after_change (Change.Settle n) w

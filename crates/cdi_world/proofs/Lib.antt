@@ -1,4 +1,3 @@
-pub mod Absent
 pub mod Changed
 pub mod Reached
 pub mod Taken

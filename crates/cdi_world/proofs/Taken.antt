@@ -9,7 +9,8 @@ use Rattle.cdi_contexts.specs.declared.context.Held.{Held}
 use Rattle.cdi_contexts.specs.declared.context.Held.TheVariants.{Making}
 use Rattle.cdi_contexts.specs.Contexts.{Active, Contexts, OpenRequest, OpenSession, request_in, session_in, context_at, context_of, context_among, entry_in, fits, has_place, active_with, active_without, with_context, with_held, with_nothing}
 use Rattle.cdi_contexts.specs.Standing.{Standing, active_in, environment_of, for_context, in_env, in_slot, of_slot}
-use Rattle.cdi_contexts.proofs.Slots.{own_number, without-absent, past}
+use Rattle.cdi_store.proofs.Absent.{without-absent}
+use Rattle.cdi_contexts.proofs.Slots.{own_number, past}
 use Rattle.cdi_world.proofs.Changed.{changed_back, slot_changed}
 use Rattle.cdi_world.proofs.Reached.{change_absent}
 

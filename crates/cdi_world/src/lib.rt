@@ -5,7 +5,6 @@
 mod environment;
 mod making;
 mod named;
-mod numbered;
 pub mod world;
 
 pub use world::World;

@@ -3,7 +3,7 @@ use super::World;
 use crate::environment::Environment;
 use crate::making::make_shared;
 use crate::named::{begin_in, close_in, finish_in, last_in, mark_in};
-use crate::numbered::{free_in, hold_in, instance_in, make_in, refer_in, set_in};
+use cdi_store::numbered::{free_in, hold_in, instance_in, make_in, refer_in, set_in};
 use cdi_base::{Entry, Fields, Name, Scope, Seq, Text, Value};
 use cdi_contexts::{Held, Status};
 use cdi_host::Contents;

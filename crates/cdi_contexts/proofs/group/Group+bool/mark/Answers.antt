@@ -2,7 +2,8 @@ use Rattle.std.proofs.Common.{◌∙◌, ap, sym, refl}
 use Rattle.cdi_base.specs.Maps.{adjusted}
 use Rattle.cdi_contexts.specs.Group.{marked}
 use Rattle.cdi_contexts.proofs.Indexed.{index-adjusted}
-use Rattle.cdi_contexts.proofs.Slots.{written, untouched, absent, apart-adjusted, taken-adjusted}
+use Rattle.cdi_store.proofs.Absent.{untouched}
+use Rattle.cdi_contexts.proofs.Slots.{written, absent, apart-adjusted, taken-adjusted}
 use Rattle.cdi_contexts.proofs.group.Group+bool.mark.Goals as goal
 
 pub invariant_of-self : goal.invariant_of-self

@@ -2,7 +2,7 @@ use Rattle.std.proofs.Common.{◌≡◌, ◌∙◌, ap, sym, subst, None, Some, 
 use Rattle.indexmap.specs.IndexMap.{insert_entry}
 use Rattle.cdi_base.specs.Maps.{at}
 use Rattle.cdi_contexts.specs.Group.{kept_named, AreTaken}
-use Rattle.cdi_contexts.specs.NameIndex.{Points}
+use Rattle.cdi_store.specs.NameIndex.{Points}
 use Rattle.std.specs.String.{string_bytes}
 use Rattle.cdi_contexts.proofs.Indexed.{index-pushed}
 use Rattle.cdi_contexts.proofs.Slots.{pushed, vacant, apart_pushed, taken_pushed}

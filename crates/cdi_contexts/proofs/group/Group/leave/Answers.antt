@@ -3,7 +3,8 @@ use Rattle.cdi_base.specs.Maps.{without}
 use Rattle.cdi_contexts.specs.Contexts.{Active}
 use Rattle.cdi_contexts.specs.Group.{with_table}
 use Rattle.cdi_contexts.proofs.Indexed.{index-with_table}
-use Rattle.cdi_contexts.proofs.Slots.{written, untouched, absent, apart-with_table, taken-with_table}
+use Rattle.cdi_store.proofs.Absent.{untouched}
+use Rattle.cdi_contexts.proofs.Slots.{written, absent, apart-with_table, taken-with_table}
 use Rattle.cdi_contexts.proofs.group.Group.leave.Goals as goal
 
 pub invariant_of-self : goal.invariant_of-self

@@ -4,7 +4,8 @@ use Rattle.cdi_store.proofs.Entries.{at-lookup}
 use Rattle.cdi_contexts.specs.Contexts.{Active}
 use Rattle.cdi_contexts.specs.Group.{with_table, table_at}
 use Rattle.cdi_contexts.proofs.Indexed.{index-with_table}
-use Rattle.cdi_contexts.proofs.Slots.{written, rewritten, untouched, absent, apart-with_table, taken-with_table, on_err}
+use Rattle.cdi_store.proofs.Absent.{untouched}
+use Rattle.cdi_contexts.proofs.Slots.{written, rewritten, absent, apart-with_table, taken-with_table, on_err}
 use Rattle.cdi_contexts.proofs.group.Group.put.Goals as goal
 
 pub returns-in_default-clause-ok : goal.returns-in_default-clause-ok

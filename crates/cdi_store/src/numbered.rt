@@ -6,11 +6,13 @@ ghost use Rattle.cdi_store.specs.Live.{owner_at, with_field, with_leaving, with_
 ghost use Rattle.cdi_store.specs.Live.{with_newborn, with_value, without_instance};
 
 use cdi_base::{Fields, Name, Value};
-use cdi_store::{Component, Instance, Owner, Reference, Store};
+use crate::instance::{Component, Instance, Owner};
+use crate::references::Reference;
+use crate::store::Store;
 use std::alloc::AllocError;
 
 /// The live instance with a number.
-pub(crate) fn instance_in(store: &Store, number: u32) -> Option<&Instance>
+pub fn instance_in(store: &Store, number: u32) -> Option<&Instance>
     ensures { option_copied result ≡ at store.now.instances number }
 {
     match store.key(number) {
@@ -20,7 +22,7 @@ pub(crate) fn instance_in(store: &Store, number: u32) -> Option<&Instance>
 }
 
 /// A new instance gets the next number. On an error nothing changes.
-pub(crate) fn make_in(
+pub fn make_in(
     store: &mut Store,
     component: Component,
     owner: Owner,
@@ -39,7 +41,7 @@ pub(crate) fn make_in(
 }
 
 /// Gives a field of the instance another value, if it is there.
-pub(crate) fn set_in(store: &mut Store, number: u32, field: Name, value: Value)
+pub fn set_in(store: &mut Store, number: u32, field: Name, value: Value)
     ensures { store.new ≡ record store.old {
       instances = with_field number field value store.old.instances;
     } }
@@ -50,7 +52,7 @@ pub(crate) fn set_in(store: &mut Store, number: u32, field: Name, value: Value)
 }
 
 /// Gives the instance, a product, its value.
-pub(crate) fn hold_in(store: &mut Store, number: u32, value: Value)
+pub fn hold_in(store: &mut Store, number: u32, value: Value)
     ensures { store.new ≡ record store.old {
       instances = with_value number value store.old.instances;
     } }
@@ -62,7 +64,7 @@ pub(crate) fn hold_in(store: &mut Store, number: u32, value: Value)
 
 /// Gives an injected field of the instance a reference, if the instance is there. Memory can be wanting only where
 /// the field has none yet. On an error nothing changes.
-pub(crate) fn refer_in(
+pub fn refer_in(
     store: &mut Store,
     number: u32,
     field: Name,
@@ -84,7 +86,7 @@ pub(crate) fn refer_in(
 
 /// The instance is ready, and its owner has it. Memory can be wanting only if its owner is a live
 /// instance. On an error nothing changes.
-pub(crate) fn settle_in(store: &mut Store, number: u32) -> Result<(), AllocError>
+pub fn settle_in(store: &mut Store, number: u32) -> Result<(), AllocError>
     ensures ok { OnOk result (store.new ≡ record store.old {
       instances = with_ready number store.old.instances;
     }) }
@@ -101,7 +103,7 @@ pub(crate) fn settle_in(store: &mut Store, number: u32) -> Result<(), AllocError
 }
 
 /// The destruction of the instance has begun, and its owner has it no longer.
-pub(crate) fn leave_in(store: &mut Store, number: u32)
+pub fn leave_in(store: &mut Store, number: u32)
     ensures { store.new ≡ record store.old {
       instances = with_leaving number store.old.instances;
     } }
@@ -112,7 +114,7 @@ pub(crate) fn leave_in(store: &mut Store, number: u32)
 }
 
 /// The instance is gone.
-pub(crate) fn free_in(store: &mut Store, number: u32)
+pub fn free_in(store: &mut Store, number: u32)
     ensures { store.new ≡ without_instance number store.old }
 {
     if let Some(key) = store.key(number) {

@@ -1,7 +1,7 @@
 -- The slots of requests or sessions by their names.
 use Rattle.std.specs.Prelude.{◌≡◌, ℕ, List, Option, None, bytes_eq, if◌then◌else◌}
 use Rattle.std.specs.BTreeMap.{get_by_text}
-use Rattle.cdi_contexts.specs.declared.name_index.NameIndex.{NameIndex}
+use Rattle.cdi_store.specs.declared.name_index.NameIndex.{NameIndex}
 
 -- the slot of a name, if it has one
 abbrev pub slot_of : NameIndex → List ℕ → Option ℕ

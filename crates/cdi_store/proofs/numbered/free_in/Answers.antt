@@ -1,5 +1,5 @@
-use Rattle.cdi_world.proofs.Absent.{absent, free_absent}
-use Rattle.cdi_world.proofs.numbered.free_in.Goals as goal
+use Rattle.cdi_store.proofs.Absent.{absent, free_absent}
+use Rattle.cdi_store.proofs.numbered.free_in.Goals as goal
 
 pub returns-in_default : goal.returns-in_default
 returns-in_default c =

@@ -1,8 +1,7 @@
 //! The enabled ones of a list of beans.
 ghost use Rattle.std.specs.Prelude.{◌≡◌, IfOk};
-ghost use Rattle.cdi_live.specs.Live.{is_bean_of};
 ghost use Rattle.cdi_beans.specs.Kinds.{is_managed as kind_is_managed};
-ghost use Rattle.cdi_resolve.specs.Filters.{is_enabled, enabled_beans};
+ghost use Rattle.cdi_resolve.specs.Filters.{enabled_beans, is_bean_of, is_enabled};
 
 use cdi_base::{Name, Seq};
 use cdi_beans::{Bean, BeanKind, BeanMember};
@@ -36,7 +35,7 @@ fn has_flag(flags: &[bool], index: usize) -> bool
 }
 
 /// Those of these beans that a list of flags tells to be enabled, by their indices.
-pub(crate) fn enabled_of<'a>(
+pub fn enabled_of<'a>(
     alloc: Global,
     beans: &'a [Bean],
     flags: &[bool],
@@ -82,14 +81,14 @@ impl<'a> EnabledBean<'a> {
     }
 
     /// The class that declares it.
-    pub(crate) fn class(&self) -> Name
+    pub fn class(&self) -> Name
         ensures { result ≡ self.now.1.class }
     {
         self.bean.class
     }
 
     /// Its members.
-    pub(crate) fn members(&self) -> &'a [BeanMember]
+    pub fn members(&self) -> &'a [BeanMember]
         ensures { result.now ≡ self.now.1.members }
     {
         self.bean.members.as_slice()

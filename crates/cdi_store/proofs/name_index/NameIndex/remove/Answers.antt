@@ -1,5 +1,5 @@
 use Rattle.std.proofs.lemmas.Map.Text.{btree_map_updates_text}
-use Rattle.cdi_contexts.proofs.name_index.NameIndex.remove.Goals as goal
+use Rattle.cdi_store.proofs.name_index.NameIndex.remove.Goals as goal
 
 pub returns : goal.returns
 returns c = λ other.

@@ -2,9 +2,9 @@ use Rattle.std.proofs.Common.{◌∙◌, ℕ, Bool, sym}
 use Rattle.cdi_beans.specs.declared.bean.Bean.{Bean}
 use Rattle.cdi_resolve.specs.Filters.{is_enabled, enabled_beans}
 use Rattle.cdi_resolve.proofs.Counting.{counted, passed_over, at_end}
-use Rattle.cdi_live.proofs.Pushing.{pushed, all_pushed}
-use Rattle.cdi_live.proofs.enabled.enabled_of.Goals as goal
-use Rattle.cdi_live.proofs.enabled.enabled_of.Goals.{then-has_flag+in_ok-push, else-has_flag}
+use Rattle.cdi_resolve.proofs.Pushing.{pushed, all_pushed}
+use Rattle.cdi_resolve.proofs.enabled_bean.enabled_of.Goals as goal
+use Rattle.cdi_resolve.proofs.enabled_bean.enabled_of.Goals.{then-has_flag+in_ok-push, else-has_flag}
 
 pub loop-index-preserved : goal.loop-index-preserved
 loop-index-preserved c =

@@ -1,8 +1,8 @@
 use Rattle.std.proofs.Common.{◌≡◌, [], drop, filter, fold}
 use Rattle.std.specs.List.{enumerate_from}
 use Rattle.cdi_resolve.specs.Filters.{is_enabled, enabled_beans}
-use Rattle.cdi_live.proofs.Pushing.{pushed}
-use Rattle.cdi_live.proofs.enabled.enabled_of.Given as goal
+use Rattle.cdi_resolve.proofs.Pushing.{pushed}
+use Rattle.cdi_resolve.proofs.enabled_bean.enabled_of.Given as goal
 
 abbrev pub invariant-loop-index : goal.invariant-loop-index
 invariant-loop-index l =

@@ -1,6 +1,6 @@
 use Rattle.std.specs.String.{string_bytes}
 use Rattle.std.proofs.lemmas.Map.Text.{btree_map_updates_text}
-use Rattle.cdi_contexts.proofs.name_index.NameIndex.add.Goals as goal
+use Rattle.cdi_store.proofs.name_index.NameIndex.add.Goals as goal
 
 pub returns-clause-ok : goal.returns-clause-ok
 returns-clause-ok c = λ other.

@@ -1,6 +1,6 @@
 //! The slots of requests or sessions by their names.
 ghost use Rattle.std.specs.Prelude.{◌≡◌, None, Some, OnOk, OnErr, string_bytes};
-ghost use Rattle.cdi_contexts.specs.NameIndex.{slot_of, Points, PointsAlike, PointsNowhere};
+ghost use Rattle.cdi_store.specs.NameIndex.{slot_of, Points, PointsAlike, PointsNowhere};
 
 use std::alloc::{AllocError, Global};
 use std::collections::BTreeMap;
