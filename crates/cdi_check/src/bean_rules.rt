@@ -9,8 +9,8 @@ use cdi_beans::Bean;
 use cdi_chains::Chains;
 use cdi_enable::EnabledSet;
 use cdi_live::LiveTables;
-use cdi_resolve::EnabledBean;
 use cdi_problems::{Element, Rule};
+use cdi_resolve::EnabledBean;
 
 /// Two enabled beans specialize the bean of a class (Jakarta CDI 4.0, *Inconsistent specialization*).
 #[derive(Clone, Copy)]

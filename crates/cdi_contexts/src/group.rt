@@ -12,9 +12,9 @@ ghost use Rattle.cdi_contexts.specs.Group.{shown, table_at, without_at, with_tab
 ghost use Rattle.cdi_contexts.specs.Group.{AreApart};
 
 use crate::context::{Held, Status};
-use cdi_store::NameIndex;
 use crate::table::Table;
 use cdi_base::Text;
+use cdi_store::NameIndex;
 use indexmap::IndexMap;
 use slab::Slab;
 use std::alloc::{AllocError, Global};

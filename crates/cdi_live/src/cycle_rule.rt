@@ -11,12 +11,12 @@ ghost use Rattle.cdi_problems.specs.Findings.{ArePlacesOf};
 
 use crate::cycles::NeedyFlags;
 use crate::deployment_tables::DeploymentTables;
-use cdi_resolve::EnabledBean;
 use crate::live_tables::LiveTables;
 use crate::needs::product_name;
 use cdi_base::{Name, Place, Seq};
 use cdi_beans::EnabledInterceptor;
 use cdi_problems::{Element, Rule, places_where};
+use cdi_resolve::EnabledBean;
 use std::alloc::{AllocError, Global};
 use std::collections::HashSet;
 

@@ -10,12 +10,12 @@ ghost use Rattle.cdi_live.specs.OwnPoints as own;
 ghost use Rattle.cdi_live.specs.Settings.{setting_of};
 
 use crate::deployment_tables::DeploymentTables;
-use cdi_resolve::EnabledBean;
 use crate::needed_at_points::{add_fields, add_initializers, add_injected, add_params};
 use crate::node::Node;
 use cdi_base::{Name, Scope, Seq};
 use cdi_beans::{Bean, BeanKind, DisposerMethod};
 use cdi_deployment::{Class, InjectedField, Member, Point};
+use cdi_resolve::EnabledBean;
 use cdi_types::ClassLine;
 use std::alloc::{AllocError, Global};
 

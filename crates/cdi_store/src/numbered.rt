@@ -5,10 +5,10 @@ ghost use Rattle.cdi_base.specs.Maps.{at};
 ghost use Rattle.cdi_store.specs.Live.{owner_at, with_field, with_leaving, with_ready, with_reference};
 ghost use Rattle.cdi_store.specs.Live.{with_newborn, with_value, without_instance};
 
-use cdi_base::{Fields, Name, Value};
 use crate::instance::{Component, Instance, Owner};
 use crate::references::Reference;
 use crate::store::Store;
+use cdi_base::{Fields, Name, Value};
 use std::alloc::AllocError;
 
 /// The live instance with a number.

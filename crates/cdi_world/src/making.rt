@@ -7,9 +7,9 @@ ghost use Rattle.cdi_contexts.specs.Contexts.{with_held};
 ghost use Rattle.cdi_contexts.specs.declared.context.Held.TheVariants.{Making};
 
 use crate::named::scope_of;
-use cdi_store::numbered::make_in;
 use cdi_base::Fields;
 use cdi_contexts::{Contexts, Held};
+use cdi_store::numbered::make_in;
 use cdi_store::{Component, Context, Owner, Store};
 use std::alloc::AllocError;
 

@@ -6,8 +6,8 @@ ghost use Rattle.cdi_world.specs.Reached.{with_home, without_context_home, witho
 
 use super::World;
 use crate::named;
-use cdi_store::numbered::{instance_in, leave_in, settle_in};
 use cdi_contexts::Held;
+use cdi_store::numbered::{instance_in, leave_in, settle_in};
 use cdi_store::{Component, Owner};
 use std::alloc::AllocError;
 
