@@ -1,0 +1,5 @@
+pub mod Empty
+pub mod Lists
+pub mod Resolving
+pub mod Told
+pub mod Within

@@ -1,0 +1,127 @@
+-- What is numbered tells what the machine is told, with each point resolved.
+use Rattle.std.proofs.Common.{ℕ, ◌≡◌, ◌∙◌, List, [], ◌∷◌, map, filter, true, Option, Some, None, Result, Ok, Err, refl, sym, subst}
+use Rattle.std.specs.Prelude.{option_map, IfOk}
+use Rattle.std.specs.declared.alloc.AllocError.{AllocError}
+use Rattle.std.proofs.lemmas.Bool.{true≢false}
+use Rattle.std.specs.List.{All}
+use Rattle.std.proofs.lemmas.List.Elements.{All-cons, All-nil}
+use Rattle.cdi_deployment.specs.declared.deployment.Point.{Point}
+use Rattle.cdi_event_tables.specs.Observers.{managed_bean}
+use Rattle.cdi_life.specs.Resolved.{AreResolved, IsResolved, IsResolvedMember, IsResolvedSource, IsResolvedStep}
+use Rattle.cdi_life.specs.Told.{code_told, lifecycle_told, member_told, point_told, product_told, resolution_told, source_told, step_told}
+use Rattle.cdi_machine.specs.Tables as machine
+use Rattle.cdi_machine.specs.Words.{Asked}
+use Rattle.cdi_numbered_plans.specs.Machine.{asked_by, does_something, machine_code, machine_kind, machine_lifecycle, machine_member, machine_resolution, machine_source, machine_step, machine_steps, product_with}
+use Rattle.cdi_numbered_plans.specs.Numbered.{bodies_by, can_number, code_by, lifecycle_by, member_by, numbered_resolution, plan_by, point_by, product_by, source_by, step_by, steps_by}
+use Rattle.cdi_numbered_plans.specs.Plans.{IsNumberedPlan, IsResolvedIfAny, TellsOf, resolve_by}
+use Rattle.cdi_numbered_plans.specs.declared.numbering.Numbering.{Numbering}
+use Rattle.cdi_numbered_plans.specs.declared.plan.NumberedPlan.{NumberedPlan}
+use Rattle.cdi_numbered_plans.specs.declared.plan.NumberedPlan.TheVariants as numbered
+use Rattle.cdi_plans.specs.declared.plan.Code.{Code}
+use Rattle.cdi_plans.specs.declared.plan.InjectedMethod.{InjectedMethod}
+use Rattle.cdi_plans.specs.declared.plan.Lifecycle.{Lifecycle}
+use Rattle.cdi_plans.specs.declared.plan.Plan.{Plan}
+use Rattle.cdi_plans.specs.declared.plan.Plan.TheVariants as plans
+use Rattle.cdi_plans.specs.declared.plan.ProductPlan.{ProductPlan}
+use Rattle.cdi_plans.specs.declared.plan.Source.{Source}
+use Rattle.cdi_plans.specs.declared.plan.Source.TheVariants as sources
+use Rattle.cdi_plans.specs.declared.plan.Step.{Step}
+use Rattle.cdi_plans.specs.declared.plan.Step.TheVariants as steps
+use Rattle.cdi_resolve.specs.declared.resolution.Resolution.{Resolution}
+use Rattle.cdi_resolve.specs.declared.resolution.Resolution.TheVariants as resolutions
+
+-- two ways that agree at each item
+each_alike : {X Y Z : Type 0} (f : X → Y) (g : Y → Z) (h : X → Z) → ((x : X) → g (f x) ≡ h x) → (xs : List X) → map g (map f xs) ≡ map h xs
+each_alike f g h alike [] = refl
+each_alike f g h alike (x ∷ xs) = λ i. alike x i ∷ each_alike f g h alike xs i
+
+-- what is so of each
+each_so : {X Y : Type 0} (f : X → Y) (P : Y → Type 0) → ((x : X) → P (f x)) → (xs : List X) → All P (map f xs)
+each_so f P so [] = All-nil P
+each_so f P so (x ∷ xs) = All-cons P (f x) (map f xs) (so x) (each_so f P so xs)
+
+resolution_alike : (r : Resolution) → resolution_told (numbered_resolution r) ≡ machine_resolution r
+resolution_alike (resolutions.One b) = refl
+resolution_alike resolutions.Nothing = refl
+resolution_alike resolutions.Many = refl
+
+module _ (n : Numbering) where
+  abbrev ids : ℕ → Option ℕ
+  ids name = bodies_by n name
+
+  codes_alike : (codes : List Code) → map code_told (map (code_by ids) codes) ≡ map (machine_code ids) codes
+  codes_alike codes = each_alike (code_by ids) code_told (machine_code ids) (λ c. refl) codes
+
+  points_alike : (points : List Point) → map point_told (map (point_by n) points) ≡ map asked_by points
+  points_alike points = each_alike (point_by n) point_told asked_by (λ p. refl) points
+
+  lifecycle_alike : (l : Lifecycle) → lifecycle_told (lifecycle_by ids l) ≡ machine_lifecycle ids l
+  lifecycle_alike l = λ i. record { chain = l.chain; callbacks = codes_alike l.callbacks i }
+
+  step_alike : (s : Step) → step_told (step_by n s) ≡ machine_step ids s
+  step_alike (steps.Intercept i) = refl
+  step_alike (steps.Construct points l) = λ i. machine.Step.Construct (points_alike points i) (lifecycle_alike l i)
+  step_alike (steps.Inject field point) = refl
+  step_alike (steps.Initialize code points) = λ i. machine.Step.Initialize (machine_code ids code) (points_alike points i)
+  step_alike (steps.Complete l) = λ i. machine.Step.Complete (lifecycle_alike l i)
+
+  steps_alike : (all : List Step) → map step_told (steps_by n all) ≡ machine_steps ids all
+  steps_alike all = each_alike (step_by n) step_told (machine_step ids) step_alike (filter does_something all)
+
+  member_alike : (m : InjectedMethod) → member_told (member_by n m) ≡ machine_member ids m
+  member_alike m = λ i. record { code = machine_code ids m.code; points = points_alike m.points i; chain = m.chain }
+
+  source_alike : (s : Source) → source_told (source_by n s) ≡ machine_source ids s
+  source_alike (sources.ProducerMethod m) = λ i. machine.Source.ProducerMethod (member_alike m i)
+  source_alike (sources.ProducerField field) = refl
+
+  product_alike : (p : ProductPlan) (b : ℕ) → product_told (product_by n p b) ≡ record { declaring = b; source = machine_source ids p.source; disposers = map (machine_member ids) p.disposers }
+  product_alike p b = λ i. record { declaring = b; source = source_alike p.source i; disposers = each_alike (member_by n) member_told (machine_member ids) member_alike p.disposers i }
+
+  product_told_of : (p : ProductPlan) (b : Option ℕ) → TellsOf (option_map (product_with ids p) b) (option_map (λ k. numbered.Product (product_by n p k)) b)
+  product_told_of p None = tt
+  product_told_of p (Some b) = product_alike p b
+
+  pub tells : (plan : Plan) → TellsOf (machine_kind ids n.resolver.now.beans plan) (plan_by n plan)
+  tells (plans.Managed p) = record { plan = steps_alike p.steps; pre_destroy = lifecycle_alike p.pre_destroy }
+  tells (plans.Product p) = product_told_of p (managed_bean n.resolver.now.beans p.declaring)
+
+  -- ---- points
+
+  abbrev resolve : Asked → machine.Resolution
+  resolve asked = resolve_by n asked
+
+  one_resolved : (p : Point) → IsResolved resolve (point_by n p)
+  one_resolved p = resolution_alike _
+
+  all_resolved : (points : List Point) → AreResolved resolve (map (point_by n) points)
+  all_resolved points = each_so (point_by n) (IsResolved resolve) one_resolved points
+
+  step_resolved : (s : Step) → IsResolvedStep resolve (step_by n s)
+  step_resolved (steps.Intercept i) = tt
+  step_resolved (steps.Construct points l) = all_resolved points
+  step_resolved (steps.Inject field point) = one_resolved point
+  step_resolved (steps.Initialize code points) = all_resolved points
+  step_resolved (steps.Complete l) = tt
+
+  member_resolved : (m : InjectedMethod) → IsResolvedMember resolve (member_by n m)
+  member_resolved m = all_resolved m.points
+
+  source_resolved : (s : Source) → IsResolvedSource resolve (source_by n s)
+  source_resolved (sources.ProducerMethod m) = member_resolved m
+  source_resolved (sources.ProducerField field) = tt
+
+  product_resolved : (p : ProductPlan) (b : Option ℕ) → IsResolvedIfAny resolve (option_map (λ k. numbered.Product (product_by n p k)) b)
+  product_resolved p None = tt
+  product_resolved p (Some b) = record { source = source_resolved p.source; disposers = each_so (member_by n) (IsResolvedMember resolve) member_resolved p.disposers }
+
+  pub resolved : (plan : Plan) → IsResolvedIfAny resolve (plan_by n plan)
+  resolved (plans.Managed p) = each_so (step_by n) (IsResolvedStep resolve) step_resolved (filter does_something p.steps)
+  resolved (plans.Product p) = product_resolved p (managed_bean n.resolver.now.beans p.declaring)
+
+-- what is made is one of these
+pub made : (n : Numbering) (plan : Plan) → can_number n plan ≡ true → (r : Result (Option NumberedPlan) AllocError) → IfOk r (λ m. m ≡ plan_by n plan) → IfOk r (IsNumberedPlan n plan)
+made n plan can (Ok m) e =
+    subst (IsNumberedPlan n plan) (sym e)
+    (record { tells = λ h. tells n plan; none = λ h. absurd (true≢false (sym can ∙ h)); resolved = resolved n plan })
+made n plan can (Err x) e = tt

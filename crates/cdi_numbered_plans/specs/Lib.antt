@@ -1,0 +1,4 @@
+pub mod Machine
+pub mod Numbered
+pub mod Numbers
+pub mod Plans

@@ -1,0 +1,69 @@
+-- What a numbered plan tells: what the machine is told of the plan, with each point resolved.
+use Rattle.std.specs.Prelude.{◌≡◌, true, false, List, [], map, Option, Some, None}
+use Rattle.std.specs.List.{All}
+use Rattle.cdi_life.specs.Resolved.{IsResolvedProduct, IsResolvedStep}
+use Rattle.cdi_life.specs.Told.{lifecycle_told, product_told, step_told}
+use Rattle.cdi_life.specs.declared.member.Product.{Product}
+use Rattle.cdi_life.specs.declared.step.Lifecycle.{Lifecycle}
+use Rattle.cdi_life.specs.declared.step.Step.{Step}
+use Rattle.cdi_machine.specs.Tables as machine
+use Rattle.cdi_machine.specs.Words.{Asked}
+use Rattle.cdi_numbered_plans.specs.Machine.{machine_kind, machine_resolution}
+use Rattle.cdi_numbered_plans.specs.Numbered.{bodies_by, can_number, resolution_by}
+use Rattle.cdi_numbered_plans.specs.declared.numbering.Numbering.{Numbering}
+use Rattle.cdi_numbered_plans.specs.declared.plan.ManagedLife.{ManagedLife}
+use Rattle.cdi_numbered_plans.specs.declared.plan.NumberedPlan.{NumberedPlan}
+use Rattle.cdi_numbered_plans.specs.declared.plan.NumberedPlan.TheVariants as plans
+use Rattle.cdi_plans.specs.declared.plan.Plan.{Plan}
+
+-- the steps of a managed bean, and what runs where an instance is destroyed
+pub record TellsManaged (c : machine.Managed) (life : ManagedLife) : Type 0 where
+  pub plan : map step_told life.steps ≡ c.plan
+  pub pre_destroy : lifecycle_told life.pre_destroy ≡ c.pre_destroy
+
+abbrev pub Tells : machine.Kind → NumberedPlan → Type 0
+Tells (machine.Kind.Class c) (plans.Managed life) = TellsManaged c life
+Tells (machine.Kind.Producer p) (plans.Product product) = product_told product ≡ p
+Tells kind plan = ⊥
+
+-- there is one where the machine has a bean, and it tells of that
+abbrev pub TellsOf : Option machine.Kind → Option NumberedPlan → Type 0
+TellsOf None None = Unit {0}
+TellsOf (Some kind) (Some plan) = Tells kind plan
+TellsOf kind plan = ⊥
+
+-- what the machine is told of resolution
+abbrev pub resolve_by : Numbering → Asked → machine.Resolution
+resolve_by n asked = machine_resolution (resolution_by n asked.type asked.qualifiers)
+
+module _ (resolve : Asked → machine.Resolution) where
+  abbrev pub IsResolvedPlan : NumberedPlan → Type 0
+  IsResolvedPlan (plans.Managed life) = All (IsResolvedStep resolve) life.steps
+  IsResolvedPlan (plans.Product product) = IsResolvedProduct resolve product
+
+  abbrev pub IsResolvedIfAny : Option NumberedPlan → Type 0
+  IsResolvedIfAny None = Unit {0}
+  IsResolvedIfAny (Some plan) = IsResolvedPlan plan
+
+-- what is made of a plan
+pub record IsNumberedPlan (n : Numbering) (plan : Plan) (made : Option NumberedPlan)
+    : Type 0 where
+  pub tells :
+      can_number n plan ≡ true
+      → TellsOf (machine_kind (bodies_by n) n.resolver.now.beans plan) made
+  pub none : can_number n plan ≡ false → made ≡ None
+  pub resolved : IsResolvedIfAny (resolve_by n) made
+
+-- ---- parts
+
+abbrev pub steps_in : NumberedPlan → List Step
+steps_in (plans.Managed life) = life.steps
+steps_in (plans.Product product) = []
+
+abbrev pub pre_destroy_in : NumberedPlan → Option Lifecycle
+pre_destroy_in (plans.Managed life) = Some life.pre_destroy
+pre_destroy_in (plans.Product product) = None
+
+abbrev pub product_in : NumberedPlan → Option Product
+product_in (plans.Managed life) = None
+product_in (plans.Product product) = Some product

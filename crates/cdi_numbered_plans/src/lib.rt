@@ -1,0 +1,18 @@
+//! Plans in the words of an instance's life, made once: bodies by their numbers, with what each injection point resolves to. Steps at
+//! which nothing runs are left out (Jakarta CDI 4.0, *Lifecycle of managed beans*, *Lifecycle of producer methods*, *Typesafe
+//! resolution*).
+#![tactic(auto)]
+
+mod codes;
+mod members;
+pub mod numbering;
+pub mod numbers;
+pub mod plan;
+pub mod points;
+pub mod steps;
+
+pub use numbering::Numbering;
+pub use numbers::has_numbers;
+pub use plan::{ManagedLife, NumberedPlan};
+pub use points::resolution_at;
+pub use steps::{has_none, is_idle};

@@ -1,0 +1,99 @@
+//! Whether the steps of a plan and the places of interceptors in it can be numbered.
+ghost use Rattle.std.specs.Prelude.{◌≡◌};
+ghost use Rattle.std.specs.List.{list_all};
+ghost use Rattle.cdi_numbered_plans.specs.Numbered as numbered;
+ghost use Rattle.cdi_numbered_plans.specs.Numbers as spec;
+
+use crate::numbering::Numbering;
+use cdi_plans::{InjectedMethod, Lifecycle, ManagedPlan, Plan, ProductPlan, Source, Step};
+
+fn is_number(place: usize) -> bool
+    ensures { result ≡ spec.is_number place }
+{
+    place < 4_294_967_296
+}
+
+fn are_numbers(places: &[usize]) -> bool
+    ensures { result ≡ spec.are_numbers places.now }
+{
+    places.iter().all(|place| is_number(*place))
+}
+
+fn numbers_lifecycle(lifecycle: &Lifecycle) -> bool
+    ensures { result ≡ spec.numbers_lifecycle lifecycle.now }
+{
+    are_numbers(lifecycle.chain.as_slice())
+}
+
+fn numbers_step(step: &Step) -> bool
+    ensures { result ≡ spec.numbers_step step.now }
+{
+    match step {
+        Step::Intercept(place) => is_number(*place),
+        Step::Construct { lifecycle, .. } | Step::Complete(lifecycle) => {
+            numbers_lifecycle(lifecycle)
+        }
+        Step::Inject { .. } | Step::Initialize { .. } => true,
+    }
+}
+
+fn number_steps(steps: &[Step]) -> bool
+    ensures { result ≡ list_all spec.numbers_step steps.now }
+{
+    steps.iter().all(numbers_step)
+}
+
+fn numbers_member(member: &InjectedMethod) -> bool
+    ensures { result ≡ spec.numbers_member member.now }
+{
+    are_numbers(member.chain.as_slice())
+}
+
+fn number_members(members: &[InjectedMethod]) -> bool
+    ensures { result ≡ list_all spec.numbers_member members.now }
+{
+    members.iter().all(numbers_member)
+}
+
+fn numbers_source(source: &Source) -> bool
+    ensures { result ≡ spec.numbers_source source.now }
+{
+    match source {
+        Source::ProducerMethod(method) => numbers_member(method),
+        Source::ProducerField(_field) => true,
+    }
+}
+
+fn numbers_managed(plan: &ManagedPlan) -> bool
+    ensures { result ≡ spec.numbers_managed plan.now }
+{
+    is_number(plan.steps.len())
+        && number_steps(plan.steps.as_slice())
+        && numbers_lifecycle(&plan.pre_destroy)
+}
+
+fn numbers_product(plan: &ProductPlan) -> bool
+    ensures { result ≡ spec.numbers_product plan.now }
+{
+    numbers_source(&plan.source) && number_members(plan.disposers.as_slice())
+}
+
+/// Whether a plan has less than 4,294,967,296 steps, and the places of its interceptors are below that.
+pub fn has_numbers(plan: &Plan) -> bool
+    ensures { result ≡ spec.has_numbers plan.now }
+{
+    match plan {
+        Plan::Managed(plan) => numbers_managed(plan),
+        Plan::Product(plan) => numbers_product(plan),
+    }
+}
+
+impl Numbering<'_> {
+    /// Whether what a plan names has numbers of 32 bits: there are at most 4,294,967,296 beans, the plan has less steps, and the places of
+    /// its interceptors are below that.
+    pub fn can_number(&self, plan: &Plan) -> bool
+        ensures { result ≡ numbered.can_number self.now plan.now }
+    {
+        self.resolver.beans().len() <= 4_294_967_296 && has_numbers(plan)
+    }
+}
