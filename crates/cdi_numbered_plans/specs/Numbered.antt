@@ -2,6 +2,7 @@
 use Rattle.std.specs.Prelude.{ℕ, ◌≡◌, ◌&&◌, ◌<◌, ◌≤◌, ◌^◌, List, length, Bool, nat_le, map, filter, Option, Some, option_map}
 use Rattle.cdi_base.specs.declared.uses.Use.{Use}
 use Rattle.cdi_bean_check.specs.Qualifiers.{full_uses}
+use Rattle.cdi_deployment.specs.declared.deployment.InjectedField.{InjectedField}
 use Rattle.cdi_deployment.specs.declared.deployment.Point.{Point}
 use Rattle.cdi_event_tables.specs.Ids.{id_in}
 use Rattle.cdi_event_tables.specs.Observers.{managed_bean}
@@ -33,6 +34,7 @@ use Rattle.cdi_plans.specs.declared.plan.Source.{Source}
 use Rattle.cdi_plans.specs.declared.plan.Source.TheVariants as sources
 use Rattle.cdi_plans.specs.declared.plan.Step.{Step}
 use Rattle.cdi_plans.specs.declared.plan.Step.TheVariants as steps
+use Rattle.cdi_quals.specs.declared.types.QualifierType.{QualifierType}
 use Rattle.cdi_resolve.specs.Filters.{Candidates, enabled_of}
 use Rattle.cdi_resolve.specs.Resolution.{resolution}
 use Rattle.cdi_resolve.specs.declared.resolution.Resolution.{Resolution}
@@ -65,6 +67,10 @@ pub record AsksNumbered (n : Numbering) (c : Candidates) : Type 0 where
 abbrev pub resolution_by : Numbering → ℕ → List Use → Resolution
 resolution_by n type qualifiers =
     resolution type (full_uses n.qualifiers.now qualifiers) (enabled_of n.resolver.now)
+
+-- what the injection point of an injected field resolves to, by the types of qualifiers and the beans
+abbrev pub field_resolution : List QualifierType → Candidates → InjectedField → Resolution
+field_resolution types c f = resolution f.ty (full_uses types f.quals) (enabled_of c)
 
 abbrev pub numbered_resolution : Resolution → LifeResolution
 numbered_resolution (resolutions.One bean) = life_resolutions.One bean

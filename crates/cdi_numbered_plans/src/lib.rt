@@ -4,6 +4,7 @@
 #![tactic(auto)]
 
 mod codes;
+pub mod fields;
 mod members;
 pub mod numbering;
 pub mod numbers;
@@ -11,8 +12,9 @@ pub mod plan;
 pub mod points;
 pub mod steps;
 
+pub use fields::first_values;
 pub use numbering::Numbering;
 pub use numbers::has_numbers;
 pub use plan::{ManagedLife, NumberedPlan};
-pub use points::resolution_at;
+pub use points::{resolution_at, resolutions_at};
 pub use steps::{has_none, is_idle};

@@ -8,7 +8,7 @@ ghost use Rattle.cdi_resolve.specs.Resolution.{resolution};
 use crate::numbering::Numbering;
 use cdi_base::{Name, Names, Seq, Use};
 use cdi_cache::Lookup;
-use cdi_deployment::Point as DeclaredPoint;
+use cdi_deployment::{InjectedField, Point as DeclaredPoint};
 use cdi_life::{Point, Resolution};
 use cdi_quals::{QualSet, QualifierTypes};
 use cdi_resolve::{Resolution as Resolved, Resolver};
@@ -30,6 +30,26 @@ pub fn resolution_at(
 {
     let required = QualSet::new(alloc, names, qualifiers, uses)?;
     Ok(lookup.find(ty, &required))
+}
+
+/// What the injection points of some injected fields resolve to among the beans of a lookup, in their order.
+pub fn resolutions_at(
+    alloc: Global,
+    names: &Names,
+    qualifiers: &QualifierTypes,
+    lookup: &mut Lookup<&Resolver>,
+    fields: &[InjectedField],
+) -> Result<Seq<Resolved>, AllocError>
+    ensures told { IfOk result (λ all. all
+        ≡ map (spec.field_resolution qualifiers.now lookup.old.now) fields.now) }
+    ensures kept { enabled_of lookup.new.now ≡ enabled_of lookup.old.now }
+{
+    let mut all = Seq::empty(alloc);
+    for field in fields {
+        let uses = field.quals.as_slice();
+        all.push(resolution_at(alloc, names, qualifiers, lookup, field.ty, uses)?)?;
+    }
+    Ok(all)
 }
 
 /// What resolution tells, with a bean by its number.

@@ -1,7 +1,6 @@
-pub mod Empty
 pub mod FirstMethods
 pub mod Heard
 pub mod Indexed
-pub mod Resolving
+pub mod Telling
 pub mod Zips
 pub mod Remembered

@@ -1,5 +1,5 @@
 -- What is looked up of a deployment in a run.
-use Rattle.std.specs.Prelude.{ℕ, ◌≡◌, List, [], map, Option, Some, None, nat_eq, option_map, option_and_then, slice_get}
+use Rattle.std.specs.Prelude.{ℕ, ◌≡◌, true, List, [], map, Option, Some, None, nat_eq, option_map, option_and_then, slice_get}
 use Rattle.std.specs.HashMap.{HashMap, get}
 use Rattle.std.specs.List.{AllZip, filter_map}
 use Rattle.cdi_beans.specs.declared.bean.EnabledInterceptor.{EnabledInterceptor}
@@ -12,14 +12,19 @@ use Rattle.cdi_event_tables.specs.Tables.{AreEventTables}
 use Rattle.cdi_event_tables.specs.declared.tables.EventTables.{EventTables}
 use Rattle.cdi_machine.specs.Words.{Name}
 use Rattle.cdi_name_check.specs.NameSets.{HasDeclared, HasNames}
+use Rattle.cdi_numbered_plans.specs.Numbers.{has_numbers}
+use Rattle.cdi_numbered_plans.specs.Plans.{IsResolvedIfAny, TellsOf}
+use Rattle.cdi_numbered_plans.specs.declared.numbering.Numbering.{Numbering}
+use Rattle.cdi_numbered_plans.specs.declared.plan.NumberedPlan.{NumberedPlan}
 use Rattle.cdi_plans.specs.declared.plan.ManagedPlan.{ManagedPlan}
 use Rattle.cdi_plans.specs.declared.plan.Plan.{Plan}
 use Rattle.cdi_plans.specs.declared.plan.Step.{Step}
 use Rattle.cdi_resolve.specs.Filters.{Candidates, enabled_of}
 use Rattle.cdi_resolve.specs.declared.resolution.Resolution.{Resolution}
 use Rattle.cdi_run_tables.specs.Asked.{AreTold}
-use Rattle.cdi_run_tables.specs.Machine.{method_in, resolution_of, without_chain}
+use Rattle.cdi_run_tables.specs.Machine.{machine_kind, method_in, resolution_of, without_chain}
 use Rattle.cdi_run_tables.specs.Managed.{injected, managed_of}
+use Rattle.cdi_run_tables.specs.Numbered.{has_few_beans, machine_resolve}
 use Rattle.cdi_run_tables.specs.Planned.{plan_tables}
 use Rattle.cdi_run_tables.specs.declared.index.BeanIndex.{BeanIndex}
 use Rattle.cdi_run_tables.specs.declared.index.RunIndex.{RunIndex}
@@ -52,6 +57,24 @@ abbrev pub steps_in : Option ManagedPlan → List Step
 steps_in None = []
 steps_in (Some p) = p.steps
 
+-- ---- plans
+
+-- what the plans of a deployment are numbered by
+pub record IsNumberingOf (t : RunParts) (n : Numbering) : Type 0 where
+  pub ids : n.ids.now ≡ t.ids
+  pub names : n.names.now ≡ t.deployment.names
+  pub qualifiers : n.qualifiers.now ≡ t.tables.declared.qualifiers
+  pub resolver : n.resolver.now ≡ t.tables.resolver
+
+-- what is made of a plan: it tells what the machine is told of the plan, if what that names has numbers, with its points resolved
+pub record IsNumberedOf (t : RunParts) (plan : Plan) (made : Option NumberedPlan) : Type 0 where
+  pub tells :
+      has_few_beans t ≡ true → has_numbers plan ≡ true
+      → TellsOf (machine_kind (id_in t.ids) t.tables.resolver.beans plan) made
+  pub resolved : IsResolvedIfAny (machine_resolve t) made
+
+-- ---- injected fields
+
 -- those of a managed bean; a product has none
 abbrev pub AreInjectionsOf : RunParts → Option ManagedPlan → List Injected → Type 0
 AreInjectionsOf t plan all = AreInjected t (steps_in plan) all
@@ -62,6 +85,7 @@ AreInjectedOf t plan all = AreInjectionsOf t (managed_of plan) all
 pub record IsBeanIndex (t : RunParts) (b : PlannedBean) (i : BeanIndex) : Type 0 where
   pub methods : AreMethodsOf (id_in t.ids) b.plan i.methods
   pub injected : AreInjectedOf t b.plan i.injected
+  pub numbered : IsNumberedOf t b.plan i.numbered
 
 -- so if there is a bean, and else there is none
 abbrev pub IsIndexAt : RunParts → Option PlannedBean → Option BeanIndex → Type 0
@@ -88,8 +112,8 @@ abbrev pub AreEventsOf : RunParts → EventTables → Type 0
 AreEventsOf t events =
     AreEventTables (plan_tables t.deployment t.tables) t.tables t.ids events
 
--- The names that the deployment declares and those of its checked exceptions; what is looked up of its events; the methods and injected
--- fields of each bean; what the injected fields of each enabled interceptor resolve to.
+-- The names that the deployment declares and those of its checked exceptions; what is looked up of its events; the methods, the
+-- injected fields and the numbered plan of each bean; what the injected fields of each enabled interceptor resolve to.
 pub record IsIndexOf (t : RunParts) (i : RunIndex) : Type 0 where
   pub names : HasDeclared t.deployment i.names
   pub checked : HasNames (is_checked t.deployment.exceptions) i.checked

@@ -3,6 +3,7 @@ pub mod Index
 pub mod Interceptors
 pub mod Machine
 pub mod Managed
+pub mod Numbered
 pub mod Observers
 pub mod Planned
 pub mod Served

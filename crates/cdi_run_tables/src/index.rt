@@ -1,6 +1,5 @@
 //! What is looked up of a deployment in a run, made once.
-ghost use Rattle.std.specs.Prelude.{◌≡◌, nat_eq, IfOk};
-ghost use Rattle.std.specs.HashMap.{get};
+ghost use Rattle.std.specs.Prelude.{IfOk};
 ghost use Rattle.std.specs.List.{AllZip};
 ghost use Rattle.cdi_name_check.specs.NameSets.{HasDeclared};
 ghost use Rattle.cdi_run_tables.specs.Index as spec;
@@ -17,6 +16,7 @@ use cdi_base::{Name, Seq};
 use cdi_cache::Lookup;
 use cdi_event_tables::EventTables;
 use cdi_name_check::NameSets;
+use cdi_numbered_plans::{NumberedPlan, Numbering};
 use cdi_plans::Plan;
 use cdi_resolve::{Resolution, Resolver};
 use std::alloc::{AllocError, Global};
@@ -32,6 +32,8 @@ pub(crate) struct BeanIndex {
     pub(crate) methods: HashMap<Name, Method>,
     /// Its injected fields in the order of the plan.
     pub(crate) injected: Seq<Injected>,
+    /// Its plan in the words of an instance's life, if what that names has numbers.
+    pub(crate) numbered: Option<NumberedPlan>,
 }
 
 /// What is looked up of a deployment.
@@ -83,23 +85,23 @@ impl BeanIndex {
     fn build(
         alloc: Global,
         parts: &RunParts,
+        numbering: &Numbering<'_>,
         lookup: &mut Lookup<&Resolver>,
         bean: &PlannedBean,
     ) -> Result<BeanIndex, AllocError>
-        requires { spec.AsksOf parts.now lookup.old.now }
+        requires numbering { spec.IsNumberingOf parts.now numbering.now }
+        requires asks { spec.AsksOf parts.now lookup.old.now }
         ensures index { IfOk result (spec.IsBeanIndex parts.now bean.now) }
         ensures kept { spec.AsksOf parts.now lookup.new.now }
     {
         let methods = methods_of(alloc, &bean.plan, &parts.ids)?;
         let injected = injected_of(alloc, parts, lookup, &bean.plan)?;
-        Ok(BeanIndex { methods, injected })
-    }
-
-    /// The method of a name.
-    pub(crate) fn method(&self, name: Name) -> Option<Method>
-        ensures { result ≡ get nat_eq self.now.methods name }
-    {
-        self.methods.get(&name).copied()
+        let numbered = NumberedPlan::build(alloc, numbering, lookup, &bean.plan)?;
+        Ok(BeanIndex {
+            methods,
+            injected,
+            numbered,
+        })
     }
 }
 
@@ -107,15 +109,17 @@ impl BeanIndex {
 fn bean_indices(
     alloc: Global,
     parts: &RunParts,
+    numbering: &Numbering<'_>,
     lookup: &mut Lookup<&Resolver>,
 ) -> Result<Seq<BeanIndex>, AllocError>
-    requires { spec.AsksOf parts.now lookup.old.now }
+    requires numbering { spec.IsNumberingOf parts.now numbering.now }
+    requires asks { spec.AsksOf parts.now lookup.old.now }
     ensures all { IfOk result (AllZip (spec.IsBeanIndex parts.now) parts.now.beans) }
     ensures kept { spec.AsksOf parts.now lookup.new.now }
 {
     let mut indices = Seq::empty(alloc);
     for bean in parts.beans.as_slice() {
-        indices.push(BeanIndex::build(alloc, parts, lookup, bean)?)?;
+        indices.push(BeanIndex::build(alloc, parts, numbering, lookup, bean)?)?;
     }
     Ok(indices)
 }
@@ -135,11 +139,18 @@ impl RunIndex {
         let deployment = &parts.deployment;
         let capacity = NonZeroUsize::new(REMEMBERED).unwrap();
         let mut lookup = Lookup::new(alloc, &parts.tables.resolver, capacity)?;
+        let numbering = Numbering::build(
+            alloc,
+            &parts.ids,
+            &deployment.names,
+            &parts.tables.declared.qualifiers,
+            &parts.tables.resolver,
+        )?;
         Ok(RunIndex {
             names,
             checked: checked_exceptions(alloc, deployment.exceptions.as_slice())?,
             events,
-            beans: bean_indices(alloc, parts, &mut lookup)?,
+            beans: bean_indices(alloc, parts, &numbering, &mut lookup)?,
             interceptors: all_resolutions(alloc, parts, &mut lookup)?,
             asked: CommandAnswers::new(alloc)?,
         })

@@ -1,18 +1,14 @@
 //! What is injected into a bean.
 ghost use Rattle.std.specs.Prelude.{◌≡◌, option_and_then, option_map, slice_get, IfOk, IfSome};
-ghost use Rattle.cdi_bean_check.specs.Qualifiers.{full_uses};
-ghost use Rattle.cdi_resolve.specs.Filters.{enabled_of};
-ghost use Rattle.cdi_resolve.specs.Resolution.{resolution};
 ghost use Rattle.cdi_run_tables.specs.Index as index;
-ghost use Rattle.cdi_run_tables.specs.Machine.{resolution_of};
 ghost use Rattle.cdi_run_tables.specs.Managed as spec;
 
 use crate::managed::Injection;
 use crate::parts::RunParts;
-use cdi_base::{Name, Seq, Use};
+use cdi_base::Seq;
 use cdi_cache::Lookup;
+use cdi_numbered_plans::resolution_at;
 use cdi_plans::Step;
-use cdi_quals::QualSet;
 use cdi_resolve::{Resolution, Resolver};
 use std::alloc::{AllocError, Global};
 
@@ -21,27 +17,6 @@ use std::alloc::{AllocError, Global};
 pub(crate) struct Injected {
     pub(crate) step: usize,
     pub(crate) resolution: Resolution,
-}
-
-/// What an injection point of a deployment with this type and these qualifiers resolves to.
-pub(crate) fn resolution_at(
-    alloc: Global,
-    parts: &RunParts,
-    lookup: &mut Lookup<&Resolver>,
-    ty: Name,
-    uses: &[Use],
-) -> Result<Resolution, AllocError>
-    requires { index.AsksOf parts.now lookup.old.now }
-    ensures told { IfOk result (λ told. told ≡ resolution_of parts.now ty uses.now) }
-    ensures kept { index.AsksOf parts.now lookup.new.now }
-{
-    let qualifiers = QualSet::new(
-        alloc,
-        &parts.deployment.names,
-        &parts.tables.declared.qualifiers,
-        uses,
-    )?;
-    Ok(lookup.find(ty, &qualifiers))
 }
 
 /// The injected fields that some steps have.
@@ -55,10 +30,13 @@ pub(crate) fn injected_by(
     ensures all { IfOk result (index.AreInjected parts.now steps.now) }
     ensures kept { index.AsksOf parts.now lookup.new.now }
 {
+    let names = &parts.deployment.names;
+    let qualifiers = &parts.tables.declared.qualifiers;
     let mut all = Seq::empty(alloc);
     for (step, done) in steps.iter().enumerate() {
         if let Step::Inject { point, .. } = done {
-            let resolution = resolution_at(alloc, parts, lookup, point.ty, point.quals.as_slice())?;
+            let uses = point.quals.as_slice();
+            let resolution = resolution_at(alloc, names, qualifiers, lookup, point.ty, uses)?;
             all.push(Injected { step, resolution })?;
         }
     }

@@ -6,8 +6,6 @@ ghost use Rattle.cdi_run_tables.specs.Index as index;
 ghost use Rattle.cdi_run_tables.specs.Interceptors as spec;
 ghost use Rattle.cdi_run_tables.specs.Machine as machine;
 
-use crate::injected::resolution_at;
-use crate::managed::fields_of;
 use crate::parts::RunParts;
 use crate::tables::RunTables;
 use cdi_base::{Fields, InterceptorMethod, Name, Seq};
@@ -15,6 +13,7 @@ use cdi_beans::EnabledInterceptor;
 use cdi_bodies::BodyId;
 use cdi_cache::Lookup;
 use cdi_deployment::{InjectedField, Interceptor};
+use cdi_numbered_plans::{first_values, resolutions_at};
 use cdi_resolve::{Resolution, Resolver};
 use std::alloc::{AllocError, Global};
 
@@ -25,25 +24,7 @@ pub struct InterceptorInjection<'a> {
     pub resolution: Resolution,
 }
 
-/// What the injection points of some injected fields resolve to, in their order.
-fn resolutions_of(
-    alloc: Global,
-    parts: &RunParts,
-    lookup: &mut Lookup<&Resolver>,
-    fields: &[InjectedField],
-) -> Result<Seq<Resolution>, AllocError>
-    requires { index.AsksOf parts.now lookup.old.now }
-    ensures all { IfOk result (λ all. all ≡ map (index.field_resolution parts.now) fields.now) }
-    ensures kept { index.AsksOf parts.now lookup.new.now }
-{
-    let mut all = Seq::empty(alloc);
-    for field in fields {
-        all.push(resolution_at(alloc, parts, lookup, field.ty, field.quals.as_slice())?)?;
-    }
-    Ok(all)
-}
-
-/// The same of an enabled interceptor.
+/// What the injection points of the injected fields of an enabled interceptor resolve to, in their order.
 fn interceptor_resolutions(
     alloc: Global,
     parts: &RunParts,
@@ -56,7 +37,11 @@ fn interceptor_resolutions(
     ensures kept { index.AsksOf parts.now lookup.new.now }
 {
     match parts.deployment.interceptors.get(interceptor.index) {
-        Some(declared) => resolutions_of(alloc, parts, lookup, declared.inject.as_slice()),
+        Some(declared) => {
+            let names = &parts.deployment.names;
+            let types = &parts.tables.declared.qualifiers;
+            resolutions_at(alloc, names, types, lookup, declared.inject.as_slice())
+        }
         None => Ok(Seq::empty(alloc)),
     }
 }
@@ -115,7 +100,7 @@ impl RunTables {
             ≡ spec.fields_in (machine.interceptor_at self.now place)) }
     {
         match self.interceptor(place) {
-            Some(declared) => fields_of(alloc, declared.fields.as_slice()),
+            Some(declared) => first_values(alloc, declared.fields.as_slice()),
             None => Ok(Fields::new(alloc)),
         }
     }

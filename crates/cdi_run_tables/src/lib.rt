@@ -13,6 +13,7 @@ mod interceptors;
 mod lookups;
 mod managed;
 mod methods;
+mod numbered;
 pub mod parts;
 pub mod planned;
 mod served;

@@ -1,13 +1,13 @@
 //! What is asked of a managed bean, by its plan.
 ghost use Rattle.std.specs.Prelude.{◌≡◌, length, slice_get, option_map, option_and_then, IfOk, IfSome};
 ghost use Rattle.std.specs.List.{filter_map};
-ghost use Rattle.cdi_run_tables.specs.Machine.{first_values, resolution_of};
+ghost use Rattle.cdi_run_tables.specs.Machine.{resolution_of};
 ghost use Rattle.cdi_run_tables.specs.Managed as spec;
 
-use crate::planned::PlannedBean;
 use crate::tables::RunTables;
 use cdi_base::{Fields, Name};
-use cdi_deployment::{Field, Point};
+use cdi_deployment::Point;
+use cdi_numbered_plans::first_values;
 use cdi_plans::{ManagedPlan, Plan, Step};
 use cdi_resolve::Resolution;
 use std::alloc::{AllocError, Global};
@@ -18,26 +18,6 @@ pub struct Injection<'a> {
     pub field: Name,
     pub point: &'a Point,
     pub resolution: Resolution,
-}
-
-fn managed_plan(bean: &PlannedBean) -> Option<&ManagedPlan>
-    ensures { option_map (λ p. p.now) result ≡ spec.managed_plan bean.now }
-{
-    match &bean.plan {
-        Plan::Managed(plan) => Some(plan),
-        Plan::Product(_plan) => None,
-    }
-}
-
-/// The fields, each with its first value.
-pub(crate) fn fields_of(alloc: Global, fields: &[Field]) -> Result<Fields, AllocError>
-    ensures { IfOk result (λ all. all ≡ first_values fields.now) }
-{
-    let mut all = Fields::new(alloc);
-    for field in fields {
-        all.put(field.name, field.value.clone()?)?;
-    }
-    Ok(all)
 }
 
 /// How many injected fields some steps have.
@@ -59,9 +39,10 @@ impl RunTables {
         ensures { option_map (λ p. p.now) result
             ≡ option_and_then spec.managed_plan (slice_get self.now.beans bean) }
     {
-        match self.parts.bean(bean) {
-            Some(bean) => managed_plan(bean),
-            None => None,
+        let bean = self.parts.bean(bean)?;
+        match &bean.plan {
+            Plan::Managed(plan) => Some(plan),
+            Plan::Product(_plan) => None,
         }
     }
 
@@ -71,7 +52,7 @@ impl RunTables {
             (option_and_then spec.managed_plan (slice_get self.now.beans bean))) }
     {
         match self.managed(bean) {
-            Some(plan) => fields_of(alloc, plan.fields.as_slice()),
+            Some(plan) => first_values(alloc, plan.fields.as_slice()),
             None => Ok(Fields::new(alloc)),
         }
     }

@@ -12,20 +12,8 @@ use cdi_base::{BuiltIn, Name, Names, Seq, Via};
 use cdi_bodies::{Bodies, MethodCall, Shape};
 use cdi_body_check::shape_of;
 use cdi_deployment::{Deployment, Exception};
-use cdi_plans::{BusinessMethod, Lifecycle, Plan, Step};
-
-#[tactic(auto, using(crate::proofs::Empty::has_none_if_empty))]
-fn has_none<T>(items: &Seq<T>) -> bool
-    ensures { result ≡ machine.has_none items.now }
-{
-    items.is_empty()
-}
-
-fn is_idle(lifecycle: &Lifecycle) -> bool
-    ensures { result ≡ machine.is_idle lifecycle.now }
-{
-    has_none(&lifecycle.chain) && has_none(&lifecycle.callbacks)
-}
+use cdi_numbered_plans::{has_none, is_idle};
+use cdi_plans::{BusinessMethod, Plan, Step};
 
 fn is_served_step(step: &Step) -> bool
     ensures { result ≡ spec.is_served_step step.now }

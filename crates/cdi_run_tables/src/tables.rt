@@ -116,7 +116,7 @@ impl RunTables {
         ensures { result ≡ option_map spec.without_chain (spec.method_of self.now bean name) }
     {
         match self.bean_index(bean) {
-            Some(index) => index.method(name),
+            Some(index) => index.methods.get(&name).copied(),
             None => None,
         }
     }

@@ -1,8 +1,8 @@
 use Rattle.std.proofs.Common.{◌≡◌, drop}
 use Rattle.std.specs.Prelude.{fold}
 use Rattle.cdi_base.specs.Fields.{put}
-use Rattle.cdi_run_tables.specs.Machine.{first_values}
-use Rattle.cdi_run_tables.proofs.managed.fields_of.Given as goal
+use Rattle.cdi_numbered_plans.specs.Machine.{first_values}
+use Rattle.cdi_numbered_plans.proofs.fields.first_values.Given as goal
 
 -- those that were put, and those that are left
 abbrev pub invariant-loop-field : goal.invariant-loop-field
