@@ -1,11 +1,13 @@
--- A way of a program writes nothing, and a destruction that gives anything, or an event that ended, has written an entry.
-use Rattle.std.proofs.Common.{ℕ, zero, suc, ◌≡◌, ◌<◌, ◌≤◌, ◌++◌, ◌∙◌, length, length-append, refl, ap, arith, Option, Some, None}
+-- A way of a program writes nothing, and a destruction or a body that gives anything, or an event that ended, has written an entry.
+use Rattle.std.proofs.Common.{ℕ, zero, suc, ◌≡◌, ◌<◌, ◌≤◌, ◌++◌, ◌∙◌, length, length-append, refl, ap, arith, Option, Some, None, Bool, true, false}
 use Rattle.cdi_base.specs.declared.entry.Entry.TheVariants as entries
 use Rattle.cdi_store.specs.declared.instance.Instance.{Instance}
 use Rattle.cdi_machine.specs.Tables.{Tables}
+use Rattle.cdi_base.specs.declared.reply.Cause.{Cause}
 use Rattle.cdi_machine.specs.World.{World, after_change}
+use Rattle.cdi_machine.specs.World.Change.{Start, Stop}
 use Rattle.cdi_machine.specs.Programs as machine
-use Rattle.cdi_machine.specs.Programs.{Given, Prog, ret, throw, cut, miss, see, change, tick, mark, act, choose, nested, handle}
+use Rattle.cdi_machine.specs.Programs.{Given, Prog, ret, throw, cut, miss, see, change, tick, mark, act, choose, nested, handle, ◌>>=◌, ◌>>◌}
 use Rattle.cdi_machine.specs.Destruction.{destroy_ready}
 use Rattle.cdi_machine.specs.Machine as definition
 use Rattle.cdi_machine.specs.Runs as runs
@@ -75,6 +77,13 @@ goes_left {w} {v} g =
     let k = g.ticks in
     omega arith
 
+-- a body behind the look at its instance
+abbrev begin_body : machine.Running → Prog Given
+begin_body r = do
+  machine.note (entries.Run r.instance r.place)
+  machine.alter (Start r.instance)
+  machine.finally (machine.call (machine.Acts r)) (machine.alter Stop)
+
 module _ (tables : Tables) (legal : Legal) where
   threw : {x : ℕ} {v u : World} {o : runs.Outcome} → Runs tables legal ⊥ (machine.throw x) v o u → o ≡ runs.Ends (machine.Threw x)
   threw Runs.throws = refl
@@ -92,6 +101,29 @@ module _ (tables : Tables) (legal : Legal) where
 
   pub destroy_left : {n : ℕ} {v x : World} {g : machine.Given} → Runs tables legal ⊥ (definition.machine (machine.Destroy n)) v (runs.Ends (machine.Gave g)) x → entries_left x < entries_left v
   destroy_left {n = n} (Runs.sees r) = destroyed n _ r
+
+  cut_off : {cause : Cause} {v u : World} {o : runs.Outcome} → Runs tables legal ⊥ (machine.cut cause) v o u → o ≡ runs.Cut cause
+  cut_off Runs.cuts = refl
+  cut_off (Runs.starves s) = absurd s
+
+  -- so has a body
+  started : (r : machine.Running) (x : Option Instance) {v u : World} {g : machine.Given}
+      → Runs tables legal ⊥ (handle (machine.require_present x) (λ _. begin_body r) machine.throw) v (runs.Ends (machine.Gave g)) u
+      → entries_left u < entries_left v
+  started r None (Runs.misses q) = let e = threw q in absurd (cc)
+  started r (Some o) {v = v} (Runs.writes room q) =
+      let g = goes_left (goes tables legal ⊥ q) in
+      let a = longer v.trace (entries.Run r.instance r.place) in
+      omega arith
+
+  deep_enough : (r : machine.Running) (b : Bool) {v u : World} {g : machine.Given}
+      → Runs tables legal ⊥ (handle (machine.require_depth b) (λ _. handle (machine.instance r.instance) (λ _. begin_body r) machine.throw) machine.throw) v (runs.Ends (machine.Gave g)) u
+      → entries_left u < entries_left v
+  deep_enough r false q = let e = cut_off q in absurd (cc)
+  deep_enough r true (Runs.sees q) = started r _ q
+
+  pub body_left : (r : machine.Running) {v x : World} {g : machine.Given} → Runs tables legal ⊥ (definition.machine (machine.Body r)) v (runs.Ends (machine.Gave g)) x → entries_left x < entries_left v
+  body_left r (Runs.sees q) = deep_enough r _ q
 
   -- so has an event that ended, whatever it came to
   pub fire_left : (event : ContainerEvent) {v x : World} {c : machine.Completion machine.Given}

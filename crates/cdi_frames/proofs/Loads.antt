@@ -10,7 +10,7 @@ use Rattle.cdi_steps.specs.Leads.{Comes}
 use Rattle.cdi_steps.specs.Ranks.{rank, continuation_rank, frame_rank, thrown_rank, awaited_rank, gave_rank, back_rank, weight}
 use Rattle.cdi_steps.proofs.Ranks.{rank_below, frame_below, thrown_below, thrown_above}
 use Rattle.cdi_machine.proofs.Order.{Still, longer}
-use Rattle.cdi_frames.proofs.Kept.{comes_still, still_left, destroy_left, fire_left}
+use Rattle.cdi_frames.proofs.Kept.{comes_still, still_left, body_left, destroy_left, fire_left}
 use Rattle.cdi_frames.specs.Hearing.{Written, Spent}
 use Rattle.cdi_base.specs.declared.entry.Entry.{Entry}
 use Rattle.cdi_base.specs.declared.reply.Cause.TheVariants as causes
@@ -90,8 +90,9 @@ top_below (pendings.Does t) k = awaited_most t k
     call_most (calls.Destroy n) k = let a = thrown_above k in let b = thrown_below k in omega (arith, a, b)
     call_most (calls.Obtain b) k = let b = thrown_below k in omega (arith, b)
     call_most (calls.Create b owner) k = let b = thrown_below k in omega (arith, b)
+    call_most (calls.Intercept i n) k = let b = thrown_below k in omega (arith, b)
     call_most calls.Rest k = let b = thrown_below k in omega (arith, b)
-    call_most (calls.Body r) k = let b = thrown_below k in omega (arith, b)
+    call_most (calls.Body r) k = let a = thrown_above k in let b = thrown_below k in omega (arith, a, b)
     call_most (calls.Acts r) k = let b = thrown_below k in omega (arith, b)
     call_most (calls.Release n) k = let b = thrown_below k in omega (arith, b)
     call_most (calls.Fire event) k = let a = thrown_above k in let b = thrown_below k in omega (arith, a, b)
@@ -110,7 +111,7 @@ top_below (pendings.Gives (outcomes.Ends (completions.Gave g))) k = omega arith
 top_below (pendings.Gives (outcomes.Ends (completions.Threw x))) k = thrown_below k
 top_below (pendings.Writes e a) k = let b = thrown_above k in let c = thrown_below k in omega (arith, b, c)
 
--- what goes on without an entry is no destruction and no event
+-- what goes on without an entry is no destruction, no body and no event
 same_top : (t : Task) → 1 < rank t → (k : Frame) → frame_rank k ≤ top_rank (pendings.Does t) k
 same_top (tasks.Start c) h k = by c h
   where
@@ -118,8 +119,9 @@ same_top (tasks.Start c) h k = by c h
     by (calls.Destroy n) h = absurd (omega (arith, h))
     by (calls.Obtain b) h = omega arith
     by (calls.Create b owner) h = omega arith
+    by (calls.Intercept i n) h = omega arith
     by calls.Rest h = omega arith
-    by (calls.Body r) h = omega arith
+    by (calls.Body r) h = absurd (omega (arith, h))
     by (calls.Acts r) h = omega arith
     by (calls.Release n) h = omega arith
     by (calls.Fire event) h = absurd (omega (arith, h))
@@ -138,6 +140,7 @@ awaited_above t k = by t
     call (calls.Fire event) = omega arith
     call (calls.Obtain b) = let a = thrown_above k in omega (arith, a)
     call (calls.Create b owner) = let a = thrown_above k in omega (arith, a)
+    call (calls.Intercept i n) = let a = thrown_above k in omega (arith, a)
     call calls.Rest = let a = thrown_above k in omega (arith, a)
     call (calls.Body r) = let a = thrown_above k in omega (arith, a)
     call (calls.Acts r) = let a = thrown_above k in omega (arith, a)
@@ -165,6 +168,7 @@ module _ (tables : Tables) (legal : Legal) where
       call (calls.Fire event) r = let l = fire_left tables legal event r in absurd (omega (arith, l, e))
       call (calls.Obtain b) r = omega arith
       call (calls.Create b owner) r = omega arith
+      call (calls.Intercept i n) r = omega arith
       call calls.Rest r = omega arith
       call (calls.Body q) r = omega arith
       call (calls.Acts q) r = omega arith
@@ -186,8 +190,9 @@ module _ (tables : Tables) (legal : Legal) where
       by (tasks.Start (calls.Destroy n)) r = let l = destroy_left tables legal r in absurd (omega (arith, l, e))
       by (tasks.Start (calls.Obtain b)) r = omega arith
       by (tasks.Start (calls.Create b owner)) r = omega arith
+      by (tasks.Start (calls.Intercept i n)) r = omega arith
       by (tasks.Start calls.Rest) r = omega arith
-      by (tasks.Start (calls.Body q)) r = omega arith
+      by (tasks.Start (calls.Body q)) r = let l = body_left tables legal q.value r in absurd (omega (arith, l, e))
       by (tasks.Start (calls.Acts q)) r = omega arith
       by (tasks.Start (calls.Release n)) r = omega arith
       by (tasks.Start (calls.Fire event)) r = let l = fire_left tables legal event r in absurd (omega (arith, l, e))

@@ -5,6 +5,7 @@ use Rattle.cdi_base.specs.declared.value.Value.TheVariants as values
 use Rattle.cdi_base.specs.declared.place.InterceptorMethod.{InterceptorMethod}
 use Rattle.cdi_base.specs.declared.place.InterceptorMethod.TheVariants as roles
 use Rattle.cdi_base.specs.declared.reply.Cause.{Cause}
+use Rattle.cdi_store.specs.declared.instance.Component.{Component}
 use Rattle.cdi_store.specs.declared.instance.Context.{Context}
 use Rattle.cdi_machine.specs.Words.{Name}
 use Rattle.cdi_machine.specs.Tables.{Tables}
@@ -97,27 +98,32 @@ module _ (t : Tables) where
       → (k ≡ frames.ShuttingDown → ⊥)
       → ((closing : Box Closing) → k ≡ frames.Finishing closing → ⊥)
       → ((after : AfterClose) → k ≡ frames.Closed after → ⊥)
-      → ((n b left : ℕ) (field : Name) → k ≡ frames.Injecting n b left field → ⊥)
+      → ((n : ℕ) (b : Component) (left : ℕ) (field : Name) → k ≡ frames.Injecting n b left field → ⊥)
+      → ((n : ℕ) (b : Component) (left : ℕ) → k ≡ frames.Completing n b left → ⊥)
+      → ((n : ℕ) (b : Component) (left : ℕ) → k ≡ frames.Stepping n b left → ⊥)
       → WaitsTo t k (completions.Threw x) w (nexts.Finished (outcomes.Ends (completions.Threw x))) w
-  threw_leads x (frames.AtEnd role) w h1 h2 h3 h4 h5 h6 h7 h8 h9 h10 h11 h12 h13 = Comes.same refl
-  threw_leads x (frames.Releasing n) w h1 h2 h3 h4 h5 h6 h7 h8 h9 h10 h11 h12 h13 = Comes.same refl
-  threw_leads x (frames.Freeing n) w h1 h2 h3 h4 h5 h6 h7 h8 h9 h10 h11 h12 h13 = Comes.same refl
-  threw_leads x frames.Dismissing w h1 h2 h3 h4 h5 h6 h7 h8 h9 h10 h11 h12 h13 = Comes.same refl
-  threw_leads x (frames.Clearing context) w h1 h2 h3 h4 h5 h6 h7 h8 h9 h10 h11 h12 h13 = Comes.same refl
-  threw_leads x (frames.Reaching method args) w h1 h2 h3 h4 h5 h6 h7 h8 h9 h10 h11 h12 h13 = Comes.same refl
-  threw_leads x (frames.Borrowing method args) w h1 h2 h3 h4 h5 h6 h7 h8 h9 h10 h11 h12 h13 = Comes.same refl
-  threw_leads x (frames.Emptying closing) w h1 h2 h3 h4 h5 h6 h7 h8 h9 h10 h11 h12 h13 = Comes.same refl
-  threw_leads x (frames.Discarding n y) w h1 h2 h3 h4 h5 h6 h7 h8 h9 h10 h11 h12 h13 = Comes.same refl
-  threw_leads x frames.Stopping w h1 h2 h3 h4 h5 h6 h7 h8 h9 h10 h11 h12 h13 = absurd (h1 refl)
-  threw_leads x (frames.Answering r) w h1 h2 h3 h4 h5 h6 h7 h8 h9 h10 h11 h12 h13 = absurd (h2 r refl)
-  threw_leads x (frames.CleaningUp n) w h1 h2 h3 h4 h5 h6 h7 h8 h9 h10 h11 h12 h13 = absurd (h3 n refl)
-  threw_leads x frames.Exiting w h1 h2 h3 h4 h5 h6 h7 h8 h9 h10 h11 h12 h13 = absurd (h4 refl)
-  threw_leads x frames.Using w h1 h2 h3 h4 h5 h6 h7 h8 h9 h10 h11 h12 h13 = absurd (h5 refl)
-  threw_leads x (frames.Returning told) w h1 h2 h3 h4 h5 h6 h7 h8 h9 h10 h11 h12 h13 = absurd (h6 told refl)
-  threw_leads x frames.Initializing w h1 h2 h3 h4 h5 h6 h7 h8 h9 h10 h11 h12 h13 = absurd (h7 refl)
-  threw_leads x frames.Opening w h1 h2 h3 h4 h5 h6 h7 h8 h9 h10 h11 h12 h13 = absurd (h8 refl)
-  threw_leads x frames.Telling w h1 h2 h3 h4 h5 h6 h7 h8 h9 h10 h11 h12 h13 = absurd (h9 refl)
-  threw_leads x frames.ShuttingDown w h1 h2 h3 h4 h5 h6 h7 h8 h9 h10 h11 h12 h13 = absurd (h10 refl)
-  threw_leads x (frames.Finishing closing) w h1 h2 h3 h4 h5 h6 h7 h8 h9 h10 h11 h12 h13 = absurd (h11 closing refl)
-  threw_leads x (frames.Closed after) w h1 h2 h3 h4 h5 h6 h7 h8 h9 h10 h11 h12 h13 = absurd (h12 after refl)
-  threw_leads x (frames.Injecting n b left field) w h1 h2 h3 h4 h5 h6 h7 h8 h9 h10 h11 h12 h13 = absurd (h13 n b left field refl)
+  threw_leads x (frames.AtEnd role) w h1 h2 h3 h4 h5 h6 h7 h8 h9 h10 h11 h12 h13 h14 h15 = Comes.same refl
+  threw_leads x (frames.Releasing n) w h1 h2 h3 h4 h5 h6 h7 h8 h9 h10 h11 h12 h13 h14 h15 = Comes.same refl
+  threw_leads x (frames.Freeing n) w h1 h2 h3 h4 h5 h6 h7 h8 h9 h10 h11 h12 h13 h14 h15 = Comes.same refl
+  threw_leads x frames.Dismissing w h1 h2 h3 h4 h5 h6 h7 h8 h9 h10 h11 h12 h13 h14 h15 = Comes.same refl
+  threw_leads x (frames.Clearing context) w h1 h2 h3 h4 h5 h6 h7 h8 h9 h10 h11 h12 h13 h14 h15 = Comes.same refl
+  threw_leads x (frames.Reaching method args) w h1 h2 h3 h4 h5 h6 h7 h8 h9 h10 h11 h12 h13 h14 h15 = Comes.same refl
+  threw_leads x (frames.Borrowing method args) w h1 h2 h3 h4 h5 h6 h7 h8 h9 h10 h11 h12 h13 h14 h15 = Comes.same refl
+  threw_leads x (frames.Emptying closing) w h1 h2 h3 h4 h5 h6 h7 h8 h9 h10 h11 h12 h13 h14 h15 = Comes.same refl
+  threw_leads x (frames.Discarding n y) w h1 h2 h3 h4 h5 h6 h7 h8 h9 h10 h11 h12 h13 h14 h15 = Comes.same refl
+  threw_leads x (frames.Calling b) w h1 h2 h3 h4 h5 h6 h7 h8 h9 h10 h11 h12 h13 h14 h15 = Comes.same refl
+  threw_leads x frames.Stopping w h1 h2 h3 h4 h5 h6 h7 h8 h9 h10 h11 h12 h13 h14 h15 = absurd (h1 refl)
+  threw_leads x (frames.Answering r) w h1 h2 h3 h4 h5 h6 h7 h8 h9 h10 h11 h12 h13 h14 h15 = absurd (h2 r refl)
+  threw_leads x (frames.CleaningUp n) w h1 h2 h3 h4 h5 h6 h7 h8 h9 h10 h11 h12 h13 h14 h15 = absurd (h3 n refl)
+  threw_leads x frames.Exiting w h1 h2 h3 h4 h5 h6 h7 h8 h9 h10 h11 h12 h13 h14 h15 = absurd (h4 refl)
+  threw_leads x frames.Using w h1 h2 h3 h4 h5 h6 h7 h8 h9 h10 h11 h12 h13 h14 h15 = absurd (h5 refl)
+  threw_leads x (frames.Returning told) w h1 h2 h3 h4 h5 h6 h7 h8 h9 h10 h11 h12 h13 h14 h15 = absurd (h6 told refl)
+  threw_leads x frames.Initializing w h1 h2 h3 h4 h5 h6 h7 h8 h9 h10 h11 h12 h13 h14 h15 = absurd (h7 refl)
+  threw_leads x frames.Opening w h1 h2 h3 h4 h5 h6 h7 h8 h9 h10 h11 h12 h13 h14 h15 = absurd (h8 refl)
+  threw_leads x frames.Telling w h1 h2 h3 h4 h5 h6 h7 h8 h9 h10 h11 h12 h13 h14 h15 = absurd (h9 refl)
+  threw_leads x frames.ShuttingDown w h1 h2 h3 h4 h5 h6 h7 h8 h9 h10 h11 h12 h13 h14 h15 = absurd (h10 refl)
+  threw_leads x (frames.Finishing closing) w h1 h2 h3 h4 h5 h6 h7 h8 h9 h10 h11 h12 h13 h14 h15 = absurd (h11 closing refl)
+  threw_leads x (frames.Closed after) w h1 h2 h3 h4 h5 h6 h7 h8 h9 h10 h11 h12 h13 h14 h15 = absurd (h12 after refl)
+  threw_leads x (frames.Injecting n b left field) w h1 h2 h3 h4 h5 h6 h7 h8 h9 h10 h11 h12 h13 h14 h15 = absurd (h13 n b left field refl)
+  threw_leads x (frames.Completing n b left) w h1 h2 h3 h4 h5 h6 h7 h8 h9 h10 h11 h12 h13 h14 h15 = absurd (h14 n b left refl)
+  threw_leads x (frames.Stepping n b left) w h1 h2 h3 h4 h5 h6 h7 h8 h9 h10 h11 h12 h13 h14 h15 = absurd (h15 n b left refl)

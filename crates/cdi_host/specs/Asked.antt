@@ -1,5 +1,5 @@
 -- What is asked of the tables and of the world, as the definition has it.
-use Rattle.std.specs.Prelude.{ℕ, ◌^◌, ◌<◌, List, [], ◌∷◌, ◌≡◌, ◌-◌, length, drop, Bool, true, false, Option, Some, None, nat_lt, option_map, option_and_then}
+use Rattle.std.specs.Prelude.{ℕ, ◌^◌, ◌<◌, List, [], ◌∷◌, ◌≡◌, ◌-◌, length, drop, is_some, map, Bool, true, false, Option, Some, None, nat_lt, option_map, option_and_then}
 use Rattle.cdi_base.specs.declared.scope.Scope.{Scope}
 use Rattle.cdi_base.specs.declared.uses.Use.{Use}
 use Rattle.cdi_base.specs.Fields.{has}
@@ -14,15 +14,17 @@ use Rattle.cdi_contexts.specs.declared.context.Status.{Status}
 use Rattle.cdi_contexts.specs.Contexts.{active_context, entry_in}
 use Rattle.cdi_machine.specs.Words.{Name, Fields, Asked}
 use Rattle.cdi_machine.specs.Tables as machine
-use Rattle.cdi_machine.specs.Tables.{Tables, Bean, Managed, Lifecycle, Method, Kind, Step}
+use Rattle.cdi_machine.specs.Tables.{Tables, Bean, Interceptor, Code, Managed, Lifecycle, Method, Kind, Step}
 use Rattle.cdi_machine.specs.Creation.{first_fields}
 use Rattle.cdi_machine.specs.World.{World}
 use Rattle.cdi_machine.specs.Bodies.{reference_at}
 use Rattle.cdi_machine.specs.Destruction.{latest}
 use Rattle.cdi_host.specs.declared.beans.BeanHead.{BeanHead}
 use Rattle.cdi_host.specs.declared.beans.Method.{Method as CodeMethod}
-use Rattle.cdi_host.specs.declared.beans.Resolution.{Resolution}
-use Rattle.cdi_host.specs.declared.beans.Resolution.TheVariants.{One, Nothing, Many}
+use Rattle.cdi_life.specs.Told.{resolution_told}
+use Rattle.cdi_life.specs.declared.point.Resolution.{Resolution}
+use Rattle.cdi_host.specs.declared.beans.Step.{Step as CodeStep}
+use Rattle.cdi_host.specs.declared.beans.Step.TheVariants.{Intercept, Inject, Complete}
 
 -- ---- the deployment
 
@@ -35,21 +37,19 @@ abbrev pub of_type : Name → Asked
 of_type type = asked_for type []
 
 abbrev pub machine_resolution : Resolution → machine.Resolution
-machine_resolution (One b) = machine.Resolution.One b
-machine_resolution Nothing = machine.Resolution.Nothing
-machine_resolution Many = machine.Resolution.Many
+machine_resolution r = resolution_told r
 
 abbrev pub head_of : Bean → BeanHead
 head_of bean = record { place = bean.place; scope = bean.scope }
 
-abbrev pub no_lifecycle : Lifecycle
-no_lifecycle = record { chain = []; callbacks = [] }
+-- callbacks, round which no interceptor stands
+abbrev pub alone : List Code → Lifecycle
+alone callbacks = record { chain = []; callbacks = callbacks }
 
--- a managed bean whose destruction calls nothing
+-- a managed bean
 pub record IsServedBean (bean : Bean) : Type 0 where
   pub class : Managed
   pub is_class : bean.kind ≡ Kind.Class class
-  pub pre_destroy : class.pre_destroy ≡ no_lifecycle
 
 -- the fields of a new instance
 abbrev pub fields_of : Option Bean → Fields
@@ -69,6 +69,54 @@ plan_in (Kind.Producer p) = []
 abbrev pub plan_of : Option Bean → List Step
 plan_of None = []
 plan_of (Some bean) = plan_in bean.kind
+
+-- an interceptor's instance is created by the injection of its fields
+abbrev pub injecting : Name × Asked → Step
+injecting p = Step.Inject p.0 p.1
+
+abbrev pub interceptor_plan : Option Interceptor → List Step
+interceptor_plan None = []
+interceptor_plan (Some j) = map injecting j.injected
+
+abbrev pub interceptor_fields : Option Interceptor → Fields
+interceptor_fields None = []
+interceptor_fields (Some j) = j.fields
+
+-- the steps, and the fields, of a new instance of a component
+abbrev pub plan_at : Tables → Component → List Step
+plan_at t (components.Bean b) = plan_of (t.bean b)
+plan_at t (components.Interceptor i) = interceptor_plan (t.interceptor i)
+
+abbrev pub fields_at : Tables → Component → Fields
+fields_at t (components.Bean b) = fields_of (t.bean b)
+fields_at t (components.Interceptor i) = interceptor_fields (t.interceptor i)
+
+-- a component is there
+abbrev pub has_component : Tables → Component → Bool
+has_component t (components.Bean b) = is_some (t.bean b)
+has_component t (components.Interceptor i) = is_some (t.interceptor i)
+
+-- a step as the machine has it
+abbrev pub machine_step : CodeStep → Step
+machine_step (Intercept i) = Step.Intercept i
+machine_step (Inject i) = Step.Inject i.field (asked_for i.bean_type i.qualifiers.now)
+machine_step (Complete callbacks) = Step.Complete (alone callbacks.now)
+
+-- an injected field says what its point resolves to
+abbrev pub IsResolvedStep : Tables → CodeStep → Type 0
+IsResolvedStep t (Intercept i) = Unit {0}
+IsResolvedStep t (Inject i) =
+    t.resolve (asked_for i.bean_type i.qualifiers.now) ≡ machine_resolution i.resolution
+IsResolvedStep t (Complete callbacks) = Unit {0}
+
+-- what is called before an instance of a bean is destroyed
+abbrev pub pre_destroy_in : Kind → Option Lifecycle
+pre_destroy_in (Kind.Class c) = Some c.pre_destroy
+pre_destroy_in (Kind.Producer p) = None
+
+abbrev pub pre_destroy_of : Option Bean → Option Lifecycle
+pre_destroy_of None = None
+pre_destroy_of (Some bean) = pre_destroy_in bean.kind
 
 -- so many steps, the last ones
 abbrev pub last_of : {X : Type 0} → ℕ → List X → List X

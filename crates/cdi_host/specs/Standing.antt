@@ -1,5 +1,7 @@
 -- In which request and session a command runs, and how they come and go.
 use Rattle.std.specs.Prelude.{List, ℕ, Bool, true, false, Option, Some, None, if◌then◌else◌}
+use Rattle.cdi_base.specs.declared.scope.Scope.{Scope}
+use Rattle.cdi_base.specs.declared.scope.Scope.TheVariants as scopes
 use Rattle.cdi_store.specs.declared.instance.Context.{Context}
 use Rattle.cdi_store.specs.declared.instance.Context.TheVariants.{Session}
 use Rattle.cdi_contexts.specs.Contexts.{Contexts, is_due}
@@ -25,6 +27,12 @@ abbrev pub with_request_begun : List ℕ → Option (List ℕ) → World → Wor
 with_request_begun r None w = after_change (Change.BeginRequest r None) w
 with_request_begun r (Some s) w =
     after_change (Change.BeginRequest r (Some s)) (with_session_begun s w)
+
+-- a scope of which there may be several contexts, each with its name
+abbrev pub has_named_contexts : Scope → Bool
+has_named_contexts scopes.RequestScoped = true
+has_named_contexts scopes.SessionScoped = true
+has_named_contexts scope = false
 
 -- the session, if it is due
 abbrev pub due_in : Contexts → Option (List ℕ) → Option Context

@@ -18,7 +18,7 @@ pub trait Contents {
     ghost use Rattle.cdi_machine.specs.Destruction.{greatest_in};
     ghost use Rattle.cdi_store.specs.Owned.{dependents_in};
     ghost use Rattle.cdi_host.specs.Asked.{status_in, held_in, number_left, latest_in, top_of};
-    ghost use Rattle.cdi_host.specs.Standing.{due_session, standing_in, standing_in_session, with_request_begun};
+    ghost use Rattle.cdi_host.specs.Standing.{due_session, has_named_contexts, standing_in, standing_in_session, with_request_begun};
 
     /// The world of the definition.
     ghost world: { Self → World };
@@ -62,7 +62,9 @@ pub trait Contents {
     /// The context of a scope in the environment of the command, if it has one; the application is in every environment. Memory
     /// can be wanting for the name of a request or a session.
     fn context(&self, scope: Scope) -> Result<Option<Context>, AllocError>
-        ensures { IfOk result (λ context. context_of (world self.now).environment scope ≡ context) };
+        ensures found { IfOk result (λ context.
+            context_of (world self.now).environment scope ≡ context) }
+        ensures memory { IsErr result → IsTrue (has_named_contexts scope) };
 
     /// The greatest number of an instance that a context has.
     fn last_in(&self, context: &Context) -> Option<u32>
@@ -71,7 +73,8 @@ pub trait Contents {
     /// The session of the command's environment, if it ends: it is marked, and no request that is there belongs to it. Memory can be
     /// wanting for its name.
     fn due_session(&self) -> Result<Option<Context>, AllocError>
-        ensures { IfOk result (λ session. due_session (world self.now) ≡ session) };
+        ensures found { IfOk result (λ session. due_session (world self.now) ≡ session) }
+        ensures memory { IsErr result → IsSome (world self.now).environment.session };
 
     /// Whether a request that is there belongs to a session.
     fn is_used(&self, session: &Text) -> bool

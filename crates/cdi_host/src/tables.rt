@@ -1,6 +1,8 @@
 //! The tables of a deployment, as the engine asks them.
-use crate::beans::{BeanHead, Injection, Method, Resolution};
+use crate::beans::{BeanHead, Method, Resolution, Step};
 use cdi_base::{Fields, Name, Use};
+use cdi_stacks::Code;
+use cdi_store::Component;
 use std::alloc::{AllocError, Global};
 
 /// The tables of a deployment. They answer as those of the definition, and never change.
@@ -8,8 +10,8 @@ pub trait Tables {
     ghost use Rattle.std.specs.Prelude.{ℕ, ◌≡◌, List, [], length, slice_get, option_map, IfOk, IfSome};
     ghost use Rattle.cdi_base.specs.declared.uses.Use.{Use as AnyUse};
     ghost use Rattle.cdi_machine.specs.Tables.{Tables as MachineTables};
-    ghost use Rattle.cdi_machine.specs.Tables.Step.{Inject};
-    ghost use Rattle.cdi_host.specs.Asked.{asked_for, machine_resolution, head_of, IsServedBean, fields_of, plan_of, machine_method, method_at};
+    ghost use Rattle.cdi_host.specs.Asked.{asked_for, machine_resolution, head_of, IsServedBean, fields_at, plan_at, machine_method, method_at};
+    ghost use Rattle.cdi_host.specs.Asked.{machine_step, IsResolvedStep, alone, pre_destroy_of};
 
     /// What the definition asks.
     ghost tables: { Self → MachineTables };
@@ -19,21 +21,29 @@ pub trait Tables {
         ensures found { option_map head_of ((tables self.now).bean bean) ≡ result }
         ensures served { IfSome ((tables self.now).bean bean) IsServedBean };
 
-    /// The fields of a new instance of the bean with an index.
-    fn first_fields(&self, alloc: Global, bean: u32) -> Result<Fields, AllocError>
-        ensures { IfOk result (λ fields. fields ≡ fields_of ((tables self.now).bean bean)) };
+    /// The name of the enabled interceptor at a place.
+    fn interceptor(&self, interceptor: u32) -> Option<Name>
+        ensures { option_map (λ i. i.name) ((tables self.now).interceptor interceptor) ≡ result };
 
-    /// How many steps the creation of an instance of the bean with an index has.
-    fn injections(&self, bean: u32) -> u32
-        ensures { length (plan_of ((tables self.now).bean bean)) ≡ result };
+    /// The fields of a new instance of a bean or an interceptor, each with its first value.
+    fn first_fields(&self, alloc: Global, component: Component) -> Result<Fields, AllocError>
+        ensures { IfOk result (λ fields. fields ≡ fields_at (tables self.now) component) };
 
-    /// A step of this creation: each injects a field (Jakarta CDI 4.0, *Injected fields*).
-    fn injection(&self, bean: u32, at: u32) -> Option<Injection<'_>>
-        ensures found { slice_get (plan_of ((tables self.now).bean bean)) at
-            ≡ option_map (λ i. Inject i.field (asked_for i.bean_type i.qualifiers.now)) result }
-        ensures resolved { IfSome result (λ i.
-            (tables self.now).resolve (asked_for i.bean_type i.qualifiers.now)
-            ≡ machine_resolution i.resolution) };
+    /// How many steps the creation of an instance of a bean or an interceptor has.
+    fn steps(&self, component: Component) -> u32
+        ensures { length (plan_at (tables self.now) component) ≡ result };
+
+    /// A step of this creation (Jakarta CDI 4.0, *Injected fields*; Jakarta Interceptors 2.1, *Interceptor Life Cycle*).
+    fn step(&self, component: Component, at: u32) -> Option<Step<'_>>
+        ensures found { slice_get (plan_at (tables self.now) component) at
+            ≡ option_map machine_step result }
+        ensures resolved { IfSome result (IsResolvedStep (tables self.now)) };
+
+    /// What is called before an instance of the bean with an index is destroyed (Jakarta CDI 4.0, *Lifecycle of managed beans*): its
+    /// callbacks, the superclass's first, round which no interceptor stands.
+    fn pre_destroy(&self, bean: u32) -> Option<&[Code]>
+        ensures { pre_destroy_of ((tables self.now).bean bean)
+            ≡ option_map (λ codes. alone codes.now) result };
 
     /// A business method of the bean with an index.
     fn method(&self, bean: u32, name: Name) -> Option<Method>

@@ -51,16 +51,10 @@ fn is_served_plan(plan: &Plan) -> bool
     }
 }
 
-fn is_served_bean(bean: &PlannedBean) -> bool
-    ensures { result ≡ spec.is_served_bean bean.now }
-{
-    is_served_plan(&bean.plan)
-}
-
 fn are_served_beans(beans: &[PlannedBean]) -> bool
     ensures { result ≡ list_all spec.is_served_bean beans.now }
 {
-    beans.iter().all(is_served_bean)
+    beans.iter().all(|bean| is_served_plan(&bean.plan))
 }
 
 fn has_text(names: &Names, name: Name) -> bool

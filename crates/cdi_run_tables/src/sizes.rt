@@ -6,6 +6,7 @@ ghost use Rattle.cdi_run_tables.specs.Sizes as spec;
 use crate::managed::count_of;
 use crate::planned::PlannedBean;
 use crate::tables::RunTables;
+use cdi_deployment::Interceptor;
 use cdi_plans::Plan;
 
 /// The most beans that a container numbers.
@@ -26,12 +27,22 @@ fn have_few_injections(beans: &[PlannedBean]) -> bool
     beans.iter().all(has_few_injections)
 }
 
+fn have_few_fields(interceptors: &[Interceptor]) -> bool
+    ensures { result ≡ list_all spec.has_few_fields interceptors.now }
+{
+    interceptors
+        .iter()
+        .all(|interceptor| interceptor.inject.len() < 4_294_967_296)
+}
+
 impl RunTables {
     /// Whether a container can number what there is: at most [`MAX_BEANS`] beans, as every deployment without problems has, and of each
-    /// at most 4,294,967,295 injected fields.
+    /// and of each interceptor at most 4,294,967,295 injected fields.
     pub fn is_small(&self) -> bool
         ensures { result ≡ spec.is_small self.now }
     {
-        self.parts.beans.len() <= MAX_BEANS && have_few_injections(self.parts.beans.as_slice())
+        self.parts.beans.len() <= MAX_BEANS
+            && have_few_injections(self.parts.beans.as_slice())
+            && have_few_fields(self.parts.deployment.interceptors.as_slice())
     }
 }

@@ -9,7 +9,7 @@ use Rattle.cdi_base.specs.declared.uses.Use.{Use}
 use Rattle.cdi_bean_check.specs.Qualifiers.{full_uses}
 use Rattle.cdi_beans.specs.declared.bean.ObserverMethod.{ObserverMethod}
 use Rattle.cdi_deployment.specs.declared.deployment.Point.{Point}
-use Rattle.cdi_machine.specs.Words.{Name}
+use Rattle.cdi_machine.specs.Words.{Asked, Name}
 use Rattle.cdi_machine.specs.Tables as machine
 use Rattle.cdi_plans.specs.declared.plan.BusinessMethod.{BusinessMethod}
 use Rattle.cdi_plans.specs.declared.plan.ManagedPlan.{ManagedPlan}
@@ -21,19 +21,24 @@ use Rattle.cdi_resolve.specs.declared.resolution.Resolution.{Resolution}
 use Rattle.cdi_resolve.specs.declared.resolution.Resolution.TheVariants as resolutions
 use Rattle.cdi_run_tables.specs.Machine as tables
 use Rattle.cdi_event_tables.specs.Events.{Group, groups_of, hears}
-use Rattle.cdi_run_tables.specs.Machine.{asked_by, bean_at, bean_with, does_something, has_none, id_of, is_idle, machine_code, machine_lifecycle, machine_managed, machine_method, machine_methods, machine_observer, machine_step, machine_steps, machine_tables, method_of, method_with, observers_of, resolution_of, without_chain}
+use Rattle.cdi_run_tables.specs.Machine.{asked_by, bean_at, bean_with, does_something, has_none, id_of, injection, interceptor_at, machine_interceptor, is_idle, machine_code, machine_lifecycle, machine_managed, machine_method, machine_methods, machine_observer, machine_step, machine_steps, machine_tables, method_of, method_with, observers_of, resolution_of, without_chain}
 use Rattle.cdi_run_tables.specs.Managed as managed
 use Rattle.cdi_run_tables.specs.Managed.{injected, injections_of, managed_plan}
 use Rattle.cdi_run_tables.specs.Served.{has_texts, is_served, is_served_bean, is_served_plan, is_served_step}
-use Rattle.cdi_run_tables.specs.Sizes.{has_few_injections, is_small}
+use Rattle.cdi_run_tables.specs.Sizes.{has_few_fields, has_few_injections, is_small}
+use Rattle.cdi_run_tables.specs.Interceptors.{fields_in, injected_in}
+use Rattle.cdi_beans.specs.declared.bean.EnabledInterceptor.{EnabledInterceptor}
+use Rattle.cdi_deployment.specs.declared.deployment.Interceptor.{Interceptor}
+use Rattle.cdi_store.specs.declared.instance.Component.TheVariants as components
 use Rattle.cdi_run_tables.specs.declared.planned.PlannedBean.{PlannedBean}
 use Rattle.cdi_run_tables.specs.declared.tables.RunTables.{RunTables}
 use Rattle.cdi_host.specs.Asked as host
-use Rattle.cdi_host.specs.Asked.{asked_for, fields_of, head_of, method_at, method_in, no_lifecycle, plan_of, IsServedBean}
+use Rattle.cdi_host.specs.Asked.{asked_for, fields_of, head_of, method_at, method_in, alone, injecting, interceptor_fields, interceptor_plan, plan_of, pre_destroy_of, IsServedBean}
+use Rattle.cdi_steps.specs.Known.{AreCallbacks, IsCallbackBody, completing, leaving}
 use Rattle.cdi_host.specs.declared.beans.BeanHead.{BeanHead}
 use Rattle.cdi_runtime.specs.Refusals.{with_no_chain}
 use Rattle.cdi_runtime.specs.Standing.{HasNumber, IsServable}
-use Rattle.cdi_runtime.proofs.Lists.{mapped_at, passes_at, within}
+use Rattle.cdi_runtime.proofs.Lists.{mapped_at, mapped_length, passes_at, within}
 
 none_is : {A : Type 0} (xs : List A) → has_none xs ≡ true → xs ≡ []
 none_is [] e = refl
@@ -103,6 +108,19 @@ whole_method (Some m) free =
     let none : m.chain ≡ [] = free m refl in
     λ i. Some (record { code = m.code; count = m.count; chain = sym none i })
 
+-- the steps of an interceptor's instance
+pub interceptor_step_at : (x : Option machine.Interceptor) (i : ℕ) → slice_get (interceptor_plan x) i ≡ option_map injecting (slice_get (injected_in x) i)
+interceptor_step_at None i = refl
+interceptor_step_at (Some j) i = mapped_at injecting j.injected i
+
+pub interceptor_length : (x : Option machine.Interceptor) → length (interceptor_plan x) ≡ length (injected_in x)
+interceptor_length None = refl
+interceptor_length (Some j) = mapped_length injecting j.injected
+
+pub interceptor_fields_at : (x : Option machine.Interceptor) → interceptor_fields x ≡ fields_in x
+interceptor_fields_at None = refl
+interceptor_fields_at (Some j) = refl
+
 module _ (t : RunTables) (served : is_served t ≡ true) where
   -- beans and texts are served, and there are no observers
   both : ((list_all is_served_bean t.beans && has_texts t.deployment) ≡ true) × (has_none t.tables.observers ≡ true)
@@ -159,7 +177,7 @@ module _ (t : RunTables) (served : is_served t ≡ true) where
   pub head_at : (n : ℕ) → option_map head_of (bean_at t n) ≡ option_map head (slice_get t.beans n)
   head_at n = at_index (λ x y z. option_map head_of y ≡ option_map head x) n refl (λ b s. refl)
 
-  silent : (b : PlannedBean) (s : ServedPlan b) → machine_lifecycle (id_of t) s.plan.pre_destroy ≡ no_lifecycle
+  silent : (b : PlannedBean) (s : ServedPlan b) → machine_lifecycle (id_of t) s.plan.pre_destroy ≡ alone []
   silent b s =
       let idle = and_parts (has_none s.plan.pre_destroy.chain) (has_none s.plan.pre_destroy.callbacks) s.idle in
       let chain : s.plan.pre_destroy.chain ≡ [] = none_is s.plan.pre_destroy.chain idle.0 in
@@ -169,7 +187,10 @@ module _ (t : RunTables) (served : is_served t ≡ true) where
   pub served_bean_at : (n : ℕ) → IfSome (bean_at t n) IsServedBean
   served_bean_at n =
       at_index (λ x y z. IfSome y IsServedBean) n tt
-      (λ b s. record { class = machine_managed (id_of t) s.plan; is_class = refl; pre_destroy = silent b s })
+      (λ b s. record { class = machine_managed (id_of t) s.plan; is_class = refl })
+
+  pub pre_destroy_at : (n : ℕ) → pre_destroy_of (bean_at t n) ≡ option_map (λ b. alone []) (slice_get t.beans n)
+  pre_destroy_at n = at_index (λ x y z. pre_destroy_of y ≡ option_map (λ b. alone []) x) n refl (λ b s. ap (λ l. Some l) (silent b s))
 
   pub fields_at : (n : ℕ) → fields_of (bean_at t n) ≡ managed.fields_of (managed_at n)
   fields_at n = at_index (λ x y z. fields_of y ≡ managed.fields_of z) n refl (λ b s. refl)
@@ -179,6 +200,32 @@ module _ (t : RunTables) (served : is_served t ≡ true) where
 
   pub step_at : (n i : ℕ) → slice_get (plan_of (bean_at t n)) i ≡ option_map step_of (slice_get (injections_of (managed_at n)) i)
   step_at n i = ap (λ xs. slice_get xs i) (plan_at n) ∙ mapped_at step_of (injections_of (managed_at n)) i
+
+  no_completion : (o : Option (Name × Point)) (callbacks : List machine.Code) → option_map step_of o ≡ Some (machine.Step.Complete (alone callbacks)) → ⊥
+  no_completion None callbacks e = cc
+  no_completion (Some p) callbacks e = cc
+
+  no_interceptor_completion : (o : Option (Name × Asked)) (callbacks : List machine.Code) → option_map injecting o ≡ Some (machine.Step.Complete (alone callbacks)) → ⊥
+  no_interceptor_completion None callbacks e = cc
+  no_interceptor_completion (Some p) callbacks e = cc
+
+  no_farewell : (o : Option PlannedBean) (callbacks : List machine.Code) → option_map (λ b. alone []) o ≡ Some (alone callbacks) → [] ≡ callbacks
+  no_farewell None callbacks e = absurd cc
+  no_farewell (Some b) callbacks e = ap (λ (l : machine.Lifecycle). l.callbacks) (same_Some (alone []) (alone callbacks) e)
+
+  -- there are no callbacks
+  none_called : (callbacks : List machine.Code) → AreCallbacks (machine_tables t) callbacks → [] ≡ callbacks
+  none_called callbacks (completing (components.Bean b) i e) = absurd (no_completion (slice_get (injections_of (managed_at b)) i) callbacks (sym (step_at b i) ∙ e))
+  none_called callbacks (completing (components.Interceptor k) i e) =
+      absurd (no_interceptor_completion (slice_get (injected_in (interceptor_at t k)) i) callbacks (sym (interceptor_step_at (interceptor_at t k) i) ∙ e))
+  none_called callbacks (leaving b e) = no_farewell (slice_get t.beans b) callbacks (sym (pre_destroy_at b) ∙ e)
+
+  pub no_callback : (body : ℕ) → IsCallbackBody (machine_tables t) body → ⊥
+  no_callback body is = by is.callbacks (none_called is.callbacks is.called) is.stands
+    where
+      by : (callbacks : List machine.Code) {code : machine.Code} → [] ≡ callbacks → slice_get callbacks is.at ≡ Some code → ⊥
+      by [] e f = cc
+      by (x ∷ xs) e f = cc
 
   method_found : (n name : ℕ) → method_at (machine_tables t) n name ≡ method_of t n name
   method_found n name =
@@ -194,8 +241,28 @@ module _ (t : RunTables) (served : is_served t ≡ true) where
   method_is n name = method_found n name ∙ sym (whole_method (method_of t n name) (free n name))
 
 module _ (t : RunTables) (small : is_small t ≡ true) where
+  both_sizes : ((nat_le (length t.beans) 4096 && list_all has_few_injections t.beans) ≡ true) × (list_all has_few_fields t.deployment.interceptors ≡ true)
+  both_sizes = and_parts (nat_le (length t.beans) 4096 && list_all has_few_injections t.beans) (list_all has_few_fields t.deployment.interceptors) small
+
   sizes : (nat_le (length t.beans) 4096 ≡ true) × (list_all has_few_injections t.beans ≡ true)
-  sizes = and_parts (nat_le (length t.beans) 4096) (list_all has_few_injections t.beans) small
+  sizes = and_parts (nat_le (length t.beans) 4096) (list_all has_few_injections t.beans) both_sizes.0
+
+  -- an interceptor has few injected fields
+  pub few_fields : (i : ℕ) → length (injected_in (interceptor_at t i)) < 2 ^ 32
+  few_fields i = enabled (slice_get t.tables.chains.interceptors i)
+    where
+      declared : (k : ℕ) (o : Option Interceptor) → slice_get t.deployment.interceptors k ≡ o → length (injected_in (option_map (machine_interceptor (id_of t)) o)) < 2 ^ 32
+      declared k None e = omega arith
+      declared k (Some j) e =
+          let few : nat_lt (length j.inject) (2 ^ 32) ≡ true = passes_at has_few_fields t.deployment.interceptors k j both_sizes.1 e in
+          let same : length (map injection j.inject) ≡ length j.inject = mapped_length injection j.inject in
+          let less = ltb-true (length j.inject) (2 ^ 32) few in
+          omega (arith, same, less)
+
+      enabled : (o : Option EnabledInterceptor)
+          → length (injected_in (option_map (machine_interceptor (id_of t)) (option_and_then (λ (j : EnabledInterceptor). slice_get t.deployment.interceptors j.index) o))) < 2 ^ 32
+      enabled None = omega arith
+      enabled (Some j) = declared j.index (slice_get t.deployment.interceptors j.index) refl
 
   pub few_injections : (n : ℕ) → length (injections_of (option_and_then managed_plan (slice_get t.beans n))) < 2 ^ 32
   few_injections n = by (slice_get t.beans n) refl

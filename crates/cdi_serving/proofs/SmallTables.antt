@@ -1,5 +1,5 @@
 -- The tables of a deployment whose lists are within their limits are small.
-use Rattle.std.proofs.Common.{ℕ, ◌≡◌, ◌∙◌, ◌*◌, ◌^◌, ◌≤◌, true, List, length, Some, ap, arith, nat_le, nat_lt}
+use Rattle.std.proofs.Common.{ℕ, ◌&&◌, ◌≡◌, ◌∙◌, ◌*◌, ◌^◌, ◌≤◌, true, List, length, Some, ap, arith, nat_le, nat_lt}
 use Rattle.std.specs.Prelude.{IsTrue}
 use Rattle.std.proofs.lemmas.Bool.{and_from, le-leb, lt-ltb}
 use Rattle.std.proofs.lemmas.Slice.Zip.{AllZip-long}
@@ -17,7 +17,7 @@ use Rattle.cdi_plans.specs.declared.plan.ManagedPlan.{ManagedPlan}
 use Rattle.cdi_plans.specs.declared.plan.Plan.{Plan}
 use Rattle.cdi_run_tables.specs.Managed.{injections_of, managed_of}
 use Rattle.cdi_run_tables.specs.Planned.{IsPlanned, IsTabled, plan_tables}
-use Rattle.cdi_run_tables.specs.Sizes.{has_few_injections, is_small}
+use Rattle.cdi_run_tables.specs.Sizes.{has_few_fields, has_few_injections, is_small}
 use Rattle.cdi_run_tables.specs.declared.planned.PlannedBean.{PlannedBean}
 use Rattle.cdi_run_tables.specs.declared.tables.RunTables.{RunTables}
 use Rattle.cdi_resolve.specs.declared.bean_tables.BeanTables.{BeanTables}
@@ -25,7 +25,7 @@ use Rattle.cdi_serving.proofs.BeanCounts.{as_many, few_beans}
 use Rattle.cdi_serving.proofs.Each.{all_pass, each_item, each_zipped}
 use Rattle.cdi_serving.proofs.Injections.{count, few_injections}
 use Rattle.cdi_serving.proofs.Lines.{each_in_line, no_longer}
-use Rattle.cdi_serving.proofs.Within.{HasFew, each_has_few, few_classes}
+use Rattle.cdi_serving.proofs.Within.{HasFew, each_has_few, few_classes, interceptors_have_few}
 
 -- 64 fields in each of at most 1,024 classes
 few_enough : (fields classes : ℕ) → fields ≤ classes * 64 → classes ≤ 1024
@@ -91,7 +91,10 @@ bean_number t tabled =
 pub tables_are_small : (t : RunTables) → IsTabled t → IsTrue (is_within t.deployment)
     → is_small t ≡ true
 tables_are_small t tabled within =
-    and_from (nat_le (length t.beans) 4096) (list_all has_few_injections t.beans)
+    and_from (nat_le (length t.beans) 4096 && list_all has_few_injections t.beans)
+    (list_all has_few_fields t.deployment.interceptors)
+    (and_from (nat_le (length t.beans) 4096) (list_all has_few_injections t.beans)
     (le-leb (length t.beans) 4096 (bean_number t tabled))
     (of_beans (plan_tables t.deployment t.tables) (each_has_few t.deployment within)
-    (few_classes t.deployment within) t.tables.resolver.beans t.beans tabled.planned)
+    (few_classes t.deployment within) t.tables.resolver.beans t.beans tabled.planned))
+    (interceptors_have_few t.deployment within)

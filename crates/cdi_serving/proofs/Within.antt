@@ -1,11 +1,13 @@
--- What the limits of a deployment say of its classes: how many there are, and how many injected fields each has.
-use Rattle.std.proofs.Common.{◌≡◌, ◌+◌, ◌≤◌, ◌&&◌, Bool, true, length, arith}
-use Rattle.std.proofs.lemmas.Bool.{and_parts, leb-true}
+-- What the limits of a deployment say of its classes and interceptors: how many injected fields each has, and how many classes there are.
+use Rattle.std.proofs.Common.{◌≡◌, ◌+◌, ◌^◌, ◌≤◌, ◌&&◌, Bool, true, length, arith}
+use Rattle.std.proofs.lemmas.Bool.{and_parts, leb-true, lt-ltb}
 use Rattle.std.specs.List.{AllByRecursion, list_all}
-use Rattle.cdi_deployment.specs.Limits.{are_fields_within, are_types_within, is_class_within, is_length_within, is_within}
+use Rattle.cdi_deployment.specs.Limits.{are_fields_within, are_types_within, is_class_within, is_interceptor_within, is_length_within, is_within}
 use Rattle.cdi_deployment.specs.declared.deployment.Class.{Class}
 use Rattle.cdi_deployment.specs.declared.deployment.Deployment.{Deployment}
-use Rattle.cdi_serving.proofs.Each.{each_passes, each_so}
+use Rattle.cdi_deployment.specs.declared.deployment.Interceptor.{Interceptor}
+use Rattle.cdi_run_tables.specs.Sizes.{has_few_fields}
+use Rattle.cdi_serving.proofs.Each.{all_pass, each_passes, each_so}
 
 left : (x y : Bool) → (x && y) ≡ true → x ≡ true
 left x y e = (and_parts x y e).0
@@ -19,6 +21,13 @@ few_in_class c e =
     let fields : are_fields_within (length c.fields) (length c.inject) ≡ true =
     left _ _ (left _ _ (left _ _ (left _ _ (left _ _ (left _ _ (left _ _ e)))))) in
     omega (arith, leb-true (length c.fields + length c.inject) 64 fields)
+
+few_in_interceptor : (j : Interceptor) → is_interceptor_within j ≡ true → has_few_fields j ≡ true
+few_in_interceptor j e =
+    let fields : are_fields_within (length j.fields) (length j.inject) ≡ true =
+    left _ _ (left _ _ e) in
+    lt-ltb (length j.inject) (2 ^ 32)
+    (omega (arith, leb-true (length j.fields + length j.inject) 64 fields))
 
 module _ (d : Deployment) (within : is_within d ≡ true) where
   both : (is_length_within d && list_all is_class_within d.classes) ≡ true
@@ -39,3 +48,10 @@ module _ (d : Deployment) (within : is_within d ≡ true) where
       let all = (and_parts (is_length_within d) (list_all is_class_within d.classes) both).1 in
       each_so (λ c. is_class_within c ≡ true) HasFew few_in_class d.classes
       (each_passes is_class_within d.classes all)
+
+  pub interceptors_have_few : list_all has_few_fields d.interceptors ≡ true
+  interceptors_have_few =
+      all_pass (λ j. has_few_fields j ≡ true) has_few_fields d.interceptors (λ j is. is)
+      (each_so (λ j. is_interceptor_within j ≡ true) (λ j. has_few_fields j ≡ true)
+      few_in_interceptor d.interceptors
+      (each_passes is_interceptor_within d.interceptors (and_parts _ _ within).1))

@@ -9,7 +9,7 @@ use Rattle.cdi_machine.specs.Tables.{Tables}
 use Rattle.cdi_machine.specs.World.{World, Change, Invocation, after_change, instance_at, below, on_top, for_instance, with_owned, without_owned, without_making, with_instances}
 use Rattle.cdi_store.specs.Live.{with_leaving, with_ready}
 use Rattle.cdi_base.specs.Maps.{without}
-use Rattle.cdi_steps.specs.Known.{AllInvoked, HasMethodBodies}
+use Rattle.cdi_steps.specs.Known.{AllInvoked, HasKnownBodies}
 
 -- an instance may leave and a target be invoked in either order
 pub leave_enter : (n : ℕ) (i : Invocation) (w : World)
@@ -72,29 +72,29 @@ leave_invocations n w = by (instance_at w n)
     by None = refl
     by (Some o) = by_owner o.component o.owner
 
--- ---- their bodies stay those of business methods
+-- ---- their bodies stay known
 
 module _ {t : Tables} where
   pub same_invoked : {w v : World} → v.invocations ≡ w.invocations → AllInvoked t w → AllInvoked t v
-  same_invoked e h = record { all = subst (λ vs. AllByRecursion (HasMethodBodies t) vs) (sym e) h.all }
+  same_invoked e h = record { all = subst (λ vs. AllByRecursion (HasKnownBodies t) vs) (sym e) h.all }
 
-  pub enter_invoked : {i : Invocation} {w : World} → HasMethodBodies t i → AllInvoked t w → AllInvoked t (after_change (Change.Enter i) w)
+  pub enter_invoked : {i : Invocation} {w : World} → HasKnownBodies t i → AllInvoked t w → AllInvoked t (after_change (Change.Enter i) w)
   enter_invoked i h = record { all = (i, h.all) }
 
   pub exit_invoked : {w : World} → AllInvoked t w → AllInvoked t (after_change Change.Exit w)
   exit_invoked {w} h = record { all = by w.invocations h.all }
     where
-      by : (vs : List Invocation) → AllByRecursion (HasMethodBodies t) vs → AllByRecursion (HasMethodBodies t) (below vs)
+      by : (vs : List Invocation) → AllByRecursion (HasKnownBodies t) vs → AllByRecursion (HasKnownBodies t) (below vs)
       by [] h = tt
       by (v ∷ vs) h = h.1
 
   pub reach_invoked : {w : World} → AllInvoked t w → AllInvoked t (after_change Change.Reach w)
   reach_invoked {w} h = record { all = by w.invocations h.all }
     where
-      by : (vs : List Invocation) → AllByRecursion (HasMethodBodies t) vs → AllByRecursion (HasMethodBodies t) (on_top (λ i. record i { completed = true }) vs)
+      by : (vs : List Invocation) → AllByRecursion (HasKnownBodies t) vs → AllByRecursion (HasKnownBodies t) (on_top (λ i. record i { completed = true }) vs)
       by [] h = tt
-      by (v ∷ vs) h = (record { few = h.0.few; bodies = h.0.bodies }, h.1)
+      by (v ∷ vs) h = (record { bodies = h.0.bodies }, h.1)
 
   -- an invocation is entered, and then an instance leaves
-  pub called_invoked : (n : ℕ) {i : Invocation} {w u v : World} → u ≡ after_change (Change.Enter i) w → v ≡ after_change (Change.Leave n) u → HasMethodBodies t i → AllInvoked t w → AllInvoked t v
+  pub called_invoked : (n : ℕ) {i : Invocation} {w u v : World} → u ≡ after_change (Change.Enter i) w → v ≡ after_change (Change.Leave n) u → HasKnownBodies t i → AllInvoked t w → AllInvoked t v
   called_invoked n {i} {w} e f k h = rw (f, e) (same_invoked (leave_invocations n (after_change (Change.Enter i) w)) (enter_invoked k h))

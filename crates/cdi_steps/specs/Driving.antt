@@ -10,7 +10,7 @@ use Rattle.cdi_machine.specs.Laws.{IsWithin}
 use Rattle.cdi_machine.specs.declared.driver.Failure.{Failure}
 use Rattle.cdi_machine.specs.declared.driver.Failure.TheVariants.{Memory, Exhausted}
 use Rattle.cdi_machine.specs.Hearing.{Hearing, Ending, HasNotEnded, HasEnded, answers_of}
-use Rattle.cdi_steps.specs.Known.{IsMethodBody, is_served}
+use Rattle.cdi_steps.specs.Known.{IsKnownBody, is_served}
 use Rattle.cdi_steps.specs.declared.task.Next.{Next}
 use Rattle.cdi_steps.specs.declared.task.Next.TheVariants as nexts
 
@@ -21,9 +21,9 @@ pub record IsServedBody (IsBody : ℕ → Type 0) (legal : Legal) (body : ℕ) :
       (entries : ℕ) (fields : Fields) (view : View) (a : Act)
       → legal.gives body entries fields view a → is_served a ≡ true
 
--- so for each body of a business method
+-- so for each body of a business method and each callback
 abbrev pub Drives : Tables → (ℕ → Type 0) → Legal → Type 0
-Drives t IsBody legal = (body : ℕ) → IsMethodBody t body → IsServedBody IsBody legal body
+Drives t IsBody legal = (body : ℕ) → IsKnownBody t body → IsServedBody IsBody legal body
 
 -- the driver was asked, or told: nothing more is legal than before, all bodies are still there, and if it couldn't end it still can't
 pub record Narrows (before then : Legal) (MayEnd StillMayEnd : Type 0) (IsBody StillBody : ℕ → Type 0)

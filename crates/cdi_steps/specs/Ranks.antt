@@ -17,6 +17,7 @@ use Rattle.cdi_steps.specs.declared.task.Next.TheVariants as nexts
 abbrev pub call_rank : Call → ℕ
 call_rank (calls.Obtain b) = 2
 call_rank (calls.Create b owner) = 1
+call_rank (calls.Intercept i n) = 1
 call_rank calls.Rest = 2
 call_rank (calls.Body r) = 1
 call_rank (calls.Acts r) = 1
@@ -52,9 +53,12 @@ rank (tasks.Continue a) = continuation_rank a
 -- what comes after the frame's call, if that gave something
 abbrev pub frame_rank : Frame → ℕ
 frame_rank (frames.AtEnd role) = 1
+frame_rank (frames.Calling b) = 3
 frame_rank frames.Stopping = 1
 frame_rank (frames.Answering r) = 2
 frame_rank (frames.Injecting n b left field) = creation_rank left + 1
+frame_rank (frames.Stepping n b left) = creation_rank left + 1
+frame_rank (frames.Completing n b left) = creation_rank left + 1
 frame_rank (frames.Discarding n x) = 1
 frame_rank (frames.CleaningUp n) = 3
 frame_rank (frames.Releasing n) = 1
@@ -77,6 +81,7 @@ frame_rank (frames.Closed after) = 2
 -- and if it threw: these go on without a call
 abbrev pub thrown_rank : Frame → ℕ
 thrown_rank (frames.Freeing n) = 1
+thrown_rank (frames.Calling b) = 1
 thrown_rank frames.Dismissing = 1
 thrown_rank (frames.Clearing c) = 1
 thrown_rank k = frame_rank k
@@ -86,9 +91,10 @@ back_rank k (outcomes.Ends (completions.Gave g)) = frame_rank k
 back_rank k (outcomes.Ends (completions.Threw x)) = thrown_rank k
 back_rank k (outcomes.Cut cause) = 1
 
--- a destruction that gives anything has written an entry
+-- a destruction and a body that give anything have written an entry
 abbrev pub gave_rank : Task → Frame → ℕ
 gave_rank (tasks.Start (calls.Destroy n)) k = 1
+gave_rank (tasks.Start (calls.Body r)) k = 1
 gave_rank _ k = frame_rank k
 
 -- what comes after what a frame waits for, if that writes no entry; an event is an entry itself

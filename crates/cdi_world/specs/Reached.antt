@@ -27,6 +27,12 @@ abbrev pub environment_there : Contexts → Environment → Environment
 environment_there c e =
     record { request = request_there c e.request; session = session_there c e.session }
 
+-- the name of the context of a scope, if that is named
+abbrev pub name_in : Environment → Scope → Option (List ℕ)
+name_in e scopes.RequestScoped = e.request
+name_in e scopes.SessionScoped = e.session
+name_in e scope = None
+
 -- ---- an instance, if it is there, and what has it beside the dependents of its owner
 
 -- its context or the temporaries have it

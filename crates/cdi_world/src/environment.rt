@@ -1,10 +1,11 @@
 //! In which request and session a command runs.
-ghost use Rattle.std.specs.Prelude.{◌≡◌, IfOk, IsErr, IsSome};
+ghost use Rattle.std.specs.Prelude.{◌≡◌, IfOk, IsErr, IsSome, IsTrue};
 ghost use Rattle.cdi_contexts.specs.Contexts.{context_of, session_of_request};
 ghost use Rattle.cdi_contexts.specs.Standing.{environment_of, request_name_at, session_name_at};
 ghost use Rattle.cdi_machine.specs.Commands as commands;
 ghost use Rattle.cdi_machine.specs.World.{no_environment};
-ghost use Rattle.cdi_world.specs.Reached.{environment_there, request_there, session_there};
+ghost use Rattle.cdi_host.specs.Standing.{has_named_contexts};
+ghost use Rattle.cdi_world.specs.Reached.{environment_there, name_in, request_there, session_there};
 
 use cdi_base::{Scope, Text};
 use cdi_contexts::{Contexts, Env};
@@ -79,7 +80,9 @@ impl Environment {
     /// The context of a scope, if there is one (Jakarta CDI 4.0, *The active context object for a
     /// scope*). Memory can be wanting for its name.
     pub(crate) fn context(&self, scope: Scope) -> Result<Option<Context>, AllocError>
-        ensures { IfOk result (λ context. context_of self.now scope ≡ context) }
+        ensures found { IfOk result (λ context. context_of self.now scope ≡ context) }
+        ensures memory { IsErr result → IsTrue (has_named_contexts scope)
+            × IsSome (name_in self.now scope) }
     {
         match scope {
             Scope::ApplicationScoped => Ok(Some(Context::Application)),

@@ -23,9 +23,9 @@ pub(super) fn go_on<T: Tables, W: Contents>(
     match continuation {
         Continuation::Making {
             number,
-            bean,
+            component,
             owner,
-        } => creation::make(tables, world, number, bean, owner),
+        } => creation::make(tables, world, number, component, owner),
         Continuation::Settling { number } => creation::settle(tables, world, number),
         Continuation::Discarding { number, exception } => {
             Ok(creation::discard(tables, world, number, exception))

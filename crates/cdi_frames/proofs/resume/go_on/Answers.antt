@@ -2,7 +2,7 @@ use Rattle.std.proofs.Common.{refl, arith}
 use Rattle.cdi_steps.specs.declared.task.Completion.TheVariants as completions
 use Rattle.cdi_steps.proofs.Changes.{exit_invoked, reach_invoked}
 use Rattle.cdi_steps.proofs.DestructionSteps.{released_leads}
-use Rattle.cdi_steps.proofs.InjectionSteps.{discarded_leads}
+use Rattle.cdi_steps.proofs.InjectionSteps.{discarded_leads, stepped_leads}
 use Rattle.cdi_steps.proofs.Made.{ends, leaves_alone, settled}
 use Rattle.cdi_steps.proofs.Results.{map_ok}
 use Rattle.cdi_frames.proofs.CommandSteps.{starting_leads, opened_leads}
@@ -52,6 +52,17 @@ returns-in-Initializing-clause-step g c =
 pub returns-in-Answering-clause-step : goal.returns-in-Answering-clause-step
 returns-in-Answering-clause-step g c =
     rw c.in-Answering.is (map_ok c.answer.result (λ next h. settled refl h (omega arith)) c.answer.ensures)
+
+pub returns-in-Calling-clause-step : goal.returns-in-Calling-clause-step
+returns-in-Calling-clause-step g c =
+    rw c.in-Calling.is (map_ok c.run_next.result (λ next h. settled refl h (omega arith)) c.run_next.ensures)
+
+pub returns-in-Stepping-clause-step : goal.returns-in-Stepping-clause-step
+returns-in-Stepping-clause-step g c =
+    rw (c.in-Stepping.is, c.stepped.ensures) (leaves_alone (stepped_leads (g.T.Tables.tables c.args.tables.now) c.in-Stepping.number c.in-Stepping.component c.in-Stepping.left c.args.given (g.W.Contents.world c.args.world.now)) (omega arith) refl (rw c.in-Stepping.is at c.requires) tt)
+
+pub returns-in-Completing-clause-step : goal.returns-in-Completing-clause-step
+returns-in-Completing-clause-step g c = rw c.in-Completing.is c.completed.ensures
 
 pub returns-in-Using-clause-step : goal.returns-in-Using-clause-step
 returns-in-Using-clause-step g c = rw c.in-Using.is c.returning.ensures.step

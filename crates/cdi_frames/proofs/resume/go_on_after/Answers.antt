@@ -1,7 +1,7 @@
 use Rattle.std.proofs.Common.{refl, arith}
 use Rattle.cdi_steps.specs.declared.task.Completion.TheVariants as completions
 use Rattle.cdi_steps.proofs.Changes.{exit_invoked}
-use Rattle.cdi_steps.proofs.InjectionSteps.{injected_threw}
+use Rattle.cdi_steps.proofs.InjectionSteps.{injected_threw, stepped_threw}
 use Rattle.cdi_steps.proofs.Made.{ends, leaves_alone, settled}
 use Rattle.cdi_steps.proofs.Ranks.{thrown_above}
 use Rattle.cdi_steps.proofs.Results.{map_ok}
@@ -31,11 +31,18 @@ returns-in-Returning-clause-step g c =
 
 pub returns-in-Injecting-clause-step : goal.returns-in-Injecting-clause-step
 returns-in-Injecting-clause-step g c =
-    rw (c.in-Injecting.is, c.fails.ensures) (leaves_alone (injected_threw (g.T.Tables.tables c.args.tables.now) c.in-Injecting.number c.in-Injecting._bean c.in-Injecting._left c.in-Injecting._field c.args.exception (g.W.Contents.world c.args.world.now)) (omega arith) refl (tt, tt) tt)
+    rw (c.in-Injecting.is, c.fails.ensures) (leaves_alone (injected_threw (g.T.Tables.tables c.args.tables.now) c.in-Injecting.number c.in-Injecting._component c.in-Injecting._left c.in-Injecting._field c.args.exception (g.W.Contents.world c.args.world.now)) (omega arith) refl (tt, tt) tt)
 
 pub returns-in-Answering-clause-step : goal.returns-in-Answering-clause-step
 returns-in-Answering-clause-step g c =
     rw c.in-Answering.is (map_ok c.answer.result (λ next h. settled refl h (omega arith)) c.answer.ensures)
+
+pub returns-in-Stepping-clause-step : goal.returns-in-Stepping-clause-step
+returns-in-Stepping-clause-step g c =
+    rw (c.in-Stepping.is, c.fails-in-Stepping.ensures) (leaves_alone (stepped_threw (g.T.Tables.tables c.args.tables.now) c.in-Stepping.number c.in-Stepping._component c.in-Stepping._left c.args.exception (g.W.Contents.world c.args.world.now)) (omega arith) refl (tt, tt) tt)
+
+pub returns-in-Completing-clause-step : goal.returns-in-Completing-clause-step
+returns-in-Completing-clause-step g c = rw c.in-Completing.is c.completed_with.ensures
 
 pub returns-in-Using-clause-step : goal.returns-in-Using-clause-step
 returns-in-Using-clause-step g c = rw c.in-Using.is c.returning.ensures.step
@@ -63,4 +70,4 @@ returns-in-Closed-clause-step g c =
 pub returns-clause-step : goal.returns-clause-step
 returns-clause-step g c =
     let d = c.in_default in
-    rw c.ended.ensures (ends (threw_leads (g.T.Tables.tables c.args.tables.now) c.args.exception c.args.frame (g.W.Contents.world c.args.world.now) d.not-Stopping d.not-Answering d.not-CleaningUp d.not-Exiting d.not-Using d.not-Returning d.not-Initializing d.not-Opening d.not-Telling d.not-ShuttingDown d.not-Finishing d.not-Closed d.not-Injecting) (thrown_above c.args.frame) refl)
+    rw c.ended.ensures (ends (threw_leads (g.T.Tables.tables c.args.tables.now) c.args.exception c.args.frame (g.W.Contents.world c.args.world.now) d.not-Stopping d.not-Answering d.not-CleaningUp d.not-Exiting d.not-Using d.not-Returning d.not-Initializing d.not-Opening d.not-Telling d.not-ShuttingDown d.not-Finishing d.not-Closed d.not-Injecting d.not-Completing d.not-Stepping) (thrown_above c.args.frame) refl)

@@ -18,7 +18,10 @@ pub returns-in_err-obtain-in-Obtain-clause-failed : goal.returns-in_err-obtain-i
 returns-in_err-obtain-in-Obtain-clause-failed g c = passed_on _ c.from_residual.result starves_alone c.from_residual.ensures
 
 pub returns-in_ok-obtain-in-Obtain-clause-step : goal.returns-in_ok-obtain-in-Obtain-clause-step
-returns-in_ok-obtain-in-Obtain-clause-step g c = rw c.in-Obtain.is (driven (g.D.Driver.legal c.args.driver.now) c.in_ok-obtain-in-Obtain.ensures)
+returns-in_ok-obtain-in-Obtain-clause-step g c = rw c.in-Obtain.is (driven (g.D.Driver.legal c.args.driver.now) c.in_ok-obtain-in-Obtain.ensures.step)
+
+pub returns-in-Intercept-clause-step : goal.returns-in-Intercept-clause-step
+returns-in-Intercept-clause-step g c = rw c.in-Intercept.is (driven (g.D.Driver.legal c.args.driver.now) c.intercept.ensures)
 
 pub returns-in-Create-clause-step : goal.returns-in-Create-clause-step
 returns-in-Create-clause-step g c = rw c.in-Create.is (driven (g.D.Driver.legal c.args.driver.now) c.create.ensures)

@@ -1,4 +1,5 @@
 use Rattle.std.proofs.Common.{◌∙◌, length, sym, arith, rules}
+use Rattle.cdi_steps.specs.Known.{of_method}
 use Rattle.std.proofs.lemmas.Bool.{eq-eqb}
 use Rattle.cdi_frames.proofs.BodySteps.{own_missing, own_miscounted, own_first}
 use Rattle.cdi_steps.proofs.Results.{map_ok}
@@ -21,7 +22,7 @@ returns g c =
     record {
       settles = own_first (g.T.Tables.tables c.args.tables.now) c.args.running c.in_ok-new.field-0 c.args.method c.args.args c.in-Some.method (g.W.Contents.world c.args.world.now) found counted made;
       lowers = omega arith;
-      known = λ h. (rw (c.in_ok-new.ensures.ok, c.new-own.ensures) c.in-Some.ensures.known, c.requires);
+      known = λ h. (of_method (rw (c.in_ok-new.ensures.ok, c.new-own.ensures) c.in-Some.ensures.known), c.requires);
       invoked = λ h. h;
       quiet = tt;
     }

@@ -13,6 +13,6 @@ invariant_of-result g c =
     record {
       drives =
           subst (λ (t : RunTables). Drives (machine_tables t) knows legal) (sym c.new.ensures)
-          (drives knows legal (machine_tables c.args.tables) c.requires.knows);
+          (drives knows legal c.args.tables c.requires.servable c.requires.knows);
       invoked = subst (AllInvoked (machine_tables c.new.result)) (sym c.new-2.ensures) (record { all = tt });
     }

@@ -4,7 +4,7 @@ use Rattle.cdi_run_tables.specs.Managed.{injections_of}
 use Rattle.cdi_host.specs.Asked.{plan_of}
 use Rattle.cdi_runtime.proofs.Lists.{mapped_length}
 use Rattle.cdi_runtime.proofs.Served.{few_injections, managed_at, plan_at, step_of}
-use Rattle.cdi_runtime.proofs.served_tables.ServedTablesTables.injections.Goals as goal
+use Rattle.cdi_runtime.proofs.served_tables.ServedTables.bean_steps.Goals as goal
 
 pub overflow_cast-result : goal.overflow_cast-result
 overflow_cast-result c =

@@ -3,7 +3,7 @@ use Rattle.cdi_machine.specs.Tables.Step.{Inject}
 use Rattle.cdi_run_tables.specs.Machine.{bean_at, machine_tables, machine_resolution as machine_told, resolution_of}
 use Rattle.cdi_host.specs.Asked.{asked_for, machine_resolution, plan_of}
 use Rattle.cdi_runtime.proofs.Served.{numbered_resolved, step_at, step_of}
-use Rattle.cdi_runtime.proofs.served_tables.ServedTablesTables.injection.Goals as goal
+use Rattle.cdi_runtime.proofs.served_tables.ServedTables.bean_step.Goals as goal
 
 pub returns-in-Some-clause-found : goal.returns-in-Some-clause-found
 returns-in-Some-clause-found c =
