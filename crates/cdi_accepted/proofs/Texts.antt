@@ -10,7 +10,7 @@ use Rattle.cdi_body_check.specs.Exceptions.{is_declared}
 use Rattle.cdi_deployment.specs.declared.deployment.Deployment.{Deployment}
 use Rattle.cdi_deployment.specs.declared.deployment.Exception.{Exception}
 use Rattle.cdi_name_check.specs.UnknownName.{is_built_in}
-use Rattle.cdi_run_tables.specs.Served.{has_text, has_texts}
+use Rattle.cdi_run_tables.specs.Texts.{has_text, has_texts}
 use Rattle.cdi_shape_check.specs.WrittenNames.{is_built_in_exception, is_exception}
 use Rattle.cdi_accepted.proofs.Lists.{all_pass, passing}
 

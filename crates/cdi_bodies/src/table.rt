@@ -38,6 +38,13 @@ impl BodyId {
     {
         self.number
     }
+
+    /// The number of no body, 4,096: what a container knows of a body that isn't registered.
+    pub fn unregistered() -> BodyId
+        ensures { result ≡ 4096 }
+    {
+        BodyId { number: MAX_BODIES }
+    }
 }
 
 /// The registered bodies, each under a name of its own. Contracts see their list by the word `entries_of`.

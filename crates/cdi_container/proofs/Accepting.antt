@@ -1,6 +1,5 @@
 -- A deployment without problems that is served is accepted.
-use Rattle.std.proofs.Common.{◌≡◌, ◌&&◌, List, [], true, IsTrue, is_some, refl, sym, ap, subst}
-use Rattle.std.proofs.lemmas.Bool.{and_parts}
+use Rattle.std.proofs.Common.{◌≡◌, List, [], true, IsTrue, is_some, refl, sym, ap, subst}
 use Rattle.cdi_bodies.specs.Gives.{lookups_of}
 use Rattle.cdi_bodies.specs.declared.entry.Entry.{Entry}
 use Rattle.cdi_body_check.specs.Shapes.{shape_of}
@@ -12,31 +11,30 @@ use Rattle.cdi_problems.specs.declared.problem.Problem.{Problem}
 use Rattle.cdi_run_tables.specs.Machine.{AreIdsOf}
 use Rattle.cdi_run_tables.specs.Planned.{IsTabled}
 use Rattle.cdi_container.proofs.Faultless.{texts_served}
-use Rattle.cdi_run_tables.specs.Served.{is_served, serves_shapes}
-use Rattle.cdi_run_tables.specs.Sizes.{is_small}
+use Rattle.cdi_served.proofs.Parts.{parts_of}
 use Rattle.cdi_run_tables.specs.declared.tables.RunTables.{RunTables}
-use Rattle.cdi_runtime.specs.Knowing.{KnowsServed}
+use Rattle.cdi_runtime.specs.Knowing.{DrivesRegistered}
 use Rattle.cdi_resolve.specs.declared.bean_tables.BeanTables.{BeanTables}
 use Rattle.cdi_site_fit.specs.Accepted.{WholeFits}
 use Rattle.cdi_container.specs.Accepted.{AreTablesWith, IsAccepted, serves}
 
 module _ {X : Type 0} {F : X → Type 0} {g : _} (entries : List (Entry X F g)) where
-  pub accepted : (t : RunTables) → AreTablesWith t.deployment entries t → serves (shape_of entries) t ≡ true
+  pub accepted : (t : RunTables) → AreTablesWith t.deployment entries t → serves t ≡ true
       → AreProblemsIn t.deployment (shape_of entries) t.tables.enabled (setting_by t.deployment t.tables) []
-      → WholeFits entries → KnowsServed entries → IsAccepted t.deployment entries t
-  accepted t are served faultless fit knows =
-      let one = and_parts (is_served t && serves_shapes (shape_of entries) t) (is_small t) served in
-      let two = and_parts (is_served t) (serves_shapes (shape_of entries) t) one.0 in
-      let fits = fit t (record { tabled = are.tabled; ids = are.ids; lookups = are.lookups; texts = texts_served t two.0; problems = faultless }) in
+      → WholeFits entries → DrivesRegistered entries → IsAccepted t.deployment entries t
+  accepted t are served faultless fit drives =
+      let parts = parts_of t served in
+      let fits = fit t (record { tabled = are.tabled; ids = are.ids; lookups = are.lookups; texts = texts_served t parts.served; problems = faultless }) in
       record {
         are = are;
         served = served;
         servable = record {
-          served = two.0;
-          small = one.1;
+          served = parts.served;
+          numbered = parts.numbered;
+          small = parts.small;
           there = λ asked b e. ap is_some (fits.resolved asked b e).known;
         };
-        knows = knows t are.ids two.1;
+        drives = drives t are.ids parts.bodies;
         fits = fits;
       }
 

@@ -15,8 +15,9 @@ use Rattle.cdi_resolve.specs.BeanTables.{AreTablesOf, bean_tables}
 use Rattle.cdi_resolve.specs.declared.bean_tables.BeanTables.{BeanTables}
 use Rattle.cdi_beans.specs.declared.declared.DeclaredTables.{DeclaredTables}
 use Rattle.cdi_run_tables.specs.Machine.{has_none}
-use Rattle.cdi_run_tables.specs.Served.{has_texts, is_served, is_served_bean, serves_shapes}
-use Rattle.cdi_run_tables.specs.Sizes.{is_small}
+use Rattle.cdi_run_tables.specs.Texts.{has_texts}
+use Rattle.cdi_served.specs.Served.{is_served, is_served_bean}
+use Rattle.cdi_served.proofs.Parts.{parts_of}
 use Rattle.cdi_run_tables.specs.declared.tables.RunTables.{RunTables}
 use Rattle.cdi_site_fit.specs.Accepted.{IsFaultless}
 use Rattle.cdi_types.specs.Declarations.{declarations_of}
@@ -58,8 +59,7 @@ texts_served t served =
 pub is_faultless : {X : Type 0} {F : X → Type 0} {g : _} (entries : List (Entry X F g)) (d : Deployment) (t : RunTables) → IsAccepted d entries t → IsFaultless entries t
 is_faultless entries d t accepted =
     let are = accepted.are in
-    let one = and_parts (is_served t && serves_shapes (shape_of entries) t) (is_small t) accepted.served in
-    let served = (and_parts (is_served t) (serves_shapes (shape_of entries) t) one.0).0 in
+    let served = (parts_of t accepted.served).served in
     let P : Deployment → Type 0 = λ k. AreProblemsOf k (shape_of entries) [] in
     record {
       tabled = are.tabled;

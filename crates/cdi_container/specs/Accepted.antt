@@ -1,27 +1,22 @@
 -- Which deployments are accepted, and served.
-use Rattle.std.specs.Prelude.{ℕ, ◌≡◌, ◌≢◌, ◌<◌, ◌&&◌, List, [], length, Bool, true, false, Option}
+use Rattle.std.specs.Prelude.{ℕ, ◌≡◌, ◌≢◌, ◌<◌, List, [], length, true, false}
 use Rattle.cdi_base.specs.declared.or_memory.OrMemory.{OrMemory}
 use Rattle.cdi_base.specs.declared.or_memory.OrMemory.TheVariants as errors
 use Rattle.cdi_bodies.specs.Gives.{lookups_of}
 use Rattle.cdi_bodies.specs.declared.entry.Entry.{Entry}
-use Rattle.cdi_bodies.specs.declared.shape.Shape.{Shape}
 use Rattle.cdi_body_check.specs.Shapes.{shape_of}
 use Rattle.cdi_check.specs.Problems.{AreProblemsOf}
 use Rattle.cdi_deployment.specs.declared.deployment.Deployment.{Deployment}
 use Rattle.cdi_machine.specs.Registered.{legal_of}
 use Rattle.cdi_run_tables.specs.Machine.{AreIdsOf, machine_tables}
 use Rattle.cdi_run_tables.specs.Planned.{IsTabled}
-use Rattle.cdi_run_tables.specs.Served.{is_served, serves_shapes}
-use Rattle.cdi_run_tables.specs.Sizes.{is_small}
+pub use Rattle.cdi_served.specs.Served.{serves}
 use Rattle.cdi_run_tables.specs.declared.tables.RunTables.{RunTables}
-use Rattle.cdi_runtime.specs.Standing.{IsServable, KnowsMethods}
+use Rattle.cdi_runtime.specs.Standing.{IsServable}
+use Rattle.cdi_steps.specs.Driving.{Drives}
 use Rattle.cdi_worlds_fit.specs.Fits.{Fits}
 use Rattle.cdi_container.specs.declared.acceptance.Unaccepted.{Unaccepted}
 use Rattle.cdi_container.specs.declared.acceptance.Unaccepted.TheVariants as reasons
-
--- what the deployment declares is served, and so are the bodies with these shapes
-abbrev pub serves : (ℕ → Option Shape) → RunTables → Bool
-serves shapes t = is_served t && serves_shapes shapes t && is_small t
 
 -- the deployment has no problem with these bodies, and these are its tables
 pub record AreTablesWith {X : Type 0} {F : X → Type 0} {g : _}
@@ -32,14 +27,14 @@ pub record AreTablesWith {X : Type 0} {F : X → Type 0} {g : _}
   pub ids : AreIdsOf entries t
   pub lookups : t.lookups ≡ lookups_of entries
 
--- it is served with these bodies, and this is what a container needs of it
+-- it is served, and this is what a container needs of it
 pub record IsAccepted {X : Type 0} {F : X → Type 0} {g : _}
     (deployment : Deployment) (entries : List (Entry X F g)) (t : RunTables) : Type 0 where
   pub are : AreTablesWith deployment entries t
-  pub served : serves (shape_of entries) t ≡ true
+  pub served : serves t ≡ true
   pub servable : IsServable t
-  -- each method has a body, the bodies give only acts that are served, and what they name is there
-  pub knows : KnowsMethods (λ body. body < length entries) (legal_of entries) (machine_tables t)
+  -- each body is registered, and what the bodies name is there
+  pub drives : Drives (machine_tables t) (λ body. body < length entries)
   pub fits : Fits (machine_tables t) (legal_of entries)
 
 -- it has no problem with these bodies, and isn't served yet
@@ -47,7 +42,7 @@ pub record IsUnserved {X : Type 0} {F : X → Type 0} {g : _}
     (deployment : Deployment) (entries : List (Entry X F g)) : Type 0 where
   pub tables : RunTables
   pub are : AreTablesWith deployment entries tables
-  pub unserved : serves (shape_of entries) tables ≡ false
+  pub unserved : serves tables ≡ false
 
 -- there are problems, it isn't served yet, or memory ran out
 abbrev pub IsUnaccepted : {X : Type 0} {F : X → Type 0} {g : _}

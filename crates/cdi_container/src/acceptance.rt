@@ -19,7 +19,8 @@ use cdi_deployment::Deployment;
 use cdi_problems::Problem;
 use cdi_resolve::BeanTables;
 use cdi_run_tables::RunTables;
-use cdi_runtime::laws::law_knows_methods;
+use cdi_runtime::laws::law_drives_registered;
+use cdi_served::serves;
 use cdi_site_fit::laws::law_whole_fits;
 use std::alloc::Global;
 
@@ -45,13 +46,6 @@ fn refused(deployment: Deployment, problems: Seq<Problem>) -> OrMemory<Unaccepte
     })
 }
 
-/// Whether a container serves a deployment with these bodies.
-fn serves(tables: &RunTables, bodies: &Bodies) -> bool
-    ensures { result ≡ spec.serves (shape_of (entries_of bodies.now)) tables.now }
-{
-    tables.is_served() && tables.serves_shapes(bodies) && tables.is_small()
-}
-
 /// The tables of a deployment that has no problem, if it is served with these bodies.
 fn served_tables(tables: RunTables, bodies: &Bodies) -> Result<RunTables, OrMemory<Unaccepted>>
     requires are { spec.AreTablesWith tables.deployment (entries_of bodies.now) tables }
@@ -61,8 +55,8 @@ fn served_tables(tables: RunTables, bodies: &Bodies) -> Result<RunTables, OrMemo
     ensures err { IfErr result (spec.IsUnaccepted tables.deployment (entries_of bodies.now)) }
 {
     law_whole_fits(bodies);
-    law_knows_methods(bodies);
-    if serves(&tables, bodies) {
+    law_drives_registered(bodies);
+    if serves(&tables) {
         Ok(tables)
     } else {
         Err(OrMemory::Fault(Unaccepted::Unserved))
@@ -97,8 +91,7 @@ fn accept_listed(
 }
 
 /// Accepts a deployment with these bodies if it has no problem (Jakarta CDI 4.0, *Problems detected automatically by the
-/// container*) and is served: each method has a body then, the bodies give only acts that are served, and what they name
-/// is there. Its tables come back. Otherwise its problems do, with its names; or it isn't served yet; or memory ran out.
+/// container*) and is served: each body is registered then, and what the bodies name is there. Its tables come back. Otherwise its problems do, with its names; or it isn't served yet; or memory ran out.
 pub fn accept(
     alloc: Global,
     deployment: Deployment,

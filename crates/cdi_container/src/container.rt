@@ -4,7 +4,8 @@ ghost use Rattle.cdi_machine.specs.Commands.{task};
 ghost use Rattle.cdi_machine.specs.Container.{refusal as machine_refusal};
 ghost use Rattle.cdi_machine.specs.World.{at_begin};
 ghost use Rattle.cdi_run_tables.specs.Machine.{machine_tables};
-ghost use Rattle.cdi_runtime.specs.Standing.{IsServable, KnowsMethods};
+ghost use Rattle.cdi_runtime.specs.Standing.{IsServable};
+ghost use Rattle.cdi_steps.specs.Driving.{Drives};
 ghost use Rattle.cdi_steps.specs.Words.{command_of, outcome_of};
 ghost use Rattle.cdi_steps.specs.Known.{KnownJob};
 ghost use Rattle.cdi_container.specs.Standing as spec;
@@ -84,7 +85,7 @@ impl<D: Driver> Container<D> {
     /// halted. The deployment has to be served, and the driver has to have a body for each of its methods, which gives only
     /// acts that are served: so it is with the tables and the bodies of a deployment that was [accepted](crate::accept).
     pub fn start(alloc: Global, tables: RunTables, driver: D, limits: Limits) -> Container<D>
-        requires knows { KnowsMethods (D.knows driver) (D.legal driver) (machine_tables tables) }
+        requires drives { Drives (machine_tables tables) (D.knows driver) }
         requires servable { IsServable tables }
         ensures { spec.IsStarted (D.legal driver) (D.legal result.runtime.driver)
             tables limits.ticks limits.depth result }

@@ -60,13 +60,13 @@ mass_le m n h = mass_up (n - m) m n (omega (arith, h))
 mass_less : (m n : ℕ) → m < n → mass m + mass m + mass m ≤ mass n
 mass_less m n h = let a = mass_suc m in let b = mass_le (suc m) n (omega (arith, h)) in omega (arith, a, b)
 
-mass_bound : (n : ℕ) → n < 2 ^ 40 → mass n + mass n + mass n ≤ greatest_mass
+mass_bound : (n : ℕ) → n < 2 ^ 100 → mass n + mass n + mass n ≤ greatest_mass
 unfolding greatest_mass
-mass_bound n h = mass_less n (2 ^ 40) h
+mass_bound n h = mass_less n (2 ^ 100) h
 
 greatest_mass_above : 0 < greatest_mass
 unfolding greatest_mass
-greatest_mass_above = mass_above (2 ^ 40)
+greatest_mass_above = mass_above (2 ^ 100)
 
 fewer : (a b c : ℕ) → a < b → a * c + c ≤ b * c
 fewer a b c h = let l : suc a * c ≤ b * c = mul-le-mul_right {m = suc a} {n = b} c (omega (arith, h)) in rw suc-mul at l
@@ -91,11 +91,12 @@ top_below (pendings.Does t) k = awaited_most t k
     call_most (calls.Obtain b) k = let b = thrown_below k in omega (arith, b)
     call_most (calls.Create b owner) k = let b = thrown_below k in omega (arith, b)
     call_most (calls.Intercept i n) k = let b = thrown_below k in omega (arith, b)
-    call_most calls.Rest k = let b = thrown_below k in omega (arith, b)
+    call_most (calls.Rest chain) k = let b = thrown_below k in omega (arith, b)
     call_most (calls.Body r) k = let a = thrown_above k in let b = thrown_below k in omega (arith, a, b)
     call_most (calls.Acts r) k = let b = thrown_below k in omega (arith, b)
     call_most (calls.Release n) k = let b = thrown_below k in omega (arith, b)
     call_most (calls.Fire event) k = let a = thrown_above k in let b = thrown_below k in omega (arith, a, b)
+    call_most (calls.Publish event) k = let b = thrown_below k in omega (arith, b)
     call_most calls.Dismiss k = let b = thrown_below k in omega (arith, b)
     call_most (calls.Clear c) k = let b = thrown_below k in omega (arith, b)
 
@@ -105,6 +106,7 @@ top_below (pendings.Does t) k = awaited_most t k
     awaited_most (tasks.Using bean_call) k = let b = thrown_below k in omega (arith, b)
     awaited_most (tasks.Through call) k = let b = thrown_below k in omega (arith, b)
     awaited_most (tasks.Creating n b left) k = let b = thrown_below k in omega (arith, b)
+    awaited_most (tasks.Providing p) k = let b = thrown_below k in omega (arith, b)
     awaited_most (tasks.Continue a) k = let b = thrown_below k in omega (arith, b)
 top_below (pendings.Gives (outcomes.Cut cause)) k = let a = thrown_above k in let b = thrown_below k in omega (arith, a, b)
 top_below (pendings.Gives (outcomes.Ends (completions.Gave g))) k = omega arith
@@ -120,17 +122,19 @@ same_top (tasks.Start c) h k = by c h
     by (calls.Obtain b) h = omega arith
     by (calls.Create b owner) h = omega arith
     by (calls.Intercept i n) h = omega arith
-    by calls.Rest h = omega arith
+    by (calls.Rest chain) h = omega arith
     by (calls.Body r) h = absurd (omega (arith, h))
     by (calls.Acts r) h = omega arith
     by (calls.Release n) h = omega arith
     by (calls.Fire event) h = absurd (omega (arith, h))
+    by (calls.Publish event) h = omega arith
     by calls.Dismiss h = omega arith
     by (calls.Clear c) h = omega arith
 same_top (tasks.Begin job) h k = omega arith
 same_top (tasks.Using bean_call) h k = omega arith
 same_top (tasks.Through call) h k = omega arith
 same_top (tasks.Creating n b left) h k = omega arith
+same_top (tasks.Providing p) h k = omega arith
 same_top (tasks.Continue a) h k = omega arith
 
 awaited_above : (t : Task) (k : Frame) → 1 ≤ top_rank (pendings.Does t) k
@@ -141,11 +145,12 @@ awaited_above t k = by t
     call (calls.Obtain b) = let a = thrown_above k in omega (arith, a)
     call (calls.Create b owner) = let a = thrown_above k in omega (arith, a)
     call (calls.Intercept i n) = let a = thrown_above k in omega (arith, a)
-    call calls.Rest = let a = thrown_above k in omega (arith, a)
+    call (calls.Rest chain) = let a = thrown_above k in omega (arith, a)
     call (calls.Body r) = let a = thrown_above k in omega (arith, a)
     call (calls.Acts r) = let a = thrown_above k in omega (arith, a)
     call (calls.Destroy n) = let a = thrown_above k in omega (arith, a)
     call (calls.Release n) = let a = thrown_above k in omega (arith, a)
+    call (calls.Publish event) = let a = thrown_above k in omega (arith, a)
     call calls.Dismiss = let a = thrown_above k in omega (arith, a)
     call (calls.Clear c) = let a = thrown_above k in omega (arith, a)
 
@@ -155,6 +160,7 @@ awaited_above t k = by t
     by (tasks.Using bean_call) = let a = thrown_above k in omega (arith, a)
     by (tasks.Through call) = let a = thrown_above k in omega (arith, a)
     by (tasks.Creating n b left) = let a = thrown_above k in omega (arith, a)
+    by (tasks.Providing p) = let a = thrown_above k in omega (arith, a)
     by (tasks.Continue a) = let a = thrown_above k in omega (arith, a)
 
 module _ (tables : Tables) (legal : Legal) where
@@ -169,11 +175,12 @@ module _ (tables : Tables) (legal : Legal) where
       call (calls.Obtain b) r = omega arith
       call (calls.Create b owner) r = omega arith
       call (calls.Intercept i n) r = omega arith
-      call calls.Rest r = omega arith
+      call (calls.Rest chain) r = omega arith
       call (calls.Body q) r = omega arith
       call (calls.Acts q) r = omega arith
       call (calls.Destroy n) r = omega arith
       call (calls.Release n) r = omega arith
+      call (calls.Publish event) r = omega arith
       call calls.Dismiss r = omega arith
       call (calls.Clear c) r = omega arith
 
@@ -183,6 +190,7 @@ module _ (tables : Tables) (legal : Legal) where
       by (tasks.Using bean_call) r = omega arith
       by (tasks.Through call) r = omega arith
       by (tasks.Creating n b left) r = omega arith
+      by (tasks.Providing p) r = omega arith
       by (tasks.Continue a) r = omega arith
   ended_top t (outcomes.Ends (completions.Gave g)) w v r e k = by t r
     where
@@ -191,17 +199,19 @@ module _ (tables : Tables) (legal : Legal) where
       by (tasks.Start (calls.Obtain b)) r = omega arith
       by (tasks.Start (calls.Create b owner)) r = omega arith
       by (tasks.Start (calls.Intercept i n)) r = omega arith
-      by (tasks.Start calls.Rest) r = omega arith
+      by (tasks.Start (calls.Rest chain)) r = omega arith
       by (tasks.Start (calls.Body q)) r = let l = body_left tables legal q.value r in absurd (omega (arith, l, e))
       by (tasks.Start (calls.Acts q)) r = omega arith
       by (tasks.Start (calls.Release n)) r = omega arith
       by (tasks.Start (calls.Fire event)) r = let l = fire_left tables legal event r in absurd (omega (arith, l, e))
+      by (tasks.Start (calls.Publish event)) r = omega arith
       by (tasks.Start calls.Dismiss) r = omega arith
       by (tasks.Start (calls.Clear c)) r = omega arith
       by (tasks.Begin job) r = omega arith
       by (tasks.Using bean_call) r = omega arith
       by (tasks.Through call) r = omega arith
       by (tasks.Creating n b left) r = omega arith
+      by (tasks.Providing p) r = omega arith
       by (tasks.Continue a) r = omega arith
 
 -- an entry that is due puts all behind it off

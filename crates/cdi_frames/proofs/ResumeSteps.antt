@@ -22,11 +22,33 @@ use Rattle.cdi_steps.specs.declared.task.Completion.{Completion}
 use Rattle.cdi_steps.specs.declared.task.Completion.TheVariants as completions
 use Rattle.cdi_steps.specs.declared.task.Given.{Given}
 use Rattle.cdi_steps.specs.declared.task.Given.TheVariants as givens
+use Rattle.cdi_steps.specs.declared.task.Parameters.{Parameters}
 use Rattle.cdi_steps.specs.declared.task.Outcome.TheVariants as outcomes
 use Rattle.cdi_steps.specs.declared.task.Task.TheVariants as tasks
 use Rattle.cdi_steps.specs.declared.task.Frame.{Frame}
 use Rattle.cdi_steps.specs.declared.task.Frame.TheVariants as frames
 use Rattle.cdi_steps.specs.declared.task.Next.TheVariants as nexts
+
+-- a frame that goes on by itself after a throw is none of these
+pub record EndsWithThrow (k : Frame) : Type 0 where
+  pub stopping : k ≡ frames.Stopping → ⊥
+  pub answering : (r : Box machine.Running) → k ≡ frames.Answering r → ⊥
+  pub cleaning_up : (n : ℕ) → k ≡ frames.CleaningUp n → ⊥
+  pub exiting : k ≡ frames.Exiting → ⊥
+  pub using : k ≡ frames.Using → ⊥
+  pub returning : (told : Box Completion) → k ≡ frames.Returning told → ⊥
+  pub initializing : k ≡ frames.Initializing → ⊥
+  pub opening : k ≡ frames.Opening → ⊥
+  pub telling : k ≡ frames.Telling → ⊥
+  pub shutting_down : k ≡ frames.ShuttingDown → ⊥
+  pub finishing : (closing : Box Closing) → k ≡ frames.Finishing closing → ⊥
+  pub closed : (after : AfterClose) → k ≡ frames.Closed after → ⊥
+  pub injecting : (n : ℕ) (b : Component) (left : ℕ) (field : Name) → k ≡ frames.Injecting n b left field → ⊥
+  pub completing : (n : ℕ) (b : Component) (left : ℕ) → k ≡ frames.Completing n b left → ⊥
+  pub stepping : (n : ℕ) (b : Component) (left : ℕ) → k ≡ frames.Stepping n b left → ⊥
+  pub finding : (r : Box machine.Running) (lookup : ℕ) → k ≡ frames.Finding r lookup → ⊥
+  pub providing : (p : Box Parameters) → k ≡ frames.Providing p → ⊥
+  pub constructing : (n : ℕ) (b : Component) (left : ℕ) → k ≡ frames.Constructing n b left → ⊥
 
 module _ (t : Tables) where
   pub cut_leads : (k : Frame) (cause : Cause) (w : World) → ComesTo t (after k (outcomes.Cut cause)) w (nexts.Finished (outcomes.Cut cause)) w
@@ -40,6 +62,13 @@ module _ (t : Tables) where
   reached_leads roles.AroundConstruct g w = Comes.same refl
   reached_leads roles.PostConstruct g w = Comes.same refl
   reached_leads roles.PreDestroy g w = Comes.same refl
+
+  pub intercepted_leads : (role : InterceptorMethod) (g : Given) (w : World)
+      → WaitsTo t (frames.Intercepted role) (completions.Gave g) w (nexts.Finished (outcomes.Ends (completions.Gave (given_at_end role g)))) w
+  intercepted_leads roles.AroundInvoke g w = Comes.same refl
+  intercepted_leads roles.AroundConstruct g w = Comes.same refl
+  intercepted_leads roles.PostConstruct g w = Comes.same refl
+  intercepted_leads roles.PreDestroy g w = Comes.same refl
 
   pub stopped_leads : (c : Completion) (w : World)
       → WaitsTo t frames.Stopping c w (nexts.Finished (outcomes.Ends c)) (after_change Change.Stop w)
@@ -85,45 +114,34 @@ module _ (t : Tables) where
   told_leads c w = Comes.same refl
 
   -- these end with what was thrown
-  pub threw_leads : (x : Name) (k : Frame) (w : World)
-      → (k ≡ frames.Stopping → ⊥)
-      → ((r : Box machine.Running) → k ≡ frames.Answering r → ⊥)
-      → ((n : ℕ) → k ≡ frames.CleaningUp n → ⊥)
-      → (k ≡ frames.Exiting → ⊥)
-      → (k ≡ frames.Using → ⊥)
-      → ((told : Box Completion) → k ≡ frames.Returning told → ⊥)
-      → (k ≡ frames.Initializing → ⊥)
-      → (k ≡ frames.Opening → ⊥)
-      → (k ≡ frames.Telling → ⊥)
-      → (k ≡ frames.ShuttingDown → ⊥)
-      → ((closing : Box Closing) → k ≡ frames.Finishing closing → ⊥)
-      → ((after : AfterClose) → k ≡ frames.Closed after → ⊥)
-      → ((n : ℕ) (b : Component) (left : ℕ) (field : Name) → k ≡ frames.Injecting n b left field → ⊥)
-      → ((n : ℕ) (b : Component) (left : ℕ) → k ≡ frames.Completing n b left → ⊥)
-      → ((n : ℕ) (b : Component) (left : ℕ) → k ≡ frames.Stepping n b left → ⊥)
+  pub threw_leads : (x : Name) (k : Frame) (w : World) → EndsWithThrow k
       → WaitsTo t k (completions.Threw x) w (nexts.Finished (outcomes.Ends (completions.Threw x))) w
-  threw_leads x (frames.AtEnd role) w h1 h2 h3 h4 h5 h6 h7 h8 h9 h10 h11 h12 h13 h14 h15 = Comes.same refl
-  threw_leads x (frames.Releasing n) w h1 h2 h3 h4 h5 h6 h7 h8 h9 h10 h11 h12 h13 h14 h15 = Comes.same refl
-  threw_leads x (frames.Freeing n) w h1 h2 h3 h4 h5 h6 h7 h8 h9 h10 h11 h12 h13 h14 h15 = Comes.same refl
-  threw_leads x frames.Dismissing w h1 h2 h3 h4 h5 h6 h7 h8 h9 h10 h11 h12 h13 h14 h15 = Comes.same refl
-  threw_leads x (frames.Clearing context) w h1 h2 h3 h4 h5 h6 h7 h8 h9 h10 h11 h12 h13 h14 h15 = Comes.same refl
-  threw_leads x (frames.Reaching method args) w h1 h2 h3 h4 h5 h6 h7 h8 h9 h10 h11 h12 h13 h14 h15 = Comes.same refl
-  threw_leads x (frames.Borrowing method args) w h1 h2 h3 h4 h5 h6 h7 h8 h9 h10 h11 h12 h13 h14 h15 = Comes.same refl
-  threw_leads x (frames.Emptying closing) w h1 h2 h3 h4 h5 h6 h7 h8 h9 h10 h11 h12 h13 h14 h15 = Comes.same refl
-  threw_leads x (frames.Discarding n y) w h1 h2 h3 h4 h5 h6 h7 h8 h9 h10 h11 h12 h13 h14 h15 = Comes.same refl
-  threw_leads x (frames.Calling b) w h1 h2 h3 h4 h5 h6 h7 h8 h9 h10 h11 h12 h13 h14 h15 = Comes.same refl
-  threw_leads x frames.Stopping w h1 h2 h3 h4 h5 h6 h7 h8 h9 h10 h11 h12 h13 h14 h15 = absurd (h1 refl)
-  threw_leads x (frames.Answering r) w h1 h2 h3 h4 h5 h6 h7 h8 h9 h10 h11 h12 h13 h14 h15 = absurd (h2 r refl)
-  threw_leads x (frames.CleaningUp n) w h1 h2 h3 h4 h5 h6 h7 h8 h9 h10 h11 h12 h13 h14 h15 = absurd (h3 n refl)
-  threw_leads x frames.Exiting w h1 h2 h3 h4 h5 h6 h7 h8 h9 h10 h11 h12 h13 h14 h15 = absurd (h4 refl)
-  threw_leads x frames.Using w h1 h2 h3 h4 h5 h6 h7 h8 h9 h10 h11 h12 h13 h14 h15 = absurd (h5 refl)
-  threw_leads x (frames.Returning told) w h1 h2 h3 h4 h5 h6 h7 h8 h9 h10 h11 h12 h13 h14 h15 = absurd (h6 told refl)
-  threw_leads x frames.Initializing w h1 h2 h3 h4 h5 h6 h7 h8 h9 h10 h11 h12 h13 h14 h15 = absurd (h7 refl)
-  threw_leads x frames.Opening w h1 h2 h3 h4 h5 h6 h7 h8 h9 h10 h11 h12 h13 h14 h15 = absurd (h8 refl)
-  threw_leads x frames.Telling w h1 h2 h3 h4 h5 h6 h7 h8 h9 h10 h11 h12 h13 h14 h15 = absurd (h9 refl)
-  threw_leads x frames.ShuttingDown w h1 h2 h3 h4 h5 h6 h7 h8 h9 h10 h11 h12 h13 h14 h15 = absurd (h10 refl)
-  threw_leads x (frames.Finishing closing) w h1 h2 h3 h4 h5 h6 h7 h8 h9 h10 h11 h12 h13 h14 h15 = absurd (h11 closing refl)
-  threw_leads x (frames.Closed after) w h1 h2 h3 h4 h5 h6 h7 h8 h9 h10 h11 h12 h13 h14 h15 = absurd (h12 after refl)
-  threw_leads x (frames.Injecting n b left field) w h1 h2 h3 h4 h5 h6 h7 h8 h9 h10 h11 h12 h13 h14 h15 = absurd (h13 n b left field refl)
-  threw_leads x (frames.Completing n b left) w h1 h2 h3 h4 h5 h6 h7 h8 h9 h10 h11 h12 h13 h14 h15 = absurd (h14 n b left refl)
-  threw_leads x (frames.Stepping n b left) w h1 h2 h3 h4 h5 h6 h7 h8 h9 h10 h11 h12 h13 h14 h15 = absurd (h15 n b left refl)
+  threw_leads x (frames.AtEnd role) w h = Comes.same refl
+  threw_leads x (frames.Intercepted role) w h = Comes.same refl
+  threw_leads x (frames.Releasing n) w h = Comes.same refl
+  threw_leads x (frames.Freeing n) w h = Comes.same refl
+  threw_leads x frames.Dismissing w h = Comes.same refl
+  threw_leads x (frames.Clearing context) w h = Comes.same refl
+  threw_leads x (frames.Reaching purpose) w h = Comes.same refl
+  threw_leads x (frames.Borrowing method args) w h = Comes.same refl
+  threw_leads x (frames.Emptying closing) w h = Comes.same refl
+  threw_leads x (frames.Discarding n y) w h = Comes.same refl
+  threw_leads x (frames.Calling b) w h = Comes.same refl
+  threw_leads x frames.Stopping w h = absurd (h.stopping refl)
+  threw_leads x (frames.Answering r) w h = absurd (h.answering r refl)
+  threw_leads x (frames.CleaningUp n) w h = absurd (h.cleaning_up n refl)
+  threw_leads x frames.Exiting w h = absurd (h.exiting refl)
+  threw_leads x frames.Using w h = absurd (h.using refl)
+  threw_leads x (frames.Returning told) w h = absurd (h.returning told refl)
+  threw_leads x frames.Initializing w h = absurd (h.initializing refl)
+  threw_leads x frames.Opening w h = absurd (h.opening refl)
+  threw_leads x frames.Telling w h = absurd (h.telling refl)
+  threw_leads x frames.ShuttingDown w h = absurd (h.shutting_down refl)
+  threw_leads x (frames.Finishing closing) w h = absurd (h.finishing closing refl)
+  threw_leads x (frames.Closed after) w h = absurd (h.closed after refl)
+  threw_leads x (frames.Injecting n b left field) w h = absurd (h.injecting n b left field refl)
+  threw_leads x (frames.Completing n b left) w h = absurd (h.completing n b left refl)
+  threw_leads x (frames.Stepping n b left) w h = absurd (h.stepping n b left refl)
+  threw_leads x (frames.Providing p) w h = absurd (h.providing p refl)
+  threw_leads x (frames.Constructing n b left) w h = absurd (h.constructing n b left refl)
+  threw_leads x (frames.Finding r k) w h = absurd (h.finding r k refl)

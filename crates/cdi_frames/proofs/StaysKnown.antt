@@ -34,6 +34,7 @@ still_known t e (continuations.Leaving n) w h = h
 still_known t e (continuations.Removing n) w h = h
 still_known t e (continuations.Freeing n d) w h = h
 still_known t e (continuations.Delivering event) w h = h
+still_known t e (continuations.Publishing event) w h = h
 
 -- after an entry
 pub known_written : (t : Tables) (a b : Stack) (x : Continuation) (e : Entry) (w v : World) → a.pending ≡ pendings.Writes e x → b.frames ≡ a.frames → b.pending ≡ pendings.Does (tasks.Continue x)

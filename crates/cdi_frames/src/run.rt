@@ -53,7 +53,7 @@ fn advance<T: Tables, D: Driver, W: Contents>(
     world: &mut W,
     stack: Stack,
 ) -> Result<Turn, Failure>
-    requires drives { Drives (T.tables tables.now) (D.knows driver.old) (D.legal driver.old) }
+    requires drives { Drives (T.tables tables.now) (D.knows driver.old) }
     requires known { KnownStack (T.tables tables.now) (W.world world.old) stack }
     ensures turned { TurnsTo (T.tables tables.now) (D.legal driver.old) stack
         (W.world world.old) result (W.world world.new) }
@@ -117,7 +117,7 @@ pub fn turn<T: Tables, D: Driver, W: Contents>(
     stack: Stack,
     most: u64,
 ) -> Result<Turn, Failure>
-    requires drives { Drives (T.tables tables.now) (D.knows driver.old) (D.legal driver.old) }
+    requires drives { Drives (T.tables tables.now) (D.knows driver.old) }
     requires known { KnownStack (T.tables tables.now) (W.world world.old) stack }
     ensures turned { TurnsTo (T.tables tables.now) (D.legal driver.old) stack
         (W.world world.old) result (W.world world.new) }
@@ -154,7 +154,7 @@ fn finish<T: Tables, D: Driver, W: Contents>(
     world: &mut W,
     stack: Stack,
 ) -> Result<Outcome, Failure>
-    requires drives { Drives (T.tables tables.now) (D.knows driver.old) (D.legal driver.old) }
+    requires drives { Drives (T.tables tables.now) (D.knows driver.old) }
     requires known { KnownStack (T.tables tables.now) (W.world world.old) stack }
     ensures ran { Ran (T.tables tables.now) (D.legal driver.old) (program_of stack)
         (W.world world.old) result (W.world world.new) }
@@ -191,7 +191,7 @@ pub fn run<T: Tables, D: Driver, W: Contents>(
     world: &mut W,
     task: Task,
 ) -> Result<Outcome, Failure>
-    requires drives { Drives (T.tables tables.now) (D.knows driver.old) (D.legal driver.old) }
+    requires drives { Drives (T.tables tables.now) (D.knows driver.old) }
     requires invoked { AllInvoked (T.tables tables.now) (W.world world.old) }
     requires known { Known (T.tables tables.now) (W.world world.old) task }
     ensures ran { Ran (T.tables tables.now) (D.legal driver.old) (first task)

@@ -1,5 +1,7 @@
 -- What is asked of the tables and of the world, as the definition has it.
 use Rattle.std.specs.Prelude.{ℕ, ◌^◌, ◌<◌, List, [], ◌∷◌, ◌≡◌, ◌-◌, length, drop, is_some, map, Bool, true, false, Option, Some, None, nat_lt, option_map, option_and_then}
+use Rattle.cdi_base.specs.declared.place.InterceptorMethod.{InterceptorMethod}
+use Rattle.cdi_base.specs.declared.place.Place.TheVariants as places
 use Rattle.cdi_base.specs.declared.scope.Scope.{Scope}
 use Rattle.cdi_base.specs.declared.uses.Use.{Use}
 use Rattle.cdi_base.specs.Fields.{has}
@@ -20,11 +22,8 @@ use Rattle.cdi_machine.specs.World.{World}
 use Rattle.cdi_machine.specs.Bodies.{reference_at}
 use Rattle.cdi_machine.specs.Destruction.{latest}
 use Rattle.cdi_host.specs.declared.beans.BeanHead.{BeanHead}
-use Rattle.cdi_host.specs.declared.beans.Method.{Method as CodeMethod}
 use Rattle.cdi_life.specs.Told.{resolution_told}
 use Rattle.cdi_life.specs.declared.point.Resolution.{Resolution}
-use Rattle.cdi_host.specs.declared.beans.Step.{Step as CodeStep}
-use Rattle.cdi_host.specs.declared.beans.Step.TheVariants.{Intercept, Inject, Complete}
 
 -- ---- the deployment
 
@@ -41,10 +40,6 @@ machine_resolution r = resolution_told r
 
 abbrev pub head_of : Bean → BeanHead
 head_of bean = record { place = bean.place; scope = bean.scope }
-
--- callbacks, round which no interceptor stands
-abbrev pub alone : List Code → Lifecycle
-alone callbacks = record { chain = []; callbacks = callbacks }
 
 -- a managed bean
 pub record IsServedBean (bean : Bean) : Type 0 where
@@ -82,6 +77,14 @@ abbrev pub interceptor_fields : Option Interceptor → Fields
 interceptor_fields None = []
 interceptor_fields (Some j) = j.fields
 
+-- the method of this kind that an interceptor has
+abbrev pub code_in : InterceptorMethod → Interceptor → Option Code
+code_in role j =
+    option_map (λ b. record { place = places.Interceptor j.name role; body = b }) (j.body role)
+
+abbrev pub interceptor_code : Tables → ℕ → InterceptorMethod → Option Code
+interceptor_code t i role = option_and_then (code_in role) (t.interceptor i)
+
 -- the steps, and the fields, of a new instance of a component
 abbrev pub plan_at : Tables → Component → List Step
 plan_at t (components.Bean b) = plan_of (t.bean b)
@@ -96,19 +99,6 @@ abbrev pub has_component : Tables → Component → Bool
 has_component t (components.Bean b) = is_some (t.bean b)
 has_component t (components.Interceptor i) = is_some (t.interceptor i)
 
--- a step as the machine has it
-abbrev pub machine_step : CodeStep → Step
-machine_step (Intercept i) = Step.Intercept i
-machine_step (Inject i) = Step.Inject i.field (asked_for i.bean_type i.qualifiers.now)
-machine_step (Complete callbacks) = Step.Complete (alone callbacks.now)
-
--- an injected field says what its point resolves to
-abbrev pub IsResolvedStep : Tables → CodeStep → Type 0
-IsResolvedStep t (Intercept i) = Unit {0}
-IsResolvedStep t (Inject i) =
-    t.resolve (asked_for i.bean_type i.qualifiers.now) ≡ machine_resolution i.resolution
-IsResolvedStep t (Complete callbacks) = Unit {0}
-
 -- what is called before an instance of a bean is destroyed
 abbrev pub pre_destroy_in : Kind → Option Lifecycle
 pre_destroy_in (Kind.Class c) = Some c.pre_destroy
@@ -121,11 +111,6 @@ pre_destroy_of (Some bean) = pre_destroy_in bean.kind
 -- so many steps, the last ones
 abbrev pub last_of : {X : Type 0} → ℕ → List X → List X
 last_of left xs = drop (length xs - left) xs
-
--- no interceptor stands round a method
-abbrev pub machine_method : CodeMethod → Method
-machine_method m =
-    record { code = record { place = m.place; body = m.body }; count = m.count; chain = [] }
 
 abbrev pub method_in : Kind → Name → Option Method
 method_in (Kind.Class c) name = at c.methods name

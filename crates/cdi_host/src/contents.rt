@@ -16,6 +16,7 @@ pub trait Contents {
     ghost use Rattle.cdi_machine.specs.World.Change.{Make, Settle, Refer, Discard, Leave, Remove, Assign, Mark, Finish, Close, Enter, Provide, Replace, Keep, Hold, Reach, Exit, Start, Stop, Borrow, Return, Down};
     ghost use Rattle.cdi_machine.specs.Commands.{is_used, requests_of, sessions_of};
     ghost use Rattle.cdi_machine.specs.Destruction.{greatest_in};
+    ghost use Rattle.cdi_machine.specs.DestroyAct.{is_idle};
     ghost use Rattle.cdi_store.specs.Owned.{dependents_in};
     ghost use Rattle.cdi_host.specs.Asked.{status_in, held_in, number_left, latest_in, top_of};
     ghost use Rattle.cdi_host.specs.Standing.{due_session, has_named_contexts, standing_in, standing_in_session, with_request_begun};
@@ -91,6 +92,11 @@ pub trait Contents {
     /// The innermost invocation, if one is under way.
     fn invocation(&self) -> Option<&Invocation>
         ensures { top_of (world self.now).invocations ≡ option_map (λ i. i.now) result };
+
+    /// Whether neither an instance nor what it owns, and whose destruction hasn't begun, is the target of an invocation or has a
+    /// running body.
+    fn is_idle(&self, number: u32) -> bool
+        ensures { result ≡ is_idle (world self.now) number };
 
     /// The latest of the innermost temporaries, if there are temporaries, and if one is there.
     fn latest_temporary(&self) -> Option<Option<u32>>

@@ -1,6 +1,5 @@
 -- The words of an instance's life, each as the machine's word.
-use Rattle.std.specs.Prelude.{map, unwrap_or}
-use Rattle.cdi_life.specs.declared.code.Code.{Code}
+use Rattle.std.specs.Prelude.{map}
 use Rattle.cdi_life.specs.declared.member.Member.{Member}
 use Rattle.cdi_life.specs.declared.member.Method.{Method}
 use Rattle.cdi_life.specs.declared.member.Product.{Product}
@@ -15,10 +14,6 @@ use Rattle.cdi_life.specs.declared.step.Step.TheVariants as steps
 use Rattle.cdi_machine.specs.Tables as machine
 use Rattle.cdi_machine.specs.Words.{Asked}
 
--- a body by its number; where none is registered, this is the number of no body
-abbrev pub code_told : Code → machine.Code
-code_told c = record { place = c.place; body = unwrap_or c.body 4096 }
-
 abbrev pub resolution_told : Resolution → machine.Resolution
 resolution_told (resolutions.One bean) = machine.Resolution.One bean
 resolution_told resolutions.Nothing = machine.Resolution.Nothing
@@ -29,7 +24,7 @@ abbrev pub point_told : Point → Asked
 point_told p = record { type = p.bean_type; qualifiers = p.qualifiers }
 
 abbrev pub lifecycle_told : Lifecycle → machine.Lifecycle
-lifecycle_told l = record { chain = l.chain; callbacks = map code_told l.callbacks }
+lifecycle_told l = record { chain = l.chain; callbacks = l.callbacks }
 
 abbrev pub step_told : Step → machine.Step
 step_told (steps.Intercept i) = machine.Step.Intercept i
@@ -37,15 +32,15 @@ step_told (steps.Construct points l) =
     machine.Step.Construct (map point_told points) (lifecycle_told l)
 step_told (steps.Inject field point) = machine.Step.Inject field (point_told point)
 step_told (steps.Initialize code points) =
-    machine.Step.Initialize (code_told code) (map point_told points)
+    machine.Step.Initialize code (map point_told points)
 step_told (steps.Complete l) = machine.Step.Complete (lifecycle_told l)
 
 abbrev pub method_told : Method → machine.Method
-method_told m = record { code = code_told m.code; count = m.count; chain = m.chain }
+method_told m = record { code = m.code; count = m.count; chain = m.chain }
 
 abbrev pub member_told : Member → machine.Member
 member_told m =
-    record { code = code_told m.code; points = map point_told m.points; chain = m.chain }
+    record { code = m.code; points = map point_told m.points; chain = m.chain }
 
 abbrev pub source_told : Source → machine.Source
 source_told (sources.Method m) = machine.Source.ProducerMethod (member_told m)

@@ -1,4 +1,5 @@
 pub mod Empty
+pub mod FirstMethods
 pub mod Lists
 pub mod Resolving
 pub mod Told

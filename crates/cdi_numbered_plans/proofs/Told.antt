@@ -1,23 +1,24 @@
 -- What is numbered tells what the machine is told, with each point resolved.
-use Rattle.std.proofs.Common.{ℕ, ◌≡◌, ◌∙◌, List, [], ◌∷◌, map, filter, true, Option, Some, None, Result, Ok, Err, refl, sym, subst}
+use Rattle.std.proofs.Common.{ℕ, ◌≡◌, ◌∙◌, List, [], ◌∷◌, map, filter, true, false, Option, Some, None, Result, Ok, Err, refl, sym, subst}
 use Rattle.std.specs.Prelude.{option_map, IfOk}
 use Rattle.std.specs.declared.alloc.AllocError.{AllocError}
 use Rattle.std.proofs.lemmas.Bool.{true≢false}
 use Rattle.std.specs.List.{All}
 use Rattle.std.proofs.lemmas.List.Elements.{All-cons, All-nil}
+use Rattle.cdi_deployment.specs.declared.deployment.InjectedField.{InjectedField}
 use Rattle.cdi_deployment.specs.declared.deployment.Point.{Point}
 use Rattle.cdi_event_tables.specs.Observers.{managed_bean}
 use Rattle.cdi_life.specs.Resolved.{AreResolved, IsResolved, IsResolvedMember, IsResolvedSource, IsResolvedStep}
-use Rattle.cdi_life.specs.Told.{code_told, lifecycle_told, member_told, point_told, product_told, resolution_told, source_told, step_told}
+use Rattle.cdi_life.specs.Told.{lifecycle_told, member_told, point_told, product_told, resolution_told, source_told, step_told}
 use Rattle.cdi_machine.specs.Tables as machine
 use Rattle.cdi_machine.specs.Words.{Asked}
-use Rattle.cdi_numbered_plans.specs.Machine.{asked_by, does_something, machine_code, machine_kind, machine_lifecycle, machine_member, machine_resolution, machine_source, machine_step, machine_steps, product_with}
-use Rattle.cdi_numbered_plans.specs.Numbered.{bodies_by, can_number, code_by, lifecycle_by, member_by, numbered_resolution, plan_by, point_by, product_by, source_by, step_by, steps_by}
-use Rattle.cdi_numbered_plans.specs.Plans.{IsNumberedPlan, IsResolvedIfAny, TellsOf, resolve_by}
+use Rattle.cdi_life.specs.declared.step.Step.{Step as LifeStep}
+use Rattle.cdi_numbered_plans.specs.Machine.{asked_by, does_something, machine_code, machine_injection, machine_kind, machine_lifecycle, machine_member, machine_resolution, machine_source, machine_step, machine_steps, product_with}
+use Rattle.cdi_numbered_plans.specs.Numbered.{bodies_by, can_number, has_few_beans, injection_by, lifecycle_by, member_by, numbered_resolution, plan_by, point_by, product_by, source_by, step_by, steps_by}
+use Rattle.cdi_numbered_plans.specs.Plans.{AreInjectionsBy, IsNumberedPlan, IsResolvedIfAny, TellsOf, resolve_by}
 use Rattle.cdi_numbered_plans.specs.declared.numbering.Numbering.{Numbering}
 use Rattle.cdi_numbered_plans.specs.declared.plan.NumberedPlan.{NumberedPlan}
 use Rattle.cdi_numbered_plans.specs.declared.plan.NumberedPlan.TheVariants as numbered
-use Rattle.cdi_plans.specs.declared.plan.Code.{Code}
 use Rattle.cdi_plans.specs.declared.plan.InjectedMethod.{InjectedMethod}
 use Rattle.cdi_plans.specs.declared.plan.Lifecycle.{Lifecycle}
 use Rattle.cdi_plans.specs.declared.plan.Plan.{Plan}
@@ -49,14 +50,11 @@ module _ (n : Numbering) where
   abbrev ids : ℕ → Option ℕ
   ids name = bodies_by n name
 
-  codes_alike : (codes : List Code) → map code_told (map (code_by ids) codes) ≡ map (machine_code ids) codes
-  codes_alike codes = each_alike (code_by ids) code_told (machine_code ids) (λ c. refl) codes
-
   points_alike : (points : List Point) → map point_told (map (point_by n) points) ≡ map asked_by points
   points_alike points = each_alike (point_by n) point_told asked_by (λ p. refl) points
 
   lifecycle_alike : (l : Lifecycle) → lifecycle_told (lifecycle_by ids l) ≡ machine_lifecycle ids l
-  lifecycle_alike l = λ i. record { chain = l.chain; callbacks = codes_alike l.callbacks i }
+  lifecycle_alike l = refl
 
   step_alike : (s : Step) → step_told (step_by n s) ≡ machine_step ids s
   step_alike (steps.Intercept i) = refl
@@ -118,6 +116,20 @@ module _ (n : Numbering) where
   pub resolved : (plan : Plan) → IsResolvedIfAny resolve (plan_by n plan)
   resolved (plans.Managed p) = each_so (step_by n) (IsResolvedStep resolve) step_resolved (filter does_something p.steps)
   resolved (plans.Product p) = product_resolved p (managed_bean n.resolver.now.beans p.declaring)
+
+-- what is made of injected fields
+pub injections_made : (n : Numbering) (fields : List InjectedField) (r : Result (List LifeStep) AllocError) → IfOk r (λ all. all ≡ map (injection_by n) fields) → IfOk r (AreInjectionsBy n fields)
+injections_made n fields (Ok all) e =
+    subst (AreInjectionsBy n fields) (sym e)
+    (record {
+      tells = λ few. each_alike (injection_by n) step_told machine_injection (λ f. refl) fields;
+      resolved = each_so (injection_by n) (IsResolvedStep (resolve_by n)) (λ f. resolution_alike _) fields;
+    })
+injections_made n fields (Err x) e = tt
+
+-- there are none where there are too many beans
+pub no_injections : (n : Numbering) (fields : List InjectedField) → has_few_beans n ≡ false → AreInjectionsBy n fields []
+no_injections n fields many = record { tells = λ few. absurd (true≢false (sym few ∙ many)); resolved = All-nil (IsResolvedStep (resolve_by n)) }
 
 -- what is made is one of these
 pub made : (n : Numbering) (plan : Plan) → can_number n plan ≡ true → (r : Result (Option NumberedPlan) AllocError) → IfOk r (λ m. m ≡ plan_by n plan) → IfOk r (IsNumberedPlan n plan)

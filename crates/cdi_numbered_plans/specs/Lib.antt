@@ -1,4 +1,5 @@
 pub mod Machine
+pub mod Methods
 pub mod Numbered
 pub mod Numbers
 pub mod Plans

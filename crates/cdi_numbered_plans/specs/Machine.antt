@@ -1,9 +1,11 @@
 -- What the machine is told of a plan.
-use Rattle.std.specs.Prelude.{ℕ, ◌&&◌, List, [], ◌∷◌, map, filter, fold, Bool, true, false, not, Option, Some, option_map, unwrap_or}
+use Rattle.std.specs.Prelude.{ℕ, ◌&&◌, List, [], ◌∷◌, map, filter, fold, Bool, true, false, not, Option, Some, None, option_map, unwrap_or}
 use Rattle.std.specs.List.{filter_map}
 use Rattle.cdi_base.specs.Fields.{put}
+use Rattle.cdi_base.specs.Maps.{at}
 use Rattle.cdi_beans.specs.declared.bean.Bean.{Bean}
 use Rattle.cdi_deployment.specs.declared.deployment.Field.{Field}
+use Rattle.cdi_deployment.specs.declared.deployment.InjectedField.{InjectedField}
 use Rattle.cdi_deployment.specs.declared.deployment.Point.{Point}
 use Rattle.cdi_event_tables.specs.Observers.{managed_bean}
 use Rattle.cdi_machine.specs.Words.{Name, Asked, Fields}
@@ -50,6 +52,11 @@ machine_method ids m = option_map (method_with m) (ids m.code.body)
 abbrev pub machine_methods : (ℕ → Option ℕ) → List BusinessMethod → List (Name × machine.Method)
 machine_methods ids methods = filter_map (machine_method ids) methods
 
+-- the method of a name that a plan has
+abbrev pub method_in : (ℕ → Option ℕ) → Plan → Name → Option machine.Method
+method_in ids (plans.Managed p) name = at (machine_methods ids p.methods) name
+method_in ids (plans.Product p) name = None
+
 abbrev pub machine_member : (ℕ → Option ℕ) → InjectedMethod → machine.Member
 machine_member ids m =
     record { code = machine_code ids m.code; points = map asked_by m.points; chain = m.chain }
@@ -76,6 +83,10 @@ abbrev pub does_something : Step → Bool
 does_something (steps.Construct points l) = not (has_none points && is_idle l)
 does_something (steps.Complete l) = not (is_idle l)
 does_something step = true
+
+-- the step of an interceptor's injected field
+abbrev pub machine_injection : InjectedField → machine.Step
+machine_injection f = machine.Step.Inject f.name (record { type = f.ty; qualifiers = f.quals })
 
 abbrev pub machine_steps : (ℕ → Option ℕ) → List Step → List machine.Step
 machine_steps ids all = map (machine_step ids) (filter does_something all)

@@ -6,7 +6,6 @@ use Rattle.cdi_deployment.specs.declared.deployment.InjectedField.{InjectedField
 use Rattle.cdi_deployment.specs.declared.deployment.Point.{Point}
 use Rattle.cdi_event_tables.specs.Ids.{id_in}
 use Rattle.cdi_event_tables.specs.Observers.{managed_bean}
-use Rattle.cdi_life.specs.declared.code.Code.{Code as LifeCode}
 use Rattle.cdi_life.specs.declared.member.Member.{Member}
 use Rattle.cdi_life.specs.declared.member.Product.{Product}
 use Rattle.cdi_life.specs.declared.member.Source.{Source as LifeSource}
@@ -17,13 +16,12 @@ use Rattle.cdi_life.specs.declared.point.Resolution.TheVariants as life_resoluti
 use Rattle.cdi_life.specs.declared.step.Lifecycle.{Lifecycle as LifeCycle}
 use Rattle.cdi_life.specs.declared.step.Step.{Step as LifeStep}
 use Rattle.cdi_life.specs.declared.step.Step.TheVariants as life_steps
-use Rattle.cdi_numbered_plans.specs.Machine.{does_something}
+use Rattle.cdi_numbered_plans.specs.Machine.{does_something, machine_code}
 use Rattle.cdi_numbered_plans.specs.Numbers.{has_numbers}
 use Rattle.cdi_numbered_plans.specs.declared.numbering.Numbering.{Numbering}
 use Rattle.cdi_numbered_plans.specs.declared.plan.ManagedLife.{ManagedLife}
 use Rattle.cdi_numbered_plans.specs.declared.plan.NumberedPlan.{NumberedPlan}
 use Rattle.cdi_numbered_plans.specs.declared.plan.NumberedPlan.TheVariants as numbered
-use Rattle.cdi_plans.specs.declared.plan.Code.{Code}
 use Rattle.cdi_plans.specs.declared.plan.InjectedMethod.{InjectedMethod}
 use Rattle.cdi_plans.specs.declared.plan.Lifecycle.{Lifecycle}
 use Rattle.cdi_plans.specs.declared.plan.ManagedPlan.{ManagedPlan}
@@ -42,17 +40,18 @@ use Rattle.cdi_resolve.specs.declared.resolution.Resolution.TheVariants as resol
 
 -- ---- bodies
 
-abbrev pub code_by : (ℕ → Option ℕ) → Code → LifeCode
-code_by ids c = record { place = c.place; body = ids c.body }
-
 abbrev pub lifecycle_by : (ℕ → Option ℕ) → Lifecycle → LifeCycle
-lifecycle_by ids l = record { chain = l.chain; callbacks = map (code_by ids) l.callbacks }
+lifecycle_by ids l = record { chain = l.chain; callbacks = map (machine_code ids) l.callbacks }
 
 -- ---- points
 
+-- at most 4,294,967,296 beans
+abbrev pub has_few_beans : Numbering → Bool
+has_few_beans n = nat_le (length n.resolver.now.beans) (2 ^ 32)
+
 -- what a plan names has numbers of 32 bits
 abbrev pub can_number : Numbering → Plan → Bool
-can_number n plan = nat_le (length n.resolver.now.beans) (2 ^ 32) && has_numbers plan
+can_number n plan = has_few_beans n && has_numbers plan
 
 -- resolution is asked for among the enabled beans of these
 abbrev pub AsksOf : Numbering → Candidates → Type 0
@@ -102,8 +101,18 @@ module _ (n : Numbering) where
       life_steps.Construct (map point_by points) (lifecycle_by bodies_by l)
   step_by (steps.Inject field point) = life_steps.Inject field (point_by point)
   step_by (steps.Initialize code points) =
-      life_steps.Initialize (code_by bodies_by code) (map point_by points)
+      life_steps.Initialize (machine_code bodies_by code) (map point_by points)
   step_by (steps.Complete l) = life_steps.Complete (lifecycle_by bodies_by l)
+
+  -- that of an interceptor's injected field
+  abbrev pub injection_by : InjectedField → LifeStep
+  injection_by f =
+      life_steps.Inject f.name
+      (record {
+        bean_type = f.ty;
+        qualifiers = f.quals;
+        resolution = numbered_resolution (resolution_by n f.ty f.quals);
+      })
 
   -- those at which something runs
   abbrev pub steps_by : List Step → List LifeStep
@@ -114,7 +123,7 @@ module _ (n : Numbering) where
   abbrev pub member_by : InjectedMethod → Member
   member_by m =
       record {
-        code = code_by bodies_by m.code;
+        code = machine_code bodies_by m.code;
         points = map point_by m.points;
         chain = m.chain;
       }

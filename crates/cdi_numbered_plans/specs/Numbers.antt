@@ -1,6 +1,7 @@
 -- The steps of a plan, and the places of interceptors in it, have numbers of 32 bits.
 use Rattle.std.specs.Prelude.{ℕ, ◌&&◌, ◌^◌, List, Bool, true, length, nat_lt}
 use Rattle.std.specs.List.{list_all}
+use Rattle.cdi_plans.specs.declared.plan.BusinessMethod.{BusinessMethod}
 use Rattle.cdi_plans.specs.declared.plan.InjectedMethod.{InjectedMethod}
 use Rattle.cdi_plans.specs.declared.plan.Lifecycle.{Lifecycle}
 use Rattle.cdi_plans.specs.declared.plan.ManagedPlan.{ManagedPlan}
@@ -27,6 +28,12 @@ numbers_step (steps.Construct points l) = numbers_lifecycle l
 numbers_step (steps.Complete l) = numbers_lifecycle l
 numbers_step step = true
 
+abbrev pub numbers_method : BusinessMethod → Bool
+numbers_method m = are_numbers m.chain
+
+abbrev pub numbers_methods : List BusinessMethod → Bool
+numbers_methods methods = list_all numbers_method methods
+
 abbrev pub numbers_member : InjectedMethod → Bool
 numbers_member m = are_numbers m.chain
 
@@ -37,11 +44,12 @@ numbers_source (sources.ProducerField field) = true
 abbrev pub numbers_managed : ManagedPlan → Bool
 numbers_managed p =
     is_number (length p.steps) && list_all numbers_step p.steps && numbers_lifecycle p.pre_destroy
+    && numbers_methods p.methods
 
 abbrev pub numbers_product : ProductPlan → Bool
 numbers_product p = numbers_source p.source && list_all numbers_member p.disposers
 
--- all steps and places in what an instance is made by, and what runs where it is destroyed
+-- all steps and places in what an instance is made by, what runs where it is destroyed, and its methods
 abbrev pub has_numbers : Plan → Bool
 has_numbers (plans.Managed p) = numbers_managed p
 has_numbers (plans.Product p) = numbers_product p

@@ -1,6 +1,7 @@
 -- What a numbered plan tells: what the machine is told of the plan, with each point resolved.
 use Rattle.std.specs.Prelude.{◌≡◌, true, false, List, [], map, Option, Some, None}
 use Rattle.std.specs.List.{All}
+use Rattle.cdi_deployment.specs.declared.deployment.InjectedField.{InjectedField}
 use Rattle.cdi_life.specs.Resolved.{IsResolvedProduct, IsResolvedStep}
 use Rattle.cdi_life.specs.Told.{lifecycle_told, product_told, step_told}
 use Rattle.cdi_life.specs.declared.member.Product.{Product}
@@ -8,8 +9,8 @@ use Rattle.cdi_life.specs.declared.step.Lifecycle.{Lifecycle}
 use Rattle.cdi_life.specs.declared.step.Step.{Step}
 use Rattle.cdi_machine.specs.Tables as machine
 use Rattle.cdi_machine.specs.Words.{Asked}
-use Rattle.cdi_numbered_plans.specs.Machine.{machine_kind, machine_resolution}
-use Rattle.cdi_numbered_plans.specs.Numbered.{bodies_by, can_number, resolution_by}
+use Rattle.cdi_numbered_plans.specs.Machine.{machine_injection, machine_kind, machine_resolution}
+use Rattle.cdi_numbered_plans.specs.Numbered.{bodies_by, can_number, has_few_beans, resolution_by}
 use Rattle.cdi_numbered_plans.specs.declared.numbering.Numbering.{Numbering}
 use Rattle.cdi_numbered_plans.specs.declared.plan.ManagedLife.{ManagedLife}
 use Rattle.cdi_numbered_plans.specs.declared.plan.NumberedPlan.{NumberedPlan}
@@ -53,6 +54,12 @@ pub record IsNumberedPlan (n : Numbering) (plan : Plan) (made : Option NumberedP
       → TellsOf (machine_kind (bodies_by n) n.resolver.now.beans plan) made
   pub none : can_number n plan ≡ false → made ≡ None
   pub resolved : IsResolvedIfAny (resolve_by n) made
+
+-- what is made of the injected fields of an interceptor
+pub record AreInjectionsBy (n : Numbering) (fields : List InjectedField) (made : List Step)
+    : Type 0 where
+  pub tells : has_few_beans n ≡ true → map step_told made ≡ map machine_injection fields
+  pub resolved : All (IsResolvedStep (resolve_by n)) made
 
 -- ---- parts
 

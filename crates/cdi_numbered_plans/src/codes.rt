@@ -1,10 +1,12 @@
 //! Bodies, and what runs at a point of the life of an instance.
 ghost use Rattle.std.specs.Prelude.{◌≡◌, map, IfOk, IsTrue};
 ghost use Rattle.cdi_event_tables.specs.Ids.{id_in};
+ghost use Rattle.cdi_numbered_plans.specs.Machine.{machine_code};
 ghost use Rattle.cdi_numbered_plans.specs.Numbered as spec;
 ghost use Rattle.cdi_numbered_plans.specs.Numbers.{are_numbers, numbers_lifecycle};
 
 use cdi_base::Seq;
+use cdi_bodies::BodyId;
 use cdi_event_tables::BodyIds;
 use cdi_life::{Code, Lifecycle};
 use cdi_plans::{Code as NamedCode, Lifecycle as NamedLifecycle};
@@ -12,24 +14,21 @@ use std::alloc::{AllocError, Global};
 
 /// A body, by its number.
 pub(crate) fn code_of(ids: &BodyIds, code: &NamedCode) -> Code
-    ensures { result ≡ spec.code_by (id_in ids.now) code.now }
+    ensures { result ≡ machine_code (id_in ids.now) code.now }
 {
-    Code {
-        place: code.place,
-        body: ids.id(code.body),
-    }
+    let body = match ids.id(code.body) {
+        Some(body) => body,
+        None => BodyId::unregistered(),
+    };
+    Code::new(code.place, body)
 }
 
 fn codes_of(alloc: Global, ids: &BodyIds, codes: &[NamedCode]) -> Result<Seq<Code>, AllocError>
-    ensures { IfOk result (λ all. all ≡ map (spec.code_by (id_in ids.now)) codes.now) }
+    ensures { IfOk result (λ all. all ≡ map (machine_code (id_in ids.now)) codes.now) }
 {
     let mut all = Seq::empty(alloc);
     for code in codes {
-        let body = ids.id(code.body);
-        all.push(Code {
-            place: code.place,
-            body,
-        })?;
+        all.push(code_of(ids, code))?;
     }
     Ok(all)
 }

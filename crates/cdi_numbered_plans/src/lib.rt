@@ -5,7 +5,9 @@
 
 mod codes;
 pub mod fields;
+pub mod injections;
 mod members;
+pub mod methods;
 pub mod numbering;
 pub mod numbers;
 pub mod plan;
@@ -13,6 +15,8 @@ pub mod points;
 pub mod steps;
 
 pub use fields::first_values;
+pub use injections::injections_by;
+pub use methods::methods_by;
 pub use numbering::Numbering;
 pub use numbers::has_numbers;
 pub use plan::{ManagedLife, NumberedPlan};

@@ -5,7 +5,9 @@ ghost use Rattle.cdi_numbered_plans.specs.Numbered as numbered;
 ghost use Rattle.cdi_numbered_plans.specs.Numbers as spec;
 
 use crate::numbering::Numbering;
-use cdi_plans::{InjectedMethod, Lifecycle, ManagedPlan, Plan, ProductPlan, Source, Step};
+use cdi_plans::{
+    BusinessMethod, InjectedMethod, Lifecycle, ManagedPlan, Plan, ProductPlan, Source, Step,
+};
 
 fn is_number(place: usize) -> bool
     ensures { result ≡ spec.is_number place }
@@ -43,6 +45,14 @@ fn number_steps(steps: &[Step]) -> bool
     steps.iter().all(numbers_step)
 }
 
+fn numbers_methods(methods: &[BusinessMethod]) -> bool
+    ensures { result ≡ spec.numbers_methods methods.now }
+{
+    methods
+        .iter()
+        .all(|method| are_numbers(method.chain.as_slice()))
+}
+
 fn numbers_member(member: &InjectedMethod) -> bool
     ensures { result ≡ spec.numbers_member member.now }
 {
@@ -70,6 +80,7 @@ fn numbers_managed(plan: &ManagedPlan) -> bool
     is_number(plan.steps.len())
         && number_steps(plan.steps.as_slice())
         && numbers_lifecycle(&plan.pre_destroy)
+        && numbers_methods(plan.methods.as_slice())
 }
 
 fn numbers_product(plan: &ProductPlan) -> bool
@@ -89,11 +100,18 @@ pub fn has_numbers(plan: &Plan) -> bool
 }
 
 impl Numbering<'_> {
+    /// Whether there are at most 4,294,967,296 beans.
+    pub(crate) fn has_few_beans(&self) -> bool
+        ensures { result ≡ numbered.has_few_beans self.now }
+    {
+        self.resolver.beans().len() <= 4_294_967_296
+    }
+
     /// Whether what a plan names has numbers of 32 bits: there are at most 4,294,967,296 beans, the plan has less steps, and the places of
     /// its interceptors are below that.
     pub fn can_number(&self, plan: &Plan) -> bool
         ensures { result ≡ numbered.can_number self.now plan.now }
     {
-        self.resolver.beans().len() <= 4_294_967_296 && has_numbers(plan)
+        self.has_few_beans() && has_numbers(plan)
     }
 }

@@ -65,7 +65,7 @@ fn numbered(resolved: Resolved) -> Resolution
 }
 
 /// The same, with a bean by its number.
-fn numbered_at(
+pub(crate) fn numbered_at(
     alloc: Global,
     numbering: &Numbering<'_>,
     lookup: &mut Lookup<&Resolver>,

@@ -1,4 +1,4 @@
-pub mod FirstMethods
+pub mod Creating
 pub mod Heard
 pub mod Indexed
 pub mod Telling

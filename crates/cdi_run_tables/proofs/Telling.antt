@@ -1,6 +1,7 @@
 -- Plans in the words of an instance's life tell what the machine is told.
-use Rattle.std.proofs.Common.{ℕ, ◌≡◌, ◌^◌, ◌<◌, ◌≤◌, Bor, Bool, true, false, cond, filter, nat_le, nat_lt, List, [], ◌∷◌, Option, Some, None, length, map, refl, sym, ap, arith, subst, zero, suc}
-use Rattle.std.specs.Prelude.{slice_get, option_map, option_and_then, IfSome}
+use Rattle.std.proofs.Common.{ℕ, ◌≡◌, ◌∙◌, ◌&&◌, ◌^◌, ◌<◌, ◌≤◌, Bor, Bool, true, false, cond, filter, nat_le, nat_lt, List, [], ◌∷◌, Option, Some, None, length, map, refl, sym, ap, arith, subst, zero, suc}
+use Rattle.std.specs.Prelude.{slice_get, nat_eq, option_map, option_and_then, IfSome}
+use Rattle.std.specs.HashMap.{get}
 use Rattle.std.specs.List.{All, list_all}
 use Rattle.std.specs.Option.{option_copied}
 use Rattle.std.proofs.lemmas.Bool.{and_from, and_parts, ltb-true}
@@ -9,8 +10,9 @@ use Rattle.cdi_bean_check.specs.Qualifiers.{full_uses}
 use Rattle.cdi_event_tables.specs.Ids.{id_in}
 use Rattle.cdi_event_tables.specs.Observers.{managed_bean}
 use Rattle.cdi_event_tables.specs.declared.ids.BodyIds.{BodyIds}
-use Rattle.cdi_life.specs.Told.{lifecycle_told, product_told, step_told}
+use Rattle.cdi_life.specs.Told.{lifecycle_told, method_told, product_told, step_told}
 use Rattle.cdi_machine.specs.Tables as machine
+use Rattle.cdi_numbered_plans.specs.Methods.{method_by}
 use Rattle.cdi_numbered_plans.specs.Numbers.{has_numbers}
 use Rattle.cdi_numbered_plans.specs.Plans.{IsNumberedPlan, IsResolvedIfAny, TellsOf, pre_destroy_in, product_in, steps_in}
 use Rattle.cdi_numbered_plans.specs.declared.numbering.Numbering.{Numbering}
@@ -22,8 +24,9 @@ use Rattle.cdi_quals.specs.declared.types.QualifierType.{QualifierType}
 use Rattle.cdi_resolve.specs.Filters.{Candidates, enabled_of}
 use Rattle.cdi_resolve.specs.Resolution.{resolution}
 use Rattle.cdi_run_tables.specs.Index.{IsIndexAt, IsNumberedOf, IsNumberingOf}
-use Rattle.cdi_run_tables.specs.Machine.{bean_with, does_something, machine_bean, machine_kind, machine_resolution, machine_step, product_with}
+use Rattle.cdi_run_tables.specs.Machine.{bean_with, does_something, machine_bean, machine_kind, machine_resolution, machine_step, method_in, method_of, product_with}
 use Rattle.cdi_run_tables.specs.Numbered as spec
+use Rattle.cdi_run_tables.specs.Sizes.{has_few_fields}
 use Rattle.cdi_run_tables.specs.declared.index.BeanIndex.{BeanIndex}
 use Rattle.cdi_run_tables.specs.declared.parts.RunParts.{RunParts}
 use Rattle.cdi_run_tables.specs.declared.planned.PlannedBean.{PlannedBean}
@@ -71,10 +74,31 @@ module _ (t : RunParts) where
 
   module _ (all : spec.is_numbered t ≡ true) (n : ℕ) where
     parts : (spec.has_few_beans t ≡ true) × (list_all (λ (b : PlannedBean). has_numbers b.plan) t.beans ≡ true)
-    parts = and_parts (spec.has_few_beans t) (list_all (λ (b : PlannedBean). has_numbers b.plan) t.beans) all
+    parts =
+        let plans = list_all (λ (b : PlannedBean). has_numbers b.plan) t.beans in
+        and_parts (spec.has_few_beans t) plans (and_parts (spec.has_few_beans t && plans) (list_all has_few_fields t.deployment.interceptors) all).0
+
+    pub methods_told : (i : BeanIndex) → IsIndexAt t (slice_get t.beans n) (Some i) → (name : ℕ) → option_map method_told (get nat_eq i.business name) ≡ method_of t n name
+    methods_told i h name = by (slice_get t.beans n) h (has_numbers_at t.beans parts.1 n)
+      where
+        back : (o : Option machine.Method) → option_map method_told (option_map method_by o) ≡ o
+        back None = refl
+        back (Some m) = refl
+
+        by : (b : Option PlannedBean) → IsIndexAt t b (Some i) → IfSome b (λ x. has_numbers x.plan ≡ true)
+            → option_map method_told (get nat_eq i.business name) ≡ option_and_then (λ (x : PlannedBean). method_in (id_in t.ids) x.plan name) b
+        by None h can = absurd h
+        by (Some b) h can = ap (option_map method_told) (h.business.same can name) ∙ back (method_in (id_in t.ids) b.plan name)
 
     pub numbered_told : (i : BeanIndex) → IsIndexAt t (slice_get t.beans n) (Some i) → TellsOf (spec.kind_at t n) i.numbered
     numbered_told i h = told_in (slice_get t.beans n) i h parts.0 (has_numbers_at t.beans parts.1 n)
+
+  pub no_methods : (n : ℕ) → IsIndexAt t (slice_get t.beans n) None → (name : ℕ) → None ≡ method_of t n name
+  no_methods n h name = by (slice_get t.beans n) h
+    where
+      by : (b : Option PlannedBean) → IsIndexAt t b None → None ≡ option_and_then (λ (x : PlannedBean). method_in (id_in t.ids) x.plan name) b
+      by None h = refl
+      by (Some b) h = absurd h
 
   pub none_told : (n : ℕ) → IsIndexAt t (slice_get t.beans n) None → TellsOf (spec.kind_at t n) None
   none_told n h = by (slice_get t.beans n) h
@@ -147,7 +171,7 @@ few_kept test (x ∷ xs) = by (test x) (few_kept test xs)
 module _ (t : RunParts) where
   few_in : (plan : Plan) → has_numbers plan ≡ true → length (spec.plan_in (machine_kind (id_in t.ids) t.tables.resolver.beans plan)) < 2 ^ 32
   few_in (plan_kinds.Managed p) can =
-      let long : nat_lt (length p.steps) (2 ^ 32) ≡ true = (and_parts _ _ (and_parts _ _ can).0).0 in
+      let long : nat_lt (length p.steps) (2 ^ 32) ≡ true = (and_parts _ _ (and_parts _ _ (and_parts _ _ can).0).0).0 in
       let few : length p.steps < 2 ^ 32 = ltb-true (length p.steps) (2 ^ 32) long in
       let kept = few_kept does_something p.steps in
       let same = length-map (filter does_something p.steps) (machine_step (id_in t.ids)) in

@@ -1,7 +1,7 @@
 -- What is looked up of a deployment in a run.
 use Rattle.std.specs.Prelude.{ℕ, ◌≡◌, true, List, [], map, Option, Some, None, nat_eq, option_map, option_and_then, slice_get}
 use Rattle.std.specs.HashMap.{HashMap, get}
-use Rattle.std.specs.List.{AllZip, filter_map}
+use Rattle.std.specs.List.{All, AllZip, filter_map}
 use Rattle.cdi_beans.specs.declared.bean.EnabledInterceptor.{EnabledInterceptor}
 use Rattle.cdi_body_check.specs.Exceptions.{is_checked}
 use Rattle.cdi_deployment.specs.declared.deployment.InjectedField.{InjectedField}
@@ -10,8 +10,12 @@ use Rattle.cdi_deployment.specs.declared.deployment.Point.{Point}
 use Rattle.cdi_event_tables.specs.Ids.{id_in}
 use Rattle.cdi_event_tables.specs.Tables.{AreEventTables}
 use Rattle.cdi_event_tables.specs.declared.tables.EventTables.{EventTables}
+use Rattle.cdi_life.specs.Resolved.{IsResolvedStep}
+use Rattle.cdi_life.specs.Told.{step_told}
+use Rattle.cdi_life.specs.declared.step.Step.{Step as LifeStep}
 use Rattle.cdi_machine.specs.Words.{Name}
 use Rattle.cdi_name_check.specs.NameSets.{HasDeclared, HasNames}
+use Rattle.cdi_numbered_plans.specs.Methods.{AreMethodsBy}
 use Rattle.cdi_numbered_plans.specs.Numbers.{has_numbers}
 use Rattle.cdi_numbered_plans.specs.Plans.{IsResolvedIfAny, TellsOf}
 use Rattle.cdi_numbered_plans.specs.declared.numbering.Numbering.{Numbering}
@@ -22,7 +26,8 @@ use Rattle.cdi_plans.specs.declared.plan.Step.{Step}
 use Rattle.cdi_resolve.specs.Filters.{Candidates, enabled_of}
 use Rattle.cdi_resolve.specs.declared.resolution.Resolution.{Resolution}
 use Rattle.cdi_run_tables.specs.Asked.{AreTold}
-use Rattle.cdi_run_tables.specs.Machine.{machine_kind, method_in, resolution_of, without_chain}
+use Rattle.cdi_run_tables.specs.Interceptors.{plan_of}
+use Rattle.cdi_run_tables.specs.Machine.{machine_interceptor, machine_kind, method_in, resolution_of, without_chain}
 use Rattle.cdi_run_tables.specs.Managed.{injected, managed_of}
 use Rattle.cdi_run_tables.specs.Numbered.{has_few_beans, machine_resolve}
 use Rattle.cdi_run_tables.specs.Planned.{plan_tables}
@@ -86,6 +91,7 @@ pub record IsBeanIndex (t : RunParts) (b : PlannedBean) (i : BeanIndex) : Type 0
   pub methods : AreMethodsOf (id_in t.ids) b.plan i.methods
   pub injected : AreInjectedOf t b.plan i.injected
   pub numbered : IsNumberedOf t b.plan i.numbered
+  pub business : AreMethodsBy (id_in t.ids) b.plan i.business
 
 -- so if there is a bean, and else there is none
 abbrev pub IsIndexAt : RunParts → Option PlannedBean → Option BeanIndex → Type 0
@@ -107,13 +113,26 @@ abbrev pub interceptor_resolutions : RunParts → EnabledInterceptor → List Re
 interceptor_resolutions t j =
     field_resolutions t (slice_get t.deployment.interceptors j.index)
 
+-- the steps by which an instance of an interceptor is created, with each point resolved
+pub record AreStepsOf (t : RunParts) (j : Option Interceptor) (made : List LifeStep)
+    : Type 0 where
+  pub tells :
+      has_few_beans t ≡ true
+      → map step_told made ≡ plan_of (option_map (machine_interceptor (id_in t.ids)) j)
+  pub resolved : All (IsResolvedStep (machine_resolve t)) made
+
+-- those of an enabled interceptor
+abbrev pub ArePlannedBy : RunParts → EnabledInterceptor → List LifeStep → Type 0
+ArePlannedBy t j made = AreStepsOf t (slice_get t.deployment.interceptors j.index) made
+
 -- what is looked up of events
 abbrev pub AreEventsOf : RunParts → EventTables → Type 0
 AreEventsOf t events =
     AreEventTables (plan_tables t.deployment t.tables) t.tables t.ids events
 
 -- The names that the deployment declares and those of its checked exceptions; what is looked up of its events; the methods, the
--- injected fields and the numbered plan of each bean; what the injected fields of each enabled interceptor resolve to.
+-- injected fields and the numbered plan of each bean; what the injected fields of each enabled interceptor resolve to, and the steps
+-- by which an instance of it is created.
 pub record IsIndexOf (t : RunParts) (i : RunIndex) : Type 0 where
   pub names : HasDeclared t.deployment i.names
   pub checked : HasNames (is_checked t.deployment.exceptions) i.checked
@@ -121,4 +140,6 @@ pub record IsIndexOf (t : RunParts) (i : RunIndex) : Type 0 where
   pub beans : AllZip (IsBeanIndex t) t.beans i.beans
   pub interceptors :
       i.interceptors ≡ map (interceptor_resolutions t) t.tables.chains.interceptors
+  pub interceptor_steps :
+      AllZip (ArePlannedBy t) t.tables.chains.interceptors i.interceptor_steps
   pub asked : AreTold t i.asked

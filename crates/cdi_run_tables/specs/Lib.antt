@@ -6,5 +6,5 @@ pub mod Managed
 pub mod Numbered
 pub mod Observers
 pub mod Planned
-pub mod Served
 pub mod Sizes
+pub mod Texts

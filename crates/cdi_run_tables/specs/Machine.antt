@@ -1,7 +1,6 @@
 -- What the machine asks of a deployment, answered from its tables.
 use Rattle.std.specs.Prelude.{ℕ, ◌&&◌, List, map, filter, Bool, not, Option, None, option_map, option_and_then, slice_get, if◌then◌else◌}
 use Rattle.std.specs.List.{filter_map}
-use Rattle.cdi_base.specs.Maps.{at}
 use Rattle.cdi_base.specs.declared.uses.Use.{Use}
 use Rattle.cdi_bean_check.specs.Qualifiers.{full_uses}
 use Rattle.cdi_beans.specs.declared.bean.Bean.{Bean}
@@ -18,11 +17,9 @@ use Rattle.cdi_deployment.specs.declared.deployment.Interceptor.{Interceptor}
 use Rattle.cdi_deployment.specs.declared.deployment.Observer.{Observer}
 use Rattle.cdi_machine.specs.Words.{Name, Asked}
 use Rattle.cdi_machine.specs.Tables as machine
-pub use Rattle.cdi_numbered_plans.specs.Machine.{asked_by, body_number, code_with, does_something, first_values, has_none, is_idle, machine_code, machine_kind, machine_lifecycle, machine_managed, machine_member, machine_method, machine_methods, machine_resolution, machine_source, machine_step, machine_steps, method_with, product_with}
+pub use Rattle.cdi_numbered_plans.specs.Machine.{asked_by, body_number, code_with, does_something, first_values, has_none, is_idle, machine_code, machine_kind, machine_lifecycle, machine_managed, machine_member, machine_method, machine_methods, machine_resolution, machine_source, machine_step, machine_steps, method_in, method_with, product_with}
 use Rattle.cdi_name_check.specs.UnknownName.{is_type, are_qualifiers}
 use Rattle.cdi_plans.specs.Observers.{observer_of, observer_method}
-use Rattle.cdi_plans.specs.declared.plan.Plan.{Plan}
-use Rattle.cdi_plans.specs.declared.plan.Plan.TheVariants as plans
 use Rattle.cdi_resolve.specs.Filters.{enabled_of, is_enabled}
 use Rattle.cdi_resolve.specs.Resolution.{resolution}
 use Rattle.cdi_resolve.specs.declared.resolution.Resolution.{Resolution}
@@ -55,11 +52,6 @@ AreIdsOf entries t = AreIdsIn entries t.deployment t.ids
 abbrev pub bean_at : RunTables → ℕ → Option machine.Bean
 bean_at t b =
     option_and_then (machine_bean (id_of t) t.tables.resolver.beans) (slice_get t.beans b)
-
--- the method of a name that a plan has
-abbrev pub method_in : (ℕ → Option ℕ) → Plan → Name → Option machine.Method
-method_in ids (plans.Managed p) name = at (machine_methods ids p.methods) name
-method_in ids (plans.Product p) name = None
 
 -- the method of a bean, as its plan has it
 abbrev pub method_of : RunTables → ℕ → Name → Option machine.Method

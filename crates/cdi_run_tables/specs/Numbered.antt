@@ -5,6 +5,7 @@ use Rattle.cdi_machine.specs.Tables as machine
 use Rattle.cdi_machine.specs.Words.{Asked}
 use Rattle.cdi_numbered_plans.specs.Numbers.{has_numbers}
 use Rattle.cdi_run_tables.specs.Machine.{bean_at, machine_resolution, resolution_of}
+use Rattle.cdi_run_tables.specs.Sizes.{has_few_fields}
 use Rattle.cdi_run_tables.specs.declared.planned.PlannedBean.{PlannedBean}
 use Rattle.cdi_run_tables.specs.declared.tables.RunTables.{RunTables}
 
@@ -12,9 +13,11 @@ use Rattle.cdi_run_tables.specs.declared.tables.RunTables.{RunTables}
 abbrev pub has_few_beans : RunTables → Bool
 has_few_beans t = nat_le (length t.tables.resolver.beans) (2 ^ 32)
 
--- what each plan names has numbers of 32 bits
+-- what each plan names, and the injected fields of each interceptor, have numbers of 32 bits
 abbrev pub is_numbered : RunTables → Bool
-is_numbered t = has_few_beans t && list_all (λ (b : PlannedBean). has_numbers b.plan) t.beans
+is_numbered t =
+    has_few_beans t && list_all (λ (b : PlannedBean). has_numbers b.plan) t.beans
+    && list_all has_few_fields t.deployment.interceptors
 
 -- what a type and qualifiers resolve to, as the machine is told
 abbrev pub machine_resolve : RunTables → Asked → machine.Resolution

@@ -7,6 +7,7 @@ ghost use Rattle.cdi_run_tables.specs.Index as spec;
 use crate::asked::CommandAnswers;
 use crate::exceptions::checked_exceptions;
 use crate::injected::{Injected, injected_by};
+use crate::interceptor_steps::all_steps;
 use crate::interceptors::all_resolutions;
 use crate::methods::methods_of;
 use crate::parts::RunParts;
@@ -15,8 +16,9 @@ use crate::tables::Method;
 use cdi_base::{Name, Seq};
 use cdi_cache::Lookup;
 use cdi_event_tables::EventTables;
+use cdi_life::{Method as BusinessMethod, Step};
 use cdi_name_check::NameSets;
-use cdi_numbered_plans::{NumberedPlan, Numbering};
+use cdi_numbered_plans::{NumberedPlan, Numbering, methods_by};
 use cdi_plans::Plan;
 use cdi_resolve::{Resolution, Resolver};
 use std::alloc::{AllocError, Global};
@@ -34,6 +36,8 @@ pub(crate) struct BeanIndex {
     pub(crate) injected: Seq<Injected>,
     /// Its plan in the words of an instance's life, if what that names has numbers.
     pub(crate) numbered: Option<NumberedPlan>,
+    /// Its methods with their chains; none if what the plan names has no numbers.
+    pub(crate) business: HashMap<Name, BusinessMethod>,
 }
 
 /// What is looked up of a deployment.
@@ -45,6 +49,8 @@ pub(crate) struct RunIndex {
     pub(crate) beans: Seq<BeanIndex>,
     /// What the injected fields of each enabled interceptor resolve to.
     pub(crate) interceptors: Seq<Seq<Resolution>>,
+    /// The steps by which an instance of each enabled interceptor is created; none if there are too many beans to be numbered.
+    pub(crate) interceptor_steps: Seq<Seq<Step>>,
     /// What the last commands asked for resolves to.
     pub(crate) asked: CommandAnswers,
 }
@@ -58,6 +64,7 @@ impl Drop for RunIndex {
             events: _events,
             beans: _beans,
             interceptors: _interceptors,
+            interceptor_steps: _interceptor_steps,
             asked: _asked,
         } = self;
     }
@@ -97,10 +104,12 @@ impl BeanIndex {
         let methods = methods_of(alloc, &bean.plan, &parts.ids)?;
         let injected = injected_of(alloc, parts, lookup, &bean.plan)?;
         let numbered = NumberedPlan::build(alloc, numbering, lookup, &bean.plan)?;
+        let business = methods_by(alloc, &parts.ids, &bean.plan)?;
         Ok(BeanIndex {
             methods,
             injected,
             numbered,
+            business,
         })
     }
 }
@@ -152,6 +161,7 @@ impl RunIndex {
             events,
             beans: bean_indices(alloc, parts, &numbering, &mut lookup)?,
             interceptors: all_resolutions(alloc, parts, &mut lookup)?,
+            interceptor_steps: all_steps(alloc, parts, &numbering, &mut lookup)?,
             asked: CommandAnswers::new(alloc)?,
         })
     }

@@ -8,11 +8,12 @@ ghost use Rattle.cdi_run_tables.specs.Machine as machine;
 
 use crate::parts::RunParts;
 use crate::tables::RunTables;
-use cdi_base::{Fields, InterceptorMethod, Name, Seq};
+use cdi_base::{Fields, InterceptorMethod, Name, Place, Seq};
 use cdi_beans::EnabledInterceptor;
 use cdi_bodies::BodyId;
 use cdi_cache::Lookup;
 use cdi_deployment::{InjectedField, Interceptor};
+use cdi_life::Code;
 use cdi_numbered_plans::{first_values, resolutions_at};
 use cdi_resolve::{Resolution, Resolver};
 use std::alloc::{AllocError, Global};
@@ -128,6 +129,26 @@ impl RunTables {
         let resolutions = self.index.interceptors.get(place)?;
         let resolution = *resolutions.get(at)?;
         Some(InterceptorInjection { field, resolution })
+    }
+
+    /// The method of a role of the enabled interceptor at a place, if it has one (Jakarta Interceptors 2.1, *Interceptor Methods*). A body
+    /// that isn't registered has the number of no body.
+    pub fn interceptor_method(&self, place: usize, role: InterceptorMethod) -> Option<Code>
+        ensures { result ≡ spec.method_code self.now place role }
+    {
+        let declared = self.interceptor(place)?;
+        let name = method_name(declared, role)?;
+        let body = match self.parts.ids.id(name) {
+            Some(body) => body,
+            None => BodyId::unregistered(),
+        };
+        Some(Code::new(
+            Place::Interceptor {
+                interceptor: declared.name,
+                method: role,
+            },
+            body,
+        ))
     }
 
     /// The body of a method of the enabled interceptor at a place, if it has the method and the body is registered.

@@ -9,6 +9,7 @@ mod exceptions;
 mod firing;
 mod index;
 mod injected;
+mod interceptor_steps;
 mod interceptors;
 mod lookups;
 mod managed;
@@ -16,7 +17,6 @@ mod methods;
 mod numbered;
 pub mod parts;
 pub mod planned;
-mod served;
 mod sizes;
 pub mod tables;
 

@@ -2,16 +2,18 @@
 ghost use Rattle.std.specs.Prelude.{◌≡◌, length, option_map, slice_get, IfSome, IsTrue};
 ghost use Rattle.std.specs.Option.{option_copied};
 ghost use Rattle.cdi_life.specs.Resolved.{IsResolvedProduct, IsResolvedStep};
-ghost use Rattle.cdi_life.specs.Told.{lifecycle_told, product_told, step_told};
+ghost use Rattle.cdi_life.specs.Told.{lifecycle_told, method_told, product_told, step_told};
 ghost use Rattle.std.specs.List.{list_all};
 ghost use Rattle.cdi_numbered_plans.specs.Numbers as numbers;
 ghost use Rattle.cdi_numbered_plans.specs.Plans.{IsResolvedIfAny, TellsOf};
-ghost use Rattle.cdi_run_tables.specs.Machine.{machine_tables};
+ghost use Rattle.cdi_run_tables.specs.Machine.{machine_tables, method_of};
 ghost use Rattle.cdi_run_tables.specs.Numbered as spec;
 
 use crate::planned::PlannedBean;
+use crate::sizes::have_few_fields;
 use crate::tables::RunTables;
-use cdi_life::{Lifecycle, Product, Step};
+use cdi_base::Name;
+use cdi_life::{Lifecycle, Method, Product, Step};
 use cdi_numbered_plans::{NumberedPlan, has_numbers};
 
 fn have_numbers(beans: &[PlannedBean]) -> bool
@@ -21,12 +23,14 @@ fn have_numbers(beans: &[PlannedBean]) -> bool
 }
 
 impl RunTables {
-    /// Whether what the plans of the beans name has numbers of 32 bits: the beans, the steps of each plan, and the interceptors.
+    /// Whether what the plans of the beans name has numbers of 32 bits: the beans, the steps of each plan, the interceptors, and the injected
+    /// fields of each of these.
     pub fn is_numbered(&self) -> bool
         ensures { result ≡ spec.is_numbered self.now }
     {
         self.parts.tables.resolver.beans().len() <= 4_294_967_296
             && have_numbers(self.parts.beans.as_slice())
+            && have_few_fields(self.parts.deployment.interceptors.as_slice())
     }
 
     /// The plan of the bean with an index, in the words of an instance's life.
@@ -73,6 +77,18 @@ impl RunTables {
             ≡ spec.pre_destroy_in (spec.kind_at self.now bean) }
     {
         self.numbered(bean)?.pre_destroy()
+    }
+
+    /// A business method of the bean with an index (Jakarta CDI 4.0, *Container invocations and interception*), if its body is registered;
+    /// a product has none. What the plans name has to be numbered ([`RunTables::is_numbered`]).
+    pub fn business_method(&self, bean: u32, name: Name) -> Option<&Method>
+        requires { IsTrue (spec.is_numbered self.now) }
+        ensures { option_map (λ m. method_told m.now) result ≡ method_of self.now bean name }
+    {
+        match self.bean_index(bean as usize) {
+            Some(index) => index.business.get(&name),
+            None => None,
+        }
     }
 
     /// What an instance of the bean with an index comes from, and what disposes of it (Jakarta CDI 4.0, *Lifecycle of producer methods*),

@@ -27,7 +27,7 @@ fn have_few_injections(beans: &[PlannedBean]) -> bool
     beans.iter().all(has_few_injections)
 }
 
-fn have_few_fields(interceptors: &[Interceptor]) -> bool
+pub(crate) fn have_few_fields(interceptors: &[Interceptor]) -> bool
     ensures { result ≡ list_all spec.has_few_fields interceptors.now }
 {
     interceptors

@@ -97,6 +97,27 @@ impl RunTables {
         &self.parts.deployment
     }
 
+    /// The tables of the bean list.
+    pub fn bean_tables(&self) -> &BeanTables
+        ensures { result.now ≡ self.now.tables }
+    {
+        &self.parts.tables
+    }
+
+    /// The beans in the order of the bean list, enabled or not, with their plans.
+    pub fn beans(&self) -> &[PlannedBean]
+        ensures { result.now ≡ self.now.beans }
+    {
+        self.parts.beans.as_slice()
+    }
+
+    /// The registered body of a name, if the deployment names it and it is registered.
+    pub fn body(&self, name: Name) -> Option<BodyId>
+        ensures { result ≡ spec.id_of self.now name }
+    {
+        self.parts.ids.id(name)
+    }
+
     /// The bean with an index in the bean list, enabled or not, with its plan.
     pub fn bean(&self, bean: usize) -> Option<&PlannedBean>
         ensures { option_map (λ b. b.now) result ≡ slice_get self.now.beans bean }

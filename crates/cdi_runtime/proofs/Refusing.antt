@@ -14,22 +14,17 @@ use Rattle.cdi_plans.specs.declared.plan.Plan.{Plan}
 use Rattle.cdi_resolve.specs.declared.resolution.Resolution.{Resolution}
 use Rattle.cdi_resolve.specs.declared.resolution.Resolution.TheVariants.{One, Nothing, Many}
 use Rattle.cdi_run_tables.specs.Machine as tables
-use Rattle.cdi_run_tables.specs.Machine.{bean_at, id_of, is_known, machine_resolution, machine_tables, method_of, resolution_of, without_chain}
+use Rattle.cdi_run_tables.specs.Machine.{bean_at, id_of, is_known, machine_resolution, machine_tables, method_of, resolution_of}
 use Rattle.cdi_run_tables.specs.declared.planned.PlannedBean.{PlannedBean}
 use Rattle.cdi_run_tables.specs.declared.tables.RunTables.{RunTables}
 use Rattle.cdi_host.specs.Asked.{asked_for}
-use Rattle.cdi_runtime.specs.Refusals.{method_refusal, bean_refusal, call_refusal, contexts_refusal, otherwise, with_no_chain}
+use Rattle.cdi_runtime.specs.Refusals.{method_refusal, bean_refusal, call_refusal, contexts_refusal, otherwise}
 use Rattle.cdi_runtime.specs.Standing.{IsServable}
 use Rattle.cdi_steps.specs.Known.{KnownJob}
 use Rattle.cdi_steps.specs.Words.{command_of}
 use Rattle.cdi_steps.specs.declared.task.Job.{Job}
 use Rattle.cdi_steps.specs.declared.task.Job.TheVariants as jobs
 use Rattle.cdi_runtime.proofs.Served.{at_index}
-
--- what a method refuses doesn't look at its chain
-pub method_refused : (o : Option machine.Method) (count : ℕ) → method_refusal (option_map with_no_chain (option_map without_chain o)) count ≡ method_refusal o count
-method_refused None count = refl
-method_refused (Some m) count = refl
 
 module _ (t : RunTables) (h : IsServable t) (type : ℕ) (uses : List Use) (name count : ℕ) where
   bean_refused : (r : Resolution) → resolution_of t type uses ≡ r
@@ -38,8 +33,8 @@ module _ (t : RunTables) (h : IsServable t) (type : ℕ) (uses : List Use) (name
   bean_refused Many e = refl
   bean_refused (One b) e =
       at_index t h.served
-      (λ x y z. IsSome y → first_that_holds (call_refusals y name count) ≡ method_refusal (option_and_then (λ (bean : PlannedBean). tables.method_in (id_of t) bean.plan name) x) count) b
-      (λ some. absurd cc) (λ bean s some. ap (λ (plan : Plan). method_refusal (tables.method_in (id_of t) plan name) count) (sym s.is))
+      (λ x y. IsSome y → first_that_holds (call_refusals y name count) ≡ method_refusal (option_and_then (λ (bean : PlannedBean). tables.method_in (id_of t) bean.plan name) x) count) b
+      (λ some. absurd cc) (λ bean p e some. ap (λ (plan : Plan). method_refusal (tables.method_in (id_of t) plan name) count) (sym e))
       (h.there (asked_for type uses) b (ap machine_resolution e))
 
   by_name : (known : Bool)

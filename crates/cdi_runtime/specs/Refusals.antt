@@ -11,7 +11,6 @@ use Rattle.cdi_machine.specs.Container.{no_method, refused_by_contexts, wrong_co
 use Rattle.cdi_resolve.specs.declared.resolution.Resolution.{Resolution}
 use Rattle.cdi_resolve.specs.declared.resolution.Resolution.TheVariants.{One}
 use Rattle.cdi_run_tables.specs.Machine.{is_known, method_of, resolution_of}
-use Rattle.cdi_run_tables.specs.declared.tables.Method.{Method as Found}
 use Rattle.cdi_run_tables.specs.declared.tables.RunTables.{RunTables}
 
 -- a call of a method with so many values
@@ -19,11 +18,6 @@ abbrev pub method_refusal : Option Method → ℕ → Option Refusal
 method_refusal m count =
     first_that_holds
     ((no_method m, refusals.NoMethod) ∷ (wrong_count m count, refusals.WrongCount) ∷ [])
-
--- a method as the tables hand it out
-abbrev pub with_no_chain : Found → Method
-with_no_chain m =
-    record { code = record { place = m.place; body = m.body }; count = m.count; chain = [] }
 
 -- a call of a method of what a type and qualifiers resolve to
 abbrev pub bean_refusal : RunTables → Resolution → ℕ → ℕ → Option Refusal

@@ -6,22 +6,23 @@ ghost use Rattle.cdi_machine.specs.Container as machine;
 ghost use Rattle.cdi_run_tables.specs.Machine.{machine_tables};
 ghost use Rattle.cdi_steps.specs.Known.{KnownJob};
 ghost use Rattle.cdi_steps.specs.Words.{command_of};
-ghost use Rattle.cdi_runtime.specs.Standing.{IsServable};
-ghost use Rattle.cdi_runtime.specs.Refusals.{bean_refusal, call_refusal, contexts_refusal, method_refusal, with_no_chain};
+ghost use Rattle.cdi_life.specs.Told.{method_told};
+ghost use Rattle.cdi_runtime.specs.Standing.{HasNumber, IsServable};
+ghost use Rattle.cdi_runtime.specs.Refusals.{bean_refusal, call_refusal, contexts_refusal, method_refusal};
 
 use crate::runtime::Runtime;
 use crate::served_tables::ServedTables;
 use cdi_base::{Name, Refusal, Text};
+use cdi_host::{Method, Tables};
 use cdi_machine::Driver;
 use cdi_resolve::Resolution;
-use cdi_run_tables::{Method, RunTables};
 use cdi_steps::{BeanCall, Job};
 use cdi_world::World;
 use std::alloc::Global;
 
 /// Why a method that was looked for can't be called with so many values.
-fn refuses_method(method: Option<Method>, count: usize) -> Option<Refusal>
-    ensures { result ≡ method_refusal (option_map with_no_chain method) count }
+fn refuses_method(method: Option<&Method>, count: usize) -> Option<Refusal>
+    ensures { result ≡ method_refusal (option_map (λ m. method_told m.now) method.entry) count }
 {
     let Some(method) = method else {
         return Some(Refusal::NoMethod);
@@ -33,17 +34,17 @@ fn refuses_method(method: Option<Method>, count: usize) -> Option<Refusal>
 }
 
 /// Why a call of a method of what was resolved is refused. What resolves to no bean, or to several, isn't refused: the call throws.
-#[tactic(auto, using(crate::proofs::Refusing::method_refused))]
 fn refuses_resolved(
-    tables: &RunTables,
+    tables: &ServedTables,
     resolution: Resolution,
     method: Name,
     count: usize,
 ) -> Option<Refusal>
+    requires { HasNumber resolution }
     ensures { result ≡ bean_refusal tables.now resolution method count }
 {
     match resolution {
-        Resolution::One(bean) => refuses_method(tables.method(bean, method), count),
+        Resolution::One(bean) => refuses_method(tables.method(bean as u32, method), count),
         Resolution::Nothing | Resolution::Many => None,
     }
 }
@@ -62,12 +63,7 @@ fn refuses_call(alloc: Global, tables: &mut ServedTables, call: &BeanCall) -> Op
         return Some(Refusal::UnknownName);
     }
     let resolution = tables.ask(alloc, call.bean_type, qualifiers);
-    refuses_resolved(
-        tables.run_tables(),
-        resolution,
-        call.method,
-        call.args.len(),
-    )
+    refuses_resolved(tables, resolution, call.method, call.args.len())
 }
 
 /// Why what a command asks for is refused by the contexts, if it is: a request or a session that isn't there, or can't begin.

@@ -1,22 +1,21 @@
 //! The tables of a deployment that is served.
-ghost use Rattle.std.specs.Prelude.{◌≡◌, length, option_map, slice_get, IfSome};
-ghost use Rattle.cdi_run_tables.specs.Machine.{bean_at, interceptor_at, machine_tables};
+ghost use Rattle.std.specs.Prelude.{◌≡◌};
+ghost use Rattle.cdi_run_tables.specs.Machine.{machine_tables};
 ghost use Rattle.cdi_run_tables.specs.Machine.{machine_resolution as machine_told, resolution_of};
-ghost use Rattle.cdi_host.specs.Asked.{interceptor_plan, machine_resolution, machine_step, plan_of};
-ghost use Rattle.cdi_host.specs.Asked.{IsResolvedStep};
+ghost use Rattle.cdi_host.specs.Asked.{machine_resolution};
 ghost use Rattle.cdi_runtime.specs.Standing.{HasNumber, IsServable};
 
-use cdi_base::{Fields, Name, Use};
+use cdi_base::{Fields, InterceptorMethod, Name, Seq, Use};
+use cdi_bodies::BodyId;
 use cdi_host::Tables;
-use cdi_host::beans::{BeanHead, Injection, Method, Resolution, Step};
+use cdi_host::beans::{BeanHead, Code, Lifecycle, Method, Resolution, Step};
 use cdi_resolve::Resolution as Resolved;
 use cdi_run_tables::RunTables;
-use cdi_stacks::Code;
 use cdi_store::Component;
 use std::alloc::{AllocError, Global};
 use std::marker::Model;
 
-/// The tables of a deployment that is served: its beans can be numbered, and what resolves is one of them.
+/// The tables of a deployment that is served: what its plans name is numbered, and what resolves is one of its beans.
 #[derive(Drop)]
 pub struct ServedTables {
     tables: RunTables,
@@ -75,60 +74,6 @@ impl ServedTables {
     }
 }
 
-/// The steps of a creation.
-impl ServedTables {
-    /// How many steps the creation of an instance of a bean has.
-    fn bean_steps(&self, bean: u32) -> u32
-        ensures { length (plan_of (bean_at self.now bean)) ≡ result }
-    {
-        self.tables.injections(bean as usize) as u32
-    }
-
-    /// A step of this creation.
-    fn bean_step(&self, bean: u32, at: u32) -> Option<Step<'_>>
-        ensures found { slice_get (plan_of (bean_at self.now bean)) at
-            ≡ option_map machine_step result }
-        ensures resolved { IfSome result (IsResolvedStep (machine_tables self.now)) }
-    {
-        match self.tables.injection(bean as usize, at as usize) {
-            Some(injection) => Some(Step::Inject(Injection {
-                field: injection.field,
-                bean_type: injection.point.ty,
-                qualifiers: injection.point.quals.as_slice(),
-                resolution: numbered(injection.resolution),
-            })),
-            None => None,
-        }
-    }
-
-    /// How many steps the creation of an instance of an interceptor has.
-    fn interceptor_steps(&self, interceptor: u32) -> u32
-        ensures { length (interceptor_plan (interceptor_at self.now interceptor)) ≡ result }
-    {
-        self.tables.interceptor_injections(interceptor as usize) as u32
-    }
-
-    /// A step of this creation.
-    fn interceptor_step(&self, interceptor: u32, at: u32) -> Option<Step<'_>>
-        ensures found { slice_get (interceptor_plan (interceptor_at self.now interceptor)) at
-            ≡ option_map machine_step result }
-        ensures resolved { IfSome result (IsResolvedStep (machine_tables self.now)) }
-    {
-        match self
-            .tables
-            .interceptor_injection(interceptor as usize, at as usize)
-        {
-            Some(injection) => Some(Step::Inject(Injection {
-                field: injection.field.name,
-                bean_type: injection.field.ty,
-                qualifiers: injection.field.quals.as_slice(),
-                resolution: numbered(injection.resolution),
-            })),
-            None => None,
-        }
-    }
-}
-
 impl Tables for ServedTables {
     ghost tables = { λ t. machine_tables t };
 
@@ -157,34 +102,37 @@ impl Tables for ServedTables {
 
     fn steps(&self, component: Component) -> u32 {
         match component {
-            Component::Bean(bean) => self.bean_steps(bean),
-            Component::Interceptor(interceptor) => self.interceptor_steps(interceptor),
+            Component::Bean(bean) => self.tables.steps(bean),
+            Component::Interceptor(interceptor) => self.tables.interceptor_steps(interceptor),
         }
     }
 
-    fn step(&self, component: Component, at: u32) -> Option<Step<'_>> {
+    fn step(&self, component: Component, at: u32) -> Option<&Step> {
         match component {
-            Component::Bean(bean) => self.bean_step(bean, at),
-            Component::Interceptor(interceptor) => self.interceptor_step(interceptor, at),
+            Component::Bean(bean) => self.tables.step(bean, at),
+            Component::Interceptor(interceptor) => self.tables.interceptor_step(interceptor, at),
         }
     }
 
-    fn pre_destroy(&self, bean: u32) -> Option<&[Code]> {
-        match self.tables.bean(bean as usize) {
-            Some(_bean) => Some(&[]),
-            None => None,
-        }
+    fn pre_destroy(&self, bean: u32) -> Option<&Lifecycle> {
+        self.tables.pre_destroy(bean)
     }
 
-    fn method(&self, bean: u32, name: Name) -> Option<Method> {
-        match self.tables.method(bean as usize, name) {
-            Some(method) => Some(Method {
-                place: method.place,
-                count: method.count,
-                body: method.body,
-            }),
-            None => None,
-        }
+    fn method(&self, bean: u32, name: Name) -> Option<&Method> {
+        self.tables.business_method(bean, name)
+    }
+
+    fn interceptor_method(&self, interceptor: u32, role: InterceptorMethod) -> Option<Code> {
+        self.tables.interceptor_method(interceptor as usize, role)
+    }
+
+    fn lookup(&self, body: BodyId, lookup: u32) -> Option<Resolution> {
+        let point = self.tables.lookup(body, lookup as usize)?;
+        Some(self.resolve(point.bean_type, point.qualifiers.as_slice()))
+    }
+
+    fn written(&self, alloc: Global, qualifiers: &[Use]) -> Result<Seq<Use>, AllocError> {
+        self.tables.written(alloc, qualifiers)
     }
 
     fn resolve(&self, bean_type: Name, qualifiers: &[Use]) -> Resolution {

@@ -13,7 +13,7 @@ use Rattle.cdi_deployment.specs.declared.deployment.Deployment.{Deployment}
 use Rattle.cdi_deployment.specs.declared.deployment.Exception.{Exception}
 use Rattle.cdi_prepare.specs.Ready.{Readied, readied_at}
 use Rattle.cdi_stage.specs.declared.stage.Stage.{Stage}
-use Rattle.cdi_run_tables.specs.Served.{has_text, has_texts}
+use Rattle.cdi_run_tables.specs.Texts.{has_text, has_texts}
 use Rattle.cdi_serving.specs.Facts.{HasFacts}
 use Rattle.cdi_serving.proofs.Each.{all_pass}
 use Rattle.cdi_serving.proofs.KeptTexts.{names-grow}

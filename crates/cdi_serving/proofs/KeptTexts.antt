@@ -14,7 +14,7 @@ use Rattle.cdi_form.specs.Keys.{kind_of}
 use Rattle.serde_json.specs.Data.{Data, null, boolean, number, string, array, object, Items, no_items, item, Members, no_members, member}
 use Rattle.cdi_deploy.specs.declared.fault.ReadFault.{ReadFault}
 use Rattle.cdi_deploy.specs.Naming.{Table, added, text_added, keys_added, added_at, names_added, items_added, members_added}
-use Rattle.cdi_run_tables.specs.Served.{has_text}
+use Rattle.cdi_run_tables.specs.Texts.{has_text}
 
 -- a text that a table has stays in those that extend it
 pub text-stays : (names after : List (List ℕ)) (n : ℕ) → Extends names after → n < length names

@@ -2,12 +2,6 @@ pub mod Keys
 pub mod KeptTexts
 pub mod Words
 pub mod Parts
-pub mod ReadValues
-pub mod Fields
-pub mod StepKinds
-pub mod Actions
-pub mod Shapes
-pub mod Scripts
 pub mod Each
 pub mod Lineages
 pub mod Lines
@@ -20,6 +14,7 @@ pub mod Chains
 pub mod Injections
 pub mod ServedBeans
 pub mod ServedPlans
+pub mod PlainPlans
 pub mod ServedTables
 pub mod SmallTables
 pub mod Readied

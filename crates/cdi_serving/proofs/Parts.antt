@@ -24,7 +24,7 @@ use Rattle.cdi_deploy.specs.Parts.{text_of, list_of, scope_of}
 use Rattle.cdi_deploy.specs.declared.fault.ReadFault.{ReadFault}
 use Rattle.cdi_deploy.specs.Naming.{Table}
 use Rattle.cdi_deploy.specs.Reading.{or_not_json, root, or_shape, table_of, within_limits, lists_at, deployment_at, is_too_long, read_at, deployment_in}
-use Rattle.cdi_run_tables.specs.Served.{has_text}
+use Rattle.cdi_run_tables.specs.Texts.{has_text}
 use Rattle.cdi_serving.specs.Parts.{IsMethod, HasServedParts, AreServedParts, is_served_scope}
 use Rattle.cdi_serving.proofs.Keys.{nothing-at, form-at, list-at, object-at}
 use Rattle.cdi_serving.proofs.KeptTexts.{text-stays, names-grow}

@@ -17,6 +17,7 @@ use Rattle.cdi_plans.specs.declared.plan.ManagedPlan.{ManagedPlan}
 use Rattle.cdi_plans.specs.declared.plan.Plan.{Plan}
 use Rattle.cdi_run_tables.specs.Managed.{injections_of, managed_of}
 use Rattle.cdi_run_tables.specs.Planned.{IsPlanned, IsTabled, plan_tables}
+use Rattle.cdi_run_tables.specs.Numbered.{has_few_beans}
 use Rattle.cdi_run_tables.specs.Sizes.{has_few_fields, has_few_injections, is_small}
 use Rattle.cdi_run_tables.specs.declared.planned.PlannedBean.{PlannedBean}
 use Rattle.cdi_run_tables.specs.declared.tables.RunTables.{RunTables}
@@ -68,25 +69,32 @@ module _ (t : PlanTables) (few : AllByRecursion HasFew t.classes)
       of_planned beans all (each_item (λ b. Unit {0}) (λ b. tt) beans) are)
 
 -- as many beans as are counted, which are not too many
-bean_number : (t : RunTables) → IsTabled t → length t.beans ≤ 4096
-bean_number t tabled =
+listed_number : (t : RunTables) → IsTabled t → length t.tables.resolver.beans ≤ 4096
+listed_number t tabled =
     let d : Deployment = t.deployment in
     let list : BeanList = tabled.tables.list in
     let made = tabled.tables.made in
     let beans : t.tables.resolver.beans ≡ list.beans =
     ap (λ (k : BeanTables). k.resolver.beans) tabled.tables.are.are in
-    let planned : length t.beans ≡ length t.tables.resolver.beans =
-    AllZip-long (IsPlanned (plan_tables d t.tables)) t.tables.resolver.beans t.beans tabled.planned
-    in
     let listed : length list.beans ≡ length (flat_map sources_in d.classes) =
     AllZip-long (IsBeanOf d made.qualifiers) (flat_map sources_in d.classes) list.beans
     made.is.beans in
     let counted : length (flat_map sources_in d.classes) ≡ bean_count d.classes =
     as_many d.classes in
     let few : bean_count d.classes ≤ 4096 = few_beans d made.qualifiers made.beans_well in
-    let same : length t.beans ≡ bean_count d.classes =
-    planned ∙ ap length beans ∙ listed ∙ counted in
+    let same : length t.tables.resolver.beans ≡ bean_count d.classes =
+    ap length beans ∙ listed ∙ counted in
     omega (arith, same, few)
+
+bean_number : (t : RunTables) → IsTabled t → length t.beans ≤ 4096
+bean_number t tabled =
+    let planned : length t.beans ≡ length t.tables.resolver.beans =
+    AllZip-long (IsPlanned (plan_tables t.deployment t.tables)) t.tables.resolver.beans t.beans tabled.planned
+    in
+    omega (arith, planned, listed_number t tabled)
+
+pub few_resolved : (t : RunTables) → IsTabled t → has_few_beans t ≡ true
+few_resolved t tabled = le-leb (length t.tables.resolver.beans) (2 ^ 32) (omega (arith, listed_number t tabled))
 
 pub tables_are_small : (t : RunTables) → IsTabled t → IsTrue (is_within t.deployment)
     → is_small t ≡ true

@@ -9,7 +9,7 @@ use Rattle.cdi_deployment.specs.declared.deployment.Member.{Member}
 use Rattle.cdi_deployment.specs.declared.deployment.Member.TheVariants as members
 use Rattle.cdi_base.specs.declared.scope.Scope.{Scope}
 use Rattle.cdi_base.specs.declared.scope.Scope.TheVariants as scopes
-use Rattle.cdi_run_tables.specs.Served.{has_text}
+use Rattle.cdi_run_tables.specs.Texts.{has_text}
 
 -- no command begins a request or a session
 abbrev pub is_served_scope : Scope → Bool

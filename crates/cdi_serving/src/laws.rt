@@ -3,9 +3,9 @@ ghost use Rattle.std.specs.Prelude.{◌≡◌, ℕ, List, IfOk, IsTrue, true};
 ghost use Rattle.cdi_deploy.specs.Reading.{deployment_in};
 ghost use Rattle.cdi_deployment.specs.Limits.{is_within};
 ghost use Rattle.cdi_prepare.specs.Ready.{readied_at};
-ghost use Rattle.cdi_prepare.specs.Scripts.{registered, shape_under};
 ghost use Rattle.cdi_run_tables.specs.Planned.{IsTabled};
-ghost use Rattle.cdi_run_tables.specs.Served.{has_texts, is_served, is_served_body};
+ghost use Rattle.cdi_run_tables.specs.Texts.{has_texts};
+ghost use Rattle.cdi_served.specs.Served.{serves};
 ghost use Rattle.cdi_run_tables.specs.Sizes.{is_small};
 ghost use Rattle.cdi_run_tables.specs.declared.tables.RunTables.{RunTables};
 ghost use Rattle.cdi_serving.specs.AllServed.{IsAllServed};
@@ -40,15 +40,11 @@ pub fn law_bad_scripts_have_names()
     ensures { BadScriptsHaveNames }
 {}
 
-/// The scripts of a deployment that is read at the stage that is served name only what is served.
-pub fn law_reads_served_scripts()
-    ensures { (bytes : List ℕ) → IfOk (readied_at served bytes) (λ r.
-        (name : ℕ) → is_served_body (shape_under (registered r.scripts) name) ≡ true) }
-{}
-
-/// The tables of a deployment that has only parts that are served are served.
+/// The tables of a deployment that has only parts that are served, and whose lists are within their limits, are served: what they
+/// name has numbers, and but for methods no body is named.
 pub fn law_tables_are_served()
-    ensures { (t : RunTables) → IsTabled t → AreServedParts t.deployment → is_served t ≡ true }
+    ensures { (t : RunTables) → IsTabled t → AreServedParts t.deployment
+        → IsTrue (is_within t.deployment) → serves t ≡ true }
 {}
 
 /// The tables of a deployment whose lists are within their limits are small: at most 4,096 beans, and of each at most 4,294,967,295

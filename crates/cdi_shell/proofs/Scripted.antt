@@ -60,9 +60,6 @@ module _ {X : Type 0} {F : X → Type 0} {g : _} (d : Deployment) (es : List (En
   problems_with : (problems : List Problem) → AreProblemsOf d (shape_of es) problems → AreProblemsWith ss d problems
   problems_with problems are = record { shape_of = shape_of es; shapes = shapes; are = are }
 
-  serves_with : (t : RunTables) (b : Bool) → serves (shape_of es) t ≡ b → serves (shape_under ss) t ≡ b
-  serves_with t b are = ap (λ (f : ℕ → Option Shape). serves f t) (λ i name. sym (shapes name) i) ∙ are
-
   tables_with : (t : RunTables) → container.AreTablesWith d es t → AreTablesWith ss d t
   tables_with t a =
       record {
@@ -78,7 +75,7 @@ module _ {X : Type 0} {F : X → Type 0} {g : _} (d : Deployment) (es : List (En
   -- a deployment that is served isn't told to be unserved
   pub refusable : IsServedWith ss d → (u : OrMemory Unaccepted) → IsUnaccepted d es u → IsRefusable u
   refusable served (errors.Fault (reasons.Problems names problems)) told = tt
-  refusable served (errors.Fault reasons.Unserved) told = cc (served told.tables (tables_with told.tables told.are), serves_with told.tables false told.unserved)
+  refusable served (errors.Fault reasons.Unserved) told = cc (served told.tables (tables_with told.tables told.are), told.unserved)
   refusable served errors.Memory told = tt
 
 module _ {X : Type 0} {F : X → Type 0} {g : _} (depth ticks : ℕ) (d : Deployment) (es : List (Entry X F g)) (ss : List NamedScript) (streams : Streams) (e : Ending) (h : AreBodiesOf es ss) where

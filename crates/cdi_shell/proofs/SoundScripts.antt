@@ -13,8 +13,7 @@ use Rattle.cdi_machine.specs.Registered.{legal_of}
 use Rattle.cdi_ledger.specs.Callbacks.{FirstsStandOnce, PlacesOfBodiesAreApart}
 use Rattle.cdi_event_tables.specs.Ids.{is_named, told_of}
 use Rattle.cdi_run_tables.specs.Machine.{AreIdsOf, machine_tables}
-use Rattle.cdi_run_tables.specs.Served.{is_served, serves_shapes}
-use Rattle.cdi_run_tables.specs.Sizes.{is_small}
+use Rattle.cdi_served.proofs.Parts.{parts_of}
 use Rattle.cdi_run_tables.specs.declared.tables.RunTables.{RunTables}
 use Rattle.cdi_site_fit.proofs.Farewells.{farewells_apart}
 use Rattle.cdi_site_fit.proofs.Whole.{whole_fits}
@@ -60,10 +59,7 @@ module _ (ss : List NamedScript) (d : Deployment) (t : RunTables) (none : ArePro
 
   faultless : IsFaultless (stand_ins ss) t
   faultless =
-      let all = served t are in
-      let one = and_parts (is_served t && serves_shapes (shape_under ss) t) (is_small t) all in
-      let two = and_parts (is_served t) (serves_shapes (shape_under ss) t) one.0 in
-      record { tabled = are.tabled; ids = ids_are; lookups = lookups_are; texts = texts_served t two.0; problems = problems }
+      record { tabled = are.tabled; ids = ids_are; lookups = lookups_are; texts = texts_served t (parts_of t (served t are)).served; problems = problems }
 
   pub sound_scripts : IsSound t (legal_by ss)
   sound_scripts =

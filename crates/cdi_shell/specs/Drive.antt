@@ -103,7 +103,7 @@ pub record AreTablesWith (scripts : List NamedScript) (d : Deployment) (t : RunT
 -- all tables of the deployment are served with these scripts as bodies
 abbrev pub IsServedWith : List NamedScript → Deployment → Type 0
 IsServedWith scripts d =
-    (t : RunTables) → AreTablesWith scripts d t → serves (shape_under scripts) t ≡ true
+    (t : RunTables) → AreTablesWith scripts d t → serves t ≡ true
 
 -- A deployment whose bodies are these scripts is run: its problems are written or, if it has none, its container lives, and
 -- whatever it is asked, its runs are sound.

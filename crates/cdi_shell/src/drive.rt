@@ -3,7 +3,8 @@ ghost use Rattle.std.specs.Prelude.{◌≡◌, ◌≤◌, length, Bool, IfOk, On
 ghost use Rattle.cdi_prepare.specs.Scripts.{registered};
 ghost use Rattle.cdi_report.specs.Reports.{problem_lines};
 ghost use Rattle.cdi_run_tables.specs.Machine.{machine_tables};
-ghost use Rattle.cdi_runtime.specs.Standing.{IsServable, KnowsMethods};
+ghost use Rattle.cdi_runtime.specs.Standing.{IsServable};
+ghost use Rattle.cdi_steps.specs.Driving.{Drives as Runs};
 ghost use Rattle.cdi_script.specs.Next.{next_of};
 ghost use Rattle.cdi_shell.specs.Drive as spec;
 ghost use Rattle.cdi_lines.specs.Served.{Blames};
@@ -101,7 +102,7 @@ fn live<R: Source, W: Sink, D: Driver + Drop>(
     input: &mut R,
     output: &mut W,
 ) -> Ending
-    requires knows { KnowsMethods (D.knows driver) (D.legal driver) (machine_tables tables) }
+    requires drives { Runs (machine_tables tables) (D.knows driver) }
     requires servable { IsServable tables }
     ensures lives { spec.Lives limits.depth limits.ticks tables (D.legal driver)
         (record {

@@ -27,7 +27,7 @@ use Rattle.cdi_machine.specs.Tables as machine
 use Rattle.cdi_machine.specs.Words.{Asked}
 use Rattle.cdi_run_tables.specs.Machine.{AreIdsOf, asked_by, asked_by_lookup, lookup_in, lookups_at, machine_tables}
 use Rattle.cdi_run_tables.specs.Planned.{IsTabled}
-use Rattle.cdi_run_tables.specs.Served.{has_texts}
+use Rattle.cdi_run_tables.specs.Texts.{has_texts}
 use Rattle.cdi_run_tables.specs.declared.tables.RunTables.{RunTables}
 use Rattle.cdi_name_check.specs.UnknownName.{is_event_qualifier_use}
 use Rattle.cdi_shape_check.specs.Application.{Application}

@@ -23,7 +23,7 @@ use Rattle.cdi_machine.specs.Tables as machine
 use Rattle.cdi_machine.specs.Words.{Asked}
 use Rattle.cdi_run_tables.specs.Machine.{AreIdsOf, asked_by, body_number, id_of, injection, machine_interceptor, machine_tables}
 use Rattle.cdi_run_tables.specs.Planned.{IsTabled}
-use Rattle.cdi_run_tables.specs.Served.{has_texts}
+use Rattle.cdi_run_tables.specs.Texts.{has_texts}
 use Rattle.cdi_run_tables.specs.declared.tables.RunTables.{RunTables}
 use Rattle.cdi_shape_check.specs.OwnParts.{parts_of_interceptor}
 use Rattle.cdi_shape_check.specs.References.{point_of_field}

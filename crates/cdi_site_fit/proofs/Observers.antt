@@ -35,7 +35,7 @@ use Rattle.cdi_resolve.specs.Filters.{enabled_of, is_enabled}
 use Rattle.cdi_event_tables.specs.Observers.{managed_bean}
 use Rattle.cdi_run_tables.specs.Machine.{AreIdsOf, bean_with, has_none, hearers, id_of, machine_member, machine_observer, machine_tables, observer_of_bean, observer_with, observers_of}
 use Rattle.cdi_run_tables.specs.Planned.{IsTabled}
-use Rattle.cdi_run_tables.specs.Served.{has_texts}
+use Rattle.cdi_run_tables.specs.Texts.{has_texts}
 use Rattle.cdi_run_tables.specs.declared.tables.RunTables.{RunTables}
 use Rattle.cdi_types.specs.Declarations.{declarations_of}
 use Rattle.cdi_worlds_fit.specs.Fits.{FitsManaged, FitsMember, FitsObserver}

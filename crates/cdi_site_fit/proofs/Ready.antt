@@ -42,7 +42,7 @@ use Rattle.cdi_plans.specs.declared.plan.Step.TheVariants as steps
 use Rattle.cdi_resolve.specs.Filters.{enabled_of}
 use Rattle.cdi_run_tables.specs.Machine.{AreIdsOf, asked_by, body_number, does_something, id_of, machine_code, machine_lifecycle, machine_member, machine_step, machine_steps, machine_tables}
 use Rattle.cdi_run_tables.specs.Planned.{IsTabled}
-use Rattle.cdi_run_tables.specs.Served.{has_texts}
+use Rattle.cdi_run_tables.specs.Texts.{has_texts}
 use Rattle.cdi_run_tables.specs.declared.tables.RunTables.{RunTables}
 use Rattle.cdi_ownership.specs.Whose.{IsIn}
 use Rattle.cdi_worlds_fit.specs.Fits.{FitsBody, FitsChain, FitsClass, FitsLifecycle, FitsMember, FitsMethod, FitsRole, FitsStep, FitsSteps, IsThereInterceptor, class_site, intercepted_by, ready_after}

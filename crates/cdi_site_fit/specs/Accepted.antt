@@ -19,7 +19,7 @@ use Rattle.cdi_machine.specs.Words.{Asked}
 use Rattle.cdi_machine.specs.World.{World, at_begin}
 use Rattle.cdi_run_tables.specs.Machine.{AreIdsOf, machine_tables}
 use Rattle.cdi_run_tables.specs.Planned.{IsTabled}
-use Rattle.cdi_run_tables.specs.Served.{has_texts}
+use Rattle.cdi_run_tables.specs.Texts.{has_texts}
 use Rattle.cdi_run_tables.specs.declared.tables.RunTables.{RunTables}
 use Rattle.cdi_worlds_fit.specs.Fits.{Fits, FitsClass}
 

@@ -5,10 +5,13 @@ use Rattle.cdi_store.specs.declared.instance.Component.{Component}
 use Rattle.cdi_store.specs.declared.instance.Owner.{Owner}
 use Rattle.cdi_store.specs.declared.instance.Owner.TheVariants as owners
 use Rattle.cdi_store.specs.declared.instance.Instance.{Instance}
+use Rattle.cdi_store.specs.declared.references.Reference.{Reference}
+use Rattle.cdi_machine.specs.Words.{Name}
 use Rattle.cdi_machine.specs.Tables.{Tables}
 use Rattle.cdi_machine.specs.World.{World, Change, Invocation, after_change, instance_at, below, on_top, for_instance, with_owned, without_owned, without_making, with_instances}
 use Rattle.cdi_store.specs.Live.{with_leaving, with_ready}
-use Rattle.cdi_base.specs.Maps.{without}
+use Rattle.cdi_base.specs.declared.value.Value.{Value}
+use Rattle.cdi_base.specs.Maps.{without, put}
 use Rattle.cdi_steps.specs.Known.{AllInvoked, HasKnownBodies}
 
 -- an instance may leave and a target be invoked in either order
@@ -92,6 +95,20 @@ module _ {t : Tables} where
   reach_invoked {w} h = record { all = by w.invocations h.all }
     where
       by : (vs : List Invocation) → AllByRecursion (HasKnownBodies t) vs → AllByRecursion (HasKnownBodies t) (on_top (λ i. record i { completed = true }) vs)
+      by [] h = tt
+      by (v ∷ vs) h = (record { bodies = h.0.bodies }, h.1)
+
+  pub provide_invoked : (rs : List Reference) {w : World} → AllInvoked t w → AllInvoked t (after_change (Change.Provide rs) w)
+  provide_invoked rs {w} h = record { all = by w.invocations h.all }
+    where
+      by : (vs : List Invocation) → AllByRecursion (HasKnownBodies t) vs → AllByRecursion (HasKnownBodies t) (on_top (λ i. record i { references = rs }) vs)
+      by [] h = tt
+      by (v ∷ vs) h = (record { bodies = h.0.bodies }, h.1)
+
+  pub keep_invoked : (key : Name) (x : Value) {w : World} → AllInvoked t w → AllInvoked t (after_change (Change.Keep key x) w)
+  keep_invoked key x {w} h = record { all = by w.invocations h.all }
+    where
+      by : (vs : List Invocation) → AllByRecursion (HasKnownBodies t) vs → AllByRecursion (HasKnownBodies t) (on_top (λ i. record i { data_of = put key x i.data_of }) vs)
       by [] h = tt
       by (v ∷ vs) h = (record { bodies = h.0.bodies }, h.1)
 

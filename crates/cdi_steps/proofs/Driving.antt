@@ -65,10 +65,8 @@ narrows_trans f g =
 pub narrows_by : {a b : Legal} {A B : Type 0} {k l : ℕ → Type 0} → IsWithin b a → (B → A) → ((body : ℕ) → k body → l body) → Narrows a b A B k l
 narrows_by i f h = record { legal = i; may_end = f; knows = h }
 
--- bodies that gave only what is served still do
-pub still_drives : {t : Tables} {a b : Legal} {A B : Type 0} {k l : ℕ → Type 0} → Narrows a b A B k l → Drives t k a → Drives t l b
-still_drives n d body m =
-    let h = d body m in
-    record { known = n.knows body h.known; served = λ entries fields view a g. h.served entries fields view a (n.legal.act body entries fields view a g) }
+-- it still has the bodies that it had
+pub still_drives : {t : Tables} {a b : Legal} {A B : Type 0} {k l : ℕ → Type 0} → Narrows a b A B k l → Drives t k → Drives t l
+still_drives n d body m = n.knows body (d body m)
 
 pub ruleset driving = (narrows_self, narrows_by)

@@ -1,29 +1,19 @@
 -- What a step does to the driver: it asks it for each act and each pick that is due to be written, and tells it nothing.
-use Rattle.std.specs.Prelude.{ℕ, ◌≡◌, ◌+◌, true}
-use Rattle.cdi_base.specs.declared.act.Act.{Act}
+use Rattle.std.specs.Prelude.{ℕ, ◌+◌}
 use Rattle.cdi_base.specs.declared.entry.Entry.{Entry}
-use Rattle.cdi_bodies.specs.declared.view.View.{View}
-use Rattle.cdi_machine.specs.Words.{Fields}
 use Rattle.cdi_machine.specs.Tables.{Tables}
 use Rattle.cdi_machine.specs.Runs.{Legal}
 use Rattle.cdi_machine.specs.Laws.{IsWithin}
 use Rattle.cdi_machine.specs.declared.driver.Failure.{Failure}
 use Rattle.cdi_machine.specs.declared.driver.Failure.TheVariants.{Memory, Exhausted}
 use Rattle.cdi_machine.specs.Hearing.{Hearing, Ending, HasNotEnded, HasEnded, answers_of}
-use Rattle.cdi_steps.specs.Known.{IsKnownBody, is_served}
+use Rattle.cdi_steps.specs.Known.{IsKnownBody}
 use Rattle.cdi_steps.specs.declared.task.Next.{Next}
 use Rattle.cdi_steps.specs.declared.task.Next.TheVariants as nexts
 
--- the driver has the body, and that gives only acts that the engine carries out
-pub record IsServedBody (IsBody : ℕ → Type 0) (legal : Legal) (body : ℕ) : Type 0 where
-  pub known : IsBody body
-  pub served :
-      (entries : ℕ) (fields : Fields) (view : View) (a : Act)
-      → legal.gives body entries fields view a → is_served a ≡ true
-
--- so for each body of a business method and each callback
-abbrev pub Drives : Tables → (ℕ → Type 0) → Legal → Type 0
-Drives t IsBody legal = (body : ℕ) → IsKnownBody t body → IsServedBody IsBody legal body
+-- the driver has each body that can come to run
+abbrev pub Drives : Tables → (ℕ → Type 0) → Type 0
+Drives t IsBody = (body : ℕ) → IsKnownBody t body → IsBody body
 
 -- the driver was asked, or told: nothing more is legal than before, all bodies are still there, and if it couldn't end it still can't
 pub record Narrows (before then : Legal) (MayEnd StillMayEnd : Type 0) (IsBody StillBody : ℕ → Type 0)

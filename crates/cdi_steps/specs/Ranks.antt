@@ -4,6 +4,7 @@ use Rattle.cdi_steps.specs.declared.task.Call.{Call}
 use Rattle.cdi_steps.specs.declared.task.Call.TheVariants as calls
 use Rattle.cdi_steps.specs.declared.task.Completion.TheVariants as completions
 use Rattle.cdi_steps.specs.declared.task.Outcome.{Outcome}
+use Rattle.cdi_steps.specs.declared.task.Parameters.{Parameters}
 use Rattle.cdi_steps.specs.declared.task.Outcome.TheVariants as outcomes
 use Rattle.cdi_steps.specs.declared.task.Continuation.{Continuation}
 use Rattle.cdi_steps.specs.declared.task.Continuation.TheVariants as continuations
@@ -18,18 +19,23 @@ abbrev pub call_rank : Call → ℕ
 call_rank (calls.Obtain b) = 2
 call_rank (calls.Create b owner) = 1
 call_rank (calls.Intercept i n) = 1
-call_rank calls.Rest = 2
+call_rank (calls.Rest chain) = 2
 call_rank (calls.Body r) = 1
 call_rank (calls.Acts r) = 1
 call_rank (calls.Destroy n) = 1
 call_rank (calls.Release n) = 2
 call_rank (calls.Fire event) = 1
+call_rank (calls.Publish event) = 1
 call_rank calls.Dismiss = 2
 call_rank (calls.Clear c) = 2
 
--- of a creation by the steps that are left, which are fewer than this
+-- of a creation by the steps that are left, which are fewer than this; between two of them the parameters of one are provided
 abbrev pub creation_rank : ℕ → ℕ
-creation_rank left = 2 * min left (2 ^ 32) + 2
+creation_rank left = 2 ^ 66 * min left (2 ^ 32) + 2
+
+-- of a step by its parameters without a reference, which are fewer than this
+abbrev pub parameters_rank : Parameters → ℕ
+parameters_rank p = creation_rank p.left + 2 * min p.remaining (2 ^ 64) + 3
 
 abbrev pub continuation_rank : Continuation → ℕ
 continuation_rank (continuations.Making n b owner) = creation_rank (2 ^ 32) + 1
@@ -41,23 +47,29 @@ continuation_rank (continuations.Leaving n) = 4
 continuation_rank (continuations.Removing n) = 1
 continuation_rank (continuations.Freeing n dependent) = 2
 continuation_rank (continuations.Delivering event) = 1
+continuation_rank (continuations.Publishing event) = 1
 
 abbrev pub rank : Task → ℕ
 rank (tasks.Start c) = call_rank c
 rank (tasks.Begin job) = 5
 rank (tasks.Using bean_call) = 4
-rank (tasks.Through field_call) = 4
+rank (tasks.Through used) = 4
 rank (tasks.Creating n b left) = creation_rank left
+rank (tasks.Providing p) = parameters_rank p.value
 rank (tasks.Continue a) = continuation_rank a
 
 -- what comes after the frame's call, if that gave something
 abbrev pub frame_rank : Frame → ℕ
 frame_rank (frames.AtEnd role) = 1
 frame_rank (frames.Calling b) = 3
+frame_rank (frames.Intercepted role) = 1
 frame_rank frames.Stopping = 1
 frame_rank (frames.Answering r) = 2
+frame_rank (frames.Finding r k) = 2
 frame_rank (frames.Injecting n b left field) = creation_rank left + 1
 frame_rank (frames.Stepping n b left) = creation_rank left + 1
+frame_rank (frames.Providing p) = parameters_rank p.value + 1
+frame_rank (frames.Constructing n b left) = creation_rank left + 1
 frame_rank (frames.Completing n b left) = creation_rank left + 1
 frame_rank (frames.Discarding n x) = 1
 frame_rank (frames.CleaningUp n) = 3
@@ -65,7 +77,7 @@ frame_rank (frames.Releasing n) = 1
 frame_rank (frames.Freeing n) = 3
 frame_rank frames.Dismissing = 3
 frame_rank (frames.Clearing c) = 3
-frame_rank (frames.Reaching method args) = 3
+frame_rank (frames.Reaching purpose) = 3
 frame_rank (frames.Borrowing method args) = 3
 frame_rank frames.Exiting = 1
 frame_rank frames.Using = 3

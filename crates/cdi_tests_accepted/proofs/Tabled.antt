@@ -10,7 +10,7 @@ use Rattle.cdi_problems.specs.declared.problem.Problem.{Problem}
 use Rattle.cdi_resolve.specs.declared.bean_tables.BeanTables.{BeanTables}
 use Rattle.cdi_run_tables.specs.Machine.{AreIdsOf}
 use Rattle.cdi_run_tables.specs.Planned.{IsTabled}
-use Rattle.cdi_run_tables.specs.Served.{has_texts}
+use Rattle.cdi_run_tables.specs.Texts.{has_texts}
 use Rattle.cdi_run_tables.specs.declared.tables.RunTables.{RunTables}
 use Rattle.cdi_site_fit.specs.Accepted.{IsFaultless}
 

@@ -1,6 +1,6 @@
 //! Deployments with their scripts, from their bytes.
 ghost use Rattle.std.specs.Prelude.{◌≡◌, true, IfOk, IfSome};
-ghost use Rattle.cdi_run_tables.specs.Served.{has_texts};
+ghost use Rattle.cdi_run_tables.specs.Texts.{has_texts};
 ghost use Rattle.cdi_script.specs.Next.{next_of};
 
 use crate::faultless::faultless_tables;

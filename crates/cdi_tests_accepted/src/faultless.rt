@@ -4,7 +4,7 @@ ghost use Rattle.cdi_bodies.specs.Table.{entries_of};
 ghost use Rattle.cdi_ledger.specs.Callbacks.{PlacesOfBodiesAreApart};
 ghost use Rattle.cdi_machine.specs.Registered.{legal_of};
 ghost use Rattle.cdi_run_tables.specs.Machine.{machine_tables};
-ghost use Rattle.cdi_run_tables.specs.Served.{has_texts};
+ghost use Rattle.cdi_run_tables.specs.Texts.{has_texts};
 ghost use Rattle.cdi_site_fit.specs.Accepted.{IsFaultless};
 ghost use Rattle.cdi_worlds_fit.specs.Fits.{Fits};
 

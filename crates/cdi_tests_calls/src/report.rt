@@ -6,16 +6,17 @@
 //! | `whole` | the same, of the whole form |
 //! | `counting COUNT` | its one body is `up`: it counts the field `n` so many times, calls itself with one less than it was called with unless that was 0, and then gives the field |
 //!
-//! A depth and a number of ticks may stand behind the first and the third, as the limits. What is told is why the deployment isn't
-//! accepted: how many names it has, and the kind of each problem; or else what its runtime answers to each line of the input, as the
-//! table of the module `jobs` says.
-ghost use Rattle.std.specs.Prelude.{◌≡◌, true, IfOk};
+//! A depth and a number of ticks may stand behind each of them, as the limits. Before these the word `last` may stand: of
+//! several candidates the last one is then picked each time, else the first. What is told is why the deployment isn't accepted: how
+//! many names it has, and the kind of each problem; or else what its runtime answers to each line of the input, as the table of the
+//! module `jobs` says.
+ghost use Rattle.std.specs.Prelude.{◌≡◌, ◌<◌, true, IfOk};
 ghost use Rattle.cdi_bodies.specs.Shape.{in_shape};
 ghost use Rattle.cdi_script.specs.Listed.{shape_of};
 ghost use Rattle.cdi_tests_calls.specs.Plain.{plain_shape};
 
 use crate::counting::Counting;
-use crate::runtimes::{Asking, told_by};
+use crate::runtimes::{Asking, Order, told_by};
 use cdi_base::{Act, Fields};
 use cdi_bodies::{Bodies, Body, Choice, Chooser, View};
 use cdi_container::accept;
@@ -35,8 +36,19 @@ fn next_of(alloc: Global, script: &Script, fields: &Fields, view: &View) -> Resu
     script.next(alloc, fields, view)
 }
 
+/// The candidate that is picked in an order.
+fn picked(order: Order, count: u32) -> u32
+    requires { 0 < count }
+    ensures { result < count }
+{
+    match order {
+        Order::First => 0,
+        Order::Last => count - 1,
+    }
+}
+
 /// What is told of a deployment with its scripts.
-#[tactic(auto, using(crate::proofs::Chosen::knows_with))]
+#[tactic(auto, using(crate::proofs::Chosen::drives_with))]
 fn report_of_scripts(
     alloc: Global,
     deployment: Deployment,
@@ -58,18 +70,20 @@ fn report_of_scripts(
         }
     }
     let accepted = accept(alloc, deployment, &bodies);
+    let order = asking.order;
     let choice: Choice = Box::new(
         alloc,
-        |_count: u32, _entries: u64| -> u32
-            ensures { result ≡ 0 }
-        { 0 },
+        move |count: u32, _entries: u64| -> u32
+            requires { 0 < count }
+            ensures { result < count }
+        { picked(order, count) },
     )?;
     let chooser = Chooser::new(choice);
     told_by(alloc, accepted, Registered { bodies, chooser }, asking)
 }
 
 /// What is told of a deployment with a body that counts so many times.
-#[tactic(auto, using(crate::proofs::Chosen::knows_with))]
+#[tactic(auto, using(crate::proofs::Chosen::drives_with))]
 fn report_of_counting(
     alloc: Global,
     deployment: Deployment,
@@ -90,11 +104,13 @@ fn report_of_counting(
         return Err(AllocError);
     }
     let accepted = accept(alloc, deployment, &bodies);
+    let order = asking.order;
     let choice: Choice = Box::new(
         alloc,
-        |_count: u32, _entries: u64| -> u32
-            ensures { result ≡ 0 }
-        { 0 },
+        move |count: u32, _entries: u64| -> u32
+            requires { 0 < count }
+            ensures { result < count }
+        { picked(order, count) },
     )?;
     let chooser = Chooser::new(choice);
     told_by(alloc, accepted, Registered { bodies, chooser }, asking)
@@ -132,8 +148,13 @@ fn report_of_bytes(
 
 /// What is asked under the limits that words give, or else under those of the program.
 fn asking_of<'a>(words: &[&str], input: &'a str) -> Asking<'a> {
+    let (order, limits) = match words {
+        ["last", limits @ ..] => (Order::Last, limits),
+        limits => (Order::First, limits),
+    };
     Asking {
-        limits: limits_of(words).unwrap_or_default(),
+        limits: limits_of(limits).unwrap_or_default(),
+        order,
         input,
     }
 }
@@ -146,7 +167,13 @@ pub(crate) fn report(
     input: &str,
 ) -> Result<String, AllocError> {
     match words {
-        ["whole"] => report_of_bytes(alloc, WHOLE, bytes, None, asking_of(&[], input)),
+        ["whole", words @ ..] => report_of_bytes(
+            alloc,
+            WHOLE,
+            bytes,
+            None,
+            asking_of(words, input),
+        ),
         ["counting", sets, limits @ ..] => {
             let asking = asking_of(limits, input);
             report_of_bytes(alloc, SERVED, bytes, sets.parse().ok(), asking)

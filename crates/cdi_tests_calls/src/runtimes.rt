@@ -1,7 +1,8 @@
 //! The functions that own the tables of a deployment. The proof of each drops all tables, so that there are few.
 ghost use Rattle.std.specs.Prelude.{IfOk};
 ghost use Rattle.cdi_run_tables.specs.Machine.{machine_tables};
-ghost use Rattle.cdi_runtime.specs.Standing.{IsServable, KnowsMethods};
+ghost use Rattle.cdi_runtime.specs.Standing.{IsServable};
+ghost use Rattle.cdi_steps.specs.Driving.{Drives};
 
 use crate::jobs::{Told, answers};
 use cdi_base::{Limits, OrMemory};
@@ -13,10 +14,18 @@ use cdi_runtime::Runtime;
 use cdi_world::World;
 use std::alloc::{AllocError, Global};
 
-/// What is asked of a runtime: its limits, and the lines.
+/// Which of several candidates is picked.
+#[derive(Clone, Copy)]
+pub(crate) enum Order {
+    First,
+    Last,
+}
+
+/// What is asked of a runtime: its limits, which candidates are picked, and the lines.
 #[derive(Clone, Copy)]
 pub(crate) struct Asking<'a> {
     pub(crate) limits: Limits,
+    pub(crate) order: Order,
     pub(crate) input: &'a str,
 }
 
@@ -57,7 +66,7 @@ fn answers_by<D: Driver + Drop>(
     driver: D,
     asking: Asking,
 ) -> Result<String, AllocError>
-    requires knows { KnowsMethods (D.knows driver) (D.legal driver) (machine_tables tables) }
+    requires drives { Drives (machine_tables tables) (D.knows driver) }
     requires servable { IsServable tables }
 {
     let mut runtime = Runtime::new(alloc, tables, driver, asking.limits);
@@ -81,8 +90,8 @@ pub(crate) fn told_by<D: Driver + Drop>(
     driver: D,
     asking: Asking,
 ) -> Result<String, AllocError>
-    requires knows { IfOk accepted (λ tables.
-        KnowsMethods (D.knows driver) (D.legal driver) (machine_tables tables)) }
+    requires drives { IfOk accepted (λ tables.
+        Drives (machine_tables tables) (D.knows driver)) }
     requires servable { IfOk accepted IsServable }
 {
     match accepted {

@@ -3,3 +3,4 @@ pub mod Reached
 pub mod Taken
 pub mod Begun
 pub mod Homes
+pub mod Idle

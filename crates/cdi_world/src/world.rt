@@ -4,6 +4,7 @@ ghost use Rattle.cdi_machine.specs.World.{at_begin, before_boot};
 
 mod contents;
 mod homes;
+mod idle;
 mod refusals;
 
 use crate::environment::Environment;

@@ -3,7 +3,7 @@ ghost use Rattle.std.specs.Prelude.{◌≡◌, IfOk, OnErr};
 ghost use Rattle.cdi_steps.specs.Known.{KnownContinuation};
 ghost use Rattle.cdi_steps.specs.Steps.{Follows};
 
-use super::{bodies, commands};
+use super::{acts, bodies, commands};
 use cdi_host::{Contents, Tables};
 use cdi_steps::task::{Continuation, Next};
 use cdi_steps::{creation, destruction};
@@ -38,5 +38,6 @@ pub(super) fn go_on<T: Tables, W: Contents>(
             Ok(destruction::free_one(number, dependent))
         }
         Continuation::Delivering(event) => Ok(commands::deliver(tables, world, event)),
+        Continuation::Publishing(event) => Ok(acts::deliver(tables, world, event)),
     }
 }

@@ -91,6 +91,11 @@ impl Contents for World {
         self.invocations.top()
     }
 
+    /// Jakarta CDI 4.0, *Programmatic lookup*: `Instance.destroy`.
+    fn is_idle(&self, number: u32) -> bool {
+        !(self.is_target(number) || self.has_body(number))
+    }
+
     fn latest_temporary(&self) -> Option<Option<u32>> {
         self.temporaries.latest()
     }

@@ -6,12 +6,16 @@ use Rattle.cdi_steps.proofs.InjectionSteps.{discarded_leads, stepped_leads}
 use Rattle.cdi_steps.proofs.Made.{ends, leaves_alone, settled}
 use Rattle.cdi_steps.proofs.Results.{map_ok}
 use Rattle.cdi_frames.proofs.CommandSteps.{starting_leads, opened_leads}
-use Rattle.cdi_frames.proofs.ResumeSteps.{reached_leads, stopped_leads, exited_leads, cleaned_up_leads, freeing_leads, dismissing_leads, clearing_leads, returned_leads, told_leads}
+use Rattle.cdi_frames.proofs.ResumeSteps.{reached_leads, intercepted_leads, stopped_leads, exited_leads, cleaned_up_leads, freeing_leads, dismissing_leads, clearing_leads, returned_leads, told_leads}
 use Rattle.cdi_frames.proofs.resume.go_on.Goals as goal
 
 pub returns-in-AtEnd-clause-step : goal.returns-in-AtEnd-clause-step
 returns-in-AtEnd-clause-step g c =
     rw (c.in-AtEnd.is, c.reached.ensures.next, c.reached.ensures.world) (record { leads = reached_leads (g.T.Tables.tables c.args.tables.now) c.in-AtEnd.role c.args.given (g.W.Contents.world c.args.world.now); lowers = omega arith; known = λ h. tt; invoked = reach_invoked; quiet = tt })
+
+pub returns-in-Intercepted-clause-step : goal.returns-in-Intercepted-clause-step
+returns-in-Intercepted-clause-step g c =
+    rw (c.in-Intercepted.is, c.intercepted.ensures) (ends (intercepted_leads (g.T.Tables.tables c.args.tables.now) c.in-Intercepted.role c.args.given (g.W.Contents.world c.args.world.now)) (omega arith) refl)
 
 pub returns-in-Stopping-clause-step : goal.returns-in-Stopping-clause-step
 returns-in-Stopping-clause-step g c =
@@ -61,6 +65,13 @@ pub returns-in-Stepping-clause-step : goal.returns-in-Stepping-clause-step
 returns-in-Stepping-clause-step g c =
     rw (c.in-Stepping.is, c.stepped.ensures) (leaves_alone (stepped_leads (g.T.Tables.tables c.args.tables.now) c.in-Stepping.number c.in-Stepping.component c.in-Stepping.left c.args.given (g.W.Contents.world c.args.world.now)) (omega arith) refl (rw c.in-Stepping.is at c.requires) tt)
 
+pub returns-in-Providing-clause-step : goal.returns-in-Providing-clause-step
+returns-in-Providing-clause-step g c =
+    rw c.in-Providing.is (map_ok c.provided.result (λ next h. h) c.provided.ensures)
+
+pub returns-in-Constructing-clause-step : goal.returns-in-Constructing-clause-step
+returns-in-Constructing-clause-step g c = rw c.in-Constructing.is c.constructed.ensures
+
 pub returns-in-Completing-clause-step : goal.returns-in-Completing-clause-step
 returns-in-Completing-clause-step g c = rw c.in-Completing.is c.completed.ensures
 
@@ -93,3 +104,6 @@ returns-in-Emptying-clause-step g c = rw c.in-Emptying.is (settled refl c.emptie
 pub returns-in-Closed-clause-step : goal.returns-in-Closed-clause-step
 returns-in-Closed-clause-step g c =
     rw c.in-Closed.is (map_ok c.closed.result (λ next h. settled refl h (omega arith)) c.closed.ensures.step)
+
+pub returns-in-Finding-clause-step : goal.returns-in-Finding-clause-step
+returns-in-Finding-clause-step g c = rw c.in-Finding.is c.found_made.ensures

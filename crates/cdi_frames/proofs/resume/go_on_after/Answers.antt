@@ -67,7 +67,36 @@ pub returns-in-Closed-clause-step : goal.returns-in-Closed-clause-step
 returns-in-Closed-clause-step g c =
     rw c.in-Closed.is (map_ok c.closed.result (λ next h. settled refl h (omega arith)) c.closed.ensures.step)
 
+pub returns-in-Providing-clause-step : goal.returns-in-Providing-clause-step
+returns-in-Providing-clause-step g c = rw c.in-Providing.is c.provided_with.ensures
+
+pub returns-in-Constructing-clause-step : goal.returns-in-Constructing-clause-step
+returns-in-Constructing-clause-step g c = rw c.in-Constructing.is c.constructed_with.ensures
+
 pub returns-clause-step : goal.returns-clause-step
 returns-clause-step g c =
     let d = c.in_default in
-    rw c.ended.ensures (ends (threw_leads (g.T.Tables.tables c.args.tables.now) c.args.exception c.args.frame (g.W.Contents.world c.args.world.now) d.not-Stopping d.not-Answering d.not-CleaningUp d.not-Exiting d.not-Using d.not-Returning d.not-Initializing d.not-Opening d.not-Telling d.not-ShuttingDown d.not-Finishing d.not-Closed d.not-Injecting d.not-Completing d.not-Stepping) (thrown_above c.args.frame) refl)
+    rw c.ended.ensures (ends (threw_leads (g.T.Tables.tables c.args.tables.now) c.args.exception c.args.frame (g.W.Contents.world c.args.world.now) (record {
+      stopping = d.not-Stopping;
+      answering = d.not-Answering;
+      cleaning_up = d.not-CleaningUp;
+      exiting = d.not-Exiting;
+      using = d.not-Using;
+      returning = d.not-Returning;
+      initializing = d.not-Initializing;
+      opening = d.not-Opening;
+      telling = d.not-Telling;
+      shutting_down = d.not-ShuttingDown;
+      finishing = d.not-Finishing;
+      closed = d.not-Closed;
+      injecting = d.not-Injecting;
+      completing = d.not-Completing;
+      stepping = d.not-Stepping;
+      finding = d.not-Finding;
+      providing = d.not-Providing;
+      constructing = d.not-Constructing;
+    })) (thrown_above c.args.frame) refl)
+
+pub returns-in-Finding-clause-step : goal.returns-in-Finding-clause-step
+returns-in-Finding-clause-step g c =
+    rw c.in-Finding.is (map_ok c.answer-in-Finding.result (λ next h. settled refl h (omega arith)) c.answer-in-Finding.ensures)

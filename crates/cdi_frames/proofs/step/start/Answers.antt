@@ -43,3 +43,9 @@ returns-in-Acts-clause-step g c = rw c.in-Acts.is c.act.ensures.step
 
 pub returns-in-Release-clause-step : goal.returns-in-Release-clause-step
 returns-in-Release-clause-step g c = rw c.in-Release.is c.release.ensures.step
+
+pub returns-in_err-publish-in-Publish-clause-failed : goal.returns-in_err-publish-in-Publish-clause-failed
+returns-in_err-publish-in-Publish-clause-failed g c = passed_on _ c.from_residual-in_err-publish-in-Publish.result starves_alone c.from_residual-in_err-publish-in-Publish.ensures
+
+pub returns-in_ok-publish-in-Publish-clause-step : goal.returns-in_ok-publish-in-Publish-clause-step
+returns-in_ok-publish-in-Publish-clause-step g c = rw c.in-Publish.is (driven (g.D.Driver.legal c.args.driver.now) c.in_ok-publish-in-Publish.ensures)

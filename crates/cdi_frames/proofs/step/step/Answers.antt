@@ -26,6 +26,12 @@ returns-in_err-creating-in-Creating-clause-failed g c = passed_on _ c.from_resid
 pub returns-in_ok-creating-in-Creating-clause-step : goal.returns-in_ok-creating-in-Creating-clause-step
 returns-in_ok-creating-in-Creating-clause-step g c = rw c.in-Creating.is (driven (g.D.Driver.legal c.args.driver.now) c.in_ok-creating-in-Creating.ensures.step)
 
+pub returns-in_err-provide-in-Providing-clause-failed : goal.returns-in_err-provide-in-Providing-clause-failed
+returns-in_err-provide-in-Providing-clause-failed g c = passed_on _ c.from_residual-in_err-provide-in-Providing.result starves_alone c.from_residual-in_err-provide-in-Providing.ensures
+
+pub returns-in_ok-provide-in-Providing-clause-step : goal.returns-in_ok-provide-in-Providing-clause-step
+returns-in_ok-provide-in-Providing-clause-step g c = rw c.in-Providing.is (driven (g.D.Driver.legal c.args.driver.now) c.in_ok-provide-in-Providing.ensures.step)
+
 pub returns-in_err-go_on-in-Continue-clause-failed : goal.returns-in_err-go_on-in-Continue-clause-failed
 returns-in_err-go_on-in-Continue-clause-failed g c = passed_on _ c.from_residual-in_err-go_on-in-Continue.result starves_alone c.from_residual-in_err-go_on-in-Continue.ensures
 

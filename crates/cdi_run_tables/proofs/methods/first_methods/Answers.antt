@@ -1,12 +1,13 @@
 use Rattle.std.proofs.Common.{◌∙◌, Option, [], ◌∷◌, ap, sym}
 use Rattle.std.specs.Option.{option_or}
 use Rattle.cdi_event_tables.specs.Ids.{id_in}
+use Rattle.cdi_numbered_plans.proofs.FirstMethods.{found_in, found_next}
+use Rattle.cdi_run_tables.specs.Machine.{without_chain}
 use Rattle.cdi_run_tables.specs.declared.tables.Method.{Method}
-use Rattle.cdi_run_tables.proofs.FirstMethods.{found_in, found_next}
 use Rattle.cdi_run_tables.proofs.methods.first_methods.Goals as goal
 
 pub loop-method-preserved : goal.loop-method-preserved
 loop-method-preserved c = λ name.
     let i = c.loop-method in
     let ids = id_in c.args.ids.now in
-    c.in_ok-add_method.ensures name ∙ ap (λ (o : Option Method). option_or o (found_in ids (c.method-item.result ∷ []) name)) (i.invariant name) ∙ sym (found_next ids c.args.methods.now i.method-index c.method-item.result c.loop-method-test.true c.method-item.is name)
+    c.in_ok-add_method.ensures name ∙ ap (λ (o : Option Method). option_or o (found_in without_chain ids (c.method-item.result ∷ []) name)) (i.invariant name) ∙ sym (found_next without_chain ids c.args.methods.now i.method-index c.method-item.result c.loop-method-test.true c.method-item.is name)

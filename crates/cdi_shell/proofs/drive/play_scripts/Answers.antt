@@ -2,8 +2,6 @@ use Rattle.std.proofs.Common.{rules, ◌≡◌, ◌<◌, ◌∙◌, ◌++◌, �
 use Rattle.std.specs.Prelude.{fold}
 use Rattle.cdi_bodies.specs.Table.{entries_of}
 use Rattle.cdi_bodies.specs.Gives.{place_of}
-use Rattle.cdi_run_tables.specs.Machine.{machine_tables}
-use Rattle.cdi_runtime.proofs.Working.{chosen_knows}
 use Rattle.cdi_script.specs.Next.{next_of}
 use Rattle.cdi_script.proofs.Boxed.{made_post}
 use Rattle.cdi_script.proofs.Following.{nil_of}
@@ -52,8 +50,8 @@ unreachable-requires-in-Err-Full g c =
     let few : length (entries_of c.loop-named.bodies) < 4096 = omega (arith, inv.3, ap (λ (t : List NamedScript). length t) c.in-Some.ensures.steps.0, same_length (entries_of c.loop-named.bodies) inv.0 inv.1) in
     not_full _ _ (c.in-Err-Full.ensures.full.0 (search rules)) few
 
-pub live-requires-clause-knows : goal.live-requires-clause-knows
-live-requires-clause-knows g c = chosen_knows (entries_of c.loop-named.bodies) c.new-chooser.result (machine_tables c.in-Ok-accept.tables) c.in-Ok-accept.ensures.ok.knows
+pub live-requires-clause-drives : goal.live-requires-clause-drives
+live-requires-clause-drives g c = c.in-Ok-accept.ensures.ok.drives
 
 pub returns-in_ok-new-in-Ok-accept-clause-plays : goal.returns-in_ok-new-in-Ok-accept-clause-plays
 returns-in_ok-new-in-Ok-accept-clause-plays g c =

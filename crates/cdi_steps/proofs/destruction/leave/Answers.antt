@@ -1,4 +1,5 @@
 use Rattle.std.proofs.Common.{refl, arith}
+use Rattle.cdi_life.specs.Told.{lifecycle_told}
 use Rattle.cdi_steps.proofs.Changes.{called_invoked, leave_invocations}
 use Rattle.cdi_steps.proofs.DestructionSteps.{leave_missing, leave_free, leave_called, before_destroy_known}
 use Rattle.cdi_steps.proofs.Made.{ends, leaves_alone}
@@ -16,9 +17,9 @@ returns-in_default-callbacks_of-clause-step g c =
 pub returns-clause-step : goal.returns-clause-step
 returns-clause-step g c =
     record {
-      leads = rw (c.leave-2.ensures, c.in_ok-enter.ensures.ok) (leave_called (g.T.Tables.tables c.args.tables.now) c.args.number c.in-Some.instance.now (g.W.Contents.world c.args.world.now) c.in-Some.ensures c.in-Some-callbacks_of.callbacks.now c.in-Some-callbacks_of.ensures.found c.in-Some-callbacks_of.ensures.served c.in_ok-invocation.ensures);
+      leads = rw (c.leave-2.ensures, c.in_ok-enter.ensures.ok) (leave_called (g.T.Tables.tables c.args.tables.now) c.args.number c.in-Some.instance.now (g.W.Contents.world c.args.world.now) c.in-Some.ensures (lifecycle_told c.in-Some-callbacks_of.lifecycle.now) c.in-Some-callbacks_of.ensures.found c.in-Some-callbacks_of.ensures.served (rw c.as_slice-callbacks.ensures at c.in_ok-invocation.ensures) (rw c.as_slice.ensures at c.in_ok-chain.ensures));
       lowers = omega arith;
       known = λ h. (tt, tt);
-      invoked = called_invoked c.args.number c.in_ok-enter.ensures.ok c.leave-2.ensures (before_destroy_known (g.T.Tables.tables c.args.tables.now) c.args.number c.in-Some-callbacks_of.callbacks.now c.in-Some-callbacks_of.ensures.known c.in_ok-invocation.ensures);
+      invoked = called_invoked c.args.number c.in_ok-enter.ensures.ok c.leave-2.ensures (before_destroy_known (g.T.Tables.tables c.args.tables.now) c.args.number c.in-Some-callbacks_of.lifecycle.now.callbacks c.in-Some-callbacks_of.ensures.known (rw c.as_slice-callbacks.ensures at c.in_ok-invocation.ensures));
       quiet = tt;
     }

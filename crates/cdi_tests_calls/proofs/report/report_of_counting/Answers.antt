@@ -1,6 +1,6 @@
 use Rattle.cdi_bodies.specs.Table.{entries_of}
-use Rattle.cdi_tests_calls.proofs.Chosen.{knows_with}
+use Rattle.cdi_tests_calls.proofs.Chosen.{drives_with}
 use Rattle.cdi_tests_calls.proofs.report.report_of_counting.Goals as goal
 
-pub told_by-requires-clause-knows : goal.told_by-requires-clause-knows
-told_by-requires-clause-knows c = knows_with (entries_of c.add.new.self) c.new-chooser.result c.args.deployment c.accept-accepted.result c.accept-accepted.ensures.ok
+pub told_by-requires-clause-drives : goal.told_by-requires-clause-drives
+told_by-requires-clause-drives c = drives_with (entries_of c.add.new.self) c.args.deployment c.accept-accepted.result c.accept-accepted.ensures.ok

@@ -12,17 +12,17 @@ returns-in_default g c =
 
 pub returns-then-len-method : goal.returns-then-len-method
 returns-then-len-method g c =
-    map_ok c.answer-then-len-method.result (λ next h. settles_less (omega arith) (settles_as (own_miscounted (g.T.Tables.tables c.args.tables.now) c.args.running.value c.args.method c.args.args c.in-Some.method (g.W.Contents.world c.args.world.now) (rw (c.instance-number.ensures, c.deref.ensures) at c.in-Some.ensures.found) (search rules)) h)) (rw c.missed-then-len-method.ensures at c.answer-then-len-method.ensures)
+    map_ok c.answer-then-len-method.result (λ next h. settles_less (omega arith) (settles_as (own_miscounted (g.T.Tables.tables c.args.tables.now) c.args.running.value c.args.method c.args.args c.in-Some.method.now (g.W.Contents.world c.args.world.now) (rw (c.instance-number.ensures, c.deref.ensures) at c.in-Some.ensures.found) (search rules)) h)) (rw c.missed-then-len-method.ensures at c.answer-then-len-method.ensures)
 
 pub returns : goal.returns
 returns g c =
-    let counted = eq-eqb (length c.args.args) c.in-Some.method.count (sym c.len.ensures ∙ c.if-len-method.false) in
+    let counted = eq-eqb (length c.args.args) c.in-Some.method.now.count (sym c.len.ensures ∙ c.if-len-method.false) in
     let found = rw (c.instance-number.ensures, c.deref.ensures) at c.in-Some.ensures.found in
-    let made = rw (c.new-own.ensures, c.instance-number.ensures, c.deref.ensures, c.empty.ensures, c.empty-2.ensures) at c.in_ok-new.ensures.ok in
+    let made = rw (c.new-own.ensures, c.place.ensures, c.body.ensures, c.instance-number.ensures, c.deref.ensures, c.empty.ensures, c.empty-2.ensures) at c.in_ok-new.ensures.ok in
     record {
-      settles = own_first (g.T.Tables.tables c.args.tables.now) c.args.running c.in_ok-new.field-0 c.args.method c.args.args c.in-Some.method (g.W.Contents.world c.args.world.now) found counted made;
+      settles = own_first (g.T.Tables.tables c.args.tables.now) c.args.running c.in_ok-new.field-0 c.args.method c.args.args c.in-Some.method.now (g.W.Contents.world c.args.world.now) found counted made;
       lowers = omega arith;
-      known = λ h. (of_method (rw (c.in_ok-new.ensures.ok, c.new-own.ensures) c.in-Some.ensures.known), c.requires);
+      known = λ h. (of_method (rw (c.in_ok-new.ensures.ok, c.new-own.ensures, c.body.ensures) c.in-Some.ensures.known), c.requires);
       invoked = λ h. h;
       quiet = tt;
     }

@@ -6,4 +6,5 @@ returns-clause-index c = record {
   methods = c.in_ok-methods.ensures;
   injected = c.in_ok-injected.ensures.all;
   numbered = numbered_of c.args.parts.now c.args.numbering.now c.requires.numbering c.args.bean.now.plan c.in_ok-numbered.numbered c.in_ok-numbered.ensures.numbered;
+  business = c.in_ok-business.ensures;
 }

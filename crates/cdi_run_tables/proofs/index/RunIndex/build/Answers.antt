@@ -7,5 +7,6 @@ returns c = record {
   events = c.requires.events;
   beans = c.in_ok-bean_indices.ensures.all;
   interceptors = c.in_ok-all_resolutions.ensures.all;
+  interceptor_steps = c.in_ok-all_steps.ensures.all;
   asked = c.in_ok-new.ensures c.args.parts.now;
 }

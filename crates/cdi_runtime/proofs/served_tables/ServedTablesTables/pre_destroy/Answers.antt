@@ -1,19 +1,11 @@
-use Rattle.std.proofs.Common.{◌≡◌, ◌∙◌, [], Some, None, option_map, sym, ap, subst}
+use Rattle.std.proofs.Common.{◌≡◌, ◌∙◌, option_map, sym, subst}
+use Rattle.cdi_life.specs.Told.{lifecycle_told}
 use Rattle.cdi_run_tables.specs.Machine.{bean_at}
-use Rattle.cdi_host.specs.Asked.{alone, pre_destroy_of}
-use Rattle.cdi_runtime.proofs.Served.{pre_destroy_at}
+use Rattle.cdi_host.specs.Asked.{pre_destroy_of}
+use Rattle.cdi_runtime.proofs.Served.{same_pre_destroy}
 use Rattle.cdi_runtime.proofs.served_tables.ServedTablesTables.pre_destroy.Goals as goal
 
-pub returns-in-Some : goal.returns-in-Some
-returns-in-Some c =
-    let tables = c.self.inside.tables in
-    let found : pre_destroy_of (bean_at tables c.args.bean) ≡ Some (alone []) =
-    pre_destroy_at tables c.self.invariant.served c.args.bean ∙ ap (option_map (λ b. alone [])) (sym c.bean.ensures ∙ ap (option_map (λ b. b.now)) c.in-Some.is) in
-    subst (λ t. pre_destroy_of (bean_at t c.args.bean) ≡ Some (alone [])) c.self.view_is found
-
-pub returns-in-None : goal.returns-in-None
-returns-in-None c =
-    let tables = c.self.inside.tables in
-    let found : pre_destroy_of (bean_at tables c.args.bean) ≡ None =
-    pre_destroy_at tables c.self.invariant.served c.args.bean ∙ ap (option_map (λ b. alone [])) (sym c.bean.ensures ∙ ap (option_map (λ b. b.now)) c.in-None.is) in
-    subst (λ t. pre_destroy_of (bean_at t c.args.bean) ≡ None) c.self.view_is found
+pub returns : goal.returns
+returns c =
+    subst (λ t. pre_destroy_of (bean_at t c.args.bean) ≡ option_map (λ l. lifecycle_told l.now) c.pre_destroy.result) c.self.view_is
+    (same_pre_destroy (bean_at c.self.inside.tables c.args.bean) ∙ sym c.pre_destroy.ensures)
