@@ -153,12 +153,3 @@ module _ (t : Tables) where
   fire_leads b q class qualifiers v w e =
       ap (λ (x : Event). (nested (machine.Fire x.class x.qualifiers x.value) (answering t b.value), w)) (sym e)
       ∙ ap (λ k. (nested (machine.Fire q.value.class q.value.qualifiers q.value.value) k, w)) (fun_ext (answers_with t b.value))
-
-  pub publish_leads : (q : Box Event) (w : World)
-      → MovesTo t (tasks.Start (calls.Publish q)) w (nexts.Writes (entries.Event q.value.class q.value.qualifiers) (continuations.Publishing q)) w
-  publish_leads q w = Comes.same refl
-
-  pub deliver_leads : (q : Box Event) (w : World) → ((class : ℕ) (uses : List Use) → t.observers class uses ≡ [])
-      → MovesTo t (tasks.Continue (continuations.Publishing q)) w (nexts.Finished (outcomes.Ends (completions.Gave (givens.Result values.Null)))) w
-  deliver_leads q w h =
-      Comes.same (ap (λ gs. next_stop t (each gs (λ group. call (machine.Notify group q.value.value)) >>= λ _. finish) w) (h q.value.class q.value.qualifiers))

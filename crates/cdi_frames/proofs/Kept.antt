@@ -65,6 +65,7 @@ module _ (t : Tables) where
   comes_still {p = p} {w = w} (Comes.calls {u = u} {c = c} r e d k) = still_trans (stopped p w e) (still_trans (stopped (definition.machine c) u d) (comes_still k))
   comes_still (Comes.looks c) = comes_still c
   comes_still {p = p} {w = w} (Comes.awaits e f) = stopped p w e
+  comes_still {p = p} {w = w} (Comes.parts part n e q f) = rw (ap (λ x. x.1) e) at (steps_still n p w)
   comes_still {p = p} {w = w} (Comes.picks i e l h c) = still_trans (stopped p w e) (comes_still c)
 
 pub still_left : {w v : World} → Still w v → entries_left v ≡ entries_left w

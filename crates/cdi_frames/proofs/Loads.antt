@@ -60,13 +60,13 @@ mass_le m n h = mass_up (n - m) m n (omega (arith, h))
 mass_less : (m n : ℕ) → m < n → mass m + mass m + mass m ≤ mass n
 mass_less m n h = let a = mass_suc m in let b = mass_le (suc m) n (omega (arith, h)) in omega (arith, a, b)
 
-mass_bound : (n : ℕ) → n < 2 ^ 100 → mass n + mass n + mass n ≤ greatest_mass
+mass_bound : (n : ℕ) → n < 2 ^ 200 → mass n + mass n + mass n ≤ greatest_mass
 unfolding greatest_mass
-mass_bound n h = mass_less n (2 ^ 100) h
+mass_bound n h = mass_less n (2 ^ 200) h
 
 greatest_mass_above : 0 < greatest_mass
 unfolding greatest_mass
-greatest_mass_above = mass_above (2 ^ 100)
+greatest_mass_above = mass_above (2 ^ 200)
 
 fewer : (a b c : ℕ) → a < b → a * c + c ≤ b * c
 fewer a b c h = let l : suc a * c ≤ b * c = mul-le-mul_right {m = suc a} {n = b} c (omega (arith, h)) in rw suc-mul at l
@@ -97,16 +97,20 @@ top_below (pendings.Does t) k = awaited_most t k
     call_most (calls.Release n) k = let b = thrown_below k in omega (arith, b)
     call_most (calls.Fire event) k = let a = thrown_above k in let b = thrown_below k in omega (arith, a, b)
     call_most (calls.Publish event) k = let b = thrown_below k in omega (arith, b)
+    call_most (calls.Notify n) k = let b = thrown_below k in omega (arith, b)
     call_most calls.Dismiss k = let b = thrown_below k in omega (arith, b)
     call_most (calls.Clear c) k = let b = thrown_below k in omega (arith, b)
 
     awaited_most : (t : Task) (k : Frame) → awaited_rank t k ≤ frame_rank k
     awaited_most (tasks.Start c) k = call_most c k
     awaited_most (tasks.Begin job) k = let b = thrown_below k in omega (arith, b)
-    awaited_most (tasks.Using bean_call) k = let b = thrown_below k in omega (arith, b)
+    awaited_most (tasks.Using used) k = let b = thrown_below k in omega (arith, b)
     awaited_most (tasks.Through call) k = let b = thrown_below k in omega (arith, b)
     awaited_most (tasks.Creating n b left) k = let b = thrown_below k in omega (arith, b)
     awaited_most (tasks.Providing p) k = let b = thrown_below k in omega (arith, b)
+    awaited_most (tasks.Calling p) k = let b = thrown_below k in omega (arith, b)
+    awaited_most (tasks.Receiving p) k = let b = thrown_below k in omega (arith, b)
+    awaited_most (tasks.Supplying p) k = let b = thrown_below k in omega (arith, b)
     awaited_most (tasks.Continue a) k = let b = thrown_below k in omega (arith, b)
 top_below (pendings.Gives (outcomes.Cut cause)) k = let a = thrown_above k in let b = thrown_below k in omega (arith, a, b)
 top_below (pendings.Gives (outcomes.Ends (completions.Gave g))) k = omega arith
@@ -128,13 +132,17 @@ same_top (tasks.Start c) h k = by c h
     by (calls.Release n) h = omega arith
     by (calls.Fire event) h = absurd (omega (arith, h))
     by (calls.Publish event) h = omega arith
+    by (calls.Notify n) h = omega arith
     by calls.Dismiss h = omega arith
     by (calls.Clear c) h = omega arith
 same_top (tasks.Begin job) h k = omega arith
-same_top (tasks.Using bean_call) h k = omega arith
+same_top (tasks.Using used) h k = omega arith
 same_top (tasks.Through call) h k = omega arith
 same_top (tasks.Creating n b left) h k = omega arith
 same_top (tasks.Providing p) h k = omega arith
+same_top (tasks.Calling p) h k = omega arith
+same_top (tasks.Receiving p) h k = omega arith
+same_top (tasks.Supplying p) h k = omega arith
 same_top (tasks.Continue a) h k = omega arith
 
 awaited_above : (t : Task) (k : Frame) → 1 ≤ top_rank (pendings.Does t) k
@@ -151,16 +159,20 @@ awaited_above t k = by t
     call (calls.Destroy n) = let a = thrown_above k in omega (arith, a)
     call (calls.Release n) = let a = thrown_above k in omega (arith, a)
     call (calls.Publish event) = let a = thrown_above k in omega (arith, a)
+    call (calls.Notify n) = let a = thrown_above k in omega (arith, a)
     call calls.Dismiss = let a = thrown_above k in omega (arith, a)
     call (calls.Clear c) = let a = thrown_above k in omega (arith, a)
 
     by : (t : Task) → 1 ≤ top_rank (pendings.Does t) k
     by (tasks.Start c) = call c
     by (tasks.Begin job) = let a = thrown_above k in omega (arith, a)
-    by (tasks.Using bean_call) = let a = thrown_above k in omega (arith, a)
+    by (tasks.Using used) = let a = thrown_above k in omega (arith, a)
     by (tasks.Through call) = let a = thrown_above k in omega (arith, a)
     by (tasks.Creating n b left) = let a = thrown_above k in omega (arith, a)
     by (tasks.Providing p) = let a = thrown_above k in omega (arith, a)
+    by (tasks.Calling p) = let a = thrown_above k in omega (arith, a)
+    by (tasks.Receiving p) = let a = thrown_above k in omega (arith, a)
+    by (tasks.Supplying p) = let a = thrown_above k in omega (arith, a)
     by (tasks.Continue a) = let a = thrown_above k in omega (arith, a)
 
 module _ (tables : Tables) (legal : Legal) where
@@ -181,16 +193,20 @@ module _ (tables : Tables) (legal : Legal) where
       call (calls.Destroy n) r = omega arith
       call (calls.Release n) r = omega arith
       call (calls.Publish event) r = omega arith
+      call (calls.Notify n) r = omega arith
       call calls.Dismiss r = omega arith
       call (calls.Clear c) r = omega arith
 
       by : (t : Task) → Runs tables legal ⊥ (first t) w (outcome_of (outcomes.Ends (completions.Threw x))) v → thrown_rank k ≤ top_rank (pendings.Does t) k
       by (tasks.Start c) r = call c r
       by (tasks.Begin job) r = omega arith
-      by (tasks.Using bean_call) r = omega arith
+      by (tasks.Using used) r = omega arith
       by (tasks.Through call) r = omega arith
       by (tasks.Creating n b left) r = omega arith
       by (tasks.Providing p) r = omega arith
+      by (tasks.Calling p) r = omega arith
+      by (tasks.Receiving p) r = omega arith
+      by (tasks.Supplying p) r = omega arith
       by (tasks.Continue a) r = omega arith
   ended_top t (outcomes.Ends (completions.Gave g)) w v r e k = by t r
     where
@@ -205,13 +221,17 @@ module _ (tables : Tables) (legal : Legal) where
       by (tasks.Start (calls.Release n)) r = omega arith
       by (tasks.Start (calls.Fire event)) r = let l = fire_left tables legal event r in absurd (omega (arith, l, e))
       by (tasks.Start (calls.Publish event)) r = omega arith
+      by (tasks.Start (calls.Notify n)) r = omega arith
       by (tasks.Start calls.Dismiss) r = omega arith
       by (tasks.Start (calls.Clear c)) r = omega arith
       by (tasks.Begin job) r = omega arith
-      by (tasks.Using bean_call) r = omega arith
+      by (tasks.Using used) r = omega arith
       by (tasks.Through call) r = omega arith
       by (tasks.Creating n b left) r = omega arith
       by (tasks.Providing p) r = omega arith
+      by (tasks.Calling p) r = omega arith
+      by (tasks.Receiving p) r = omega arith
+      by (tasks.Supplying p) r = omega arith
       by (tasks.Continue a) r = omega arith
 
 -- an entry that is due puts all behind it off

@@ -1,5 +1,5 @@
 -- What frames do once what they wait for has ended is what the machine does.
-use Rattle.std.proofs.Common.{ℕ, ◌≡◌, refl, sym}
+use Rattle.std.proofs.Common.{ℕ, ◌≡◌, Bool, refl, sym}
 use Rattle.std.specs.Global.{Box}
 use Rattle.cdi_base.specs.declared.value.Value.TheVariants as values
 use Rattle.cdi_base.specs.declared.place.InterceptorMethod.{InterceptorMethod}
@@ -20,7 +20,9 @@ use Rattle.cdi_steps.specs.declared.task.Call.TheVariants as calls
 use Rattle.cdi_steps.specs.declared.task.Closing.{Closing}
 use Rattle.cdi_steps.specs.declared.task.Completion.{Completion}
 use Rattle.cdi_steps.specs.declared.task.Completion.TheVariants as completions
+use Rattle.cdi_steps.specs.declared.task.Disposal.{Disposal}
 use Rattle.cdi_steps.specs.declared.task.Given.{Given}
+use Rattle.cdi_steps.specs.declared.task.Notification.{Notification}
 use Rattle.cdi_steps.specs.declared.task.Given.TheVariants as givens
 use Rattle.cdi_steps.specs.declared.task.Parameters.{Parameters}
 use Rattle.cdi_steps.specs.declared.task.Outcome.TheVariants as outcomes
@@ -48,6 +50,9 @@ pub record EndsWithThrow (k : Frame) : Type 0 where
   pub stepping : (n : ℕ) (b : Component) (left : ℕ) → k ≡ frames.Stepping n b left → ⊥
   pub finding : (r : Box machine.Running) (lookup : ℕ) → k ≡ frames.Finding r lookup → ⊥
   pub providing : (p : Box Parameters) → k ≡ frames.Providing p → ⊥
+  pub producing : (n : ℕ) (normal : Bool) → k ≡ frames.Producing n normal → ⊥
+  pub disposing : (d : Box Disposal) → k ≡ frames.Disposing d → ⊥
+  pub observing : (others : Box Notification) → k ≡ frames.Observing others → ⊥
   pub constructing : (n : ℕ) (b : Component) (left : ℕ) → k ≡ frames.Constructing n b left → ⊥
 
 module _ (t : Tables) where
@@ -123,10 +128,18 @@ module _ (t : Tables) where
   threw_leads x frames.Dismissing w h = Comes.same refl
   threw_leads x (frames.Clearing context) w h = Comes.same refl
   threw_leads x (frames.Reaching purpose) w h = Comes.same refl
-  threw_leads x (frames.Borrowing method args) w h = Comes.same refl
+  threw_leads x (frames.Borrowing purpose) w h = Comes.same refl
   threw_leads x (frames.Emptying closing) w h = Comes.same refl
   threw_leads x (frames.Discarding n y) w h = Comes.same refl
   threw_leads x (frames.Calling b) w h = Comes.same refl
+  threw_leads x (frames.Dropping n) w h = Comes.same refl
+  threw_leads x (frames.Received c) w h = Comes.same refl
+  threw_leads x (frames.Lent c) w h = Comes.same refl
+  threw_leads x (frames.Supplied p) w h = Comes.same refl
+  threw_leads x (frames.Grouping g) w h = Comes.same refl
+  threw_leads x (frames.Producing n normal) w h = absurd (h.producing n normal refl)
+  threw_leads x (frames.Disposing d) w h = absurd (h.disposing d refl)
+  threw_leads x (frames.Observing others) w h = absurd (h.observing others refl)
   threw_leads x frames.Stopping w h = absurd (h.stopping refl)
   threw_leads x (frames.Answering r) w h = absurd (h.answering r refl)
   threw_leads x (frames.CleaningUp n) w h = absurd (h.cleaning_up n refl)

@@ -33,7 +33,8 @@ still_known t e (continuations.Discarding n x) w h = h
 still_known t e (continuations.Leaving n) w h = h
 still_known t e (continuations.Removing n) w h = h
 still_known t e (continuations.Freeing n d) w h = h
-still_known t e (continuations.Delivering event) w h = h
+still_known t e (continuations.Dropping n) w h = h
+still_known t e (continuations.Delivering d) w h = h
 still_known t e (continuations.Publishing event) w h = h
 
 -- after an entry

@@ -17,7 +17,7 @@ mass (suc n) = mass n + mass n + mass n
 
 -- all that one step adds is less
 unfoldable pub greatest_mass : ℕ
-greatest_mass = mass (2 ^ 100)
+greatest_mass = mass (2 ^ 200)
 
 -- the rank at which the innermost frame goes on: behind an entry, all is counted anew
 abbrev pub top_rank : Pending → Frame → ℕ

@@ -16,7 +16,7 @@ use Rattle.cdi_contexts.specs.declared.context.Status.{Status}
 use Rattle.cdi_contexts.specs.Contexts.{active_context, entry_in}
 use Rattle.cdi_machine.specs.Words.{Name, Fields, Asked}
 use Rattle.cdi_machine.specs.Tables as machine
-use Rattle.cdi_machine.specs.Tables.{Tables, Bean, Interceptor, Code, Managed, Lifecycle, Method, Kind, Step}
+use Rattle.cdi_machine.specs.Tables.{Tables, Bean, Interceptor, Code, Lifecycle, Method, Kind, Product, Step}
 use Rattle.cdi_machine.specs.Creation.{first_fields}
 use Rattle.cdi_machine.specs.World.{World}
 use Rattle.cdi_machine.specs.Bodies.{reference_at}
@@ -40,11 +40,6 @@ machine_resolution r = resolution_told r
 
 abbrev pub head_of : Bean → BeanHead
 head_of bean = record { place = bean.place; scope = bean.scope }
-
--- a managed bean
-pub record IsServedBean (bean : Bean) : Type 0 where
-  pub class : Managed
-  pub is_class : bean.kind ≡ Kind.Class class
 
 -- the fields of a new instance
 abbrev pub fields_of : Option Bean → Fields
@@ -107,6 +102,15 @@ pre_destroy_in (Kind.Producer p) = None
 abbrev pub pre_destroy_of : Option Bean → Option Lifecycle
 pre_destroy_of None = None
 pre_destroy_of (Some bean) = pre_destroy_in bean.kind
+
+-- what a bean comes from, if it is a product
+abbrev pub product_in : Kind → Option Product
+product_in (Kind.Class c) = None
+product_in (Kind.Producer p) = Some p
+
+abbrev pub product_of : Option Bean → Option Product
+product_of None = None
+product_of (Some bean) = product_in bean.kind
 
 -- so many steps, the last ones
 abbrev pub last_of : {X : Type 0} → ℕ → List X → List X

@@ -6,6 +6,8 @@ pub mod beans;
 pub mod contents;
 pub mod tables;
 
-pub use beans::{BeanHead, Code, Lifecycle, Method, Point, Resolution, Step};
+pub use beans::{
+    BeanHead, Code, Lifecycle, Member, Method, Observer, Point, Product, Resolution, Source, Step,
+};
 pub use contents::Contents;
 pub use tables::Tables;

@@ -1,5 +1,5 @@
 //! The tables of a deployment, as the engine asks them.
-use crate::beans::{BeanHead, Code, Lifecycle, Method, Resolution, Step};
+use crate::beans::{BeanHead, Code, Lifecycle, Method, Observer, Product, Resolution, Step};
 use cdi_base::{Fields, InterceptorMethod, Name, Seq, Use};
 use cdi_bodies::BodyId;
 use cdi_store::Component;
@@ -7,21 +7,21 @@ use std::alloc::{AllocError, Global};
 
 /// The tables of a deployment. They answer as those of the definition, and never change.
 pub trait Tables {
-    ghost use Rattle.std.specs.Prelude.{ℕ, ◌≡◌, List, [], length, slice_get, option_map, IfOk, IfSome};
-    ghost use Rattle.cdi_base.specs.declared.uses.Use.{Use as AnyUse};
+    ghost use Rattle.std.specs.Prelude.{◌≡◌, length, map, slice_get, option_map, IfOk, IfSome};
+    ghost use Rattle.std.specs.List.{All};
     ghost use Rattle.cdi_machine.specs.Tables.{Tables as MachineTables};
-    ghost use Rattle.cdi_host.specs.Asked.{asked_for, machine_resolution, head_of, IsServedBean, fields_at, plan_at, method_at};
-    ghost use Rattle.cdi_host.specs.Asked.{interceptor_code, pre_destroy_of};
-    ghost use Rattle.cdi_life.specs.Resolved.{IsResolvedStep};
-    ghost use Rattle.cdi_life.specs.Told.{lifecycle_told, method_told, step_told};
+    ghost use Rattle.cdi_host.specs.Asked.{asked_for, machine_resolution, head_of, fields_at, plan_at, method_at};
+    ghost use Rattle.cdi_host.specs.Asked.{interceptor_code, pre_destroy_of, product_of};
+    ghost use Rattle.cdi_life.specs.Resolved.{IsResolvedObserver, IsResolvedProduct, IsResolvedStep};
+    ghost use Rattle.cdi_life.specs.Told.{lifecycle_told, method_told, observer_told, product_told};
+    ghost use Rattle.cdi_life.specs.Told.{step_told};
 
     /// What the definition asks.
     ghost tables: { Self → MachineTables };
 
     /// The bean with an index.
     fn bean(&self, bean: u32) -> Option<BeanHead>
-        ensures found { option_map head_of ((tables self.now).bean bean) ≡ result }
-        ensures served { IfSome ((tables self.now).bean bean) IsServedBean };
+        ensures { option_map head_of ((tables self.now).bean bean) ≡ result };
 
     /// The name of the enabled interceptor at a place.
     fn interceptor(&self, interceptor: u32) -> Option<Name>
@@ -58,6 +58,13 @@ pub trait Tables {
         ensures { method_at (tables self.now) bean name
             ≡ option_map (λ m. method_told m.now) result };
 
+    /// What an instance of the bean with an index comes from, and what disposes of it, if it is a product (Jakarta CDI 4.0, *Lifecycle
+    /// of producer methods*, *Lifecycle of producer fields*).
+    fn product(&self, bean: u32) -> Option<&Product>
+        ensures product { product_of ((tables self.now).bean bean)
+            ≡ option_map (λ p. product_told p.now) result }
+        ensures resolved { IfSome result (λ p. IsResolvedProduct (tables self.now).resolve p.now) };
+
     /// What a type resolves to, with qualifiers as they are written (Jakarta CDI 4.0, *Typesafe resolution*).
     fn resolve(&self, bean_type: Name, qualifiers: &[Use]) -> Resolution
         ensures { (tables self.now).resolve (asked_for bean_type qualifiers.now)
@@ -80,7 +87,16 @@ pub trait Tables {
     fn text(&self, exception: Name) -> Option<&str>
         ensures { (tables self.now).text exception ≡ option_map (λ t. t.now) result };
 
-    /// No event has an observer.
-    fn law_unobserved(&self)
-        ensures { (class : ℕ) (uses : List AnyUse) → (tables self.now).observers class uses ≡ [] };
+    /// The observers that hear an event of a class with qualifiers as they are written, in groups by priority (Jakarta CDI 4.0, *Observer
+    /// resolution* and *Observer ordering*). Memory can be wanting.
+    fn observers(
+        &self,
+        alloc: Global,
+        class: Name,
+        qualifiers: &[Use],
+    ) -> Result<Seq<Seq<Observer>>, AllocError>
+        ensures heard { IfOk result (λ groups. map (map observer_told) groups
+            ≡ (tables self.now).observers class qualifiers.now) }
+        ensures resolved { IfOk result (λ groups.
+            All (All (IsResolvedObserver (tables self.now).resolve)) groups) };
 }

@@ -3,6 +3,7 @@ use Rattle.std.specs.Prelude.{◌≡◌, List}
 use Rattle.std.specs.List.{All}
 use Rattle.cdi_life.specs.Told.{point_told, resolution_told}
 use Rattle.cdi_life.specs.declared.member.Member.{Member}
+use Rattle.cdi_life.specs.declared.member.Observer.{Observer}
 use Rattle.cdi_life.specs.declared.member.Product.{Product}
 use Rattle.cdi_life.specs.declared.member.Source.{Source}
 use Rattle.cdi_life.specs.declared.member.Source.TheVariants as sources
@@ -40,3 +41,7 @@ module _ (resolve : Asked → machine.Resolution) where
   pub record IsResolvedProduct (p : Product) : Type 0 where
     pub source : IsResolvedSource p.source
     pub disposers : All IsResolvedMember p.disposers
+
+  -- those of an observer
+  abbrev pub IsResolvedObserver : Observer → Type 0
+  IsResolvedObserver o = IsResolvedMember o.member

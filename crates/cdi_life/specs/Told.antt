@@ -2,6 +2,7 @@
 use Rattle.std.specs.Prelude.{map}
 use Rattle.cdi_life.specs.declared.member.Member.{Member}
 use Rattle.cdi_life.specs.declared.member.Method.{Method}
+use Rattle.cdi_life.specs.declared.member.Observer.{Observer}
 use Rattle.cdi_life.specs.declared.member.Product.{Product}
 use Rattle.cdi_life.specs.declared.member.Source.{Source}
 use Rattle.cdi_life.specs.declared.member.Source.TheVariants as sources
@@ -53,3 +54,7 @@ product_told p =
       source = source_told p.source;
       disposers = map member_told p.disposers;
     }
+
+abbrev pub observer_told : Observer → machine.Observer
+observer_told o =
+    record { bean = o.bean; member = member_told o.member; conditional = o.conditional }

@@ -1,7 +1,10 @@
-//! Members of beans that a container calls, and products.
+//! Members of beans that a container calls, products and observers.
+ghost use Rattle.std.specs.Prelude.{◌≡◌};
+
 use crate::code::Code;
 use crate::point::Point;
 use cdi_base::{Name, Seq};
+use std::alloc::AllocError;
 
 /// A business method of a bean (Jakarta CDI 4.0, *Container invocations and interception*). It has no injected parameters.
 pub struct Method {
@@ -43,6 +46,19 @@ impl Drop for Member {
     }
 }
 
+impl Clone for Member {
+    ghost is_clone = { λ member copy. copy ≡ member };
+
+    #[tactic(auto, using(cdi_base::proofs::Clones::same_items))]
+    fn clone(&self) -> Result<Member, AllocError> {
+        Ok(Member {
+            code: self.code,
+            points: self.points.clone()?,
+            chain: self.chain.clone()?,
+        })
+    }
+}
+
 /// What gives an instance of a product.
 #[derive(Drop)]
 pub enum Source {
@@ -69,5 +85,37 @@ impl Drop for Product {
             source: _source,
             disposers: _disposers,
         } = self;
+    }
+}
+
+/// An observer of an enabled bean (Jakarta CDI 4.0, *Observer methods*).
+pub struct Observer {
+    /// The managed bean whose instance is notified, by its index.
+    pub bean: u32,
+    pub member: Member,
+    /// Whether it is notified only if its bean has an instance (Jakarta CDI 4.0, *Conditional observer methods*).
+    pub conditional: bool,
+}
+
+/// In one call, so that the proof of each function that owns one has one step here, and not one for each of its parts.
+impl Drop for Observer {
+    fn drop(self) {
+        let Observer {
+            bean: _bean,
+            member: _member,
+            conditional: _conditional,
+        } = self;
+    }
+}
+
+impl Clone for Observer {
+    ghost is_clone = { λ observer copy. copy ≡ observer };
+
+    fn clone(&self) -> Result<Observer, AllocError> {
+        Ok(Observer {
+            bean: self.bean,
+            member: self.member.clone()?,
+            conditional: self.conditional,
+        })
     }
 }

@@ -1,5 +1,8 @@
 //! An injection point, and what it resolves to.
+ghost use Rattle.std.specs.Prelude.{◌≡◌};
+
 use cdi_base::{Name, Seq, Use};
+use std::alloc::AllocError;
 
 /// What a type and qualifiers resolve to (Jakarta CDI 4.0, *Unsatisfied and ambiguous dependencies*).
 #[derive(Clone, Copy, Debug, PartialEq, Eq)]
@@ -31,5 +34,18 @@ impl Drop for Point {
             qualifiers: _qualifiers,
             resolution: _resolution,
         } = self;
+    }
+}
+
+impl Clone for Point {
+    ghost is_clone = { λ point copy. copy ≡ point };
+
+    #[tactic(auto, using(cdi_base::proofs::Clones::same_items))]
+    fn clone(&self) -> Result<Point, AllocError> {
+        Ok(Point {
+            bean_type: self.bean_type,
+            qualifiers: self.qualifiers.clone()?,
+            resolution: self.resolution,
+        })
     }
 }

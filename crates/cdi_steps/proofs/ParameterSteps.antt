@@ -18,9 +18,9 @@ use Rattle.cdi_machine.specs.Tables.{Tables, Bean, Code, Lifecycle, Step, Resolu
 use Rattle.cdi_machine.specs.World.{World, Change, Invocation, after_change}
 use Rattle.cdi_machine.specs.Programs as machine
 use Rattle.cdi_machine.specs.Programs.{Given, Number, Completion, Gave, Threw, Prog, ret, throw, see, nested, change, handle, finally, tell_missing, require, complete, call, finish, raise, alter, each, invocation, ◌>>=◌, ◌>>◌}
-use Rattle.cdi_machine.specs.Bodies.{body_at_start, invocation_at_start}
+use Rattle.cdi_machine.specs.Bodies.{invocation_at_start}
 use Rattle.cdi_machine.specs.Contexts.{is_normal, direct_reference, resolve_point, resolve_points}
-use Rattle.cdi_machine.specs.Creation.{construct, create_by, initialize, take_step}
+use Rattle.cdi_machine.specs.Creation.{create_by, take_step}
 use Rattle.cdi_host.specs.Asked.{head_of, last_of, machine_resolution, plan_at, top_of}
 use Rattle.cdi_host.specs.declared.beans.BeanHead.{BeanHead}
 use Rattle.cdi_life.specs.Resolved.{AreResolved, IsResolved, IsResolvedStep}
@@ -30,8 +30,8 @@ use Rattle.cdi_life.specs.declared.point.Resolution.TheVariants as resolutions
 use Rattle.cdi_life.specs.declared.step.Step.{Step as CodeStep}
 use Rattle.cdi_life.specs.declared.step.Step.TheVariants as code_steps
 use Rattle.cdi_steps.specs.Words.{given_of}
-use Rattle.cdi_steps.specs.Meanings.{node, create_on, carry_on_creating}
-use Rattle.cdi_steps.specs.Parameters.{create_from, parameters_of, step_before, points_in, points_of, is_construction, constructs, take, take_in, end_construction, provide_behind, provide_remaining, provide_made, check_constructed, run_construction, after_step, IsStepOf, IsNextPoint, RunsInitializer}
+use Rattle.cdi_steps.specs.Meanings.{node, create_on}
+use Rattle.cdi_steps.specs.Parameters.{create_from, parameters_of, step_before, points_in, constructs, take, take_in, end_construction, provide_behind, provide_remaining, provide_made, run_construction, after_step, IsStepOf, IsNextPoint, RunsInitializer}
 use Rattle.cdi_steps.specs.Known.{AllInvoked, AreParameters, HasParameters, IsInitializerBody, IsNextStep, of_initializer}
 use Rattle.cdi_steps.specs.Leads.{next_stop, after_steps, Comes}
 use Rattle.cdi_steps.specs.Steps.{Moves}
@@ -155,7 +155,7 @@ module _ (t : Tables) where
 
 -- ---- the points that are left
 
-told_at : (points : List CodePoint) (i : ℕ) (x : CodePoint) → slice_get points i ≡ Some x → slice_get (map point_told points) i ≡ Some (point_told x)
+pub told_at : (points : List CodePoint) (i : ℕ) (x : CodePoint) → slice_get points i ≡ Some x → slice_get (map point_told points) i ≡ Some (point_told x)
 told_at [] i x e = absurd (cc)
 told_at (y ∷ ys) zero x e = let q : y ≡ x = cc in ap (λ z. Some (point_told z)) q
 told_at (y ∷ ys) (suc i) x e = told_at ys i x e
@@ -196,7 +196,7 @@ index_below (y ∷ ys) zero p e = omega arith
 index_below (y ∷ ys) (suc i) p e = let h = index_below ys i p e in omega (arith, h)
 
 -- and what it asks for is resolved
-point_resolved : (resolve : Asked → Resolution) (points : List CodePoint) (i : ℕ) (p : CodePoint) → AreResolved resolve points → slice_get points i ≡ Some p → IsResolved resolve p
+pub point_resolved : (resolve : Asked → Resolution) (points : List CodePoint) (i : ℕ) (p : CodePoint) → AreResolved resolve points → slice_get points i ≡ Some p → IsResolved resolve p
 point_resolved resolve points i p all e = subst (IsResolved resolve) (index_is points i p e) (all i p (index_below points i p e))
 
 parameters_resolved : (resolve : Asked → Resolution) (s : CodeStep) → IsResolvedStep resolve s → AreResolved resolve (parameters_of s)

@@ -35,6 +35,7 @@ wider_comes i (Comes.does {u = u} {b = b} {fields = fields} {view = view} a e l 
 wider_comes i (Comes.calls r e d c) = Comes.calls r e d (wider_comes i c)
 wider_comes i (Comes.looks c) = Comes.looks (wider_comes i c)
 wider_comes i (Comes.awaits e f) = Comes.awaits e (λ r u. wider_comes i (f r u))
+wider_comes i (Comes.parts part n e q f) = Comes.parts part n e q (λ r u. wider_comes i (f r u))
 wider_comes i (Comes.picks {u = u} {n = n} x e l h c) = Comes.picks x e l (i.pick (candidates n) (length u.trace) x h) (wider_comes i c)
 
 pub nothing_within : (legal : Legal) → IsWithin nothing_legal legal

@@ -100,10 +100,10 @@ impl World {
     }
 
     /// The numbers of the live instances, ascending.
-    pub fn numbers(&self, alloc: Global) -> Result<Vec<u32>, AllocError>
-        ensures { IfOk result (λ numbers. numbers.items ≡ map (λ p. p.0) self.now.instances) }
+    pub fn live_numbers(&self) -> Result<Seq<u32>, AllocError>
+        ensures { IfOk result (λ numbers. numbers ≡ map (λ p. p.0) self.now.instances) }
     {
-        self.store.numbers(alloc)
+        Ok(Seq::new(self.store.numbers(self.alloc)?))
     }
 
     /// Whether the container is down.

@@ -7,15 +7,14 @@ ghost use Rattle.cdi_machine.specs.World.{instance_at};
 ghost use Rattle.cdi_machine.specs.Bodies.{perform, value_at};
 ghost use Rattle.cdi_host.specs.Asked.{reference_in};
 ghost use Rattle.cdi_steps.specs.Known.{IsKnownBody};
-ghost use Rattle.cdi_steps.specs.Steps.{Steps, Settles, Moves, Follows};
+ghost use Rattle.cdi_steps.specs.Steps.{Steps, Settles};
 ghost use Rattle.cdi_frames.specs.Acts.{reference_via, use_act};
 
 use super::bodies::{answer, missed, with_answer};
-use cdi_base::{Answer, Entry, Name, Seq, Use, Value, Via};
+use cdi_base::{Answer, Name, Seq, Use, Value, Via};
 use cdi_host::{Contents, Tables};
 use cdi_stacks::{Invocation, Running};
-use cdi_steps::ends::null;
-use cdi_steps::task::{Call, Continuation, Event, Frame, Next, Purpose, ReferenceUse, Task};
+use cdi_steps::task::{Call, Event, Frame, Next, Purpose, ReferenceUse, Task};
 use cdi_store::Reference;
 use std::alloc::AllocError;
 
@@ -139,37 +138,4 @@ pub(super) fn fire<T: Tables, W: Contents>(
     };
     let call = Task::Start(Call::Publish(Box::new(world.alloc(), event)?));
     Ok(Next::Needs(call, Frame::Answering(running)))
-}
-
-/// Begins to deliver an event of a body. Memory can be wanting.
-pub(super) fn publish<T: Tables, W: Contents>(
-    _tables: &T,
-    _world: &W,
-    event: Box<Event>,
-) -> Result<Next, AllocError>
-    ensures { IfOk result (λ next. Moves (T.tables _tables.now) (Task.Start (Call.Publish event))
-        (W.world _world.now) next (W.world _world.now)) }
-{
-    let entry = entry_of(&event)?;
-    Ok(Next::Writes(entry, Continuation::Publishing(event)))
-}
-
-/// The entry of an event of a body.
-#[tactic(auto, using(cdi_base::proofs::Clones::same_items))]
-fn entry_of(event: &Event) -> Result<Entry, AllocError>
-    ensures { IfOk result (λ entry. entry ≡ Entry.Event event.now.class event.now.qualifiers) }
-{
-    Ok(Entry::Event {
-        class: event.class,
-        qualifiers: event.qualifiers.clone()?,
-    })
-}
-
-/// Delivers an event of a body, which nothing observes (Jakarta CDI 4.0, *Observer notification*).
-pub(super) fn deliver<T: Tables, W: Contents>(tables: &T, _world: &W, _event: Box<Event>) -> Next
-    ensures { Follows (T.tables tables.now) (Continuation.Publishing _event)
-        (W.world _world.now) result (W.world _world.now) }
-{
-    tables.law_unobserved();
-    null()
 }

@@ -1,18 +1,17 @@
-//! The steps of commands, and of the container's own events.
+//! The steps of commands.
 ghost use Rattle.std.specs.Prelude.{◌≡◌, IfOk, OnErr};
 ghost use Rattle.cdi_machine.specs.World.{after_change};
 ghost use Rattle.cdi_machine.specs.World.Change.{Return};
 ghost use Rattle.cdi_steps.specs.Known.{KnownJob};
-ghost use Rattle.cdi_steps.specs.Steps.{Moves, Follows, GoesOn};
+ghost use Rattle.cdi_steps.specs.Steps.{Moves, GoesOn};
 ghost use Rattle.cdi_steps.specs.declared.task.Outcome.{Outcome};
 
-use crate::events::entry_of;
 use cdi_base::{Scope, Text};
+use cdi_events::contexts;
 use cdi_host::{Contents, Tables};
-use cdi_steps::contexts;
 use cdi_steps::ends::{ended, null};
 use cdi_steps::task::{
-    AfterClose, BeanCall, Call, Completion, ContainerEvent, Continuation, Frame, Job, Next, Task,
+    AfterClose, BeanUse, Call, Completion, ContainerEvent, Event, Frame, Job, Next, Task,
 };
 use cdi_store::Context;
 use std::alloc::{AllocError, Global};
@@ -37,7 +36,9 @@ pub(super) fn begin<T: Tables, W: Contents>(
         Job::Begin { request, session } => begin_request(tables, world, request, session),
         Job::End { request } => contexts::end_request(tables, world, request, AfterClose::Session),
         Job::Invalidate { session } => invalidate(tables, world, session),
-        Job::Call { request, call } => call_bean(tables, world, request, call),
+        Job::Use { request, used } => use_bean(tables, world, request, used),
+        Job::Fire { request, event } => fire(tables, world, request, event),
+        Job::Live => Ok(null()),
         Job::Shutdown => shut_down(tables, world),
     }
 }
@@ -116,28 +117,59 @@ pub(crate) fn starting() -> Next
     Next::Needs(call, Frame::Telling)
 }
 
-// ---- a call
+// ---- a call, a read, an event
 
-/// Calls a method of the bean with a type and qualifiers, in a request or in none, with what is borrowed for the time of the command. On
-/// an error nothing changes.
-fn call_bean<T: Tables, W: Contents>(
+/// Uses the bean with a type and qualifiers, in a request or in none, with what is borrowed for the time of the command. On an error
+/// nothing changes.
+fn use_bean<T: Tables, W: Contents>(
     _tables: &T,
     world: &mut W,
     request: Option<Text>,
-    call: Box<BeanCall>,
+    used: Box<BeanUse>,
 ) -> Result<Next, AllocError>
     ensures step { IfOk result (λ next. Moves (T.tables _tables.now)
-        (Task.Begin (Job.Call request call)) (W.world world.old) next (W.world world.new)) }
+        (Task.Begin (Job.Use request used)) (W.world world.old) next (W.world world.new)) }
     ensures kept { OnErr result (W.world world.new ≡ W.world world.old) }
 {
     world.borrow()?;
     match world.stand_in(request) {
-        Ok(()) => Ok(Next::Needs(Task::Using(call), Frame::Using)),
+        Ok(()) => Ok(Next::Needs(Task::Using(used), Frame::Using)),
         Err(error) => {
             world.give_back();
             Err(error)
         }
     }
+}
+
+/// Fires an event, in a request or in none (Jakarta CDI 4.0, *Firing events*). On an error nothing changes.
+fn fire<T: Tables, W: Contents>(
+    tables: &T,
+    world: &mut W,
+    request: Option<Text>,
+    event: Box<Event>,
+) -> Result<Next, AllocError>
+    ensures step { IfOk result (λ next. Moves (T.tables tables.now)
+        (Task.Begin (Job.Fire request event)) (W.world world.old) next (W.world world.new)) }
+    ensures kept { OnErr result (W.world world.new ≡ W.world world.old) }
+{
+    let written = written(tables, world.alloc(), event)?;
+    world.stand_in(request)?;
+    Ok(Next::Goes(Task::Start(Call::Publish(written))))
+}
+
+/// The same event with its qualifiers in their written form (Jakarta CDI 4.0, *Event types and qualifier types*).
+fn written<T: Tables>(
+    tables: &T,
+    alloc: Global,
+    event: Box<Event>,
+) -> Result<Box<Event>, AllocError>
+    ensures { IfOk result (λ written. written.value ≡ record event.value {
+      qualifiers = (T.tables tables.now).written event.value.qualifiers;
+    }) }
+{
+    let mut event = event;
+    event.qualifiers = tables.written(alloc, event.qualifiers.as_slice())?;
+    Ok(event)
 }
 
 /// The use of the bean has ended: what was borrowed is destroyed and given back, at once if nothing was.
@@ -171,32 +203,4 @@ pub(crate) fn returned<W: Contents>(world: &mut W, completion: Completion) -> Ne
 {
     world.give_back();
     ended(completion)
-}
-
-// ---- events
-
-/// Fires an event of the container itself (Jakarta CDI 4.0, *Firing events*). Memory can be wanting.
-pub(super) fn fire<T: Tables, W: Contents>(
-    _tables: &T,
-    world: &W,
-    event: ContainerEvent,
-) -> Result<Next, AllocError>
-    ensures { IfOk result (λ next. Moves (T.tables _tables.now) (Task.Start (Call.Fire event))
-        (W.world world.now) next (W.world world.now)) }
-{
-    let entry = entry_of(world.alloc(), event)?;
-    Ok(Next::Writes(entry, Continuation::Delivering(event)))
-}
-
-/// Delivers an event of the container itself, which nothing observes (Jakarta CDI 4.0, *Observer notification*).
-pub(super) fn deliver<T: Tables, W: Contents>(
-    tables: &T,
-    _world: &W,
-    _event: ContainerEvent,
-) -> Next
-    ensures { Follows (T.tables tables.now) (Continuation.Delivering _event)
-        (W.world _world.now) result (W.world _world.now) }
-{
-    tables.law_unobserved();
-    null()
 }

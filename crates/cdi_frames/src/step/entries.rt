@@ -3,10 +3,11 @@ ghost use Rattle.std.specs.Prelude.{◌≡◌, IfOk, OnErr};
 ghost use Rattle.cdi_steps.specs.Known.{KnownContinuation};
 ghost use Rattle.cdi_steps.specs.Steps.{Follows};
 
-use super::{acts, bodies, commands};
+use super::bodies;
+use cdi_events::observers;
 use cdi_host::{Contents, Tables};
 use cdi_steps::task::{Continuation, Next};
-use cdi_steps::{creation, destruction};
+use cdi_steps::{creation, destruction, products};
 use std::alloc::AllocError;
 
 /// What comes after an entry, up to what it needs or writes. Memory can be wanting; on an error nothing changes.
@@ -30,6 +31,7 @@ pub(super) fn go_on<T: Tables, W: Contents>(
         Continuation::Discarding { number, exception } => {
             Ok(creation::discard(tables, world, number, exception))
         }
+        Continuation::Dropping { number } => Ok(products::drop_null(tables, world, number)),
         Continuation::Starting(running) => bodies::start(tables, world, running),
         Continuation::Performing(performance) => bodies::perform(tables, world, performance),
         Continuation::Leaving { number } => destruction::leave(tables, world, number),
@@ -37,7 +39,7 @@ pub(super) fn go_on<T: Tables, W: Contents>(
         Continuation::Freeing { number, dependent } => {
             Ok(destruction::free_one(number, dependent))
         }
-        Continuation::Delivering(event) => Ok(commands::deliver(tables, world, event)),
-        Continuation::Publishing(event) => Ok(acts::deliver(tables, world, event)),
+        Continuation::Publishing(event) => observers::deliver(tables, world, event),
+        Continuation::Delivering(delivery) => observers::deliver_to(tables, world, delivery),
     }
 }

@@ -3,6 +3,7 @@ use Rattle.cdi_steps.specs.declared.task.Completion.TheVariants as completions
 use Rattle.cdi_steps.proofs.Changes.{exit_invoked, reach_invoked}
 use Rattle.cdi_steps.proofs.DestructionSteps.{released_leads}
 use Rattle.cdi_steps.proofs.InjectionSteps.{discarded_leads, stepped_leads}
+use Rattle.cdi_steps.proofs.ProductSteps.{dropped_leads}
 use Rattle.cdi_steps.proofs.Made.{ends, leaves_alone, settled}
 use Rattle.cdi_steps.proofs.Results.{map_ok}
 use Rattle.cdi_frames.proofs.CommandSteps.{starting_leads, opened_leads}
@@ -107,3 +108,28 @@ returns-in-Closed-clause-step g c =
 
 pub returns-in-Finding-clause-step : goal.returns-in-Finding-clause-step
 returns-in-Finding-clause-step g c = rw c.in-Finding.is c.found_made.ensures
+
+pub returns-in-Producing-clause-step : goal.returns-in-Producing-clause-step
+returns-in-Producing-clause-step g c = rw c.in-Producing.is c.produced.ensures
+
+pub returns-in-Dropping-clause-step : goal.returns-in-Dropping-clause-step
+returns-in-Dropping-clause-step g c =
+    rw (c.in-Dropping.is, c.dropped.ensures) (leaves_alone (dropped_leads (g.T.Tables.tables c.args.tables.now) c.in-Dropping.number c.args.given (g.W.Contents.world c.args.world.now)) (omega arith) refl tt refl)
+
+pub returns-in-Received-clause-step : goal.returns-in-Received-clause-step
+returns-in-Received-clause-step g c = rw c.in-Received.is c.received.ensures.step
+
+pub returns-in-Lent-clause-step : goal.returns-in-Lent-clause-step
+returns-in-Lent-clause-step g c = rw c.in-Lent.is c.lent.ensures.step
+
+pub returns-in-Supplied-clause-step : goal.returns-in-Supplied-clause-step
+returns-in-Supplied-clause-step g c = rw c.in-Supplied.is (map_ok c.supplied.result (λ next h. h) c.supplied.ensures)
+
+pub returns-in-Disposing-clause-step : goal.returns-in-Disposing-clause-step
+returns-in-Disposing-clause-step g c = rw c.in-Disposing.is (map_ok c.disposed.result (λ next h. h) c.disposed.ensures)
+
+pub returns-in-Observing-clause-step : goal.returns-in-Observing-clause-step
+returns-in-Observing-clause-step g c = rw c.in-Observing.is c.observed.ensures
+
+pub returns-in-Grouping-clause-step : goal.returns-in-Grouping-clause-step
+returns-in-Grouping-clause-step g c = rw c.in-Grouping.is (map_ok c.grouped.result (λ next h. h) c.grouped.ensures)

@@ -1,7 +1,9 @@
 use Rattle.std.proofs.Common.{refl, arith}
 use Rattle.cdi_steps.specs.declared.task.Completion.TheVariants as completions
 use Rattle.cdi_steps.proofs.Changes.{exit_invoked}
+use Rattle.cdi_steps.proofs.DisposerSteps.{disposed_threw}
 use Rattle.cdi_steps.proofs.InjectionSteps.{injected_threw, stepped_threw}
+use Rattle.cdi_steps.proofs.ProductSteps.{produced_threw}
 use Rattle.cdi_steps.proofs.Made.{ends, leaves_alone, settled}
 use Rattle.cdi_steps.proofs.Ranks.{thrown_above}
 use Rattle.cdi_steps.proofs.Results.{map_ok}
@@ -95,8 +97,22 @@ returns-clause-step g c =
       finding = d.not-Finding;
       providing = d.not-Providing;
       constructing = d.not-Constructing;
+      producing = d.not-Producing;
+      disposing = d.not-Disposing;
+      observing = d.not-Observing;
     })) (thrown_above c.args.frame) refl)
 
 pub returns-in-Finding-clause-step : goal.returns-in-Finding-clause-step
 returns-in-Finding-clause-step g c =
     rw c.in-Finding.is (map_ok c.answer-in-Finding.result (λ next h. settled refl h (omega arith)) c.answer-in-Finding.ensures)
+
+pub returns-in-Producing-clause-step : goal.returns-in-Producing-clause-step
+returns-in-Producing-clause-step g c =
+    rw (c.in-Producing.is, c.fails-in-Producing.ensures) (leaves_alone (produced_threw (g.T.Tables.tables c.args.tables.now) c.in-Producing.number c.in-Producing._normal c.args.exception (g.W.Contents.world c.args.world.now)) (omega arith) refl (tt, tt) tt)
+
+pub returns-in-Disposing-clause-step : goal.returns-in-Disposing-clause-step
+returns-in-Disposing-clause-step g c =
+    rw (c.in-Disposing.is, c.disposed_with.ensures, c.deref.ensures) (leaves_alone (disposed_threw (g.T.Tables.tables c.args.tables.now) c.in-Disposing.disposal c.args.exception (g.W.Contents.world c.args.world.now)) (omega arith) refl (tt, tt) tt)
+
+pub returns-in-Observing-clause-step : goal.returns-in-Observing-clause-step
+returns-in-Observing-clause-step g c = rw c.in-Observing.is c.observed_with.ensures

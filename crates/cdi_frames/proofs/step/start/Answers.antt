@@ -49,3 +49,6 @@ returns-in_err-publish-in-Publish-clause-failed g c = passed_on _ c.from_residua
 
 pub returns-in_ok-publish-in-Publish-clause-step : goal.returns-in_ok-publish-in-Publish-clause-step
 returns-in_ok-publish-in-Publish-clause-step g c = rw c.in-Publish.is (driven (g.D.Driver.legal c.args.driver.now) c.in_ok-publish-in-Publish.ensures)
+
+pub returns-in-Notify-clause-step : goal.returns-in-Notify-clause-step
+returns-in-Notify-clause-step g c = rw c.in-Notify.is c.notify.ensures.step

@@ -37,3 +37,18 @@ returns-in_err-go_on-in-Continue-clause-failed g c = passed_on _ c.from_residual
 
 pub returns-in_ok-go_on-in-Continue-clause-step : goal.returns-in_ok-go_on-in-Continue-clause-step
 returns-in_ok-go_on-in-Continue-clause-step g c = rw c.in-Continue.is (driven (g.D.Driver.legal c.args.driver.now) c.in_ok-go_on-in-Continue.ensures.step)
+
+pub returns-in_err-begin-in-Calling-clause-failed : goal.returns-in_err-begin-in-Calling-clause-failed
+returns-in_err-begin-in-Calling-clause-failed g c = passed_on _ c.from_residual-in_err-begin-in-Calling.result starves_alone c.from_residual-in_err-begin-in-Calling.ensures
+
+pub returns-in_ok-begin-in-Calling-clause-step : goal.returns-in_ok-begin-in-Calling-clause-step
+returns-in_ok-begin-in-Calling-clause-step g c = rw c.in-Calling.is (driven (g.D.Driver.legal c.args.driver.now) c.in_ok-begin-in-Calling.ensures.step)
+
+pub returns-in_err-supply-in-Supplying-clause-failed : goal.returns-in_err-supply-in-Supplying-clause-failed
+returns-in_err-supply-in-Supplying-clause-failed g c = passed_on _ c.from_residual-in_err-supply-in-Supplying.result starves_alone c.from_residual-in_err-supply-in-Supplying.ensures
+
+pub returns-in_ok-supply-in-Supplying-clause-step : goal.returns-in_ok-supply-in-Supplying-clause-step
+returns-in_ok-supply-in-Supplying-clause-step g c = rw c.in-Supplying.is (driven (g.D.Driver.legal c.args.driver.now) c.in_ok-supply-in-Supplying.ensures.step)
+
+pub returns-in-Receiving-clause-step : goal.returns-in-Receiving-clause-step
+returns-in-Receiving-clause-step g c = rw c.in-Receiving.is (driven (g.D.Driver.legal c.args.driver.now) c.receive.ensures)

@@ -1,5 +1,5 @@
 use Rattle.cdi_steps.proofs.InvocationSteps.{if_leaving}
 use Rattle.cdi_steps.proofs.destruction.callbacks_of.Goals as goal
 
-pub returns-in_ok-_head-in-Bean-clause-known : goal.returns-in_ok-_head-in-Bean-clause-known
-returns-in_ok-_head-in-Bean-clause-known g c = if_leaving _ (g.T.Tables.tables c.args.tables.now) c.in-Bean.bean c.pre_destroy.result c.pre_destroy.ensures
+pub returns-in-Bean-clause-known : goal.returns-in-Bean-clause-known
+returns-in-Bean-clause-known g c = if_leaving _ (g.T.Tables.tables c.args.tables.now) c.in-Bean.bean c.pre_destroy.result c.pre_destroy.ensures

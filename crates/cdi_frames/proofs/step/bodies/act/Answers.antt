@@ -1,9 +1,14 @@
-use Rattle.std.proofs.Common.{refl, arith}
+use Rattle.std.proofs.Common.{refl, sym, ◌∙◌, ap, subst, arith}
 use Rattle.cdi_machine.specs.Hearing.Ending.{ActAsked}
+use Rattle.cdi_machine.specs.Programs.{Running}
 use Rattle.cdi_frames.proofs.BodySteps.{acts_missing, acts_leads}
 use Rattle.cdi_steps.proofs.Driving.{fails_for, passed_on, starves_asked}
 use Rattle.cdi_steps.proofs.Made.{driven, ends}
 use Rattle.cdi_frames.proofs.step.bodies.act.Goals as goal
+
+pub act-requires : goal.act-requires
+act-requires g c =
+    subst (λ x. g.D.Driver.knows c.args.driver.now x) (sym (c.body.ensures ∙ ap (λ (r : Running). r.body) c.deref-2.ensures)) (c.requires.drives c.args.running.value.body c.requires.known)
 
 pub returns-in_default-clause-step : goal.returns-in_default-clause-step
 returns-in_default-clause-step g c =

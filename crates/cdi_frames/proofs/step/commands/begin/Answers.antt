@@ -1,6 +1,6 @@
 use Rattle.std.proofs.Common.{refl, arith}
-use Rattle.cdi_frames.proofs.CommandSteps.{boot_leads}
-use Rattle.cdi_steps.proofs.Made.{leaves_alone, settled}
+use Rattle.cdi_frames.proofs.CommandSteps.{boot_leads, live_leads}
+use Rattle.cdi_steps.proofs.Made.{ends, leaves_alone, settled}
 use Rattle.cdi_steps.proofs.Results.{map_ok}
 use Rattle.cdi_frames.proofs.step.commands.begin.Goals as goal
 
@@ -18,8 +18,15 @@ returns-in-End-clause-step g c =
 pub returns-in-Invalidate-clause-step : goal.returns-in-Invalidate-clause-step
 returns-in-Invalidate-clause-step g c = rw c.in-Invalidate.is c.invalidate.ensures.step
 
-pub returns-in-Call-clause-step : goal.returns-in-Call-clause-step
-returns-in-Call-clause-step g c = rw c.in-Call.is c.call_bean.ensures.step
+pub returns-in-Use-clause-step : goal.returns-in-Use-clause-step
+returns-in-Use-clause-step g c = rw c.in-Use.is c.use_bean.ensures.step
+
+pub returns-in-Fire-clause-step : goal.returns-in-Fire-clause-step
+returns-in-Fire-clause-step g c = rw c.in-Fire.is c.fire.ensures.step
+
+pub returns-in-Live-clause-step : goal.returns-in-Live-clause-step
+returns-in-Live-clause-step g c =
+    rw (c.in-Live.is, c.null.ensures) (ends (live_leads (g.T.Tables.tables c.args.tables.now) (g.W.Contents.world c.args.world.now)) (omega arith) refl)
 
 pub returns-in-Shutdown-clause-step : goal.returns-in-Shutdown-clause-step
 returns-in-Shutdown-clause-step g c = rw c.in-Shutdown.is c.shut_down.ensures.step

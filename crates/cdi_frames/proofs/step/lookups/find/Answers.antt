@@ -11,9 +11,9 @@ returns-in-Err g c =
 
 pub returns-in_default : goal.returns-in_default
 returns-in_default g c =
-    map_ok c.answer-in_default.result (λ next h. settles_less (omega arith) (settles_as (find_missing (g.T.Tables.tables c.args.tables.now) c.args.running.value c.args.lookup c.in-Ok.bean (g.W.Contents.world c.args.world.now) (rw (c.body.ensures, c.deref.ensures) at c.in-Ok.ensures) c.in_default.ensures.found) h)) (rw c.missed.ensures at c.answer-in_default.ensures)
+    map_ok c.answer-in_default.result (λ next h. settles_less (omega arith) (settles_as (find_missing (g.T.Tables.tables c.args.tables.now) c.args.running.value c.args.lookup c.in-Ok.bean (g.W.Contents.world c.args.world.now) (rw (c.body.ensures, c.deref.ensures) at c.in-Ok.ensures) c.in_default.ensures) h)) (rw c.missed.ensures at c.answer-in_default.ensures)
 
 pub returns-then-is_normal : goal.returns-then-is_normal
 returns-then-is_normal g c =
-    let there = is_there ((g.T.Tables.tables c.args.tables.now).bean c.in-Ok.bean) c.in-Some.head c.in-Some.ensures.found c.in-Some.ensures.served in
+    let there = is_there ((g.T.Tables.tables c.args.tables.now).bean c.in-Ok.bean) c.in-Some.head c.in-Some.ensures in
     map_ok c.found.result (λ next h. settles_less (omega arith) (settles_as (find_proxy (g.T.Tables.tables c.args.tables.now) c.args.running.value c.args.lookup c.in-Ok.bean (g.W.Contents.world c.args.world.now) (rw (c.body.ensures, c.deref.ensures) at c.in-Ok.ensures) c.in-Some.head there c.if-is_normal.ensures) h)) c.found.ensures

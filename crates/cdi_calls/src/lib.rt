@@ -1,0 +1,6 @@
+//! Steps of the engine: what the container calls with injected parameters, which are constructors, initializers, producers, disposers and
+//! observers.
+#![tactic(auto)]
+
+pub mod container_calls;
+pub mod parameters;

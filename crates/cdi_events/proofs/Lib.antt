@@ -1,0 +1,5 @@
+pub mod ContextSteps
+pub mod EventSteps
+pub mod KnownObservers
+pub mod ObserverSteps
+pub mod Sequences

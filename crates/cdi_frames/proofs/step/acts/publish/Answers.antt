@@ -1,8 +1,0 @@
-use Rattle.std.proofs.Common.{refl, arith}
-use Rattle.cdi_steps.proofs.Made.{leaves_alone}
-use Rattle.cdi_frames.proofs.ActSteps.{publish_leads}
-use Rattle.cdi_frames.proofs.step.acts.publish.Goals as goal
-
-pub returns : goal.returns
-returns g c =
-    rw (c.in_ok-entry.ensures, c.deref.ensures) (leaves_alone (publish_leads (g.T.Tables.tables c.args._tables.now) c.args.event (g.W.Contents.world c.args._world.now)) (omega arith) refl tt refl)

@@ -1,8 +1,0 @@
-use Rattle.std.proofs.Common.{refl, arith}
-use Rattle.cdi_frames.proofs.CommandSteps.{call_leads}
-use Rattle.cdi_steps.proofs.Made.{leaves_alone}
-use Rattle.cdi_frames.proofs.step.commands.call_bean.Goals as goal
-
-pub returns-in-Ok-clause-step : goal.returns-in-Ok-clause-step
-returns-in-Ok-clause-step g c =
-    rw (c.in-Ok.ensures.ok, c.in_ok-borrow.ensures.ok) (leaves_alone (call_leads (g.T.Tables.tables c.args._tables.now) c.args.request c.args.call (g.W.Contents.world c.args.world.now)) (omega arith) refl (tt, tt) tt)
