@@ -8,14 +8,16 @@ use Rattle.std.proofs.lemmas.List.Elements.{All-cons, All-nil}
 use Rattle.cdi_deployment.specs.declared.deployment.InjectedField.{InjectedField}
 use Rattle.cdi_deployment.specs.declared.deployment.Point.{Point}
 use Rattle.cdi_event_tables.specs.Observers.{managed_bean}
-use Rattle.cdi_life.specs.Resolved.{AreResolved, IsResolved, IsResolvedMember, IsResolvedSource, IsResolvedStep}
-use Rattle.cdi_life.specs.Told.{lifecycle_told, member_told, point_told, product_told, resolution_told, source_told, step_told}
+use Rattle.cdi_event_tables.specs.declared.observers.PlannedObserver.{PlannedObserver}
+use Rattle.cdi_life.specs.Resolved.{AreResolved, IsResolved, IsResolvedMember, IsResolvedObserver, IsResolvedSource, IsResolvedStep}
+use Rattle.cdi_life.specs.Told.{lifecycle_told, member_told, observer_told, point_told, product_told, resolution_told, source_told, step_told}
 use Rattle.cdi_machine.specs.Tables as machine
 use Rattle.cdi_machine.specs.Words.{Asked}
+use Rattle.cdi_life.specs.declared.member.Observer.{Observer}
 use Rattle.cdi_life.specs.declared.step.Step.{Step as LifeStep}
-use Rattle.cdi_numbered_plans.specs.Machine.{asked_by, does_something, machine_code, machine_injection, machine_kind, machine_lifecycle, machine_member, machine_resolution, machine_source, machine_step, machine_steps, product_with}
-use Rattle.cdi_numbered_plans.specs.Numbered.{bodies_by, can_number, has_few_beans, injection_by, lifecycle_by, member_by, numbered_resolution, plan_by, point_by, product_by, source_by, step_by, steps_by}
-use Rattle.cdi_numbered_plans.specs.Plans.{AreInjectionsBy, IsNumberedPlan, IsResolvedIfAny, TellsOf, resolve_by}
+use Rattle.cdi_numbered_plans.specs.Machine.{asked_by, does_something, machine_code, machine_injection, machine_kind, machine_lifecycle, machine_member, machine_observer, machine_resolution, machine_source, machine_step, machine_steps, product_with}
+use Rattle.cdi_numbered_plans.specs.Numbered.{bodies_by, can_number, can_number_observers, has_few_beans, injection_by, lifecycle_by, member_by, numbered_resolution, observer_by, plan_by, point_by, product_by, source_by, step_by, steps_by}
+use Rattle.cdi_numbered_plans.specs.Plans.{AreInjectionsBy, AreObserversBy, IsNumberedPlan, IsResolvedIfAny, TellsOf, resolve_by}
 use Rattle.cdi_numbered_plans.specs.declared.numbering.Numbering.{Numbering}
 use Rattle.cdi_numbered_plans.specs.declared.plan.NumberedPlan.{NumberedPlan}
 use Rattle.cdi_numbered_plans.specs.declared.plan.NumberedPlan.TheVariants as numbered
@@ -73,6 +75,9 @@ module _ (n : Numbering) where
   source_alike (sources.ProducerMethod m) = λ i. machine.Source.ProducerMethod (member_alike m i)
   source_alike (sources.ProducerField field) = refl
 
+  observer_alike : (o : PlannedObserver) → observer_told (observer_by n o) ≡ machine_observer ids o
+  observer_alike o = λ i. record { bean = o.bean; member = member_alike o.member i; conditional = o.conditional }
+
   product_alike : (p : ProductPlan) (b : ℕ) → product_told (product_by n p b) ≡ record { declaring = b; source = machine_source ids p.source; disposers = map (machine_member ids) p.disposers }
   product_alike p b = λ i. record { declaring = b; source = source_alike p.source i; disposers = each_alike (member_by n) member_told (machine_member ids) member_alike p.disposers i }
 
@@ -109,6 +114,12 @@ module _ (n : Numbering) where
   source_resolved (sources.ProducerMethod m) = member_resolved m
   source_resolved (sources.ProducerField field) = tt
 
+  pub each_observer_told : (os : List PlannedObserver) → map observer_told (map (observer_by n) os) ≡ map (machine_observer ids) os
+  each_observer_told os = each_alike (observer_by n) observer_told (machine_observer ids) observer_alike os
+
+  pub each_observer_resolved : (os : List PlannedObserver) → All (IsResolvedObserver resolve) (map (observer_by n) os)
+  each_observer_resolved os = each_so (observer_by n) (IsResolvedObserver resolve) (λ o. member_resolved o.member) os
+
   product_resolved : (p : ProductPlan) (b : Option ℕ) → IsResolvedIfAny resolve (option_map (λ k. numbered.Product (product_by n p k)) b)
   product_resolved p None = tt
   product_resolved p (Some b) = record { source = source_resolved p.source; disposers = each_so (member_by n) (IsResolvedMember resolve) member_resolved p.disposers }
@@ -130,6 +141,15 @@ injections_made n fields (Err x) e = tt
 -- there are none where there are too many beans
 pub no_injections : (n : Numbering) (fields : List InjectedField) → has_few_beans n ≡ false → AreInjectionsBy n fields []
 no_injections n fields many = record { tells = λ few. absurd (true≢false (sym few ∙ many)); resolved = All-nil (IsResolvedStep (resolve_by n)) }
+
+-- what is made of observers
+pub observers_made : (n : Numbering) (os : List PlannedObserver) (r : Result (List Observer) AllocError) → IfOk r (λ all. all ≡ map (observer_by n) os) → IfOk r (AreObserversBy n os)
+observers_made n os (Ok all) e = subst (AreObserversBy n os) (sym e) (record { tells = λ can. each_observer_told n os; resolved = each_observer_resolved n os })
+observers_made n os (Err x) e = tt
+
+-- there are none where they can't be numbered
+pub no_observers : (n : Numbering) (os : List PlannedObserver) → can_number_observers n os ≡ false → AreObserversBy n os []
+no_observers n os cant = record { tells = λ can. absurd (true≢false (sym can ∙ cant)); resolved = All-nil (IsResolvedObserver (resolve_by n)) }
 
 -- what is made is one of these
 pub made : (n : Numbering) (plan : Plan) → can_number n plan ≡ true → (r : Result (Option NumberedPlan) AllocError) → IfOk r (λ m. m ≡ plan_by n plan) → IfOk r (IsNumberedPlan n plan)

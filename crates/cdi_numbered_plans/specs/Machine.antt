@@ -8,6 +8,7 @@ use Rattle.cdi_deployment.specs.declared.deployment.Field.{Field}
 use Rattle.cdi_deployment.specs.declared.deployment.InjectedField.{InjectedField}
 use Rattle.cdi_deployment.specs.declared.deployment.Point.{Point}
 use Rattle.cdi_event_tables.specs.Observers.{managed_bean}
+use Rattle.cdi_event_tables.specs.declared.observers.PlannedObserver.{PlannedObserver}
 use Rattle.cdi_machine.specs.Words.{Name, Asked, Fields}
 use Rattle.cdi_machine.specs.Tables as machine
 use Rattle.cdi_plans.specs.declared.plan.BusinessMethod.{BusinessMethod}
@@ -60,6 +61,10 @@ method_in ids (plans.Product p) name = None
 abbrev pub machine_member : (ℕ → Option ℕ) → InjectedMethod → machine.Member
 machine_member ids m =
     record { code = machine_code ids m.code; points = map asked_by m.points; chain = m.chain }
+
+abbrev pub machine_observer : (ℕ → Option ℕ) → PlannedObserver → machine.Observer
+machine_observer ids o =
+    record { bean = o.bean; member = machine_member ids o.member; conditional = o.conditional }
 
 abbrev pub machine_step : (ℕ → Option ℕ) → Step → machine.Step
 machine_step ids (steps.Intercept i) = machine.Step.Intercept i

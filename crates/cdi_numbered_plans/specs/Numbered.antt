@@ -6,7 +6,9 @@ use Rattle.cdi_deployment.specs.declared.deployment.InjectedField.{InjectedField
 use Rattle.cdi_deployment.specs.declared.deployment.Point.{Point}
 use Rattle.cdi_event_tables.specs.Ids.{id_in}
 use Rattle.cdi_event_tables.specs.Observers.{managed_bean}
+use Rattle.cdi_event_tables.specs.declared.observers.PlannedObserver.{PlannedObserver}
 use Rattle.cdi_life.specs.declared.member.Member.{Member}
+use Rattle.cdi_life.specs.declared.member.Observer.{Observer}
 use Rattle.cdi_life.specs.declared.member.Product.{Product}
 use Rattle.cdi_life.specs.declared.member.Source.{Source as LifeSource}
 use Rattle.cdi_life.specs.declared.member.Source.TheVariants as life_sources
@@ -17,7 +19,7 @@ use Rattle.cdi_life.specs.declared.step.Lifecycle.{Lifecycle as LifeCycle}
 use Rattle.cdi_life.specs.declared.step.Step.{Step as LifeStep}
 use Rattle.cdi_life.specs.declared.step.Step.TheVariants as life_steps
 use Rattle.cdi_numbered_plans.specs.Machine.{does_something, machine_code}
-use Rattle.cdi_numbered_plans.specs.Numbers.{has_numbers}
+use Rattle.cdi_numbered_plans.specs.Numbers.{has_numbers, numbers_observers}
 use Rattle.cdi_numbered_plans.specs.declared.numbering.Numbering.{Numbering}
 use Rattle.cdi_numbered_plans.specs.declared.plan.ManagedLife.{ManagedLife}
 use Rattle.cdi_numbered_plans.specs.declared.plan.NumberedPlan.{NumberedPlan}
@@ -52,6 +54,9 @@ has_few_beans n = nat_le (length n.resolver.now.beans) (2 ^ 32)
 -- what a plan names has numbers of 32 bits
 abbrev pub can_number : Numbering → Plan → Bool
 can_number n plan = has_few_beans n && has_numbers plan
+
+abbrev pub can_number_observers : Numbering → List PlannedObserver → Bool
+can_number_observers n observers = has_few_beans n && numbers_observers observers
 
 -- resolution is asked for among the enabled beans of these
 abbrev pub AsksOf : Numbering → Candidates → Type 0
@@ -139,6 +144,12 @@ module _ (n : Numbering) where
         source = source_by p.source;
         disposers = map member_by p.disposers;
       }
+
+  -- ---- observers
+
+  abbrev pub observer_by : PlannedObserver → Observer
+  observer_by o =
+      record { bean = o.bean; member = member_by o.member; conditional = o.conditional }
 
   -- ---- plans
 

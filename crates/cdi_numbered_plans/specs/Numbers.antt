@@ -1,6 +1,7 @@
--- The steps of a plan, and the places of interceptors in it, have numbers of 32 bits.
+-- The steps of a plan, and the places of interceptors in it and round observers, have numbers of 32 bits.
 use Rattle.std.specs.Prelude.{ℕ, ◌&&◌, ◌^◌, List, Bool, true, length, nat_lt}
 use Rattle.std.specs.List.{list_all}
+use Rattle.cdi_event_tables.specs.declared.observers.PlannedObserver.{PlannedObserver}
 use Rattle.cdi_plans.specs.declared.plan.BusinessMethod.{BusinessMethod}
 use Rattle.cdi_plans.specs.declared.plan.InjectedMethod.{InjectedMethod}
 use Rattle.cdi_plans.specs.declared.plan.Lifecycle.{Lifecycle}
@@ -53,3 +54,16 @@ numbers_product p = numbers_source p.source && list_all numbers_member p.dispose
 abbrev pub has_numbers : Plan → Bool
 has_numbers (plans.Managed p) = numbers_managed p
 has_numbers (plans.Product p) = numbers_product p
+
+-- ---- observers
+
+-- the places of the interceptors round each
+abbrev pub observers_have_numbers : List PlannedObserver → Bool
+observers_have_numbers observers = list_all (λ (o : PlannedObserver). numbers_member o.member) observers
+
+-- and its bean
+abbrev pub numbers_observer : PlannedObserver → Bool
+numbers_observer o = is_number o.bean && numbers_member o.member
+
+abbrev pub numbers_observers : List PlannedObserver → Bool
+numbers_observers observers = list_all numbers_observer observers

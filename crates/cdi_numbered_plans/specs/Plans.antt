@@ -1,16 +1,18 @@
--- What a numbered plan tells: what the machine is told of the plan, with each point resolved.
+-- What numbered plans and observers tell: what the machine is told of them, with each point resolved.
 use Rattle.std.specs.Prelude.{◌≡◌, true, false, List, [], map, Option, Some, None}
 use Rattle.std.specs.List.{All}
 use Rattle.cdi_deployment.specs.declared.deployment.InjectedField.{InjectedField}
-use Rattle.cdi_life.specs.Resolved.{IsResolvedProduct, IsResolvedStep}
-use Rattle.cdi_life.specs.Told.{lifecycle_told, product_told, step_told}
+use Rattle.cdi_event_tables.specs.declared.observers.PlannedObserver.{PlannedObserver}
+use Rattle.cdi_life.specs.Resolved.{IsResolvedObserver, IsResolvedProduct, IsResolvedStep}
+use Rattle.cdi_life.specs.Told.{lifecycle_told, observer_told, product_told, step_told}
+use Rattle.cdi_life.specs.declared.member.Observer.{Observer}
 use Rattle.cdi_life.specs.declared.member.Product.{Product}
 use Rattle.cdi_life.specs.declared.step.Lifecycle.{Lifecycle}
 use Rattle.cdi_life.specs.declared.step.Step.{Step}
 use Rattle.cdi_machine.specs.Tables as machine
 use Rattle.cdi_machine.specs.Words.{Asked}
-use Rattle.cdi_numbered_plans.specs.Machine.{machine_injection, machine_kind, machine_resolution}
-use Rattle.cdi_numbered_plans.specs.Numbered.{bodies_by, can_number, has_few_beans, resolution_by}
+use Rattle.cdi_numbered_plans.specs.Machine.{machine_injection, machine_kind, machine_observer, machine_resolution}
+use Rattle.cdi_numbered_plans.specs.Numbered.{bodies_by, can_number, can_number_observers, has_few_beans, resolution_by}
 use Rattle.cdi_numbered_plans.specs.declared.numbering.Numbering.{Numbering}
 use Rattle.cdi_numbered_plans.specs.declared.plan.ManagedLife.{ManagedLife}
 use Rattle.cdi_numbered_plans.specs.declared.plan.NumberedPlan.{NumberedPlan}
@@ -60,6 +62,14 @@ pub record AreInjectionsBy (n : Numbering) (fields : List InjectedField) (made :
     : Type 0 where
   pub tells : has_few_beans n ≡ true → map step_told made ≡ map machine_injection fields
   pub resolved : All (IsResolvedStep (resolve_by n)) made
+
+-- what is made of observers
+pub record AreObserversBy (n : Numbering) (observers : List PlannedObserver) (made : List Observer)
+    : Type 0 where
+  pub tells :
+      can_number_observers n observers ≡ true
+      → map observer_told made ≡ map (machine_observer (bodies_by n)) observers
+  pub resolved : All (IsResolvedObserver (resolve_by n)) made
 
 -- ---- parts
 

@@ -1,4 +1,4 @@
-//! Plans in the words of an instance's life, made once: bodies by their numbers, with what each injection point resolves to. Steps at
+//! Plans and observers in the words of an instance's life, made once: bodies by their numbers, with what each injection point resolves to. Steps at
 //! which nothing runs are left out (Jakarta CDI 4.0, *Lifecycle of managed beans*, *Lifecycle of producer methods*, *Typesafe
 //! resolution*).
 #![tactic(auto)]
@@ -10,6 +10,7 @@ mod members;
 pub mod methods;
 pub mod numbering;
 pub mod numbers;
+pub mod observers;
 pub mod plan;
 pub mod points;
 pub mod steps;
@@ -18,7 +19,8 @@ pub use fields::first_values;
 pub use injections::injections_by;
 pub use methods::methods_by;
 pub use numbering::Numbering;
-pub use numbers::has_numbers;
+pub use numbers::{has_numbers, observers_have_numbers};
+pub use observers::observers_by;
 pub use plan::{ManagedLife, NumberedPlan};
 pub use points::{resolution_at, resolutions_at};
 pub use steps::{has_none, is_idle};

@@ -1,4 +1,5 @@
-//! Producers and disposers (Jakarta CDI 4.0, *Lifecycle of producer methods*, *Lifecycle of producer fields*).
+//! Members whose parameters are injected: producers and disposers (Jakarta CDI 4.0, *Lifecycle of producer methods*, *Lifecycle of
+//! producer fields*), and what runs where an observer is notified.
 ghost use Rattle.std.specs.Prelude.{◌≡◌, map, IfOk, IsTrue};
 ghost use Rattle.std.specs.List.{list_all};
 ghost use Rattle.cdi_numbered_plans.specs.Numbered as spec;
@@ -14,8 +15,8 @@ use cdi_plans::{InjectedMethod, Source as NamedSource};
 use cdi_resolve::Resolver;
 use std::alloc::{AllocError, Global};
 
-/// A producer method or a disposer.
-fn member_of(
+/// A producer method, a disposer, or what runs where an observer is notified.
+pub(crate) fn member_of(
     alloc: Global,
     numbering: &Numbering<'_>,
     lookup: &mut Lookup<&Resolver>,

@@ -1,10 +1,11 @@
-//! Whether the steps of a plan and the places of interceptors in it can be numbered.
+//! Whether the steps of a plan and the places of interceptors, in it and round observers, can be numbered.
 ghost use Rattle.std.specs.Prelude.{◌≡◌};
 ghost use Rattle.std.specs.List.{list_all};
 ghost use Rattle.cdi_numbered_plans.specs.Numbered as numbered;
 ghost use Rattle.cdi_numbered_plans.specs.Numbers as spec;
 
 use crate::numbering::Numbering;
+use cdi_event_tables::PlannedObserver;
 use cdi_plans::{
     BusinessMethod, InjectedMethod, Lifecycle, ManagedPlan, Plan, ProductPlan, Source, Step,
 };
@@ -99,6 +100,27 @@ pub fn has_numbers(plan: &Plan) -> bool
     }
 }
 
+/// Whether the places of the interceptors round some observers are below 4,294,967,296.
+pub fn observers_have_numbers(observers: &[PlannedObserver]) -> bool
+    ensures { result ≡ spec.observers_have_numbers observers.now }
+{
+    observers
+        .iter()
+        .all(|observer| numbers_member(&observer.member))
+}
+
+fn numbers_observer(observer: &PlannedObserver) -> bool
+    ensures { result ≡ spec.numbers_observer observer.now }
+{
+    is_number(observer.bean) && numbers_member(&observer.member)
+}
+
+fn numbers_observers(observers: &[PlannedObserver]) -> bool
+    ensures { result ≡ spec.numbers_observers observers.now }
+{
+    observers.iter().all(numbers_observer)
+}
+
 impl Numbering<'_> {
     /// Whether there are at most 4,294,967,296 beans.
     pub(crate) fn has_few_beans(&self) -> bool
@@ -113,5 +135,13 @@ impl Numbering<'_> {
         ensures { result ≡ numbered.can_number self.now plan.now }
     {
         self.has_few_beans() && has_numbers(plan)
+    }
+
+    /// Whether what some observers name has numbers of 32 bits: there are at most 4,294,967,296 beans, and the places of the observers'
+    /// beans and of their interceptors are below that.
+    pub(crate) fn can_number_observers(&self, observers: &[PlannedObserver]) -> bool
+        ensures { result ≡ numbered.can_number_observers self.now observers.now }
+    {
+        self.has_few_beans() && numbers_observers(observers)
     }
 }

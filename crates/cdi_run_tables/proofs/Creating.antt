@@ -1,5 +1,5 @@
 -- The steps by which instances of interceptors are created are those of the machine.
-use Rattle.std.proofs.Common.{ℕ, ◌≡◌, ◌∙◌, ◌&&◌, ◌^◌, ◌<◌, Bool, true, nat_le, nat_lt, List, [], ◌∷◌, Option, Some, None, Result, Ok, Err, length, map, refl, sym, ap, arith, subst, zero, suc}
+use Rattle.std.proofs.Common.{ℕ, ◌≡◌, ◌∙◌, ◌^◌, ◌<◌, Bool, true, nat_le, nat_lt, List, [], ◌∷◌, Option, Some, None, Result, Ok, Err, length, map, refl, sym, ap, arith, subst, zero, suc}
 use Rattle.std.specs.Prelude.{slice_get, option_map, option_and_then, IfOk, IfSome}
 use Rattle.std.specs.declared.alloc.AllocError.{AllocError}
 use Rattle.std.specs.List.{All, AllZip, list_all}
@@ -15,19 +15,18 @@ use Rattle.cdi_life.specs.Resolved.{IsResolvedStep}
 use Rattle.cdi_life.specs.Told.{step_told}
 use Rattle.cdi_life.specs.declared.step.Step.{Step}
 use Rattle.cdi_numbered_plans.specs.Machine.{machine_injection}
-use Rattle.cdi_numbered_plans.specs.Numbers.{has_numbers}
 use Rattle.cdi_numbered_plans.specs.Plans.{AreInjectionsBy}
 use Rattle.cdi_numbered_plans.specs.declared.numbering.Numbering.{Numbering}
 use Rattle.cdi_quals.specs.declared.types.QualifierType.{QualifierType}
 use Rattle.cdi_resolve.specs.Filters.{Candidates, enabled_of}
 use Rattle.cdi_resolve.specs.Resolution.{resolution}
+use Rattle.cdi_run_tables.proofs.NumberedParts.{numbers_of}
 use Rattle.cdi_run_tables.specs.Index.{ArePlannedBy, AreStepsOf, IsNumberingOf}
 use Rattle.cdi_run_tables.specs.Interceptors.{injecting, plan_of}
 use Rattle.cdi_run_tables.specs.Machine.{injection, interceptor_at, machine_interceptor, machine_resolution}
 use Rattle.cdi_run_tables.specs.Numbered as spec
 use Rattle.cdi_run_tables.specs.Sizes.{has_few_fields}
 use Rattle.cdi_run_tables.specs.declared.parts.RunParts.{RunParts}
-use Rattle.cdi_run_tables.specs.declared.planned.PlannedBean.{PlannedBean}
 
 each_injected : (fields : List InjectedField) → map machine_injection fields ≡ map injecting (map injection fields)
 each_injected [] = refl
@@ -101,14 +100,8 @@ module _ (t : RunParts) where
   few_at (j ∷ js) all (suc n) = few_at js (and_parts (has_few_fields j) (list_all has_few_fields js) all).1 n
 
   module _ (all : spec.is_numbered t ≡ true) where
-    abbrev plans : Bool
-    plans = list_all (λ (b : PlannedBean). has_numbers b.plan) t.beans
-
-    parts : ((spec.has_few_beans t && plans) ≡ true) × (list_all has_few_fields t.deployment.interceptors ≡ true)
-    parts = and_parts (spec.has_few_beans t && plans) (list_all has_few_fields t.deployment.interceptors) all
-
     pub few_beans : spec.has_few_beans t ≡ true
-    few_beans = (and_parts (spec.has_few_beans t) plans parts.0).0
+    few_beans = (numbers_of t all).few
 
     -- what an interceptor has can be counted
     pub few_injections : (n : ℕ) → length (plan_of (interceptor_at t n)) < 2 ^ 32
@@ -123,4 +116,4 @@ module _ (t : RunParts) where
 
         by : (o : Option EnabledInterceptor) → length (plan_of (option_map (machine_interceptor (id_in t.ids)) (declared_in o))) < 2 ^ 32
         by None = omega arith
-        by (Some j) = of_declared (slice_get t.deployment.interceptors j.index) (few_at t.deployment.interceptors parts.1 j.index)
+        by (Some j) = of_declared (slice_get t.deployment.interceptors j.index) (few_at t.deployment.interceptors (numbers_of t all).fields j.index)

@@ -11,10 +11,12 @@ use Rattle.cdi_deployment.specs.declared.deployment.Class.{Class}
 use Rattle.cdi_deployment.specs.declared.deployment.Observer.{Observer}
 use Rattle.cdi_machine.specs.Tables as machine
 use Rattle.cdi_machine.specs.Words.{Name}
+use Rattle.cdi_numbered_plans.specs.Machine as numbered
 use Rattle.cdi_plans.specs.Observers.{observer_method, observer_of}
 use Rattle.cdi_plans.specs.declared.plan.InjectedMethod.{InjectedMethod}
 use Rattle.cdi_resolve.specs.Filters.{is_enabled}
 use Rattle.cdi_event_tables.specs.Events as events
+use Rattle.cdi_event_tables.specs.Ids.{id_in}
 use Rattle.cdi_event_tables.specs.Events.{Group, groups_of, with_observer}
 use Rattle.cdi_event_tables.specs.Observers as planned
 use Rattle.cdi_event_tables.specs.Observers.{is_heard_by, managed_bean, member_of, planned_with, with_planned, with_told}
@@ -23,7 +25,7 @@ use Rattle.cdi_event_tables.specs.declared.observers.PlannedObserver.{PlannedObs
 use Rattle.cdi_event_tables.proofs.Grouped.{added, back, front, grouped, grouped_by_back, items, kept, told, told_of, with_item}
 use Rattle.cdi_run_tables.specs.Machine as whole
 use Rattle.cdi_run_tables.specs.Machine.{has_none, observers_of}
-use Rattle.cdi_run_tables.specs.Observers.{heard_among, machine_observer, planned_groups}
+use Rattle.cdi_run_tables.specs.Observers.{heard_among, planned_groups}
 use Rattle.cdi_run_tables.specs.Planned.{plan_tables}
 use Rattle.cdi_run_tables.specs.declared.parts.RunParts.{RunParts}
 
@@ -111,38 +113,38 @@ module _ {Y : Type 0} (k : ObserverMethod → Option Y) where
       by (y ∷ ys) rec = ap (λ rest. (y ∷ ys) ∷ rest) rec
 
 -- of the planned ones
-module _ (hears : PlannedObserver → Bool) where
+module _ (seen : PlannedObserver → machine.Observer) (hears : PlannedObserver → Bool) where
   abbrev shown : PlannedObserver → Option machine.Observer
-  shown o = cond (hears o) (Some (machine_observer o)) None
+  shown o = cond (hears o) (Some (seen o)) None
 
-  shown_heard : (os : List PlannedObserver) → filter_map shown os ≡ map machine_observer (filter hears os)
+  shown_heard : (os : List PlannedObserver) → filter_map shown os ≡ map seen (filter hears os)
   shown_heard [] = refl
   shown_heard (o ∷ os) = by (hears o) (shown_heard os)
     where
-      by : (b : Bool) → filter_map shown os ≡ map machine_observer (filter hears os) → cons_option (cond b (Some (machine_observer o)) None) (filter_map shown os) ≡ map machine_observer (cond b (o ∷ filter hears os) (filter hears os))
-      by true rec = ap (λ rest. machine_observer o ∷ rest) rec
+      by : (b : Bool) → filter_map shown os ≡ map seen (filter hears os) → cons_option (cond b (Some (seen o)) None) (filter_map shown os) ≡ map seen (cond b (o ∷ filter hears os) (filter hears os))
+      by true rec = ap (λ rest. seen o ∷ rest) rec
       by false rec = rec
 
-  heard_told : (gs : List ObserverGroup) → map (map machine_observer) (heard_among hears gs) ≡ map second (told shown (map planned_by_priority gs))
+  heard_told : (gs : List ObserverGroup) → map (map seen) (heard_among hears gs) ≡ map second (told shown (map planned_by_priority gs))
   heard_told [] = refl
   heard_told (g ∷ gs) =
       by (filter hears g.observers) (heard_told gs)
       ∙ ap (λ ys. map second (kept shown g.priority ys (told shown (map planned_by_priority gs)))) (sym (shown_heard g.observers))
     where
-      by : (os : List PlannedObserver) → map (map machine_observer) (heard_among hears gs) ≡ map second (told shown (map planned_by_priority gs))
-          → map (map machine_observer) (cond (not (has_none os)) (os ∷ heard_among hears gs) (heard_among hears gs))
-          ≡ map second (kept shown g.priority (map machine_observer os) (told shown (map planned_by_priority gs)))
+      by : (os : List PlannedObserver) → map (map seen) (heard_among hears gs) ≡ map second (told shown (map planned_by_priority gs))
+          → map (map seen) (cond (not (has_none os)) (os ∷ heard_among hears gs) (heard_among hears gs))
+          ≡ map second (kept shown g.priority (map seen os) (told shown (map planned_by_priority gs)))
       by [] rec = rec
-      by (o ∷ os) rec = ap (λ rest. map machine_observer (o ∷ os) ∷ rest) rec
+      by (o ∷ os) rec = ap (λ rest. map seen (o ∷ os) ∷ rest) rec
 
 -- ---- observer by observer
 
-record AreAlike (test : ObserverMethod → Bool) (k : ObserverMethod → Option machine.Observer) (plan : ObserverMethod → Option PlannedObserver) (hears : PlannedObserver → Bool) (o : ObserverMethod) : Type 0 where
-  same : k o ≡ option_map machine_observer (plan o)
+record AreAlike (seen : PlannedObserver → machine.Observer) (test : ObserverMethod → Bool) (k : ObserverMethod → Option machine.Observer) (plan : ObserverMethod → Option PlannedObserver) (hears : PlannedObserver → Bool) (o : ObserverMethod) : Type 0 where
+  same : k o ≡ option_map seen (plan o)
   heard : (x : PlannedObserver) → plan o ≡ Some x → hears x ≡ test o
 
-module _ (test : ObserverMethod → Bool) (k : ObserverMethod → Option machine.Observer) (plan : ObserverMethod → Option PlannedObserver) (hears : PlannedObserver → Bool) (alike : (o : ObserverMethod) → AreAlike test k plan hears o) where
-  same_items : (os : List ObserverMethod) → items k (map ranked (filter test os)) ≡ items (shown hears) (items plan (map ranked os))
+module _ (seen : PlannedObserver → machine.Observer) (test : ObserverMethod → Bool) (k : ObserverMethod → Option machine.Observer) (plan : ObserverMethod → Option PlannedObserver) (hears : PlannedObserver → Bool) (alike : (o : ObserverMethod) → AreAlike seen test k plan hears o) where
+  same_items : (os : List ObserverMethod) → items k (map ranked (filter test os)) ≡ items (shown seen hears) (items plan (map ranked os))
   same_items [] = refl
   same_items (o ∷ os) = by (plan o) refl (test o) refl (same_items os)
     where
@@ -153,26 +155,26 @@ module _ (test : ObserverMethod → Bool) (k : ObserverMethod → Option machine
       told_on true m e = ap (λ n. with_item k o.priority n (items k (map ranked (filter test os)))) e
       told_on false m e = refl
 
-      by : (m : Option PlannedObserver) → plan o ≡ m → (b : Bool) → test o ≡ b → items k (map ranked (filter test os)) ≡ items (shown hears) (items plan (map ranked os))
-          → items k (map ranked (cond b (o ∷ filter test os) (filter test os))) ≡ items (shown hears) (with_item plan o.priority m (items plan (map ranked os)))
-      by None e true f rec = told_on true None ((alike o).same ∙ ap (option_map machine_observer) e) ∙ rec
+      by : (m : Option PlannedObserver) → plan o ≡ m → (b : Bool) → test o ≡ b → items k (map ranked (filter test os)) ≡ items (shown seen hears) (items plan (map ranked os))
+          → items k (map ranked (cond b (o ∷ filter test os) (filter test os))) ≡ items (shown seen hears) (with_item plan o.priority m (items plan (map ranked os)))
+      by None e true f rec = told_on true None ((alike o).same ∙ ap (option_map seen) e) ∙ rec
       by None e false f rec = rec
       by (Some x) e true f rec =
-          told_on true (Some (machine_observer x)) ((alike o).same ∙ ap (option_map machine_observer) e)
-          ∙ ap (λ r. (o.priority, machine_observer x) ∷ r) rec
-          ∙ ap (λ c. with_item (shown hears) o.priority (cond c (Some (machine_observer x)) None) (items (shown hears) (items plan (map ranked os)))) (sym ((alike o).heard x e ∙ f))
+          told_on true (Some (seen x)) ((alike o).same ∙ ap (option_map seen) e)
+          ∙ ap (λ r. (o.priority, seen x) ∷ r) rec
+          ∙ ap (λ c. with_item (shown seen hears) o.priority (cond c (Some (seen x)) None) (items (shown seen hears) (items plan (map ranked os)))) (sym ((alike o).heard x e ∙ f))
       by (Some x) e false f rec =
           rec
-          ∙ ap (λ c. with_item (shown hears) o.priority (cond c (Some (machine_observer x)) None) (items (shown hears) (items plan (map ranked os)))) (sym ((alike o).heard x e ∙ f))
+          ∙ ap (λ c. with_item (shown seen hears) o.priority (cond c (Some (seen x)) None) (items (shown seen hears) (items plan (map ranked os)))) (sym ((alike o).heard x e ∙ f))
 
-  same_groups : (os : List ObserverMethod) → map (map machine_observer) (heard_among hears (fold (next plan) [] os))
+  same_groups : (os : List ObserverMethod) → map (map seen) (heard_among hears (fold (next plan) [] os))
       ≡ filter (λ group. not (has_none group)) (map (λ (g : Group). filter_map k g.observers) (groups_of (filter test os)))
   same_groups os =
       let all = map ranked os in
       let kept_ones = map ranked (filter test os) in
-      heard_told hears (fold (next plan) [] os)
-      ∙ ap (λ gs. map second (told (shown hears) gs)) (planned_are plan os)
-      ∙ ap (map second) (told_of (shown hears) (items plan all))
+      heard_told seen hears (fold (next plan) [] os)
+      ∙ ap (λ gs. map second (told (shown seen hears) gs)) (planned_are plan os)
+      ∙ ap (map second) (told_of (shown seen hears) (items plan all))
       ∙ ap (λ is. map second (grouped is)) (sym (same_items os))
       ∙ ap (map second) (sym (told_of k kept_ones))
       ∙ ap (λ gs. map second (told k gs)) (sym (groups_are (filter test os)))
@@ -193,16 +195,19 @@ module _ (t : RunParts) (class : Name) (uses : List Use) where
   abbrev pub hears_it : PlannedObserver → Bool
   hears_it = is_heard_by t.tables.declared class uses
 
+  abbrev pub seen_of : PlannedObserver → machine.Observer
+  seen_of o = numbered.machine_observer (id_in t.ids) o
+
   module _ (o : ObserverMethod) where
-    planned_is : whole.machine_observer t o ≡ option_map machine_observer (plan_of o)
+    planned_is : whole.machine_observer t o ≡ option_map seen_of (plan_of o)
     planned_is = by (managed_bean t.tables.resolver.beans o.bean)
       where
-        declared : (bean : ℕ) (b : Bool) (d : Option (Class × Observer)) → cond b (option_map (whole.observer_with t o bean) d) None ≡ option_map machine_observer (cond b (option_map (planned_with t.ids o bean) (option_map (observer_method t.tables.chains o.bean) d)) None)
+        declared : (bean : ℕ) (b : Bool) (d : Option (Class × Observer)) → cond b (option_map (whole.observer_with t o bean) d) None ≡ option_map seen_of (cond b (option_map (planned_with t.ids o bean) (option_map (observer_method t.tables.chains o.bean) d)) None)
         declared bean true (Some d) = refl
         declared bean true None = refl
         declared bean false d = refl
 
-        by : (m : Option ℕ) → option_and_then (whole.observer_of_bean t o) m ≡ option_map machine_observer (option_and_then (of_bean o) m)
+        by : (m : Option ℕ) → option_and_then (whole.observer_of_bean t o) m ≡ option_map seen_of (option_and_then (of_bean o) m)
         by None = refl
         by (Some bean) = declared bean (is_enabled t.tables.resolver.flags bean) (observer_of t.deployment.classes o)
 
@@ -221,8 +226,8 @@ module _ (t : RunParts) (class : Name) (uses : List Use) where
         by None is = absurd cc
         by (Some bean) is = declared bean (is_enabled t.tables.resolver.flags bean) (member_of (plan_tables t.deployment t.tables) o) is
 
-    alike_of : AreAlike test_of (whole.machine_observer t) plan_of hears_it o
+    alike_of : AreAlike seen_of test_of (whole.machine_observer t) plan_of hears_it o
     alike_of = record { same = planned_is; heard = heard_alike }
 
-  pub heard_observers : map (map machine_observer) (heard_among hears_it (planned_groups t)) ≡ observers_of t class uses
-  heard_observers = same_groups test_of (whole.machine_observer t) plan_of hears_it alike_of t.tables.observers
+  pub heard_observers : map (map seen_of) (heard_among hears_it (planned_groups t)) ≡ observers_of t class uses
+  heard_observers = same_groups seen_of test_of (whole.machine_observer t) plan_of hears_it alike_of t.tables.observers

@@ -1,6 +1,12 @@
 pub mod Creating
+pub mod Enabled
 pub mod Heard
+pub mod Hearing
 pub mod Indexed
+pub mod NumberedParts
+pub mod Observing
+pub mod PlannedGroups
 pub mod Telling
+pub mod WellFormed
 pub mod Zips
 pub mod Remembered

@@ -1,5 +1,5 @@
 -- Plans in the words of an instance's life tell what the machine is told.
-use Rattle.std.proofs.Common.{ℕ, ◌≡◌, ◌∙◌, ◌&&◌, ◌^◌, ◌<◌, ◌≤◌, Bor, Bool, true, false, cond, filter, nat_le, nat_lt, List, [], ◌∷◌, Option, Some, None, length, map, refl, sym, ap, arith, subst, zero, suc}
+use Rattle.std.proofs.Common.{ℕ, ◌≡◌, ◌∙◌, ◌^◌, ◌<◌, ◌≤◌, Bor, Bool, true, false, cond, filter, nat_le, nat_lt, List, [], ◌∷◌, Option, Some, None, length, map, refl, sym, ap, arith, subst, zero, suc}
 use Rattle.std.specs.Prelude.{slice_get, nat_eq, option_map, option_and_then, IfSome}
 use Rattle.std.specs.HashMap.{get}
 use Rattle.std.specs.List.{All, list_all}
@@ -23,10 +23,11 @@ use Rattle.cdi_plans.specs.declared.plan.Plan.TheVariants as plan_kinds
 use Rattle.cdi_quals.specs.declared.types.QualifierType.{QualifierType}
 use Rattle.cdi_resolve.specs.Filters.{Candidates, enabled_of}
 use Rattle.cdi_resolve.specs.Resolution.{resolution}
+use Rattle.cdi_run_tables.proofs.Enabled.{if_enabled}
+use Rattle.cdi_run_tables.proofs.NumberedParts.{numbers_of}
 use Rattle.cdi_run_tables.specs.Index.{IsIndexAt, IsNumberedOf, IsNumberingOf}
-use Rattle.cdi_run_tables.specs.Machine.{bean_with, does_something, machine_bean, machine_kind, machine_resolution, machine_step, method_in, method_of, product_with}
+use Rattle.cdi_run_tables.specs.Machine.{bean_with, does_something, machine_bean, machine_kind, machine_resolution, machine_step, method_in, method_of, planned_at, product_with}
 use Rattle.cdi_run_tables.specs.Numbered as spec
-use Rattle.cdi_run_tables.specs.Sizes.{has_few_fields}
 use Rattle.cdi_run_tables.specs.declared.index.BeanIndex.{BeanIndex}
 use Rattle.cdi_run_tables.specs.declared.parts.RunParts.{RunParts}
 use Rattle.cdi_run_tables.specs.declared.planned.PlannedBean.{PlannedBean}
@@ -74,34 +75,35 @@ module _ (t : RunParts) where
 
   module _ (all : spec.is_numbered t ≡ true) (n : ℕ) where
     parts : (spec.has_few_beans t ≡ true) × (list_all (λ (b : PlannedBean). has_numbers b.plan) t.beans ≡ true)
-    parts =
-        let plans = list_all (λ (b : PlannedBean). has_numbers b.plan) t.beans in
-        and_parts (spec.has_few_beans t) plans (and_parts (spec.has_few_beans t && plans) (list_all has_few_fields t.deployment.interceptors) all).0
+    parts = let numbers = numbers_of t all in (numbers.few, numbers.plans)
 
-    pub methods_told : (i : BeanIndex) → IsIndexAt t (slice_get t.beans n) (Some i) → (name : ℕ) → option_map method_told (get nat_eq i.business name) ≡ method_of t n name
-    methods_told i h name = by (slice_get t.beans n) h (has_numbers_at t.beans parts.1 n)
+    have_numbers : IfSome (planned_at t n) (λ b. has_numbers b.plan ≡ true)
+    have_numbers = if_enabled t (λ o. IfSome o (λ b. has_numbers b.plan ≡ true)) n tt (has_numbers_at t.beans parts.1 n)
+
+    pub methods_told : (i : BeanIndex) → IsIndexAt t (planned_at t n) (Some i) → (name : ℕ) → option_map method_told (get nat_eq i.methods name) ≡ method_of t n name
+    methods_told i h name = by (planned_at t n) h have_numbers
       where
         back : (o : Option machine.Method) → option_map method_told (option_map method_by o) ≡ o
         back None = refl
         back (Some m) = refl
 
         by : (b : Option PlannedBean) → IsIndexAt t b (Some i) → IfSome b (λ x. has_numbers x.plan ≡ true)
-            → option_map method_told (get nat_eq i.business name) ≡ option_and_then (λ (x : PlannedBean). method_in (id_in t.ids) x.plan name) b
+            → option_map method_told (get nat_eq i.methods name) ≡ option_and_then (λ (x : PlannedBean). method_in (id_in t.ids) x.plan name) b
         by None h can = absurd h
-        by (Some b) h can = ap (option_map method_told) (h.business.same can name) ∙ back (method_in (id_in t.ids) b.plan name)
+        by (Some b) h can = ap (option_map method_told) (h.methods.same can name) ∙ back (method_in (id_in t.ids) b.plan name)
 
-    pub numbered_told : (i : BeanIndex) → IsIndexAt t (slice_get t.beans n) (Some i) → TellsOf (spec.kind_at t n) i.numbered
-    numbered_told i h = told_in (slice_get t.beans n) i h parts.0 (has_numbers_at t.beans parts.1 n)
+    pub numbered_told : (i : BeanIndex) → IsIndexAt t (planned_at t n) (Some i) → TellsOf (spec.kind_at t n) i.numbered
+    numbered_told i h = told_in (planned_at t n) i h parts.0 have_numbers
 
-  pub no_methods : (n : ℕ) → IsIndexAt t (slice_get t.beans n) None → (name : ℕ) → None ≡ method_of t n name
-  no_methods n h name = by (slice_get t.beans n) h
+  pub no_methods : (n : ℕ) → IsIndexAt t (planned_at t n) None → (name : ℕ) → None ≡ method_of t n name
+  no_methods n h name = by (planned_at t n) h
     where
       by : (b : Option PlannedBean) → IsIndexAt t b None → None ≡ option_and_then (λ (x : PlannedBean). method_in (id_in t.ids) x.plan name) b
       by None h = refl
       by (Some b) h = absurd h
 
-  pub none_told : (n : ℕ) → IsIndexAt t (slice_get t.beans n) None → TellsOf (spec.kind_at t n) None
-  none_told n h = by (slice_get t.beans n) h
+  pub none_told : (n : ℕ) → IsIndexAt t (planned_at t n) None → TellsOf (spec.kind_at t n) None
+  none_told n h = by (planned_at t n) h
     where
       by : (b : Option PlannedBean) → IsIndexAt t b None → TellsOf (kind_in b) None
       by None h = tt
@@ -183,7 +185,7 @@ module _ (t : RunParts) where
       by (Some b) = omega arith
 
   pub few_steps : spec.is_numbered t ≡ true → (n : ℕ) → length (spec.plan_in (spec.kind_at t n)) < 2 ^ 32
-  few_steps all n = by (slice_get t.beans n) (has_numbers_at t.beans (parts t all n).1 n)
+  few_steps all n = by (planned_at t n) (have_numbers t all n)
     where
       by : (b : Option PlannedBean) → IfSome b (λ x. has_numbers x.plan ≡ true) → length (spec.plan_in (kind_in t b)) < 2 ^ 32
       by None h = omega arith

@@ -2,11 +2,10 @@
 use Rattle.std.specs.Prelude.{ℕ, List, [], map, Option, Some, None, option_and_then, option_map}
 use Rattle.cdi_base.specs.declared.place.InterceptorMethod.{InterceptorMethod}
 use Rattle.cdi_base.specs.declared.place.Place.TheVariants as places
-use Rattle.cdi_body_check.specs.Sites.{method_body}
 use Rattle.cdi_deployment.specs.declared.deployment.Interceptor.{Interceptor}
 use Rattle.cdi_machine.specs.Tables as machine
 use Rattle.cdi_machine.specs.Words.{Name, Asked, Fields}
-use Rattle.cdi_run_tables.specs.Machine.{declared_at, id_of, interceptor_at}
+use Rattle.cdi_run_tables.specs.Machine.{interceptor_at}
 use Rattle.cdi_run_tables.specs.declared.tables.RunTables.{RunTables}
 
 -- where there is no interceptor, there are no fields
@@ -26,13 +25,7 @@ injecting p = machine.Step.Inject p.0 p.1
 abbrev pub plan_of : Option machine.Interceptor → List machine.Step
 plan_of j = map injecting (injected_in j)
 
--- the number of the body of the method that the interceptor at a place has for a role, if it has one and that is registered
-abbrev pub registered_body : RunTables → ℕ → InterceptorMethod → Option ℕ
-registered_body t place role =
-    option_and_then (id_of t)
-    (option_and_then (λ (j : Interceptor). method_body j role) (declared_at t place))
-
--- its code; a body that isn't registered has the number of no body
+-- the code of the method of an interceptor for a role; a body that isn't registered has the number of no body
 abbrev pub code_in : InterceptorMethod → machine.Interceptor → Option machine.Code
 code_in role j =
     option_map (λ b. record { place = places.Interceptor j.name role; body = b }) (j.body role)

@@ -6,5 +6,7 @@ pub mod Managed
 pub mod Numbered
 pub mod Observers
 pub mod Planned
+pub mod Registered
 pub mod Sizes
 pub mod Texts
+pub mod WellFormed

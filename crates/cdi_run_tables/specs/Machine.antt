@@ -27,7 +27,6 @@ use Rattle.cdi_event_tables.specs.Events.{Group, groups_of, hears, written_uses}
 use Rattle.cdi_event_tables.specs.Ids.{id_in, AreIdsIn}
 use Rattle.cdi_event_tables.specs.Observers.{managed_bean}
 use Rattle.cdi_run_tables.specs.declared.planned.PlannedBean.{PlannedBean}
-use Rattle.cdi_run_tables.specs.declared.tables.Method.{Method}
 use Rattle.cdi_run_tables.specs.declared.tables.RunTables.{RunTables}
 use Rattle.cdi_shape_check.specs.References.{point_of_field, point_of_lookup}
 use Rattle.cdi_shape_check.specs.WrittenNames.{is_event}
@@ -49,19 +48,18 @@ abbrev pub AreIdsOf : {X : Type 0} {F : X → Type 0} {g : _} → List (Entry X 
     → Type 0
 AreIdsOf entries t = AreIdsIn entries t.deployment t.ids
 
+-- the bean with an index, if it is enabled: of no other one is an instance made
+abbrev pub planned_at : RunTables → ℕ → Option PlannedBean
+planned_at t b = if is_enabled t.tables.resolver.flags b then slice_get t.beans b else None
+
 abbrev pub bean_at : RunTables → ℕ → Option machine.Bean
 bean_at t b =
-    option_and_then (machine_bean (id_of t) t.tables.resolver.beans) (slice_get t.beans b)
+    option_and_then (machine_bean (id_of t) t.tables.resolver.beans) (planned_at t b)
 
 -- the method of a bean, as its plan has it
 abbrev pub method_of : RunTables → ℕ → Name → Option machine.Method
 method_of t b name =
-    option_and_then (λ (bean : PlannedBean). method_in (id_of t) bean.plan name)
-    (slice_get t.beans b)
-
--- what the code hands out of a method
-abbrev pub without_chain : machine.Method → Method
-without_chain m = record { place = m.code.place; count = m.count; body = m.code.body }
+    option_and_then (λ (bean : PlannedBean). method_in (id_of t) bean.plan name) (planned_at t b)
 
 -- ---- names
 

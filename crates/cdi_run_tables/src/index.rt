@@ -6,21 +6,17 @@ ghost use Rattle.cdi_run_tables.specs.Index as spec;
 
 use crate::asked::CommandAnswers;
 use crate::exceptions::checked_exceptions;
-use crate::injected::{Injected, injected_by};
 use crate::interceptor_steps::all_steps;
-use crate::interceptors::all_resolutions;
-use crate::methods::methods_of;
+use crate::observers::observers_of;
 use crate::parts::RunParts;
 use crate::planned::PlannedBean;
-use crate::tables::Method;
 use cdi_base::{Name, Seq};
 use cdi_cache::Lookup;
 use cdi_event_tables::EventTables;
-use cdi_life::{Method as BusinessMethod, Step};
+use cdi_life::{Method, Observer, Step};
 use cdi_name_check::NameSets;
 use cdi_numbered_plans::{NumberedPlan, Numbering, methods_by};
-use cdi_plans::Plan;
-use cdi_resolve::{Resolution, Resolver};
+use cdi_resolve::Resolver;
 use std::alloc::{AllocError, Global};
 use std::collections::{HashMap, HashSet};
 use std::num::NonZeroUsize;
@@ -31,13 +27,10 @@ const REMEMBERED: usize = 256;
 /// What is looked up of a bean.
 #[derive(Drop)]
 pub(crate) struct BeanIndex {
-    pub(crate) methods: HashMap<Name, Method>,
-    /// Its injected fields in the order of the plan.
-    pub(crate) injected: Seq<Injected>,
     /// Its plan in the words of an instance's life, if what that names has numbers.
     pub(crate) numbered: Option<NumberedPlan>,
-    /// Its methods with their chains; none if what the plan names has no numbers.
-    pub(crate) business: HashMap<Name, BusinessMethod>,
+    /// Its methods by their names; none if what the plan names has no numbers.
+    pub(crate) methods: HashMap<Name, Method>,
 }
 
 /// What is looked up of a deployment.
@@ -47,10 +40,10 @@ pub(crate) struct RunIndex {
     pub(crate) checked: HashSet<Name>,
     pub(crate) events: EventTables,
     pub(crate) beans: Seq<BeanIndex>,
-    /// What the injected fields of each enabled interceptor resolve to.
-    pub(crate) interceptors: Seq<Seq<Resolution>>,
     /// The steps by which an instance of each enabled interceptor is created; none if there are too many beans to be numbered.
     pub(crate) interceptor_steps: Seq<Seq<Step>>,
+    /// The observers of each group of planned ones; none if what these name has no numbers.
+    pub(crate) observers: Seq<Seq<Observer>>,
     /// What the last commands asked for resolves to.
     pub(crate) asked: CommandAnswers,
 }
@@ -63,27 +56,10 @@ impl Drop for RunIndex {
             checked: _checked,
             events: _events,
             beans: _beans,
-            interceptors: _interceptors,
             interceptor_steps: _interceptor_steps,
+            observers: _observers,
             asked: _asked,
         } = self;
-    }
-}
-
-/// The injected fields of a bean; a product has none.
-fn injected_of(
-    alloc: Global,
-    parts: &RunParts,
-    lookup: &mut Lookup<&Resolver>,
-    plan: &Plan,
-) -> Result<Seq<Injected>, AllocError>
-    requires { spec.AsksOf parts.now lookup.old.now }
-    ensures all { IfOk result (spec.AreInjectedOf parts.now plan.now) }
-    ensures kept { spec.AsksOf parts.now lookup.new.now }
-{
-    match plan {
-        Plan::Managed(plan) => injected_by(alloc, parts, lookup, plan.steps.as_slice()),
-        Plan::Product(_plan) => Ok(Seq::empty(alloc)),
     }
 }
 
@@ -101,16 +77,9 @@ impl BeanIndex {
         ensures index { IfOk result (spec.IsBeanIndex parts.now bean.now) }
         ensures kept { spec.AsksOf parts.now lookup.new.now }
     {
-        let methods = methods_of(alloc, &bean.plan, &parts.ids)?;
-        let injected = injected_of(alloc, parts, lookup, &bean.plan)?;
         let numbered = NumberedPlan::build(alloc, numbering, lookup, &bean.plan)?;
-        let business = methods_by(alloc, &parts.ids, &bean.plan)?;
-        Ok(BeanIndex {
-            methods,
-            injected,
-            numbered,
-            business,
-        })
+        let methods = methods_by(alloc, &parts.ids, &bean.plan)?;
+        Ok(BeanIndex { numbered, methods })
     }
 }
 
@@ -158,9 +127,9 @@ impl RunIndex {
         Ok(RunIndex {
             names,
             checked: checked_exceptions(alloc, deployment.exceptions.as_slice())?,
+            observers: observers_of(alloc, parts, &numbering, &mut lookup, &events)?,
             events,
             beans: bean_indices(alloc, parts, &numbering, &mut lookup)?,
-            interceptors: all_resolutions(alloc, parts, &mut lookup)?,
             interceptor_steps: all_steps(alloc, parts, &numbering, &mut lookup)?,
             asked: CommandAnswers::new(alloc)?,
         })

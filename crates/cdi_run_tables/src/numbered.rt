@@ -6,9 +6,10 @@ ghost use Rattle.cdi_life.specs.Told.{lifecycle_told, method_told, product_told,
 ghost use Rattle.std.specs.List.{list_all};
 ghost use Rattle.cdi_numbered_plans.specs.Numbers as numbers;
 ghost use Rattle.cdi_numbered_plans.specs.Plans.{IsResolvedIfAny, TellsOf};
-ghost use Rattle.cdi_run_tables.specs.Machine.{machine_tables, method_of};
+ghost use Rattle.cdi_run_tables.specs.Machine.{bean_at, machine_tables, method_of};
 ghost use Rattle.cdi_run_tables.specs.Numbered as spec;
 
+use crate::observers::groups_have_numbers;
 use crate::planned::PlannedBean;
 use crate::sizes::have_few_fields;
 use crate::tables::RunTables;
@@ -23,17 +24,18 @@ fn have_numbers(beans: &[PlannedBean]) -> bool
 }
 
 impl RunTables {
-    /// Whether what the plans of the beans name has numbers of 32 bits: the beans, the steps of each plan, the interceptors, and the injected
-    /// fields of each of these.
+    /// Whether what the plans of the beans and the observers name has numbers of 32 bits: the beans, the steps of each plan, the
+    /// interceptors, and the injected fields of each of these.
     pub fn is_numbered(&self) -> bool
         ensures { result ≡ spec.is_numbered self.now }
     {
         self.parts.tables.resolver.beans().len() <= 4_294_967_296
             && have_numbers(self.parts.beans.as_slice())
             && have_few_fields(self.parts.deployment.interceptors.as_slice())
+            && groups_have_numbers(self.observer_groups())
     }
 
-    /// The plan of the bean with an index, in the words of an instance's life.
+    /// The plan of the bean with an index, in the words of an instance's life, if the bean is enabled.
     fn numbered(&self, bean: u32) -> Option<&NumberedPlan>
         requires { IsTrue (spec.is_numbered self.now) }
         ensures tells { TellsOf (spec.kind_at self.now bean) (option_copied result) }
@@ -45,7 +47,18 @@ impl RunTables {
         }
     }
 
-    /// How many steps create an instance of the bean with an index; for a product there are none. They have to be numbered
+    /// The bean with an index, if instances of it can be made: it is enabled, and a managed bean or a product that one declares. What the
+    /// plans name has to be numbered ([`RunTables::is_numbered`]).
+    pub fn instantiable(&self, bean: u32) -> Option<&PlannedBean>
+        requires { IsTrue (spec.is_numbered self.now) }
+        ensures { option_map (λ b. spec.head_of b.now) result
+            ≡ option_map (λ b. (b.place, b.scope)) (bean_at self.now bean) }
+    {
+        self.numbered(bean)?;
+        self.planned(bean as usize)
+    }
+
+    /// How many steps create an instance of the bean with an index; for a product, and for a bean that isn't enabled, there are none. They have to be numbered
     /// ([`RunTables::is_numbered`]).
     pub fn steps(&self, bean: u32) -> u32
         requires { IsTrue (spec.is_numbered self.now) }
@@ -70,7 +83,7 @@ impl RunTables {
     }
 
     /// What runs where an instance of the bean with an index is destroyed (Jakarta Interceptors 2.1, *Interceptor Methods for Lifecycle
-    /// Event Callbacks*), if it is a managed bean. Its steps have to be numbered ([`RunTables::is_numbered`]).
+    /// Event Callbacks*), if it is an enabled managed bean. Its steps have to be numbered ([`RunTables::is_numbered`]).
     pub fn pre_destroy(&self, bean: u32) -> Option<&Lifecycle>
         requires { IsTrue (spec.is_numbered self.now) }
         ensures { option_map (λ l. lifecycle_told l.now) result
@@ -80,19 +93,19 @@ impl RunTables {
     }
 
     /// A business method of the bean with an index (Jakarta CDI 4.0, *Container invocations and interception*), if its body is registered;
-    /// a product has none. What the plans name has to be numbered ([`RunTables::is_numbered`]).
+    /// a product has none, nor has a bean that isn't enabled. What the plans name has to be numbered ([`RunTables::is_numbered`]).
     pub fn business_method(&self, bean: u32, name: Name) -> Option<&Method>
         requires { IsTrue (spec.is_numbered self.now) }
         ensures { option_map (λ m. method_told m.now) result ≡ method_of self.now bean name }
     {
         match self.bean_index(bean as usize) {
-            Some(index) => index.business.get(&name),
+            Some(index) => index.methods.get(&name),
             None => None,
         }
     }
 
     /// What an instance of the bean with an index comes from, and what disposes of it (Jakarta CDI 4.0, *Lifecycle of producer methods*),
-    /// if it is a product. What its plan names has to be numbered ([`RunTables::is_numbered`]).
+    /// if it is an enabled product. What its plan names has to be numbered ([`RunTables::is_numbered`]).
     pub fn product(&self, bean: u32) -> Option<&Product>
         requires { IsTrue (spec.is_numbered self.now) }
         ensures product { option_map (λ p. product_told p.now) result

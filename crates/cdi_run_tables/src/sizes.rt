@@ -10,7 +10,7 @@ use cdi_deployment::Interceptor;
 use cdi_plans::Plan;
 
 /// The most beans that a container numbers.
-pub const MAX_BEANS: usize = 4096;
+const MAX_BEANS: usize = 4096;
 
 fn has_few_injections(bean: &PlannedBean) -> bool
     ensures { result ≡ spec.has_few_injections bean.now }
@@ -38,7 +38,7 @@ pub(crate) fn have_few_fields(interceptors: &[Interceptor]) -> bool
 impl RunTables {
     /// Whether a container can number what there is: at most [`MAX_BEANS`] beans, as every deployment without problems has, and of each
     /// and of each interceptor at most 4,294,967,295 injected fields.
-    pub fn is_small(&self) -> bool
+    pub(crate) fn is_small(&self) -> bool
         ensures { result ≡ spec.is_small self.now }
     {
         self.parts.beans.len() <= MAX_BEANS

@@ -5,6 +5,7 @@ ghost use Rattle.cdi_bodies.specs.Gives.{lookups_of};
 ghost use Rattle.cdi_bodies.specs.Table.{entries_of};
 ghost use Rattle.cdi_name_check.specs.NameSets.{HasDeclared};
 ghost use Rattle.cdi_resolve.specs.BeanTables.{AreTablesOf};
+ghost use Rattle.cdi_resolve.specs.Filters.{is_enabled};
 ghost use Rattle.cdi_run_tables.specs.Index.{IsIndexAt};
 ghost use Rattle.cdi_run_tables.specs.Machine as spec;
 ghost use Rattle.cdi_run_tables.specs.Planned.{IsTabled};
@@ -12,8 +13,8 @@ ghost use Rattle.cdi_run_tables.specs.Planned.{IsTabled};
 use crate::index::{BeanIndex, RunIndex};
 use crate::parts::{PartsWithEvents, RunParts};
 use crate::planned::PlannedBean;
-use cdi_base::{Name, Place, Use};
-use cdi_bodies::{Bodies, BodyId};
+use cdi_base::{Name, Use};
+use cdi_bodies::Bodies;
 use cdi_cache::WrittenQuestion;
 use cdi_deployment::Deployment;
 use cdi_name_check::{DeclaredNames, NameSets, are_qualifiers};
@@ -55,16 +56,6 @@ impl Model for RunTables {
     ghost invariant = { λ t. IsIndexOf t.parts t.index };
 }
 
-/// A business method of a bean, with its registered body.
-#[derive(Clone, Copy)]
-pub struct Method {
-    /// The method with the class that declares it.
-    pub place: Place,
-    /// How many values a call passes: 0 to 8.
-    pub count: u32,
-    pub body: BodyId,
-}
-
 impl RunTables {
     /// The tables of a deployment whose names and beans have no problem, with the names that it declares and the tables of its bean list.
     /// Its members have the bodies that are registered under their names.
@@ -97,27 +88,6 @@ impl RunTables {
         &self.parts.deployment
     }
 
-    /// The tables of the bean list.
-    pub fn bean_tables(&self) -> &BeanTables
-        ensures { result.now ≡ self.now.tables }
-    {
-        &self.parts.tables
-    }
-
-    /// The beans in the order of the bean list, enabled or not, with their plans.
-    pub fn beans(&self) -> &[PlannedBean]
-        ensures { result.now ≡ self.now.beans }
-    {
-        self.parts.beans.as_slice()
-    }
-
-    /// The registered body of a name, if the deployment names it and it is registered.
-    pub fn body(&self, name: Name) -> Option<BodyId>
-        ensures { result ≡ spec.id_of self.now name }
-    {
-        self.parts.ids.id(name)
-    }
-
     /// The bean with an index in the bean list, enabled or not, with its plan.
     pub fn bean(&self, bean: usize) -> Option<&PlannedBean>
         ensures { option_map (λ b. b.now) result ≡ slice_get self.now.beans bean }
@@ -125,21 +95,34 @@ impl RunTables {
         self.parts.bean(bean)
     }
 
-    /// What is looked up of the bean with an index.
-    pub(crate) fn bean_index(&self, bean: usize) -> Option<&BeanIndex>
-        ensures { IsIndexAt self.now (slice_get self.now.beans bean) (option_copied result) }
+    /// Whether the bean with an index is enabled.
+    fn is_enabled(&self, bean: usize) -> bool
+        ensures { result ≡ is_enabled self.now.tables.resolver.flags bean }
     {
-        self.index.beans.get(bean)
+        match self.parts.tables.resolver.flags().get(bean) {
+            Some(flag) => *flag,
+            None => false,
+        }
     }
 
-    /// A business method of the bean with an index, if its body is registered; a product has none.
-    pub fn method(&self, bean: usize, name: Name) -> Option<Method>
-        ensures { result ≡ option_map spec.without_chain (spec.method_of self.now bean name) }
+    /// The bean with an index, with its plan, if it is enabled: of no other one is an instance made.
+    pub(crate) fn planned(&self, bean: usize) -> Option<&PlannedBean>
+        ensures { option_map (λ b. b.now) result ≡ spec.planned_at self.now bean }
     {
-        match self.bean_index(bean) {
-            Some(index) => index.methods.get(&name).copied(),
-            None => None,
+        if self.is_enabled(bean) {
+            return self.parts.bean(bean);
         }
+        None
+    }
+
+    /// What is looked up of the bean with an index, if it is enabled.
+    pub(crate) fn bean_index(&self, bean: usize) -> Option<&BeanIndex>
+        ensures { IsIndexAt self.now (spec.planned_at self.now bean) (option_copied result) }
+    {
+        if self.is_enabled(bean) {
+            return self.index.beans.get(bean);
+        }
+        None
     }
 
     /// What a type and qualifiers, as they were written, resolve to among the enabled beans (Jakarta CDI 4.0, *Typesafe resolution*).

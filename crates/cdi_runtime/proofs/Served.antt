@@ -1,39 +1,34 @@
 -- What the engine is told of beans that are served.
-use Rattle.std.proofs.Common.{ℕ, ◌≡◌, ◌∙◌, ◌<◌, ◌≤◌, ◌^◌, ◌&&◌, true, not, nat_le, List, [], ◌∷◌, length, map, filter, Option, Some, None, IsSome, is_some, refl, sym, ap, subst, arith}
-use Rattle.std.specs.Prelude.{option_map, option_and_then, slice_get, IfSome}
-use Rattle.std.specs.List.{filter_map, list_all}
-use Rattle.std.proofs.lemmas.Bool.{and_parts, leb-true, true≢false}
+use Rattle.std.proofs.Common.{ℕ, ◌≡◌, ◌∙◌, ◌<◌, ◌≤◌, ◌^◌, ◌&&◌, Bor, true, nat_le, List, [], length, Option, Some, None, IsSome, is_some, refl, sym, ap, arith}
+use Rattle.std.specs.Prelude.{option_map, option_and_then, slice_get}
+use Rattle.std.specs.List.{list_all}
+use Rattle.std.proofs.lemmas.Bool.{and_parts, leb-true}
+use Rattle.cdi_base.specs.declared.place.Place.{Place}
+use Rattle.cdi_base.specs.declared.scope.Scope.{Scope}
 use Rattle.cdi_base.specs.declared.uses.Use.{Use}
-use Rattle.cdi_bean_check.specs.Qualifiers.{full_uses}
-use Rattle.cdi_beans.specs.declared.bean.ObserverMethod.{ObserverMethod}
-use Rattle.cdi_event_tables.specs.Events.{Group, groups_of, hears}
 use Rattle.cdi_event_tables.specs.Observers.{managed_bean}
-use Rattle.cdi_host.specs.Asked.{fields_of, head_of, method_at, method_in, interceptor_fields, interceptor_plan, plan_of, pre_destroy_of, IsServedBean}
+use Rattle.cdi_host.specs.Asked.{fields_of, head_of, method_at, method_in, interceptor_fields, interceptor_plan, plan_of, pre_destroy_of, product_of}
 use Rattle.cdi_host.specs.declared.beans.BeanHead.{BeanHead}
-use Rattle.cdi_machine.specs.Words.{Asked}
 use Rattle.cdi_machine.specs.Tables as machine
+use Rattle.cdi_plans.specs.declared.plan.ManagedPlan.{ManagedPlan}
 use Rattle.cdi_plans.specs.declared.plan.Plan.{Plan}
 use Rattle.cdi_plans.specs.declared.plan.Plan.TheVariants as plans
+use Rattle.cdi_plans.specs.declared.plan.ProductPlan.{ProductPlan}
 use Rattle.cdi_resolve.specs.declared.resolution.Resolution.{Resolution}
 use Rattle.cdi_resolve.specs.declared.resolution.Resolution.TheVariants as resolutions
+use Rattle.cdi_run_tables.proofs.Enabled.{stands_at}
 use Rattle.cdi_run_tables.specs.Interceptors as interceptors
 use Rattle.cdi_run_tables.specs.Interceptors.{fields_in}
 use Rattle.cdi_run_tables.specs.Machine as tables
-use Rattle.cdi_run_tables.specs.Machine.{bean_at, bean_with, has_none, id_of, machine_managed, machine_observer, machine_tables, method_of, observers_of, product_with, resolution_of}
+use Rattle.cdi_run_tables.specs.Machine.{bean_at, bean_with, id_of, machine_managed, machine_tables, method_of, planned_at, product_with, resolution_of}
 use Rattle.cdi_run_tables.specs.Managed as managed
 use Rattle.cdi_run_tables.specs.Managed.{managed_plan}
 use Rattle.cdi_run_tables.specs.Numbered as numbered
 use Rattle.cdi_run_tables.specs.Sizes.{has_few_fields, has_few_injections, is_small}
 use Rattle.cdi_run_tables.specs.declared.planned.PlannedBean.{PlannedBean}
 use Rattle.cdi_run_tables.specs.declared.tables.RunTables.{RunTables}
-use Rattle.cdi_runtime.proofs.Lists.{passes_at, within}
+use Rattle.cdi_runtime.proofs.Lists.{within}
 use Rattle.cdi_runtime.specs.Standing.{HasNumber, IsServable}
-use Rattle.cdi_run_tables.specs.Texts.{has_texts}
-use Rattle.cdi_served.specs.Served.{is_served, is_served_bean, is_served_plan}
-
-none_is : {A : Type 0} (xs : List A) → has_none xs ≡ true → xs ≡ []
-none_is [] e = refl
-none_is (x ∷ xs) e = absurd (true≢false (sym e))
 
 -- ---- plans
 
@@ -74,7 +69,7 @@ module _ (t : RunTables) where
       by (Some k) = refl
 
   pub method_is : (n name : ℕ) → method_at (machine_tables t) n name ≡ method_of t n name
-  method_is n name = by (slice_get t.beans n)
+  method_is n name = by (planned_at t n)
     where
       by : (o : Option PlannedBean)
           → option_and_then (λ (bean : machine.Bean). method_in bean.kind name) (option_and_then (tables.machine_bean (id_of t) t.tables.resolver.beans) o)
@@ -84,50 +79,70 @@ module _ (t : RunTables) where
 
 -- ---- beans
 
--- the head of a bean
-abbrev pub head : PlannedBean → BeanHead
-head b = record { place = b.place; scope = b.scope }
+-- a bean, as its place and its scope tell it
+abbrev pub placed : Place × Scope → BeanHead
+placed p = record { place = p.0; scope = p.1 }
 
-module _ (t : RunTables) (served : is_served t ≡ true) where
-  -- beans and texts are served, and there are no observers
-  both : ((list_all is_served_bean t.beans && has_texts t.deployment) ≡ true) × (has_none t.tables.observers ≡ true)
-  both = and_parts (list_all is_served_bean t.beans && has_texts t.deployment) (has_none t.tables.observers) served
+-- the head of a bean that instances can be made of
+pub head_is : (x : Option machine.Bean) (found : Option (Bor PlannedBean)) → option_map (λ b. numbered.head_of b.now) found ≡ option_map (λ (b : machine.Bean). (b.place, b.scope)) x
+    → option_map head_of x ≡ option_map (λ b. placed (numbered.head_of b.now)) found
+head_is x found e = of_machine x ∙ sym (ap (option_map placed) e) ∙ of_tables found
+  where
+    of_machine : (x : Option machine.Bean) → option_map head_of x ≡ option_map placed (option_map (λ (b : machine.Bean). (b.place, b.scope)) x)
+    of_machine None = refl
+    of_machine (Some b) = refl
 
-  all_served : list_all is_served_bean t.beans ≡ true
-  all_served = (and_parts (list_all is_served_bean t.beans) (has_texts t.deployment) both.0).0
+    of_tables : (found : Option (Bor PlannedBean)) → option_map placed (option_map (λ b. numbered.head_of b.now) found) ≡ option_map (λ b. placed (numbered.head_of b.now)) found
+    of_tables None = refl
+    of_tables (Some b) = refl
 
-  -- no event has an observer
-  pub unobserved : (class : ℕ) (qualifiers : List Use) → observers_of t class qualifiers ≡ []
-  unobserved class qualifiers =
-      let hearing = hears t.tables.declared.types class (full_uses t.tables.declared.qualifiers qualifiers) in
-      ap (λ (os : List ObserverMethod). filter (λ group. not (has_none group)) (map (λ (g : Group). filter_map (machine_observer t) g.observers) (groups_of (filter hearing os))))
-      (none_is t.tables.observers both.1)
+-- what a bean comes from, in the words of the tables
+pub same_product : (x : Option machine.Bean) → product_of x ≡ numbered.product_in (option_map (λ (bean : machine.Bean). bean.kind) x)
+same_product None = refl
+same_product (Some bean) = by bean.kind
+  where
+    by : (k : machine.Kind) → product_of (Some (record { place = bean.place; scope = bean.scope; kind = k })) ≡ numbered.product_in (Some k)
+    by (machine.Kind.Class c) = refl
+    by (machine.Kind.Producer p) = refl
 
-  -- a statement on what stands at an index holds if it does of a managed bean, and where there is none
-  module _ (P : Option PlannedBean → Option machine.Bean → Type 0) where
-    of_plan : (b : PlannedBean) (plan : Plan) → is_served_plan plan ≡ true
-        → ((p : _) → plan ≡ plans.Managed p → P (Some b) (Some (bean_with b (machine.Kind.Class (machine_managed (id_of t) p)))))
-        → P (Some b) (option_map (bean_with b) (tables.machine_kind (id_of t) t.tables.resolver.beans plan))
-    of_plan b (plans.Managed p) h some = some p refl
-    of_plan b (plans.Product p) h some = absurd (true≢false (sym h))
+module _ (t : RunTables) where
+  abbrev told : PlannedBean → Plan → Option machine.Bean
+  told b plan = option_map (bean_with b) (tables.machine_kind (id_of t) t.tables.resolver.beans plan)
 
-    pub at_index : (n : ℕ) → P None None → ((b : PlannedBean) (p : _) → b.plan ≡ plans.Managed p → P (Some b) (Some (bean_with b (machine.Kind.Class (machine_managed (id_of t) p))))) → P (slice_get t.beans n) (bean_at t n)
-    at_index n none some = by (slice_get t.beans n) refl
+  -- a product has no fields
+  fields_of_plan : (b : PlannedBean) (plan : Plan) → fields_of (told b plan) ≡ managed.fields_of (managed.managed_of plan)
+  fields_of_plan b (plans.Managed p) = refl
+  fields_of_plan b (plans.Product p) = by (managed_bean t.tables.resolver.beans p.declaring)
+    where
+      by : (o : Option ℕ) → fields_of (option_map (bean_with b) (option_map (product_with (id_of t) p) o)) ≡ []
+      by None = refl
+      by (Some k) = refl
+
+  pub fields_at : (n : ℕ) → fields_of (bean_at t n) ≡ managed.fields_of (option_and_then managed_plan (planned_at t n))
+  fields_at n = by (planned_at t n)
+    where
+      by : (o : Option PlannedBean) → fields_of (option_and_then (tables.machine_bean (id_of t) t.tables.resolver.beans) o) ≡ managed.fields_of (option_and_then managed_plan o)
+      by None = refl
+      by (Some b) = fields_of_plan b b.plan
+
+  -- a statement on what stands at an index holds if it does of a managed bean, of a product, and where there is no bean
+  module _ (P : Option PlannedBean → Option machine.Bean → Type 0) (none : (b : Option PlannedBean) → P b None)
+      (managed_one : (b : PlannedBean) (p : ManagedPlan) → b.plan ≡ plans.Managed p → P (Some b) (Some (bean_with b (machine.Kind.Class (machine_managed (id_of t) p)))))
+      (product_one : (b : PlannedBean) (p : ProductPlan) (k : ℕ) → b.plan ≡ plans.Product p → P (Some b) (Some (bean_with b (product_with (id_of t) p k)))) where
+    of_plan : (b : PlannedBean) (plan : Plan) → b.plan ≡ plan → P (Some b) (told b plan)
+    of_plan b (plans.Managed p) e = managed_one b p e
+    of_plan b (plans.Product p) e = by (managed_bean t.tables.resolver.beans p.declaring)
       where
-        by : (o : Option PlannedBean) → slice_get t.beans n ≡ o → P o (option_and_then (tables.machine_bean (id_of t) t.tables.resolver.beans) o)
-        by None e = none
-        by (Some b) e = of_plan b b.plan (passes_at is_served_bean t.beans n b all_served e) (some b)
+        by : (o : Option ℕ) → P (Some b) (option_map (bean_with b) (option_map (product_with (id_of t) p) o))
+        by None = none (Some b)
+        by (Some k) = product_one b p k e
 
-  pub head_at : (n : ℕ) → option_map head_of (bean_at t n) ≡ option_map head (slice_get t.beans n)
-  head_at n = at_index (λ x y. option_map head_of y ≡ option_map head x) n refl (λ b p e. refl)
-
-  pub served_bean_at : (n : ℕ) → IfSome (bean_at t n) IsServedBean
-  served_bean_at n = at_index (λ x y. IfSome y IsServedBean) n tt (λ b p e. record { class = machine_managed (id_of t) p; is_class = refl })
-
-  pub fields_at : (n : ℕ) → fields_of (bean_at t n) ≡ managed.fields_of (option_and_then managed_plan (slice_get t.beans n))
-  fields_at n =
-      at_index (λ x y. fields_of y ≡ managed.fields_of (option_and_then managed_plan x)) n refl
-      (λ b p e. sym (ap (λ (plan : Plan). managed.fields_of (managed.managed_of plan)) e))
+    pub at_index : (n : ℕ) → P (planned_at t n) (bean_at t n)
+    at_index n = by (planned_at t n)
+      where
+        by : (o : Option PlannedBean) → P o (option_and_then (tables.machine_bean (id_of t) t.tables.resolver.beans) o)
+        by None = none None
+        by (Some b) = of_plan b b.plan refl
 
 -- ---- what resolves has a number
 
@@ -137,14 +152,14 @@ module _ (t : RunTables) (small : is_small t ≡ true) where
       let three = and_parts (nat_le (length t.beans) 4096 && list_all has_few_injections t.beans) (list_all has_few_fields t.deployment.interceptors) small in
       leb-true (length t.beans) 4096 (and_parts (nat_le (length t.beans) 4096) (list_all has_few_injections t.beans) three.0).0
 
-  there_at : (n : ℕ) (o : Option PlannedBean) → slice_get t.beans n ≡ o → IsSome (option_and_then (tables.machine_bean (id_of t) t.tables.resolver.beans) o) → IsSome (slice_get t.beans n)
+  there_at : (n : ℕ) (o : Option PlannedBean) → planned_at t n ≡ o → IsSome (option_and_then (tables.machine_bean (id_of t) t.tables.resolver.beans) o) → IsSome (slice_get t.beans n)
   there_at n None e some = absurd cc
-  there_at n (Some b) e some = ap is_some e
+  there_at n (Some b) e some = ap is_some (stands_at t n b e)
 
   -- the index of a bean is small
   pub small_index : (n : ℕ) → IsSome (bean_at t n) → n < 2 ^ 32
   small_index n some =
-      let less = within t.beans n (there_at n (slice_get t.beans n) refl some) in
+      let less = within t.beans n (there_at n (planned_at t n) refl some) in
       omega (arith, less, few)
 
 pub small_resolved : (t : RunTables) → IsServable t → (type : ℕ) (uses : List Use) (b : ℕ) → resolution_of t type uses ≡ resolutions.One b → b < 2 ^ 32

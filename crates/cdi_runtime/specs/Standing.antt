@@ -9,7 +9,6 @@ use Rattle.cdi_run_tables.specs.Machine.{bean_at, machine_tables}
 use Rattle.cdi_run_tables.specs.Numbered.{is_numbered as is_numbered_deployment}
 use Rattle.cdi_run_tables.specs.Sizes.{is_small}
 use Rattle.cdi_run_tables.specs.declared.tables.RunTables.{RunTables}
-use Rattle.cdi_served.specs.Served.{is_served as is_served_deployment}
 use Rattle.cdi_steps.specs.Driving.{Drives}
 use Rattle.cdi_steps.specs.Known.{AllInvoked}
 
@@ -18,9 +17,8 @@ pub record RuntimeParts (Driving : Type 0) : Type 0 where
   pub driver : Driving
   pub world : World
 
--- the deployment is served, what its plans name is numbered, and what resolves is one of its beans
+-- what the plans and the observers of a deployment name is numbered, and what resolves is one of its beans
 pub record IsServable (t : RunTables) : Type 0 where
-  pub served : is_served_deployment t ≡ true
   pub numbered : is_numbered_deployment t ≡ true
   pub small : is_small t ≡ true
   pub there :

@@ -1,22 +1,24 @@
 //! Which commands are refused.
-ghost use Rattle.std.specs.Prelude.{◌≡◌, None, length, option_map};
+ghost use Rattle.std.specs.Prelude.{◌≡◌, None, option_map};
 ghost use Rattle.std.specs.Option.{option_copied};
 ghost use Rattle.cdi_contexts.specs.Refusals.{first_that_holds};
 ghost use Rattle.cdi_machine.specs.Container as machine;
-ghost use Rattle.cdi_run_tables.specs.Machine.{machine_tables};
+ghost use Rattle.cdi_run_tables.specs.Machine.{machine_resolution, machine_tables};
 ghost use Rattle.cdi_steps.specs.Known.{KnownJob};
 ghost use Rattle.cdi_steps.specs.Words.{command_of};
 ghost use Rattle.cdi_life.specs.Told.{method_told};
 ghost use Rattle.cdi_runtime.specs.Standing.{HasNumber, IsServable};
-ghost use Rattle.cdi_runtime.specs.Refusals.{bean_refusal, call_refusal, contexts_refusal, method_refusal};
+ghost use Rattle.cdi_runtime.specs.Refusals.{bean_refusal, contexts_refusal, event_refusal, method_refusal};
+ghost use Rattle.cdi_runtime.specs.Refusals.{resolved_refusal, use_refusal};
 
 use crate::runtime::Runtime;
 use crate::served_tables::ServedTables;
-use cdi_base::{Name, Refusal, Text};
+use cdi_base::{Refusal, Text};
 use cdi_host::{Method, Tables};
 use cdi_machine::Driver;
 use cdi_resolve::Resolution;
-use cdi_steps::{BeanCall, Job};
+use cdi_run_tables::RunTables;
+use cdi_steps::{BeanPurpose, BeanUse, Event, Job};
 use cdi_world::World;
 use std::alloc::Global;
 
@@ -33,37 +35,64 @@ fn refuses_method(method: Option<&Method>, count: usize) -> Option<Refusal>
     None
 }
 
-/// Why a call of a method of what was resolved is refused. What resolves to no bean, or to several, isn't refused: the call throws.
+/// Why what a command does with the bean that has an index is refused: a call of a method that it hasn't with so many values, or a
+/// read of a bean that is no product.
+fn refuses_purpose(tables: &ServedTables, bean: u32, purpose: &BeanPurpose) -> Option<Refusal>
+    ensures { result ≡ bean_refusal (machine_tables tables.now) bean purpose.now }
+{
+    match purpose {
+        BeanPurpose::Call { method, args } => {
+            refuses_method(tables.method(bean, *method), args.len())
+        }
+        BeanPurpose::Read => match tables.product(bean) {
+            Some(_product) => None,
+            None => Some(Refusal::NoMethod),
+        },
+    }
+}
+
+/// The same for what was resolved. What resolves to no bean, or to several, isn't refused: the use throws.
 fn refuses_resolved(
     tables: &ServedTables,
     resolution: Resolution,
-    method: Name,
-    count: usize,
+    purpose: &BeanPurpose,
 ) -> Option<Refusal>
     requires { HasNumber resolution }
-    ensures { result ≡ bean_refusal tables.now resolution method count }
+    ensures { result ≡ resolved_refusal
+        (machine_tables tables.now) (machine_resolution resolution) purpose.now }
 {
     match resolution {
-        Resolution::One(bean) => refuses_method(tables.method(bean as u32, method), count),
+        Resolution::One(bean) => refuses_purpose(tables, bean as u32, purpose),
         Resolution::Nothing | Resolution::Many => None,
     }
 }
 
-/// Why a call of a method of the bean with a type and qualifiers is refused: one of these isn't known, or they resolve to a bean that has
-/// no such method with so many values. What they resolve to is remembered.
-fn refuses_call(alloc: Global, tables: &mut ServedTables, call: &BeanCall) -> Option<Refusal>
-    ensures refusal { result ≡ call_refusal tables.old
-        call.now.bean_type call.now.qualifiers call.now.method (length call.now.args) }
+/// Why the use of the bean with a type and qualifiers is refused: one of these isn't known, or they resolve to a bean with which
+/// that can't be done. What they resolve to is remembered.
+fn refuses_use(alloc: Global, tables: &mut ServedTables, used: &BeanUse) -> Option<Refusal>
+    ensures refusal { result ≡ use_refusal (machine_tables tables.old) used.now }
     ensures kept { tables.new ≡ tables.old }
     ensures servable { IsServable tables.old }
 {
-    let qualifiers = call.qualifiers.as_slice();
-    let known = tables.run_tables().is_known(call.bean_type, qualifiers);
+    let qualifiers = used.qualifiers.as_slice();
+    let known = tables.run_tables().is_known(used.bean_type, qualifiers);
     if !known {
         return Some(Refusal::UnknownName);
     }
-    let resolution = tables.ask(alloc, call.bean_type, qualifiers);
-    refuses_resolved(tables, resolution, call.method, call.args.len())
+    let resolution = tables.ask(alloc, used.bean_type, qualifiers);
+    refuses_resolved(tables, resolution, &used.purpose)
+}
+
+/// Why an event is refused: its class with its qualifiers is none that can be fired (Jakarta CDI 4.0, *Event types and qualifier
+/// types*).
+fn refuses_event(tables: &RunTables, event: &Event) -> Option<Refusal>
+    ensures { result ≡ event_refusal
+        (machine_tables tables.now) event.now.class event.now.qualifiers }
+{
+    if tables.is_event(event.class, event.qualifiers.as_slice()) {
+        return None;
+    }
+    Some(Refusal::UnknownName)
 }
 
 /// Why what a command asks for is refused by the contexts, if it is: a request or a session that isn't there, or can't begin.
@@ -71,15 +100,19 @@ fn refuses_in_contexts(world: &World, job: &Job) -> Option<Refusal>
     ensures { result ≡ contexts_refusal world.now.contexts (command_of job.now) }
 {
     match job {
-        Job::Boot | Job::Shutdown => None,
+        Job::Boot | Job::Live | Job::Shutdown => None,
         Job::Begin { request, session } => {
             world.refuses_begin(request.as_str(), text_of(session.as_ref()))
         }
         Job::End { request } => world.refuses_in(Some(request.as_str())),
         Job::Invalidate { session } => world.refuses_invalidate(session.as_str()),
-        Job::Call {
+        Job::Use {
             request,
-            call: _call,
+            used: _used,
+        } => world.refuses_in(text_of(request.as_ref())),
+        Job::Fire {
+            request,
+            event: _event,
         } => world.refuses_in(text_of(request.as_ref())),
     }
 }
@@ -114,10 +147,14 @@ impl<D: Driver> Runtime<D> {
             return Some(refusal);
         }
         match job {
-            Job::Call {
+            Job::Use {
                 request: _request,
-                call,
-            } => refuses_call(self.alloc, &mut self.tables, call),
+                used,
+            } => refuses_use(self.alloc, &mut self.tables, used),
+            Job::Fire {
+                request: _request,
+                event,
+            } => refuses_event(self.tables.run_tables(), event),
             _ => None,
         }
     }

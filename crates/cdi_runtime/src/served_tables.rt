@@ -8,7 +8,7 @@ ghost use Rattle.cdi_runtime.specs.Standing.{HasNumber, IsServable};
 use cdi_base::{Fields, InterceptorMethod, Name, Seq, Use};
 use cdi_bodies::BodyId;
 use cdi_host::Tables;
-use cdi_host::beans::{BeanHead, Code, Lifecycle, Method, Resolution, Step};
+use cdi_host::beans::{BeanHead, Code, Lifecycle, Method, Observer, Product, Resolution, Step};
 use cdi_resolve::Resolution as Resolved;
 use cdi_run_tables::RunTables;
 use cdi_store::Component;
@@ -78,7 +78,7 @@ impl Tables for ServedTables {
     ghost tables = { λ t. machine_tables t };
 
     fn bean(&self, bean: u32) -> Option<BeanHead> {
-        match self.tables.bean(bean as usize) {
+        match self.tables.instantiable(bean) {
             Some(bean) => Some(BeanHead {
                 place: bean.place,
                 scope: bean.scope,
@@ -122,6 +122,10 @@ impl Tables for ServedTables {
         self.tables.business_method(bean, name)
     }
 
+    fn product(&self, bean: u32) -> Option<&Product> {
+        self.tables.product(bean)
+    }
+
     fn interceptor_method(&self, interceptor: u32, role: InterceptorMethod) -> Option<Code> {
         self.tables.interceptor_method(interceptor as usize, role)
     }
@@ -147,7 +151,12 @@ impl Tables for ServedTables {
         self.tables.deployment().names.get(exception)
     }
 
-    fn law_unobserved(&self) {
-        let _tables = &self.tables;
+    fn observers(
+        &self,
+        alloc: Global,
+        class: Name,
+        qualifiers: &[Use],
+    ) -> Result<Seq<Seq<Observer>>, AllocError> {
+        self.tables.observers(alloc, class, qualifiers)
     }
 }

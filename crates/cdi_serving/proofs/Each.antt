@@ -1,5 +1,5 @@
 -- What holds of each item of a list, and so of what is made from the list.
-use Rattle.std.proofs.Common.{◌≡◌, ◌∙◌, Bool, true, false, cond, List, [], ◌∷◌, ◌++◌, filter, Option, Some, None, refl, ap, subst}
+use Rattle.std.proofs.Common.{◌≡◌, Bool, true, false, cond, List, [], ◌∷◌, ◌++◌, Option, Some, None, refl, subst}
 use Rattle.std.proofs.lemmas.Bool.{and_from, and_parts}
 use Rattle.std.proofs.lemmas.Option.{same_Some}
 use Rattle.std.specs.List.{AllByRecursion, AllZip, cons_option, filter_map, find, flat_map, list_all}
@@ -9,16 +9,6 @@ module _ {X : Type 0} (P : X → Type 0) where
       → AllByRecursion P (xs ++ ys)
   each_append [] ys a b = b
   each_append (x ∷ xs) ys a b = (a.0, each_append xs ys a.1 b)
-
-  pub each_filter : (p : X → Bool) (xs : List X) → AllByRecursion P xs
-      → AllByRecursion P (filter p xs)
-  each_filter p [] a = tt
-  each_filter p (x ∷ xs) a = by (p x) (each_filter p xs a.1)
-    where
-      by : (b : Bool) → AllByRecursion P (filter p xs)
-          → AllByRecursion P (cond b (x ∷ filter p xs) (filter p xs))
-      by true more = (a.0, more)
-      by false more = more
 
   -- it holds of the item that is found
   pub of_found : (p : X → Bool) (xs : List X) (x : X) → AllByRecursion P xs → find p xs ≡ Some x
@@ -59,22 +49,6 @@ module _ {X : Type 0} (P : X → Type 0) where
   each_zipped R Q so (x ∷ xs) [] a z = absurd z
   each_zipped R Q so (x ∷ xs) (y ∷ ys) a z =
       (so x y a.0 z.0, each_zipped R Q so xs ys a.1 z.1)
-
-  -- where it leaves nothing to be given, nothing is
-  pub none_given : {Y : Type 0} (h : X → Option Y) (xs : List X)
-      → ((x : X) → P x → h x ≡ None) → AllByRecursion P xs
-      → filter_map h xs ≡ []
-  none_given h [] none a = refl
-  none_given h (x ∷ xs) none a =
-      ap (λ o. cons_option o (filter_map h xs)) (none x a.0) ∙ none_given h xs none a.1
-
-  -- and nothing passes a test
-  pub none_kept : (p : X → Bool) (xs : List X) → ((x : X) → P x → p x ≡ false)
-      → AllByRecursion P xs
-      → filter p xs ≡ []
-  none_kept p [] none a = refl
-  none_kept p (x ∷ xs) none a =
-      ap (λ b. cond b (x ∷ filter p xs) (filter p xs)) (none x a.0) ∙ none_kept p xs none a.1
 
   -- each item of which it holds passes, so all pass
   pub all_pass : (p : X → Bool) (xs : List X) → ((x : X) → P x → p x ≡ true)

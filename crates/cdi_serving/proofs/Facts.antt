@@ -3,7 +3,8 @@ use Rattle.std.proofs.Common.{◌≡◌, ◌<◌, ℕ, zero, suc, true, List, []
 use Rattle.std.proofs.lemmas.Bool.{and_from}
 use Rattle.std.proofs.lemmas.List.Elements.{recursion_from_All}
 use Rattle.cdi_base.proofs.Tables.{joins}
-use Rattle.cdi_base.specs.BuiltIn.{built_in_names}
+use Rattle.cdi_base.specs.BuiltIn.{built_in_names, number_of}
+use Rattle.cdi_base.specs.declared.built_in.BuiltIn.TheVariants as built_in
 use Rattle.cdi_base.specs.Name.{Extends}
 use Rattle.cdi_deploy.proofs.Readable.{read-knows, read-within}
 use Rattle.cdi_deploy.specs.Reading.{read_at, root}
@@ -16,9 +17,8 @@ use Rattle.cdi_stage.specs.declared.stage.Stage.{Stage}
 use Rattle.cdi_run_tables.specs.Texts.{has_text, has_texts}
 use Rattle.cdi_serving.specs.Facts.{HasFacts}
 use Rattle.cdi_serving.proofs.Each.{all_pass}
-use Rattle.cdi_serving.proofs.KeptTexts.{names-grow}
+use Rattle.cdi_serving.proofs.KeptTexts.{names-grow, text-stays}
 use Rattle.cdi_serving.proofs.KnownMore.{names-more}
-use Rattle.cdi_serving.proofs.Parts.{built_in-stays}
 use Rattle.cdi_serving.proofs.ReadTables.{of-read}
 use Rattle.cdi_serving.proofs.Readied.{IsMadeFrom, if_read, made_from}
 use Rattle.cdi_serving.proofs.ScriptNames.{made-named}
@@ -54,13 +54,20 @@ module _ (stage : Stage) (bytes : List ℕ) where
 
 -- ---- texts
 
+-- the last of the built-in names stands in each table that extends theirs
+built_in-stays : (names : List (List ℕ)) → Extends built_in_names names
+    → has_text names (number_of built_in.AmbiguousResolutionException) ≡ true
+unfolding built_in_names
+built_in-stays names extends = text-stays built_in_names names 18 extends (omega arith)
+
+-- each number of a table has a text
 known_text : (names : List (List ℕ)) (n : ℕ) → n < length names → has_text names n ≡ true
 known_text [] n lt = absurd (omega (arith, lt))
 known_text (x ∷ names) zero lt = refl
 known_text (x ∷ names) (suc n) lt = known_text names n (omega (arith, lt))
 
 -- the built-in exceptions and the declared ones have texts
-have_texts : (d : Deployment) → HasFacts d → has_texts d ≡ true
+pub have_texts : (d : Deployment) → HasFacts d → has_texts d ≡ true
 have_texts d facts =
     and_from _ _ (built_in-stays d.names facts.built_in)
     (all_pass (λ (x : Exception). x.name < length d.names) (λ (x : Exception). has_text d.names x.name) d.exceptions (λ x h. known_text d.names x.name h)

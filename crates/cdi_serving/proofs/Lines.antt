@@ -9,7 +9,7 @@ use Rattle.cdi_serving.proofs.Each.{each_given, of_found}
 use Rattle.cdi_serving.proofs.Lineages.{at_most_once, times}
 
 -- what holds of each class holds of the one with a name
-pub of_class_named : (P : Class → Type 0) (classes : List Class) → AllByRecursion P classes
+of_class_named : (P : Class → Type 0) (classes : List Class) → AllByRecursion P classes
     → (name : ℕ) (c : Class) → class_named classes name ≡ Some c → P c
 of_class_named P classes all name c is = of_found P (λ k. nat_eq k.name name) classes c all is
 

@@ -1,4 +1,3 @@
-pub mod AllServed
 pub mod Facts
-pub mod Parts
+pub mod WellFormed
 pub mod BadScripts

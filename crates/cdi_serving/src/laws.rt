@@ -1,24 +1,16 @@
-//! Laws of what is served. A call of one of these does nothing: its contract is the law.
+//! Laws of deployments that were read. A call of one of these does nothing: its contract is the law.
 ghost use Rattle.std.specs.Prelude.{◌≡◌, ℕ, List, IfOk, IsTrue, true};
-ghost use Rattle.cdi_deploy.specs.Reading.{deployment_in};
 ghost use Rattle.cdi_deployment.specs.Limits.{is_within};
 ghost use Rattle.cdi_prepare.specs.Ready.{readied_at};
+ghost use Rattle.cdi_run_tables.specs.Numbered.{is_numbered};
 ghost use Rattle.cdi_run_tables.specs.Planned.{IsTabled};
 ghost use Rattle.cdi_run_tables.specs.Texts.{has_texts};
-ghost use Rattle.cdi_served.specs.Served.{serves};
 ghost use Rattle.cdi_run_tables.specs.Sizes.{is_small};
 ghost use Rattle.cdi_run_tables.specs.declared.tables.RunTables.{RunTables};
-ghost use Rattle.cdi_serving.specs.AllServed.{IsAllServed};
 ghost use Rattle.cdi_serving.specs.BadScripts.{BadScriptsHaveNames};
 ghost use Rattle.cdi_serving.specs.Facts.{HasFacts};
-ghost use Rattle.cdi_serving.specs.Parts.{AreServedParts};
-ghost use Rattle.cdi_stage.specs.Stage.{served};
+ghost use Rattle.cdi_serving.specs.WellFormed.{IsWellFormed};
 ghost use Rattle.cdi_stage.specs.declared.stage.Stage.{Stage as AnyStage};
-
-/// A deployment that is read at the stage that is served has only parts that are served.
-pub fn law_reads_served_parts()
-    ensures { (bytes : List ℕ) → IfOk (deployment_in bytes) AreServedParts }
-{}
 
 /// What holds of every deployment that was read with its scripts, so that no one who has one need prove it again: no list is
 /// longer than its limit, each name in the lists is a name of the table of names, and this table begins with the built-in
@@ -40,20 +32,19 @@ pub fn law_bad_scripts_have_names()
     ensures { BadScriptsHaveNames }
 {}
 
-/// The tables of a deployment that has only parts that are served, and whose lists are within their limits, are served: what they
-/// name has numbers, and but for methods no body is named.
-pub fn law_tables_are_served()
-    ensures { (t : RunTables) → IsTabled t → AreServedParts t.deployment
-        → IsTrue (is_within t.deployment) → serves t ≡ true }
-{}
-
 /// The tables of a deployment whose lists are within their limits are small: at most 4,096 beans, and of each at most 4,294,967,295
 /// injected fields.
 pub fn law_tables_are_small()
     ensures { (t : RunTables) → IsTabled t → IsTrue (is_within t.deployment) → is_small t ≡ true }
 {}
 
-/// All is served of a deployment that is read with its scripts at the stage that is served.
-pub fn law_reads_served()
-    ensures { (bytes : List ℕ) → IfOk (readied_at served bytes) IsAllServed }
+/// The tables of a deployment whose lists are within their limits are numbered: the beans, the steps of each plan, the places of
+/// interceptors in them and round observers, and the injected fields of each interceptor have numbers of 32 bits.
+pub fn law_tables_are_numbered()
+    ensures { (t : RunTables) → IsTabled t → IsTrue (is_within t.deployment) → is_numbered t ≡ true }
+{}
+
+/// What a container takes for granted holds of every deployment that was read with its scripts, at any stage.
+pub fn law_reads_well_formed()
+    ensures { (stage : AnyStage) (bytes : List ℕ) → IfOk (readied_at stage bytes) IsWellFormed }
 {}

@@ -1,4 +1,4 @@
-//! What a container serves: all that the reader accepts at the stage that is served.
+//! What holds of every deployment that was read.
 #![tactic(auto)]
 
 pub mod laws;

@@ -23,8 +23,9 @@ use Rattle.cdi_accepted.proofs.Lists.{Among, given, mapped, of_filter, of_is_in}
 use Rattle.cdi_farewells.proofs.Beginning.{begin_once, begin_once_if_short}
 use Rattle.cdi_site_fit.specs.Accepted.{FarewellsApart, FarewellsBeginOnce, FarewellsBeginOnceIfShort}
 use Rattle.cdi_site_fit.proofs.Whole.{whole_fits}
+use Rattle.cdi_site_fit.proofs.MemberCodes.{is_farewell}
 use Rattle.cdi_site_fit.proofs.Once.{callbacks_once, class_once, names_once, stands_once}
-use Rattle.cdi_site_fit.proofs.Places.{IsDeclaredAt, IsOfBean, IsOfOther, callback_at, class_bean, disposer_at, is_farewell, method_at, named_in, never_both, observer_at, planned_at, producer_at, product_bean}
+use Rattle.cdi_site_fit.proofs.Places.{IsDeclaredAt, IsOfBean, IsOfOther, callback_at, class_bean, disposer_at, method_at, named_in, never_both, observer_at, producer_at, product_bean, step_at}
 
 module _ (t : RunTables) (tabled : IsTabled t) where
   abbrev T : machine.Tables
@@ -32,7 +33,7 @@ module _ (t : RunTables) (tabled : IsTabled t) where
 
   of_ordinary : (place : Place) → IsOrdinary T place → IsOfOther t.deployment place
   of_ordinary place (IsOrdinary.method b x c name m known kind has) = method_at t tabled b c (class_bean t tabled b x c known kind) name m has
-  of_ordinary place (IsOrdinary.planned b x c s m known kind step code) = planned_at t tabled b c (class_bean t tabled b x c known kind) s m step code
+  of_ordinary place (IsOrdinary.planned b x c s m known kind step code) = step_at t tabled b c (class_bean t tabled b x c known kind) s m step code
   of_ordinary place (IsOrdinary.producer b x p m known kind source) = producer_at t tabled p (product_bean t tabled b x p known kind) m source
   of_ordinary place (IsOrdinary.disposer b x p m known kind a) = disposer_at t tabled p (product_bean t tabled b x p known kind) m a
   of_ordinary place (IsOrdinary.observer class qualifiers group o in_all in_group) =

@@ -1,6 +1,6 @@
 -- The managed beans of an accepted deployment fit.
 use Rattle.std.proofs.Common.{ℕ, ◌≡◌, ◌∙◌, ◌++◌, List, Option, Some, None, sym, ap, subst}
-use Rattle.std.specs.Prelude.{option_and_then, option_map}
+use Rattle.std.specs.Prelude.{option_map}
 use Rattle.std.proofs.lemmas.Option.{same_Some}
 use Rattle.cdi_beans.specs.declared.bean.Bean.{Bean}
 use Rattle.cdi_beans.specs.declared.bean.BeanKind.TheVariants as kinds
@@ -18,12 +18,13 @@ use Rattle.cdi_plans.specs.Tables.{PlanTables}
 use Rattle.cdi_plans.specs.declared.plan.Plan.{Plan}
 use Rattle.cdi_plans.specs.declared.plan.Plan.TheVariants as plans
 use Rattle.cdi_event_tables.specs.Observers.{managed_bean}
-use Rattle.cdi_run_tables.specs.Machine.{bean_with, id_of, machine_bean, machine_kind, machine_tables, product_with}
+use Rattle.cdi_run_tables.specs.Machine.{bean_with, id_of, machine_kind, machine_tables, product_with}
 use Rattle.cdi_run_tables.specs.Planned.{IsPlanned, plan_tables}
 use Rattle.cdi_run_tables.specs.declared.planned.PlannedBean.{PlannedBean}
 use Rattle.cdi_run_tables.specs.declared.tables.RunTables.{RunTables}
 use Rattle.cdi_worlds_fit.specs.Fits.{FitsClass}
 use Rattle.cdi_accepted.proofs.Beans.{beside, stands_listed, target}
+use Rattle.cdi_site_fit.proofs.Enabled.{has_flag, known_by, with_plan}
 use Rattle.cdi_site_fit.proofs.Methods.{known, managed}
 use Rattle.cdi_site_fit.proofs.Plans.{has_plan}
 use Rattle.cdi_site_fit.proofs.Ready.{class_fits}
@@ -59,7 +60,7 @@ managed_fit entries lies t a asked b resolves bean known_bean c kind_is =
     let stands = stands_listed t b it.bean it.enabled in
     let found = beside (IsPlanned (plan_tables t.deployment t.tables)) t.tables.resolver.beans t.beans b it.bean a.tabled.planned stands in
     let has : option_map (bean_with found.item) (machine_kind (id_of t) t.tables.resolver.beans found.item.plan) ≡ Some bean =
-    sym (ap (option_and_then (machine_bean (id_of t) t.tables.resolver.beans)) found.stands) ∙ known_bean in
+    sym (known_by t b found.item (with_plan t b found.item (has_flag t b it.bean it.enabled) found.stands)) ∙ known_bean in
     let kind = class_is_managed t (plan_tables t.deployment t.tables) it.bean found.item found.item.plan found.related.plan bean c has kind_is in
     let plan = has_plan t a.tabled b it.bean stands kind in
     let own : machine.Managed = managed entries t a.tabled a.ids bodies b it.bean it.enabled plan in

@@ -37,7 +37,8 @@ use Rattle.cdi_site_fit.proofs.Bodies.{registered}
 use Rattle.cdi_site_fit.proofs.Live.{method_live, method_stands}
 use Rattle.cdi_site_fit.proofs.Sites.{fits_body, lookups_there}
 
-to_is_in : {X : Type 0} (x : X) (xs : List X) → Among x xs → IsIn x xs
+-- what stands in a list, in the words of the machine's tables
+pub to_is_in : {X : Type 0} (x : X) (xs : List X) → Among x xs → IsIn x xs
 to_is_in x [] a = a
 to_is_in x (y ∷ ys) (inl same) = inl (sym same)
 to_is_in x (y ∷ ys) (inr a) = inr (to_is_in x ys a)

@@ -104,3 +104,8 @@ pub method_live : (t : RunTables) (i : ℕ) (j : Interceptor) (enabled : Enabled
     → is_live (setting_by t.deployment t.tables).enabled (Site.AnInterceptorMethod j role body) ≡ true
 method_live t i j enabled role body stands is =
     any_passes (λ (k : EnabledInterceptor). nat_eq k.name j.name) t.tables.chains.interceptors enabled stands (ap (λ n. nat_eq n j.name) is ∙ same j.name)
+
+-- a site of the deployment that is live
+pub record IsLiveSite (t : RunTables) (s : Site) : Type 0 where
+  pub stands : Among s (sites_of t.deployment)
+  pub live : is_live (setting_by t.deployment t.tables).enabled s ≡ true

@@ -1,10 +1,12 @@
 -- The methods that the machine has of an enabled bean are those that the classes of its line declare.
 use Rattle.std.proofs.Common.{ℕ, ◌≡◌, ◌∙◌, true, nat_eq, List, Option, Some, None, refl, sym, ap, subst}
-use Rattle.std.specs.Prelude.{option_and_then, option_map}
+use Rattle.std.specs.Prelude.{option_map}
 use Rattle.std.proofs.lemmas.Bool.{and_parts, eqb-true}
 use Rattle.std.proofs.lemmas.Option.{same_Some}
 use Rattle.std.specs.List.{filter_map, list_any}
 use Rattle.cdi_base.specs.Maps.{at}
+use Rattle.cdi_base.specs.declared.place.Place.TheVariants as places
+use Rattle.cdi_beans.specs.Kinds.{is_managed}
 use Rattle.cdi_beans.specs.declared.bean.Bean.{Bean}
 use Rattle.cdi_bodies.specs.declared.entry.Entry.{Entry}
 use Rattle.cdi_body_check.specs.Shapes.{shape_of}
@@ -12,18 +14,20 @@ use Rattle.cdi_chains.specs.Chains.{ChainTables}
 use Rattle.cdi_check.specs.Accepted.{AreBodiesSound}
 use Rattle.cdi_check.specs.Tables.{setting_by}
 use Rattle.cdi_deployment.specs.declared.deployment.Class.{Class}
+use Rattle.cdi_deployment.specs.declared.deployment.Constructor.{Constructor}
 use Rattle.cdi_deployment.specs.declared.deployment.Deployment.{Deployment}
 use Rattle.cdi_deployment.specs.declared.deployment.Member.{Member}
 use Rattle.cdi_deployment.specs.declared.deployment.Member.TheVariants as members
 use Rattle.cdi_deployment.specs.declared.deployment.Method.{Method}
 use Rattle.cdi_machine.specs.Tables as machine
+use Rattle.cdi_types.specs.Line.{class_named}
 use Rattle.cdi_types.specs.Members.{members_of}
 use Rattle.cdi_plans.proofs.Fronts.{same}
 use Rattle.cdi_plans.specs.Codes.{business_method, member_chain, member_code}
 use Rattle.cdi_plans.specs.declared.plan.BusinessMethod.{BusinessMethod}
 use Rattle.cdi_plans.specs.declared.plan.ManagedPlan.{ManagedPlan}
 use Rattle.cdi_resolve.specs.Filters.{enabled_of}
-use Rattle.cdi_run_tables.specs.Machine.{AreIdsOf, bean_at, bean_with, id_of, machine_bean, machine_kind, machine_managed, machine_method, machine_methods, method_with}
+use Rattle.cdi_run_tables.specs.Machine.{AreIdsOf, bean_at, bean_with, id_of, machine_kind, machine_managed, machine_method, machine_methods, method_with}
 use Rattle.cdi_run_tables.specs.Planned.{IsTabled}
 use Rattle.cdi_run_tables.specs.declared.tables.RunTables.{RunTables}
 use Rattle.cdi_shape_check.specs.OwnParts.{declares_method, is_method}
@@ -31,12 +35,13 @@ use Rattle.cdi_worlds_fit.specs.Fits.{HasMethod}
 use Rattle.cdi_accepted.proofs.Beans.{is_kept, kept_at}
 use Rattle.cdi_site_fit.proofs.Plans.{HasPlan}
 use Rattle.cdi_accepted.proofs.Duplicates.{IsNamedApart, named_apart}
-use Rattle.cdi_accepted.proofs.Lines.{ArePairs, HasFront, front_of, is_listed, pairs_of}
+use Rattle.cdi_accepted.proofs.Lines.{ArePairs, HasFront, front_of, is_listed, is_of_name, pairs_of}
 use Rattle.cdi_accepted.proofs.Lists.{Among, among_filter_map, given}
 use Rattle.cdi_accepted.proofs.Members.{all_declared, has_declared, of_line}
-use Rattle.cdi_body_check.specs.Sites.{Site, is_live, sites_of}
+use Rattle.cdi_body_check.specs.Sites.{Site, member_body}
 use Rattle.cdi_site_fit.proofs.Bodies.{numbered, registered}
-use Rattle.cdi_site_fit.proofs.Live.{member_live, member_stands}
+use Rattle.cdi_site_fit.proofs.Enabled.{has_flag, known_by, with_plan}
+use Rattle.cdi_site_fit.proofs.Live.{IsLiveSite, constructor_live, constructor_stands, member_live, member_stands}
 use Rattle.cdi_accepted.proofs.Repeats.{Fits, fits}
 
 -- ---- methods of a plan
@@ -56,6 +61,7 @@ pub record IsOfPlan (ids : ℕ → Option ℕ) (chains : ChainTables) (bean : �
   pub count : m.count ≡ method.args
   pub body : planned.code.body ≡ method.body
   pub id : ids method.body ≡ Some m.code.body
+  pub place : m.code.place ≡ places.Member class.name method.name
   pub chain : m.chain ≡ planned.chain
   pub chain_is : planned.chain ≡ member_chain chains bean class method.name
 
@@ -66,6 +72,7 @@ record IsOfMember (chains : ChainTables) (bean : ℕ) (p : Class × Member) (pla
   name : planned.name ≡ method.name
   count : planned.count ≡ method.args
   body : planned.code.body ≡ method.body
+  place : planned.code.place ≡ places.Member p.0.name method.name
   chain : planned.chain ≡ member_chain chains bean p.0 method.name
 
 of_member : (chains : ChainTables) (bean : ℕ) (p : Class × Member) (planned : BusinessMethod) → business_method chains bean p ≡ Some planned → IsOfMember chains bean p planned
@@ -77,6 +84,7 @@ of_member chains bean (c, members.Method m) planned e =
       name = ap (λ (k : BusinessMethod). k.name) (sym is);
       count = ap (λ (k : BusinessMethod). k.count) (sym is);
       body = ap (λ (k : BusinessMethod). k.code.body) (sym is);
+      place = ap (λ (k : BusinessMethod). k.code.place) (sym is);
       chain = ap (λ (k : BusinessMethod). k.chain) (sym is);
     }
 of_member chains bean (c, members.Initializer m) planned e = absurd cc
@@ -92,6 +100,7 @@ record IsOfMethod (ids : ℕ → Option ℕ) (planned : BusinessMethod) (name : 
   named : planned.name ≡ name
   count : m.count ≡ planned.count
   id : ids planned.code.body ≡ Some m.code.body
+  place : m.code.place ≡ planned.code.place
   chain : m.chain ≡ planned.chain
 
 of_method : (ids : ℕ → Option ℕ) (planned : BusinessMethod) (name : ℕ) (m : machine.Method) → machine_method ids planned ≡ Some (name, m) → IsOfMethod ids planned name m
@@ -105,6 +114,7 @@ of_method ids planned name m e = by (ids planned.code.body) refl e
           named = ap (λ (k : ℕ × machine.Method). k.0) one;
           count = sym (ap (λ (k : ℕ × machine.Method). k.1.count) one);
           id = is ∙ ap (λ (k : ℕ × machine.Method). Some k.1.code.body) one;
+          place = sym (ap (λ (k : ℕ × machine.Method). k.1.code.place) one);
           chain = sym (ap (λ (k : ℕ × machine.Method). k.1.chain) one);
         }
 
@@ -126,6 +136,7 @@ of_plan ids chains bean line name m a =
       count = method.count ∙ member.count;
       body = member.body;
       id = ap ids (sym member.body) ∙ method.id;
+      place = method.place ∙ member.place;
       chain = method.chain;
       chain_is = member.chain;
     }
@@ -158,6 +169,25 @@ module _ {X : Type 0} {F : X → Type 0} {g : _} (entries : List (Entry X F g)) 
       (λ e direct line declared extends is c stands. fits d made.qualifiers made.beans_well e direct line declared extends is c stands)
       listed.class plan.line plan.is_line
 
+  -- the body of a member of the line is a live site
+  pub member_site : (p : Class × Member) (body : ℕ) → member_body p.1 ≡ Some body → Among p (members_of plan.line) → IsLiveSite t (Site.AMember p.0 p.1 body)
+  member_site p body is stands =
+      let of = of_line plan.line p.0 p.1 stands in
+      record {
+        stands = member_stands d p.0 p.1 body is (declared_class p.0 of.class) of.member;
+        live = member_live t b listed enabled plan.line plan.members p.0 p.1 body stands;
+      }
+
+  -- and so is that of the constructor
+  pub constructor_site : is_managed listed.kind ≡ true → (c : Class) → class_named d.classes listed.class ≡ Some c → (k : Constructor) (body : ℕ) → c.constructor ≡ Some k → k.body ≡ Some body
+      → IsLiveSite t (Site.AConstructor c k body)
+  constructor_site kind c named k body has is =
+      let well = tabled.tables.made.names_well in
+      record {
+        stands = constructor_stands d c k body has is (is_listed d well listed.class c named);
+        live = constructor_live t b listed enabled kind c k body (sym (is_of_name d well listed.class c named));
+      }
+
   -- the machine's methods are those of the line
   pub methods_are : managed.methods ≡ machine_methods (id_of t) (filter_map (business_method t.tables.chains listed.class) (members_of plan.line))
   methods_are = ap (λ (p : ManagedPlan). machine_methods (id_of t) p.methods) plan.is
@@ -171,12 +201,10 @@ module _ {X : Type 0} {F : X → Type 0} {g : _} (entries : List (Entry X F g)) 
   pub has_method : (name count : ℕ) → list_any (declares_method name count) plan.line ≡ true → HasMethod managed.methods name count
   has_method name count e =
       let found = has_declared name count plan.line e pairs in
-      let of = of_line plan.line found.class (members.Method found.method) found.stands in
       let site = Site.AMember found.class (members.Method found.method) found.method.body in
-      let there : Among site (sites_of d) = member_stands d found.class (members.Method found.method) found.method.body refl (declared_class found.class of.class) of.member in
-      let live : is_live (setting_by d t.tables).enabled site ≡ true = member_live t b listed enabled plan.line plan.members found.class (members.Method found.method) found.method.body found.stands in
-      let body = registered entries t ids sound site there live in
-      let id = numbered entries t ids sound site there live in
+      let is_site = member_site (found.class, members.Method found.method) found.method.body refl found.stands in
+      let body = registered entries t ids sound site is_site.stands is_site.live in
+      let id = numbered entries t ids sound site is_site.stands is_site.live in
       by found.class found.method found.stands found.is body.id id
     where
       by : (c : Class) (m : Method) → Among (c, members.Method m) (members_of plan.line) → is_method name count (members.Method m) ≡ true
@@ -205,5 +233,5 @@ module _ {X : Type 0} {F : X → Type 0} {g : _} (entries : List (Entry X F g)) 
   -- the bean as the machine has it
   pub known : bean_at t b ≡ Some (bean_with plan.planned (machine.Kind.Class managed))
   known =
-      ap (option_and_then (machine_bean (id_of t) t.tables.resolver.beans)) plan.has
+      known_by t b plan.planned (with_plan t b plan.planned (has_flag t b listed enabled) plan.has)
       ∙ ap (λ p. option_map (bean_with plan.planned) (machine_kind (id_of t) t.tables.resolver.beans p)) plan.is_plan

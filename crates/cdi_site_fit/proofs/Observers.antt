@@ -1,14 +1,13 @@
 -- The observers of enabled beans fit.
-use Rattle.std.proofs.Common.{ℕ, ◌≡◌, ◌∙◌, ◌+◌, ◌&&◌, not, inl, inr, Bool, true, false, cond, nat_eq, List, [], ◌∷◌, map, filter, Option, Some, None, refl, sym, ap, subst, arith}
-use Rattle.std.specs.Prelude.{int_lt, option_and_then, option_map, if◌then◌else◌}
+use Rattle.std.proofs.Common.{ℕ, ◌≡◌, ◌∙◌, not, inl, inr, Bool, true, false, cond, nat_eq, List, [], ◌∷◌, map, filter, Option, Some, None, refl, sym, ap, subst}
+use Rattle.std.specs.Prelude.{int_lt, option_and_then, option_map}
 use Rattle.std.specs.Ordering.{int_eq}
-use Rattle.std.proofs.lemmas.Bool.{and_parts, eqb-true}
+use Rattle.std.proofs.lemmas.Bool.{eqb-true}
 use Rattle.std.proofs.lemmas.Option.{same_Some}
-use Rattle.std.specs.List.{AllByRecursion, enumerate_from, filter_map}
+use Rattle.std.specs.List.{AllByRecursion, filter_map}
 use Rattle.cdi_base.specs.declared.uses.Use.{Use}
 use Rattle.cdi_bean_check.specs.ManagedBeans.{is_bean}
 use Rattle.cdi_beans.specs.ObserverMethods.{observer}
-use Rattle.cdi_beans.specs.declared.bean.Bean.{Bean}
 use Rattle.cdi_beans.specs.declared.bean.ObserverMethod.{ObserverMethod}
 use Rattle.cdi_bodies.specs.Gives.{LieInShape, lookups_of}
 use Rattle.cdi_bodies.specs.declared.entry.Entry.{Entry}
@@ -20,7 +19,6 @@ use Rattle.cdi_deployment.specs.declared.deployment.Deployment.{Deployment}
 use Rattle.cdi_deployment.specs.declared.deployment.Member.{Member}
 use Rattle.cdi_deployment.specs.declared.deployment.Member.TheVariants as members
 use Rattle.cdi_deployment.specs.declared.deployment.Observer.{Observer}
-use Rattle.cdi_beans.specs.Kinds.{is_managed}
 use Rattle.cdi_machine.specs.Registered.{legal_of}
 use Rattle.cdi_machine.specs.Runs.{Legal}
 use Rattle.cdi_machine.specs.Tables as machine
@@ -31,21 +29,18 @@ use Rattle.cdi_types.specs.Members.{members_of}
 use Rattle.cdi_plans.specs.Codes.{injected_method}
 use Rattle.cdi_plans.specs.Observers.{as_observer, observer_in, observer_named, observer_of}
 use Rattle.cdi_resolve.specs.declared.bean_tables.BeanTables.{BeanTables}
-use Rattle.cdi_resolve.specs.Filters.{enabled_of, is_enabled}
-use Rattle.cdi_event_tables.specs.Observers.{managed_bean}
-use Rattle.cdi_run_tables.specs.Machine.{AreIdsOf, bean_with, has_none, hearers, id_of, machine_member, machine_observer, machine_tables, observer_of_bean, observer_with, observers_of}
+use Rattle.cdi_run_tables.specs.Machine.{AreIdsOf, bean_with, has_none, hearers, id_of, machine_member, machine_observer, machine_tables, observer_with, observers_of}
 use Rattle.cdi_run_tables.specs.Planned.{IsTabled}
 use Rattle.cdi_run_tables.specs.Texts.{has_texts}
 use Rattle.cdi_run_tables.specs.declared.tables.RunTables.{RunTables}
 use Rattle.cdi_types.specs.Declarations.{declarations_of}
 use Rattle.cdi_worlds_fit.specs.Fits.{FitsManaged, FitsMember, FitsObserver}
 use Rattle.cdi_event_tables.specs.Events.{Group, groups_of, new_group, with_observer}
-use Rattle.cdi_accepted.proofs.Lists.{Among, among_filter, found_among, given, mapped, of_filter}
+use Rattle.cdi_accepted.proofs.Lists.{Among, found_among, given, mapped, of_filter}
 use Rattle.cdi_accepted.proofs.Members.{IsOfLine, of_line}
 use Rattle.cdi_accepted.proofs.Observing.{IsObserverIn, as_member, observer_in_list, of_as_observer}
-use Rattle.cdi_accepted.proofs.Positions.{found_at, numbered_at}
+use Rattle.cdi_site_fit.proofs.Enabled.{IsManagedAt, is_told, made_from, managed_at}
 use Rattle.cdi_site_fit.proofs.Methods.{apart, front, known, managed}
-use Rattle.cdi_site_fit.proofs.Plans.{HasPlan, has_plan, kind_of}
 use Rattle.cdi_site_fit.proofs.Ready.{all_of, class_fits, member_is_fit}
 
 -- ---- groups
@@ -95,75 +90,38 @@ in_groups (x ∷ os) g o s a = by (λ h. in_groups os h o) (one_added x o g (gro
     by rec (IsOld.new e) = inl e
     by rec (IsOld.old h q r) = inr (rec h q r)
 
-module _ {X : Type 0} {F : X → Type 0} {g : _} (entries : List (Entry X F g)) (lies : LieInShape entries) (t : RunTables) (tabled : IsTabled t) (lookups : t.lookups ≡ lookups_of entries) (ids : AreIdsOf entries t)
-    (sound : AreBodiesSound t.deployment (shape_of entries) (setting_by t.deployment t.tables)) (texts : has_texts t.deployment ≡ true) where
-  abbrev d : Deployment
-  d = t.deployment
+-- each observer of the tables is one that a class declares
+pub observer_inside : (t : RunTables) (tabled : IsTabled t) (o : ObserverMethod) → Among o t.tables.observers → IsObserverIn t.deployment tabled.tables.made.qualifiers (filter is_bean t.deployment.classes) o
+observer_inside t tabled o stands =
+    let d = t.deployment in
+    let P : List ObserverMethod → Type 0 = λ os. Among o os in
+    let observers_are : t.tables.observers ≡ tabled.tables.list.observers = ap (λ (s : BeanTables). s.observers) tabled.tables.are.are in
+    observer_in_list d tabled.tables.made.qualifiers (filter is_bean d.classes) tabled.tables.list.observers tabled.tables.made.is.observers o (subst P observers_are stands)
 
-  abbrev T : machine.Tables
-  T = machine_tables t
-
-  abbrev L : Legal
-  L = legal_of entries
-
-  -- an enabled managed bean by its place
-  pub record IsManagedAt (n : ℕ) (class : ℕ) : Type 0 where
-    pub listed : Bean
-    pub enabled : Among (n, listed) (enabled_of t.tables.resolver)
-    pub kind : is_managed listed.kind ≡ true
-    pub of_class : listed.class ≡ class
-    pub plan : HasPlan t n listed
-
-  pub managed_at : (n class : ℕ) → managed_bean t.tables.resolver.beans class ≡ Some n → is_enabled t.tables.resolver.flags n ≡ true → IsManagedAt n class
-  managed_at n class e on =
-      let beans = t.tables.resolver.beans in
-      let found = found_at (λ (b : Bean). is_managed b.kind && nat_eq b.class class) beans n e in
-      let both = and_parts (is_managed found.item.kind) (nat_eq found.item.class class) found.passes in
-      let kind = both.0 in
-      let zero_is : 0 + n ≡ n = omega arith in
-      let placed : Among (n, found.item) (enumerate_from 0 beans) = subst (λ (k : ℕ). Among (k, found.item) (enumerate_from 0 beans)) zero_is (numbered_at 0 beans n found.item found.has) in
-      record {
-        listed = found.item;
-        enabled = among_filter (λ p. is_enabled t.tables.resolver.flags p.0) (enumerate_from 0 beans) (n, found.item) placed on;
-        kind = kind;
-        of_class = eqb-true found.item.class class both.1;
-        plan = has_plan t tabled n found.item found.has (kind_of found.item.kind kind);
-      }
-
-  pub class_at : (n class : ℕ) (at : IsManagedAt n class) → FitsManaged T L n (managed entries t tabled ids sound n at.listed at.enabled at.plan)
-  class_at n class at =
-      record {
-        is =
-            record {
-              bean = bean_with at.plan.planned (machine.Kind.Class (managed entries t tabled ids sound n at.listed at.enabled at.plan));
-              known = known entries t tabled ids sound n at.listed at.enabled at.plan;
-              is = refl;
-            };
-        fits = class_fits entries lies t tabled lookups ids sound texts n at.listed at.enabled at.plan at.kind;
-      }
-
-  module _ (o : ObserverMethod) (n : ℕ) (at : IsManagedAt n o.bean) (inside : IsObserverIn d tabled.tables.made.qualifiers (filter is_bean d.classes) o) where
+module _ {X : Type 0} {F : X → Type 0} {g : _} (entries : List (Entry X F g)) (t : RunTables) (tabled : IsTabled t) (ids : AreIdsOf entries t)
+    (sound : AreBodiesSound t.deployment (shape_of entries) (setting_by t.deployment t.tables)) where
+  module _ (o : ObserverMethod) (n : ℕ) (at : IsManagedAt t n o.bean) (inside : IsObserverIn t.deployment tabled.tables.made.qualifiers (filter is_bean t.deployment.classes) o) where
     -- it stands among the members of the bean
-    stands : Among (inside.declared.0, members.Observer inside.declared.1) (members_of at.plan.line)
-    stands =
+    pub observer_stands : Among (inside.declared.0, members.Observer inside.declared.1) (members_of at.plan.line)
+    observer_stands =
         let from = given observer inside.has inside.declared inside.stands in
-        let P : ℕ → Type 0 = λ k. IsLineOf (declarations_of d) d.classes k inside.are.line in
+        let P : ℕ → Type 0 = λ k. IsLineOf (declarations_of t.deployment) t.deployment.classes k inside.are.line in
         let mine = subst P (sym (at.of_class ∙ inside.is.of_bean)) inside.are.is_line in
-        let same : inside.are.line ≡ at.plan.line = one_line (declarations_of d) d.classes at.listed.class inside.are.line at.plan.line mine at.plan.is_line in
+        let same : inside.are.line ≡ at.plan.line = one_line (declarations_of t.deployment) t.deployment.classes at.listed.class inside.are.line at.plan.line mine at.plan.is_line in
         let Q : List (Class × Member) → Type 0 = λ ms. Among from.item ms in
         let R : Class × Member → Type 0 = λ p. Among p (members_of at.plan.line) in
         subst R (as_member from.item inside.declared from.is) (subst Q (inside.are.are ∙ ap members_of same) from.stands)
 
     -- the one that its class declares is that one
-    declared_is : (found : Class × Observer) → observer_of d.classes o ≡ Some found → found ≡ inside.declared
+    pub declared_is : (found : Class × Observer) → observer_of t.deployment.classes o ≡ Some found → found ≡ inside.declared
     declared_is found e = by (observer_named o.name inside.declared.0.members) refl (sym at_class ∙ e)
       where
         of : IsOfLine at.plan.line inside.declared.0 (members.Observer inside.declared.1)
-        of = of_line at.plan.line inside.declared.0 (members.Observer inside.declared.1) stands
+        of = of_line at.plan.line inside.declared.0 (members.Observer inside.declared.1) observer_stands
 
-        at_class : observer_of d.classes o ≡ observer_in o.name inside.declared.0
+        at_class : observer_of t.deployment.classes o ≡ observer_in o.name inside.declared.0
         at_class =
-            ap (λ (k : ℕ). option_and_then (observer_in o.name) (class_named d.classes k)) inside.is.of_class
+            ap (λ (k : ℕ). option_and_then (observer_in o.name) (class_named t.deployment.classes k)) inside.is.of_class
             ∙ ap (option_and_then (observer_in o.name)) (front entries t tabled ids sound n at.listed at.enabled at.plan inside.declared.0 of.class).named
 
         by : (k : Option Observer) → observer_named o.name inside.declared.0.members ≡ k → option_map (λ (x : Observer). (inside.declared.0, x)) k ≡ Some found → found ≡ inside.declared
@@ -181,37 +139,45 @@ module _ {X : Type 0} {F : X → Type 0} {g : _} (entries : List (Entry X F g)) 
             same_observer : (x y : Observer) → members.Observer x ≡ members.Observer y → x ≡ y
             same_observer x y e = cc
 
+module _ {X : Type 0} {F : X → Type 0} {g : _} (entries : List (Entry X F g)) (lies : LieInShape entries) (t : RunTables) (tabled : IsTabled t) (lookups : t.lookups ≡ lookups_of entries) (ids : AreIdsOf entries t)
+    (sound : AreBodiesSound t.deployment (shape_of entries) (setting_by t.deployment t.tables)) (texts : has_texts t.deployment ≡ true) where
+  abbrev d : Deployment
+  d = t.deployment
+
+  abbrev T : machine.Tables
+  T = machine_tables t
+
+  abbrev L : Legal
+  L = legal_of entries
+
+  pub class_at : (n class : ℕ) (at : IsManagedAt t n class) → FitsManaged T L n (managed entries t tabled ids sound n at.listed at.enabled at.plan)
+  class_at n class at =
+      record {
+        is =
+            record {
+              bean = bean_with at.plan.planned (machine.Kind.Class (managed entries t tabled ids sound n at.listed at.enabled at.plan));
+              known = known entries t tabled ids sound n at.listed at.enabled at.plan;
+              is = refl;
+            };
+        fits = class_fits entries lies t tabled lookups ids sound texts n at.listed at.enabled at.plan at.kind;
+      }
+
+  module _ (o : ObserverMethod) (n : ℕ) (at : IsManagedAt t n o.bean) (inside : IsObserverIn d tabled.tables.made.qualifiers (filter is_bean d.classes) o) where
     observer_at : (found : Class × Observer) → observer_of d.classes o ≡ Some found → FitsObserver T L (observer_with t o n found)
     observer_at found e =
         let own = managed entries t tabled ids sound n at.listed at.enabled at.plan in
         let c = inside.declared.0 in
         let x = inside.declared.1 in
-        let fit = member_is_fit entries lies t tabled lookups ids sound texts n at.listed at.enabled at.plan c (members.Observer x) x.body refl stands in
+        let fit = member_is_fit entries lies t tabled lookups ids sound texts n at.listed at.enabled at.plan c (members.Observer x) x.body refl (observer_stands entries t tabled ids sound o n at inside) in
         let P : ℕ → Type 0 = λ k. FitsMember T L own (machine_member (id_of t) (injected_method t.tables.chains k c x.name x.body x.params)) in
         let Q : Class × Observer → Type 0 = λ p. FitsObserver T L (observer_with t o n p) in
-        subst Q (sym (declared_is found e)) (record { class = own; observes = class_at n o.bean at; member = subst P at.of_class fit })
+        subst Q (sym (declared_is entries t tabled ids sound o n at inside found e)) (record { class = own; observes = class_at n o.bean at; member = subst P at.of_class fit })
 
   one_observer : (o : ObserverMethod) → Among o t.tables.observers → (x : machine.Observer) → machine_observer t o ≡ Some x → FitsObserver T L x
-  one_observer o stands x e = by (managed_bean t.tables.resolver.beans o.bean) refl e
-    where
-      inside : IsObserverIn d tabled.tables.made.qualifiers (filter is_bean d.classes) o
-      inside =
-          let P : List ObserverMethod → Type 0 = λ os. Among o os in
-          let observers_are : t.tables.observers ≡ tabled.tables.list.observers = ap (λ (s : BeanTables). s.observers) tabled.tables.are.are in
-          observer_in_list d tabled.tables.made.qualifiers (filter is_bean d.classes) tabled.tables.list.observers tabled.tables.made.is.observers o (subst P observers_are stands)
-
-      found : (n : ℕ) → IsManagedAt n o.bean → (k : Option (Class × Observer)) → observer_of d.classes o ≡ k → option_map (observer_with t o n) k ≡ Some x → FitsObserver T L x
-      found n at None is h = absurd cc
-      found n at (Some p) is h = subst (λ y. FitsObserver T L y) (same_Some (observer_with t o n p) x h) (observer_at o n at inside p is)
-
-      enabled : (n : ℕ) → managed_bean t.tables.resolver.beans o.bean ≡ Some n → (b : Bool) → is_enabled t.tables.resolver.flags n ≡ b
-          → (if b then option_map (observer_with t o n) (observer_of d.classes o) else None) ≡ Some x → FitsObserver T L x
-      enabled n is false on h = absurd cc
-      enabled n is true on h = found n (managed_at n o.bean is on) (observer_of d.classes o) refl h
-
-      by : (k : Option ℕ) → managed_bean t.tables.resolver.beans o.bean ≡ k → option_and_then (observer_of_bean t o) k ≡ Some x → FitsObserver T L x
-      by None is h = absurd cc
-      by (Some n) is h = enabled n is (is_enabled t.tables.resolver.flags n) refl h
+  one_observer o stands x e =
+      let told = is_told t o.bean (λ n. option_map (observer_with t o n) (observer_of d.classes o)) x e in
+      let made = made_from (observer_with t o told.bean) (observer_of d.classes o) x told.is in
+      subst (λ y. FitsObserver T L y) made.2 (observer_at o told.bean (managed_at t tabled told.bean o.bean told.found told.on) (observer_inside t tabled o stands) made.0 made.1)
 
   pub observed : (class : Name) (qualifiers : List Use) → AllByRecursion (AllByRecursion (FitsObserver T L)) (observers_of t class qualifiers)
   observed class qualifiers =

@@ -24,7 +24,7 @@ use Rattle.cdi_accepted.proofs.Duplicates.{OnceBy, is_free, members_once}
 use Rattle.cdi_accepted.proofs.Lines.{is_listed}
 use Rattle.cdi_accepted.proofs.Lists.{Among, any_passes, given, mapped, of_filter, of_is_in}
 use Rattle.cdi_accepted.proofs.Members.{of_line}
-use Rattle.cdi_site_fit.proofs.Places.{of_pre_destroy}
+use Rattle.cdi_site_fit.proofs.MemberCodes.{of_pre_destroy}
 use Rattle.cdi_site_fit.proofs.Planned.{placed}
 
 -- ---- chains
@@ -147,6 +147,6 @@ module _ (ids : ℕ → Option ℕ) where
           let first = of_pre_destroy p k is in
           let second = of_pre_destroy other.item code.item other.is in
           let one : places.Member p.0.name (member_name p.1) ≡ places.Member other.item.0.name (member_name other.item.1) =
-          sym first.is ∙ ap (λ (x : machine.Code). x.place) both.0 ∙ place.is ∙ ap (λ (x : machine.Code). x.place) code.is ∙ second.is in
+          sym (ap (λ (x : Code). x.place) first.is) ∙ ap (λ (x : machine.Code). x.place) both.0 ∙ place.is ∙ ap (λ (x : machine.Code). x.place) code.is ∙ ap (λ (x : Code). x.place) second.is in
           let named : member_name p.1 ≡ member_name other.item.1 = cc in
           once.0 other.item other.stands named

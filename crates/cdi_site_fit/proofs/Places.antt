@@ -1,6 +1,6 @@
 -- The bodies of a destruction are told from all others by their places: a member's place is that of its class and its name.
-use Rattle.std.proofs.Common.{ℕ, zero, suc, ◌≡◌, ◌∙◌, ◌⊎◌, inl, inr, Bool, true, false, not, nat_eq, List, [], ◌∷◌, ◌++◌, map, filter, Option, Some, None, refl, sym, ap, subst}
-use Rattle.std.specs.Prelude.{option_and_then, option_map, slice_get, if◌then◌else◌}
+use Rattle.std.proofs.Common.{ℕ, zero, suc, ◌≡◌, ◌∙◌, ◌⊎◌, inl, inr, Bool, true, not, nat_eq, List, [], ◌∷◌, ◌++◌, map, filter, Option, Some, None, refl, sym, ap, subst}
+use Rattle.std.specs.Prelude.{option_and_then, option_map, slice_get}
 use Rattle.std.specs.List.{AllZip, filter_map}
 use Rattle.std.proofs.lemmas.Bool.{true≢false}
 use Rattle.std.proofs.lemmas.Option.{same_Some}
@@ -18,15 +18,15 @@ use Rattle.cdi_deployment.specs.declared.deployment.Deployment.{Deployment}
 use Rattle.cdi_deployment.specs.declared.deployment.Member.{Member}
 use Rattle.cdi_deployment.specs.declared.deployment.Member.TheVariants as members
 use Rattle.cdi_deployment.specs.declared.deployment.Observer.{Observer}
+use Rattle.cdi_deployment.specs.declared.deployment.Point.{Point}
 use Rattle.cdi_machine.specs.Tables as machine
 use Rattle.cdi_name_check.specs.NameProblems.{AreNameProblems}
-use Rattle.cdi_plans.specs.Codes.{business_method, completion, constructor_body, injected_method, post_construct, pre_destroy}
+use Rattle.cdi_plans.specs.Codes.{business_method, completion, constructor_body, post_construct, pre_destroy}
 use Rattle.cdi_plans.specs.Observers.{as_observer, observer_in, observer_named, observer_of}
 use Rattle.cdi_plans.specs.Plans.{IsPlanOf}
-use Rattle.cdi_plans.specs.Products.{IsProductPlan, disposer_method, source_of}
-use Rattle.cdi_plans.specs.Steps.{class_steps, construction, initialization, injection, injections, steps_of}
+use Rattle.cdi_plans.specs.Products.{IsProductPlan, disposer_method}
+use Rattle.cdi_plans.specs.Steps.{construction, injections, steps_of}
 use Rattle.cdi_plans.specs.Tables.{PlanTables}
-use Rattle.cdi_plans.specs.declared.plan.BusinessMethod.{BusinessMethod}
 use Rattle.cdi_plans.specs.declared.plan.Code.{Code}
 use Rattle.cdi_plans.specs.declared.plan.InjectedMethod.{InjectedMethod}
 use Rattle.cdi_plans.specs.declared.plan.ManagedPlan.{ManagedPlan}
@@ -34,18 +34,16 @@ use Rattle.cdi_plans.specs.declared.plan.Plan.{Plan}
 use Rattle.cdi_plans.specs.declared.plan.Plan.TheVariants as plans
 use Rattle.cdi_plans.specs.declared.plan.ProductPlan.{ProductPlan}
 use Rattle.cdi_plans.specs.declared.plan.Source.{Source}
-use Rattle.cdi_plans.specs.declared.plan.Source.TheVariants as sources
 use Rattle.cdi_plans.specs.declared.plan.Step.{Step}
 use Rattle.cdi_plans.specs.declared.plan.Step.TheVariants as steps
-use Rattle.cdi_resolve.specs.Filters.{is_enabled}
 use Rattle.cdi_event_tables.specs.Observers.{managed_bean}
-use Rattle.cdi_run_tables.specs.Machine.{bean_at, bean_with, does_something, id_of, machine_bean, machine_code, machine_kind, machine_managed, machine_member, machine_method, machine_methods, machine_observer, machine_source, machine_step, machine_steps, method_with, observer_of_bean, observer_with, product_with}
+use Rattle.cdi_run_tables.specs.Machine.{bean_at, bean_with, does_something, id_of, machine_bean, machine_code, machine_kind, machine_managed, machine_member, machine_methods, machine_observer, machine_source, machine_step, machine_steps, observer_with, planned_at, product_with}
 use Rattle.cdi_run_tables.specs.Planned.{IsPlanned, IsTabled, plan_tables}
 use Rattle.cdi_run_tables.specs.declared.planned.PlannedBean.{PlannedBean}
 use Rattle.cdi_run_tables.specs.declared.tables.RunTables.{RunTables}
 use Rattle.cdi_types.specs.Declarations.{declarations_of}
 use Rattle.cdi_types.specs.Line.{IsLineOf, class_named}
-use Rattle.cdi_types.specs.Members.{comes_down, members_of, parts_of}
+use Rattle.cdi_types.specs.Members.{members_of}
 use Rattle.cdi_ownership.specs.Whose.{IsIn}
 use Rattle.cdi_ledger.specs.Callbacks.{codes_in}
 use Rattle.cdi_accepted.proofs.Beans.{kept_at}
@@ -53,17 +51,14 @@ use Rattle.cdi_accepted.proofs.Duplicates.{named_apart}
 use Rattle.cdi_accepted.proofs.Lines.{front_of, is_listed, is_of_name}
 use Rattle.cdi_accepted.proofs.Lists.{Among, among_parts, found_among, given, mapped, of_filter, of_is_in}
 use Rattle.cdi_accepted.proofs.Members.{of_line}
+use Rattle.cdi_site_fit.proofs.Enabled.{is_told, known_by, made_from, of_planned, with_plan}
 use Rattle.cdi_site_fit.proofs.Fitting.{class_is_managed, same_class}
 use Rattle.cdi_accepted.proofs.Observing.{of_as_observer}
+use Rattle.cdi_site_fit.proofs.MemberCodes.{IsCodeOf, IsMethodOf, IsSourceOf, is_farewell, is_other, of_disposer, of_initialization, of_post_construct, of_pre_destroy, of_source}
+use Rattle.cdi_site_fit.proofs.Methods.{of_plan}
 use Rattle.cdi_site_fit.proofs.Plans.{HasPlan, has_plan}
 use Rattle.cdi_site_fit.proofs.Products.{of_those, producer_is}
-
-abbrev pub is_farewell : Member → Bool
-is_farewell (members.PreDestroy m) = true
-is_farewell _ = false
-
-abbrev pub is_other : Member → Bool
-is_other m = not (is_farewell m)
+use Rattle.cdi_site_fit.proofs.Ready.{IsFrom, of_injections}
 
 -- the place is that of a member which passes the test
 pub record IsDeclaredAt (d : Deployment) (place : Place) (test : Member → Bool) : Type 0 where
@@ -97,72 +92,21 @@ pub record IsAtMember (p : Class × Member) (place : Place) (test : Member → B
   pub is : place ≡ places.Member p.0.name (member_name p.1)
   pub passes : test p.1 ≡ true
 
-pub of_pre_destroy : (p : Class × Member) (k : Code) → pre_destroy p ≡ Some k → IsAtMember p k.place is_farewell
-of_pre_destroy (c, members.PreDestroy m) k e = record { is = ap (λ (x : Code). x.place) (sym (same_Some _ k e)); passes = refl }
-of_pre_destroy (c, members.Method m) k e = absurd cc
-of_pre_destroy (c, members.Initializer m) k e = absurd cc
-of_pre_destroy (c, members.PostConstruct m) k e = absurd cc
-of_pre_destroy (c, members.Producer m) k e = absurd cc
-of_pre_destroy (c, members.ProducerField m) k e = absurd cc
-of_pre_destroy (c, members.Disposer m) k e = absurd cc
-of_pre_destroy (c, members.Observer m) k e = absurd cc
+-- a member's code stands at the member's place
+at_code : (test : Member → Bool) (p : Class × Member) (k : Code) (points : List Point) → IsCodeOf test p k points → IsAtMember p k.place test
+at_code test p k points of = record { is = ap (λ (x : Code). x.place) of.is; passes = of.passes }
 
-of_post_construct : (p : Class × Member) (k : Code) → post_construct p ≡ Some k → IsAtMember p k.place is_other
-of_post_construct (c, members.PostConstruct m) k e = record { is = ap (λ (x : Code). x.place) (sym (same_Some _ k e)); passes = refl }
-of_post_construct (c, members.Method m) k e = absurd cc
-of_post_construct (c, members.Initializer m) k e = absurd cc
-of_post_construct (c, members.PreDestroy m) k e = absurd cc
-of_post_construct (c, members.Producer m) k e = absurd cc
-of_post_construct (c, members.ProducerField m) k e = absurd cc
-of_post_construct (c, members.Disposer m) k e = absurd cc
-of_post_construct (c, members.Observer m) k e = absurd cc
-
-of_business : (t : ChainTables) (bean : ℕ) (p : Class × Member) (k : BusinessMethod) → business_method t bean p ≡ Some k → IsAtMember p k.code.place is_other
-of_business t bean (c, members.Method m) k e = record { is = ap (λ (x : BusinessMethod). x.code.place) (sym (same_Some _ k e)); passes = refl }
-of_business t bean (c, members.Initializer m) k e = absurd cc
-of_business t bean (c, members.PostConstruct m) k e = absurd cc
-of_business t bean (c, members.PreDestroy m) k e = absurd cc
-of_business t bean (c, members.Producer m) k e = absurd cc
-of_business t bean (c, members.ProducerField m) k e = absurd cc
-of_business t bean (c, members.Disposer m) k e = absurd cc
-of_business t bean (c, members.Observer m) k e = absurd cc
-
-of_disposer : (t : ChainTables) (c : Class) (m : Member) (k : InjectedMethod) → disposer_method t c m ≡ Some k → IsAtMember (c, m) k.code.place is_other
-of_disposer t c (members.Disposer m) k e = record { is = ap (λ (x : InjectedMethod). x.code.place) (sym (same_Some _ k e)); passes = refl }
-of_disposer t c (members.Method m) k e = absurd cc
-of_disposer t c (members.Initializer m) k e = absurd cc
-of_disposer t c (members.PostConstruct m) k e = absurd cc
-of_disposer t c (members.PreDestroy m) k e = absurd cc
-of_disposer t c (members.Producer m) k e = absurd cc
-of_disposer t c (members.ProducerField m) k e = absurd cc
-of_disposer t c (members.Observer m) k e = absurd cc
-
-same_method : (x y : InjectedMethod) → sources.ProducerMethod x ≡ sources.ProducerMethod y → x ≡ y
-same_method x y e = cc
-
--- a producer method
-of_source : (t : ChainTables) (p : Class × Member) (k : InjectedMethod) → source_of t p ≡ Some (sources.ProducerMethod k) → IsAtMember p k.code.place is_other
-of_source t (c, members.Producer m) k e =
-    let own : InjectedMethod = injected_method t c.name c m.name m.body m.params in
-    let one : own ≡ k = same_method own k (same_Some (sources.ProducerMethod own) (sources.ProducerMethod k) e) in
-    record { is = ap (λ (x : InjectedMethod). x.code.place) (sym one); passes = refl }
-of_source t (c, members.ProducerField m) k e =
-    let q : sources.ProducerField m.field ≡ sources.ProducerMethod k = same_Some (sources.ProducerField m.field) (sources.ProducerMethod k) e in
-    absurd cc
-of_source t (c, members.Method m) k e = absurd cc
-of_source t (c, members.Initializer m) k e = absurd cc
-of_source t (c, members.PostConstruct m) k e = absurd cc
-of_source t (c, members.PreDestroy m) k e = absurd cc
-of_source t (c, members.Disposer m) k e = absurd cc
-of_source t (c, members.Observer m) k e = absurd cc
+-- and so does that of a producer method or a disposer
+at_method : (t : ChainTables) (p : Class × Member) (k : InjectedMethod) → IsMethodOf t p k → IsAtMember p k.code.place is_other
+at_method t p k of = record { is = ap (λ (x : InjectedMethod). x.code.place) of.is; passes = of.passes }
 
 -- an item of the one list has one of the other at its place
-record Beneath {A B : Type 0} (R : A → B → Type 0) (xs : List A) (i : ℕ) (y : B) : Type 0 where
-  item : A
-  stands : slice_get xs i ≡ Some item
-  related : R item y
+pub record Beneath {A B : Type 0} (R : A → B → Type 0) (xs : List A) (i : ℕ) (y : B) : Type 0 where
+  pub item : A
+  pub stands : slice_get xs i ≡ Some item
+  pub related : R item y
 
-beneath : {A B : Type 0} (R : A → B → Type 0) (xs : List A) (ys : List B) (i : ℕ) (y : B) → AllZip R xs ys → slice_get ys i ≡ Some y → Beneath R xs i y
+pub beneath : {A B : Type 0} (R : A → B → Type 0) (xs : List A) (ys : List B) (i : ℕ) (y : B) → AllZip R xs ys → slice_get ys i ≡ Some y → Beneath R xs i y
 beneath R [] [] i y zip e = absurd cc
 beneath R [] (z ∷ ys) i y zip e = absurd zip
 beneath R (x ∷ xs) [] i y zip e = absurd zip
@@ -206,17 +150,18 @@ module _ (t : RunTables) (tabled : IsTabled t) where
     pub is : c ≡ machine_managed ids plan.plan
 
   pub class_bean : (b : ℕ) (x : machine.Bean) (c : machine.Managed) → bean_at t b ≡ Some x → x.kind ≡ machine.Kind.Class c → IsOfBean b c
-  class_bean b x c e k = by (slice_get t.beans b) refl e
+  class_bean b x c e k = by (planned_at t b) refl e
     where
-      by : (o : Option PlannedBean) → slice_get t.beans b ≡ o → option_and_then (machine_bean ids t.tables.resolver.beans) o ≡ Some x → IsOfBean b c
+      by : (o : Option PlannedBean) → planned_at t b ≡ o → option_and_then (machine_bean ids t.tables.resolver.beans) o ≡ Some x → IsOfBean b c
       by None is h = absurd cc
       by (Some planned) is h =
-          let below = beneath (IsPlanned planning) t.tables.resolver.beans t.beans b planned tabled.planned is in
+          let there = of_planned t b planned is in
+          let below = beneath (IsPlanned planning) t.tables.resolver.beans t.beans b planned tabled.planned there.1 in
           let kind = class_is_managed t planning below.item planned planned.plan below.related.plan x c h k in
           let plan = has_plan t tabled b below.item below.stands kind in
           let own = machine_managed ids plan.plan in
           let known : bean_at t b ≡ Some (bean_with plan.planned (machine.Kind.Class own)) =
-          ap (option_and_then (machine_bean ids t.tables.resolver.beans)) plan.has
+          known_by t b plan.planned (with_plan t b plan.planned there.0 plan.has)
           ∙ ap (λ p. option_map (bean_with plan.planned) (machine_kind ids t.tables.resolver.beans p)) plan.is_plan in
           let one : bean_with plan.planned (machine.Kind.Class own) ≡ x = same_Some (bean_with plan.planned (machine.Kind.Class own)) x (sym known ∙ e) in
           record { listed = below.item; plan = plan; is = sym (same_class own c (ap (λ (y : machine.Bean). y.kind) one ∙ k)) }
@@ -229,14 +174,14 @@ module _ (t : RunTables) (tabled : IsTabled t) where
     line = of.plan.line
 
     -- codes of members that stand at a place of the machine's
-    of_codes : (code : Class × Member → Option Code) (test : Member → Bool) → ((p : Class × Member) (k : Code) → code p ≡ Some k → IsAtMember p k.place test)
+    of_codes : (code : Class × Member → Option Code) (test : Member → Bool) → ((p : Class × Member) (k : Code) → code p ≡ Some k → IsCodeOf test p k [])
         → (m : machine.Code) → IsIn m (map (machine_code ids) (filter_map code (members_of line))) → IsDeclaredAt d m.place test
     of_codes code test at m a =
         let found = mapped (machine_code ids) (filter_map code (members_of line)) m (of_is_in m (map (machine_code ids) (filter_map code (members_of line))) a) in
         let member = given code (members_of line) found.item found.stands in
         let P : Place → Type 0 = λ p. IsDeclaredAt d p test in
         subst P (sym (ap (λ (x : machine.Code). x.place) found.is))
-        (at_listed of.listed.class line plan.is_line member.item member.stands found.item.place test (at member.item found.item member.is))
+        (at_listed of.listed.class line plan.is_line member.item member.stands found.item.place test (at_code test member.item found.item [] (at member.item found.item member.is)))
 
     callbacks_are : c.pre_destroy.callbacks ≡ map (machine_code ids) (filter_map pre_destroy (members_of line))
     callbacks_are = ap (λ (x : machine.Managed). x.pre_destroy.callbacks) of.is ∙ ap (λ (p : ManagedPlan). map (machine_code ids) p.pre_destroy.callbacks) plan.is
@@ -246,24 +191,14 @@ module _ (t : RunTables) (tabled : IsTabled t) where
 
     -- ---- methods
 
-    of_method : (planned : BusinessMethod) (name : ℕ) (m : machine.Method) → machine_method ids planned ≡ Some (name, m) → m.code.place ≡ planned.code.place
-    of_method planned name m e = by (ids planned.code.body) e
-      where
-        by : (o : Option ℕ) → option_map (method_with planned) o ≡ Some (name, m) → m.code.place ≡ planned.code.place
-        by None h = absurd cc
-        by (Some body) h = ap (λ (k : ℕ × machine.Method). k.1.code.place) (sym (same_Some (method_with planned body) (name, m) h))
-
     pub method_at : (name : ℕ) (m : machine.Method) → at c.methods name ≡ Some m → IsOfOther d m.code.place
     method_at name m e =
-        let t_chains = t.tables.chains in
-        let all = filter_map (business_method t_chains of.listed.class) (members_of line) in
+        let chains = t.tables.chains in
+        let all = filter_map (business_method chains of.listed.class) (members_of line) in
         let methods_are : c.methods ≡ machine_methods ids all = ap (λ (x : machine.Managed). x.methods) of.is ∙ ap (λ (p : ManagedPlan). machine_methods ids p.methods) plan.is in
         let P : List (ℕ × machine.Method) → Type 0 = λ l. Among (name, m) l in
-        let planned = given (machine_method ids) all (name, m) (subst P methods_are (kept_at c.methods name m e)) in
-        let member = given (business_method t_chains of.listed.class) (members_of line) planned.item planned.stands in
-        let Q : Place → Type 0 = λ p. IsDeclaredAt d p is_other in
-        inl (subst Q (sym (of_method planned.item name m planned.is))
-        (at_listed of.listed.class line plan.is_line member.item member.stands planned.item.code.place is_other (of_business t_chains of.listed.class member.item planned.item member.is)))
+        let from = of_plan ids chains of.listed.class line name m (subst P methods_are (kept_at c.methods name m e)) in
+        inl (at_listed of.listed.class line plan.is_line (from.class, members.Method from.method) from.declared m.code.place is_other (record { is = from.place; passes = refl }))
 
     -- ---- steps
 
@@ -279,53 +214,19 @@ module _ (t : RunTables) (tabled : IsTabled t) where
         by (Some body) (inl e) = inr (of.listed.class, ap (λ (x : machine.Code). x.place) (sym e))
         by (Some body) (inr h) = absurd h
 
-    of_initializer : (p : Class × Member) (s : Step) → initialization p ≡ Some s → Among p.0 line → Among p.1 p.0.members → Runs s
-    of_initializer (k, members.Initializer i) s e a own =
+    -- the steps between construction and completion
+    runs_injection : (s : Step) → IsFrom (members_of line) s → Runs s
+    runs_injection s (IsFrom.injects field point e) = let P : Step → Type 0 = λ x. Runs x in subst P (sym e) (λ m h. absurd h)
+    runs_injection s (IsFrom.initializes p a e) =
         let P : Step → Type 0 = λ x. Runs x in
-        subst P (same_Some _ s e) (λ m h. by m h)
+        let from = of_initialization p s e in
+        subst P (sym from.is) (λ m h. by from.code (at_code is_other p from.code from.points from.of) m h)
       where
-        by : (m : machine.Code) → IsIn m (machine_code ids (record { place = places.Member k.name i.name; body = i.body }) ∷ []) → IsOfOther d m.place
-        by m (inl q) =
-            inl (record {
-              class = k;
-              named = named_in of.listed.class line plan.is_line k a;
-              member = members.Initializer i;
-              own = own;
-              is = ap (λ (x : machine.Code). x.place) (sym q);
-              passes = refl;
-            })
-        by m (inr h) = absurd h
-    of_initializer (k, members.Method i) s e a own = absurd cc
-    of_initializer (k, members.PostConstruct i) s e a own = absurd cc
-    of_initializer (k, members.PreDestroy i) s e a own = absurd cc
-    of_initializer (k, members.Producer i) s e a own = absurd cc
-    of_initializer (k, members.ProducerField i) s e a own = absurd cc
-    of_initializer (k, members.Disposer i) s e a own = absurd cc
-    of_initializer (k, members.Observer i) s e a own = absurd cc
-
-    runs_injections : (part : List Class) → ((k : Class) → Among k part → Among k line) → (s : Step) → Among s (injections part) → Runs s
-    runs_injections [] within s a = absurd a
-    runs_injections (k ∷ below) within s a = by (runs_injections below (λ x there. within x (inr there)) s) (among_parts (class_steps k below) (injections below) s a)
-      where
-        kept : List Member
-        kept = filter (comes_down below) k.members
-
-        in_class : Among s (map injection k.inject) ⊎ Among s (filter_map initialization (parts_of k kept)) → Runs s
-        in_class (inl q) =
-            let found = mapped injection k.inject s q in
-            let P : Step → Type 0 = λ x. Runs x in
-            subst P (sym found.is) (λ m h. absurd h)
-        in_class (inr q) =
-            let found = given initialization (parts_of k kept) s q in
-            let part = mapped (λ (m : Member). (k, m)) kept found.item found.stands in
-            let own = (of_filter (comes_down below) k.members part.item part.stands).0 in
-            let P : Class × Member → Type 0 = λ p. Among p.0 line × Among p.1 p.0.members in
-            let both = subst P (sym part.is) (within k (inl refl), own) in
-            of_initializer found.item s found.is both.0 both.1
-
-        by : (Among s (injections below) → Runs s) → Among s (class_steps k below) ⊎ Among s (injections below) → Runs s
-        by more (inl q) = in_class (among_parts (map injection k.inject) (filter_map initialization (parts_of k kept)) s q)
-        by more (inr q) = more q
+        by : (code : Code) → IsAtMember p code.place is_other → (m : machine.Code) → IsIn m (machine_code ids code ∷ []) → IsOfOther d m.place
+        by code there m (inl q) =
+            let Q : machine.Code → Type 0 = λ x. IsOfOther d x.place in
+            subst Q q (inl (at_listed of.listed.class line plan.is_line p a code.place is_other there))
+        by code there m (inr never) = absurd never
 
     runs_completion : (s : Step) → s ≡ steps.Complete (completion t.tables.chains of.listed.class (members_of line)) → Runs s
     runs_completion s e =
@@ -351,15 +252,15 @@ module _ (t : RunTables) (tabled : IsTabled t) where
 
         before_last : Among s (map steps.Intercept (interceptors_of t.tables.chains of.listed) ++ (first ∷ [])) ⊎ Among s (injections line) → Runs s
         before_last (inl q) = at_front (among_parts (map steps.Intercept (interceptors_of t.tables.chains of.listed)) (first ∷ []) s q)
-        before_last (inr q) = runs_injections line (λ k there. there) s q
+        before_last (inr q) = runs_injection s (of_injections line s q)
 
         by : Among s ((map steps.Intercept (interceptors_of t.tables.chains of.listed) ++ (first ∷ [])) ++ injections line) ⊎ Among s (last ∷ []) → Runs s
         by (inl q) = before_last (among_parts (map steps.Intercept (interceptors_of t.tables.chains of.listed) ++ (first ∷ [])) (injections line) s q)
         by (inr (inl e)) = runs_completion s e
         by (inr (inr q)) = absurd q
 
-    pub planned_at : (s : machine.Step) (m : machine.Code) → IsIn s c.plan → IsIn m (codes_in s) → IsOfOther d m.place
-    planned_at s m a h =
+    pub step_at : (s : machine.Step) (m : machine.Code) → IsIn s c.plan → IsIn m (codes_in s) → IsOfOther d m.place
+    step_at s m a h =
         let all = steps_of t.tables.chains plan.constructor of.listed line in
         let plan_is : c.plan ≡ machine_steps ids all = ap (λ (x : machine.Managed). x.plan) of.is ∙ ap (λ (p : ManagedPlan). machine_steps ids p.steps) plan.is in
         let P : List machine.Step → Type 0 = λ l. IsIn s l in
@@ -381,13 +282,13 @@ module _ (t : RunTables) (tabled : IsTabled t) where
   same_product x y e = cc
 
   pub product_bean : (b : ℕ) (x : machine.Bean) (p : machine.Product) → bean_at t b ≡ Some x → x.kind ≡ machine.Kind.Producer p → IsOfProduct p
-  product_bean b x p e k = by (slice_get t.beans b) refl e
+  product_bean b x p e k = by (planned_at t b) refl e
     where
-      with_plan : (planned : PlannedBean) (listed : Bean) (plan : Plan) → IsPlanOf planning listed plan
+      of_kind : (planned : PlannedBean) (listed : Bean) (plan : Plan) → IsPlanOf planning listed plan
           → option_map (bean_with planned) (machine_kind ids t.tables.resolver.beans plan) ≡ Some x → IsOfProduct p
-      with_plan planned listed (plans.Managed plan) (IsPlanOf.managed kind is) h =
+      of_kind planned listed (plans.Managed plan) (IsPlanOf.managed kind is) h =
           absurd (let q : machine.Kind.Class (machine_managed ids plan) ≡ machine.Kind.Producer p = ap (λ (y : machine.Bean). y.kind) (same_Some (bean_with planned (machine.Kind.Class (machine_managed ids plan))) x h) ∙ k in cc)
-      with_plan planned listed (plans.Product plan) (IsPlanOf.product is) h = at_bean (managed_bean t.tables.resolver.beans plan.declaring) h
+      of_kind planned listed (plans.Product plan) (IsPlanOf.product is) h = at_bean (managed_bean t.tables.resolver.beans plan.declaring) h
         where
           at_bean : (o : Option ℕ) → option_map (bean_with planned) (option_map (product_with ids plan) o) ≡ Some x → IsOfProduct p
           at_bean None q = absurd cc
@@ -403,11 +304,11 @@ module _ (t : RunTables) (tabled : IsTabled t) where
                 disposers = ap (λ (y : machine.Product). y.disposers) (sym one);
               }
 
-      by : (o : Option PlannedBean) → slice_get t.beans b ≡ o → option_and_then (machine_bean ids t.tables.resolver.beans) o ≡ Some x → IsOfProduct p
+      by : (o : Option PlannedBean) → planned_at t b ≡ o → option_and_then (machine_bean ids t.tables.resolver.beans) o ≡ Some x → IsOfProduct p
       by None is h = absurd cc
       by (Some planned) is h =
-          let below = beneath (IsPlanned planning) t.tables.resolver.beans t.beans b planned tabled.planned is in
-          with_plan planned below.item planned.plan below.related.plan h
+          let below = beneath (IsPlanned planning) t.tables.resolver.beans t.beans b planned tabled.planned (of_planned t b planned is).1 in
+          of_kind planned below.item planned.plan below.related.plan h
 
   module _ (p : machine.Product) (of : IsOfProduct p) where
     -- a member of the class that declares the producer
@@ -419,18 +320,20 @@ module _ (t : RunTables) (tabled : IsTabled t) where
         inl (record { class = c; named = subst P (sym (is_of_name d well of.name c producer.named)) producer.named; member = m; own = own; is = at.is; passes = at.passes })
 
     pub producer_at : (m : machine.Member) → p.source ≡ machine.Source.ProducerMethod m → IsOfOther d m.code.place
-    producer_at m e = by of.plan.source of.by.by.source (sym of.source ∙ e)
+    producer_at m e = by of.plan.source (of_source t.tables.chains of.by.declared of.plan.source of.by.by.source) (sym of.source ∙ e)
       where
         same_member : (x y : machine.Member) → machine.Source.ProducerMethod x ≡ machine.Source.ProducerMethod y → x ≡ y
         same_member x y e = cc
 
-        by : (s : Source) → source_of t.tables.chains of.by.declared ≡ Some s → machine_source ids s ≡ machine.Source.ProducerMethod m → IsOfOther d m.code.place
-        by (sources.ProducerField field) is h = absurd (cc)
-        by (sources.ProducerMethod k) is h =
+        by : (s : Source) → IsSourceOf t.tables.chains of.by.declared s → machine_source ids s ≡ machine.Source.ProducerMethod m → IsOfOther d m.code.place
+        by s (IsSourceOf.field f is member) h =
+            let q : machine.Source.ProducerField f.field ≡ machine.Source.ProducerMethod m = sym (ap (machine_source ids) is) ∙ h in
+            absurd cc
+        by s (IsSourceOf.method k is from) h =
             let own = (producer_is planning.classes of.name of.kind of.by.declared of.by.is).own in
+            let same = same_member (machine_member ids k) m (sym (ap (machine_source ids) is) ∙ h) in
             let P : Place → Type 0 = λ x. IsOfOther d x in
-            subst P (ap (λ (x : machine.Member). x.code.place) (same_member (machine_member ids k) m h))
-            (at_declared of.by.declared.1 own k.code.place (of_source t.tables.chains of.by.declared k is))
+            subst P (ap (λ (x : machine.Member). x.code.place) same) (at_declared of.by.declared.1 own k.code.place (at_method t.tables.chains of.by.declared k from))
 
     pub disposer_at : (m : machine.Member) → IsIn m p.disposers → IsOfOther d m.code.place
     disposer_at m a =
@@ -442,7 +345,8 @@ module _ (t : RunTables) (tabled : IsTabled t) where
         let own = of_those _ of.by.declared.0.members these.serving member.item these.serve member.stands in
         let R : Place → Type 0 = λ x. IsOfOther d x in
         subst R (sym (ap (λ (x : machine.Member). x.code.place) found.is))
-        (at_declared member.item own found.item.code.place (of_disposer t.tables.chains of.by.declared.0 member.item found.item member.is))
+        (at_declared member.item own found.item.code.place
+        (at_method t.tables.chains (of.by.declared.0, member.item) found.item (of_disposer t.tables.chains of.by.declared.0 member.item found.item member.is)))
 
   -- ---- observers
 
@@ -473,18 +377,8 @@ module _ (t : RunTables) (tabled : IsTabled t) where
       by (Some c) is h = in_class c is (observer_named o.name c.members) refl h
 
   pub observer_at : (o : ObserverMethod) (x : machine.Observer) → machine_observer t o ≡ Some x → IsOfOther d x.member.code.place
-  observer_at o x e = by (managed_bean t.tables.resolver.beans o.bean) e
-    where
-      found : (n : ℕ) (k : Option (Class × Observer)) → observer_of d.classes o ≡ k → option_map (observer_with t o n) k ≡ Some x → IsOfOther d x.member.code.place
-      found n None is h = absurd cc
-      found n (Some declared) is h =
-          let P : machine.Observer → Type 0 = λ y. IsOfOther d y.member.code.place in
-          subst P (same_Some (observer_with t o n declared) x h) (inl (observer_is o declared is))
-
-      enabled : (n : ℕ) (b : Bool) → (if b then option_map (observer_with t o n) (observer_of d.classes o) else None) ≡ Some x → IsOfOther d x.member.code.place
-      enabled n false h = absurd cc
-      enabled n true h = found n (observer_of d.classes o) refl h
-
-      by : (k : Option ℕ) → option_and_then (observer_of_bean t o) k ≡ Some x → IsOfOther d x.member.code.place
-      by None h = absurd cc
-      by (Some n) h = enabled n (is_enabled t.tables.resolver.flags n) h
+  observer_at o x e =
+      let P : machine.Observer → Type 0 = λ y. IsOfOther d y.member.code.place in
+      let told = is_told t o.bean (λ n. option_map (observer_with t o n) (observer_of d.classes o)) x e in
+      let made = made_from (observer_with t o told.bean) (observer_of d.classes o) x told.is in
+      subst P made.2 (inl (observer_is o made.0 made.1))

@@ -1,7 +1,6 @@
 -- A managed bean fits: in its chains stand interceptors that have the method, of which an instance was made before.
 use Rattle.std.proofs.Common.{ℕ, ◌≡◌, ◌∙◌, ◌⊎◌, inl, inr, Bool, true, false, cond, List, [], ◌∷◌, ◌++◌, map, filter, Option, Some, None, refl, sym, ap, subst, append_assoc, arith}
 use Rattle.std.specs.Prelude.{option_and_then, slice_get, unwrap_or}
-use Rattle.std.proofs.lemmas.Option.{same_Some}
 use Rattle.std.specs.List.{AllByRecursion, filter_map}
 use Rattle.cdi_base.specs.Maps.{at}
 use Rattle.cdi_base.specs.declared.place.InterceptorMethod.{InterceptorMethod}
@@ -33,7 +32,7 @@ use Rattle.cdi_machine.specs.Words.{Name}
 use Rattle.cdi_types.specs.Line.{class_named}
 use Rattle.cdi_types.specs.Members.{comes_down, members_of, parts_of}
 use Rattle.cdi_deployment.specs.Member.{member_name}
-use Rattle.cdi_plans.specs.Codes.{completion, constructor_body, injected_method, member_code, post_construct, pre_destroy}
+use Rattle.cdi_plans.specs.Codes.{completion, constructor_body, injected_method, post_construct, pre_destroy}
 use Rattle.cdi_plans.specs.Steps.{class_steps, construction, initialization, injection, injections, steps_of}
 use Rattle.cdi_plans.specs.declared.plan.Code.{Code}
 use Rattle.cdi_plans.specs.declared.plan.ManagedPlan.{ManagedPlan}
@@ -47,7 +46,8 @@ use Rattle.cdi_run_tables.specs.declared.tables.RunTables.{RunTables}
 use Rattle.cdi_ownership.specs.Whose.{IsIn}
 use Rattle.cdi_worlds_fit.specs.Fits.{FitsBody, FitsChain, FitsClass, FitsLifecycle, FitsMember, FitsMethod, FitsRole, FitsStep, FitsSteps, IsThereInterceptor, class_site, intercepted_by, ready_after}
 use Rattle.cdi_accepted.proofs.Lists.{Among, among_left, among_map, among_parts, among_right, given, mapped}
-use Rattle.cdi_site_fit.proofs.Interceptors.{role_fits, there_interceptor}
+use Rattle.cdi_site_fit.proofs.Interceptors.{role_fits, there_interceptor, to_is_in}
+use Rattle.cdi_site_fit.proofs.MemberCodes.{IsCodeOf, is_farewell, is_other, of_initialization, of_post_construct, of_pre_destroy}
 use Rattle.cdi_site_fit.proofs.Methods.{managed, method_of_plan}
 use Rattle.cdi_site_fit.proofs.Plans.{HasPlan}
 use Rattle.cdi_site_fit.proofs.Sites.{constructor_fits, member_fits}
@@ -98,15 +98,10 @@ pub all_of : {A : Type 0} (P : A → Type 0) (xs : List A) → ((x : A) → Amon
 all_of P [] each = tt
 all_of P (x ∷ xs) each = (each x (inl refl), all_of P xs (λ y a. each y (inr a)))
 
-to_is_in : {A : Type 0} (x : A) (xs : List A) → Among x xs → IsIn x xs
-to_is_in x [] a = a
-to_is_in x (y ∷ ys) (inl e) = inl (sym e)
-to_is_in x (y ∷ ys) (inr a) = inr (to_is_in x ys a)
-
 -- ---- where the steps of a plan come from
 
 -- a step that injects, or that runs an initializer among the members
-data IsFrom (has : List (Class × Member)) (s : Step) : Type 0 where
+pub data IsFrom (has : List (Class × Member)) (s : Step) : Type 0 where
   injects : (field : ℕ) (point : Point) → s ≡ steps.Inject field point → IsFrom has s
   initializes : (p : Class × Member) → Among p has → initialization p ≡ Some s → IsFrom has s
 
@@ -114,7 +109,7 @@ from_more : (has more : List (Class × Member)) (s : Step) → IsFrom more s →
 from_more has more s (IsFrom.injects field point e) = IsFrom.injects field point e
 from_more has more s (IsFrom.initializes p a e) = IsFrom.initializes p (among_right has more p a) e
 
-of_injections : (line : List Class) (s : Step) → Among s (injections line) → IsFrom (members_of line) s
+pub of_injections : (line : List Class) (s : Step) → Among s (injections line) → IsFrom (members_of line) s
 of_injections [] s a = absurd a
 of_injections (c ∷ below) s a = by (of_injections below s) (among_parts (class_steps c below) (injections below) s a)
   where
@@ -178,50 +173,29 @@ module _ {X : Type 0} {F : X → Type 0} {g : _} (entries : List (Entry X F g)) 
         → FitsBody T L (class_site own (map asked_by (member_params m)) (body_number (id_of t) body))
     body_of_member = member_fits entries lies t tabled lookups ids sound texts b listed enabled plan
 
-    abbrev FitsCode : Code → Type 0
-    FitsCode code = FitsBody T L (class_site own [] (body_number (id_of t) code.body))
+    -- the code of a member
+    code_fits : (test : Member → Bool) (p : Class × Member) (code : Code) (points : List Point) → IsCodeOf test p code points → Among p (members_of plan.line)
+        → FitsBody T L (class_site own (map asked_by points) (body_number (id_of t) code.body))
+    code_fits test p code points of a =
+        let P : Code → Type 0 = λ k. FitsBody T L (class_site own (map asked_by points) (body_number (id_of t) k.body)) in
+        let Q : List Point → Type 0 = λ ps. FitsBody T L (class_site own (map asked_by ps) (body_number (id_of t) of.body)) in
+        subst P (sym of.is) (subst Q (sym of.params) (body_of_member p.0 p.1 of.body of.has a))
 
-    post_body : (p : Class × Member) (code : Code) → Among p (members_of plan.line) → post_construct p ≡ Some code → FitsCode code
-    post_body (c, members.PostConstruct m) code a e = subst FitsCode (same_Some (member_code c m.name m.body) code e) (body_of_member c (members.PostConstruct m) m.body refl a)
-    post_body (c, members.Method m) code a e = absurd cc
-    post_body (c, members.Initializer m) code a e = absurd cc
-    post_body (c, members.PreDestroy m) code a e = absurd cc
-    post_body (c, members.Producer m) code a e = absurd cc
-    post_body (c, members.ProducerField m) code a e = absurd cc
-    post_body (c, members.Disposer m) code a e = absurd cc
-    post_body (c, members.Observer m) code a e = absurd cc
-
-    pre_body : (p : Class × Member) (code : Code) → Among p (members_of plan.line) → pre_destroy p ≡ Some code → FitsCode code
-    pre_body (c, members.PreDestroy m) code a e = subst FitsCode (same_Some (member_code c m.name m.body) code e) (body_of_member c (members.PreDestroy m) m.body refl a)
-    pre_body (c, members.Method m) code a e = absurd cc
-    pre_body (c, members.Initializer m) code a e = absurd cc
-    pre_body (c, members.PostConstruct m) code a e = absurd cc
-    pre_body (c, members.Producer m) code a e = absurd cc
-    pre_body (c, members.ProducerField m) code a e = absurd cc
-    pre_body (c, members.Disposer m) code a e = absurd cc
-    pre_body (c, members.Observer m) code a e = absurd cc
-
-    callbacks_fit : (pick : Class × Member → Option Code) → ((p : Class × Member) (code : Code) → Among p (members_of plan.line) → pick p ≡ Some code → FitsCode code)
+    callbacks_fit : (test : Member → Bool) (pick : Class × Member → Option Code) → ((p : Class × Member) (code : Code) → pick p ≡ Some code → IsCodeOf test p code [])
         → AllByRecursion (λ m. FitsBody T L (class_site own [] m.body)) (map (machine_code (id_of t)) (filter_map pick (members_of plan.line)))
-    callbacks_fit pick each =
+    callbacks_fit test pick each =
         all_of (λ m. FitsBody T L (class_site own [] m.body)) (map (machine_code (id_of t)) (filter_map pick (members_of plan.line)))
         (λ m a.
         let code = mapped (machine_code (id_of t)) (filter_map pick (members_of plan.line)) m a in
         let from = given pick (members_of plan.line) code.item code.stands in
         let P : machine.Code → Type 0 = λ k. FitsBody T L (class_site own [] k.body) in
-        subst P (sym code.is) (each from.item code.item from.stands from.is))
+        subst P (sym code.is) (code_fits test from.item code.item [] (each from.item code.item from.is) from.stands))
 
     initialized : (p : Class × Member) (s : Step) (now : List ℕ) → Among p (members_of plan.line) → initialization p ≡ Some s → FitsStep T L own now (machine_step (id_of t) s)
-    initialized (c, members.Initializer m) s now a e =
+    initialized p s now a e =
         let P : Step → Type 0 = λ k. FitsStep T L own now (machine_step (id_of t) k) in
-        subst P (same_Some (steps.Initialize (member_code c m.name m.body) m.params) s e) (body_of_member c (members.Initializer m) m.body refl a)
-    initialized (c, members.Method m) s now a e = absurd cc
-    initialized (c, members.PostConstruct m) s now a e = absurd cc
-    initialized (c, members.PreDestroy m) s now a e = absurd cc
-    initialized (c, members.Producer m) s now a e = absurd cc
-    initialized (c, members.ProducerField m) s now a e = absurd cc
-    initialized (c, members.Disposer m) s now a e = absurd cc
-    initialized (c, members.Observer m) s now a e = absurd cc
+        let from = of_initialization p s e in
+        subst P (sym from.is) (code_fits is_other p from.code from.points from.of a)
 
     injection_fits : (s : Step) (now : List ℕ) → IsFrom (members_of plan.line) s → FitsStep T L own now (machine_step (id_of t) s)
     injection_fits s now (IsFrom.injects field point e) = let P : Step → Type 0 = λ k. FitsStep T L own now (machine_step (id_of t) k) in subst P (sym e) tt
@@ -283,7 +257,7 @@ module _ {X : Type 0} {F : X → Type 0} {g : _} (entries : List (Entry X F g)) 
           P k = FitsStep T L own now (machine_step (id_of t) k)
 
           completed : FitsStep T L own now (machine_step (id_of t) (steps.Complete (completion t.tables.chains listed.class (members_of plan.line))))
-          completed = record { chain = life_fits roles.PostConstruct tt now h; callbacks = callbacks_fit post_construct post_body }
+          completed = record { chain = life_fits roles.PostConstruct tt now h; callbacks = callbacks_fit is_other post_construct of_post_construct }
 
           by : Among s (injections plan.line) ⊎ Among s (steps.Complete (completion t.tables.chains listed.class (members_of plan.line)) ∷ []) → FitsStep T L own now (machine_step (id_of t) s)
           by (inl x) = injection_fits s now (of_injections plan.line s x)
@@ -309,5 +283,5 @@ module _ {X : Type 0} {F : X → Type 0} {g : _} (entries : List (Entry X F g)) 
           record {
             steps = subst P (sym plan.is) steps_fit;
             methods = method_fits;
-            pre_destroy = subst Q (sym plan.is) (record { chain = life_fits roles.PreDestroy tt (intercepted_by own.plan) all_planned; callbacks = callbacks_fit pre_destroy pre_body });
+            pre_destroy = subst Q (sym plan.is) (record { chain = life_fits roles.PreDestroy tt (intercepted_by own.plan) all_planned; callbacks = callbacks_fit is_farewell pre_destroy of_pre_destroy });
           }

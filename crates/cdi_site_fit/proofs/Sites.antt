@@ -44,14 +44,13 @@ use Rattle.cdi_ownership.specs.Whose.{IsIn}
 use Rattle.cdi_worlds_fit.specs.Fits.{FitsBody, class_site, injected_by}
 use Rattle.cdi_worlds_fit.specs.Fits.{Site as MachineSite}
 use Rattle.cdi_accepted.proofs.Fields.{IsInjected, has_first, of_machine, of_steps, one_injected}
-use Rattle.cdi_accepted.proofs.Lines.{is_listed, is_of_name}
+use Rattle.cdi_accepted.proofs.Lines.{is_of_name}
 use Rattle.cdi_accepted.proofs.Lists.{Among, among_left, found_among, part_of}
 use Rattle.cdi_accepted.proofs.Members.{of_line}
 use Rattle.cdi_site_fit.proofs.Acts.{Covers, fits_act}
 use Rattle.cdi_site_fit.proofs.Bodies.{inside, lie_at, number, proceeds, registered}
 use Rattle.cdi_site_fit.proofs.Injecting.{injects, to_steps}
-use Rattle.cdi_site_fit.proofs.Live.{constructor_live, constructor_stands, member_live, member_stands}
-use Rattle.cdi_site_fit.proofs.Methods.{apart, declared_class, front, has_method, managed, pairs}
+use Rattle.cdi_site_fit.proofs.Methods.{apart, constructor_site, front, has_method, managed, member_site, pairs}
 use Rattle.cdi_site_fit.proofs.Plans.{HasPlan}
 
 -- what is injected is so by a step
@@ -151,8 +150,9 @@ module _ {X : Type 0} {F : X → Type 0} {g : _} (entries : List (Entry X F g)) 
     member_fits c m body is stands =
         let s = Site.AMember c m body in
         let of = of_line plan.line c m stands in
-        let there = member_stands d c m body is (declared_class entries t tabled ids sound b listed enabled plan c of.class) of.member in
-        let live = member_live t b listed enabled plan.line plan.members c m body stands in
+        let is_site = member_site entries t tabled ids sound b listed enabled plan (c, m) body is stands in
+        let there = is_site.stands in
+        let live = is_site.live in
         let fronts = front entries t tabled ids sound b listed enabled plan c of.class in
         let shape = (registered entries t ids sound s there live).shape in
         fits_body s there live (parts_of_line fronts.front) (record { line = fronts.front; is_line = fronts.is_line; are = refl })
@@ -167,8 +167,9 @@ module _ {X : Type 0} {F : X → Type 0} {g : _} (entries : List (Entry X F g)) 
         let s = Site.AConstructor c k body in
         let well = tabled.tables.made.names_well in
         let name : c.name ≡ listed.class = is_of_name d well listed.class c named in
-        let there = constructor_stands d c k body has is (is_listed d well listed.class c named) in
-        let live = constructor_live t b listed enabled kind c k body (sym name) in
+        let is_site = constructor_site entries t tabled ids sound b listed enabled plan kind c named k body has is in
+        let there = is_site.stands in
+        let live = is_site.live in
         let P : ℕ → Type 0 = λ n. IsLineOf (declarations_of d) d.classes n plan.line in
         let shape = (registered entries t ids sound s there live).shape in
         fits_body s there live (parts_of_line plan.line) (record { line = plan.line; is_line = subst P (sym name) plan.is_line; are = refl })

@@ -19,6 +19,7 @@ use Rattle.cdi_machine.specs.Words.{Asked}
 use Rattle.cdi_machine.specs.World.{World, at_begin}
 use Rattle.cdi_run_tables.specs.Machine.{AreIdsOf, machine_tables}
 use Rattle.cdi_run_tables.specs.Planned.{IsTabled}
+use Rattle.cdi_run_tables.specs.Registered.{HasBodies}
 use Rattle.cdi_run_tables.specs.Texts.{has_texts}
 use Rattle.cdi_run_tables.specs.declared.tables.RunTables.{RunTables}
 use Rattle.cdi_worlds_fit.specs.Fits.{Fits, FitsClass}
@@ -53,6 +54,10 @@ ManagedFit entries =
 abbrev pub WholeFits : {X : Type 0} {F : X → Type 0} {g : _} → List (Entry X F g) → Type 0
 WholeFits entries =
     (t : RunTables) → IsFaultless entries t → Fits (machine_tables t) (legal_of entries)
+
+-- all bodies that can come to run are registered
+abbrev pub WholeIsRegistered : {X : Type 0} {F : X → Type 0} {g : _} → List (Entry X F g) → Type 0
+WholeIsRegistered entries = (t : RunTables) → IsFaultless entries t → HasBodies t
 
 -- the bodies of a destruction are told from all others by their places
 abbrev pub FarewellsApart : {X : Type 0} {F : X → Type 0} {g : _} → List (Entry X F g) → Type 0

@@ -1,6 +1,6 @@
 //! Laws on what an accepted deployment gives the whole machine. A call of one of these does nothing: its contract is the law.
 ghost use Rattle.cdi_bodies.specs.Table.{entries_of};
-ghost use Rattle.cdi_site_fit.specs.Accepted.{AcceptedIsFaultless, FarewellsApart, FarewellsBeginOnce, FarewellsBeginOnceIfShort, ManagedFit, WholeFits};
+ghost use Rattle.cdi_site_fit.specs.Accepted.{AcceptedIsFaultless, FarewellsApart, FarewellsBeginOnce, FarewellsBeginOnceIfShort, ManagedFit, WholeFits, WholeIsRegistered};
 ghost use Rattle.cdi_site_fit.specs.Chains.{InvokesPlanned, LivesPlanned};
 
 use cdi_bodies::Bodies;
@@ -24,6 +24,12 @@ pub fn law_whole_fits(bodies: &Bodies)
 {
     Bodies::gives_in_shape(bodies);
 }
+
+/// In an accepted deployment each body that can come to run is registered: those in the life of an instance of an enabled bean, those of
+/// enabled interceptors, and those of the observers of enabled beans.
+pub fn law_whole_is_registered(bodies: &Bodies)
+    ensures { WholeIsRegistered (entries_of bodies.now) }
+{}
 
 /// The tables of an accepted deployment tell the bodies of a destruction from all others by their places; and so
 /// each destruction begins its callbacks exactly once, also if memory runs out (Jakarta CDI 4.0, *Lifecycle of managed beans*;

@@ -3,8 +3,6 @@ use Rattle.cdi_run_tables.proofs.index.BeanIndex.build.Goals as goal
 
 pub returns-clause-index : goal.returns-clause-index
 returns-clause-index c = record {
-  methods = c.in_ok-methods.ensures;
-  injected = c.in_ok-injected.ensures.all;
   numbered = numbered_of c.args.parts.now c.args.numbering.now c.requires.numbering c.args.bean.now.plan c.in_ok-numbered.numbered c.in_ok-numbered.ensures.numbered;
-  business = c.in_ok-business.ensures;
+  methods = c.in_ok-methods.ensures;
 }

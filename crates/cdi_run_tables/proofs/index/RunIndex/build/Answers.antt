@@ -6,7 +6,7 @@ returns c = record {
   checked = rw c.as_slice.ensures at c.in_ok-checked_exceptions.ensures;
   events = c.requires.events;
   beans = c.in_ok-bean_indices.ensures.all;
-  interceptors = c.in_ok-all_resolutions.ensures.all;
   interceptor_steps = c.in_ok-all_steps.ensures.all;
+  observers = c.in_ok-observers_of.ensures.all;
   asked = c.in_ok-new.ensures c.args.parts.now;
 }

@@ -9,8 +9,8 @@ invariant_of-self c =
       names = is.names;
       checked = is.checked;
       events = is.events;
+      observers = is.observers;
       beans = is.beans;
-      interceptors = is.interceptors;
       interceptor_steps = is.interceptor_steps;
       asked = c.remember.ensures c.self.inside.parts is.asked (c.resolve-told.ensures ∙ ap (λ t. resolution_of t c.args.ty c.args.uses.now) (sym c.self.view_is));
     }
