@@ -1,4 +1,4 @@
--- A deployment without problems that is served is accepted.
+-- A deployment without problems that is as one that was read is accepted.
 use Rattle.std.proofs.Common.{◌≡◌, List, [], true, IsTrue, is_some, refl, sym, ap, subst}
 use Rattle.cdi_bodies.specs.Gives.{lookups_of}
 use Rattle.cdi_bodies.specs.declared.entry.Entry.{Entry}
@@ -10,31 +10,30 @@ use Rattle.cdi_deployment.specs.declared.deployment.Deployment.{Deployment}
 use Rattle.cdi_problems.specs.declared.problem.Problem.{Problem}
 use Rattle.cdi_run_tables.specs.Machine.{AreIdsOf}
 use Rattle.cdi_run_tables.specs.Planned.{IsTabled}
-use Rattle.cdi_container.proofs.Faultless.{texts_served}
-use Rattle.cdi_served.proofs.Parts.{parts_of}
+use Rattle.cdi_run_tables.proofs.WellFormed.{parts_of}
 use Rattle.cdi_run_tables.specs.declared.tables.RunTables.{RunTables}
 use Rattle.cdi_runtime.specs.Knowing.{DrivesRegistered}
 use Rattle.cdi_resolve.specs.declared.bean_tables.BeanTables.{BeanTables}
-use Rattle.cdi_site_fit.specs.Accepted.{WholeFits}
-use Rattle.cdi_container.specs.Accepted.{AreTablesWith, IsAccepted, serves}
+use Rattle.cdi_site_fit.specs.Accepted.{IsFaultless, WholeFits, WholeIsRegistered}
+use Rattle.cdi_container.specs.Accepted.{AreTablesWith, IsAccepted, is_well_formed}
 
 module _ {X : Type 0} {F : X → Type 0} {g : _} (entries : List (Entry X F g)) where
-  pub accepted : (t : RunTables) → AreTablesWith t.deployment entries t → serves t ≡ true
+  pub accepted : (t : RunTables) → AreTablesWith t.deployment entries t → is_well_formed t ≡ true
       → AreProblemsIn t.deployment (shape_of entries) t.tables.enabled (setting_by t.deployment t.tables) []
-      → WholeFits entries → DrivesRegistered entries → IsAccepted t.deployment entries t
-  accepted t are served faultless fit drives =
-      let parts = parts_of t served in
-      let fits = fit t (record { tabled = are.tabled; ids = are.ids; lookups = are.lookups; texts = texts_served t parts.served; problems = faultless }) in
+      → WholeFits entries → WholeIsRegistered entries → DrivesRegistered entries → IsAccepted t.deployment entries t
+  accepted t are formed faultless fit registered drives =
+      let parts = parts_of t formed in
+      let whole : IsFaultless entries t = record { tabled = are.tabled; ids = are.ids; lookups = are.lookups; texts = parts.texts; problems = faultless } in
+      let fits = fit t whole in
       record {
         are = are;
-        served = served;
+        formed = formed;
         servable = record {
-          served = parts.served;
           numbered = parts.numbered;
           small = parts.small;
           there = λ asked b e. ap is_some (fits.resolved asked b e).known;
         };
-        drives = drives t are.ids parts.bodies;
+        drives = drives t are.ids (registered t whole);
         fits = fits;
       }
 

@@ -14,10 +14,7 @@ use Rattle.cdi_enable.specs.Enablement.{enablement_of}
 use Rattle.cdi_resolve.specs.BeanTables.{AreTablesOf, bean_tables}
 use Rattle.cdi_resolve.specs.declared.bean_tables.BeanTables.{BeanTables}
 use Rattle.cdi_beans.specs.declared.declared.DeclaredTables.{DeclaredTables}
-use Rattle.cdi_run_tables.specs.Machine.{has_none}
-use Rattle.cdi_run_tables.specs.Texts.{has_texts}
-use Rattle.cdi_served.specs.Served.{is_served, is_served_bean}
-use Rattle.cdi_served.proofs.Parts.{parts_of}
+use Rattle.cdi_run_tables.proofs.WellFormed.{parts_of}
 use Rattle.cdi_run_tables.specs.declared.tables.RunTables.{RunTables}
 use Rattle.cdi_site_fit.specs.Accepted.{IsFaultless}
 use Rattle.cdi_types.specs.Declarations.{declarations_of}
@@ -48,23 +45,14 @@ pub none_in : (d : Deployment) (shapes : ℕ → Option Shape) (tables : BeanTab
 none_in d shapes tables are (AreProblemsOf.early told) = absurd (told.some refl)
 none_in d shapes tables are (AreProblemsOf.late told) = late_in d shapes tables are told
 
--- the exceptions of what is served have texts
-pub texts_served : (t : RunTables) → is_served t ≡ true → has_texts t.deployment ≡ true
-texts_served t served =
-    let beans = list_all is_served_bean t.beans in
-    let texts = has_texts t.deployment in
-    let two = and_parts (beans && texts) (has_none t.tables.observers) served in
-    (and_parts beans texts two.0).1
-
 pub is_faultless : {X : Type 0} {F : X → Type 0} {g : _} (entries : List (Entry X F g)) (d : Deployment) (t : RunTables) → IsAccepted d entries t → IsFaultless entries t
 is_faultless entries d t accepted =
     let are = accepted.are in
-    let served = (parts_of t accepted.served).served in
     let P : Deployment → Type 0 = λ k. AreProblemsOf k (shape_of entries) [] in
     record {
       tabled = are.tabled;
       ids = are.ids;
       lookups = are.lookups;
-      texts = texts_served t served;
+      texts = (parts_of t accepted.formed).texts;
       problems = none_in t.deployment (shape_of entries) t.tables are.tabled.tables (subst P (sym are.deployment_is) are.faultless);
     }

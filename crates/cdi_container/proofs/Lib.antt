@@ -10,4 +10,4 @@ pub mod OnItsWay
 pub mod Resting
 pub mod Sound
 pub mod Traces
-mod Carrying
+mod Answering

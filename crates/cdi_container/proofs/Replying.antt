@@ -1,24 +1,38 @@
 -- What a job is answered is the machine's reply to its command.
-use Rattle.std.proofs.Common.{◌≡◌, refl}
+use Rattle.std.proofs.Common.{ℕ, ◌≡◌, List, Option, true, refl}
+use Rattle.cdi_host.specs.Asked.{asked_for}
+use Rattle.cdi_machine.specs.Words.{Asked}
 use Rattle.cdi_machine.specs.World.{World}
 use Rattle.cdi_machine.specs.Container.{reply_to}
 use Rattle.cdi_steps.specs.declared.task.Given.TheVariants as givens
 use Rattle.cdi_steps.specs.declared.task.Completion.TheVariants as completions
 use Rattle.cdi_steps.specs.declared.task.Outcome.{Outcome}
 use Rattle.cdi_steps.specs.declared.task.Outcome.TheVariants as outcomes
+use Rattle.cdi_steps.specs.declared.task.BeanPurpose.{BeanPurpose}
+use Rattle.cdi_steps.specs.declared.task.BeanPurpose.TheVariants as bean_purposes
 use Rattle.cdi_steps.specs.declared.task.Job.{Job}
 use Rattle.cdi_steps.specs.declared.task.Job.TheVariants as jobs
-use Rattle.cdi_steps.specs.Words.{command_of, outcome_of}
-use Rattle.cdi_container.specs.Replies.{has_value, reply_of}
+use Rattle.cdi_steps.specs.Words.{command_of, outcome_of, use_command}
+use Rattle.cdi_container.specs.Replies.{IsToldByEnd, has_value, reply_of}
 
-pub replied : (job : Job) (o : Outcome) (w : World) → reply_of (has_value job) o ≡ reply_to (command_of job) (outcome_of o) w
-replied (jobs.Call request call) (outcomes.Ends (completions.Gave (givens.Result v))) w = refl
-replied (jobs.Call request call) (outcomes.Ends (completions.Gave (givens.Number n))) w = refl
-replied (jobs.Call request call) (outcomes.Ends (completions.Gave givens.Empty)) w = refl
-replied jobs.Boot (outcomes.Ends (completions.Gave g)) w = refl
-replied (jobs.Begin request session) (outcomes.Ends (completions.Gave g)) w = refl
-replied (jobs.End request) (outcomes.Ends (completions.Gave g)) w = refl
-replied (jobs.Invalidate session) (outcomes.Ends (completions.Gave g)) w = refl
-replied jobs.Shutdown (outcomes.Ends (completions.Gave g)) w = refl
-replied job (outcomes.Ends (completions.Threw x)) w = refl
-replied job (outcomes.Cut cause) w = refl
+use_replied : (request : Option (List ℕ)) (asked : Asked) (purpose : BeanPurpose) (o : Outcome) (w : World) → reply_of true o ≡ reply_to (use_command request asked purpose) (outcome_of o) w
+use_replied request asked (bean_purposes.Call method args) (outcomes.Ends (completions.Gave (givens.Result v))) w = refl
+use_replied request asked (bean_purposes.Call method args) (outcomes.Ends (completions.Gave (givens.Number n))) w = refl
+use_replied request asked (bean_purposes.Call method args) (outcomes.Ends (completions.Gave givens.Empty)) w = refl
+use_replied request asked bean_purposes.Read (outcomes.Ends (completions.Gave (givens.Result v))) w = refl
+use_replied request asked bean_purposes.Read (outcomes.Ends (completions.Gave (givens.Number n))) w = refl
+use_replied request asked bean_purposes.Read (outcomes.Ends (completions.Gave givens.Empty)) w = refl
+use_replied request asked purpose (outcomes.Ends (completions.Threw x)) w = refl
+use_replied request asked purpose (outcomes.Cut cause) w = refl
+
+pub replied : (job : Job) (o : Outcome) (w : World) → IsToldByEnd job → reply_of (has_value job) o ≡ reply_to (command_of job) (outcome_of o) w
+replied (jobs.Use request used) o w told = use_replied request (asked_for used.value.bean_type used.value.qualifiers) used.value.purpose o w
+replied jobs.Boot (outcomes.Ends (completions.Gave g)) w told = refl
+replied (jobs.Begin request session) (outcomes.Ends (completions.Gave g)) w told = refl
+replied (jobs.End request) (outcomes.Ends (completions.Gave g)) w told = refl
+replied (jobs.Invalidate session) (outcomes.Ends (completions.Gave g)) w told = refl
+replied (jobs.Fire request event) (outcomes.Ends (completions.Gave g)) w told = refl
+replied jobs.Live o w told = absurd told
+replied jobs.Shutdown (outcomes.Ends (completions.Gave g)) w told = refl
+replied job (outcomes.Ends (completions.Threw x)) w told = refl
+replied job (outcomes.Cut cause) w told = refl

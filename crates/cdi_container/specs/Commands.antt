@@ -1,5 +1,5 @@
 -- Commands as they are read, and as the machine takes them.
-use Rattle.std.specs.Prelude.{ℕ, Bool, true, false, List, map}
+use Rattle.std.specs.Prelude.{ℕ, List, map}
 use Rattle.cdi_base.specs.declared.command.Command.{Command}
 use Rattle.cdi_base.specs.declared.command.Command.TheVariants as commands
 use Rattle.cdi_base.specs.declared.uses.MemberValue.{MemberValue}
@@ -38,14 +38,10 @@ machine_command names (commands.Invalidate session) = machine.Command.Invalidate
 machine_command names commands.Live = machine.Command.Live
 machine_command names commands.Shutdown = machine.Command.Shutdown
 
--- a container reads no product, fires no event and tells no instances yet
-abbrev pub is_carried_out : Command → Bool
-is_carried_out (commands.Read request type qualifiers) = false
-is_carried_out (commands.Fire request class qualifiers v) = false
-is_carried_out commands.Live = false
-is_carried_out command = true
-
--- it calls a method: the one command that takes memory before it is carried out
-abbrev pub IsCall : Command → Type 0
-IsCall (commands.Call request type qualifiers method args) = Unit {0}
-IsCall _ = ⊥
+-- it takes memory before it is carried out: for the names that it asks with, or for the numbers that it is answered with
+abbrev pub TakesMemory : Command → Type 0
+TakesMemory (commands.Call request type qualifiers method args) = Unit {0}
+TakesMemory (commands.Read request type qualifiers) = Unit {0}
+TakesMemory (commands.Fire request class qualifiers v) = Unit {0}
+TakesMemory commands.Live = Unit {0}
+TakesMemory _ = ⊥

@@ -11,10 +11,15 @@ use Rattle.cdi_steps.specs.declared.task.Outcome.TheVariants as outcomes
 use Rattle.cdi_steps.specs.declared.task.Job.{Job}
 use Rattle.cdi_steps.specs.declared.task.Job.TheVariants as jobs
 
--- a call is answered by its value
+-- a call and a read are answered by their value
 abbrev pub has_value : Job → Bool
-has_value (jobs.Call request call) = true
+has_value (jobs.Use request used) = true
 has_value _ = false
+
+-- how a job ended tells its reply, but for the live instances, which the world tells
+abbrev pub IsToldByEnd : Job → Type 0
+IsToldByEnd jobs.Live = ⊥
+IsToldByEnd _ = Unit {0}
 
 abbrev pub given_reply : Bool → Given → Reply
 given_reply true (givens.Result v) = replies.Value v

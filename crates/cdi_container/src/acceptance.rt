@@ -20,8 +20,7 @@ use cdi_problems::Problem;
 use cdi_resolve::BeanTables;
 use cdi_run_tables::RunTables;
 use cdi_runtime::laws::law_drives_registered;
-use cdi_served::serves;
-use cdi_site_fit::laws::law_whole_fits;
+use cdi_site_fit::laws::{law_whole_fits, law_whole_is_registered};
 use std::alloc::Global;
 
 /// Why a deployment isn't accepted.
@@ -32,8 +31,9 @@ pub enum Unaccepted {
         names: Names,
         problems: Seq<Problem>,
     },
-    /// It has no problem, but something that a container doesn't serve yet.
-    Unserved,
+    /// It has no problem, but it isn't as one that was read: an exception has no text, or a list is so long that a place in it has
+    /// no number.
+    Malformed,
 }
 
 /// A deployment has these problems.
@@ -46,8 +46,8 @@ fn refused(deployment: Deployment, problems: Seq<Problem>) -> OrMemory<Unaccepte
     })
 }
 
-/// The tables of a deployment that has no problem, if it is served with these bodies.
-fn served_tables(tables: RunTables, bodies: &Bodies) -> Result<RunTables, OrMemory<Unaccepted>>
+/// The tables of a deployment that has no problem with these bodies, if it is as one that was read.
+fn formed(tables: RunTables, bodies: &Bodies) -> Result<RunTables, OrMemory<Unaccepted>>
     requires are { spec.AreTablesWith tables.deployment (entries_of bodies.now) tables }
     requires faultless { AreProblemsIn tables.deployment (shape_of (entries_of bodies.now))
         tables.tables.enabled (setting_by tables.deployment tables.tables) [] }
@@ -55,11 +55,12 @@ fn served_tables(tables: RunTables, bodies: &Bodies) -> Result<RunTables, OrMemo
     ensures err { IfErr result (spec.IsUnaccepted tables.deployment (entries_of bodies.now)) }
 {
     law_whole_fits(bodies);
+    law_whole_is_registered(bodies);
     law_drives_registered(bodies);
-    if serves(&tables) {
+    if tables.is_well_formed() {
         Ok(tables)
     } else {
-        Err(OrMemory::Fault(Unaccepted::Unserved))
+        Err(OrMemory::Fault(Unaccepted::Malformed))
     }
 }
 
@@ -87,11 +88,13 @@ fn accept_listed(
         return Err(refused(deployment, problems));
     }
     let tables = RunTables::build(alloc, deployment, names, listed, bodies)?;
-    served_tables(tables, bodies)
+    formed(tables, bodies)
 }
 
 /// Accepts a deployment with these bodies if it has no problem (Jakarta CDI 4.0, *Problems detected automatically by the
-/// container*) and is served: each body is registered then, and what the bodies name is there. Its tables come back. Otherwise its problems do, with its names; or it isn't served yet; or memory ran out.
+/// container*): each body that can come to run is registered then, and what the bodies name is there. Its tables come back. Otherwise
+/// its problems come back, with the deployment's names; or that memory ran out; or that the deployment is malformed, which none is that
+/// was read.
 pub fn accept(
     alloc: Global,
     deployment: Deployment,

@@ -4,7 +4,7 @@ ghost use Rattle.cdi_base.specs.Name.{number_of};
 ghost use Rattle.cdi_container.specs.Commands as spec;
 
 use cdi_base::{MemberValue, Names, Seq, Text, Use, Value, WrittenMember, WrittenUse};
-use cdi_steps::BeanCall;
+use cdi_steps::{BeanPurpose, BeanUse, Event};
 use std::alloc::{AllocError, Global};
 
 fn member_for(names: &Names, written: &WrittenMember) -> Result<MemberValue, AllocError>
@@ -50,27 +50,46 @@ fn uses_for(alloc: Global, names: &Names, written: &[WrittenUse]) -> Result<Seq<
     Ok(uses)
 }
 
-/// The call of a method of a bean. A name that the table doesn't hold gets a number that no name has.
-pub(crate) fn call_for(
+/// The use of a bean. A name that the table doesn't hold gets a number that no name has.
+pub(crate) fn bean_use(
     alloc: Global,
     names: &Names,
     bean_type: &Text,
     qualifiers: &[WrittenUse],
-    method: &Text,
-    args: Seq<Value>,
-) -> Result<Box<BeanCall>, AllocError>
-    ensures { IfOk result (λ call. call.value ≡ record {
+    purpose: BeanPurpose,
+) -> Result<Box<BeanUse>, AllocError>
+    ensures { IfOk result (λ used. used.value ≡ record {
       bean_type = number_of names.now bean_type.now;
       qualifiers = spec.uses_for names.now qualifiers.now;
-      method = number_of names.now method.now;
-      args = args;
+      purpose = purpose;
     }) }
 {
-    let call = BeanCall {
+    let used = BeanUse {
         bean_type: names.name_for(bean_type.as_str()),
         qualifiers: uses_for(alloc, names, qualifiers)?,
-        method: names.name_for(method.as_str()),
-        args,
+        purpose,
     };
-    Ok(Box::new(alloc, call)?)
+    Ok(Box::new(alloc, used)?)
+}
+
+/// The event that a command fires, with its names in the same way.
+pub(crate) fn event(
+    alloc: Global,
+    names: &Names,
+    class: &Text,
+    qualifiers: &[WrittenUse],
+    value: Value,
+) -> Result<Box<Event>, AllocError>
+    ensures { IfOk result (λ event. event.value ≡ record {
+      class = number_of names.now class.now;
+      qualifiers = spec.uses_for names.now qualifiers.now;
+      value = value;
+    }) }
+{
+    let event = Event {
+        class: names.name_for(class.as_str()),
+        qualifiers: uses_for(alloc, names, qualifiers)?,
+        value,
+    };
+    Ok(Box::new(alloc, event)?)
 }

@@ -1,5 +1,5 @@
 //! The container: it carries out commands, one after the other.
-ghost use Rattle.std.specs.Prelude.{◌≡◌, None, IsTrue, IfOk, OnErr};
+ghost use Rattle.std.specs.Prelude.{◌≡◌, None, map, IfOk, OnErr};
 ghost use Rattle.cdi_machine.specs.Commands.{task};
 ghost use Rattle.cdi_machine.specs.Container.{refusal as machine_refusal};
 ghost use Rattle.cdi_machine.specs.World.{at_begin};
@@ -12,15 +12,17 @@ ghost use Rattle.cdi_container.specs.Standing as spec;
 ghost use Rattle.cdi_container.specs.States.{AnswersCommand, CarriesOut, after_refusal, machine_state};
 ghost use Rattle.cdi_base.specs.declared.reply.Reply.TheVariants.{Refused};
 
-use crate::asked::call_for;
+use crate::asked::{bean_use, event};
 use crate::reply::{cause, has_value, reply_of};
-use cdi_base::{Cause, Command, Limits, Names, Refusal, Reply};
+use cdi_base::{
+    Cause, Command, Entry, Limits, Names, Refusal, Reply, Seq, Text, Value, WrittenUse,
+};
 use cdi_frames::run::run;
 use cdi_machine::Driver;
 use cdi_run_tables::RunTables;
 use cdi_runtime::Runtime;
 use cdi_steps::task::Task;
-use cdi_steps::{Job, Outcome};
+use cdi_steps::{BeanPurpose, Job, Outcome};
 use std::alloc::{AllocError, Global};
 use std::marker::Model;
 
@@ -79,11 +81,15 @@ fn carry_out<D: Driver>(runtime: &mut Runtime<D>, job: Job) -> Outcome
 }
 
 impl<D: Driver> Container<D> {
-    ghost use Rattle.cdi_container.specs.Commands.{IsCall, is_carried_out, machine_command};
+    ghost use Rattle.cdi_base.specs.Name.{number_of};
+    ghost use Rattle.cdi_machine.specs.Commands.{Command as MachineCommand};
+    ghost use Rattle.cdi_steps.specs.Words.{use_command};
+    ghost use Rattle.cdi_container.specs.Commands.{TakesMemory, asked_in, machine_command, uses_for};
+    ghost use Rattle.cdi_container.specs.Replies.{IsToldByEnd};
 
     /// Starts a container (Jakarta CDI 4.0, *Container lifecycle events*). A start that is cut gives a container that has
-    /// halted. The deployment has to be served, and the driver has to have a body for each of its methods, which gives only
-    /// acts that are served: so it is with the tables and the bodies of a deployment that was [accepted](crate::accept).
+    /// halted. The deployment has to be served, and the driver has to have each body that can come to run: so it is with the
+    /// tables and the bodies of a deployment that was [accepted](crate::accept).
     pub fn start(alloc: Global, tables: RunTables, driver: D, limits: Limits) -> Container<D>
         requires drives { Drives (machine_tables tables) (D.knows driver) }
         requires servable { IsServable tables }
@@ -113,11 +119,27 @@ impl<D: Driver> Container<D> {
         &self.booted
     }
 
+    /// What the command before did, from its begin on: its entries, of the start if there was no command yet.
+    pub fn trace(&self) -> &[Entry]
+        ensures { result.now ≡ (spec.state_of self.now).world.trace }
+    {
+        self.runtime.world().trace()
+    }
+
     /// Why the container takes no further command, if a cut has halted it.
     pub fn halted(&self) -> Option<Cause>
         ensures { result ≡ self.now.halted }
     {
         self.halted
+    }
+
+    /// The trace of the command before is forgotten, and all else stays as it was.
+    fn forget(&mut self)
+        ensures state { spec.state_of self.new ≡ after_refusal (spec.state_of self.old) }
+        ensures same { spec.SameParts
+            (D.legal self.old.runtime.driver) (D.legal self.new.runtime.driver) self.old self.new }
+    {
+        self.runtime.begin();
     }
 
     /// Refuses a command: all stays as it was, but for the trace, which is empty.
@@ -127,13 +149,14 @@ impl<D: Driver> Container<D> {
         ensures same { spec.SameParts
             (D.legal self.old.runtime.driver) (D.legal self.new.runtime.driver) self.old self.new }
     {
-        self.runtime.begin();
+        self.forget();
         Reply::Refused(refusal)
     }
 
     /// Carries a job out that isn't refused, and answers it.
     fn perform(&mut self, job: Job) -> Reply
-        requires { machine_refusal
+        requires told { IsToldByEnd job }
+        requires admitted { machine_refusal
             (spec.tables_of self.old) (machine_state (spec.state_of self.old)) (command_of job)
             ≡ None }
         ensures answers { AnswersCommand
@@ -159,6 +182,7 @@ impl<D: Driver> Container<D> {
 
     /// Carries a job out, or refuses it.
     fn ask(&mut self, job: Job) -> Reply
+        requires { IsToldByEnd job }
         ensures answers { AnswersCommand
             (spec.tables_of self.old) (D.legal self.old.runtime.driver) (Unit {0})
             (spec.state_of self.old) (command_of job) result (spec.state_of self.new) }
@@ -171,14 +195,98 @@ impl<D: Driver> Container<D> {
         }
     }
 
+    /// Uses a bean, or refuses to.
+    fn use_bean(
+        &mut self,
+        request: Option<Text>,
+        bean_type: &Text,
+        qualifiers: &[WrittenUse],
+        purpose: BeanPurpose,
+    ) -> Result<Reply, AllocError>
+        ensures answers { IfOk result (λ reply.
+            AnswersCommand (spec.tables_of self.old) (D.legal self.old.runtime.driver) (Unit {0})
+            (spec.state_of self.old)
+            (use_command request
+            (asked_in (spec.names_of self.old) bean_type.now qualifiers.now) purpose)
+            reply (spec.state_of self.new)) }
+        ensures same { spec.SameParts
+            (D.legal self.old.runtime.driver) (D.legal self.new.runtime.driver) self.old self.new }
+        ensures err { OnErr result (self.new ≡ self.old) }
+    {
+        let names = self.names();
+        match bean_use(self.runtime.alloc, names, bean_type, qualifiers, purpose) {
+            Ok(used) => Ok(self.ask(Job::Use { request, used })),
+            Err(_) => Err(AllocError),
+        }
+    }
+
+    /// Fires an event, or refuses to.
+    fn fire(
+        &mut self,
+        request: Option<Text>,
+        class: &Text,
+        qualifiers: &[WrittenUse],
+        value: Value,
+    ) -> Result<Reply, AllocError>
+        ensures answers { IfOk result (λ reply.
+            AnswersCommand (spec.tables_of self.old) (D.legal self.old.runtime.driver) (Unit {0})
+            (spec.state_of self.old)
+            (MachineCommand.Fire request
+            (number_of (spec.names_of self.old) class.now)
+            (uses_for (spec.names_of self.old) qualifiers.now) value)
+            reply (spec.state_of self.new)) }
+        ensures same { spec.SameParts
+            (D.legal self.old.runtime.driver) (D.legal self.new.runtime.driver) self.old self.new }
+        ensures err { OnErr result (self.new ≡ self.old) }
+    {
+        let names = self.names();
+        match event(self.runtime.alloc, names, class, qualifiers, value) {
+            Ok(event) => Ok(self.ask(Job::Fire { request, event })),
+            Err(_) => Err(AllocError),
+        }
+    }
+
+    /// Tells the numbers of the live instances. Nothing is left to be carried out then, and nothing can be cut.
+    fn tell(&mut self, numbers: Seq<u32>) -> Reply
+        requires numbers { numbers ≡ map (λ p. p.0) (spec.state_of self.old).world.instances }
+        requires admitted { machine_refusal
+            (spec.tables_of self.old) (machine_state (spec.state_of self.old)) MachineCommand.Live
+            ≡ None }
+        ensures answers { AnswersCommand
+            (spec.tables_of self.old) (D.legal self.old.runtime.driver) (Unit {0})
+            (spec.state_of self.old) MachineCommand.Live result (spec.state_of self.new) }
+        ensures same { spec.SameParts
+            (D.legal self.old.runtime.driver) (D.legal self.new.runtime.driver) self.old self.new }
+    {
+        self.forget();
+        Reply::Live(numbers)
+    }
+
+    /// Tells them, or refuses to.
+    fn live(&mut self) -> Result<Reply, AllocError>
+        ensures answers { IfOk result (λ reply.
+            AnswersCommand (spec.tables_of self.old) (D.legal self.old.runtime.driver) (Unit {0})
+            (spec.state_of self.old) MachineCommand.Live reply (spec.state_of self.new)) }
+        ensures same { spec.SameParts
+            (D.legal self.old.runtime.driver) (D.legal self.new.runtime.driver) self.old self.new }
+        ensures err { OnErr result (self.new ≡ self.old) }
+    {
+        match self.refusal(&Job::Live) {
+            Some(refusal) => Ok(self.refuse(refusal)),
+            None => match self.runtime.world().live_numbers() {
+                Ok(numbers) => Ok(self.tell(numbers)),
+                Err(_) => Err(AllocError),
+            },
+        }
+    }
+
     /// Carries a command out, or refuses it: the first refusal that holds, in the order of [`Refusal`]. A refused
     /// command leaves all as it was, but for the trace, which is empty. A command that is cut, for want of memory
-    /// too, is answered as halted with the cause, and every later one is refused. A read, a fired event and `live` aren't
-    /// carried out yet.
+    /// too, is answered as halted with the cause, and every later one is refused.
     ///
-    /// The one error is [`AllocError`], if memory ran out before a call was carried out: nothing has changed then.
+    /// The one error is [`AllocError`], if memory ran out before a call, a read or an event was carried out, or for the
+    /// numbers of the live instances: nothing has changed then.
     pub fn command(&mut self, command: Command) -> Result<Reply, AllocError>
-        requires { IsTrue (is_carried_out command) }
         ensures answers { IfOk result (λ reply.
             AnswersCommand (spec.tables_of self.old) (D.legal self.old.runtime.driver) (Unit {0})
             (spec.state_of self.old) (machine_command (spec.names_of self.old) command)
@@ -186,7 +294,7 @@ impl<D: Driver> Container<D> {
         ensures same { spec.SameParts
             (D.legal self.old.runtime.driver) (D.legal self.new.runtime.driver) self.old self.new }
         ensures err { OnErr result (self.new ≡ self.old) }
-        ensures memory { OnErr result (IsCall command) }
+        ensures memory { OnErr result (TakesMemory command) }
     {
         match command {
             Command::Call {
@@ -196,24 +304,31 @@ impl<D: Driver> Container<D> {
                 method,
                 args,
             } => {
-                let call = call_for(
-                    self.runtime.alloc,
-                    self.names(),
-                    &bean_type,
-                    qualifiers.as_slice(),
-                    &method,
-                    args,
-                );
-                match call {
-                    Ok(call) => Ok(self.ask(Job::Call { request, call })),
-                    Err(_) => Err(AllocError),
-                }
+                let method = self.names().name_for(method.as_str());
+                let purpose = BeanPurpose::Call { method, args };
+                self.use_bean(request, &bean_type, qualifiers.as_slice(), purpose)
             }
+            Command::Read {
+                request,
+                bean_type,
+                qualifiers,
+            } => self.use_bean(
+                request,
+                &bean_type,
+                qualifiers.as_slice(),
+                BeanPurpose::Read,
+            ),
+            Command::Fire {
+                request,
+                class,
+                qualifiers,
+                value,
+            } => self.fire(request, &class, qualifiers.as_slice(), value),
             Command::Begin { request, session } => Ok(self.ask(Job::Begin { request, session })),
             Command::End { request } => Ok(self.ask(Job::End { request })),
             Command::Invalidate { session } => Ok(self.ask(Job::Invalidate { session })),
+            Command::Live => self.live(),
             Command::Shutdown => Ok(self.ask(Job::Shutdown)),
-            _ => unreachable!(),
         }
     }
 }

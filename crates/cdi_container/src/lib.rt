@@ -10,4 +10,4 @@ mod session;
 
 pub use acceptance::{Unaccepted, accept};
 pub use container::Container;
-pub use session::serve;
+pub use session::Session;

@@ -11,7 +11,7 @@ use cdi_steps::{Completion, Given, Job, Outcome};
 pub(crate) fn has_value(job: &Job) -> bool
     ensures { result ≡ spec.has_value job.now }
 {
-    matches!(job, Job::Call { .. })
+    matches!(job, Job::Use { .. })
 }
 
 /// Why a container has halted whose last job ended so, if it has.

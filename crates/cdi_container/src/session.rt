@@ -1,14 +1,14 @@
 //! A container that answers the lines of an input.
 ghost use Rattle.std.specs.Prelude.{IsTrue, OnOk};
 ghost use Rattle.cdi_lines.specs.Served.{Blames};
-ghost use Rattle.cdi_container.specs.Sessions.{ServedBy};
 
 use crate::container::Container;
 use cdi_base::{OrMemory, Refusal, Reply};
 use cdi_lines::{MAX_INPUT, Responder, ServeFault, Sink, Source, serve_lines};
 use cdi_machine::Driver;
-use cdi_text::{read_command, write_reply};
+use cdi_text::{read_command, write_reply, write_trace};
 use std::alloc::{AllocError, Global};
+use std::marker::Model;
 
 impl<D: Driver> Container<D> {
     ghost use Rattle.std.specs.Prelude.{◌≡◌, IfOk, OnErr};
@@ -34,43 +34,111 @@ impl<D: Driver> Container<D> {
     }
 }
 
-impl<D: Driver> Responder for Container<D> {
-    ghost use Rattle.cdi_container.specs.Sessions.{AnswersSo};
+/// A container that answers the lines of an input, with the trace of what each did or without.
+pub struct Session<D: Driver> {
+    container: Container<D>,
+    shows_trace: bool,
+}
 
-    ghost answers = { λ c line text d.
-        AnswersSo (D.legal c.runtime.driver) (D.legal d.runtime.driver) c line text d };
-
-    fn answer(&mut self, alloc: Global, line: &[u8]) -> Result<Vec<u8>, AllocError> {
-        let reply = self.reply_to(alloc, line)?;
-        write_reply(alloc, self.names(), &reply)
+/// In one call, so that the proof of each function that owns a session has one step here, and not one for each of its parts.
+impl<D: Driver + Drop> Drop for Session<D> {
+    fn drop(self) {
+        let Self {
+            container: _container,
+            shows_trace: _shows_trace,
+        } = self;
     }
 }
 
-/// Writes the reply to the container's start, and then reads command lines and writes the reply to each, up to the end
-/// of the input.
-///
-/// Whatever the result is, the lines that stand written are those of a run of the machine for the whole lines that were
-/// read, under acts that the driver promises: all of them at `Ok`; if a read failed, or more than [`MAX_INPUT`] bytes
-/// came, those to the lines that were complete before; if memory ran out for a line or a reply, none, or whole lines in
-/// front, and the container is as these commands left it, or as the next one did, whose reply is lost; if a write
-/// failed, a front part of the whole. Want of memory within a command is no fault: the reply then says so, and the
-/// container has halted.
-pub fn serve<R: Source, W: Sink, D: Driver>(
-    alloc: Global,
-    input: &mut R,
-    output: &mut W,
-    container: &mut Container<D>,
-) -> Result<(), ServeFault>
-    ensures served { ServedBy MAX_INPUT (λ driver. D.legal driver) container.old container.new
-        (R.unread input.old) (R.unread input.new) (W.written output.old) (W.written output.new)
-        result }
-    ensures passed_on { OnOk result (IsTrue (W.is_passed_on output.new)) }
-    ensures blames { Blames result
-        (R.has_failed input.old) (R.has_failed input.new)
-        (W.has_failed output.old) (W.has_failed output.new) }
-{
-    let Ok(greeting) = write_reply(alloc, container.names(), container.boot_reply()) else {
-        return Err(ServeFault::Memory);
-    };
-    serve_lines(alloc, &greeting, input, output, container)
+impl<D: Driver> Model for Session<D> {
+    ghost use Rattle.std.specs.Coded.{codes};
+    ghost use Rattle.cdi_run_tables.specs.contracts.tables.RunTables as run_tables;
+    ghost use Rattle.cdi_container.specs.Sessions.{SessionParts};
+
+    ghost Value = { SessionParts D };
+
+    ghost coded = { Prim.hlevel (codes, run_tables.the_row.coded) };
+
+    ghost view = { λ s. record { container = s.container; shows_trace = s.shows_trace } };
+}
+
+impl<D: Driver> Responder for Session<D> {
+    ghost use Rattle.cdi_container.specs.Sessions.{AnswersSo};
+
+    ghost answers = { λ s line text t. AnswersSo
+        (D.legal s.container.runtime.driver) (D.legal t.container.runtime.driver) s line text t };
+
+    fn answer(&mut self, alloc: Global, line: &[u8]) -> Result<Vec<u8>, AllocError> {
+        let reply = self.container.reply_to(alloc, line)?;
+        self.text_of(alloc, &reply)
+    }
+}
+
+impl<D: Driver> Session<D> {
+    ghost use Rattle.std.specs.Prelude.{◌≡◌, IfOk};
+    ghost use Rattle.cdi_container.specs.Standing.{names_of, state_of};
+    ghost use Rattle.cdi_container.specs.Sessions.{ServedBy, reply_in};
+
+    /// A container whose replies stand alone, or behind the entries of their commands.
+    pub fn new(container: Container<D>, shows_trace: bool) -> Session<D>
+        ensures container { result.container ≡ container }
+        ensures shows { result.shows_trace ≡ shows_trace }
+    {
+        Session {
+            container,
+            shows_trace,
+        }
+    }
+
+    /// The container.
+    pub fn container(&self) -> &Container<D>
+        ensures { result.now ≡ self.now.container }
+    {
+        &self.container
+    }
+
+    /// The lines of a reply to the command before: its entries if they are shown, and the reply.
+    fn text_of(&self, alloc: Global, reply: &Reply) -> Result<Vec<u8>, AllocError>
+        ensures { IfOk result (λ text. text.items ≡ reply_in (names_of self.now.container)
+            self.now.shows_trace reply.now (state_of self.now.container)) }
+    {
+        let names = self.container.names();
+        let reply = write_reply(alloc, names, reply)?;
+        if !self.shows_trace {
+            return Ok(reply);
+        }
+        let mut lines = write_trace(alloc, names, self.container.trace())?;
+        lines.extend_from_slice(&reply)?;
+        Ok(lines)
+    }
+
+    /// Writes the reply to the container's start, and then reads command lines and writes the reply to each, up to the end
+    /// of the input; before each reply stand the entries of its command, one in a line, if the session shows them. The
+    /// container has to be fresh from its start, so that the first entries are those of the start.
+    ///
+    /// Whatever the result is, the lines that stand written are those of a run of the machine for the whole lines that were
+    /// read, under acts that the driver promises: all of them at `Ok`; if a read failed, or more than [`MAX_INPUT`] bytes
+    /// came, those to the lines that were complete before; if memory ran out for a line or a reply, none, or whole replies in
+    /// front, and the container is as these commands left it, or as the next one did, whose reply is lost; if a write
+    /// failed, a front part of the whole. Want of memory within a command is no fault: the reply then says so, and the
+    /// container has halted.
+    pub fn serve<R: Source, W: Sink>(
+        &mut self,
+        alloc: Global,
+        input: &mut R,
+        output: &mut W,
+    ) -> Result<(), ServeFault>
+        ensures served { ServedBy MAX_INPUT (λ driver. D.legal driver) self.old self.new
+            (R.unread input.old) (R.unread input.new) (W.written output.old) (W.written output.new)
+            result }
+        ensures passed_on { OnOk result (IsTrue (W.is_passed_on output.new)) }
+        ensures blames { Blames result
+            (R.has_failed input.old) (R.has_failed input.new)
+            (W.has_failed output.old) (W.has_failed output.new) }
+    {
+        let Ok(greeting) = self.text_of(alloc, self.container.boot_reply()) else {
+            return Err(ServeFault::Memory);
+        };
+        serve_lines(alloc, &greeting, input, output, self)
+    }
 }

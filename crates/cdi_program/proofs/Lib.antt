@@ -1,3 +1,1 @@
-pub mod Found
 pub mod Usage
-pub mod WorkedWords

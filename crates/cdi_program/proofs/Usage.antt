@@ -3,7 +3,7 @@ use Rattle.std.proofs.Common.{◌≡◌, ◌⊎◌, List, ℕ, inl, inr, subst}
 use Rattle.clap.specs.Words.{IsAmong, Text}
 use Rattle.clap.specs.declared.error.kind.ErrorKind.{ErrorKind}
 use Rattle.clap.specs.declared.error.kind.ErrorKind.TheVariants as kinds
-use Rattle.cdi_program.specs.Options.{faults_in}
+use Rattle.cdi_options.specs.Options.{faults_in}
 use Rattle.cdi_program.specs.Program.{Ends, IsUntouched, AnswersUsage, RunsWords}
 
 -- want of memory shows nothing, and is status 3

@@ -1,4 +1,2 @@
-pub mod Options
 pub mod Program
 pub mod Statuses
-pub mod WorkedWords

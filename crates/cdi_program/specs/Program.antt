@@ -8,16 +8,17 @@ use Rattle.cdi_lines.specs.Ends.{Tells, WritesAll}
 use Rattle.cdi_lines.specs.declared.sink.WriteFailed.{WriteFailed}
 use Rattle.cdi_lines.specs.declared.fault.ServeFault.{ServeFault}
 use Rattle.cdi_lines.specs.Served.{Blames}
+use Rattle.cdi_options.specs.Options.{AsksFor, faults_in}
+use Rattle.cdi_options.specs.declared.options.Mode.{Mode}
+use Rattle.cdi_options.specs.declared.options.Mode.TheVariants as modes
 use Rattle.cdi_report.specs.Reports.{ReportsOn}
 use Rattle.cdi_report.specs.Verdicts.{outcome_of as outcome_of_verdict, status_of as status_of_verdict}
 use Rattle.cdi_report.specs.declared.verdict.Verdict.{Verdict}
+use Rattle.cdi_settings.specs.declared.settings.Settings.{Settings}
 use Rattle.cdi_shell.specs.Endings.{outcome_of, status_of as status_of_ending}
 use Rattle.cdi_shell.specs.Laws.{DrivesOnce}
 use Rattle.cdi_shell.specs.declared.ending.Ending.{Ending}
-use Rattle.cdi_program.specs.Options.{faults_in, file_in, mode_in}
 use Rattle.cdi_program.specs.Statuses.{is_shown, status_of}
-use Rattle.cdi_program.specs.declared.options.Mode.{Mode}
-use Rattle.cdi_program.specs.declared.options.Mode.TheVariants as modes
 use Rattle.cdi_program.specs.declared.words.WordsError.{WordsError}
 use Rattle.cdi_program.specs.declared.words.WordsError.TheVariants as words_errors
 
@@ -84,12 +85,11 @@ output_after ends = record {
   is_passed_on = ends.is_passed_on;
 }
 
--- These bytes of a deployment are run under the default limits of 32 levels and 100,000 entries, and the status is that
--- of the run's ending.
-pub record RunsBytes (bytes : List ℕ) (ends : Ends) (status : ℕ) : Type 0 where
+-- These bytes of a deployment are run with these settings, and the status is that of the run's ending.
+pub record RunsBytes (settings : Settings) (bytes : List ℕ) (ends : Ends) (status : ℕ) : Type 0 where
   pub ending : Ending
   pub output : Output
-  pub drives : DrivesOnce 32 100000 bytes
+  pub drives : DrivesOnce settings bytes
       (record {
         unread = ends.unread;
         unread_after = ends.unread_after;
@@ -112,23 +112,24 @@ pub record ChecksBytes (bytes : List ℕ) (ends : Ends) (status : ℕ) : Type 0 
   pub is_left : IsLeft (outcome_of_verdict verdict) output (output_after ends)
   pub is_status : status ≡ status_of_verdict verdict
 
-abbrev pub ServesBytes : Mode → List ℕ → Ends → ℕ → Type 0
-ServesBytes modes.Check bytes ends status = ChecksBytes bytes ends status
-ServesBytes modes.Run bytes ends status = RunsBytes bytes ends status
+abbrev pub ServesBytes : Mode → Settings → List ℕ → Ends → ℕ → Type 0
+ServesBytes modes.Check settings bytes ends status = ChecksBytes bytes ends status
+ServesBytes modes.Run settings bytes ends status = RunsBytes settings bytes ends status
 
 -- A file is checked or run: the deployment is in the bytes that come of its first 1,048,577, or it can't be read.
 pub data ServesFile (gives : List ℕ → ℕ → List ℕ → Type 0) (unreadable : List ℕ → Type 0)
-    (mode : Mode) (path : List ℕ) (ends : Ends) (status : ℕ) : Type 0 where
-  reads : (bytes : List ℕ) → gives path 1048577 bytes → ServesBytes mode bytes ends status
-      → ServesFile gives unreadable mode path ends status
+    (mode : Mode) (settings : Settings) (path : List ℕ) (ends : Ends) (status : ℕ) : Type 0 where
+  reads : (bytes : List ℕ) → gives path 1048577 bytes → ServesBytes mode settings bytes ends status
+      → ServesFile gives unreadable mode settings path ends status
   fails : unreadable path → IsUntouched ends → status ≡ 3
-      → ServesFile gives unreadable mode path ends status
+      → ServesFile gives unreadable mode settings path ends status
 
--- Words that are of the form check or run the file that they name, and others are answered by one of their kinds.
+-- Words that ask for a mode check or run the file that they name, with what they set, and others are answered by one of
+-- their kinds.
 pub data RunsWords (gives : List ℕ → ℕ → List ℕ → Type 0) (unreadable : List ℕ → Type 0)
     (words : List Text) (ends : Ends) (status : ℕ) : Type 0 where
-  serves : faults_in words ≡ []
-      → ServesFile gives unreadable (mode_in words) (file_in words) ends status
+  serves : (mode : Mode) (path : List ℕ) (settings : Settings) → AsksFor words mode path settings
+      → ServesFile gives unreadable mode settings path ends status
       → RunsWords gives unreadable words ends status
   tells : (kind : ErrorKind) → IsAmong kind (faults_in words) → AnswersUsage kind ends status
       → RunsWords gives unreadable words ends status

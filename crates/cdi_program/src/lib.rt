@@ -2,14 +2,11 @@
 #![tactic(auto)]
 
 pub mod files;
-pub mod laws;
-pub mod options;
 pub mod program;
 pub mod status;
 mod telling;
 pub mod words;
 
 pub use files::{Files, HostFiles};
-pub use options::Options;
 pub use program::run_program;
 pub use words::{WordsError, host_words};

@@ -4,16 +4,16 @@ ghost use Rattle.clap.specs.Words.{kind_of};
 ghost use Rattle.cdi_program.specs.Program as spec;
 
 use crate::files::Files;
-use crate::options::{Mode, Options};
 use crate::status::{FAULT, is_shown, status_of};
 use crate::telling::{tell, tell_of_file};
 use crate::words::WordsError;
 use cdi_lines::{ServeFault, Sink, Source};
+use cdi_options::{Mode, Options};
 use cdi_prepare::hint_for;
 use cdi_report::{Verdict, report};
 use cdi_shell::Ending;
 use cdi_shell::drive::drive;
-use cdi_stage::{SERVED, Stage, WHOLE};
+use cdi_stage::WHOLE;
 use clap::Error;
 use std::alloc::Global;
 use std::convert::AsStr;
@@ -89,7 +89,6 @@ fn tell_outcome<W: Sink, E: Sink>(
 fn tell_hint<E: Sink>(
     alloc: Global,
     is_refused: bool,
-    stage: Stage,
     file: &str,
     bytes: &[u8],
     errors: &mut E,
@@ -97,7 +96,7 @@ fn tell_hint<E: Sink>(
     if !is_refused {
         return;
     }
-    if let Ok(Some(hint)) = hint_for(alloc, stage, bytes) {
+    if let Ok(Some(hint)) = hint_for(alloc, WHOLE, bytes) {
         tell_of_file(alloc, errors, file, &hint);
     }
 }
@@ -127,7 +126,7 @@ fn check_bytes<R: Source, W: Sink, E: Sink>(
     let verdict = report(alloc, bytes, output);
     tell_outcome(alloc, verdict.outcome(), output, errors);
     let is_refused = verdict == Verdict::Refused;
-    tell_hint(alloc, is_refused, WHOLE, file, bytes, errors);
+    tell_hint(alloc, is_refused, file, bytes, errors);
     verdict.status()
 }
 
@@ -140,8 +139,7 @@ fn run_bytes<R: Source, W: Sink, E: Sink>(
     output: &mut W,
     errors: &mut E,
 ) -> u8
-    requires { (options.now.limits.depth ≡ 32) × (options.now.limits.ticks ≡ 100000) }
-    ensures { spec.RunsBytes bytes.now
+    ensures { spec.RunsBytes options.now.settings bytes.now
         (record {
           unread = R.unread input.old;
           unread_after = R.unread input.new;
@@ -154,10 +152,10 @@ fn run_bytes<R: Source, W: Sink, E: Sink>(
           is_passed_on = W.is_passed_on output.new;
         }) result }
 {
-    let ending = drive(alloc, bytes, options.limits, input, output);
+    let ending = drive(alloc, bytes, options.settings, input, output);
     tell_outcome(alloc, ending.outcome(), output, errors);
     let is_refused = ending == Ending::Refused;
-    tell_hint(alloc, is_refused, SERVED, options.file, bytes, errors);
+    tell_hint(alloc, is_refused, options.file, bytes, errors);
     ending.status()
 }
 
@@ -170,8 +168,7 @@ fn serve_bytes<R: Source, W: Sink, E: Sink>(
     output: &mut W,
     errors: &mut E,
 ) -> u8
-    requires { (options.now.limits.depth ≡ 32) × (options.now.limits.ticks ≡ 100000) }
-    ensures { spec.ServesBytes options.now.mode bytes.now
+    ensures { spec.ServesBytes options.now.mode options.now.settings bytes.now
         (record {
           unread = R.unread input.old;
           unread_after = R.unread input.new;
@@ -199,9 +196,8 @@ fn serve_options<F: Files, R: Source, W: Sink, E: Sink>(
     output: &mut W,
     errors: &mut E,
 ) -> u8
-    requires { (options.now.limits.depth ≡ 32) × (options.now.limits.ticks ≡ 100000) }
     ensures { spec.ServesFile (F.gives files.now) (F.refuses files.now)
-        options.now.mode options.now.file.now
+        options.now.mode options.now.settings options.now.file.now
         (record {
           unread = R.unread input.old;
           unread_after = R.unread input.new;
@@ -227,11 +223,11 @@ fn serve_options<F: Files, R: Source, W: Sink, E: Sink>(
 ///
 /// Words that ask for a mode name the file of a deployment, which is read up to [`MAX_READ`] bytes. [`Mode::Check`] tells
 /// its problems as [`report`] does, reads nothing, and the status is that of the verdict ([`Verdict::status`]).
-/// [`Mode::Run`] runs it as [`drive`] does, under the default limits, and the status is that of how the run ended
-/// ([`Ending::status`]). Help and
-/// the version go to the output, with status 0. Wrong words are status 2, and a file that can't be read, and want of memory
-/// outside of a command, status 3: nothing is read or written then. Each status 2 and 3 has words on `errors` that name
-/// the cause, as far as these can be written, and a refused deployment may have a hint there.
+/// [`Mode::Run`] runs it as [`drive`] does, with what the words set for it, and the status is that of how the run ended
+/// ([`Ending::status`]). Help and the version go to the output, with status 0. Wrong words are status 2, and a file that
+/// can't be read, and want of memory outside of a command, status 3: nothing is read or written then. Each status 2 and 3
+/// has words on `errors` that name the cause, as far as these can be written, and a refused deployment may have a hint
+/// there.
 pub fn run_program<S: AsStr, F: Files, R: Source, W: Sink, E: Sink>(
     alloc: Global,
     words: Result<&[S], WordsError>,

@@ -8,7 +8,7 @@ use Rattle.cdi_base.specs.Uses.{has_names, numbered, numbered_member, numbered_m
 use Rattle.cdi_base.specs.declared.uses.MemberValue.{MemberValue}
 use Rattle.cdi_base.specs.declared.uses.WrittenMember.{WrittenMember}
 use Rattle.cdi_base.specs.declared.uses.WrittenUse.{WrittenUse}
-use Rattle.cdi_base.specs.declared.act.Via.TheVariants.{Local, Param}
+use Rattle.cdi_base.specs.declared.act.Via.TheVariants as vias
 use Rattle.cdi_form.specs.ValueForms.{use_in}
 use Rattle.cdi_form.specs.Json.{is_word}
 use Rattle.cdi_stage.specs.declared.stage.Stage.{Stage}
@@ -16,7 +16,7 @@ use Rattle.cdi_script.specs.declared.fault.ScriptFault.{ScriptFault}
 use Rattle.cdi_script.specs.Term as terms
 use Rattle.cdi_script.specs.declared.fault.ScriptFault.TheVariants.{BadStep}
 use Rattle.cdi_script.specs.declared.part.PartKind.{PartKind}
-use Rattle.cdi_script.specs.declared.part.PartKind.TheVariants.{Name, Via, Qualifiers, Value, Values}
+use Rattle.cdi_script.specs.declared.part.PartKind.TheVariants.{Name, Via, Local, Qualifiers, Value, Values}
 use Rattle.cdi_script.specs.declared.part.Parts.{Parts}
 use Rattle.cdi_script.specs.declared.step.StepKind.{StepKind}
 use Rattle.cdi_script.specs.Build.{action_as, action_in, behind_word, script_at, step_at, steps_at}
@@ -26,7 +26,7 @@ use Rattle.cdi_script.specs.Part.{no_parts, with_part, with_parts}
 use Rattle.cdi_script.specs.Qualifier.{named_use, or_full, qualifier_of}
 use Rattle.cdi_script.specs.Reading.{Reads, array_of, count_of, each, found, name_of, named}
 use Rattle.cdi_script.specs.Step.{row_of}
-use Rattle.cdi_script.specs.Via.{via_of, via_pair_of}
+use Rattle.cdi_script.specs.Via.{local_of, via_of, via_pair_of}
 use Rattle.serde_json.specs.Data.{Data, null, boolean, number, string, array, object, Items, no_items, item}
 use Rattle.serde_json.specs.Events.{items_len}
 
@@ -142,8 +142,8 @@ via-pair-grows : (names : List (List ℕ)) (word value : Data) → Grows names (
 unfolding via_pair_of
 via-pair-grows names word value =
     grows-if _ (grows-on (name-grows names value) (λ name. keeps name.1))
-    (grows-if (is_word word (codes "param")) (found-grows Param names (count_of value))
-    (grows-if (is_word word (codes "local")) (found-grows Local names (count_of value)) (Grows.err {fault = BadStep})))
+    (grows-if (is_word word (codes "param")) (found-grows vias.Param names (count_of value))
+    (grows-if (is_word word (codes "local")) (found-grows vias.Local names (count_of value)) (Grows.err {fault = BadStep})))
 
 via-grows : (names : List (List ℕ)) (d : Data) → Grows names (via_of names d)
 via-grows names null = Grows.err
@@ -183,6 +183,7 @@ expression-grows names (object ms) = Grows.err
 part-grows : (parts : Parts) (names : List (List ℕ)) (kind : PartKind) (d : Data) → Grows names (with_part parts names kind d)
 part-grows parts names Name d = grows-on (name-grows names d) (λ read. keeps read.1)
 part-grows parts names Via d = grows-on (via-grows names d) (λ read. keeps read.1)
+part-grows parts names Local d = found-grows _ names (local_of d)
 part-grows parts names Qualifiers d =
     grows-on (array-grows qualifier_of qualifier-grows names d) (λ read. keeps read.1)
 part-grows parts names Value d = grows-on (expression-grows names d) (λ read. keeps read.1)

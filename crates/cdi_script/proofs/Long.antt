@@ -10,7 +10,7 @@ use Rattle.cdi_script.specs.declared.fault.ScriptFault.TheVariants.{BadStep}
 use Rattle.cdi_script.specs.Expression.{is_expression, expression_of}
 use Rattle.cdi_script.specs.Form.{caught, are_steps_at, are_too_many_at}
 use Rattle.cdi_script.specs.Qualifier.{has_use_names}
-use Rattle.cdi_script.specs.Via.{is_via, via_of}
+use Rattle.cdi_script.specs.Via.{is_via, via_of, local_of}
 
 pub record IsOne (ds : Items) : Type 0 where
   pub only : Data
@@ -60,6 +60,13 @@ no_via_of_one names xs h = rw (one xs h).is refl
 
 pub no_via_of_three : (names : List (List ℕ)) (xs : List Value) → 3 ≤ length xs → via_of names (array (items_view xs)) ≡ Err BadStep
 no_via_of_three names xs h = rw (three xs h).is refl
+
+-- nor a local
+pub one_is_no_local : (xs : List Value) → length xs ≡ 1 → local_of (array (items_view xs)) ≡ None
+one_is_no_local xs h = rw (one xs h).is refl
+
+pub three_are_no_local : (xs : List Value) → 3 ≤ length xs → local_of (array (items_view xs)) ≡ None
+three_are_no_local xs h = rw (three xs h).is refl
 
 -- nor do they have the names of a use
 pub one_has_no_use : (xs : List Value) → length xs ≡ 1 → has_use_names (array (items_view xs)) ≡ false

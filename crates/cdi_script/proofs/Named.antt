@@ -7,7 +7,7 @@ use Rattle.std.specs.Prelude.{codes, nat_le, option_map, option_and_then, if◌t
 use Rattle.cdi_base.specs.Name.{has_room, is_known, is_name, number_of, with_name}
 use Rattle.cdi_base.specs.Reading.{◌>>=◌}
 use Rattle.cdi_base.specs.Uses.{has_name, has_names, numbered, numbered_member, numbered_members, numbered_use}
-use Rattle.cdi_base.specs.declared.act.Via.TheVariants.{Local, Param}
+use Rattle.cdi_base.specs.declared.act.Via.TheVariants as vias
 use Rattle.cdi_base.specs.declared.uses.MemberValue.{MemberValue}
 use Rattle.cdi_base.specs.declared.uses.WrittenMember.{WrittenMember}
 use Rattle.cdi_base.specs.declared.uses.WrittenUse.{WrittenUse}
@@ -21,10 +21,10 @@ use Rattle.cdi_script.specs.Qualifier.{named_use, or_full, qualifier_of}
 use Rattle.cdi_script.specs.Reading.{Reads, array_of, count_of, each, found, name_of, named}
 use Rattle.cdi_script.specs.Step.{row_of}
 use Rattle.cdi_script.specs.Term as terms
-use Rattle.cdi_script.specs.Via.{via_of, via_pair_of}
+use Rattle.cdi_script.specs.Via.{local_of, via_of, via_pair_of}
 use Rattle.cdi_script.specs.declared.fault.ScriptFault.TheVariants.{BadStep}
 use Rattle.cdi_script.specs.declared.part.PartKind.{PartKind}
-use Rattle.cdi_script.specs.declared.part.PartKind.TheVariants.{Name, Via, Qualifiers, Value, Values}
+use Rattle.cdi_script.specs.declared.part.PartKind.TheVariants.{Name, Via, Local, Qualifiers, Value, Values}
 use Rattle.cdi_script.specs.declared.part.Parts.{Parts}
 use Rattle.cdi_script.specs.declared.step.StepKind.{StepKind}
 use Rattle.cdi_stage.specs.declared.stage.Stage.{Stage}
@@ -156,8 +156,8 @@ via-pair-named : (names : List (List ℕ)) (word value : Data) → AreNames name
 unfolding via_pair_of
 via-pair-named names word value are =
     named-if _ (named-on (name-named names value are) (λ name h. Named.ok h))
-    (named-if (is_word word (codes "param")) (found-named Param names (count_of value) are)
-    (named-if (is_word word (codes "local")) (found-named Local names (count_of value) are) (Named.err {fault = BadStep})))
+    (named-if (is_word word (codes "param")) (found-named vias.Param names (count_of value) are)
+    (named-if (is_word word (codes "local")) (found-named vias.Local names (count_of value) are) (Named.err {fault = BadStep})))
 
 via-named : (names : List (List ℕ)) (d : Data) → AreNames names → Named (via_of names d)
 via-named names null are = Named.err
@@ -197,6 +197,7 @@ expression-named names (object ms) are = Named.err
 part-named : (parts : Parts) (names : List (List ℕ)) (kind : PartKind) (d : Data) → AreNames names → Named (with_part parts names kind d)
 part-named parts names Name d are = named-on (name-named names d are) (λ read h. Named.ok h)
 part-named parts names Via d are = named-on (via-named names d are) (λ read h. Named.ok h)
+part-named parts names Local d are = found-named _ names (local_of d) are
 part-named parts names Qualifiers d are =
     named-on (array-named qualifier_of qualifier-named names d are) (λ read h. Named.ok h)
 part-named parts names Value d are = named-on (expression-named names d are) (λ read h. Named.ok h)

@@ -31,7 +31,7 @@ use Rattle.cdi_script.specs.Qualifier.{is_qualifier, or_full, named_use, qualifi
 use Rattle.cdi_script.specs.Reading.{Reads, is_named, named, name_of, count_of, found, all_items, is_array_of, each, array_of}
 use Rattle.cdi_script.specs.Step.{row_of, all_kinds}
 use Rattle.cdi_script.specs.Term as terms
-use Rattle.cdi_script.specs.Via.{is_via_pair, is_via, via_pair_of, via_of}
+use Rattle.cdi_script.specs.Via.{is_via_pair, is_via, via_pair_of, via_of, local_of}
 
 abbrev Names : Type 0
 Names = List (List ℕ)
@@ -163,6 +163,7 @@ module _ {X : Type 0} (test : Data → Bool) (form : Names → Data → Reads X)
 part-read : (stage : Stage) (kind : PartKind) (read : Parts) (names : Names) (d : Data) → is_part stage kind d ≡ true → IsRead (with_part read names kind d)
 part-read stage parts.Name read names d h = then (name_of names d) _ (name-read names d h) (λ x. tt)
 part-read stage parts.Via read names d h = then (via_of names d) _ (via-read stage names d h) (λ x. tt)
+part-read stage parts.Local read names d h = found-read _ names (local_of d) h
 part-read stage parts.Qualifiers read names d h = then (array_of qualifier_of names d) _ (array-read is_qualifier qualifier_of qualifier-read names d h) (λ x. tt)
 part-read stage parts.Value read names d h = then (expression_of names d) _ (expression-read names d h) (λ x. tt)
 part-read stage parts.Values read names d h = then (array_of expression_of names d) _ (array-read is_expression expression_of expression-read names d h) (λ x. tt)

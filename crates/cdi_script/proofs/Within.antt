@@ -135,6 +135,9 @@ module _ (s : Shape) where
   a_lookup : (x : Lookup) → Grows s (record s { lookups = s.lookups ++ x ∷ [] })
   a_lookup x = record { sets = same s.sets; calls = same s.calls; owns = same s.owns; cells = same s.cells; fires = same s.fires; lookups = one_more s.lookups x; destroys = same s.destroys; throws = same s.throws; chain = λ h. h }
 
+  a_destroy : (x : ℕ) → Grows s (record s { destroys = s.destroys ++ x ∷ [] })
+  a_destroy x = record { sets = same s.sets; calls = same s.calls; owns = same s.owns; cells = same s.cells; fires = same s.fires; lookups = same s.lookups; destroys = one_more s.destroys x; throws = same s.throws; chain = λ h. h }
+
   a_throw : (x : ℕ) → Grows s (record s { throws = s.throws ++ x ∷ [] })
   a_throw x = record { sets = same s.sets; calls = same s.calls; owns = same s.owns; cells = same s.cells; fires = same s.fires; lookups = same s.lookups; destroys = same s.destroys; throws = one_more s.throws x; chain = λ h. h }
 
@@ -152,6 +155,7 @@ with_action-grows shape (actions.Fire class qualifiers value) = a_fire shape _
 with_action-grows shape actions.Proceed = a_chain shape
 with_action-grows shape (actions.ProceedWith args) = a_chain shape
 with_action-grows shape (actions.Find bean_type qualifiers) = a_lookup shape _
+with_action-grows shape (actions.Destroy local) = a_destroy shape local
 with_action-grows shape (actions.Keep key value) = a_chain shape
 with_action-grows shape (actions.Peek key) = a_chain shape
 with_action-grows shape (actions.Give value) = nothing shape
@@ -181,6 +185,7 @@ act_of-in_shape shape k (actions.Fire class qualifiers value) fields view n =
 act_of-in_shape shape k actions.Proceed fields view n = refl
 act_of-in_shape shape k (actions.ProceedWith args) fields view n = refl
 act_of-in_shape shape k (actions.Find bean_type qualifiers) fields view n = lt-ltb _ _ (omega (arith, length-append shape.lookups (record { bean_type = bean_type; qualifiers = qualifiers } ∷ [])))
+act_of-in_shape shape k (actions.Destroy local) fields view n = at_end (λ j. j == local) shape.destroys local (nat-self local)
 act_of-in_shape shape k (actions.Keep key value) fields view n = refl
 act_of-in_shape shape k (actions.Peek key) fields view n = refl
 act_of-in_shape shape k (actions.Give value) fields view n = refl

@@ -5,17 +5,18 @@ use Rattle.cdi_base.specs.declared.act.Via.TheVariants as vias
 use Rattle.cdi_stage.specs.declared.stage.Stage.{Stage}
 use Rattle.serde_json.specs.Data.{Data, Items, no_items, item}
 use Rattle.cdi_script.specs.declared.part.PartKind.{PartKind}
-use Rattle.cdi_script.specs.declared.part.PartKind.TheVariants.{Name, Via, Qualifiers, Value, Values}
+use Rattle.cdi_script.specs.declared.part.PartKind.TheVariants.{Name, Via, Local, Qualifiers, Value, Values}
 use Rattle.cdi_script.specs.declared.part.Parts.{Parts}
 use Rattle.cdi_script.specs.Expression.{is_expression, expression_of}
 use Rattle.cdi_script.specs.Qualifier.{is_qualifier, qualifier_of}
-use Rattle.cdi_script.specs.Reading.{Reads, is_named, name_of, is_array_of, array_of}
+use Rattle.cdi_script.specs.Reading.{Reads, is_named, name_of, found, is_array_of, array_of}
 use Rattle.cdi_script.specs.Term as terms
-use Rattle.cdi_script.specs.Via.{is_via, via_of}
+use Rattle.cdi_script.specs.Via.{is_via, via_of, is_local, local_of}
 
 abbrev pub is_part : Stage → PartKind → Data → Bool
 is_part stage Name d = is_named d
 is_part stage Via d = is_via stage d
+is_part stage Local d = is_local d
 is_part stage Qualifiers d = is_array_of is_qualifier d
 is_part stage Value d = is_expression d
 is_part stage Values d = is_array_of is_expression d
@@ -29,13 +30,22 @@ are_parts stage (kind ∷ kinds) (item d ds) = is_part stage kind d && are_parts
 
 -- where nothing is read yet
 abbrev pub no_parts : Parts
-no_parts = record { name = 0; via = vias.Param 0; qualifiers = []; value = terms.null; values = [] }
+no_parts =
+    record {
+      name = 0;
+      via = vias.Param 0;
+      local = 0;
+      qualifiers = [];
+      value = terms.null;
+      values = [];
+    }
 
 -- the parts, with what a value is as a part of a kind
 abbrev pub with_part : Parts → List (List ℕ) → PartKind → Data → Reads Parts
 with_part parts names Name d =
     name_of names d >>= λ name. Ok (record parts { name = name.0 }, name.1)
 with_part parts names Via d = via_of names d >>= λ via. Ok (record parts { via = via.0 }, via.1)
+with_part parts names Local d = found (λ local. record parts { local = local }) names (local_of d)
 with_part parts names Qualifiers d =
     array_of qualifier_of names d >>= λ qualifiers.
     Ok (record parts { qualifiers = qualifiers.0 }, qualifiers.1)
@@ -54,6 +64,7 @@ with_parts parts names _ _ = Ok (parts, names)
 abbrev pub SameAt : PartKind → Parts → Parts → Type 0
 SameAt Name a b = a.name ≡ b.name
 SameAt Via a b = a.via ≡ b.via
+SameAt Local a b = a.local ≡ b.local
 SameAt Qualifiers a b = a.qualifiers ≡ b.qualifiers
 SameAt Value a b = a.value ≡ b.value
 SameAt Values a b = a.values ≡ b.values

@@ -9,7 +9,7 @@ use Rattle.cdi_stage.specs.declared.stage.Stage.TheVariants as since
 use Rattle.cdi_bodies.specs.declared.shape.Shape.{Shape}
 use Rattle.cdi_bodies.specs.declared.view.View.{View}
 use Rattle.cdi_script.specs.declared.part.PartKind.{PartKind}
-use Rattle.cdi_script.specs.declared.part.PartKind.TheVariants.{Name, Via, Qualifiers, Value, Values}
+use Rattle.cdi_script.specs.declared.part.PartKind.TheVariants.{Name, Via, Local, Qualifiers, Value, Values}
 use Rattle.cdi_script.specs.declared.part.Parts.{Parts}
 use Rattle.cdi_script.specs.declared.step.Action.{Action}
 use Rattle.cdi_script.specs.declared.step.Action.TheVariants as actions
@@ -43,6 +43,7 @@ row_of kinds.Fire = row (codes "fire") (Name ∷ Qualifiers ∷ Value ∷ []) si
 row_of kinds.Proceed = row (codes "proceed") [] since.Interceptors
 row_of kinds.ProceedWith = row (codes "proceed") (Values ∷ []) since.Interceptors
 row_of kinds.Find = row (codes "find") (Name ∷ Qualifiers ∷ []) since.Lookups
+row_of kinds.Destroy = row (codes "destroy") (Local ∷ []) since.Lookups
 row_of kinds.Keep = row (codes "keep") (Name ∷ Value ∷ []) since.Interceptors
 row_of kinds.Peek = row (codes "peek") (Name ∷ []) since.Interceptors
 row_of kinds.Give = row (codes "give") (Value ∷ []) since.Counter
@@ -51,7 +52,7 @@ row_of kinds.Throw = row (codes "throw") (Name ∷ []) since.Injection
 abbrev pub all_kinds : List StepKind
 all_kinds =
     kinds.Set ∷ kinds.Call ∷ kinds.Own ∷ kinds.Read ∷ kinds.Write ∷ kinds.Fire ∷ kinds.Proceed
-    ∷ kinds.ProceedWith ∷ kinds.Find ∷ kinds.Keep
+    ∷ kinds.ProceedWith ∷ kinds.Find ∷ kinds.Destroy ∷ kinds.Keep
     ∷ kinds.Peek ∷ kinds.Give ∷ kinds.Throw ∷ []
 
 -- the action of a step with these parts
@@ -65,6 +66,7 @@ action_of kinds.Fire parts = actions.Fire parts.name parts.qualifiers parts.valu
 action_of kinds.Proceed parts = actions.Proceed
 action_of kinds.ProceedWith parts = actions.ProceedWith parts.values
 action_of kinds.Find parts = actions.Find parts.name parts.qualifiers
+action_of kinds.Destroy parts = actions.Destroy parts.local
 action_of kinds.Keep parts = actions.Keep parts.name parts.value
 action_of kinds.Peek parts = actions.Peek parts.name
 action_of kinds.Give parts = actions.Give parts.value
@@ -84,6 +86,7 @@ act_of lookup actions.Proceed fields view = acts.Proceed None
 act_of lookup (actions.ProceedWith args) fields view =
     acts.Proceed (Some (values_of args fields view))
 act_of lookup (actions.Find bean_type qualifiers) fields view = acts.Find lookup
+act_of lookup (actions.Destroy local) fields view = acts.Destroy local
 act_of lookup (actions.Keep key value) fields view = acts.Keep key (value_of value fields view)
 act_of lookup (actions.Peek key) fields view = acts.Peek key
 act_of lookup (actions.Give value) fields view = acts.Give (value_of value fields view)
@@ -114,6 +117,8 @@ with_action shape (actions.Find bean_type qualifiers) =
       lookups =
           shape.lookups ++ (record { bean_type = bean_type; qualifiers = qualifiers }) ∷ [];
     }
+with_action shape (actions.Destroy local) =
+    record shape { destroys = shape.destroys ++ local ∷ [] }
 with_action shape (actions.Keep key value) = record shape { chain = true }
 with_action shape (actions.Peek key) = record shape { chain = true }
 with_action shape (actions.Give value) = shape

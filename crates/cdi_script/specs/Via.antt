@@ -1,5 +1,5 @@
 -- How the references are written by which a body reaches another instance.
-use Rattle.std.specs.Prelude.{ℕ, List, Bool, false, ◌&&◌, codes, Ok, Err, if◌then◌else◌}
+use Rattle.std.specs.Prelude.{ℕ, List, Bool, false, ◌&&◌, codes, is_some, Option, None, Ok, Err, if◌then◌else◌}
 use Rattle.cdi_base.specs.Reading.{◌>>=◌}
 use Rattle.cdi_stage.specs.Stage.{is_included}
 use Rattle.cdi_base.specs.declared.act.Via.{Via}
@@ -33,3 +33,14 @@ via_pair_of names word value =
 abbrev pub via_of : List (List ℕ) → Data → Reads Via
 via_of names (array (item word (item value no_items))) = via_pair_of names word value
 via_of names _ = Err BadStep
+
+unfoldable pub local_in : Data → Data → Option ℕ
+local_in word value = if is_word word (codes "local") then count_of value else None
+
+-- the number of the local that a value refers to, where it is `["local",k]`
+abbrev pub local_of : Data → Option ℕ
+local_of (array (item word (item value no_items))) = local_in word value
+local_of _ = None
+
+abbrev pub is_local : Data → Bool
+is_local d = is_some (local_of d)

@@ -7,8 +7,8 @@ ghost use Rattle.cdi_script.specs.Part as spec;
 
 use crate::expression::{Expression, Node};
 use crate::fault::ScriptFault;
-use crate::reading::{Item, array_of, is_array_of, is_named, name_of};
-use crate::via::{is_via, via_of};
+use crate::reading::{Item, array_of, bad, is_array_of, is_named, name_of};
+use crate::via::{is_via, local_of, via_of};
 use cdi_base::{BuiltIn, Name, Names, OrMemory, Seq, Use, Via};
 use cdi_stage::Stage;
 use serde_json::Value as Json;
@@ -21,6 +21,8 @@ pub(crate) enum PartKind {
     Name,
     /// A reference to another instance.
     Via,
+    /// A reference to a local.
+    Local,
     /// An array of uses of qualifiers.
     Qualifiers,
     /// An expression.
@@ -35,6 +37,7 @@ pub(crate) enum PartKind {
 pub(crate) struct Parts {
     pub(crate) name: Name,
     pub(crate) via: Via,
+    pub(crate) local: u32,
     pub(crate) qualifiers: Seq<Use>,
     pub(crate) value: Expression,
     pub(crate) values: Seq<Expression>,
@@ -47,6 +50,7 @@ impl PartKind {
         match self {
             PartKind::Name => is_named(value),
             PartKind::Via => is_via(stage, value),
+            PartKind::Local => local_of(value).is_some(),
             PartKind::Qualifiers => is_array_of::<Use>(stage, value),
             PartKind::Value => Expression::is_in(stage, value),
             PartKind::Values => is_array_of::<Expression>(stage, value),
@@ -75,6 +79,7 @@ impl Parts {
         Parts {
             name: BuiltIn::Object.name(),
             via: Via::Param(0),
+            local: 0,
             qualifiers: Seq::empty(alloc),
             value: Expression { node: Node::Null },
             values: Seq::empty(alloc),
@@ -96,6 +101,10 @@ impl Parts {
         match kind {
             PartKind::Name => self.name = name_of(names, value)?,
             PartKind::Via => self.via = via_of(names, value)?,
+            PartKind::Local => match local_of(value) {
+                Some(local) => self.local = local,
+                None => return bad(),
+            },
             PartKind::Qualifiers => self.qualifiers = array_of::<Use>(alloc, stage, names, value)?,
             PartKind::Value => self.value = Expression::read(alloc, stage, names, value)?,
             PartKind::Values => self.values = array_of::<Expression>(alloc, stage, names, value)?,

@@ -66,6 +66,10 @@ pub enum Action {
         bean_type: Name,
         qualifiers: Seq<Use>,
     },
+    /// Destroys the instance behind a local.
+    Destroy {
+        local: u32,
+    },
     /// Keeps a value in the context data of the invocation.
     Keep {
         key: Name,
@@ -105,6 +109,7 @@ pub(crate) enum StepKind {
     Proceed,
     ProceedWith,
     Find,
+    Destroy,
     Keep,
     Peek,
     Give,
@@ -129,7 +134,7 @@ impl Row {
 
 impl StepKind {
     /// All kinds, in the order in which a step is looked for among them.
-    pub(crate) const ALL: [StepKind; 13] = [
+    pub(crate) const ALL: [StepKind; 14] = [
         StepKind::Set,
         StepKind::Call,
         StepKind::Own,
@@ -139,6 +144,7 @@ impl StepKind {
         StepKind::Proceed,
         StepKind::ProceedWith,
         StepKind::Find,
+        StepKind::Destroy,
         StepKind::Keep,
         StepKind::Peek,
         StepKind::Give,
@@ -175,6 +181,7 @@ impl StepKind {
                 &[PartKind::Name, PartKind::Qualifiers],
                 Stage::Lookups,
             ),
+            StepKind::Destroy => Row::new("destroy", &[PartKind::Local], Stage::Lookups),
             StepKind::Keep => Row::new(
                 "keep",
                 &[PartKind::Name, PartKind::Value],
@@ -193,6 +200,7 @@ impl StepKind {
         let Parts {
             name,
             via,
+            local,
             qualifiers,
             value,
             values,
@@ -221,6 +229,7 @@ impl StepKind {
                 bean_type: name,
                 qualifiers,
             },
+            StepKind::Destroy => Action::Destroy { local },
             StepKind::Keep => Action::Keep { key: name, value },
             StepKind::Peek => Action::Peek { key: name },
             StepKind::Give => Action::Give { value },
@@ -284,6 +293,7 @@ impl Action {
                 args: Some(values_of(alloc, args.as_slice(), fields, view)?),
             },
             Action::Find { .. } => Act::Find { lookup },
+            Action::Destroy { local } => Act::Destroy { local: *local },
             Action::Keep { key, value } => Act::Keep {
                 key: *key,
                 value: value.value(alloc, fields, view)?,
@@ -330,6 +340,7 @@ impl Action {
                 bean_type: *bean_type,
                 qualifiers: copy_of(qualifiers)?,
             })?,
+            Action::Destroy { local } => shape.destroys.push(*local)?,
             Action::Throw { exception } => shape.throws.push(*exception)?,
             Action::Proceed => shape.chain = true,
             Action::ProceedWith { .. } => shape.chain = true,

@@ -84,3 +84,28 @@ pub(crate) fn via_of(names: &mut Names, value: &Json) -> Result<Via, OrMemory<Sc
         _ => bad(),
     }
 }
+
+#[tactic(auto, unfolding(crate::specs::Via::local_in))]
+fn local_in(word: &Json, value: &Json) -> Option<u32>
+    ensures { result ≡ spec.local_in (view word.now) (view value.now) }
+{
+    if is_word(word, "local") {
+        return count_of(value);
+    }
+    None
+}
+
+/// The number of the local that a value refers to, if it is a reference to a local.
+pub(crate) fn local_of(value: &Json) -> Option<u32>
+    ensures { result ≡ spec.local_of (view value.now) }
+{
+    match value {
+        Json::Array(items) => match items.as_slice() {
+            [] => None,
+            [_] => None,
+            [word, value] => local_in(word, value),
+            [_, _, _, ..] => None,
+        },
+        _ => None,
+    }
+}

@@ -1,5 +1,5 @@
 -- One schedule gives one output.
-use Rattle.std.proofs.Common.{ℕ, ◌≡◌, ◌≢◌, ◌∙◌, ◌++◌, ◌∷◌, [], List, refl, sym, ap, ap₂, subst, Option, Some, None, Ok, Err}
+use Rattle.std.proofs.Common.{ℕ, Bool, ◌≡◌, ◌≢◌, ◌∙◌, ◌++◌, ◌∷◌, [], List, refl, sym, ap, ap₂, subst, Option, Some, None, Ok, Err}
 use Rattle.std.specs.Prelude.{Result}
 use Rattle.cdi_base.specs.declared.command.Command.{Command as Read}
 use Rattle.cdi_base.specs.declared.reply.Cause.TheVariants as causes
@@ -17,10 +17,9 @@ use Rattle.cdi_machine.specs.Runs.{Legal, Outcome}
 use Rattle.cdi_machine.proofs.Order.{one_schedule}
 use Rattle.cdi_text.specs.declared.command.BadLine.{BadLine}
 use Rattle.cdi_text.specs.Command.{command_in}
-use Rattle.cdi_text.specs.ReplyText.{reply_line}
 use Rattle.cdi_lines.specs.Served.{Replies}
 use Rattle.cdi_container.specs.Commands.{machine_command}
-use Rattle.cdi_container.specs.Sessions.{AnswersRead, AnswersLine}
+use Rattle.cdi_container.specs.Sessions.{AnswersRead, AnswersLine, reply_in}
 use Rattle.cdi_container.specs.States.{ContainerState, CarriesOut, AnswersCommand, machine_state, cause_of}
 use Rattle.cdi_container.proofs.Halted.{works_on}
 
@@ -45,9 +44,9 @@ one_refusal o r r' e e' = let same : ◌≡◌ {A = Option Refusal} (Some r) (So
 not_both : (o : Option Refusal) (r : Refusal) → o ≡ Some r → o ≡ None → ⊥
 not_both o r e e' = let same : ◌≡◌ {A = Option Refusal} (Some r) None = sym e ∙ e' in cc
 
-module _ (names : List (List ℕ)) (tables : Tables) (legal : Legal) (one : IsOne legal) where
+module _ (shows : Bool) (names : List (List ℕ)) (tables : Tables) (legal : Legal) (one : IsOne legal) where
   abbrev Answered : ContainerState → List ℕ → List ℕ → ContainerState → Type 0
-  Answered = AnswersLine names tables legal (Unit {0})
+  Answered = AnswersLine shows names tables legal (Unit {0})
 
   carried_one : (p : Prog Given) (w : World) (o o' : Outcome) (v v' : World) → CarriesOut tables legal (Unit {0}) p w o v → CarriesOut tables legal (Unit {0}) p w o' v'
       → cause_of o ≢ Some causes.Memory → cause_of o' ≢ Some causes.Memory → SameEnd o o' v v'
@@ -89,5 +88,5 @@ module _ (names : List (List ℕ)) (tables : Tables) (legal : Legal) (one : IsOn
   replies_one (line ∷ lines) s out out' t t' (text, mid, rest, (reply, a, w), more, is) (text', mid', rest', (reply', a', w'), more', is') n n' =
       let here = read_one (command_in line) s reply reply' mid mid' a a' (λ q. n (replies_halted lines mid rest t more q)) (λ q. n' (replies_halted lines mid' rest' t' more' q)) in
       let later = replies_one lines mid rest rest' t t' more (subst (λ (m : ContainerState). Replies Answered lines m rest' t') (sym here.state) more') n n' in
-      let texts : text ≡ text' = w ∙ ap (reply_line names) here.reply ∙ sym w' in
+      let texts : text ≡ text' = w ∙ ap₂ (λ (r : Reply) (m : ContainerState). reply_in names shows r m) here.reply here.state ∙ sym w' in
       record { text = is ∙ ap (λ (x : List ℕ). x ++ rest) texts ∙ ap (λ (x : List ℕ). text' ++ x) later.text ∙ sym is'; state = later.state }

@@ -1,5 +1,5 @@
--- The program's output is a function of its limits, its deployment and its input.
-use Rattle.std.proofs.Common.{ℕ, ◌≤◌, length, take, ◌≡◌, ◌∙◌, ◌++◌, ◌∷◌, [], List, refl, sym, ap, subst, Option, Some, None, Ok, Err, append-nil, append_assoc, length-append, slice_get, arith}
+-- The program's output is a function of its settings, its deployment and its input.
+use Rattle.std.proofs.Common.{ℕ, ◌≤◌, length, take, ◌≡◌, ◌∙◌, ◌++◌, ◌∷◌, [], List, refl, sym, ap, ap₂, subst, Option, Some, None, Ok, Err, append-nil, append_assoc, length-append, slice_get, arith}
 use lib.Seq.{take-append_seam}
 use Rattle.std.specs.Prelude.{Result, MatchOption}
 use Rattle.std.specs.Io.KnownBytes.{Appends, Consumes, IsAtEnd}
@@ -17,9 +17,11 @@ use Rattle.cdi_run_tables.specs.declared.tables.RunTables.{RunTables}
 use Rattle.cdi_machine.specs.Commands.{Command}
 use Rattle.cdi_machine.specs.Laws.{IsOne}
 use Rattle.cdi_machine.specs.Runs.{Legal}
-use Rattle.cdi_container.specs.Sessions.{AnswersLine, Served}
+use Rattle.cdi_container.specs.Sessions.{AnswersLine, Served, reply_in}
 use Rattle.cdi_container.specs.States.{ContainerState, Boots, before_start}
 use Rattle.cdi_script.specs.Next.{next_of}
+use Rattle.cdi_settings.specs.declared.settings.Order.{Order}
+use Rattle.cdi_settings.specs.declared.settings.Settings.{Settings}
 use Rattle.cdi_shell.specs.declared.ending.Ending.{Ending}
 use Rattle.cdi_shell.specs.declared.ending.Ending.TheVariants as endings
 use Rattle.cdi_lines.specs.declared.fault.ServeFault.{ServeFault}
@@ -34,15 +36,14 @@ use Rattle.cdi_lines.specs.Ends.{WritesAll}
 use Rattle.cdi_shell.specs.Endings.{after_serving, after_refusal}
 use Rattle.cdi_shell.specs.Laws.{IsSettled, SameOutput, OneOutput}
 use Rattle.cdi_lines.specs.Lines.{complete_lines, all_lines}
-use Rattle.cdi_text.specs.ReplyText.{reply_line}
 use Rattle.cdi_lines.specs.Served.{Replies, Serves}
 use Rattle.cdi_accepted.proofs.Verdicts.{one_verdict}
 use Rattle.cdi_shell.proofs.Determined.{IsFed, answers_one, replies_one, replies_halted}
 use Rattle.cdi_shell.proofs.Tabled.{same_machine}
 
 -- scripts leave open neither an act nor a pick
-pub one_by : (scripts : List NamedScript) → IsOne (legal_by scripts)
-one_by scripts = record {
+pub one_by : (order : Order) (scripts : List NamedScript) → IsOne (legal_by order scripts)
+one_by order scripts = record {
   act = λ id count fields view a b p q. at (slice_get scripts id) fields view a b p q;
   pick = λ candidates count i j p q. p ∙ sym q;
 }
@@ -111,7 +112,7 @@ reach_one input _ _ _ _ (Reaches.too_long read rest byte is long) (Reaches.too_l
     record { result = refl; lines_are = ap complete_lines (sym (front_of input read rest byte is long) ∙ front_of input read' rest' byte' is' long') }
 
 -- what a container that lived as long as its input let it did
-record Whole (depth ticks : ℕ) (names : List (List ℕ)) (tables : machine.Tables) (legal : Legal) (input : List ℕ) (streams : Streams) (ending : Ending) : Type 0 where
+record Whole (o : Settings) (names : List (List ℕ)) (tables : machine.Tables) (legal : Legal) (input : List ℕ) (streams : Streams) (ending : Ending) : Type 0 where
   pub reply : Reply
   pub started : ContainerState
   pub ended : ContainerState
@@ -119,17 +120,17 @@ record Whole (depth ticks : ℕ) (names : List (List ℕ)) (tables : machine.Tab
   pub lines : List (List ℕ)
   pub out : List ℕ
   pub reaches : Reaches input result lines
-  pub boots : Boots tables legal (Unit {0}) ticks depth reply started
-  pub replies : Replies (AnswersLine names tables legal (Unit {0})) lines started out ended
-  pub written : Appends streams.held streams.held_after (reply_line names reply ++ out)
+  pub boots : Boots tables legal (Unit {0}) o.limits.ticks o.limits.depth reply started
+  pub replies : Replies (AnswersLine o.shows_trace names tables legal (Unit {0})) lines started out ended
+  pub written : Appends streams.held streams.held_after (reply_in names o.shows_trace reply started ++ out)
   pub is_ending : ending ≡ after_serving result ended.halted
   pub fed : IsFed ended
 
-whole_of : (depth ticks : ℕ) (t : RunTables) (legal : Legal) (input : List ℕ) (streams : Streams) (e : Ending) → IsSettled e → streams.unread ≡ Some input
-    → (l : Lives depth ticks t legal streams e) → Whole depth ticks t.deployment.names (machine_tables t) legal input streams e
-whole_of depth ticks t legal input streams e settled u l = by l.result l.served l.is_ending
+whole_of : (o : Settings) (t : RunTables) (legal : Legal) (input : List ℕ) (streams : Streams) (e : Ending) → IsSettled e → streams.unread ≡ Some input
+    → (l : Lives o t legal streams e) → Whole o t.deployment.names (machine_tables t) legal input streams e
+whole_of o t legal input streams e settled u l = by l.result l.served l.is_ending
   where
-    to_end : (h : Serves 16777216 (AnswersLine t.deployment.names (machine_tables t) legal (Unit {0})) (reply_line t.deployment.names l.reply) l.started l.ended (Ok tt) streams.unread streams.unread_after streams.held streams.held_after) → e ≡ after_serving {T = Unit {0}} (Ok tt) l.ended.halted → Whole depth ticks t.deployment.names (machine_tables t) legal input streams e
+    to_end : (h : Serves 16777216 (AnswersLine o.shows_trace t.deployment.names (machine_tables t) legal (Unit {0})) (reply_in t.deployment.names o.shows_trace l.reply l.started) l.started l.ended (Ok tt) streams.unread streams.unread_after streams.held streams.held_after) → e ≡ after_serving {T = Unit {0}} (Ok tt) l.ended.halted → Whole o t.deployment.names (machine_tables t) legal input streams e
     to_end h is =
         let (rest, split, none) = consumed_of input streams.unread streams.unread_after h.read u h.consumed.0 in
         let all : input ≡ h.read = split ∙ ap (λ (x : List ℕ). h.read ++ x) (none h.consumed.1) ∙ append-nil h.read in
@@ -143,13 +144,13 @@ whole_of depth ticks t legal input streams e settled u l = by l.result l.served 
           out = h.stands.0;
           reaches = Reaches.to_end (subst (λ (b : List ℕ). length b ≤ 16777216) (sym all) few);
           boots = l.boots;
-          replies = subst (λ (b : List ℕ). Replies (AnswersLine t.deployment.names (machine_tables t) legal (Unit {0})) (all_lines b) l.started h.stands.0 l.ended) (sym all) h.stands.1;
+          replies = subst (λ (b : List ℕ). Replies (AnswersLine o.shows_trace t.deployment.names (machine_tables t) legal (Unit {0})) (all_lines b) l.started h.stands.0 l.ended) (sym all) h.stands.1;
           written = subst (λ (b : List ℕ). Appends streams.held streams.held_after b) h.stands.2 h.written;
           is_ending = is;
           fed = λ q. subst IsSettled (is ∙ ap (λ (o : Option Cause). after_serving {T = Unit {0}} (Ok tt) o) q) settled;
         }
 
-    too_long : (h : Serves 16777216 (AnswersLine t.deployment.names (machine_tables t) legal (Unit {0})) (reply_line t.deployment.names l.reply) l.started l.ended (Err faults.TooLong) streams.unread streams.unread_after streams.held streams.held_after) → e ≡ after_serving {T = Unit {0}} (Err faults.TooLong) l.ended.halted → Whole depth ticks t.deployment.names (machine_tables t) legal input streams e
+    too_long : (h : Serves 16777216 (AnswersLine o.shows_trace t.deployment.names (machine_tables t) legal (Unit {0})) (reply_in t.deployment.names o.shows_trace l.reply l.started) l.started l.ended (Err faults.TooLong) streams.unread streams.unread_after streams.held streams.held_after) → e ≡ after_serving {T = Unit {0}} (Err faults.TooLong) l.ended.halted → Whole o t.deployment.names (machine_tables t) legal input streams e
     too_long h is =
         let (byte, consumed) = h.consumed in
         let (rest, split, none) = consumed_of input streams.unread streams.unread_after (h.read ++ byte ∷ []) u consumed in
@@ -168,42 +169,44 @@ whole_of depth ticks t legal input streams e settled u l = by l.result l.served 
           fed = λ q. subst IsSettled (is ∙ ap (λ (o : Option Cause). after_serving {T = Unit {0}} (Err faults.TooLong) o) q) settled;
         }
 
-    served : (r : Result (Unit {0}) ServeFault) → Serves 16777216 (AnswersLine t.deployment.names (machine_tables t) legal (Unit {0})) (reply_line t.deployment.names l.reply) l.started l.ended r streams.unread streams.unread_after streams.held streams.held_after → e ≡ after_serving r l.ended.halted → Whole depth ticks t.deployment.names (machine_tables t) legal input streams e
+    served : (r : Result (Unit {0}) ServeFault) → Serves 16777216 (AnswersLine o.shows_trace t.deployment.names (machine_tables t) legal (Unit {0})) (reply_in t.deployment.names o.shows_trace l.reply l.started) l.started l.ended r streams.unread streams.unread_after streams.held streams.held_after → e ≡ after_serving r l.ended.halted → Whole o t.deployment.names (machine_tables t) legal input streams e
     served (Ok tt) h is = to_end h is
     served (Err faults.TooLong) h is = too_long h is
     served (Err faults.Read) h is = absurd (subst IsSettled is settled)
     served (Err faults.Write) h is = absurd (subst IsSettled is settled)
     served (Err faults.Memory) h is = absurd (subst IsSettled is settled)
 
-    by : (r : Result (Unit {0}) ServeFault) → Served 16777216 (AnswersLine t.deployment.names (machine_tables t) legal (Unit {0})) (reply_line t.deployment.names l.reply) l.started l.ended streams.unread streams.unread_after streams.held streams.held_after r → e ≡ after_serving r l.ended.halted → Whole depth ticks t.deployment.names (machine_tables t) legal input streams e
+    by : (r : Result (Unit {0}) ServeFault) → Served 16777216 (AnswersLine o.shows_trace t.deployment.names (machine_tables t) legal (Unit {0})) (reply_in t.deployment.names o.shows_trace l.reply l.started) l.started l.ended streams.unread streams.unread_after streams.held streams.held_after r → e ≡ after_serving r l.ended.halted → Whole o t.deployment.names (machine_tables t) legal input streams e
     by _ (Served.silent same unread held) is = absurd (subst IsSettled is settled)
     by r (Served.serves h) is = served r h is
 
-whole_one : (depth ticks : ℕ) (names : List (List ℕ)) (tables : machine.Tables) (legal : Legal) → IsOne legal → (input held : List ℕ) (s s' : Streams) (e e' : Ending) → s.held ≡ Some held → s'.held ≡ Some held
-    → Whole depth ticks names tables legal input s e → Whole depth ticks names tables legal input s' e' → SameOutput s s' e e'
-whole_one depth ticks names tables legal one input held s s' e e' h h' w w' =
+whole_one : (o : Settings) (names : List (List ℕ)) (tables : machine.Tables) (legal : Legal) → IsOne legal → (input held : List ℕ) (s s' : Streams) (e e' : Ending) → s.held ≡ Some held → s'.held ≡ Some held
+    → Whole o names tables legal input s e → Whole o names tables legal input s' e' → SameOutput s s' e e'
+whole_one o names tables legal one input held s s' e e' h h' w w' =
     let reach = reach_one input w.result w'.result w.lines w'.lines w.reaches w'.reaches in
-    let boot = answers_one names tables legal one Command.Boot (before_start ticks depth) w.reply w'.reply w.started w'.started w.boots w'.boots
-    (λ q. w.fed (replies_halted names tables legal one w.lines w.started w.out w.ended w.replies q)) (λ q. w'.fed (replies_halted names tables legal one w'.lines w'.started w'.out w'.ended w'.replies q)) in
-    let there = subst (λ (m : ContainerState). Replies (AnswersLine names tables legal (Unit {0})) w.lines m w'.out w'.ended) (sym boot.state)
-    (subst (λ (ls : List (List ℕ)). Replies (AnswersLine names tables legal (Unit {0})) ls w'.started w'.out w'.ended) (sym reach.lines_are) w'.replies) in
-    let same = replies_one names tables legal one w.lines w.started w.out w'.out w.ended w'.ended w.replies there w.fed w'.fed in
-    let bytes : reply_line names w.reply ++ w.out ≡ reply_line names w'.reply ++ w'.out = ap (λ (r : Reply). reply_line names r ++ w.out) boot.reply ∙ ap (λ (x : List ℕ). reply_line names w'.reply ++ x) same.text in
+    let boot = answers_one o.shows_trace names tables legal one Command.Boot (before_start o.limits.ticks o.limits.depth) w.reply w'.reply w.started w'.started w.boots w'.boots
+    (λ q. w.fed (replies_halted o.shows_trace names tables legal one w.lines w.started w.out w.ended w.replies q)) (λ q. w'.fed (replies_halted o.shows_trace names tables legal one w'.lines w'.started w'.out w'.ended w'.replies q)) in
+    let there = subst (λ (m : ContainerState). Replies (AnswersLine o.shows_trace names tables legal (Unit {0})) w.lines m w'.out w'.ended) (sym boot.state)
+    (subst (λ (ls : List (List ℕ)). Replies (AnswersLine o.shows_trace names tables legal (Unit {0})) ls w'.started w'.out w'.ended) (sym reach.lines_are) w'.replies) in
+    let same = replies_one o.shows_trace names tables legal one w.lines w.started w.out w'.out w.ended w'.ended w.replies there w.fed w'.fed in
+    let shows = o.shows_trace in
+    let bytes : reply_in names shows w.reply w.started ++ w.out ≡ reply_in names shows w'.reply w'.started ++ w'.out =
+    ap₂ (λ (r : Reply) (m : ContainerState). reply_in names shows r m ++ w.out) boot.reply boot.state ∙ ap (λ (x : List ℕ). reply_in names shows w'.reply w'.started ++ x) same.text in
     record {
-      held_after = appended_one held s.held s.held_after s'.held_after _ _ h bytes w.written (subst (λ (x : Option (List ℕ)). Appends x s'.held_after (reply_line names w'.reply ++ w'.out)) (h' ∙ sym h) w'.written);
+      held_after = appended_one held s.held s.held_after s'.held_after _ _ h bytes w.written (subst (λ (x : Option (List ℕ)). Appends x s'.held_after (reply_in names o.shows_trace w'.reply w'.started ++ w'.out)) (h' ∙ sym h) w'.written);
       ending = w.is_ending ∙ ap (λ (r : Result (Unit {0}) ServeFault). after_serving r w.ended.halted) reach.result ∙ ap (λ (t : ContainerState). after_serving w'.result t.halted) same.state ∙ sym w'.is_ending;
     }
 
-module _ (depth ticks : ℕ) (input held : List ℕ) (s s' : Streams) (e e' : Ending) (settled : IsSettled e) (settled' : IsSettled e')
+module _ (o : Settings) (input held : List ℕ) (s s' : Streams) (e e' : Ending) (settled : IsSettled e) (settled' : IsSettled e')
     (u : s.unread ≡ Some input) (u' : s'.unread ≡ Some input) (h : s.held ≡ Some held) (h' : s'.held ≡ Some held) where
   lives_one : (t t' : RunTables) (legal : Legal) → IsOne legal → t.deployment.names ≡ t'.deployment.names → machine_tables t ≡ machine_tables t'
-      → Lives depth ticks t legal s e → Lives depth ticks t' legal s' e' → SameOutput s s' e e'
+      → Lives o t legal s e → Lives o t' legal s' e' → SameOutput s s' e e'
   lives_one t t' legal one names tables l l' =
-      let w = whole_of depth ticks t legal input s e settled u l in
-      let w' = whole_of depth ticks t' legal input s' e' settled' u' l' in
-      let named = subst (λ (ns : List (List ℕ)). Whole depth ticks ns (machine_tables t') legal input s' e') (sym names) w' in
-      let there = subst (λ (m : machine.Tables). Whole depth ticks t.deployment.names m legal input s' e') (sym tables) named in
-      whole_one depth ticks t.deployment.names (machine_tables t) legal one input held s s' e e' h h' w there
+      let w = whole_of o t legal input s e settled u l in
+      let w' = whole_of o t' legal input s' e' settled' u' l' in
+      let named = subst (λ (ns : List (List ℕ)). Whole o ns (machine_tables t') legal input s' e') (sym names) w' in
+      let there = subst (λ (m : machine.Tables). Whole o t.deployment.names m legal input s' e') (sym tables) named in
+      whole_one o t.deployment.names (machine_tables t) legal one input held s s' e e' h h' w there
 
   problems_one : (ss : List NamedScript) (d : Deployment) (these those : List Problem) → AreProblemsWith ss d these → AreProblemsWith ss d those → these ≡ those
   problems_one ss d these those a b =
@@ -216,23 +219,23 @@ module _ (depth ticks : ℕ) (input held : List ℕ) (s s' : Streams) (e e' : En
       let same = problems_one ss d those these b a in
       writes_one (problem_lines d.names these) held s s' e e' settled settled' h h' w (subst (λ ps. Writes (problem_lines d.names ps) s' e') same w')
 
-  plays_one : (ss : List NamedScript) (d : Deployment) → PlaysScripts depth ticks d ss s e → PlaysScripts depth ticks d ss s' e' → SameOutput s s' e e'
+  plays_one : (ss : List NamedScript) (d : Deployment) → PlaysScripts o d ss s e → PlaysScripts o d ss s' e' → SameOutput s s' e e'
   plays_one ss d (PlaysScripts.starves q) p' = absurd (subst IsSettled q.is_ending settled)
   plays_one ss d p (PlaysScripts.starves q) = absurd (subst IsSettled q.is_ending settled')
   plays_one ss d (PlaysScripts.refuses {problems = these} a some w) (PlaysScripts.refuses {problems = those} b some' w') = refused_one ss d these those a b w w'
   plays_one ss d (PlaysScripts.refuses {problems = these} a some w) (PlaysScripts.runs b t q l) = absurd (some (problems_one ss d these [] a b))
   plays_one ss d (PlaysScripts.runs a t q l) (PlaysScripts.refuses {problems = those} b some w') = absurd (some (problems_one ss d those [] b a))
   plays_one ss d (PlaysScripts.runs {t = x} a t q l) (PlaysScripts.runs {t = y} b t' q' l') =
-      lives_one x y (legal_by ss) (one_by ss) (ap (λ (k : Deployment). k.names) (t.deployment_is ∙ sym t'.deployment_is)) (same_machine ss d x y t t') l l'
+      lives_one x y (legal_by o.order ss) (one_by o.order ss) (ap (λ (k : Deployment). k.names) (t.deployment_is ∙ sym t'.deployment_is)) (same_machine ss d x y t t') l l'
 
-  readied_one : (r : Result Readied (List ℕ)) → DrivesReadied depth ticks r s e → DrivesReadied depth ticks r s' e' → SameOutput s s' e e'
+  readied_one : (r : Result Readied (List ℕ)) → DrivesReadied o r s e → DrivesReadied o r s' e' → SameOutput s s' e e'
   readied_one (Err lines) w w' = writes_one lines held s s' e e' settled settled' h h' w w'
   readied_one (Ok r) p p' = plays_one (registered r.scripts) r.deployment p p'
 
-  drives_one : (bytes : List ℕ) → Drives depth ticks bytes s e → Drives depth ticks bytes s' e' → SameOutput s s' e e'
+  drives_one : (bytes : List ℕ) → Drives o bytes s e → Drives o bytes s' e' → SameOutput s s' e e'
   drives_one bytes (Drives.starves q) d' = absurd (subst IsSettled q.is_ending settled)
   drives_one bytes d (Drives.starves q) = absurd (subst IsSettled q.is_ending settled')
   drives_one bytes (Drives.drives d) (Drives.drives d') = readied_one (readied bytes) d d'
 
 pub one_output : OneOutput
-one_output depth ticks bytes input held s s' e e' settled settled' u u' h h' d d' = drives_one depth ticks input held s s' e e' settled settled' u u' h h' bytes d d'
+one_output o bytes input held s s' e e' settled settled' u u' h h' d d' = drives_one o input held s s' e e' settled settled' u u' h h' bytes d d'

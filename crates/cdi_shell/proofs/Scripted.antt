@@ -19,18 +19,19 @@ use Rattle.cdi_event_tables.specs.Ids.{is_named, told_of}
 use Rattle.cdi_run_tables.specs.Machine.{machine_tables}
 use Rattle.cdi_run_tables.specs.declared.tables.RunTables.{RunTables}
 use Rattle.cdi_container.specs.Accepted as container
-use Rattle.cdi_container.specs.Accepted.{IsAccepted, IsUnaccepted, serves}
+use Rattle.cdi_container.specs.Accepted.{IsAccepted, IsUnaccepted}
 use Rattle.cdi_container.specs.declared.acceptance.Unaccepted.{Unaccepted}
 use Rattle.cdi_container.specs.declared.acceptance.Unaccepted.TheVariants as reasons
-use Rattle.cdi_container.specs.Sessions.{AnswersLine}
+use Rattle.cdi_container.specs.Sessions.{AnswersLine, reply_in}
 use Rattle.cdi_container.specs.States.{before_start}
 use Rattle.cdi_prepare.specs.declared.scripts.NamedScript.{NamedScript}
 use Rattle.cdi_prepare.specs.Scripts.{place_under, shape_under}
 use Rattle.cdi_prepare.proofs.Holding.{AreBodiesOf, same_place, same_shape}
 use Rattle.cdi_report.specs.Reports.{AreProblemsWith, problem_lines}
-use Rattle.cdi_text.specs.ReplyText.{reply_line}
+use Rattle.cdi_settings.specs.Chosen.{chosen}
+use Rattle.cdi_settings.specs.declared.settings.Settings.{Settings}
 use Rattle.cdi_shell.specs.declared.ending.Ending.{Ending}
-use Rattle.cdi_shell.specs.Drive.{Streams, AreTablesWith, IsRefusable, IsServedWith, Lives, PlaysScripts, Refuses, RefusesOr, RefusesUnaccepted, legal_by}
+use Rattle.cdi_shell.specs.Drive.{Streams, AreTablesWith, IsRefusable, IsWellFormedWith, Lives, PlaysScripts, Refuses, RefusesOr, RefusesUnaccepted, legal_by}
 use Rattle.cdi_shell.proofs.Attended.{attended}
 use Rattle.cdi_shell.proofs.Holding.{within}
 use Rattle.cdi_shell.proofs.Lookups.{same_lookups}
@@ -38,8 +39,8 @@ use Rattle.cdi_shell.proofs.SoundScripts.{sound_scripts}
 use Rattle.cdi_shell.proofs.Wider.{answers_more, line_more}
 
 -- what is legal for the bodies is legal for their scripts
-lives_wider : (depth ticks : ℕ) (t : RunTables) (small large : Legal) (streams : Streams) (e : Ending) → IsWithin small large → Lives depth ticks t small streams e → Lives depth ticks t large streams e
-lives_wider depth ticks t small large streams e more l =
+lives_wider : (o : Settings) (t : RunTables) (small large : Legal) (streams : Streams) (e : Ending) → IsWithin small large → Lives o t small streams e → Lives o t large streams e
+lives_wider o t small large streams e more l =
     let names = t.deployment.names in
     let tables = machine_tables t in
     record {
@@ -47,9 +48,10 @@ lives_wider depth ticks t small large streams e more l =
       started = l.started;
       ended = l.ended;
       result = l.result;
-      boots = answers_more names tables small large more (before_start ticks depth) Command.Boot l.reply l.started l.boots;
-      served = attended (AnswersLine names tables small (Unit {0})) (AnswersLine names tables large (Unit {0})) (λ s. s) (λ s. Unit {0}) (λ s line text u k h. tt) (λ s line text u k h. line_more names tables small large more s line text u h)
-          16777216 (reply_line names l.reply) l.started l.ended streams.unread streams.unread_after streams.held streams.held_after tt l.result l.served;
+      boots = answers_more names tables small large more (before_start o.limits.ticks o.limits.depth) Command.Boot l.reply l.started l.boots;
+      served = attended (AnswersLine o.shows_trace names tables small (Unit {0})) (AnswersLine o.shows_trace names tables large (Unit {0})) (λ s. s) (λ s. Unit {0}) (λ s line text u k h. tt)
+          (λ s line text u k h. line_more names tables small large more o.shows_trace s line text u h)
+          16777216 (reply_in names o.shows_trace l.reply l.started) l.started l.ended streams.unread streams.unread_after streams.held streams.held_after tt l.result l.served;
       is_ending = l.is_ending;
     }
 
@@ -72,24 +74,24 @@ module _ {X : Type 0} {F : X → Type 0} {g : _} (d : Deployment) (es : List (En
         lookups = a.lookups ∙ same_lookups es ss h;
       }
 
-  -- a deployment that is served isn't told to be unserved
-  pub refusable : IsServedWith ss d → (u : OrMemory Unaccepted) → IsUnaccepted d es u → IsRefusable u
-  refusable served (errors.Fault (reasons.Problems names problems)) told = tt
-  refusable served (errors.Fault reasons.Unserved) told = cc (served told.tables (tables_with told.tables told.are), told.unserved)
-  refusable served errors.Memory told = tt
+  -- a deployment that is as one that was read isn't told to be malformed
+  pub refusable : IsWellFormedWith ss d → (u : OrMemory Unaccepted) → IsUnaccepted d es u → IsRefusable u
+  refusable formed (errors.Fault (reasons.Problems names problems)) told = tt
+  refusable formed (errors.Fault reasons.Malformed) told = cc (formed told.tables (tables_with told.tables told.are), told.malformed)
+  refusable formed errors.Memory told = tt
 
-module _ {X : Type 0} {F : X → Type 0} {g : _} (depth ticks : ℕ) (d : Deployment) (es : List (Entry X F g)) (ss : List NamedScript) (streams : Streams) (e : Ending) (h : AreBodiesOf es ss) where
-  pub accepted_plays : {Y : Type 0} {G : Y → Type 0} {k : _} (chooser : Chooser Y G k) (t : RunTables) → ((candidates count i : ℕ) → picks chooser candidates count i → i ≡ 0) → IsServedWith ss d → IsAccepted d es t → Lives depth ticks t (chosen_by es chooser) streams e → PlaysScripts depth ticks d ss streams e
-  accepted_plays chooser t first served a l =
+module _ {X : Type 0} {F : X → Type 0} {g : _} (o : Settings) (d : Deployment) (es : List (Entry X F g)) (ss : List NamedScript) (streams : Streams) (e : Ending) (h : AreBodiesOf es ss) where
+  pub accepted_plays : {Y : Type 0} {G : Y → Type 0} {k : _} (chooser : Chooser Y G k) (t : RunTables) → ((candidates count i : ℕ) → picks chooser candidates count i → i ≡ chosen o.order candidates) → IsWellFormedWith ss d → IsAccepted d es t → Lives o t (chosen_by es chooser) streams e → PlaysScripts o d ss streams e
+  accepted_plays chooser t first formed a l =
       let none = problems_with d es ss h [] a.are.faultless in
       let tables = tables_with d es ss h t a.are in
-      PlaysScripts.runs none tables (sound_scripts ss d t none tables served)
-      (lives_wider depth ticks t (chosen_by es chooser) (legal_by ss) streams e (within chooser es ss first h) l)
+      PlaysScripts.runs none tables (sound_scripts o.order ss d t none tables formed)
+      (lives_wider o t (chosen_by es chooser) (legal_by o.order ss) streams e (within o.order chooser es ss first h) l)
 
-  pub refused_plays : (u : OrMemory Unaccepted) → IsUnaccepted d es u → streams.unread_after ≡ streams.unread → RefusesUnaccepted u streams.held streams.held_after e → PlaysScripts depth ticks d ss streams e
+  pub refused_plays : (u : OrMemory Unaccepted) → IsUnaccepted d es u → streams.unread_after ≡ streams.unread → RefusesUnaccepted u streams.held streams.held_after e → PlaysScripts o d ss streams e
   refused_plays (errors.Fault (reasons.Problems names problems)) (named, are, some) unread (RefusesOr.starves held is) = PlaysScripts.starves (record { unread = unread; held = held; is_ending = is })
   refused_plays (errors.Fault (reasons.Problems names problems)) (named, are, some) unread (RefusesOr.refuses w) =
       PlaysScripts.refuses (problems_with d es ss h problems are) some
       (record { unread = unread; refuses = subst (λ (ns : List (List ℕ)). Refuses (problem_lines ns problems) streams.held streams.held_after e) named w })
-  refused_plays (errors.Fault reasons.Unserved) u unread w = absurd w
+  refused_plays (errors.Fault reasons.Malformed) u unread w = absurd w
   refused_plays errors.Memory told unread (held, is) = PlaysScripts.starves (record { unread = unread; held = held; is_ending = is })

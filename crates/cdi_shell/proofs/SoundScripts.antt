@@ -13,26 +13,27 @@ use Rattle.cdi_machine.specs.Registered.{legal_of}
 use Rattle.cdi_ledger.specs.Callbacks.{FirstsStandOnce, PlacesOfBodiesAreApart}
 use Rattle.cdi_event_tables.specs.Ids.{is_named, told_of}
 use Rattle.cdi_run_tables.specs.Machine.{AreIdsOf, machine_tables}
-use Rattle.cdi_served.proofs.Parts.{parts_of}
+use Rattle.cdi_run_tables.proofs.WellFormed.{parts_of}
 use Rattle.cdi_run_tables.specs.declared.tables.RunTables.{RunTables}
 use Rattle.cdi_site_fit.proofs.Farewells.{farewells_apart}
 use Rattle.cdi_site_fit.proofs.Whole.{whole_fits}
 use Rattle.cdi_site_fit.specs.Accepted.{IsFaultless}
-use Rattle.cdi_container.proofs.Faultless.{none_in, texts_served}
+use Rattle.cdi_container.proofs.Faultless.{none_in}
 use Rattle.cdi_container.proofs.Sound.{sound}
 use Rattle.cdi_container.specs.Sound.{IsSound}
 use Rattle.cdi_prepare.specs.declared.scripts.NamedScript.{NamedScript}
 use Rattle.cdi_prepare.specs.Scripts.{place_under, shape_under}
 use Rattle.cdi_prepare.proofs.Holding.{same_place, same_shape}
 use Rattle.cdi_report.specs.Reports.{AreProblemsWith}
-use Rattle.cdi_shell.specs.Drive.{AreTablesWith, IsServedWith, legal_by}
+use Rattle.cdi_settings.specs.declared.settings.Order.{Order}
+use Rattle.cdi_shell.specs.Drive.{AreTablesWith, IsWellFormedWith, legal_by}
 use Rattle.cdi_shell.proofs.LessLegal.{fits_less}
 use Rattle.cdi_shell.proofs.Lookups.{same_lookups}
 use Rattle.cdi_shell.proofs.StandIns.{are_bodies, gives_next, lie_in_shape, stand_ins}
 
 -- ---- scripts
 
-module _ (ss : List NamedScript) (d : Deployment) (t : RunTables) (none : AreProblemsWith ss d []) (are : AreTablesWith ss d t) (served : IsServedWith ss d) where
+module _ (order : Order) (ss : List NamedScript) (d : Deployment) (t : RunTables) (none : AreProblemsWith ss d []) (are : AreTablesWith ss d t) (formed : IsWellFormedWith ss d) where
   shapes_are : shape_of (stand_ins ss) ≡ shape_under ss
   shapes_are = λ i name. same_shape (stand_ins ss) ss name (are_bodies ss) i
 
@@ -59,10 +60,10 @@ module _ (ss : List NamedScript) (d : Deployment) (t : RunTables) (none : ArePro
 
   faultless : IsFaultless (stand_ins ss) t
   faultless =
-      record { tabled = are.tabled; ids = ids_are; lookups = lookups_are; texts = texts_served t (parts_of t (served t are)).served; problems = problems }
+      record { tabled = are.tabled; ids = ids_are; lookups = lookups_are; texts = (parts_of t (formed t are)).texts; problems = problems }
 
-  pub sound_scripts : IsSound t (legal_by ss)
+  pub sound_scripts : IsSound t (legal_by order ss)
   sound_scripts =
       let T = machine_tables t in
       let apart : PlacesOfBodiesAreApart T × FirstsStandOnce T = farewells_apart (stand_ins ss) t faultless in
-      sound t (legal_by ss) (fits_less T (legal_of (stand_ins ss)) (legal_by ss) (gives_next ss) (whole_fits (stand_ins ss) (lie_in_shape ss) t faultless)) apart.0 apart.1
+      sound t (legal_by order ss) (fits_less T (legal_of (stand_ins ss)) (legal_by order ss) (gives_next order ss) (whole_fits (stand_ins ss) (lie_in_shape ss) t faultless)) apart.0 apart.1

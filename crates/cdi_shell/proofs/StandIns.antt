@@ -16,6 +16,7 @@ use Rattle.cdi_script.specs.declared.step.Step.{Step}
 use Rattle.cdi_script.specs.Listed.{shape_of}
 use Rattle.cdi_script.specs.Next.{next_of}
 use Rattle.cdi_script.proofs.Within.{next_of-in_shape}
+use Rattle.cdi_settings.specs.declared.settings.Order.{Order}
 use Rattle.cdi_shell.specs.Drive.{legal_by}
 use denote.Param.Members.{Shared, fn_of}
 use denote.RawPtr.{null_ptr}
@@ -68,10 +69,10 @@ lie_in_shape (s ∷ ss) zero fields view act h = stays_within s.script fields vi
 lie_in_shape (s ∷ ss) (suc id) fields view act h = lie_in_shape ss id fields view act h
 
 -- what a script does next its entry may give
-pub gives_next : (ss : List NamedScript) (id count : ℕ) (fields : Fields) (view : View) (act : Act) → (legal_by ss).gives id count fields view act → gives (stand_ins ss) id fields view act
+pub gives_next : (order : Order) (ss : List NamedScript) (id count : ℕ) (fields : Fields) (view : View) (act : Act) → (legal_by order ss).gives id count fields view act → gives (stand_ins ss) id fields view act
 unfolding stand_ins stand_in
-gives_next [] id count fields view act h = absurd h
-gives_next (s ∷ ss) zero count fields view act h =
+gives_next order [] id count fields view act h = absurd h
+gives_next order (s ∷ ss) zero count fields view act h =
     record {
       shown_fields = record { ref_ptr = (0, 0); now = fields };
       shown_view = record { ref_ptr = (0, 0); now = view };
@@ -79,4 +80,4 @@ gives_next (s ∷ ss) zero count fields view act h =
       is_view = refl;
       given = h;
     }
-gives_next (s ∷ ss) (suc id) count fields view act h = gives_next ss id count fields view act h
+gives_next order (s ∷ ss) (suc id) count fields view act h = gives_next order ss id count fields view act h

@@ -74,7 +74,7 @@ module _ (ss : List NamedScript) (d : Deployment) (t u : RunTables) (a : AreTabl
   pub same_machine : machine_tables t ≡ machine_tables u
   same_machine =
       λ i. record {
-        bean = λ n. option_and_then (machine_bean (same_ids i) (same_tables i).resolver.beans) (slice_get (same_beans i) n);
+        bean = λ n. option_and_then (machine_bean (same_ids i) (same_tables i).resolver.beans) (if is_enabled (same_tables i).resolver.flags n then slice_get (same_beans i) n else None);
         interceptor = same_interceptors i;
         resolve = λ asked. machine_resolution (resolution asked.type (full_uses (same_tables i).declared.qualifiers asked.qualifiers) (enabled_of (same_tables i).resolver));
         written = written_uses (same_deployment i).names (same_tables i).declared.qualifiers;

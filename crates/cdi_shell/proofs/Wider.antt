@@ -1,5 +1,5 @@
 -- What a container answers stays an answer if more is legal.
-use Rattle.std.proofs.Common.{ℕ, List}
+use Rattle.std.proofs.Common.{ℕ, Bool, List}
 use Rattle.std.specs.Prelude.{Result, Ok, Err}
 use Rattle.cdi_base.specs.declared.command.Command.{Command as Read}
 use Rattle.cdi_base.specs.declared.reply.Cause.TheVariants as causes
@@ -36,5 +36,5 @@ module _ (names : List (List ℕ)) (tables : Tables) (small large : Legal) (more
   read_more (Ok command) s reply t h = answers_more s (machine_command names command) reply t h
   read_more (Err bad) s reply t h = h
 
-  pub line_more : (s : ContainerState) (line text : List ℕ) (t : ContainerState) → AnswersLine names tables small (Unit {0}) s line text t → AnswersLine names tables large (Unit {0}) s line text t
-  line_more s line text t (reply, h, is) = (reply, read_more (command_in line) s reply t h, is)
+  pub line_more : (shows : Bool) (s : ContainerState) (line text : List ℕ) (t : ContainerState) → AnswersLine shows names tables small (Unit {0}) s line text t → AnswersLine shows names tables large (Unit {0}) s line text t
+  line_more shows s line text t (reply, h, is) = (reply, read_more (command_in line) s reply t h, is)

@@ -4,7 +4,10 @@ use Rattle.std.specs.HashMap.{get}
 use Rattle.cdi_base.specs.declared.or_memory.OrMemory.{OrMemory}
 use Rattle.cdi_base.specs.declared.or_memory.OrMemory.TheVariants as errors
 use Rattle.cdi_base.specs.declared.reply.Reply.{Reply}
-use Rattle.cdi_stage.specs.Stage.{served}
+use Rattle.cdi_settings.specs.Chosen.{chosen}
+use Rattle.cdi_settings.specs.declared.settings.Order.{Order}
+use Rattle.cdi_settings.specs.declared.settings.Settings.{Settings}
+use Rattle.cdi_stage.specs.Stage.{whole}
 use Rattle.cdi_bodies.specs.declared.shape.Lookup.{Lookup}
 use Rattle.cdi_body_check.specs.Sites.{sites_of}
 use Rattle.cdi_deployment.specs.declared.deployment.Deployment.{Deployment}
@@ -16,10 +19,10 @@ use Rattle.cdi_run_tables.specs.Planned.{IsTabled}
 use Rattle.cdi_run_tables.specs.declared.tables.RunTables.{RunTables}
 use Rattle.cdi_script.specs.Listed.{shape_of}
 use Rattle.cdi_script.specs.Next.{next_of}
-use Rattle.cdi_container.specs.Accepted.{serves}
+use Rattle.cdi_container.specs.Accepted.{is_well_formed}
 use Rattle.cdi_container.specs.declared.acceptance.Unaccepted.{Unaccepted}
 use Rattle.cdi_container.specs.declared.acceptance.Unaccepted.TheVariants as reasons
-use Rattle.cdi_container.specs.Sessions.{AnswersLine, Served}
+use Rattle.cdi_container.specs.Sessions.{AnswersLine, Served, reply_in}
 use Rattle.cdi_container.specs.Sound.{IsSound}
 use Rattle.cdi_container.specs.States.{ContainerState, Boots}
 use Rattle.cdi_shell.specs.declared.ending.Ending.{Ending}
@@ -31,19 +34,19 @@ use Rattle.cdi_prepare.specs.Scripts.{registered, place_under, shape_under}
 use Rattle.cdi_report.specs.Reports.{AreProblemsWith, problem_lines}
 use Rattle.cdi_shell.specs.Endings.{after_serving, after_refusal, starved}
 use Rattle.cdi_lines.specs.Ends.{WritesAll}
-use Rattle.cdi_text.specs.ReplyText.{reply_line}
 
--- the deployment that bytes are with its scripts, as it is served now, or the line of its first fault
+-- the deployment that bytes are with its scripts, or the line of its first fault
 abbrev pub readied : List ℕ → Result Readied (List ℕ)
-readied bytes = readied_at served bytes
+readied bytes = readied_at whole bytes
 
--- a body does what its script does next, and the first of several candidates is picked: one act and one pick is legal
-abbrev pub legal_by : List NamedScript → Legal
-legal_by scripts =
+-- A body does what its script does next, and of several candidates the first is picked, or the last: one act and one pick is
+-- legal.
+abbrev pub legal_by : Order → List NamedScript → Legal
+legal_by order scripts =
     record {
       gives = λ id count fields view act.
           MatchOption (slice_get scripts id) ⊥ (λ s. act ≡ next_of s.script fields view);
-      picks = λ candidates count choice. choice ≡ 0;
+      picks = λ candidates count choice. choice ≡ chosen order candidates;
     }
 
 -- ---- the run
@@ -73,17 +76,18 @@ pub record IsSilent (streams : Streams) (ending : Ending) : Type 0 where
   pub held : streams.held_after ≡ streams.held
   pub is_ending : ending ≡ starved
 
--- The container of these tables, which takes so many levels and entries, is started and served: the lines written are
--- those of a run of the machine for the lines read, in which all that happens is legal.
-pub record Lives (depth ticks : ℕ) (t : RunTables) (legal : Legal) (streams : Streams)
+-- The container of these tables, with these settings, is started and served: the lines written are those of a run of the
+-- machine for the lines read, in which all that happens is legal.
+pub record Lives (o : Settings) (t : RunTables) (legal : Legal) (streams : Streams)
     (ending : Ending) : Type 0 where
   pub reply : Reply
   pub started : ContainerState
   pub ended : ContainerState
   pub result : Result (Unit {0}) ServeFault
-  pub boots : Boots (machine_tables t) legal (Unit {0}) ticks depth reply started
-  pub served : Served 16777216 (AnswersLine t.deployment.names (machine_tables t) legal (Unit {0}))
-      (reply_line t.deployment.names reply) started ended
+  pub boots : Boots (machine_tables t) legal (Unit {0}) o.limits.ticks o.limits.depth reply started
+  pub served : Served 16777216
+      (AnswersLine o.shows_trace t.deployment.names (machine_tables t) legal (Unit {0}))
+      (reply_in t.deployment.names o.shows_trace reply started) started ended
       streams.unread streams.unread_after streams.held streams.held_after result
   pub is_ending : ending ≡ after_serving result ended.halted
 
@@ -100,36 +104,36 @@ pub record AreTablesWith (scripts : List NamedScript) (d : Deployment) (t : RunT
       (name : ℕ) → get nat_eq t.ids.ids name ≡ told_of (place_under scripts) (sites_of d) name
   pub lookups : t.lookups ≡ lookups_by scripts
 
--- all tables of the deployment are served with these scripts as bodies
-abbrev pub IsServedWith : List NamedScript → Deployment → Type 0
-IsServedWith scripts d =
-    (t : RunTables) → AreTablesWith scripts d t → serves t ≡ true
+-- what a container takes for granted holds of all tables of the deployment
+abbrev pub IsWellFormedWith : List NamedScript → Deployment → Type 0
+IsWellFormedWith scripts d =
+    (t : RunTables) → AreTablesWith scripts d t → is_well_formed t ≡ true
 
 -- A deployment whose bodies are these scripts is run: its problems are written or, if it has none, its container lives, and
 -- whatever it is asked, its runs are sound.
-pub data PlaysScripts (depth ticks : ℕ) (d : Deployment) (scripts : List NamedScript)
+pub data PlaysScripts (o : Settings) (d : Deployment) (scripts : List NamedScript)
     (streams : Streams) (ending : Ending) : Type 0 where
-  starves : IsSilent streams ending → PlaysScripts depth ticks d scripts streams ending
+  starves : IsSilent streams ending → PlaysScripts o d scripts streams ending
   refuses : {problems : List Problem} → AreProblemsWith scripts d problems → problems ≢ []
       → Writes (problem_lines d.names problems) streams ending
-      → PlaysScripts depth ticks d scripts streams ending
+      → PlaysScripts o d scripts streams ending
   runs : {t : RunTables} → AreProblemsWith scripts d [] → AreTablesWith scripts d t
-      → IsSound t (legal_by scripts)
-      → Lives depth ticks t (legal_by scripts) streams ending
-      → PlaysScripts depth ticks d scripts streams ending
+      → IsSound t (legal_by o.order scripts)
+      → Lives o t (legal_by o.order scripts) streams ending
+      → PlaysScripts o d scripts streams ending
 
 -- what was made ready is run
-abbrev pub DrivesReadied : ℕ → ℕ → Result Readied (List ℕ) → Streams → Ending → Type 0
-DrivesReadied depth ticks (Err lines) streams ending = Writes lines streams ending
-DrivesReadied depth ticks (Ok r) streams ending =
-    PlaysScripts depth ticks r.deployment (registered r.scripts) streams ending
+abbrev pub DrivesReadied : Settings → Result Readied (List ℕ) → Streams → Ending → Type 0
+DrivesReadied o (Err lines) streams ending = Writes lines streams ending
+DrivesReadied o (Ok r) streams ending =
+    PlaysScripts o r.deployment (registered r.scripts) streams ending
 
 -- the program is run on the bytes of a deployment
-pub data Drives (depth ticks : ℕ) (bytes : List ℕ) (streams : Streams) (ending : Ending)
+pub data Drives (o : Settings) (bytes : List ℕ) (streams : Streams) (ending : Ending)
     : Type 0 where
-  starves : IsSilent streams ending → Drives depth ticks bytes streams ending
-  drives : DrivesReadied depth ticks (readied bytes) streams ending
-      → Drives depth ticks bytes streams ending
+  starves : IsSilent streams ending → Drives o bytes streams ending
+  drives : DrivesReadied o (readied bytes) streams ending
+      → Drives o bytes streams ending
 
 -- ---- parts of a run, for private clauses
 
@@ -141,7 +145,7 @@ pub data RefusesOr (lines : List ℕ) (held held_after : Option (List ℕ)) (end
 
 -- it isn't accepted for its problems or for want of memory
 abbrev pub IsRefusable : OrMemory Unaccepted → Type 0
-IsRefusable (errors.Fault reasons.Unserved) = ⊥
+IsRefusable (errors.Fault reasons.Malformed) = ⊥
 IsRefusable unaccepted = Unit {0}
 
 -- the problems of a deployment that isn't accepted are written, or memory ran out
@@ -149,5 +153,5 @@ abbrev pub RefusesUnaccepted : OrMemory Unaccepted → Option (List ℕ) → Opt
     → Type 0
 RefusesUnaccepted (errors.Fault (reasons.Problems names problems)) held held_after ending =
     RefusesOr (problem_lines names problems) held held_after ending
-RefusesUnaccepted (errors.Fault reasons.Unserved) held held_after ending = ⊥
+RefusesUnaccepted (errors.Fault reasons.Malformed) held held_after ending = ⊥
 RefusesUnaccepted errors.Memory held held_after ending = (held_after ≡ held) × (ending ≡ starved)

@@ -1,5 +1,5 @@
 -- The exceptions that a container of a deployment which was read replies are told by names, and none by the empty text.
-use Rattle.std.specs.Prelude.{ℕ, ◌≡◌, List, [], IsTrue, IfOk}
+use Rattle.std.specs.Prelude.{ℕ, ◌≡◌, Bool, List, [], IsTrue, IfOk}
 use Rattle.cdi_base.specs.declared.reply.Reply.{Reply}
 use Rattle.cdi_base.specs.declared.reply.Reply.TheVariants as replies
 use Rattle.cdi_base.specs.Name.{is_name}
@@ -15,10 +15,10 @@ use Rattle.cdi_run_tables.specs.Machine.{machine_tables}
 use Rattle.cdi_run_tables.specs.declared.tables.RunTables.{RunTables}
 use Rattle.cdi_text.specs.Command.{command_in}
 use Rattle.cdi_problems.specs.Places.{name_text}
-use Rattle.cdi_text.specs.ReplyText.{reply_line}
+use Rattle.cdi_settings.specs.declared.settings.Settings.{Settings}
 use Rattle.cdi_container.specs.Accepted.{IsAccepted}
 use Rattle.cdi_container.specs.History.{History}
-use Rattle.cdi_container.specs.Sessions.{AnswersRead, Served}
+use Rattle.cdi_container.specs.Sessions.{AnswersRead, Served, reply_in}
 use Rattle.cdi_container.specs.States.{ContainerState, AnswersCommand}
 use Rattle.cdi_shell.specs.declared.ending.Ending.{Ending}
 use Rattle.cdi_shell.specs.Drive.{AreTablesWith, Lives, Streams, legal_by, readied}
@@ -45,19 +45,19 @@ TellsTrueNames entries =
 
 -- ---- the lines of a run
 
--- a line is answered by the line of a reply, and this tells its exception, if it has one, by a name
-abbrev pub AnswersByName : List (List ℕ) → Tables → Legal → ContainerState → List ℕ → List ℕ → ContainerState → Type 0
-AnswersByName names tables legal s line text t =
+-- a line is answered by a reply, and this tells its exception, if it has one, by a name
+abbrev pub AnswersByName : Bool → List (List ℕ) → Tables → Legal → ContainerState → List ℕ → List ℕ → ContainerState → Type 0
+AnswersByName shows names tables legal s line text t =
     (reply : Reply) × AnswersRead names tables legal (Unit {0}) (command_in line) s reply t
-    × (text ≡ reply_line names reply) × TellsTrueName names reply
+    × (text ≡ reply_in names shows reply t) × TellsTrueName names reply
 
 -- a container lives in a run, and all its lines tell their exceptions by names
-pub record LivesByNames (depth ticks : ℕ) (t : RunTables) (legal : Legal) (streams : Streams)
+pub record LivesByNames (o : Settings) (t : RunTables) (legal : Legal) (streams : Streams)
     (ending : Ending) : Type 0 where
-  pub lives : Lives depth ticks t legal streams ending
+  pub lives : Lives o t legal streams ending
   pub start : TellsTrueName t.deployment.names lives.reply
-  pub served : Served 16777216 (AnswersByName t.deployment.names (machine_tables t) legal)
-      (reply_line t.deployment.names lives.reply) lives.started lives.ended
+  pub served : Served 16777216 (AnswersByName o.shows_trace t.deployment.names (machine_tables t) legal)
+      (reply_in t.deployment.names o.shows_trace lives.reply lives.started) lives.started lives.ended
       streams.unread streams.unread_after streams.held streams.held_after lives.result
 
 -- Whatever run of the program there is on the bytes of a deployment: if its container lives, it does so by names.
@@ -66,6 +66,6 @@ LinesTellTrueNames =
     (bytes : List ℕ) → IfOk (readied bytes) (λ r.
     (t : RunTables) → AreProblemsWith (registered r.scripts) r.deployment []
     → AreTablesWith (registered r.scripts) r.deployment t
-    → (depth ticks : ℕ) (streams : Streams) (ending : Ending)
-    → Lives depth ticks t (legal_by (registered r.scripts)) streams ending
-    → LivesByNames depth ticks t (legal_by (registered r.scripts)) streams ending)
+    → (o : Settings) (streams : Streams) (ending : Ending)
+    → Lives o t (legal_by o.order (registered r.scripts)) streams ending
+    → LivesByNames o t (legal_by o.order (registered r.scripts)) streams ending)

@@ -6,22 +6,24 @@ ghost use Rattle.cdi_run_tables.specs.Machine.{machine_tables};
 ghost use Rattle.cdi_runtime.specs.Standing.{IsServable};
 ghost use Rattle.cdi_steps.specs.Driving.{Drives as Runs};
 ghost use Rattle.cdi_script.specs.Next.{next_of};
+ghost use Rattle.cdi_settings.specs.Chosen.{chosen};
 ghost use Rattle.cdi_shell.specs.Drive as spec;
 ghost use Rattle.cdi_lines.specs.Served.{Blames};
 ghost use Rattle.cdi_shell.specs.Endings.{outcome_of};
 ghost use Rattle.cdi_shell.specs.Laws.{DrivesOnce};
 
 use crate::ending::{Ending, after_serving};
-use cdi_base::{Act, Fields, Limits, Names, OrMemory};
+use cdi_base::{Act, Fields, Names, OrMemory};
 use cdi_bodies::{AddError, Bodies, Body, Choice, Chooser, MAX_BODIES, View};
-use cdi_container::{Container, Unaccepted, accept, serve};
+use cdi_container::{Container, Session, Unaccepted, accept};
 use cdi_lines::{ServeFault, Sink, Source};
 use cdi_machine::{Driver, Registered};
 use cdi_prepare::{NamedScript, Prepared, prepare};
 use cdi_problems::Problem;
 use cdi_report::problem_lines::write_problems;
 use cdi_run_tables::RunTables;
-use cdi_stage::SERVED;
+use cdi_settings::Settings;
+use cdi_stage::WHOLE;
 use std::alloc::{AllocError, Global};
 
 /// Memory ran out where no container was served.
@@ -88,7 +90,7 @@ fn refuse_unaccepted<W: Sink>(
         OrMemory::Fault(Unaccepted::Problems { names, problems }) => {
             refuse_problems(alloc, &names, problems.as_slice(), output)
         }
-        OrMemory::Fault(Unaccepted::Unserved) => unreachable!(),
+        OrMemory::Fault(Unaccepted::Malformed) => unreachable!(),
         OrMemory::Memory => STARVED,
     }
 }
@@ -98,13 +100,13 @@ fn live<R: Source, W: Sink, D: Driver + Drop>(
     alloc: Global,
     tables: RunTables,
     driver: D,
-    limits: Limits,
+    settings: Settings,
     input: &mut R,
     output: &mut W,
 ) -> Ending
     requires drives { Runs (machine_tables tables) (D.knows driver) }
     requires servable { IsServable tables }
-    ensures lives { spec.Lives limits.depth limits.ticks tables (D.legal driver)
+    ensures lives { spec.Lives settings tables (D.legal driver)
         (record {
           unread = R.unread input.old;
           unread_after = R.unread input.new;
@@ -116,22 +118,23 @@ fn live<R: Source, W: Sink, D: Driver + Drop>(
         (R.has_failed input.old) (R.has_failed input.new)
         (W.has_failed output.old) (W.has_failed output.new) }
 {
-    let mut container = Container::start(alloc, tables, driver, limits);
-    let served = serve(alloc, input, output, &mut container);
-    after_serving(served, container.halted())
+    let container = Container::start(alloc, tables, driver, settings.limits);
+    let mut session = Session::new(container, settings.shows_trace);
+    let served = session.serve(alloc, input, output);
+    after_serving(served, session.container().halted())
 }
 
 /// Registers the scripts of a deployment as bodies, each under its name unless that is taken, and runs it.
 fn play_scripts<R: Source, W: Sink>(
     alloc: Global,
     prepared: Prepared,
-    limits: Limits,
+    settings: Settings,
     input: &mut R,
     output: &mut W,
 ) -> Result<Ending, AllocError>
     requires few { length prepared.scripts.items ≤ MAX_BODIES }
-    requires served { spec.IsServedWith (registered prepared.scripts.items) prepared.deployment }
-    ensures plays { IfOk result (spec.PlaysScripts limits.depth limits.ticks
+    requires formed { spec.IsWellFormedWith (registered prepared.scripts.items) prepared.deployment }
+    ensures plays { IfOk result (spec.PlaysScripts settings
         prepared.deployment (registered prepared.scripts.items)
         (record {
           unread = R.unread input.old;
@@ -172,15 +175,16 @@ fn play_scripts<R: Source, W: Sink>(
     }
     match accept(alloc, deployment, &bodies) {
         Ok(tables) => {
-            let first: Choice = Box::new(
+            let order = settings.order;
+            let choice: Choice = Box::new(
                 alloc,
-                |_count: u32, _entries: u64| -> u32
-                    ensures { result ≡ 0 }
-                { 0 },
+                move |count: u32, _entries: u64| -> u32
+                    ensures { result ≡ chosen order count }
+                { order.choose(count) },
             )?;
-            let chooser = Chooser::new(first);
+            let chooser = Chooser::new(choice);
             let driver = Registered { bodies, chooser };
-            Ok(live(alloc, tables, driver, limits, input, output))
+            Ok(live(alloc, tables, driver, settings, input, output))
         }
         Err(unaccepted) => Ok(refuse_unaccepted(alloc, unaccepted, output)),
     }
@@ -190,11 +194,11 @@ fn play_scripts<R: Source, W: Sink>(
 fn run<R: Source, W: Sink>(
     alloc: Global,
     deployment: &[u8],
-    limits: Limits,
+    settings: Settings,
     input: &mut R,
     output: &mut W,
 ) -> Ending
-    ensures drives { spec.Drives limits.depth limits.ticks deployment.now
+    ensures drives { spec.Drives settings deployment.now
         (record {
           unread = R.unread input.old;
           unread_after = R.unread input.new;
@@ -206,8 +210,8 @@ fn run<R: Source, W: Sink>(
         (R.has_failed input.old) (R.has_failed input.new)
         (W.has_failed output.old) (W.has_failed output.new) }
 {
-    match prepare(alloc, SERVED, deployment) {
-        Ok(prepared) => match play_scripts(alloc, prepared, limits, input, output) {
+    match prepare(alloc, WHOLE, deployment) {
+        Ok(prepared) => match play_scripts(alloc, prepared, settings, input, output) {
             Ok(ending) => ending,
             Err(_) => STARVED,
         },
@@ -220,19 +224,19 @@ fn run<R: Source, W: Sink>(
 ///
 /// A refused deployment is told by its first fault, by the first of its scripts that is bad, or by its problems, each on
 /// a line. Otherwise the scripts are the bodies, the container is started and its command lines are answered, as
-/// [`serve`] does: the lines that stand written are those of a run of the machine for the lines that were read, in which
+/// [`Session::serve`] does: the lines that stand written are those of a run of the machine for the lines that were read, in which
 /// each body does what its script does next. Where no read or write fails and memory does not run out, they are a
-/// function of the limits, the deployment and the input, also where that is too long. All is passed on before each read,
+/// function of the settings, the deployment and the input, also where that is too long. All is passed on before each read,
 /// and where the run ends without a fault. A read, a write or a flush that fails is never passed over: the run ends then
 /// with a fault, whose status is 3.
 pub fn drive<R: Source, W: Sink>(
     alloc: Global,
     deployment: &[u8],
-    limits: Limits,
+    settings: Settings,
     input: &mut R,
     output: &mut W,
 ) -> Ending
-    ensures { DrivesOnce limits.depth limits.ticks deployment.now
+    ensures { DrivesOnce settings deployment.now
         (record {
           unread = R.unread input.old;
           unread_after = R.unread input.new;
@@ -242,5 +246,5 @@ pub fn drive<R: Source, W: Sink>(
         (R.has_failed input.old) (R.has_failed input.new)
         (W.has_failed output.old) (W.has_failed output.new) (W.is_passed_on output.new) result }
 {
-    run(alloc, deployment, limits, input, output)
+    run(alloc, deployment, settings, input, output)
 }

@@ -8,7 +8,7 @@ use cdi_bodies::Bodies;
 use cdi_container::laws as container;
 use cdi_serving::laws as serving;
 
-/// Where no read or write fails and memory does not run out, what the program writes is a function of its limits, of the
+/// Where no read or write fails and memory does not run out, what the program writes is a function of its settings, of the
 /// bytes of the deployment and of the bytes of the input, and so is how it ends. That holds of an input that is too long,
 /// too.
 pub fn law_one_output()

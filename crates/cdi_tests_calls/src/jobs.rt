@@ -6,7 +6,9 @@
 //! | `boot`, `shutdown` | the job | how it ended: `gave` a value, `threw` an exception, or `cut by` a cause |
 //! | `call TYPE METHOD ARG..` | the job: a call of the bean with a type, with numbers | the same |
 //! | `in REQUEST call TYPE METHOD ARG..` | the same in a request | the same |
-//! | `begin REQUEST`, `begin REQUEST SESSION`, `end REQUEST`, `invalidate SESSION` | the job | the same, or why it is refused |
+//! | `read TYPE`, `in REQUEST read TYPE` | the job: the value of the product with a type is read | the same, or why it is refused |
+//! | `fire CLASS VALUE`, `in REQUEST fire CLASS VALUE` | the job: an event of a class with a number | the same |
+//! | `begin REQUEST`, `begin REQUEST SESSION`, `end REQUEST`, `invalidate SESSION` | the job | the same |
 //! | `again COUNT JOB` | the job so many times | how the last of them ended |
 //! | `turns MOST JOB` | the job in turns of so many entries | how many entries it had after each turn, and how it ended |
 //! | `entries` | the entries of the last job | each with a semicolon after it |
@@ -27,7 +29,7 @@ use cdi_host::Contents;
 use cdi_machine::{Driver, Failure};
 use cdi_runtime::Runtime;
 use cdi_steps::task::Task;
-use cdi_steps::{BeanCall, Completion, Given, Job, Outcome};
+use cdi_steps::{BeanPurpose, BeanUse, Completion, Event, Given, Job, Outcome};
 use cdi_tests_player::Ledger;
 use cdi_world::World;
 use std::alloc::{AllocError, Global};
@@ -60,26 +62,58 @@ fn values_of(alloc: Global, words: &[&str]) -> Result<Seq<Value>, AllocError> {
     Ok(values)
 }
 
-fn call_of(
+/// What is done with the bean with a type.
+fn use_of(
     alloc: Global,
     names: &Names,
-    request: Option<&str>,
+    request: Option<Text>,
     bean_type: &str,
-    method: &str,
-    args: &[&str],
+    purpose: BeanPurpose,
 ) -> Result<Job, AllocError> {
-    let call = BeanCall {
+    let used = BeanUse {
         bean_type: names.name_for(bean_type),
         qualifiers: Seq::empty(alloc),
-        method: names.name_for(method),
-        args: values_of(alloc, args)?,
+        purpose,
     };
-    let request = match request {
-        Some(name) => Some(Text::from_str(alloc, name)?),
-        None => None,
+    let used = Box::new(alloc, used)?;
+    Ok(Job::Use { request, used })
+}
+
+fn event_of(
+    alloc: Global,
+    names: &Names,
+    request: Option<Text>,
+    class: &str,
+    value: &str,
+) -> Result<Job, AllocError> {
+    let event = Event {
+        class: names.name_for(class),
+        qualifiers: Seq::empty(alloc),
+        value: value_of(value),
     };
-    let call = Box::new(alloc, call)?;
-    Ok(Job::Call { request, call })
+    let event = Box::new(alloc, event)?;
+    Ok(Job::Fire { request, event })
+}
+
+/// The job of a command that words ask for, in a request or in none, if they do.
+fn command_job_of(
+    alloc: Global,
+    names: &Names,
+    request: Option<Text>,
+    words: &[&str],
+) -> Result<Option<Job>, AllocError> {
+    Ok(Some(match words {
+        ["call", bean_type, method, args @ ..] => {
+            let purpose = BeanPurpose::Call {
+                method: names.name_for(method),
+                args: values_of(alloc, args)?,
+            };
+            use_of(alloc, names, request, bean_type, purpose)?
+        }
+        ["read", bean_type] => use_of(alloc, names, request, bean_type, BeanPurpose::Read)?,
+        ["fire", class, value] => event_of(alloc, names, request, class, value)?,
+        _ => return Ok(None),
+    }))
 }
 
 /// The job of a request or a session that words ask for, if they do.
@@ -107,29 +141,30 @@ fn context_job_of(alloc: Global, words: &[&str]) -> Result<Option<Job>, AllocErr
 fn job_of(alloc: Global, names: &Names, words: &[&str]) -> Result<Option<Job>, AllocError> {
     match words {
         ["boot"] => Ok(Some(Job::Boot)),
-        ["call", bean_type, method, args @ ..] => Ok(Some(call_of(
-            alloc, names, None, bean_type, method, args,
-        )?)),
-        ["in", request, "call", bean_type, method, args @ ..] => Ok(Some(call_of(
-            alloc,
-            names,
-            Some(*request),
-            bean_type,
-            method,
-            args,
-        )?)),
         ["shutdown"] => Ok(Some(Job::Shutdown)),
+        ["call" | "read" | "fire", ..] => command_job_of(alloc, names, None, words),
+        ["in", request, words @ ..] => {
+            let request = Text::from_str(alloc, request)?;
+            command_job_of(alloc, names, Some(request), words)
+        }
         words => context_job_of(alloc, words),
     }
 }
 
-/// Why a job of a request or a session is refused, if it is. The others are carried out in any case.
+/// Why a job is refused, if it is. The start, a call and the shutdown are carried out in any case.
 fn refusal_of<D: Driver>(runtime: &mut Runtime<D>, job: &Job) -> Option<Refusal>
     ensures known { result ≡ None → KnownJob runtime.new.world job.now }
 {
     match job {
-        Job::Boot | Job::Call { .. } | Job::Shutdown => None,
-        Job::Begin { .. } | Job::End { .. } | Job::Invalidate { .. } => runtime.refusal(false, job),
+        Job::Boot | Job::Shutdown => None,
+        Job::Use {
+            request: _request,
+            used,
+        } => match &used.purpose {
+            BeanPurpose::Call { .. } => None,
+            BeanPurpose::Read => runtime.refusal(false, job),
+        },
+        _ => runtime.refusal(false, job),
     }
 }
 
@@ -268,8 +303,8 @@ fn carry_out_in_turns<D: Driver>(
 
 // ---- what is asked between them
 
-fn push_live(alloc: Global, text: &mut String, world: &World) -> Result<(), AllocError> {
-    let live = world.numbers(alloc)?.len();
+fn push_live(text: &mut String, world: &World) -> Result<(), AllocError> {
+    let live = world.live_numbers()?.len();
     write!(text, "{live}")
 }
 
@@ -296,7 +331,7 @@ fn push_answer<D: Driver>(
     match question {
         "entries" => push_entries(text, &tables.deployment().names, world.trace()),
         "count" => push_count(text, world),
-        "live" => push_live(alloc, text, world),
+        "live" => push_live(text, world),
         "next" => push_next(text, world),
         _ => text.push_str("neither a job nor a question"),
     }

@@ -24,7 +24,7 @@ use cdi_deployment::Deployment;
 use cdi_machine::Registered;
 use cdi_prepare::{NamedScript, Prepared, prepare};
 use cdi_script::Script;
-use cdi_stage::{SERVED, Stage, WHOLE};
+use cdi_stage::WHOLE;
 use cdi_tests_player::limits::limits_of;
 use std::alloc::{AllocError, Global};
 
@@ -135,12 +135,11 @@ fn report_of_prepared(
 
 fn report_of_bytes(
     alloc: Global,
-    stage: Stage,
     bytes: &[u8],
     sets: Option<usize>,
     asking: Asking,
 ) -> Result<String, AllocError> {
-    match prepare(alloc, stage, bytes) {
+    match prepare(alloc, WHOLE, bytes) {
         Ok(prepared) => report_of_prepared(alloc, prepared, sets, asking),
         Err(_) => String::from_str(alloc, "not read\n"),
     }
@@ -167,18 +166,11 @@ pub(crate) fn report(
     input: &str,
 ) -> Result<String, AllocError> {
     match words {
-        ["whole", words @ ..] => report_of_bytes(
-            alloc,
-            WHOLE,
-            bytes,
-            None,
-            asking_of(words, input),
-        ),
         ["counting", sets, limits @ ..] => {
             let asking = asking_of(limits, input);
-            report_of_bytes(alloc, SERVED, bytes, sets.parse().ok(), asking)
+            report_of_bytes(alloc, bytes, sets.parse().ok(), asking)
         }
-        [_, limits @ ..] => report_of_bytes(alloc, SERVED, bytes, None, asking_of(limits, input)),
+        [_, limits @ ..] => report_of_bytes(alloc, bytes, None, asking_of(limits, input)),
         [] => Ok(String::new(alloc)),
     }
 }

@@ -45,7 +45,7 @@ fn refusal_lines(alloc: Global, unaccepted: &OrMemory<Unaccepted>) -> Result<Str
         OrMemory::Fault(Unaccepted::Problems { names, problems }) => {
             problem_lines(alloc, names.len(), problems.as_slice())
         }
-        OrMemory::Fault(Unaccepted::Unserved) => String::from_str(alloc, "not served\n"),
+        OrMemory::Fault(Unaccepted::Malformed) => String::from_str(alloc, "malformed\n"),
         OrMemory::Memory => Err(AllocError),
     }
 }

@@ -108,11 +108,7 @@ fn add_managed(text: &mut String, names: &Names, plan: &ManagedPlan) -> Result<(
 }
 
 /// Adds a member whose parameters are injected.
-pub(crate) fn add_injected(
-    text: &mut String,
-    names: &Names,
-    of: &InjectedMethod,
-) -> Result<(), AllocError> {
+fn add_injected(text: &mut String, names: &Names, of: &InjectedMethod) -> Result<(), AllocError> {
     add_code(text, names, &of.code)?;
     add_points(text, names, of.points.as_slice())?;
     add_chain(text, of.chain.as_slice())

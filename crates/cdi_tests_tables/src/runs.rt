@@ -12,15 +12,15 @@
 //! The body `b` is registered, which may look up `S`, and `T` with the qualifier `A`.
 use crate::listed::PROBLEMS;
 use crate::places::add_place;
-use crate::plans::add_injected;
 use crate::points::points_of;
 use crate::tables::tables_of;
 use crate::texts::add_name;
 use crate::words::push_space;
-use cdi_base::{InterceptorMethod, Name, OrMemory, Value};
-use cdi_deployment::Deployment;
-use cdi_resolve::Resolution;
-use cdi_run_tables::{Method, PlannedObserver, RunTables};
+use cdi_base::{InterceptorMethod, Name, Names, OrMemory, Value};
+use cdi_bodies::BodyId;
+use cdi_deployment::{Deployment, InjectedField};
+use cdi_life::{Member, Observer, Point, Resolution, Step};
+use cdi_run_tables::{PlannedObserver, RunTables};
 use std::alloc::{AllocError, Global};
 
 /// Which exceptions are checked.
@@ -47,43 +47,97 @@ fn event_lines(alloc: Global, tables: &RunTables) -> Result<String, AllocError> 
     Ok(text)
 }
 
-fn add_heard(
-    text: &mut String,
-    tables: &RunTables,
-    observer: &PlannedObserver,
-) -> Result<(), AllocError> {
+/// The name of the body of an observer, if it is one of these planned ones.
+fn name_among(planned: &[PlannedObserver], observer: &Observer) -> Option<Name> {
+    for other in planned {
+        let code = &other.member.code;
+        if other.bean == observer.bean as usize && code.place == observer.member.code.place() {
+            return Some(code.body);
+        }
+    }
+    None
+}
+
+/// The name of the body of an observer.
+fn body_name(tables: &RunTables, observer: &Observer) -> Option<Name> {
+    for group in tables.observer_groups() {
+        let name = name_among(group.observers.as_slice(), observer);
+        if name.is_some() {
+            return name;
+        }
+    }
+    None
+}
+
+fn add_points(text: &mut String, names: &Names, points: &[Point]) -> Result<(), AllocError> {
+    text.push('(')?;
+    for point in points {
+        add_name(text, names, "", point.bean_type)?;
+        text.push(' ')?;
+    }
+    text.push(')')
+}
+
+fn add_chain(text: &mut String, chain: &[u32]) -> Result<(), AllocError> {
+    text.push('[')?;
+    for place in chain {
+        let place = *place;
+        write!(text, "{place} ")?;
+    }
+    text.push(']')
+}
+
+/// What runs where an observer is notified.
+fn add_member(text: &mut String, names: &Names, member: &Member) -> Result<(), AllocError> {
+    add_points(text, names, member.points.as_slice())?;
+    add_chain(text, member.chain.as_slice())
+}
+
+fn add_heard(text: &mut String, tables: &RunTables, observer: &Observer) -> Result<(), AllocError> {
     let names = &tables.deployment().names;
     push_space(text)?;
-    if let Some(bean) = tables.bean(observer.bean) {
+    if let Some(bean) = tables.bean(observer.bean as usize) {
         add_place(text, names, "", &bean.place)?;
     }
-    add_injected(text, names, &observer.member)?;
-    if observer.body.is_none() {
+    add_place(text, names, " ", &observer.member.code.place())?;
+    if let Some(name) = body_name(tables, observer) {
+        add_name(text, names, "=", name)?;
+    }
+    add_member(text, names, &observer.member)?;
+    if observer.member.code.body() == BodyId::unregistered() {
         text.push_str(" unregistered")?;
     }
     text.push_str(if observer.conditional { "?" } else { "" })
 }
 
-fn add_group(
-    text: &mut String,
-    tables: &RunTables,
-    group: &[&PlannedObserver],
-) -> Result<(), AllocError> {
+fn add_group(text: &mut String, tables: &RunTables, group: &[Observer]) -> Result<(), AllocError> {
     for observer in group {
         add_heard(text, tables, observer)?;
     }
     text.push(';')
 }
 
+/// Who hears the event of a field.
+fn add_hearers(
+    alloc: Global,
+    text: &mut String,
+    tables: &RunTables,
+    field: &InjectedField,
+) -> Result<(), AllocError> {
+    if tables.is_numbered() {
+        let groups = tables.observers(alloc, field.ty, field.quals.as_slice())?;
+        for group in groups.as_slice() {
+            add_group(text, tables, group.as_slice())?;
+        }
+    }
+    text.push('\n')
+}
+
 /// Who hears an event.
 fn heard_lines(alloc: Global, tables: &RunTables) -> Result<String, AllocError> {
     let mut text = String::new(alloc);
     for field in points_of(tables.deployment()) {
-        let groups = tables.observers(alloc, field.ty, field.quals.as_slice())?;
-        for group in groups.as_slice() {
-            add_group(&mut text, tables, group.as_slice())?;
-        }
-        text.push('\n')?;
+        add_hearers(alloc, &mut text, tables, field)?;
     }
     Ok(text)
 }
@@ -125,18 +179,27 @@ fn add_fields(
 }
 
 /// The most injected fields that are told of.
-const MOST_FIELDS: usize = 4;
+const MOST_FIELDS: u32 = 4;
 
-fn add_injections(text: &mut String, tables: &RunTables, place: usize) -> Result<(), AllocError> {
-    let names = &tables.deployment().names;
+fn add_injection(text: &mut String, names: &Names, step: &Step) -> Result<(), AllocError> {
+    if let Step::Inject { field, point } = step {
+        add_name(text, names, " ", *field)?;
+        add_name(text, names, ":", point.bean_type)?;
+        add_resolution(text, point.resolution)?;
+    }
+    Ok(())
+}
+
+fn add_injections(text: &mut String, tables: &RunTables, place: u32) -> Result<(), AllocError> {
+    if !tables.is_numbered() {
+        return Ok(());
+    }
     for at in 0..MOST_FIELDS {
-        if let Some(injection) = tables.interceptor_injection(place, at) {
-            add_name(text, names, " ", injection.field.name)?;
-            add_name(text, names, ":", injection.field.ty)?;
-            add_resolution(text, injection.resolution)?;
+        if let Some(step) = tables.interceptor_step(place, at) {
+            add_injection(text, &tables.deployment().names, step)?;
         }
     }
-    let count = tables.interceptor_injections(place);
+    let count = tables.interceptor_steps(place);
     write!(text, " of {count}")
 }
 
@@ -147,10 +210,10 @@ fn add_role(
     role: InterceptorMethod,
     word: &str,
 ) -> Result<(), AllocError> {
-    if tables.interceptor_body(place, role).is_some() {
-        return text.push_str(word);
+    match tables.interceptor_method(place, role) {
+        Some(code) if code.body() != BodyId::unregistered() => text.push_str(word),
+        _ => Ok(()),
     }
-    Ok(())
 }
 
 fn add_interceptor(
@@ -162,7 +225,9 @@ fn add_interceptor(
 ) -> Result<(), AllocError> {
     add_name(text, &tables.deployment().names, "", name)?;
     add_fields(alloc, text, tables, place)?;
-    add_injections(text, tables, place)?;
+    if let Ok(number) = u32::try_from(place) {
+        add_injections(text, tables, number)?;
+    }
     add_role(
         text,
         tables,
@@ -208,11 +273,11 @@ const MOST_LOOKUPS: usize = 4;
 fn add_lookup(
     text: &mut String,
     tables: &RunTables,
-    method: &Method,
+    body: BodyId,
     index: usize,
 ) -> Result<(), AllocError> {
     let names = &tables.deployment().names;
-    if let Some(lookup) = tables.lookup(method.body, index) {
+    if let Some(lookup) = tables.lookup(body, index) {
         add_name(text, names, "", lookup.bean_type)?;
         for written in lookup.qualifiers.as_slice() {
             add_name(text, names, " ", written.name)?;
@@ -222,19 +287,28 @@ fn add_lookup(
     Ok(())
 }
 
-/// The lookups of the body of a method.
-fn lookups_of(alloc: Global, tables: &RunTables, method: Method) -> Result<String, AllocError> {
+/// The lookups of a body.
+fn lookups_of(alloc: Global, tables: &RunTables, body: BodyId) -> Result<String, AllocError> {
     let mut text = String::new(alloc);
     for index in 0..MOST_LOOKUPS {
-        add_lookup(&mut text, tables, &method, index)?;
+        add_lookup(&mut text, tables, body, index)?;
     }
     Ok(text)
 }
 
+/// The body of the method `m` of the first bean.
+fn first_body(tables: &RunTables) -> Option<BodyId> {
+    if !tables.is_numbered() {
+        return None;
+    }
+    let method = tables.business_method(0, tables.deployment().names.name_for("m"))?;
+    Some(method.code.body())
+}
+
 /// The lookups of the body of the method `m` of the first bean.
 fn lookup_lines(alloc: Global, tables: &RunTables) -> Result<String, AllocError> {
-    match tables.method(0, tables.deployment().names.name_for("m")) {
-        Some(method) => lookups_of(alloc, tables, method),
+    match first_body(tables) {
+        Some(body) => lookups_of(alloc, tables, body),
         None => String::from_str(alloc, "no such method\n"),
     }
 }

@@ -1,7 +1,7 @@
 //! Running the program over one file.
-use cdi_base::Limits;
 use cdi_lines::{Input, Output};
 use cdi_program::{Files, WordsError, run_program};
+use cdi_settings::Settings;
 use cdi_shell::drive::drive;
 use cdi_tests_player::Played;
 use cdi_tests_player::limits::limits_of;
@@ -34,10 +34,13 @@ impl Files for OneFile<'_> {
     }
 }
 
-/// The limits that the words of a run give in place of words of the program.
-fn limits_in(words: &[&str]) -> Option<Limits> {
+/// The settings of a run by limits that its words give in place of words of the program.
+fn settings_in(words: &[&str]) -> Option<Settings> {
     match words {
-        ["limits", limits @ ..] => limits_of(limits),
+        ["limits", limits @ ..] => Some(Settings {
+            limits: limits_of(limits)?,
+            ..Settings::default()
+        }),
         _ => None,
     }
 }
@@ -61,8 +64,8 @@ pub(crate) fn run<R: Read + Drop, W: Write>(
     let mut input = Input::new(reader);
     let mut output = Output::new(writer);
     let mut errors = Output::new(Vec::new(alloc));
-    let status = match limits_in(words) {
-        Some(limits) => drive(alloc, bytes, limits, &mut input, &mut output).status(),
+    let status = match settings_in(words) {
+        Some(settings) => drive(alloc, bytes, settings, &mut input, &mut output).status(),
         None => run_program(
             alloc,
             Ok(words),

@@ -1,3 +1,4 @@
+pub mod EntriesWithoutFloats
 pub mod Lengths
 pub mod NoFloats
 pub mod ReplyLines

@@ -1,40 +1,17 @@
 -- The command that a line is.
-use Rattle.std.specs.Prelude.{ℕ, Bool, List, [], ◌∷◌, codes, Option, Some, None, Result, Ok, Err, if◌then◌else◌}
+use Rattle.std.specs.Prelude.{ℕ, List, [], ◌∷◌, codes, Option, Some, None, Result, Ok, Err, if◌then◌else◌}
 use Rattle.std.specs.List.{list_all}
 use Rattle.cdi_base.specs.Name.{is_name}
 use Rattle.cdi_base.specs.Reading.{◌>>=◌}
-use Rattle.cdi_stage.specs.Stage.{is_included, served}
 use Rattle.cdi_base.specs.Uses.{has_names}
 use Rattle.cdi_base.specs.declared.command.Command.{Command}
 use Rattle.cdi_base.specs.declared.command.Command.TheVariants.{Begin, Call, Read, Fire, End, Invalidate, Live, Shutdown}
-use Rattle.cdi_stage.specs.declared.stage.Stage.{Stage}
-use Rattle.cdi_stage.specs.declared.stage.Stage.TheVariants as stages
 use Rattle.cdi_base.specs.declared.uses.WrittenUse.{WrittenUse}
 use Rattle.cdi_base.specs.declared.value.Value.{Value}
 use Rattle.cdi_form.specs.ValueForms.{value_in, use_in, list_in}
 use Rattle.cdi_form.specs.Json.{is_word, json_in}
 use Rattle.serde_json.specs.Data.{Data, null, string, array, Items, no_items, item}
 use Rattle.cdi_text.specs.declared.command.BadLine.{BadLine}
-
--- the stage since when a command is served
-abbrev pub since : Command → Stage
-since (Begin request session) = stages.Requests
-since (Call request bean_type [] method args) = stages.Counter
-since (Call request bean_type (q ∷ qs) method args) = stages.Injection
-since (Read request bean_type qualifiers) = stages.Producers
-since (Fire request class qualifiers value) = stages.Events
-since (End request) = stages.Requests
-since (Invalidate session) = stages.Requests
-since Live = stages.Requests
-since Shutdown = stages.Counter
-
--- a command that is served at a stage
-abbrev pub is_served_at : Stage → Command → Bool
-is_served_at stage command = is_included stage (since command)
-
--- a command that is served now
-abbrev pub is_served : Command → Bool
-is_served command = is_served_at served command
 
 abbrev pub Reads : Type 0 → Type 0
 Reads X = Result X BadLine
@@ -147,22 +124,11 @@ command_named word ds =
     else (if is_word word (codes "live") then alone Live ds
     else (if is_word word (codes "shutdown") then alone Shutdown ds else bad)))))))
 
--- the command of the whole form that a value is
-abbrev pub whole_command_of : Data → Reads Command
-whole_command_of (array (item word ds)) = command_named word ds
-whole_command_of _ = bad
+-- the command that a value is
+abbrev pub command_of : Data → Reads Command
+command_of (array (item word ds)) = command_named word ds
+command_of _ = bad
 
--- a command that isn't served is none
-abbrev pub if_served : Stage → Command → Reads Command
-if_served stage command = if is_served_at stage command then Ok command else bad
-
-abbrev pub command_of : Stage → Data → Reads Command
-command_of stage d = whole_command_of d >>= if_served stage
-
--- the command that the bytes of a line are at a stage
-unfoldable pub command_at : Stage → List ℕ → Reads Command
-command_at stage bytes = or_bad (json_in bytes) >>= command_of stage
-
--- the command that they are for what is served now
-abbrev pub command_in : List ℕ → Reads Command
-command_in bytes = command_at served bytes
+-- the command that the bytes of a line are
+unfoldable pub command_in : List ℕ → Reads Command
+command_in bytes = or_bad (json_in bytes) >>= command_of

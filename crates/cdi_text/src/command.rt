@@ -1,5 +1,5 @@
 //! Reading a command line.
-ghost use Rattle.std.specs.Prelude.{◌≡◌, false, Err, IfOk, IsTrue};
+ghost use Rattle.std.specs.Prelude.{◌≡◌, false, Err};
 ghost use Rattle.std.specs.List.{list_all};
 ghost use Rattle.std.specs.Str.{is_utf8};
 ghost use Rattle.cdi_base.specs.Reading.{Gives, IsFault};
@@ -9,34 +9,14 @@ ghost use Rattle.cdi_text.specs.Command as spec;
 
 use cdi_base::{Command, OrMemory, Seq, Text, Value, WrittenUse, is_name};
 use cdi_form::{Form, is_word, list_of, read_json};
-use cdi_stage::{SERVED, Stage};
 use serde_json::Value as Json;
 use std::alloc::Global;
 use thiserror::Error;
 
-/// The line is not one JSON array in UTF-8 that has the form of a command, as [`read_command_at`] lists them.
+/// The line is not one JSON array in UTF-8 that has the form of a command, as [`read_command`] lists them.
 #[derive(Clone, Copy, Debug, PartialEq, Eq, Error)]
 #[error("BadLine")]
 pub struct BadLine;
-
-/// The stage since when a command is served. This is the whole table of what is served of commands.
-pub fn since(command: &Command) -> Stage
-    ensures { result ≡ spec.since command.now }
-{
-    match command {
-        Command::Call { qualifiers, .. } => match qualifiers.as_slice() {
-            [] => Stage::Counter,
-            [_, ..] => Stage::Injection,
-        },
-        Command::Shutdown => Stage::Counter,
-        Command::Begin { .. } => Stage::Requests,
-        Command::End { .. } => Stage::Requests,
-        Command::Invalidate { .. } => Stage::Requests,
-        Command::Live => Stage::Requests,
-        Command::Read { .. } => Stage::Producers,
-        Command::Fire { .. } => Stage::Events,
-    }
-}
 
 fn bad<T>() -> Result<T, OrMemory<BadLine>>
     ensures { result ≡ Err (OrMemory.Fault (record {})) }
@@ -280,8 +260,8 @@ fn command_named(alloc: Global, word: &Json, items: &[Json]) -> Result<Command, 
     bad()
 }
 
-fn whole_command_of(alloc: Global, value: &Json) -> Result<Command, OrMemory<BadLine>>
-    ensures { Gives (λ c. c) result (spec.whole_command_of (view value.now)) }
+fn command_of(alloc: Global, value: &Json) -> Result<Command, OrMemory<BadLine>>
+    ensures { Gives (λ c. c) result (spec.command_of (view value.now)) }
 {
     let Json::Array(items) = value else {
         return bad();
@@ -292,19 +272,7 @@ fn whole_command_of(alloc: Global, value: &Json) -> Result<Command, OrMemory<Bad
     }
 }
 
-fn command_of(alloc: Global, stage: Stage, value: &Json) -> Result<Command, OrMemory<BadLine>>
-    ensures gives { Gives (λ c. c) result (spec.command_of stage (view value.now)) }
-    ensures served { IfOk result (λ c. IsTrue (spec.is_served_at stage c)) }
-{
-    let command = whole_command_of(alloc, value)?;
-    if !stage.includes(since(&command)) {
-        return bad();
-    }
-    Ok(command)
-}
-
-/// Reads the command that a line is, of those that are served at a stage ([`since`]). The line is one JSON array with
-/// JSON white space round it, if any:
+/// Reads the command that a line is. The line is one JSON array with JSON white space round it, if any:
 ///
 /// - `["begin",R]` and `["begin",R,S]` begin a request, in a session if one is named.
 /// - `["call",R,type,quals,method,args]` calls a method of the bean that a type and qualifiers resolve to.
@@ -320,27 +288,13 @@ fn command_of(alloc: Global, stage: Stage, value: &Json) -> Result<Command, OrMe
 ///
 /// Every other line is a [`BadLine`]. An error is [`OrMemory::Memory`] where a growth was refused, which can be only
 /// where the line is UTF-8.
-#[tactic(auto, unfolding(crate::specs::Command::command_at))]
-pub fn read_command_at(
-    alloc: Global,
-    stage: Stage,
-    line: &[u8],
-) -> Result<Command, OrMemory<BadLine>>
-    ensures gives { Gives (λ c. c) result (spec.command_at stage line.now) }
-    ensures served { IfOk result (λ c. IsTrue (spec.is_served_at stage c)) }
+#[tactic(auto, unfolding(crate::specs::Command::command_in))]
+pub fn read_command(alloc: Global, line: &[u8]) -> Result<Command, OrMemory<BadLine>>
+    ensures gives { Gives (λ c. c) result (spec.command_in line.now) }
     ensures no_text { is_utf8 line.now ≡ false → IsFault result (record {}) }
 {
     let Some(value) = read_json(alloc, line)? else {
         return bad();
     };
-    command_of(alloc, stage, &value)
-}
-
-/// Reads the command that a line is, of those that are served now: [`read_command_at`] at [`SERVED`].
-pub fn read_command(alloc: Global, line: &[u8]) -> Result<Command, OrMemory<BadLine>>
-    ensures gives { Gives (λ c. c) result (spec.command_in line.now) }
-    ensures served { IfOk result (λ c. IsTrue (spec.is_served c)) }
-    ensures no_text { is_utf8 line.now ≡ false → IsFault result (record {}) }
-{
-    read_command_at(alloc, SERVED, line)
+    command_of(alloc, &value)
 }

@@ -1,8 +1,10 @@
-//! Command lines as commands, and replies as lines.
+//! Command lines as commands, and replies and entries as lines.
 #![tactic(auto)]
 
 pub mod command;
+pub mod entry_text;
 pub mod reply_text;
 
-pub use command::{BadLine, read_command, read_command_at};
+pub use command::{BadLine, read_command};
+pub use entry_text::{write_entry, write_trace};
 pub use reply_text::write_reply;

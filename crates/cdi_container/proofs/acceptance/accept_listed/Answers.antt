@@ -10,22 +10,22 @@ returns-then-not-is_empty-clause-err g c =
     let some : c.in_ok-problems.problems ≢ [] = search rules in
     subst (λ u. IsUnaccepted c.args.deployment (entries_of c.args.bodies.now) u) (sym c.refused.ensures) (refl, AreProblemsOf.late c.in_ok-problems.ensures.late, some)
 
-pub served_tables-requires-clause-are : goal.served_tables-requires-clause-are
-served_tables-requires-clause-are g c =
+pub formed-requires-clause-are : goal.formed-requires-clause-are
+formed-requires-clause-are g c =
     let none : c.in_ok-problems.problems ≡ [] = search rules in
     let made = c.in_ok-tables.ensures in
     tables_with (entries_of c.args.bodies.now) c.args.deployment c.in_ok-listed.listed c.in_ok-problems.problems none c.in_ok-tables.tables made.deployment made.tables c.in_ok-problems.ensures.late made.tabled made.ids made.lookups
 
-pub served_tables-requires-clause-faultless : goal.served_tables-requires-clause-faultless
-served_tables-requires-clause-faultless g c =
+pub formed-requires-clause-faultless : goal.formed-requires-clause-faultless
+formed-requires-clause-faultless g c =
     let none : c.in_ok-problems.problems ≡ [] = search rules in
     let made = c.in_ok-tables.ensures in
     faultless_by (entries_of c.args.bodies.now) c.args.deployment c.in_ok-listed.listed c.in_ok-problems.problems none c.in_ok-tables.tables made.deployment made.tables c.in_ok-problems.ensures.by_tables
 
 pub returns-clause-ok : goal.returns-clause-ok
 returns-clause-ok g c =
-    subst (λ d. IfOk c.served_tables.result (IsAccepted d (entries_of c.args.bodies.now))) c.in_ok-tables.ensures.deployment c.served_tables.ensures.ok
+    subst (λ d. IfOk c.formed.result (IsAccepted d (entries_of c.args.bodies.now))) c.in_ok-tables.ensures.deployment c.formed.ensures.ok
 
 pub returns-clause-err : goal.returns-clause-err
 returns-clause-err g c =
-    subst (λ d. IfErr c.served_tables.result (IsUnaccepted d (entries_of c.args.bodies.now))) c.in_ok-tables.ensures.deployment c.served_tables.ensures.err
+    subst (λ d. IfErr c.formed.result (IsUnaccepted d (entries_of c.args.bodies.now))) c.in_ok-tables.ensures.deployment c.formed.ensures.err

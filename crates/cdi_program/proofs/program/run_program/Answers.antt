@@ -6,8 +6,7 @@ use Rattle.cdi_program.proofs.program.run_program.Goals as goal
 
 pub returns-in-Ok-parse : goal.returns-in-Ok-parse
 returns-in-Ok-parse g c =
-    let asks = c.in-Ok-parse.ensures.ok in
-    rw c.in-Ok.is (serves asks.is_fit (rw asks.names_mode at rw asks.names at c.serve_options.ensures))
+    rw c.in-Ok.is (serves _ _ _ c.in-Ok-parse.ensures.ok c.serve_options.ensures)
 
 pub returns-in-Err-parse : goal.returns-in-Err-parse
 returns-in-Err-parse g c =

@@ -7,5 +7,5 @@ returns g c =
       drives = c.run.ensures.drives;
       blames = c.run.ensures.blames;
       passed_on = c.run.ensures.passed_on;
-      only = λ input held s e settled settled' u u' h h' d. one_output c.args.limits.depth c.args.limits.ticks c.args.deployment.now input held _ s c.run.result e settled settled' u u' h h' c.run.ensures.drives d;
+      only = λ input held s e settled settled' u u' h h' d. one_output c.args.settings c.args.deployment.now input held _ s c.run.result e settled settled' u u' h h' c.run.ensures.drives d;
     }

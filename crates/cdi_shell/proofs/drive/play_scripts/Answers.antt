@@ -8,6 +8,7 @@ use Rattle.cdi_script.proofs.Following.{nil_of}
 use Rattle.cdi_script.proofs.Within.{lies}
 use Rattle.cdi_prepare.specs.declared.scripts.NamedScript.{NamedScript}
 use Rattle.cdi_prepare.specs.Scripts.{added, place_under, registered}
+use Rattle.cdi_settings.specs.Chosen.{chosen}
 use Rattle.cdi_shell.specs.Drive.{Streams}
 use Rattle.cdi_prepare.proofs.Holding.{holds_add, same_length, same_place, add_known, add_new, holds_all, not_full}
 use Rattle.cdi_shell.proofs.Picked.{picked}
@@ -60,13 +61,16 @@ returns-in_ok-new-in-Ok-accept-clause-plays g c =
     let scripts = c.args.prepared.scripts.items in
     let all : c.loop-named.named-iterator.rest.items ≡ [] = nil_of c.loop-named.named-iterator.rest.items (let z : c.loop-named.named-iterator.rest.len ≡ 0 = c.in-None.ensures.steps.0 in omega arith) in
     let streams : Streams = record { unread = g.R.Source.unread c.args.input.now; unread_after = g.R.Source.unread c.live.new.input; held = g.W.Sink.written c.args.output.now; held_after = g.W.Sink.written c.live.new.output } in
-    accepted_plays c.args.limits.depth c.args.limits.ticks c.args.prepared.deployment entries (registered scripts) streams c.live.result
+    accepted_plays c.args.settings c.args.prepared.deployment entries (registered scripts) streams c.live.result
     (holds_all entries inv.0 c.loop-named.named-iterator.rest.items scripts inv.1 inv.2 all)
     c.new-chooser.result c.in-Ok-accept.tables
     (λ candidates count i h.
+    let given =
     made_post own-2 at-2-1 c.into_dyn_box-in_ok-new-in-Ok-accept.ensures.1 (candidates, (count, tt)) i
-    (picked c.new-chooser.result c.into_dyn_box-in_ok-new-in-Ok-accept.result c.new-chooser.ensures candidates count i h))
-    c.requires.served c.in-Ok-accept.ensures.ok c.live.ensures.lives
+    (picked c.new-chooser.result c.into_dyn_box-in_ok-new-in-Ok-accept.result c.new-chooser.ensures candidates count i h) in
+    let is : i ≡ chosen c.args.settings.order candidates = rw c.in_ok-new-in-Ok-accept.ensures.ok at given in
+    is)
+    c.requires.formed c.in-Ok-accept.ensures.ok c.live.ensures.lives
 
 pub returns-in-Err-clause-plays : goal.returns-in-Err-clause-plays
 returns-in-Err-clause-plays g c =
@@ -75,7 +79,7 @@ returns-in-Err-clause-plays g c =
     let scripts = c.args.prepared.scripts.items in
     let all : c.loop-named.named-iterator.rest.items ≡ [] = nil_of c.loop-named.named-iterator.rest.items (let z : c.loop-named.named-iterator.rest.len ≡ 0 = c.in-None.ensures.steps.0 in omega arith) in
     let streams : Streams = record { unread = g.R.Source.unread c.args.input.now; unread_after = g.R.Source.unread c.args.input.now; held = g.W.Sink.written c.args.output.now; held_after = g.W.Sink.written c.refuse_unaccepted.new.output } in
-    refused_plays c.args.limits.depth c.args.limits.ticks c.args.prepared.deployment entries (registered scripts) streams c.refuse_unaccepted.result
+    refused_plays c.args.settings c.args.prepared.deployment entries (registered scripts) streams c.refuse_unaccepted.result
     (holds_all entries inv.0 c.loop-named.named-iterator.rest.items scripts inv.1 inv.2 all)
     c.in-Err.unaccepted c.in-Err.ensures.err refl c.refuse_unaccepted.ensures.refuses
 
@@ -86,4 +90,4 @@ refuse_unaccepted-requires g c =
     let scripts = c.args.prepared.scripts.items in
     let all : c.loop-named.named-iterator.rest.items ≡ [] = nil_of c.loop-named.named-iterator.rest.items (let z : c.loop-named.named-iterator.rest.len ≡ 0 = c.in-None.ensures.steps.0 in omega arith) in
     refusable c.args.prepared.deployment entries (registered scripts)
-    (holds_all entries inv.0 c.loop-named.named-iterator.rest.items scripts inv.1 inv.2 all) c.requires.served c.in-Err.unaccepted c.in-Err.ensures.err
+    (holds_all entries inv.0 c.loop-named.named-iterator.rest.items scripts inv.1 inv.2 all) c.requires.formed c.in-Err.unaccepted c.in-Err.ensures.err

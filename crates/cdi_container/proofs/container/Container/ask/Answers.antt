@@ -19,6 +19,6 @@ returns-in-None-clause-answers g c =
     subst (λ s. AnswersCommand (tables_of s) (g.D.Driver.legal s.runtime.driver) (Unit {0}) (state_of s) (command_of c.args.job) c.perform.result (state_of c.perform.new.self)) c.refusal.ensures.kept
     c.perform.ensures.answers
 
-pub perform-requires : goal.perform-requires
-perform-requires g c =
+pub perform-requires-clause-admitted : goal.perform-requires-clause-admitted
+perform-requires-clause-admitted g c =
     subst (λ s. refusal (tables_of s) (machine_state (state_of s)) (command_of c.args.job) ≡ None) (sym c.refusal.ensures.kept) (sym c.refusal.ensures.refusal ∙ c.in-None.is)

@@ -16,5 +16,5 @@ returns g c =
       legal = keeps.legal;
       boots =
           carries_out (outcome_of outcome) refl (rw c.new-runtime.ensures at c.carry_out-outcome.ensures.carries) c.cause.ensures
-          (c.reply_of.ensures ∙ replied jobs.Boot outcome world);
+          (c.reply_of.ensures ∙ replied jobs.Boot outcome world tt);
     }

@@ -1,0 +1,12 @@
+use Rattle.std.proofs.Common.{subst, sym}
+use Rattle.cdi_base.specs.declared.reply.Reply.TheVariants as replies
+use Rattle.cdi_machine.specs.Commands.{Command}
+use Rattle.cdi_container.specs.Standing.{state_of, tables_of}
+use Rattle.cdi_container.specs.States.{AnswersCommand}
+use Rattle.cdi_container.proofs.Answering.{live_told}
+use Rattle.cdi_container.proofs.container.Container.tell.Goals as goal
+
+pub returns-clause-answers : goal.returns-clause-answers
+returns-clause-answers g c =
+    let s = c.args.self.now in
+    rw (c.requires.numbers, c.forget.ensures.state) (live_told (tables_of s) (g.D.Driver.legal s.runtime.driver) (state_of s) c.requires.admitted)

@@ -1,0 +1,20 @@
+use Rattle.std.proofs.Common.{rules, ap₂, ◌≡◌, ◌∙◌, codes}
+use Rattle.std.proofs.lemmas.Result.{IfOk-weaker}
+use Rattle.clap.specs.Words.{app_of, rule_of, with_rule}
+use Rattle.cdi_options.specs.Options as spec
+use Rattle.cdi_options.proofs.options.run_command.Goals as goal
+
+pub returns : goal.returns
+returns c =
+    let ticks_is : rule_of c.number_option-ticks.result ≡ spec.number_rule (codes "ticks") 100000 = c.number_option-ticks.ensures.rule in
+    let depth_is : rule_of c.number_option-depth.result ≡ spec.number_rule (codes "depth") 1024 = c.number_option-depth.ensures.rule in
+    let order_is : rule_of c.value_option-order.result ≡ spec.option_rule (codes "order") = c.value_option-order.ensures.rule in
+    let trace_is : rule_of c.action-trace.result ≡ spec.flag_rule (codes "trace") = search rules in
+    let mode_is : app_of c.in_ok-mode_command.field-0 ≡ spec.mode_form (codes "run") = c.in_ok-mode_command.ensures.form in
+    let with_ticks = c.in_ok-arg.ensures.shape c.number_option-ticks.ensures.own ∙ ap₂ with_rule mode_is ticks_is in
+    let with_depth = c.in_ok-arg-2.ensures.shape c.number_option-depth.ensures.own ∙ ap₂ with_rule with_ticks depth_is in
+    let with_order = c.in_ok-arg-3.ensures.shape c.value_option-order.ensures.own ∙ ap₂ with_rule with_depth order_is in
+    IfOk-weaker c.arg-4.result _ _ (λ app added. record {
+      form = added.shape (search rules) ∙ ap₂ with_rule with_order trace_is;
+      none_global = search rules;
+    }) c.arg-4.ensures

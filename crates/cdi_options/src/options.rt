@@ -1,0 +1,250 @@
+//! The words of the command line.
+ghost use Rattle.std.specs.Prelude.{◌≡◌, false, map, option_map, IfOk, IfErr, MatchOption};
+ghost use Rattle.clap.specs.Words.{HasKind, first_of, rule_of, subcommand_name_of, subcommand_rows_of};
+ghost use Rattle.cdi_options.specs.Options as spec;
+
+use cdi_base::Limits;
+use cdi_base::limits::{MAX_DEPTH, MAX_TICKS};
+use cdi_settings::{Order, Settings};
+use clap::builder::ValueParser;
+use clap::error::ErrorKind;
+use clap::{Arg, ArgAction, ArgMatches, Command, Error};
+use std::alloc::{AllocError, Global};
+use std::convert::AsStr;
+
+/// What is done with a deployment.
+#[derive(Clone, Copy, Debug, PartialEq, Eq)]
+pub enum Mode {
+    /// Its problems are told, or that there is none.
+    Check,
+    /// It is run on command lines.
+    Run,
+}
+
+/// What the words of the command line ask for.
+#[derive(Drop)]
+pub struct Options<'a> {
+    /// What is done with the deployment.
+    pub mode: Mode,
+    /// The file of the deployment.
+    pub file: &'a str,
+    /// What is set for a run.
+    pub settings: Settings,
+}
+
+/// The version that `--version` tells.
+const VERSION: &str = "0.1.0";
+
+/// What stands below the list of subcommands in the help.
+const NOTES: &str = "\
+Examples:
+  cdi check counter.json
+
+  tells in a line that the deployment in counter.json is accepted, or in a line each what is wrong with it:
+    P17 Ambiguous U#i
+
+  cdi run counter.json < commands
+
+  starts the deployment in counter.json, and answers that and each line of commands by a line:
+    [\"call\",null,\"K\",[],\"up\",[]]    answered by  [\"value\",1]
+    [\"shutdown\"]                    answered by  [\"done\"]
+
+  cdi run counter.json --trace < commands
+
+  also writes before each answer what was done for it, an entry on each line:
+    [\"new\",1,\"K\"]
+    [\"ready\",1]
+    [\"run\",1,\"K#up\"]
+    [\"did\",[\"set\",\"n\",1]]
+    [\"did\",[\"give\",1]]
+    [\"value\",1]
+
+Exit status:
+  0  the deployment is accepted, or each line is answered
+  1  the deployment is refused; the output says why
+  2  the words of the command line are wrong
+  3  a file can't be read, or reading, writing or memory failed
+  4  each line is answered, but a command was cut, and the container has halted
+
+docs/FORMS.md in the repository describes deployments, command lines and replies.";
+
+/// What is told of an order that is none.
+const NO_ORDER: &str = "invalid value for '--order <first|last>': it is neither first nor last";
+
+/// An option with one value, of which the help tells a name.
+fn value_option<'a>(alloc: Global, name: &'a str, value: &'a str, help: &'a str) -> Arg<'a>
+    ensures rule { rule_of result ≡ spec.option_rule name.now }
+    ensures own { result.global ≡ false }
+{
+    Arg::new(alloc, name)
+        .long(name)
+        .value_name(value)
+        .help(help)
+        .action(ArgAction::Set)
+}
+
+/// An option whose value is a number from 1 up to `most`.
+fn number_option<'a>(alloc: Global, name: &'a str, most: u32, help: &'a str) -> Arg<'a>
+    ensures rule { rule_of result ≡ spec.number_rule name.now most }
+    ensures own { result.global ≡ false }
+{
+    value_option(alloc, name, "N", help).value_parser(ValueParser::unsigned(1, u64::from(most)))
+}
+
+/// The words of a mode: its name, and the file of a deployment.
+fn mode_command<'a>(alloc: Global, name: &'a str, about: &'a str) -> Result<Command<'a>, AllocError>
+    ensures { IfOk result (spec.IsMode (spec.mode_form name.now)) }
+{
+    let file = Arg::new(alloc, "FILE")
+        .help("The deployment, as JSON")
+        .required(true)
+        .action(ArgAction::Set);
+    Command::new(alloc, name).about(about).arg(file)
+}
+
+/// The words of a run: those of a mode, and the options that set something for it.
+fn run_command<'a>(alloc: Global) -> Result<Command<'a>, AllocError>
+    ensures { IfOk result (spec.IsMode spec.run_form) }
+{
+    let ticks = number_option(
+        alloc,
+        "ticks",
+        MAX_TICKS,
+        "The most entries of a command, from 1 to 100000 [default: 100000]",
+    );
+    let depth = number_option(
+        alloc,
+        "depth",
+        MAX_DEPTH,
+        "The most levels of nested bodies, from 1 to 1024 [default: 32]",
+    );
+    let order = value_option(
+        alloc,
+        "order",
+        "first|last",
+        "The candidate that is taken where the rules leave the order open [default: first]",
+    );
+    let trace = Arg::new(alloc, "trace")
+        .long("trace")
+        .help("Writes the entries of each command before its reply")
+        .action(ArgAction::SetTrue);
+    let about = "Runs a deployment on the command lines of the standard input";
+    mode_command(alloc, "run", about)?
+        .arg(ticks)?
+        .arg(depth)?
+        .arg(order)?
+        .arg(trace)
+}
+
+/// The words that the program takes.
+fn command<'a>(alloc: Global) -> Result<Command<'a>, AllocError>
+    ensures { IfOk result (λ c. spec.IsCommand c) }
+{
+    let check = mode_command(
+        alloc,
+        "check",
+        "Tells all problems of a deployment, or that it is accepted",
+    )?;
+    let run = run_command(alloc)?;
+    Command::new(alloc, "cdi")
+        .about("A container for Jakarta Contexts and Dependency Injection")
+        .version(VERSION)
+        .after_help(NOTES)
+        .subcommand_required(true)
+        .subcommand(check)?
+        .subcommand(run)
+}
+
+/// The mode that the words name.
+fn mode_in(matches: &ArgMatches<'_>) -> Mode
+    ensures { result ≡ spec.mode_of (subcommand_name_of matches.now) }
+{
+    match matches.subcommand_name() {
+        Some(name) if name == "check" => Mode::Check,
+        _ => Mode::Run,
+    }
+}
+
+/// What stands in the words of the mode for the file or an option.
+fn text_in<'a>(matches: &ArgMatches<'a>, name: &str) -> Option<&'a str>
+    ensures { option_map (λ text. text.now) result
+        ≡ first_of name.now (spec.rows_under (subcommand_rows_of matches.now)) }
+{
+    let (_mode, words) = matches.subcommand()?;
+    words.get_str(name)
+}
+
+/// The number of an option, or the usual one; none where its text is no number from 1 to `most`.
+fn number_in(text: Option<&str>, usual: u32, most: u32) -> Option<u32>
+    ensures { result ≡ spec.number_in_range usual most (option_map (λ t. t.now) text.entry) }
+{
+    let Some(text) = text else {
+        return Some(usual);
+    };
+    match text.parse::<u32>() {
+        Ok(number) if 1 <= number && number <= most => Some(number),
+        Ok(_) => None,
+        Err(_) => None,
+    }
+}
+
+/// The order of an option, or the first; none where its text names no order.
+fn order_in(text: Option<&str>) -> Option<Order>
+    ensures { result ≡ spec.order_if_any (option_map (λ t. t.now) text.entry) }
+{
+    match text {
+        None => Some(Order::First),
+        Some(text) if text == "first" => Some(Order::First),
+        Some(text) if text == "last" => Some(Order::Last),
+        Some(_) => None,
+    }
+}
+
+/// Whether a flag is set.
+fn is_set(text: Option<&str>) -> bool
+    ensures { result ≡ spec.is_set (option_map (λ t. t.now) text.entry) }
+{
+    match text {
+        Some(text) => text == "true",
+        None => false,
+    }
+}
+
+/// What the words set for a run; none where an option has a value that it can't have.
+fn settings_in(matches: &ArgMatches<'_>) -> Option<Settings>
+    ensures { MatchOption result
+        (spec.are_values (spec.rows_under (subcommand_rows_of matches.now)) ≡ false)
+        (spec.Sets (spec.rows_under (subcommand_rows_of matches.now))) }
+{
+    let usual = Settings::default();
+    let depth = number_in(text_in(matches, "depth"), usual.limits.depth, MAX_DEPTH)?;
+    let ticks = number_in(text_in(matches, "ticks"), usual.limits.ticks, MAX_TICKS)?;
+    let order = order_in(text_in(matches, "order"))?;
+    Some(Settings {
+        limits: Limits { depth, ticks },
+        order,
+        shows_trace: is_set(text_in(matches, "trace")),
+    })
+}
+
+impl<'a> Options<'a> {
+    /// What the words ask for, of which the first is the program's name. An error is a request for help or for the
+    /// version, a mistake in the words, or want of memory, and has the text for the user.
+    pub fn parse<S: AsStr>(alloc: Global, words: &'a [S]) -> Result<Options<'a>, Error>
+        ensures ok { IfOk result (λ o. spec.AsksFor (map S.text words.entry.now)
+            o.mode o.file.now o.settings) }
+        ensures err { IfErr result (HasKind (spec.faults_in (map S.text words.entry.now))) }
+    {
+        let mut command = command(alloc)?;
+        let matches = command.try_get_matches_from_mut(words)?;
+        match settings_in(&matches) {
+            Some(settings) => Ok(Options {
+                mode: mode_in(&matches),
+                file: text_in(&matches, "FILE").unwrap_or(""),
+                settings,
+            }),
+            // A number that is none or out of its range is an error of the parse, so it is the order.
+            None => Err(command.error(ErrorKind::InvalidValue, NO_ORDER)?),
+        }
+    }
+}

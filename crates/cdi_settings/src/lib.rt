@@ -1,0 +1,6 @@
+//! How a deployment is run.
+#![tactic(auto)]
+
+mod settings;
+
+pub use settings::{Order, Settings};
