@@ -86,13 +86,7 @@ fn tell_outcome<W: Sink, E: Sink>(
 }
 
 /// Tells what is wrong with a refused deployment beyond what its line says, if there is more to say.
-fn tell_hint<E: Sink>(
-    alloc: Global,
-    is_refused: bool,
-    file: &str,
-    bytes: &[u8],
-    errors: &mut E,
-) {
+fn tell_hint<E: Sink>(alloc: Global, is_refused: bool, file: &str, bytes: &[u8], errors: &mut E) {
     if !is_refused {
         return;
     }
