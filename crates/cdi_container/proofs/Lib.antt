@@ -2,6 +2,8 @@ pub mod Accepting
 pub mod Faultless
 pub mod Halted
 pub mod Replying
+pub mod Refusing
+pub mod Starving
 pub mod Stories
 pub mod Missing
 pub mod Thrown

@@ -1,14 +1,15 @@
 -- Each command has an answer, and what was written of one in which memory ran out is the front of a run.
-use Rattle.std.proofs.Common.{◌≡◌, ◌∙◌, refl, sym, length, Option, Some, None, inl}
+use Rattle.std.proofs.Common.{◌≡◌, ◌∙◌, refl, sym, ap, subst, length, Option, Some, None, inl}
+use Rattle.cdi_base.specs.declared.reply.Cause.TheVariants as causes
 use Rattle.cdi_base.specs.declared.reply.Reply.{Reply}
 use Rattle.cdi_base.specs.declared.reply.Reply.TheVariants as replies
 use Rattle.cdi_base.specs.declared.reply.Refusal.{Refusal}
 use Rattle.cdi_machine.specs.Commands.{Command, task}
 use Rattle.cdi_machine.specs.Container.{refusal, reply_to}
 use Rattle.cdi_machine.specs.Laws.{Ends, OnItsWay, followed_by}
-use Rattle.cdi_machine.specs.Runs.{Legal, Outcome}
+use Rattle.cdi_machine.specs.Runs.{Legal, Outcome, Cut, Runs}
 use Rattle.cdi_machine.specs.Tables.{Tables}
-use Rattle.cdi_machine.specs.World.{at_begin}
+use Rattle.cdi_machine.specs.World.{World, at_begin}
 use Rattle.cdi_machine.proofs.Order.{goes_self, wider}
 use Rattle.cdi_container.specs.OnItsWay.{AlwaysAnswers, IsFrontOfRun, StaysOnItsWay}
 use Rattle.cdi_container.specs.States.{ContainerState, AnswersCommand, CarriesOut, after_refusal, cause_of, machine_state}
@@ -40,6 +41,11 @@ module _ (tables : Tables) (legal loose : Legal) (way : OnItsWay tables legal lo
   answered_on_its_way : (reply : Reply) → refusal tables (machine_state s) c ≡ None → AnswersCommand tables legal (Unit {0}) s c reply t → IsFrontOfRun tables legal loose c s t
   answered_on_its_way reply none (AnswersCommand.refuses r refused told stays) = absurd (let e : Some r ≡ None = sym refused ∙ none in cc)
   answered_on_its_way reply none (AnswersCommand.carries_out o free carried halted told) = carried_on_its_way o carried
+  -- nothing was written
+  answered_on_its_way reply none (AnswersCommand.lacks_memory starved asks free told halts) =
+      let Run : World → Type 0 = λ v. Runs tables legal (Unit {0}) (task c) (at_begin s.world) (Cut causes.Memory) v in
+      let world : t.world ≡ at_begin s.world = ap (λ (x : ContainerState). x.world) halts in
+      carried_on_its_way (Cut causes.Memory) (CarriesOut.starves starved (subst Run (sym world) (Runs.starves starved)))
 
 pub stays_on_its_way : (tables : Tables) (legal loose : Legal) → OnItsWay tables legal loose → StaysOnItsWay tables legal loose
 stays_on_its_way tables legal loose way s t c reply none a = answered_on_its_way tables legal loose way c s t reply none a

@@ -29,4 +29,7 @@ module _ (tables : Tables) (legal : Legal) (rests : Rests tables legal) where
       subst (λ (x : ContainerState). IsAtRest x.world) (sym stays) (begun s.world (nothing_runs s h before (sym (ap (λ (x : ContainerState). x.halted) stays) ∙ none)))
   nothing_runs t _ (History.answers {s = s} {h = h} {c = c} before (AnswersCommand.carries_out o e k halts is)) none =
       carried c s.world t.world o (nothing_runs s h before (works_on tables s c e)) k (sym halts ∙ none)
+  nothing_runs t _ (History.answers before (AnswersCommand.lacks_memory starved asks e is halts)) none =
+      let halted = sym (ap (λ (x : ContainerState). x.halted) halts) ∙ none in
+      absurd (cc)
   nothing_runs _ _ (History.refuses_line {s = s} {h = h} before) none = begun s.world (nothing_runs s h before none)

@@ -100,6 +100,10 @@ module _ (tables : Tables) (legal : Legal) where
     goes_on c s t h o e (inl l) halts k = carried c s t h o l (sym (refused_alike s h l c) ∙ e) halts k
     goes_on c s t h o e (inr stopped) halts k = let none = works_on tables s c e in absurd (cc (stopped.1, none))
 
+    kept : (s : ContainerState) (h : List Item) → Keeps s h → P h
+    kept s h (inl l) = holds l.at h l.story
+    kept s h (inr k) = k.0
+
     pub keeps : (s : ContainerState) (h : List Item) → History tables legal (Unit {0}) s h → Keeps s h
     keeps _ _ (History.begins ticks depth) =
         inl (record { at = before_commands ticks depth; story = Story.begins ticks depth; alike = refl; halted = refl; idle = refl })
@@ -107,11 +111,9 @@ module _ (tables : Tables) (legal : Legal) where
         still s t h (ap (λ (x : ContainerState). at_begin x.world) stays) (ap (λ (x : ContainerState). x.halted) stays) (keeps s h before)
     keeps t _ (History.answers {s = s} {h = h} {c = c} before (AnswersCommand.carries_out o e k halts is)) =
         goes_on c s t h o e (keeps s h before) halts k
+    keeps t _ (History.answers {s = s} {h = h} before (AnswersCommand.lacks_memory starved asks e is halts)) =
+        inr (kept s h (keeps s h before), ap (λ (x : ContainerState). x.halted) halts)
     keeps _ _ (History.refuses_line {s = s} {h = h} before) = still s _ h refl refl (keeps s h before)
-
-    kept : (s : ContainerState) (h : List Item) → Keeps s h → P h
-    kept s h (inl l) = holds l.at h l.story
-    kept s h (inr k) = k.0
 
     pub holds_throughout : (s : ContainerState) (h : List Item) → History tables legal (Unit {0}) s h → P h
     holds_throughout s h history = kept s h (keeps s h history)

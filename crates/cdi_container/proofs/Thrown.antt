@@ -58,6 +58,7 @@ module _ (tables : Tables) (legal : Legal) (throws : ThrowsWithText tables legal
   thrown : (s t : ContainerState) (h : List Item) (c : Command) (reply : Reply) (x : ℕ) → History tables legal (Unit {0}) s h
       → AnswersCommand tables legal (Unit {0}) s c reply t → reply ≡ replies.Threw x → HasText tables x
   thrown s t h c reply x history (AnswersCommand.refuses r e is stays) told = absurd (cc)
+  thrown s t h c reply x history (AnswersCommand.lacks_memory starved asks e is halts) told = absurd (cc)
   thrown s t h c reply x history (AnswersCommand.carries_out o e k halts is) told =
       let l = is_story tables legal s h history (works_on tables s c e) in
       ended s t h c o x l (sym (refused_alike tables legal s h l c) ∙ e) k (threw c o t.world x (sym is ∙ told))

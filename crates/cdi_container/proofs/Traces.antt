@@ -28,6 +28,8 @@ module _ (tables : Tables) (legal : Legal) (one : OneRun tables legal) where
   trace_tells s t t' c reply reply' a a' same = by a a'
     where
       by : AnswersCommand tables legal ⊥ s c reply t → AnswersCommand tables legal ⊥ s c reply' t' → SameAnswer reply reply' t t'
+      by (AnswersCommand.lacks_memory starved asks e is halts) b = absurd starved
+      by a (AnswersCommand.lacks_memory starved asks e is halts) = absurd starved
       by (AnswersCommand.refuses r e is stays) (AnswersCommand.refuses r' e' is' stays') =
           record { reply = is ∙ ap replies.Refused (one_refusal (refusal tables (machine_state s) c) r r' e e') ∙ sym is'; state = stays ∙ sym stays' }
       by (AnswersCommand.refuses r e is stays) (AnswersCommand.carries_out o e' k halts is') = absurd (not_both (refusal tables (machine_state s) c) r e e')

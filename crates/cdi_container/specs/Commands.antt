@@ -37,11 +37,3 @@ machine_command names (commands.End request) = machine.Command.End request
 machine_command names (commands.Invalidate session) = machine.Command.Invalidate session
 machine_command names commands.Live = machine.Command.Live
 machine_command names commands.Shutdown = machine.Command.Shutdown
-
--- it takes memory before it is carried out: for the names that it asks with, or for the numbers that it is answered with
-abbrev pub TakesMemory : Command → Type 0
-TakesMemory (commands.Call request type qualifiers method args) = Unit {0}
-TakesMemory (commands.Read request type qualifiers) = Unit {0}
-TakesMemory (commands.Fire request class qualifiers v) = Unit {0}
-TakesMemory commands.Live = Unit {0}
-TakesMemory _ = ⊥

@@ -22,6 +22,7 @@ abbrev pub answer_items : {tables : Tables} {legal : Legal} {Starved : Type 0} {
     → List Item → AnswersCommand tables legal Starved s c reply t → List Item
 answer_items h (AnswersCommand.refuses r e is stays) = h
 answer_items h (AnswersCommand.carries_out o e carries halts is) = carried_items h carries
+answer_items h (AnswersCommand.lacks_memory starved asks e is halts) = h
 
 -- what stands written, and the container's state, after some commands and lines that are none
 pub data History (tables : Tables) (legal : Legal) (Starved : Type 0)

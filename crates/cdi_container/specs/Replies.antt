@@ -16,6 +16,11 @@ abbrev pub has_value : Job → Bool
 has_value (jobs.Use request used) = true
 has_value _ = false
 
+-- it asks for the live instances
+abbrev pub asks_for_live : Job → Bool
+asks_for_live jobs.Live = true
+asks_for_live _ = false
+
 -- how a job ended tells its reply, but for the live instances, which the world tells
 abbrev pub IsToldByEnd : Job → Type 0
 IsToldByEnd jobs.Live = ⊥

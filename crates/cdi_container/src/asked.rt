@@ -1,10 +1,13 @@
 //! What a command asks for, with the names of a deployment.
 ghost use Rattle.std.specs.Prelude.{◌≡◌, map, IfOk};
+ghost use Rattle.std.specs.Option.{option_copied};
 ghost use Rattle.cdi_base.specs.Name.{number_of};
 ghost use Rattle.cdi_container.specs.Commands as spec;
+ghost use Rattle.cdi_steps.specs.Words.{command_of};
+ghost use Rattle.cdi_steps.specs.declared.task.BeanPurpose.TheVariants as purposes;
 
-use cdi_base::{MemberValue, Names, Seq, Text, Use, Value, WrittenMember, WrittenUse};
-use cdi_steps::{BeanPurpose, BeanUse, Event};
+use cdi_base::{Command, MemberValue, Names, Seq, Text, Use, Value, WrittenMember, WrittenUse};
+use cdi_steps::{BeanPurpose, BeanUse, Event, Job};
 use std::alloc::{AllocError, Global};
 
 fn member_for(names: &Names, written: &WrittenMember) -> Result<MemberValue, AllocError>
@@ -51,7 +54,7 @@ fn uses_for(alloc: Global, names: &Names, written: &[WrittenUse]) -> Result<Seq<
 }
 
 /// The use of a bean. A name that the table doesn't hold gets a number that no name has.
-pub(crate) fn bean_use(
+fn bean_use(
     alloc: Global,
     names: &Names,
     bean_type: &Text,
@@ -73,23 +76,107 @@ pub(crate) fn bean_use(
 }
 
 /// The event that a command fires, with its names in the same way.
-pub(crate) fn event(
+fn event(
     alloc: Global,
     names: &Names,
     class: &Text,
     qualifiers: &[WrittenUse],
-    value: Value,
+    value: &Value,
 ) -> Result<Box<Event>, AllocError>
     ensures { IfOk result (λ event. event.value ≡ record {
       class = number_of names.now class.now;
       qualifiers = spec.uses_for names.now qualifiers.now;
-      value = value;
+      value = value.now;
     }) }
 {
     let event = Event {
         class: names.name_for(class.as_str()),
         qualifiers: uses_for(alloc, names, qualifiers)?,
-        value,
+        value: value.clone()?,
     };
     Ok(Box::new(alloc, event)?)
+}
+
+/// The call of a method, with the values that it takes.
+fn call_of(names: &Names, method: &Text, args: &Seq<Value>) -> Result<BeanPurpose, AllocError>
+    ensures { IfOk result (λ purpose.
+        purpose ≡ purposes.Call (number_of names.now method.now) args.now) }
+{
+    Ok(BeanPurpose::Call {
+        method: names.name_for(method.as_str()),
+        args: args.clone()?,
+    })
+}
+
+/// A name, if there is one.
+pub(crate) fn text_of(name: Option<&Text>) -> Option<&str>
+    ensures { option_copied result ≡ option_copied name.entry }
+{
+    match name {
+        Some(name) => Some(name.as_str()),
+        None => None,
+    }
+}
+
+/// A copy of a name, if there is one.
+fn copy_of(name: &Option<Text>) -> Result<Option<Text>, AllocError>
+    ensures { IfOk result (λ copy. copy ≡ name.now) }
+{
+    match name {
+        Some(name) => Ok(Some(name.clone()?)),
+        None => Ok(None),
+    }
+}
+
+/// What a command asks the engine for, with the names of the deployment.
+pub(crate) fn job_for(alloc: Global, names: &Names, command: &Command) -> Result<Job, AllocError>
+    ensures { IfOk result (λ job. command_of job ≡ spec.machine_command names.now command.now) }
+{
+    Ok(match command {
+        Command::Begin { request, session } => Job::Begin {
+            request: request.clone()?,
+            session: copy_of(session)?,
+        },
+        Command::Call {
+            request,
+            bean_type,
+            qualifiers,
+            method,
+            args,
+        } => {
+            let call = call_of(names, method, args)?;
+            Job::Use {
+                request: copy_of(request)?,
+                used: bean_use(alloc, names, bean_type, qualifiers.as_slice(), call)?,
+            }
+        }
+        Command::Read {
+            request,
+            bean_type,
+            qualifiers,
+        } => {
+            let qualifiers = qualifiers.as_slice();
+            Job::Use {
+                request: copy_of(request)?,
+                used: bean_use(alloc, names, bean_type, qualifiers, BeanPurpose::Read)?,
+            }
+        }
+        Command::Fire {
+            request,
+            class,
+            qualifiers,
+            value,
+        } => Job::Fire {
+            request: copy_of(request)?,
+            event: event(alloc, names, class, qualifiers.as_slice(), value)?,
+        },
+        Command::End { request } => Job::End {
+            request: request.clone()?,
+        },
+        Command::Invalidate { session } => Job::Invalidate {
+            session: session.clone()?,
+        },
+        Command::Live => Job::Live,
+        Command::Shutdown => Job::Shutdown,
+    })
 }

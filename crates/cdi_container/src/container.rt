@@ -1,5 +1,7 @@
 //! The container: it carries out commands, one after the other.
-ghost use Rattle.std.specs.Prelude.{◌≡◌, None, map, IfOk, OnErr};
+ghost use Rattle.std.specs.Prelude.{◌≡◌, None, length, map};
+ghost use Rattle.std.specs.Option.{is_some};
+ghost use Rattle.cdi_base.specs.Maps.{at};
 ghost use Rattle.cdi_machine.specs.Commands.{task};
 ghost use Rattle.cdi_machine.specs.Container.{refusal as machine_refusal};
 ghost use Rattle.cdi_machine.specs.World.{at_begin};
@@ -10,20 +12,19 @@ ghost use Rattle.cdi_steps.specs.Words.{command_of, outcome_of};
 ghost use Rattle.cdi_steps.specs.Known.{KnownJob};
 ghost use Rattle.cdi_container.specs.Standing as spec;
 ghost use Rattle.cdi_container.specs.States.{AnswersCommand, CarriesOut, after_refusal, machine_state};
-ghost use Rattle.cdi_base.specs.declared.reply.Reply.TheVariants.{Refused};
+ghost use Rattle.cdi_container.specs.States.{refusal_in_state, without_memory};
+ghost use Rattle.cdi_base.specs.declared.reply.Reply.TheVariants.{Halted, Refused};
 
-use crate::asked::{bean_use, event};
-use crate::reply::{cause, has_value, reply_of};
-use cdi_base::{
-    Cause, Command, Entry, Limits, Names, Refusal, Reply, Seq, Text, Value, WrittenUse,
-};
+use crate::asked::{job_for, text_of};
+use crate::reply::{asks_for_live, cause, has_value, reply_of};
+use cdi_base::{Cause, Command, Entry, Limits, Names, Refusal, Reply, Seq};
 use cdi_frames::run::run;
 use cdi_machine::Driver;
 use cdi_run_tables::RunTables;
 use cdi_runtime::Runtime;
 use cdi_steps::task::Task;
-use cdi_steps::{BeanPurpose, Job, Outcome};
-use std::alloc::{AllocError, Global};
+use cdi_steps::{Job, Outcome};
+use std::alloc::Global;
 use std::marker::Model;
 
 /// A container: a deployment with what drives its bodies, and what the commands so far have left.
@@ -81,10 +82,8 @@ fn carry_out<D: Driver>(runtime: &mut Runtime<D>, job: Job) -> Outcome
 }
 
 impl<D: Driver> Container<D> {
-    ghost use Rattle.cdi_base.specs.Name.{number_of};
     ghost use Rattle.cdi_machine.specs.Commands.{Command as MachineCommand};
-    ghost use Rattle.cdi_steps.specs.Words.{use_command};
-    ghost use Rattle.cdi_container.specs.Commands.{TakesMemory, asked_in, machine_command, uses_for};
+    ghost use Rattle.cdi_container.specs.Commands.{machine_command};
     ghost use Rattle.cdi_container.specs.Replies.{IsToldByEnd};
 
     /// Starts a container (Jakarta CDI 4.0, *Container lifecycle events*). A start that is cut gives a container that has
@@ -124,6 +123,20 @@ impl<D: Driver> Container<D> {
         ensures { result.now ≡ (spec.state_of self.now).world.trace }
     {
         self.runtime.world().trace()
+    }
+
+    /// How many instances are live: made, and neither dropped nor gone.
+    pub fn live_count(&self) -> usize
+        ensures { result ≡ length (spec.state_of self.now).world.instances }
+    {
+        self.runtime.world().live_count()
+    }
+
+    /// Whether the instance with a number is live.
+    pub fn live(&self, number: u32) -> bool
+        ensures { result ≡ is_some (at (spec.state_of self.now).world.instances number) }
+    {
+        self.runtime.world().is_live(number)
     }
 
     /// Why the container takes no further command, if a cut has halted it.
@@ -180,70 +193,16 @@ impl<D: Driver> Container<D> {
         self.runtime.refusal(self.halted.is_some(), job)
     }
 
-    /// Carries a job out, or refuses it.
-    fn ask(&mut self, job: Job) -> Reply
-        requires { IsToldByEnd job }
-        ensures answers { AnswersCommand
-            (spec.tables_of self.old) (D.legal self.old.runtime.driver) (Unit {0})
-            (spec.state_of self.old) (command_of job) result (spec.state_of self.new) }
+    /// Halts, since memory is wanting for what a command asks with: nothing of it was carried out.
+    fn starve(&mut self) -> Reply
+        ensures reply { result ≡ Halted Cause.Memory }
+        ensures state { spec.state_of self.new ≡ without_memory (spec.state_of self.old) }
         ensures same { spec.SameParts
             (D.legal self.old.runtime.driver) (D.legal self.new.runtime.driver) self.old self.new }
     {
-        match self.refusal(&job) {
-            Some(refusal) => self.refuse(refusal),
-            None => self.perform(job),
-        }
-    }
-
-    /// Uses a bean, or refuses to.
-    fn use_bean(
-        &mut self,
-        request: Option<Text>,
-        bean_type: &Text,
-        qualifiers: &[WrittenUse],
-        purpose: BeanPurpose,
-    ) -> Result<Reply, AllocError>
-        ensures answers { IfOk result (λ reply.
-            AnswersCommand (spec.tables_of self.old) (D.legal self.old.runtime.driver) (Unit {0})
-            (spec.state_of self.old)
-            (use_command request
-            (asked_in (spec.names_of self.old) bean_type.now qualifiers.now) purpose)
-            reply (spec.state_of self.new)) }
-        ensures same { spec.SameParts
-            (D.legal self.old.runtime.driver) (D.legal self.new.runtime.driver) self.old self.new }
-        ensures err { OnErr result (self.new ≡ self.old) }
-    {
-        let names = self.names();
-        match bean_use(self.runtime.alloc, names, bean_type, qualifiers, purpose) {
-            Ok(used) => Ok(self.ask(Job::Use { request, used })),
-            Err(_) => Err(AllocError),
-        }
-    }
-
-    /// Fires an event, or refuses to.
-    fn fire(
-        &mut self,
-        request: Option<Text>,
-        class: &Text,
-        qualifiers: &[WrittenUse],
-        value: Value,
-    ) -> Result<Reply, AllocError>
-        ensures answers { IfOk result (λ reply.
-            AnswersCommand (spec.tables_of self.old) (D.legal self.old.runtime.driver) (Unit {0})
-            (spec.state_of self.old)
-            (MachineCommand.Fire request
-            (number_of (spec.names_of self.old) class.now)
-            (uses_for (spec.names_of self.old) qualifiers.now) value)
-            reply (spec.state_of self.new)) }
-        ensures same { spec.SameParts
-            (D.legal self.old.runtime.driver) (D.legal self.new.runtime.driver) self.old self.new }
-        ensures err { OnErr result (self.new ≡ self.old) }
-    {
-        let names = self.names();
-        match event(self.runtime.alloc, names, class, qualifiers, value) {
-            Ok(event) => Ok(self.ask(Job::Fire { request, event })),
-            Err(_) => Err(AllocError),
-        }
+        self.forget();
+        self.halted = Some(Cause::Memory);
+        Reply::Halted(Cause::Memory)
     }
 
     /// Tells the numbers of the live instances. Nothing is left to be carried out then, and nothing can be cut.
@@ -262,73 +221,102 @@ impl<D: Driver> Container<D> {
         Reply::Live(numbers)
     }
 
-    /// Tells them, or refuses to.
-    fn live(&mut self) -> Result<Reply, AllocError>
-        ensures answers { IfOk result (λ reply.
-            AnswersCommand (spec.tables_of self.old) (D.legal self.old.runtime.driver) (Unit {0})
-            (spec.state_of self.old) MachineCommand.Live reply (spec.state_of self.new)) }
+    /// Tells them, or halts if memory is wanting for them.
+    fn tell_live(&mut self) -> Reply
+        requires admitted { machine_refusal
+            (spec.tables_of self.old) (machine_state (spec.state_of self.old)) MachineCommand.Live
+            ≡ None }
+        ensures answers { AnswersCommand
+            (spec.tables_of self.old) (D.legal self.old.runtime.driver) (Unit {0})
+            (spec.state_of self.old) MachineCommand.Live result (spec.state_of self.new) }
         ensures same { spec.SameParts
             (D.legal self.old.runtime.driver) (D.legal self.new.runtime.driver) self.old self.new }
-        ensures err { OnErr result (self.new ≡ self.old) }
     {
-        match self.refusal(&Job::Live) {
-            Some(refusal) => Ok(self.refuse(refusal)),
-            None => match self.runtime.world().live_numbers() {
-                Ok(numbers) => Ok(self.tell(numbers)),
-                Err(_) => Err(AllocError),
-            },
+        match self.runtime.world().live_numbers() {
+            Ok(numbers) => self.tell(numbers),
+            Err(_) => self.starve(),
+        }
+    }
+
+    /// Answers a job that isn't refused.
+    fn answer_job(&mut self, job: Job) -> Reply
+        requires admitted { machine_refusal
+            (spec.tables_of self.old) (machine_state (spec.state_of self.old)) (command_of job)
+            ≡ None }
+        ensures answers { AnswersCommand
+            (spec.tables_of self.old) (D.legal self.old.runtime.driver) (Unit {0})
+            (spec.state_of self.old) (command_of job) result (spec.state_of self.new) }
+        ensures same { spec.SameParts
+            (D.legal self.old.runtime.driver) (D.legal self.new.runtime.driver) self.old self.new }
+    {
+        if asks_for_live(&job) {
+            return self.tell_live();
+        }
+        self.perform(job)
+    }
+
+    /// Carries a job out, or refuses it.
+    fn ask(&mut self, job: Job) -> Reply
+        ensures answers { AnswersCommand
+            (spec.tables_of self.old) (D.legal self.old.runtime.driver) (Unit {0})
+            (spec.state_of self.old) (command_of job) result (spec.state_of self.new) }
+        ensures same { spec.SameParts
+            (D.legal self.old.runtime.driver) (D.legal self.new.runtime.driver) self.old self.new }
+    {
+        match self.refusal(&job) {
+            Some(refusal) => self.refuse(refusal),
+            None => self.answer_job(job),
+        }
+    }
+
+    /// Why a command is refused whatever the deployment is, if it is: the container has halted or is down, or a request or
+    /// a session isn't there, or can't begin. No memory is asked for.
+    fn refusal_in_state(&self, command: &Command) -> Option<Refusal>
+        ensures { result ≡ refusal_in_state (machine_state (spec.state_of self.now))
+            (machine_command (spec.names_of self.now) command.now) }
+    {
+        if self.halted.is_some() {
+            return Some(Refusal::Halted);
+        }
+        let world = self.runtime.world();
+        if world.is_down() {
+            return Some(Refusal::Down);
+        }
+        match command {
+            Command::Begin { request, session } => {
+                world.refuses_begin(request.as_str(), text_of(session.as_ref()))
+            }
+            Command::Call { request, .. } => world.refuses_in(text_of(request.as_ref())),
+            Command::Read { request, .. } => world.refuses_in(text_of(request.as_ref())),
+            Command::Fire { request, .. } => world.refuses_in(text_of(request.as_ref())),
+            Command::End { request } => world.refuses_in(Some(request.as_str())),
+            Command::Invalidate { session } => world.refuses_invalidate(session.as_str()),
+            Command::Live | Command::Shutdown => None,
         }
     }
 
     /// Carries a command out, or refuses it: the first refusal that holds, in the order of [`Refusal`]. A refused
-    /// command leaves all as it was, but for the trace, which is empty. A command that is cut, for want of memory
-    /// too, is answered as halted with the cause, and every later one is refused.
+    /// command leaves all as it was, but for the trace, which is empty. A command that is cut is answered as halted with
+    /// the cause, and every later one is refused.
     ///
-    /// The one error is [`AllocError`], if memory ran out before a call, a read or an event was carried out, or for the
-    /// numbers of the live instances: nothing has changed then.
-    pub fn command(&mut self, command: Command) -> Result<Reply, AllocError>
-        ensures answers { IfOk result (λ reply.
-            AnswersCommand (spec.tables_of self.old) (D.legal self.old.runtime.driver) (Unit {0})
-            (spec.state_of self.old) (machine_command (spec.names_of self.old) command)
-            reply (spec.state_of self.new)) }
+    /// Want of memory is such a cause, also before anything is carried out: then the trace is empty. Whether the container
+    /// has halted or is down, and whether the request and the session are there, is looked at before any memory is asked
+    /// for.
+    pub fn command(&mut self, command: &Command) -> Reply
+        ensures answers { AnswersCommand
+            (spec.tables_of self.old) (D.legal self.old.runtime.driver) (Unit {0})
+            (spec.state_of self.old) (machine_command (spec.names_of self.old) command.now)
+            result (spec.state_of self.new) }
         ensures same { spec.SameParts
             (D.legal self.old.runtime.driver) (D.legal self.new.runtime.driver) self.old self.new }
-        ensures err { OnErr result (self.new ≡ self.old) }
-        ensures memory { OnErr result (TakesMemory command) }
     {
-        match command {
-            Command::Call {
-                request,
-                bean_type,
-                qualifiers,
-                method,
-                args,
-            } => {
-                let method = self.names().name_for(method.as_str());
-                let purpose = BeanPurpose::Call { method, args };
-                self.use_bean(request, &bean_type, qualifiers.as_slice(), purpose)
-            }
-            Command::Read {
-                request,
-                bean_type,
-                qualifiers,
-            } => self.use_bean(
-                request,
-                &bean_type,
-                qualifiers.as_slice(),
-                BeanPurpose::Read,
-            ),
-            Command::Fire {
-                request,
-                class,
-                qualifiers,
-                value,
-            } => self.fire(request, &class, qualifiers.as_slice(), value),
-            Command::Begin { request, session } => Ok(self.ask(Job::Begin { request, session })),
-            Command::End { request } => Ok(self.ask(Job::End { request })),
-            Command::Invalidate { session } => Ok(self.ask(Job::Invalidate { session })),
-            Command::Live => self.live(),
-            Command::Shutdown => Ok(self.ask(Job::Shutdown)),
+        if let Some(refusal) = self.refusal_in_state(command) {
+            return self.refuse(refusal);
+        }
+        let names = self.names();
+        match job_for(self.runtime.alloc, names, command) {
+            Ok(job) => self.ask(job),
+            Err(_) => self.starve(),
         }
     }
 }

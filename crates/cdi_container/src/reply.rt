@@ -14,6 +14,13 @@ pub(crate) fn has_value(job: &Job) -> bool
     matches!(job, Job::Use { .. })
 }
 
+/// Whether a job asks for the live instances.
+pub(crate) fn asks_for_live(job: &Job) -> bool
+    ensures { result ≡ spec.asks_for_live job.now }
+{
+    matches!(job, Job::Live)
+}
+
 /// Why a container has halted whose last job ended so, if it has.
 pub(crate) fn cause(outcome: &Outcome) -> Option<Cause>
     ensures { result ≡ cause_of (outcome_of outcome.now) }

@@ -27,7 +27,7 @@ impl<D: Driver> Container<D> {
         ensures err { OnErr result (self.new ≡ self.old) }
     {
         match read_command(alloc, line) {
-            Ok(command) => self.command(command),
+            Ok(command) => Ok(self.command(&command)),
             Err(OrMemory::Fault(_)) => Ok(self.refuse(Refusal::BadLine)),
             Err(OrMemory::Memory) => Err(AllocError),
         }

@@ -55,6 +55,8 @@ module _ (shows : Bool) (names : List (List ℕ)) (tables : Tables) (legal : Leg
   carried_one p w o o' v v' e (CarriesOut.starves s r) n n' = absurd (n' refl)
 
   pub answers_one : (c : Command) (s : ContainerState) (r r' : Reply) (t t' : ContainerState) → AnswersCommand tables legal (Unit {0}) s c r t → AnswersCommand tables legal (Unit {0}) s c r' t' → IsFed t → IsFed t' → SameReply r r' t t'
+  answers_one c s r r' t t' (AnswersCommand.lacks_memory starved asks e is halts) h' n n' = absurd (n (ap (λ (x : ContainerState). x.halted) halts))
+  answers_one c s r r' t t' h (AnswersCommand.lacks_memory starved asks e is halts) n n' = absurd (n' (ap (λ (x : ContainerState). x.halted) halts))
   answers_one c s r r' t t' (AnswersCommand.refuses why e is stays) (AnswersCommand.refuses why' e' is' stays') n n' =
       record { reply = is ∙ ap replies.Refused (one_refusal (refusal tables (machine_state s) c) why why' e e') ∙ sym is'; state = stays ∙ sym stays' }
   answers_one c s r r' t t' (AnswersCommand.refuses why e is stays) (AnswersCommand.carries_out o e' k halts is') n n' = absurd (not_both (refusal tables (machine_state s) c) why e e')
@@ -73,6 +75,7 @@ module _ (shows : Bool) (names : List (List ℕ)) (tables : Tables) (legal : Leg
   -- a container that has halted stays so
   answers_halted : (c : Command) (s : ContainerState) (r : Reply) (t : ContainerState) → AnswersCommand tables legal (Unit {0}) s c r t → s.halted ≡ Some causes.Memory → t.halted ≡ Some causes.Memory
   answers_halted c s r t (AnswersCommand.refuses why e is stays) h = ap (λ (x : ContainerState). x.halted) stays ∙ h
+  answers_halted c s r t (AnswersCommand.lacks_memory starved asks e is halts) h = ap (λ (x : ContainerState). x.halted) halts
   answers_halted c s r t (AnswersCommand.carries_out o e k halts is) h = let none = works_on tables s c e in absurd (cc (h, none))
 
   read_halted : (c : Result Read BadLine) (s : ContainerState) (r : Reply) (t : ContainerState) → AnswersRead names tables legal (Unit {0}) c s r t → s.halted ≡ Some causes.Memory → t.halted ≡ Some causes.Memory

@@ -30,6 +30,7 @@ module _ (names : List (List ℕ)) (tables : Tables) (small large : Legal) (more
 
   pub answers_more : (s : ContainerState) (c : Command) (reply : Reply) (t : ContainerState) → AnswersCommand tables small (Unit {0}) s c reply t → AnswersCommand tables large (Unit {0}) s c reply t
   answers_more s c reply t (AnswersCommand.refuses r e is stays) = AnswersCommand.refuses r e is stays
+  answers_more s c reply t (AnswersCommand.lacks_memory starved asks e is halts) = AnswersCommand.lacks_memory starved asks e is halts
   answers_more s c reply t (AnswersCommand.carries_out o e k halts is) = AnswersCommand.carries_out o e (carried _ _ o t.world k) halts is
 
   read_more : (c : Result Read BadLine) (s : ContainerState) (reply : Reply) (t : ContainerState) → AnswersRead names tables small (Unit {0}) c s reply t → AnswersRead names tables large (Unit {0}) c s reply t

@@ -4,5 +4,7 @@
 
 #[cfg(test)]
 mod accepted;
+#[cfg(test)]
+mod containers;
 pub mod deployments;
 pub mod faultless;

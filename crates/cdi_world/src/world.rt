@@ -1,5 +1,7 @@
 //! The world of a container.
-ghost use Rattle.std.specs.Prelude.{◌≡◌, map, IfOk};
+ghost use Rattle.std.specs.Prelude.{◌≡◌, length, map, IfOk};
+ghost use Rattle.std.specs.Option.{is_some};
+ghost use Rattle.cdi_base.specs.Maps.{at};
 ghost use Rattle.cdi_machine.specs.World.{at_begin, before_boot};
 
 mod contents;
@@ -104,6 +106,20 @@ impl World {
         ensures { IfOk result (λ numbers. numbers ≡ map (λ p. p.0) self.now.instances) }
     {
         Ok(Seq::new(self.store.numbers(self.alloc)?))
+    }
+
+    /// How many instances are live.
+    pub fn live_count(&self) -> usize
+        ensures { result ≡ length self.now.instances }
+    {
+        self.store.len()
+    }
+
+    /// Whether the instance with a number is live.
+    pub fn is_live(&self, number: u32) -> bool
+        ensures { result ≡ is_some (at self.now.instances number) }
+    {
+        self.store.key(number).is_some()
     }
 
     /// Whether the container is down.
