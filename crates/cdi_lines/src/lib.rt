@@ -2,6 +2,7 @@
 #![tactic(auto)]
 
 mod answer;
+pub mod buffered;
 pub mod fault;
 pub mod input;
 pub mod laws;
@@ -13,6 +14,7 @@ pub mod sink;
 pub mod source;
 pub mod writer;
 
+pub use buffered::Buffered;
 pub use fault::ServeFault;
 pub use input::Input;
 pub use output::Output;

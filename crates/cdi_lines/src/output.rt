@@ -1,14 +1,15 @@
-//! A writer of the standard library as a sink.
+//! A writer as a sink.
 ghost use Rattle.std.specs.Prelude.{◌≡◌, false, OnOk, IsTrue};
 ghost use Rattle.std.specs.Io.KnownBytes.{Keeps};
 ghost use Rattle.cdi_lines.specs.Calls.{FlushesOnce, WritesOnce, WritesOut};
 ghost use Rattle.cdi_lines.specs.Ends.{Tells, WritesAll};
-ghost use Rattle.cdi_lines.specs.Streams.{writer_of, has_write_failed, is_flushed};
+ghost use Rattle.cdi_lines.specs.Streams.{writer_of, has_write_failed, is_all_passed_on, is_flushed};
 
 use crate::sink::{Sink, WriteFailed};
 use crate::writer::Writer;
 
-/// A writer as a sink. After its first failure the writer isn't asked again.
+/// A writer as a sink. After its first failure the writer isn't asked again. It has passed all on once the writer has
+/// flushed after the last write, and holds nothing back as far as that is known.
 #[derive(Drop)]
 pub struct Output<W> {
     writer: W,
@@ -66,7 +67,7 @@ impl<W: Writer> Sink for Output<W> {
 
     ghost has_failed = { λ output. has_write_failed output };
 
-    ghost is_passed_on = { λ output. is_flushed output };
+    ghost is_passed_on = { is_all_passed_on W.holds_nothing };
 
     fn write(&mut self, bytes: &[u8]) -> Result<(), WriteFailed>
         ensures bytes { WritesAll (W.contents (writer_of self.old))
@@ -86,7 +87,7 @@ impl<W: Writer> Sink for Output<W> {
     fn flush(&mut self) -> Result<(), WriteFailed>
         ensures bytes { Keeps (W.contents (writer_of self.old)) (W.contents (writer_of self.new)) }
         ensures failed { Tells result (has_write_failed self.old) (has_write_failed self.new) }
-        ensures passed_on { OnOk result (IsTrue (is_flushed self.new)) }
+        ensures passed_on { OnOk result (IsTrue (is_all_passed_on W.holds_nothing self.new)) }
         ensures asked { FlushesOnce W.flushes self.old result self.new }
     {
         if self.has_failed {

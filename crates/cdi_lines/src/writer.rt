@@ -1,5 +1,5 @@
 //! What an output writes to.
-ghost use Rattle.std.specs.Prelude.{ℕ, ◌≤◌, Bool, List, Option, length, IfSome, is_ok};
+ghost use Rattle.std.specs.Prelude.{ℕ, ◌≤◌, Bool, List, Option, length, IfSome, IsTrue, OnOk, is_ok, true};
 ghost use Rattle.std.specs.Io.{WritesAtMost};
 ghost use Rattle.std.specs.Io.KnownBytes.{Keeps, WriteAppends};
 ghost use Rattle.cdi_lines.specs.Calls.{given};
@@ -12,6 +12,9 @@ use std::io::Write;
 pub trait Writer {
     // The bytes that it holds, where that is known.
     ghost contents: { Self → Option (List ℕ) };
+
+    // Whether it holds nothing back, as far as that is known.
+    ghost holds_nothing: { Self → Bool };
 
     // A write of these bytes may take so many of them, or fail, and leave the writer so.
     ghost writes: { Self → List ℕ → Option ℕ → Self → Type 0 };
@@ -28,11 +31,15 @@ pub trait Writer {
     /// Passes on what it holds back.
     fn flush_once(&mut self) -> io::Result<()>
         ensures bytes { Keeps (contents self.old) (contents self.new) }
-        ensures flushes { flushes self.old (is_ok result) self.new };
+        ensures flushes { flushes self.old (is_ok result) self.new }
+        ensures nothing { OnOk result (IsTrue (holds_nothing self.new)) };
 }
 
 impl<W: Write> Writer for W {
     ghost contents = { W.contents };
+
+    // A writer of which no more is known is taken at its word.
+    ghost holds_nothing = { λ _. true };
 
     ghost writes = { λ _ bytes count _. IfSome count (λ n. n ≤ length bytes) };
 
