@@ -23,16 +23,25 @@ pub enum ServeFault {
     Memory,
 }
 
+impl ServeFault {
+    /// The fault in words.
+    pub const fn text(self) -> &'static str
+        ensures { result.now ≡ fault_text self }
+    {
+        match self {
+            ServeFault::Read => "the input could not be read",
+            ServeFault::TooLong => "the input is too long",
+            ServeFault::Write => "the output could not be written",
+            ServeFault::Memory => "out of memory",
+        }
+    }
+}
+
 impl fmt::Display for ServeFault {
     ghost output = { λ fault. Some (fault_text fault) };
 
     fn fmt<W: fmt::Write>(&self, f: &mut fmt::Formatter<W>) -> fmt::Result {
-        match self {
-            ServeFault::Read => write!(f, "the input could not be read"),
-            ServeFault::TooLong => write!(f, "the input is too long"),
-            ServeFault::Write => write!(f, "the output could not be written"),
-            ServeFault::Memory => write!(f, "out of memory"),
-        }
+        f.write_str(self.text())
     }
 }
 
