@@ -2,3 +2,4 @@ pub mod Lines
 pub mod Mapped
 pub mod Reading
 pub mod Served
+pub mod Writing

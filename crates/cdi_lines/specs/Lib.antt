@@ -1,4 +1,6 @@
+pub mod Calls
 pub mod Ends
+pub mod Faults
 pub mod Lines
 pub mod Served
 pub mod Streams

@@ -1,29 +1,51 @@
 //! Why serving ended before the end of the input.
-ghost use Rattle.std.specs.Prelude.{◌≡◌};
+ghost use Rattle.std.specs.Prelude.{◌≡◌, Some};
 ghost use Rattle.cdi_lines.specs.declared.fault.ServeFault.TheVariants as faults;
+ghost use Rattle.cdi_lines.specs.Faults.{fault_text};
 
 use crate::sink::WriteFailed;
 use crate::source::ReadFailed;
 use std::alloc::{AllocError, AllocFailed};
-use thiserror::Error;
+use std::error::Error;
+use std::fmt;
 
 /// Why serving ended before the end of the input.
-#[derive(Clone, Copy, Debug, PartialEq, Eq, Error)]
+#[derive(Clone, Copy, Debug, PartialEq, Eq)]
 pub enum ServeFault {
     /// A read failed. Each line that ends in what was read before is answered.
-    #[error("the input could not be read")]
     Read,
     /// The input has more bytes than may be read. Each line that ends in what was read is answered.
-    #[error("the input is too long")]
     TooLong,
     /// A write or a flush failed. Some whole lines in front are answered, and a front part of their replies is written.
-    #[error("the output could not be written")]
     Write,
     /// A growth was refused. Some whole lines in front are answered, and their replies are written. One line more may be
     /// answered, whose reply is lost.
-    #[error("out of memory")]
     Memory,
 }
+
+impl ServeFault {
+    /// The fault in words.
+    pub const fn text(self) -> &'static str
+        ensures { result.now ≡ fault_text self }
+    {
+        match self {
+            ServeFault::Read => "the input could not be read",
+            ServeFault::TooLong => "the input is too long",
+            ServeFault::Write => "the output could not be written",
+            ServeFault::Memory => "out of memory",
+        }
+    }
+}
+
+impl fmt::Display for ServeFault {
+    ghost output = { λ fault. Some (fault_text fault) };
+
+    fn fmt<W: fmt::Write>(&self, f: &mut fmt::Formatter<W>) -> fmt::Result {
+        f.write_str(self.text())
+    }
+}
+
+impl Error for ServeFault {}
 
 impl From<ReadFailed> for ServeFault {
     ghost from_gives = { λ _ e. e ≡ faults.Read };

@@ -1,10 +1,14 @@
 //! A reader of the standard library as a source.
 ghost use Rattle.std.specs.Prelude.{◌≡◌, false};
+ghost use Rattle.std.specs.Io.{ReadsAtMost};
+ghost use Rattle.std.specs.Io.KnownBytes.{ReadConsumes};
+ghost use Rattle.cdi_lines.specs.Calls.{ReadsOnce};
+ghost use Rattle.cdi_lines.specs.Ends.{Tells};
 ghost use Rattle.cdi_lines.specs.Streams.{reader_of, has_read_failed};
 
+use crate::reader::Reader;
 use crate::sink::Sink;
 use crate::source::{ReadFailed, Source};
-use std::io::Read;
 
 /// A reader as a source. After its first failure the reader isn't asked again.
 #[derive(Drop)]
@@ -40,16 +44,22 @@ impl<R> Input<R> {
     }
 }
 
-impl<R: Read> Source for Input<R> {
+impl<R: Reader> Source for Input<R> {
     ghost unread = { λ input. R.remaining (reader_of input) };
 
     ghost has_failed = { λ input. has_read_failed input };
 
-    fn read<W: Sink>(&mut self, buf: &mut [u8], _output: &W) -> Result<usize, ReadFailed> {
+    fn read<W: Sink>(&mut self, buf: &mut [u8], _output: &W) -> Result<usize, ReadFailed>
+        ensures bound { ReadsAtMost result buf.new }
+        ensures bytes { ReadConsumes (R.remaining (reader_of self.old))
+            (R.remaining (reader_of self.new)) result buf.new }
+        ensures failed { Tells result (has_read_failed self.old) (has_read_failed self.new) }
+        ensures asked { ReadsOnce R.reads self.old buf.old result self.new buf.new }
+    {
         if self.has_failed {
             return Err(ReadFailed);
         }
-        match self.reader.read(buf) {
+        match self.reader.read_once(buf) {
             Ok(count) => Ok(count),
             Err(_error) => {
                 self.has_failed = true;

@@ -1,13 +1,15 @@
-//! A writer of the standard library as a sink.
-ghost use Rattle.std.specs.Prelude.{◌≡◌, false, true};
+//! A writer as a sink.
+ghost use Rattle.std.specs.Prelude.{◌≡◌, false, OnOk, IsTrue};
 ghost use Rattle.std.specs.Io.KnownBytes.{Keeps};
-ghost use Rattle.cdi_lines.specs.Ends.{WritesAll};
-ghost use Rattle.cdi_lines.specs.Streams.{writer_of, has_write_failed, is_flushed};
+ghost use Rattle.cdi_lines.specs.Calls.{FlushesOnce, WritesOnce, WritesOut};
+ghost use Rattle.cdi_lines.specs.Ends.{Tells, WritesAll};
+ghost use Rattle.cdi_lines.specs.Streams.{writer_of, has_write_failed, is_all_passed_on, is_flushed};
 
 use crate::sink::{Sink, WriteFailed};
-use std::io::Write;
+use crate::writer::Writer;
 
-/// A writer as a sink. After its first failure the writer isn't asked again.
+/// A writer as a sink. After its first failure the writer isn't asked again. It has passed all on once the writer has
+/// flushed after the last write, and holds nothing back as far as that is known.
 #[derive(Drop)]
 pub struct Output<W> {
     writer: W,
@@ -20,6 +22,7 @@ impl<W> Output<W> {
     pub fn new(writer: W) -> Output<W>
         ensures writer { writer_of result ≡ writer }
         ensures failed { has_write_failed result ≡ false }
+        ensures flushed { is_flushed result ≡ false }
     {
         Output {
             writer,
@@ -45,12 +48,13 @@ impl<W> Output<W> {
 
 /// Writes bytes whole, in as many writes as the writer needs. Where a write fails, or takes nothing while bytes are left,
 /// a front part of them stands in the writer.
-fn write_whole<W: Write>(writer: &mut W, bytes: &[u8]) -> Result<(), WriteFailed>
-    ensures { WritesAll (W.contents writer.old) (W.contents writer.new) result bytes.now }
+fn write_whole<W: Writer>(writer: &mut W, bytes: &[u8]) -> Result<(), WriteFailed>
+    ensures bytes { WritesAll (W.contents writer.old) (W.contents writer.new) result bytes.now }
+    ensures asked { WritesOut W.writes writer.old bytes.now result writer.new }
 {
     let mut rest = bytes;
     while !rest.is_empty() {
-        match writer.write(rest) {
+        match writer.write_once(rest) {
             Ok(0) | Err(_) => return Err(WriteFailed),
             Ok(count) => rest = &rest[count..],
         }
@@ -58,14 +62,19 @@ fn write_whole<W: Write>(writer: &mut W, bytes: &[u8]) -> Result<(), WriteFailed
     Ok(())
 }
 
-impl<W: Write> Sink for Output<W> {
+impl<W: Writer> Sink for Output<W> {
     ghost written = { λ output. W.contents (writer_of output) };
 
     ghost has_failed = { λ output. has_write_failed output };
 
-    ghost is_passed_on = { λ output. is_flushed output };
+    ghost is_passed_on = { is_all_passed_on W.holds_nothing };
 
-    fn write(&mut self, bytes: &[u8]) -> Result<(), WriteFailed> {
+    fn write(&mut self, bytes: &[u8]) -> Result<(), WriteFailed>
+        ensures bytes { WritesAll (W.contents (writer_of self.old))
+            (W.contents (writer_of self.new)) result bytes.now }
+        ensures failed { Tells result (has_write_failed self.old) (has_write_failed self.new) }
+        ensures asked { WritesOnce W.writes self.old bytes.now result self.new }
+    {
         if self.has_failed {
             return Err(WriteFailed);
         }
@@ -75,16 +84,22 @@ impl<W: Write> Sink for Output<W> {
         result
     }
 
-    fn flush(&mut self) -> Result<(), WriteFailed> {
+    fn flush(&mut self) -> Result<(), WriteFailed>
+        ensures bytes { Keeps (W.contents (writer_of self.old)) (W.contents (writer_of self.new)) }
+        ensures failed { Tells result (has_write_failed self.old) (has_write_failed self.new) }
+        ensures passed_on { OnOk result (IsTrue (is_all_passed_on W.holds_nothing self.new)) }
+        ensures asked { FlushesOnce W.flushes self.old result self.new }
+    {
         if self.has_failed {
             return Err(WriteFailed);
         }
-        match self.writer.flush() {
+        match self.writer.flush_once() {
             Ok(()) => {
                 self.is_flushed = true;
                 Ok(())
             }
             Err(_error) => {
+                self.is_flushed = false;
                 self.has_failed = true;
                 Err(WriteFailed)
             }
