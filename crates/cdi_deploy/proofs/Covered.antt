@@ -7,22 +7,20 @@ use Rattle.std.specs.Cmp.Lexicographic.{slice_cmp}
 use Rattle.std.specs.List.{All, list_all, list_any, position_or_len}
 use Rattle.std.specs.Option.{is_some, unwrap_or}
 use Rattle.std.specs.Ordering.{match_ordering}
-use Rattle.cdi_stage.specs.declared.stage.Stage.{Stage}
 use Rattle.cdi_base.specs.declared.uses.WrittenMember.{WrittenMember}
 use Rattle.cdi_base.specs.declared.uses.WrittenUse.{WrittenUse}
 use Rattle.cdi_base.specs.declared.value.Value.{Value}
 use Rattle.cdi_base.specs.Name.{is_known, number_of}
-use Rattle.cdi_stage.specs.Stage.{is_included}
 use Rattle.cdi_form.specs.declared.form.Kind.{Kind}
 use Rattle.cdi_form.specs.declared.form.Part.{Part}
 use Rattle.cdi_form.specs.declared.form.Part.TheVariants as parts
-use Rattle.cdi_form.specs.Table.{Row, rows, required, optional}
-use Rattle.cdi_form.specs.Form.{row_in, listed_part, part_at, item_part, named_part}
-use Rattle.cdi_form.specs.Keys.{is_met, are_listed, has_required, has_right_keys}
+use Rattle.cdi_form.specs.Table.{Row, rows, required}
+use Rattle.cdi_form.specs.Form.{row_in, part_at, item_part, named_part}
+use Rattle.cdi_form.specs.Keys.{is_met, has_right_keys}
 use Rattle.cdi_form.specs.HasForm.{HasItem, HasMember}
 use Rattle.cdi_form.specs.NamePlaces.{StandsAsName, itself, used, given, in_items, in_object}
 use Rattle.cdi_form.specs.Shape.{here_unless, or_else, under, at_part, wrong, wrong_items, wrong_members}
-use Rattle.cdi_form.specs.ValueForms.{use_in, members_in, value_in}
+use Rattle.cdi_form.specs.ValueForms.{members_in, value_in}
 use Rattle.serde_json.specs.Data.{Data, null, boolean, number, string, array, object, Items, no_items, item, Members, no_members, member}
 use Rattle.serde_json.specs.Find.{get, get_member}
 use Rattle.cdi_deploy.specs.Items.{each, name_in, names_in, member_value, nameless, numbered, use_in_table}
@@ -77,11 +75,11 @@ found-stands key (member l e ms) d found = by (slice_cmp nat_cmp key l) refl fou
 
 -- ---- what is covered by a table
 
-module _ (stage : Stage) (names : List (List ℕ)) where
+module _ (names : List (List ℕ)) where
   -- a value is of the form of a part, and each text in the place of a name stands in the table
   pub record Covers (part : Part) (d : Data) : Type 0 where
-    pub right : wrong stage d part ≡ None
-    pub known : (s : List ℕ) → StandsAsName stage s part d → is_known names s ≡ true
+    pub right : wrong d part ≡ None
+    pub known : (s : List ℕ) → StandsAsName s part d → is_known names s ≡ true
 
   pub number-below : (s : List ℕ) → is_known names s ≡ true → number_of names s < length names
   number-below s known = position-within (bytes_eq s) names known
@@ -100,7 +98,7 @@ module _ (stage : Stage) (names : List (List ℕ)) where
   named-of parts.Use inner at = absurd cc
   named-of part inner at = at
 
-  items-right : (part inner : Part) (ds : Items) → item_part part ≡ Some inner → wrong stage (array ds) part ≡ None → wrong_items stage ds inner 0 ≡ None
+  items-right : (part inner : Part) (ds : Items) → item_part part ≡ Some inner → wrong (array ds) part ≡ None → wrong_items ds inner 0 ≡ None
   items-right parts.Names inner ds at e = cc
   items-right parts.Uses inner ds at e = cc
   items-right parts.SomeUses inner no_items at e = refl
@@ -110,8 +108,8 @@ module _ (stage : Stage) (names : List (List ℕ)) where
   items-right _ inner ds at e = absurd cc
 
   module _ {X : Type 0} (P : X → Type 0) (f : Data → X) (inner : Part) (one : (d : Data) → Covers inner d → P (f d)) where
-    knows-each : (ds : Items) (i : ℕ) → wrong_items stage ds inner i ≡ None
-        → ((s : List ℕ) (d : Data) → HasItem ds d → StandsAsName stage s inner d → is_known names s ≡ true) → All P (each f ds)
+    knows-each : (ds : Items) (i : ℕ) → wrong_items ds inner i ≡ None
+        → ((s : List ℕ) (d : Data) → HasItem ds d → StandsAsName s inner d → is_known names s ≡ true) → All P (each f ds)
     knows-each no_items i e known = All-nil P
     knows-each (item d ds) i e known =
         All-cons P (f d) (each f ds)
@@ -133,30 +131,14 @@ module _ (stage : Stage) (names : List (List ℕ)) where
   AtKey row None = not row.is_required ≡ true
   AtKey row (Some d) = Covers row.part d
 
-  listed : (kind : Kind) (ms : Members) (key : List ℕ) (d : Data) → are_listed stage kind ms ≡ true → HasMember ms key d → is_some (part_at stage kind key) ≡ true
-  listed kind no_members key d e h = absurd h
-  listed kind (member k x ms) key d e (inl same) = ap (λ w. is_some (part_at stage kind w)) (sym same.0) ∙ (both _ _ e).0
-  listed kind (member k x ms) key d e (inr h) = listed kind ms key d (both _ _ e).1 h
-
-  member-right : (kind : Kind) (ms : Members) (key : List ℕ) (d : Data) (part : Part) → wrong_members stage ms kind ≡ None → HasMember ms key d
-      → part_at stage kind key ≡ Some part → wrong stage d part ≡ None
+  member-right : (kind : Kind) (ms : Members) (key : List ℕ) (d : Data) (part : Part) → wrong_members ms kind ≡ None → HasMember ms key d
+      → part_at kind key ≡ Some part → wrong d part ≡ None
   member-right kind no_members key d part e h at = absurd h
   member-right kind (member k x ms) key d part e (inl same) at =
-      let here : at_part (part_at stage kind k) (λ p. wrong stage x p) ≡ None = under_none _ _ (first_none _ _ e).0 in
-      let found : part_at stage kind k ≡ Some part = ap (part_at stage kind) same.0 ∙ at in
-      ap (λ y. wrong stage y part) (sym same.1) ∙ ap (λ o. at_part o (λ p. wrong stage x p)) (sym found) ∙ here
+      let here : at_part (part_at kind k) (λ p. wrong x p) ≡ None = under_none _ _ (first_none _ _ e).0 in
+      let found : part_at kind k ≡ Some part = ap (part_at kind) same.0 ∙ at in
+      ap (λ y. wrong y part) (sym same.1) ∙ ap (λ o. at_part o (λ p. wrong x p)) (sym found) ∙ here
   member-right kind (member k x ms) key d part e (inr h) at = member-right kind ms key d part (first_none _ _ e).1 h at
-
-  served-part : (row : Row) (o : Option Row) → o ≡ Some row → is_some (option_and_then (listed_part stage) o) ≡ true
-      → option_and_then (listed_part stage) o ≡ Some row.part
-  served-part row None is some = absurd cc
-  served-part row (Some other) is some =
-      let same : other ≡ row = cc in
-      by (is_included stage other.since) some ∙ ap (λ (r : Row). Some r.part) same
-    where
-      by : (b : Bool) → is_some (if b then Some other.part else None) ≡ true → (if b then Some other.part else None) ≡ Some other.part
-      by true e = refl
-      by false e = absurd cc
 
   keys-right : (b : Bool) (o : Option (List ℕ)) → (if b then o else Some []) ≡ None → (b ≡ true) × (o ≡ None)
   keys-right true o e = (refl, e)
@@ -165,7 +147,7 @@ module _ (stage : Stage) (names : List (List ℕ)) where
   module _ (kind : Kind) (row : Row) (found : row_in (rows kind) row.key ≡ Some row) where
     at-key : (ms : Members) → Covers (parts.Object kind) (object ms) → (o : Option Data) → get_member row.key ms ≡ o → AtKey row o
     at-key ms c None at =
-        let keys = keys-right (has_right_keys stage kind ms) _ c.right in
+        let keys = keys-right (has_right_keys kind ms) _ c.right in
         let met : is_met ms row ≡ true = found-passes (is_met ms) (λ r. bytes_eq r.key row.key) (rows kind) row (both _ _ keys.0).0 found in
         by row.is_required (ap (λ o. not row.is_required || is_some o) (sym at) ∙ met)
       where
@@ -173,10 +155,9 @@ module _ (stage : Stage) (names : List (List ℕ)) where
         by true e = e
         by false e = refl
     at-key ms c (Some d) at =
-        let keys = keys-right (has_right_keys stage kind ms) _ c.right in
+        let keys = keys-right (has_right_keys kind ms) _ c.right in
         let stands : HasMember ms row.key d = found-stands row.key ms d at in
-        let part : part_at stage kind row.key ≡ Some row.part =
-        served-part row (row_in (rows kind) row.key) found (listed kind ms row.key d (both _ _ keys.0).1 stands) in
+        let part : part_at kind row.key ≡ Some row.part = ap (option_map (λ r. r.part)) found in
         record {
           right = member-right kind ms row.key d row.part keys.1 stands part;
           known = λ s names_it. c.known s (in_object (parts.Object kind) row.part ms kind row.key d refl stands part names_it);
@@ -193,9 +174,9 @@ module _ (stage : Stage) (names : List (List ℕ)) where
 
   -- ---- what is read at a key
 
-  pub name-known : (key : List ℕ) (since : Stage) (o : Option Data) → AtKey (required key parts.Name since) o → number_of names (text_of o) < length names
-  name-known key since None c = absurd cc
-  name-known key since (Some d) c = knows-name d c
+  pub name-known : (key : List ℕ) (o : Option Data) → AtKey (required key parts.Name) o → number_of names (text_of o) < length names
+  name-known key None c = absurd cc
+  name-known key (Some d) c = knows-name d c
 
   module _ {X : Type 0} (P : X → Type 0) (f : Data → X) where
     pub maybe-known : (row : Row) → ((d : Data) → Covers row.part d → P (f d)) → (o : Option Data) → AtKey row o → IfSome (option_map f o) P
@@ -238,8 +219,8 @@ module _ (stage : Stage) (names : List (List ℕ)) where
   abbrev use_of : List ℕ → List WrittenMember → WrittenUse
   use_of s members = record { name = s; members = members }
 
-  array-known : (ds : Items) → wrong stage (array ds) parts.Use ≡ None
-      → ((s : List ℕ) → StandsAsName stage s parts.Use (array ds) → is_known names s ≡ true) → KnowsUse (length names) (use_in_table names (array ds))
+  array-known : (ds : Items) → wrong (array ds) parts.Use ≡ None
+      → ((s : List ℕ) → StandsAsName s parts.Use (array ds) → is_known names s ≡ true) → KnowsUse (length names) (use_in_table names (array ds))
   array-known no_items e known = absurd cc
   array-known (item a no_items) e known = absurd cc
   array-known (item (string s) (item (object ms) no_items)) e known = by (members_in ms) refl e

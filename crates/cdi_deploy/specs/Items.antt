@@ -1,12 +1,11 @@
 -- What a value of the right form stands for, where all names in it stand in a table.
-use Rattle.std.specs.Prelude.{ℕ, List, [], ◌∷◌, map, codes, Option, Some, None, option_map}
+use Rattle.std.specs.Prelude.{ℕ, List, [], ◌∷◌, map, codes, Option, Some, option_map}
 use Rattle.std.specs.Option.{unwrap_or}
 use Rattle.cdi_base.specs.declared.uses.MemberValue.{MemberValue}
 use Rattle.cdi_base.specs.declared.uses.Use.{Use}
 use Rattle.cdi_base.specs.declared.uses.WrittenMember.{WrittenMember}
 use Rattle.cdi_base.specs.declared.uses.WrittenUse.{WrittenUse}
 use Rattle.cdi_base.specs.Name.{number_of}
-use Rattle.cdi_stage.specs.Stage.{whole}
 use Rattle.cdi_form.specs.declared.form.Kind.{Kind}
 use Rattle.cdi_form.specs.declared.form.Kind.TheVariants as kinds
 use Rattle.cdi_form.specs.Words.{member_kind}
@@ -221,7 +220,7 @@ member_of (Some kinds.Observer) names d = members.Observer (observer_in names d)
 member_of _ names d = members.Method (method_in names d)
 
 abbrev pub member_in : List (List ℕ) → Data → Member
-member_in names d = member_of (member_kind whole (text_of (get (codes "kind") d))) names d
+member_in names d = member_of (member_kind (text_of (get (codes "kind") d))) names d
 
 -- ---- classes, scripts and the whole
 

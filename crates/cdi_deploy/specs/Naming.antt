@@ -1,7 +1,6 @@
 -- The table of the names of a deployment: the texts in the places of names are added one after the other, as they stand. Members of an
 -- object go by their keys in the order of bytes, items by their index, and in a use its name comes before the keys of its members.
 use Rattle.std.specs.Prelude.{ℕ, List, Option, Some, None, Result, Ok, Err, if◌then◌else◌}
-use Rattle.cdi_stage.specs.declared.stage.Stage.{Stage}
 use Rattle.cdi_base.specs.Name.{is_name, has_room, with_name}
 use Rattle.cdi_base.specs.Reading.{◌>>=◌}
 use Rattle.cdi_form.specs.declared.form.Kind.{Kind}
@@ -39,22 +38,22 @@ added_at None names inside = Ok names
 added_at (Some x) names inside = inside x
 
 abbrev mutual
-  pub names_added : Stage → List (List ℕ) → Data → Part → Table
-  names_added stage names (string s) part = text_added part names s
-  names_added stage names (array ds) part = added_at (named_part part) names
-      (λ inner. items_added stage names ds inner)
-  names_added stage names (object ms) parts.Use = keys_added names ms
-  names_added stage names (object ms) part = added_at (kind_of stage part ms) names
-      (λ kind. members_added stage names ms kind)
-  names_added stage names _ part = Ok names
+  pub names_added : List (List ℕ) → Data → Part → Table
+  names_added names (string s) part = text_added part names s
+  names_added names (array ds) part = added_at (named_part part) names
+      (λ inner. items_added names ds inner)
+  names_added names (object ms) parts.Use = keys_added names ms
+  names_added names (object ms) part = added_at (kind_of part ms) names
+      (λ kind. members_added names ms kind)
+  names_added names _ part = Ok names
 
-  pub items_added : Stage → List (List ℕ) → Items → Part → Table
-  items_added stage names no_items part = Ok names
-  items_added stage names (item d ds)
-      part = names_added stage names d part >>= λ after. items_added stage after ds part
+  pub items_added : List (List ℕ) → Items → Part → Table
+  items_added names no_items part = Ok names
+  items_added names (item d ds)
+      part = names_added names d part >>= λ after. items_added after ds part
 
-  pub members_added : Stage → List (List ℕ) → Members → Kind → Table
-  members_added stage names no_members kind = Ok names
-  members_added stage names (member key d ms) kind =
-      added_at (part_at stage kind key) names (λ part. names_added stage names d part)
-      >>= λ after. members_added stage after ms kind
+  pub members_added : List (List ℕ) → Members → Kind → Table
+  members_added names no_members kind = Ok names
+  members_added names (member key d ms) kind =
+      added_at (part_at kind key) names (λ part. names_added names d part)
+      >>= λ after. members_added after ms kind

@@ -5,7 +5,6 @@ use Rattle.cdi_base.specs.declared.scope.Scope.{Scope}
 use Rattle.cdi_base.specs.declared.scope.Scope.TheVariants as scopes
 use Rattle.cdi_base.specs.declared.value.Value.{Value}
 use Rattle.cdi_base.specs.declared.value.Value.TheVariants as values
-use Rattle.cdi_stage.specs.Stage.{whole}
 use Rattle.cdi_form.specs.Words.{scope_named}
 use Rattle.cdi_form.specs.ValueForms.{value_in}
 use Rattle.serde_json.specs.Data.{Num, unsigned, Data, null, boolean, number, string, array, Items, no_items}
@@ -47,7 +46,7 @@ whole_number_of _ = None
 
 -- a scope that is missing is Dependent
 abbrev pub scope_of : Option Data → Scope
-scope_of d = unwrap_or (scope_named whole (text_of d)) scopes.Dependent
+scope_of d = unwrap_or (scope_named (text_of d)) scopes.Dependent
 
 abbrev pub data_of : Option Data → Data
 data_of (Some d) = d

@@ -1,6 +1,5 @@
 -- Which bytes are a deployment, said apart from the order in which their faults are looked for.
 use Rattle.std.specs.Prelude.{◌≡◌, ℕ, List, Some, Ok, length, ◌≤◌, IsTrue}
-use Rattle.cdi_stage.specs.declared.stage.Stage.{Stage}
 use Rattle.cdi_base.specs.Name.{is_name}
 use Rattle.cdi_form.specs.HasForm.{HasForm}
 use Rattle.cdi_form.specs.NamePlaces.{StandsAsName}
@@ -11,7 +10,7 @@ use Rattle.cdi_deploy.specs.Items.{lists_in}
 use Rattle.cdi_deployment.specs.Limits.{is_within}
 use Rattle.cdi_deploy.specs.Reading.{root, table_of}
 
-pub record IsReadable (stage : Stage) (bytes : List ℕ) : Type 0 where
+pub record IsReadable (bytes : List ℕ) : Type 0 where
   -- there are not too many bytes, and they are JSON
   pub are_few : length bytes ≤ 1048576
   pub value : Data
@@ -19,11 +18,11 @@ pub record IsReadable (stage : Stage) (bytes : List ℕ) : Type 0 where
   -- each number is a whole number of 64 bits
   pub has_numbers : IsTrue (numbers_fit value)
   -- the value is of the form of a deployment
-  pub has_form : HasForm stage root value
+  pub has_form : HasForm root value
   -- each text in the place of a name is one
-  pub has_names : (s : List ℕ) → StandsAsName stage s root value → IsTrue (is_name s)
+  pub has_names : (s : List ℕ) → StandsAsName s root value → IsTrue (is_name s)
   -- the table has room for them
   pub names : List (List ℕ)
-  pub has_room : table_of stage value ≡ Ok names
+  pub has_room : table_of value ≡ Ok names
   -- no list is longer than its limit
   pub has_limits : IsTrue (is_within (lists_in names value))

@@ -1,10 +1,8 @@
 -- Bytes to the deployment that they are, or to their first fault.
 use Rattle.std.specs.Prelude.{ℕ, Bool, not, ◌&&◌, List, length, Option, Some, None, Result, Ok, Err, nat_lt, if◌then◌else◌}
 use Rattle.std.specs.Str.{is_utf8}
-use Rattle.cdi_stage.specs.declared.stage.Stage.{Stage}
 use Rattle.cdi_base.specs.BuiltIn.{built_in_names}
 use Rattle.cdi_base.specs.Reading.{◌>>=◌}
-use Rattle.cdi_stage.specs.Stage.{served}
 use Rattle.cdi_form.specs.declared.form.Kind.TheVariants as kinds
 use Rattle.cdi_form.specs.declared.form.Part.{Part}
 use Rattle.cdi_form.specs.declared.form.Part.TheVariants as parts
@@ -34,29 +32,23 @@ or_shape None next = next
 or_shape (Some path) next = Err (faults.Shape path)
 
 -- the table of the names of a value: it begins with the built-in names
-abbrev pub table_of : Stage → Data → Table
-table_of stage d = names_added stage built_in_names d root
+abbrev pub table_of : Data → Table
+table_of d = names_added built_in_names d root
 
 -- the lists of a value of the right form
-unfoldable pub lists_at : Stage → Data → Result Deployment ReadFault
-lists_at stage d = table_of stage d >>= λ names. Ok (lists_in names d)
-
-abbrev pub lists_of : Data → Result Deployment ReadFault
-lists_of d = lists_at served d
+unfoldable pub lists_of : Data → Result Deployment ReadFault
+lists_of d = table_of d >>= λ names. Ok (lists_in names d)
 
 abbrev pub within_limits : Deployment → Result Deployment ReadFault
 within_limits d = if is_within d then Ok d else Err faults.TooMany
 
--- the deployment that a JSON value is at a stage, or its first fault
-unfoldable pub deployment_at : Stage → Data → Result Deployment ReadFault
-deployment_at stage d =
+-- the deployment that a JSON value is, or its first fault
+unfoldable pub deployment_of : Data → Result Deployment ReadFault
+deployment_of d =
     if not (numbers_fit d) then Err faults.BadNumber
-    else or_shape (wrong stage d root)
-    (if not (names_fit stage d root) then Err faults.BadName
-    else lists_at stage d >>= within_limits)
-
-abbrev pub deployment_of : Data → Result Deployment ReadFault
-deployment_of d = deployment_at served d
+    else or_shape (wrong d root)
+    (if not (names_fit d root) then Err faults.BadName
+    else lists_of d >>= within_limits)
 
 -- more than 1,048,576 bytes
 abbrev pub is_too_long : List ℕ → Bool
@@ -66,12 +58,8 @@ is_too_long bytes = nat_lt 1048576 (length bytes)
 abbrev pub is_no_text : List ℕ → Bool
 is_no_text bytes = not (is_too_long bytes) && not (is_utf8 bytes)
 
--- the deployment that bytes are at a stage, or their first fault: too many are not looked at
-unfoldable pub read_at : Stage → List ℕ → Result Deployment ReadFault
-read_at stage bytes =
+-- the deployment that bytes are, or their first fault: too many are not looked at
+unfoldable pub deployment_in : List ℕ → Result Deployment ReadFault
+deployment_in bytes =
     if is_too_long bytes then Err faults.TooLong
-    else or_not_json (json_in bytes) >>= deployment_at stage
-
--- the same for what is served
-abbrev pub deployment_in : List ℕ → Result Deployment ReadFault
-deployment_in bytes = read_at served bytes
+    else or_not_json (json_in bytes) >>= deployment_of

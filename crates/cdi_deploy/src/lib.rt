@@ -11,4 +11,4 @@ mod parts;
 pub mod reading;
 
 pub use fault::ReadFault;
-pub use reading::{deployment_at, deployment_of, lists_at, lists_of, read, read_at};
+pub use reading::{deployment_of, lists_of, read};

@@ -12,7 +12,6 @@ use cdi_deployment::{
 };
 use cdi_form::Kind;
 use cdi_form::words::member_kind;
-use cdi_stage::WHOLE;
 use serde_json::Value as Json;
 use std::alloc::{AllocError, Global};
 
@@ -152,11 +151,6 @@ impl Item for Member {
     ghost form = { member_in };
 
     fn read(alloc: Global, names: &Names, value: &Json) -> Result<Member, AllocError> {
-        member_of(
-            alloc,
-            member_kind(WHOLE, text_at(value, "kind")),
-            names,
-            value,
-        )
+        member_of(alloc, member_kind(text_at(value, "kind")), names, value)
     }
 }

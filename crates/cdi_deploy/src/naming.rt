@@ -8,7 +8,6 @@ use crate::fault::ReadFault;
 use cdi_base::{Names, OrMemory, TableFull, is_name};
 use cdi_form::form::{Kind, Part, named_part, part_at};
 use cdi_form::keys::kind_of;
-use cdi_stage::Stage;
 use serde_json::{Map, Value};
 
 /// Adds a name. What isn't one was refused before, so the test only tells [`Names::intern`] so.
@@ -49,24 +48,23 @@ fn add_keys(names: &mut Names, members: &Map<String, Value>) -> Result<(), OrMem
 /// Adds the texts in the places of names, in a value at a part, to a table.
 #[cycle(naming)]
 pub(crate) fn add_names(
-    stage: Stage,
     names: &mut Names,
     value: &Value,
     part: Part,
 ) -> Result<(), OrMemory<ReadFault>>
     ensures { Gives (λ _. names.new) result
-        (spec.names_added stage names.old (view value.now) part) }
+        (spec.names_added names.old (view value.now) part) }
 {
     match value {
         Value::String(text) => add_text(part, names, text.as_str()),
         Value::Array(items) => match named_part(part) {
-            Some(inner) => add_items(stage, names, items, inner),
+            Some(inner) => add_items(names, items, inner),
             None => Ok(()),
         },
         Value::Object(members) => match part {
             Part::Use => add_keys(names, members),
-            _ => match kind_of(stage, part, members) {
-                Some(kind) => add_members(stage, names, members, kind),
+            _ => match kind_of(part, members) {
+                Some(kind) => add_members(names, members, kind),
                 None => Ok(()),
             },
         },
@@ -75,36 +73,30 @@ pub(crate) fn add_names(
 }
 
 #[cycle(naming)]
-fn add_items(
-    stage: Stage,
-    names: &mut Names,
-    items: &Vec<Value>,
-    part: Part,
-) -> Result<(), OrMemory<ReadFault>>
+fn add_items(names: &mut Names, items: &Vec<Value>, part: Part) -> Result<(), OrMemory<ReadFault>>
     ensures { Gives (λ _. names.new) result
-        (spec.items_added stage names.old (items_view items.now.items) part) }
+        (spec.items_added names.old (items_view items.now.items) part) }
 {
     for item in items {
-        add_names(stage, names, item, part)?;
+        add_names(names, item, part)?;
     }
     Ok(())
 }
 
 #[cycle(naming)]
 fn add_members(
-    stage: Stage,
     names: &mut Names,
     members: &Map<String, Value>,
     kind: Kind,
 ) -> Result<(), OrMemory<ReadFault>>
     ensures { Gives (λ _. names.new) result
-        (spec.members_added stage names.old (members_view members.now.entries) kind) }
+        (spec.members_added names.old (members_view members.now.entries) kind) }
 {
     for (key, member) in members.iter() {
-        let Some(part) = part_at(stage, kind, key.as_str()) else {
+        let Some(part) = part_at(kind, key.as_str()) else {
             continue;
         };
-        add_names(stage, names, member, part)?;
+        add_names(names, member, part)?;
     }
     Ok(())
 }

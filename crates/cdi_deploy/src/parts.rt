@@ -10,7 +10,6 @@ use cdi_deployment::Steps;
 use cdi_form::Form;
 use cdi_form::shape::MAX_ARGUMENTS;
 use cdi_form::words::scope_named;
-use cdi_stage::WHOLE;
 use serde_json::Value as Json;
 use std::alloc::{AllocError, Global};
 
@@ -102,7 +101,7 @@ pub(crate) fn value_at(alloc: Global, value: &Json, key: &str) -> Result<Value, 
 pub(crate) fn scope_at(value: &Json, key: &str) -> Scope
     ensures { result ≡ spec.scope_of (get key.now (view value.now)) }
 {
-    scope_named(WHOLE, text_at(value, key)).unwrap_or(Scope::Dependent)
+    scope_named(text_at(value, key)).unwrap_or(Scope::Dependent)
 }
 
 /// A copy of the steps at a key.

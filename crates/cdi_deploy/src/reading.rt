@@ -11,7 +11,6 @@ use cdi_base::{Names, OrMemory};
 use cdi_deployment::Deployment;
 use cdi_deployment::limits::is_within;
 use cdi_form::{Kind, Part, first_bad_name, numbers_fit, read_json, wrong};
-use cdi_stage::{SERVED, Stage};
 use serde_json::Value as Json;
 use std::alloc::Global;
 
@@ -21,67 +20,45 @@ pub const MAX_BYTES: usize = 1_048_576;
 /// What stands at the root.
 const ROOT: Part = Part::Object(Kind::Deployment);
 
-/// The lists of a JSON value that is of the form of a deployment at a stage: the only fault is that its names are too many
-/// for a table.
-#[tactic(auto, unfolding(crate::specs::Reading::lists_at))]
-pub fn lists_at(
-    alloc: Global,
-    stage: Stage,
-    value: &Json,
-) -> Result<Deployment, OrMemory<ReadFault>>
-    ensures { Gives (λ d. d) result (spec.lists_at stage (view value.now)) }
-{
-    let mut names = Names::with_built_in(alloc)?;
-    add_names(stage, &mut names, value, ROOT)?;
-    Ok(lists_in(alloc, names, value)?)
-}
-
-/// The same for what is served.
+/// The lists of a JSON value that is of the form of a deployment: the only fault is that its names are too many for a
+/// table.
+#[tactic(auto, unfolding(crate::specs::Reading::lists_of))]
 pub fn lists_of(alloc: Global, value: &Json) -> Result<Deployment, OrMemory<ReadFault>>
     ensures { Gives (λ d. d) result (spec.lists_of (view value.now)) }
 {
-    lists_at(alloc, SERVED, value)
+    let mut names = Names::with_built_in(alloc)?;
+    add_names(&mut names, value, ROOT)?;
+    Ok(lists_in(alloc, names, value)?)
 }
 
-/// The deployment that a JSON value declares at a stage, or its first fault in the order of [`ReadFault`]. An error is
+/// The deployment that a JSON value declares, or its first fault in the order of [`ReadFault`]. An error is
 /// [`OrMemory::Memory`] where a growth was refused.
-#[tactic(auto, unfolding(crate::specs::Reading::deployment_at))]
-pub fn deployment_at(
-    alloc: Global,
-    stage: Stage,
-    value: &Json,
-) -> Result<Deployment, OrMemory<ReadFault>>
-    ensures { Gives (λ d. d) result (spec.deployment_at stage (view value.now)) }
+#[tactic(auto, unfolding(crate::specs::Reading::deployment_of))]
+pub fn deployment_of(alloc: Global, value: &Json) -> Result<Deployment, OrMemory<ReadFault>>
+    ensures { Gives (λ d. d) result (spec.deployment_of (view value.now)) }
 {
     if !numbers_fit(value) {
         return Err(OrMemory::Fault(ReadFault::BadNumber));
     }
-    if let Some(path) = wrong(alloc, stage, value, ROOT)? {
+    if let Some(path) = wrong(alloc, value, ROOT)? {
         return Err(OrMemory::Fault(ReadFault::Shape(path)));
     }
-    if first_bad_name(stage, value, ROOT).is_some() {
+    if first_bad_name(value, ROOT).is_some() {
         return Err(OrMemory::Fault(ReadFault::BadName));
     }
-    let deployment = lists_at(alloc, stage, value)?;
+    let deployment = lists_of(alloc, value)?;
     if !is_within(&deployment) {
         return Err(OrMemory::Fault(ReadFault::TooMany));
     }
     Ok(deployment)
 }
 
-/// The same for what is served.
-pub fn deployment_of(alloc: Global, value: &Json) -> Result<Deployment, OrMemory<ReadFault>>
-    ensures { Gives (λ d. d) result (spec.deployment_of (view value.now)) }
-{
-    deployment_at(alloc, SERVED, value)
-}
-
-/// Reads a deployment at a stage: gives what the bytes declare, or the first fault that holds of them in the order of
+/// Reads a deployment: gives what the bytes declare, or the first fault that holds of them in the order of
 /// [`ReadFault`]. An error is [`OrMemory::Memory`] where a growth was refused: it never is in place of
 /// [`ReadFault::TooLong`], nor of [`ReadFault::NotJson`] for bytes that aren't UTF-8, as nothing grows there.
-#[tactic(auto, unfolding(crate::specs::Reading::read_at))]
-pub fn read_at(alloc: Global, stage: Stage, bytes: &[u8]) -> Result<Deployment, OrMemory<ReadFault>>
-    ensures gives { Gives (λ d. d) result (spec.read_at stage bytes.now) }
+#[tactic(auto, unfolding(crate::specs::Reading::deployment_in))]
+pub fn read(alloc: Global, bytes: &[u8]) -> Result<Deployment, OrMemory<ReadFault>>
+    ensures gives { Gives (λ d. d) result (spec.deployment_in bytes.now) }
     ensures too_long { IsTrue (spec.is_too_long bytes.now) → IsFault result ReadFault.TooLong }
     ensures no_text { IsTrue (spec.is_no_text bytes.now) → IsFault result ReadFault.NotJson }
 {
@@ -91,14 +68,5 @@ pub fn read_at(alloc: Global, stage: Stage, bytes: &[u8]) -> Result<Deployment, 
     let Some(value) = read_json(alloc, bytes)? else {
         return Err(OrMemory::Fault(ReadFault::NotJson));
     };
-    deployment_at(alloc, stage, &value)
-}
-
-/// The same for what is served.
-pub fn read(alloc: Global, bytes: &[u8]) -> Result<Deployment, OrMemory<ReadFault>>
-    ensures gives { Gives (λ d. d) result (spec.deployment_in bytes.now) }
-    ensures too_long { IsTrue (spec.is_too_long bytes.now) → IsFault result ReadFault.TooLong }
-    ensures no_text { IsTrue (spec.is_no_text bytes.now) → IsFault result ReadFault.NotJson }
-{
-    read_at(alloc, SERVED, bytes)
+    deployment_of(alloc, &value)
 }

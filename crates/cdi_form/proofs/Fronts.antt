@@ -1,9 +1,9 @@
 -- A loop over items reads them as the definitions do: what was read stands before what the others give.
-use Rattle.std.proofs.Common.{◌≡◌, ◌∙◌, ℕ, List, [], ◌∷◌, ◌++◌, Option, Some, None, option_map, option_and_then, Bool, true, refl, sym, ap, append_assoc, append-nil}
+use Rattle.std.proofs.Common.{◌≡◌, ◌∙◌, ℕ, List, [], ◌∷◌, ◌++◌, Option, Some, None, option_map, option_and_then, true, refl, sym, ap, append_assoc, append-nil}
 use Rattle.std.specs.Option.{is_some}
 use Rattle.cdi_base.specs.declared.uses.WrittenMember.{WrittenMember}
 use Rattle.cdi_base.specs.declared.value.Value.{Value}
-use Rattle.serde_json.specs.Data.{Data, Items, no_items, item, Members, no_members, member}
+use Rattle.serde_json.specs.Data.{Data, Items, item, Members, member}
 use Rattle.cdi_form.specs.ValueForms.{value_in, members_in, each_in}
 
 module _ {X : Type 0} where

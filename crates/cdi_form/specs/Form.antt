@@ -1,7 +1,5 @@
--- What stands at a key of an object at a stage, and in an array.
-use Rattle.std.specs.Prelude.{ℕ, List, bytes_eq, Option, Some, None, option_and_then, find, if◌then◌else◌}
-use Rattle.cdi_stage.specs.declared.stage.Stage.{Stage}
-use Rattle.cdi_stage.specs.Stage.{is_included}
+-- What stands at a key of an object, and in an array.
+use Rattle.std.specs.Prelude.{ℕ, List, bytes_eq, Option, Some, None, option_map, find}
 use Rattle.cdi_form.specs.declared.form.Kind.{Kind}
 use Rattle.cdi_form.specs.declared.form.Part.{Part}
 use Rattle.cdi_form.specs.declared.form.Part.TheVariants.{Names, Uses, SomeUses, Name, Use, Object, Objects, Member, Members}
@@ -11,13 +9,9 @@ use Rattle.cdi_form.specs.Table.{Row, rows}
 abbrev pub row_in : List Row → List ℕ → Option Row
 row_in rows key = find (λ row. bytes_eq row.key key) rows
 
--- what a row lists at a stage
-abbrev pub listed_part : Stage → Row → Option Part
-listed_part stage row = if is_included stage row.since then Some row.part else None
-
--- what stands at a key, if the key is listed and served
-abbrev pub part_at : Stage → Kind → List ℕ → Option Part
-part_at stage kind key = option_and_then (listed_part stage) (row_in (rows kind) key)
+-- what stands at a key, if the key is listed
+abbrev pub part_at : Kind → List ℕ → Option Part
+part_at kind key = option_map (λ row. row.part) (row_in (rows kind) key)
 
 -- what each item of an array at a part is, if that is looked at
 abbrev pub item_part : Part → Option Part

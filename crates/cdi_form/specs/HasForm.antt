@@ -1,8 +1,7 @@
--- Which values are of the form of a part at a stage, said apart from any way to look for it.
+-- Which values are of the form of a part, said apart from any way to look for it.
 use Rattle.std.specs.Prelude.{◌≡◌, ℕ, ◌≤◌, ◌⊎◌, Bool, List, codes, IsTrue, Some}
 use Rattle.std.specs.List.{AllPass}
 use Rattle.std.specs.Option.{is_some}
-use Rattle.cdi_stage.specs.declared.stage.Stage.{Stage}
 use Rattle.cdi_form.specs.ValueForms.{use_in}
 use Rattle.serde_json.specs.Data.{Num, unsigned, Data, null, boolean, number, string, array, object, Items, no_items, item, Members, no_members, member}
 use Rattle.serde_json.specs.Find.{get_member}
@@ -29,15 +28,15 @@ abbrev pub HasRequired : Kind → Members → Type 0
 HasRequired kind ms = AllPass (is_met ms) (rows kind)
 
 -- each key that is there is listed
-abbrev pub AreListed : Stage → Kind → Members → Type 0
-AreListed stage kind ms =
-    (key : List ℕ) (d : Data) → HasMember ms key d → IsTrue (is_some (part_at stage kind key))
+abbrev pub AreListed : Kind → Members → Type 0
+AreListed kind ms =
+    (key : List ℕ) (d : Data) → HasMember ms key d → IsTrue (is_some (part_at kind key))
 
 -- the key `kind` of a member names a kind
-abbrev pub NamesKind : Stage → Members → Kind → Type 0
-NamesKind stage ms kind =
+abbrev pub NamesKind : Members → Kind → Type 0
+NamesKind ms kind =
     (word : List ℕ) × (get_member (codes "kind") ms ≡ Some (string word))
-    × (member_kind stage word ≡ Some kind)
+    × (member_kind word ≡ Some kind)
 
 -- where a use is wanted, there is one
 abbrev pub IsLongEnough : Part → Items → Type 0
@@ -45,39 +44,39 @@ IsLongEnough parts.SomeUses no_items = ⊥
 IsLongEnough _ ds = Unit {0}
 
 -- a value is of the form of a part
-pub data HasForm (stage : Stage) : Part → Data → Type 0 where
+pub data HasForm : Part → Data → Type 0 where
   -- the number of the form is 1
-  one : HasForm stage parts.FormNumber (number (unsigned 1))
+  one : HasForm parts.FormNumber (number (unsigned 1))
   -- a name is a text
-  name : (s : List ℕ) → HasForm stage parts.Name (string s)
+  name : (s : List ℕ) → HasForm parts.Name (string s)
   -- a value is null, a number or a text
-  null_value : HasForm stage parts.Value null
-  number_value : (n : Num) → HasForm stage parts.Value (number n)
-  text_value : (s : List ℕ) → HasForm stage parts.Value (string s)
+  null_value : HasForm parts.Value null
+  number_value : (n : Num) → HasForm parts.Value (number n)
+  text_value : (s : List ℕ) → HasForm parts.Value (string s)
   -- a number of arguments is 0 to 8
-  count : (n : ℕ) → n ≤ 8 → HasForm stage parts.ArgumentCount (number (unsigned n))
+  count : (n : ℕ) → n ≤ 8 → HasForm parts.ArgumentCount (number (unsigned n))
   -- a mark is true or false
-  mark : (b : Bool) → HasForm stage parts.Mark (boolean b)
+  mark : (b : Bool) → HasForm parts.Mark (boolean b)
   -- a whole number is a number: of which size is looked at before
-  whole_number : (n : Num) → HasForm stage parts.WholeNumber (number n)
+  whole_number : (n : Num) → HasForm parts.WholeNumber (number n)
   -- a scope is one of its texts
-  scope : (s : List ℕ) → IsTrue (is_some (scope_named stage s))
-      → HasForm stage parts.Scope (string s)
+  scope : (s : List ℕ) → IsTrue (is_some (scope_named s))
+      → HasForm parts.Scope (string s)
   -- the kind of a member is a text
-  kind_text : (s : List ℕ) → HasForm stage parts.MemberKind (string s)
+  kind_text : (s : List ℕ) → HasForm parts.MemberKind (string s)
   -- a use is one
-  a_use : (d : Data) → IsTrue (is_some (use_in d)) → HasForm stage parts.Use d
+  a_use : (d : Data) → IsTrue (is_some (use_in d)) → HasForm parts.Use d
   -- steps are an array
-  steps : (ds : Items) → HasForm stage parts.Steps (array ds)
+  steps : (ds : Items) → HasForm parts.Steps (array ds)
   -- a list is an array of what it is a list of
   a_list : (part inner : Part) (ds : Items) → item_part part ≡ Some inner → IsLongEnough part ds
-      → ((d : Data) → HasItem ds d → HasForm stage inner d) → HasForm stage part (array ds)
+      → ((d : Data) → HasItem ds d → HasForm inner d) → HasForm part (array ds)
   -- an object has each key that its kind requires, only listed keys, and at each key a value of the form of its part
-  an_object : (kind : Kind) (ms : Members) → HasRequired kind ms → AreListed stage kind ms
+  an_object : (kind : Kind) (ms : Members) → HasRequired kind ms → AreListed kind ms
       → ((key : List ℕ) (d : Data) (part : Part) → HasMember ms key d
-      → part_at stage kind key ≡ Some part → HasForm stage part d)
-      → HasForm stage (parts.Object kind) (object ms)
+      → part_at kind key ≡ Some part → HasForm part d)
+      → HasForm (parts.Object kind) (object ms)
   -- a member is an object of the kind that it names
-  a_member : (kind : Kind) (ms : Members) → NamesKind stage ms kind
-      → HasForm stage (parts.Object kind) (object ms)
-      → HasForm stage parts.Member (object ms)
+  a_member : (kind : Kind) (ms : Members) → NamesKind ms kind
+      → HasForm (parts.Object kind) (object ms)
+      → HasForm parts.Member (object ms)

@@ -2,7 +2,6 @@
 use Rattle.std.specs.Prelude.{ℕ, Bool, true, not, ◌&&◌, ◌||◌, List, codes, Option, Some, None, option_and_then}
 use Rattle.std.specs.List.{list_all}
 use Rattle.std.specs.Option.{is_some}
-use Rattle.cdi_stage.specs.declared.stage.Stage.{Stage}
 use Rattle.serde_json.specs.Data.{Members, no_members, member}
 use Rattle.serde_json.specs.Find.{as_str, get_member}
 use Rattle.cdi_form.specs.declared.form.Kind.{Kind}
@@ -21,21 +20,21 @@ abbrev pub has_required : Kind → Members → Bool
 has_required kind ms = list_all (is_met ms) (rows kind)
 
 -- each key is listed
-abbrev pub are_listed : Stage → Kind → Members → Bool
-are_listed stage kind no_members = true
-are_listed stage kind (member key d ms) =
-    is_some (part_at stage kind key) && are_listed stage kind ms
+abbrev pub are_listed : Kind → Members → Bool
+are_listed kind no_members = true
+are_listed kind (member key d ms) =
+    is_some (part_at kind key) && are_listed kind ms
 
 -- an object itself is right: no key is missing, and each is listed
-abbrev pub has_right_keys : Stage → Kind → Members → Bool
-has_right_keys stage kind ms = has_required kind ms && are_listed stage kind ms
+abbrev pub has_right_keys : Kind → Members → Bool
+has_right_keys kind ms = has_required kind ms && are_listed kind ms
 
 -- the text at the key `kind`
 abbrev pub kind_word : Members → Option (List ℕ)
 kind_word ms = option_and_then as_str (get_member (codes "kind") ms)
 
--- the kind of the object at a part: none where no object may stand, and where a member names no kind that is served
-abbrev pub kind_of : Stage → Part → Members → Option Kind
-kind_of stage (parts.Object kind) ms = Some kind
-kind_of stage parts.Member ms = option_and_then (member_kind stage) (kind_word ms)
-kind_of stage _ ms = None
+-- the kind of the object at a part: none where no object may stand, and where a member names no kind
+abbrev pub kind_of : Part → Members → Option Kind
+kind_of (parts.Object kind) ms = Some kind
+kind_of parts.Member ms = option_and_then member_kind (kind_word ms)
+kind_of _ ms = None

@@ -2,7 +2,6 @@
 -- use its name comes before the keys of its members.
 use Rattle.std.specs.Prelude.{ℕ, Bool, List, Option, Some, None, option_and_then, if◌then◌else◌}
 use Rattle.std.specs.Option.{is_none, option_or}
-use Rattle.cdi_stage.specs.declared.stage.Stage.{Stage}
 use Rattle.cdi_base.specs.Name.{is_name}
 use Rattle.serde_json.specs.Data.{Data, string, array, object, Items, no_items, item, Members, no_members, member}
 use Rattle.cdi_form.specs.declared.form.Kind.{Kind}
@@ -27,26 +26,26 @@ first_bad_key (member key d ms) = option_or (no_name key) (first_bad_key ms)
 
 -- there is none where no part or no kind is known
 abbrev mutual
-  pub first_bad_name : Stage → Data → Part → Option (List ℕ)
-  first_bad_name stage (string s) part = bad_text part s
-  first_bad_name stage (array ds) part = option_and_then (λ inner. bad_name_in_items stage ds inner)
+  pub first_bad_name : Data → Part → Option (List ℕ)
+  first_bad_name (string s) part = bad_text part s
+  first_bad_name (array ds) part = option_and_then (λ inner. bad_name_in_items ds inner)
       (named_part part)
-  first_bad_name stage (object ms) parts.Use = first_bad_key ms
-  first_bad_name stage (object ms) part = option_and_then
-      (λ kind. bad_name_in_members stage ms kind) (kind_of stage part ms)
-  first_bad_name stage _ part = None
+  first_bad_name (object ms) parts.Use = first_bad_key ms
+  first_bad_name (object ms) part = option_and_then
+      (λ kind. bad_name_in_members ms kind) (kind_of part ms)
+  first_bad_name _ part = None
 
-  pub bad_name_in_items : Stage → Items → Part → Option (List ℕ)
-  bad_name_in_items stage no_items part = None
-  bad_name_in_items stage (item d ds) part = option_or (first_bad_name stage d part)
-      (bad_name_in_items stage ds part)
+  pub bad_name_in_items : Items → Part → Option (List ℕ)
+  bad_name_in_items no_items part = None
+  bad_name_in_items (item d ds) part = option_or (first_bad_name d part)
+      (bad_name_in_items ds part)
 
-  pub bad_name_in_members : Stage → Members → Kind → Option (List ℕ)
-  bad_name_in_members stage no_members kind = None
-  bad_name_in_members stage (member key d ms) kind =
-      option_or (option_and_then (λ part. first_bad_name stage d part) (part_at stage kind key))
-      (bad_name_in_members stage ms kind)
+  pub bad_name_in_members : Members → Kind → Option (List ℕ)
+  bad_name_in_members no_members kind = None
+  bad_name_in_members (member key d ms) kind =
+      option_or (option_and_then (λ part. first_bad_name d part) (part_at kind key))
+      (bad_name_in_members ms kind)
 
 -- each text in the place of a name is one
-abbrev pub names_fit : Stage → Data → Part → Bool
-names_fit stage d part = is_none (first_bad_name stage d part)
+abbrev pub names_fit : Data → Part → Bool
+names_fit d part = is_none (first_bad_name d part)

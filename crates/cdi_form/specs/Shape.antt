@@ -2,7 +2,6 @@
 -- A key that is not listed is never stepped into, so no key needs an escape.
 use Rattle.std.specs.Prelude.{ℕ, ◌+◌, ◌==◌, Bool, true, false, List, [], ◌∷◌, ◌++◌, decimal, Option, Some, None, if◌then◌else◌, nat_le}
 use Rattle.std.specs.Option.{is_some}
-use Rattle.cdi_stage.specs.declared.stage.Stage.{Stage}
 use Rattle.cdi_form.specs.ValueForms.{use_in}
 use Rattle.serde_json.specs.Data.{Num, unsigned, negative, float, Data, null, boolean, number, string, array, object, Items, no_items, item, Members, no_members, member}
 use Rattle.cdi_form.specs.declared.form.Kind.{Kind}
@@ -40,13 +39,13 @@ may_be_number parts.WholeNumber n = true
 may_be_number parts.ArgumentCount n = is_count 8 n
 may_be_number _ n = false
 
-abbrev pub may_be_text : Stage → Part → List ℕ → Bool
-may_be_text stage parts.Name s = true
-may_be_text stage parts.Value s = true
-may_be_text stage parts.MemberKind s = true
-may_be_text stage parts.Use s = true
-may_be_text stage parts.Scope s = is_some (scope_named stage s)
-may_be_text stage _ s = false
+abbrev pub may_be_text : Part → List ℕ → Bool
+may_be_text parts.Name s = true
+may_be_text parts.Value s = true
+may_be_text parts.MemberKind s = true
+may_be_text parts.Use s = true
+may_be_text parts.Scope s = is_some (scope_named s)
+may_be_text _ s = false
 
 abbrev pub has_item : Data → Bool
 has_item (array (item d ds)) = true
@@ -90,26 +89,26 @@ at_part (Some part) inside = inside part
 
 -- an object is looked at itself before its members, and members and items are looked at in their order
 abbrev mutual
-  pub wrong : Stage → Data → Part → Option (List ℕ)
-  wrong stage null part = here_unless (may_be_null part)
-  wrong stage (boolean b) part = here_unless (may_be_mark part)
-  wrong stage (number n) part = here_unless (may_be_number part n)
-  wrong stage (string s) part = here_unless (may_be_text stage part s)
-  wrong stage (array ds) part =
+  pub wrong : Data → Part → Option (List ℕ)
+  wrong null part = here_unless (may_be_null part)
+  wrong (boolean b) part = here_unless (may_be_mark part)
+  wrong (number n) part = here_unless (may_be_number part n)
+  wrong (string s) part = here_unless (may_be_text part s)
+  wrong (array ds) part =
       if may_be_array part (array ds)
-      then at_part (item_part part) (λ inner. wrong_items stage ds inner 0)
+      then at_part (item_part part) (λ inner. wrong_items ds inner 0)
       else Some []
-  wrong stage (object ms) part =
-      in_kind (kind_of stage part ms)
-      (λ kind. if has_right_keys stage kind ms then wrong_members stage ms kind else Some [])
+  wrong (object ms) part =
+      in_kind (kind_of part ms)
+      (λ kind. if has_right_keys kind ms then wrong_members ms kind else Some [])
 
-  pub wrong_items : Stage → Items → Part → ℕ → Option (List ℕ)
-  wrong_items stage no_items part i = None
-  wrong_items stage (item d ds) part i = or_else (under (decimal i) (wrong stage d part))
-      (wrong_items stage ds part (i + 1))
+  pub wrong_items : Items → Part → ℕ → Option (List ℕ)
+  wrong_items no_items part i = None
+  wrong_items (item d ds) part i = or_else (under (decimal i) (wrong d part))
+      (wrong_items ds part (i + 1))
 
-  pub wrong_members : Stage → Members → Kind → Option (List ℕ)
-  wrong_members stage no_members kind = None
-  wrong_members stage (member key d ms) kind =
-      or_else (under key (at_part (part_at stage kind key) (λ part. wrong stage d part)))
-      (wrong_members stage ms kind)
+  pub wrong_members : Members → Kind → Option (List ℕ)
+  wrong_members no_members kind = None
+  wrong_members (member key d ms) kind =
+      or_else (under key (at_part (part_at kind key) (λ part. wrong d part)))
+      (wrong_members ms kind)

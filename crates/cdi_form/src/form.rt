@@ -5,7 +5,6 @@ ghost use Rattle.cdi_form.specs.Form as spec;
 ghost use Rattle.cdi_form.specs.Table.{row_of, rows};
 
 use crate::table::{Row, rows};
-use cdi_stage::Stage;
 
 /// The kinds of objects. A member of a class is of the kind that its key `kind` names.
 #[derive(Clone, Copy, Debug, PartialEq, Eq)]
@@ -87,16 +86,12 @@ fn row_at(kind: Kind, key: &str) -> Option<Row>
     row_in(rows(kind), key).copied()
 }
 
-/// What stands at a key of an object, or `None` where the key is not listed, or not served at this stage.
-pub fn part_at(stage: Stage, kind: Kind, key: &str) -> Option<Part>
-    ensures { result ≡ spec.part_at stage kind key.now }
+/// What stands at a key of an object, or `None` where the key is not listed.
+pub fn part_at(kind: Kind, key: &str) -> Option<Part>
+    ensures { result ≡ spec.part_at kind key.now }
 {
     match row_at(kind, key) {
-        Some(row) => if stage.includes(row.since) {
-            Some(row.part)
-        } else {
-            None
-        },
+        Some(row) => Some(row.part),
         None => None,
     }
 }

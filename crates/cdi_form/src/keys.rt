@@ -10,7 +10,6 @@ ghost use Rattle.cdi_form.specs.Table.{row_of};
 use crate::form::{Kind, Part, part_at};
 use crate::table::{Row, rows};
 use crate::words::member_kind;
-use cdi_stage::Stage;
 use serde_json::{Map, Value as Json};
 
 /// The member of an object at a key.
@@ -41,22 +40,22 @@ fn has_required(kind: Kind, members: &Map<String, Json>) -> bool
     are_met(rows(kind), members)
 }
 
-fn are_listed(stage: Stage, kind: Kind, members: &Map<String, Json>) -> bool
-    ensures { result ≡ spec.are_listed stage kind (members_view members.now.entries) }
+fn are_listed(kind: Kind, members: &Map<String, Json>) -> bool
+    ensures { result ≡ spec.are_listed kind (members_view members.now.entries) }
 {
     for (key, _) in members.iter() {
-        if part_at(stage, kind, key.as_str()).is_none() {
+        if part_at(kind, key.as_str()).is_none() {
             return false;
         }
     }
     true
 }
 
-/// Whether an object itself is right: it has each key that its kind requires, and none that is not listed and served.
-pub(crate) fn has_right_keys(stage: Stage, kind: Kind, members: &Map<String, Json>) -> bool
-    ensures { result ≡ spec.has_right_keys stage kind (members_view members.now.entries) }
+/// Whether an object itself is right: it has each key that its kind requires, and none that is not listed.
+pub(crate) fn has_right_keys(kind: Kind, members: &Map<String, Json>) -> bool
+    ensures { result ≡ spec.has_right_keys kind (members_view members.now.entries) }
 {
-    has_required(kind, members) && are_listed(stage, kind, members)
+    has_required(kind, members) && are_listed(kind, members)
 }
 
 fn kind_word(members: &Map<String, Json>) -> Option<&str>
@@ -68,15 +67,14 @@ fn kind_word(members: &Map<String, Json>) -> Option<&str>
     }
 }
 
-/// The kind of the object at a part, or `None` where no object may stand there, and where a member names no kind that is
-/// served.
-pub fn kind_of(stage: Stage, part: Part, members: &Map<String, Json>) -> Option<Kind>
-    ensures { result ≡ spec.kind_of stage part (members_view members.now.entries) }
+/// The kind of the object at a part, or `None` where no object may stand there, and where a member names no kind.
+pub fn kind_of(part: Part, members: &Map<String, Json>) -> Option<Kind>
+    ensures { result ≡ spec.kind_of part (members_view members.now.entries) }
 {
     match part {
         Part::Object(kind) => Some(kind),
         Part::Member => match kind_word(members) {
-            Some(word) => member_kind(stage, word),
+            Some(word) => member_kind(word),
             None => None,
         },
         _ => None,

@@ -1,5 +1,5 @@
 //! What is read from JSON: the value that bytes are, and names, values and uses; and the form of a deployment: which keys its objects have
-//! and what stands at each, since when each is served, and the first place at which a value is not of the form.
+//! and what stands at each, and the first place at which a value is not of the form.
 #![tactic(auto)]
 
 pub mod form;

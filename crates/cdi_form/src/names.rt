@@ -6,7 +6,6 @@ ghost use Rattle.cdi_form.specs.Names as spec;
 use crate::form::{Kind, Part, named_part, part_at};
 use crate::keys::kind_of;
 use cdi_base::is_name;
-use cdi_stage::Stage;
 use serde_json::{Map, Value};
 
 /// A text, if it is no name.
@@ -25,22 +24,22 @@ fn bad_text(part: Part, text: &str) -> Option<&str>
     }
 }
 
-/// The first text in the place of a name that is none, in a value at a part at this stage, if there is one: items go by
+/// The first text in the place of a name that is none, in a value at a part, if there is one: items go by
 /// their index, members by their keys in the order of bytes, and in a use its name comes before the keys of its members.
 #[cycle(names)]
-pub fn first_bad_name(stage: Stage, value: &Value, part: Part) -> Option<&str>
-    ensures { option_map (λ s. s.now) result ≡ spec.first_bad_name stage (view value.now) part }
+pub fn first_bad_name(value: &Value, part: Part) -> Option<&str>
+    ensures { option_map (λ s. s.now) result ≡ spec.first_bad_name (view value.now) part }
 {
     match value {
         Value::String(text) => bad_text(part, text.as_str()),
         Value::Array(items) => match named_part(part) {
-            Some(inner) => bad_name_in_items(stage, items, inner),
+            Some(inner) => bad_name_in_items(items, inner),
             None => None,
         },
         Value::Object(members) => match part {
             Part::Use => first_bad_key(members),
-            _ => match kind_of(stage, part, members) {
-                Some(kind) => bad_name_in_members(stage, members, kind),
+            _ => match kind_of(part, members) {
+                Some(kind) => bad_name_in_members(members, kind),
                 None => None,
             },
         },
@@ -49,12 +48,12 @@ pub fn first_bad_name(stage: Stage, value: &Value, part: Part) -> Option<&str>
 }
 
 #[cycle(names)]
-fn bad_name_in_items(stage: Stage, items: &Vec<Value>, part: Part) -> Option<&str>
+fn bad_name_in_items(items: &Vec<Value>, part: Part) -> Option<&str>
     ensures { option_map (λ s. s.now) result
-        ≡ spec.bad_name_in_items stage (items_view items.now.items) part }
+        ≡ spec.bad_name_in_items (items_view items.now.items) part }
 {
     for item in items {
-        if let Some(text) = first_bad_name(stage, item, part) {
+        if let Some(text) = first_bad_name(item, part) {
             return Some(text);
         }
     }
@@ -62,15 +61,15 @@ fn bad_name_in_items(stage: Stage, items: &Vec<Value>, part: Part) -> Option<&st
 }
 
 #[cycle(names)]
-fn bad_name_in_members(stage: Stage, members: &Map<String, Value>, kind: Kind) -> Option<&str>
+fn bad_name_in_members(members: &Map<String, Value>, kind: Kind) -> Option<&str>
     ensures { option_map (λ s. s.now) result
-        ≡ spec.bad_name_in_members stage (members_view members.now.entries) kind }
+        ≡ spec.bad_name_in_members (members_view members.now.entries) kind }
 {
     for (key, member) in members.iter() {
-        let Some(part) = part_at(stage, kind, key.as_str()) else {
+        let Some(part) = part_at(kind, key.as_str()) else {
             continue;
         };
-        if let Some(text) = first_bad_name(stage, member, part) {
+        if let Some(text) = first_bad_name(member, part) {
             return Some(text);
         }
     }

@@ -8,7 +8,6 @@ use crate::keys::{has_right_keys, kind_of};
 use crate::value_forms::is_use;
 use crate::words::scope_named;
 use cdi_base::Text;
-use cdi_stage::Stage;
 use serde_json::{Map, Number, Value};
 use std::alloc::{AllocError, Global};
 
@@ -67,12 +66,12 @@ fn may_be_number(part: Part, number: &Number) -> bool
     }
 }
 
-fn may_be_text(stage: Stage, part: Part, text: &str) -> bool
-    ensures { result ≡ spec.may_be_text stage part text.now }
+fn may_be_text(part: Part, text: &str) -> bool
+    ensures { result ≡ spec.may_be_text part text.now }
 {
     match part {
         Part::Name | Part::Value | Part::MemberKind | Part::Use => true,
-        Part::Scope => scope_named(stage, text).is_some(),
+        Part::Scope => scope_named(text).is_some(),
         _ => false,
     }
 }
@@ -101,33 +100,28 @@ fn has_item(value: &Value) -> bool
     }
 }
 
-/// The first wrong place in a value that is to be of the form of a part at this stage, if there is one: a JSON Pointer (RFC
+/// The first wrong place in a value that is to be of the form of a part, if there is one: a JSON Pointer (RFC
 /// 6901), of which the empty text is the root.
 #[cycle(shape)]
-pub fn wrong(
-    alloc: Global,
-    stage: Stage,
-    value: &Value,
-    part: Part,
-) -> Result<Option<Text>, AllocError>
-    ensures { IfOk result (λ place. place ≡ spec.wrong stage (view value.now) part) }
+pub fn wrong(alloc: Global, value: &Value, part: Part) -> Result<Option<Text>, AllocError>
+    ensures { IfOk result (λ place. place ≡ spec.wrong (view value.now) part) }
 {
     match value {
         Value::Null => here_unless(alloc, may_be_null(part)),
         Value::Bool(_) => here_unless(alloc, may_be_mark(part)),
         Value::Number(number) => here_unless(alloc, may_be_number(part, number)),
-        Value::String(text) => here_unless(alloc, may_be_text(stage, part, text.as_str())),
+        Value::String(text) => here_unless(alloc, may_be_text(part, text.as_str())),
         Value::Array(items) => if may_be_array(part, value) {
             match item_part(part) {
-                Some(inner) => wrong_items(alloc, stage, items, inner),
+                Some(inner) => wrong_items(alloc, items, inner),
                 None => Ok(None),
             }
         } else {
             here(alloc)
         },
-        Value::Object(members) => match kind_of(stage, part, members) {
-            Some(kind) => if has_right_keys(stage, kind, members) {
-                wrong_members(alloc, stage, members, kind)
+        Value::Object(members) => match kind_of(part, members) {
+            Some(kind) => if has_right_keys(kind, members) {
+                wrong_members(alloc, members, kind)
             } else {
                 here(alloc)
             },
@@ -137,18 +131,13 @@ pub fn wrong(
 }
 
 #[cycle(shape)]
-fn wrong_items(
-    alloc: Global,
-    stage: Stage,
-    items: &Vec<Value>,
-    part: Part,
-) -> Result<Option<Text>, AllocError>
+fn wrong_items(alloc: Global, items: &Vec<Value>, part: Part) -> Result<Option<Text>, AllocError>
     ensures { IfOk result
-        (λ place. place ≡ spec.wrong_items stage (items_view items.now.items) part 0) }
+        (λ place. place ≡ spec.wrong_items (items_view items.now.items) part 0) }
 {
     let mut index = 0usize;
     for item in items {
-        if let Some(path) = wrong(alloc, stage, item, part)? {
+        if let Some(path) = wrong(alloc, item, part)? {
             return Ok(Some(under_index(alloc, index, path)?));
         }
         index += 1;
@@ -159,18 +148,17 @@ fn wrong_items(
 #[cycle(shape)]
 fn wrong_members(
     alloc: Global,
-    stage: Stage,
     members: &Map<String, Value>,
     kind: Kind,
 ) -> Result<Option<Text>, AllocError>
     ensures { IfOk result
-        (λ place. place ≡ spec.wrong_members stage (members_view members.now.entries) kind) }
+        (λ place. place ≡ spec.wrong_members (members_view members.now.entries) kind) }
 {
     for (key, member) in members.iter() {
-        let Some(part) = part_at(stage, kind, key.as_str()) else {
+        let Some(part) = part_at(kind, key.as_str()) else {
             continue;
         };
-        if let Some(path) = wrong(alloc, stage, member, part)? {
+        if let Some(path) = wrong(alloc, member, part)? {
             return Ok(Some(under_key(alloc, key.as_str(), path)?));
         }
     }

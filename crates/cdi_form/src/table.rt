@@ -4,7 +4,6 @@ ghost use Rattle.cdi_form.specs.Table as spec;
 ghost use Rattle.cdi_form.specs.Table.{row_of};
 
 use crate::form::{Kind, Part};
-use cdi_stage::Stage;
 
 /// A key of an object.
 #[derive(Clone, Copy)]
@@ -14,219 +13,183 @@ pub struct Row {
     pub part: Part,
     /// Whether an object without the key is wrong.
     pub is_required: bool,
-    /// The stage since which the key is served.
-    pub since: Stage,
 }
 
 /// The row of a key that has to be there.
 macro_rules! required {
-    ($key:literal, $part:expr, $since:expr) => {
+    ($key:literal, $part:expr) => {
         Row {
             key: $key,
             part: $part,
             is_required: true,
-            since: $since,
         }
     };
 }
 
 /// The row of a key that may be missing.
 macro_rules! optional {
-    ($key:literal, $part:expr, $since:expr) => {
+    ($key:literal, $part:expr) => {
         Row {
             key: $key,
             part: $part,
             is_required: false,
-            since: $since,
         }
     };
 }
 
 const DEPLOYMENT: &[Row] = &[
-    optional!("form", Part::FormNumber, Stage::Counter),
-    optional!(
-        "interfaces",
-        Part::Objects(Kind::Interface),
-        Stage::Injection
-    ),
-    optional!(
-        "qualifiers",
-        Part::Objects(Kind::AnnotationType),
-        Stage::Injection
-    ),
-    optional!(
-        "bindings",
-        Part::Objects(Kind::AnnotationType),
-        Stage::Interceptors
-    ),
-    optional!(
-        "exceptions",
-        Part::Objects(Kind::Exception),
-        Stage::Lifecycle
-    ),
-    optional!("classes", Part::Objects(Kind::Class), Stage::Counter),
-    optional!(
-        "interceptors",
-        Part::Objects(Kind::Interceptor),
-        Stage::Interceptors
-    ),
-    optional!("selected", Part::Names, Stage::Alternatives),
-    optional!("order", Part::Names, Stage::Interceptors),
-    optional!("scripts", Part::Objects(Kind::Script), Stage::Counter),
+    optional!("form", Part::FormNumber),
+    optional!("interfaces", Part::Objects(Kind::Interface)),
+    optional!("qualifiers", Part::Objects(Kind::AnnotationType)),
+    optional!("bindings", Part::Objects(Kind::AnnotationType)),
+    optional!("exceptions", Part::Objects(Kind::Exception)),
+    optional!("classes", Part::Objects(Kind::Class)),
+    optional!("interceptors", Part::Objects(Kind::Interceptor)),
+    optional!("selected", Part::Names),
+    optional!("order", Part::Names),
+    optional!("scripts", Part::Objects(Kind::Script)),
 ];
 
 const INTERFACE: &[Row] = &[
-    required!("name", Part::Name, Stage::Injection),
-    optional!("extends", Part::Names, Stage::Injection),
+    required!("name", Part::Name),
+    optional!("extends", Part::Names),
 ];
 
 const ANNOTATION_TYPE: &[Row] = &[
-    required!("name", Part::Name, Stage::Injection),
-    optional!("members", Part::Names, Stage::Injection),
-    optional!("nonbinding", Part::Names, Stage::Injection),
+    required!("name", Part::Name),
+    optional!("members", Part::Names),
+    optional!("nonbinding", Part::Names),
 ];
 
 const EXCEPTION: &[Row] = &[
-    required!("name", Part::Name, Stage::Lifecycle),
-    optional!("checked", Part::Mark, Stage::Lifecycle),
+    required!("name", Part::Name),
+    optional!("checked", Part::Mark),
 ];
 
 const CLASS: &[Row] = &[
-    required!("name", Part::Name, Stage::Counter),
-    optional!("extends", Part::Name, Stage::Injection),
-    optional!("implements", Part::Names, Stage::Injection),
-    optional!("abstract", Part::Mark, Stage::Injection),
-    optional!("final", Part::Mark, Stage::Alternatives),
-    optional!("bindings", Part::Uses, Stage::Interceptors),
-    optional!("bean", Part::Object(Kind::Bean), Stage::Counter),
-    optional!("fields", Part::Objects(Kind::Field), Stage::Counter),
-    optional!(
-        "inject",
-        Part::Objects(Kind::InjectedField),
-        Stage::Injection
-    ),
-    optional!(
-        "constructor",
-        Part::Object(Kind::Constructor),
-        Stage::Lifecycle
-    ),
-    optional!("members", Part::Members, Stage::Counter),
+    required!("name", Part::Name),
+    optional!("extends", Part::Name),
+    optional!("implements", Part::Names),
+    optional!("abstract", Part::Mark),
+    optional!("final", Part::Mark),
+    optional!("bindings", Part::Uses),
+    optional!("bean", Part::Object(Kind::Bean)),
+    optional!("fields", Part::Objects(Kind::Field)),
+    optional!("inject", Part::Objects(Kind::InjectedField)),
+    optional!("constructor", Part::Object(Kind::Constructor)),
+    optional!("members", Part::Members),
 ];
 
 const BEAN: &[Row] = &[
-    optional!("scope", Part::Scope, Stage::Counter),
-    optional!("quals", Part::Uses, Stage::Injection),
-    optional!("typed", Part::Names, Stage::Injection),
-    optional!("alternative", Part::Mark, Stage::Alternatives),
-    optional!("priority", Part::WholeNumber, Stage::Alternatives),
-    optional!("specializes", Part::Mark, Stage::Alternatives),
+    optional!("scope", Part::Scope),
+    optional!("quals", Part::Uses),
+    optional!("typed", Part::Names),
+    optional!("alternative", Part::Mark),
+    optional!("priority", Part::WholeNumber),
+    optional!("specializes", Part::Mark),
 ];
 
 const FIELD: &[Row] = &[
-    required!("name", Part::Name, Stage::Counter),
-    optional!("value", Part::Value, Stage::Counter),
+    required!("name", Part::Name),
+    optional!("value", Part::Value),
 ];
 
 const INJECTED_FIELD: &[Row] = &[
-    required!("name", Part::Name, Stage::Injection),
-    required!("type", Part::Name, Stage::Injection),
-    optional!("quals", Part::Uses, Stage::Injection),
+    required!("name", Part::Name),
+    required!("type", Part::Name),
+    optional!("quals", Part::Uses),
 ];
 
 const CONSTRUCTOR: &[Row] = &[
-    optional!("params", Part::Objects(Kind::Point), Stage::Lifecycle),
-    optional!("body", Part::Name, Stage::Lifecycle),
+    optional!("params", Part::Objects(Kind::Point)),
+    optional!("body", Part::Name),
 ];
 
 const POINT: &[Row] = &[
-    required!("type", Part::Name, Stage::Injection),
-    optional!("quals", Part::Uses, Stage::Injection),
+    required!("type", Part::Name),
+    optional!("quals", Part::Uses),
 ];
 
 const INTERCEPTOR: &[Row] = &[
-    required!("name", Part::Name, Stage::Interceptors),
-    required!("bindings", Part::SomeUses, Stage::Interceptors),
-    optional!("priority", Part::WholeNumber, Stage::Interceptors),
-    optional!("fields", Part::Objects(Kind::Field), Stage::Interceptors),
-    optional!(
-        "inject",
-        Part::Objects(Kind::InjectedField),
-        Stage::Interceptors
-    ),
-    optional!("invoke", Part::Name, Stage::Interceptors),
-    optional!("construct", Part::Name, Stage::Interceptors),
-    optional!("post", Part::Name, Stage::Interceptors),
-    optional!("pre", Part::Name, Stage::Interceptors),
+    required!("name", Part::Name),
+    required!("bindings", Part::SomeUses),
+    optional!("priority", Part::WholeNumber),
+    optional!("fields", Part::Objects(Kind::Field)),
+    optional!("inject", Part::Objects(Kind::InjectedField)),
+    optional!("invoke", Part::Name),
+    optional!("construct", Part::Name),
+    optional!("post", Part::Name),
+    optional!("pre", Part::Name),
 ];
 
 const SCRIPT: &[Row] = &[
-    required!("name", Part::Name, Stage::Counter),
-    required!("steps", Part::Steps, Stage::Counter),
+    required!("name", Part::Name),
+    required!("steps", Part::Steps),
 ];
 
 const METHOD: &[Row] = &[
-    required!("kind", Part::MemberKind, Stage::Counter),
-    required!("name", Part::Name, Stage::Counter),
-    required!("body", Part::Name, Stage::Counter),
-    optional!("args", Part::ArgumentCount, Stage::Counter),
-    optional!("bindings", Part::Uses, Stage::Interceptors),
+    required!("kind", Part::MemberKind),
+    required!("name", Part::Name),
+    required!("body", Part::Name),
+    optional!("args", Part::ArgumentCount),
+    optional!("bindings", Part::Uses),
 ];
 
 const INITIALIZER: &[Row] = &[
-    required!("kind", Part::MemberKind, Stage::Lifecycle),
-    required!("name", Part::Name, Stage::Lifecycle),
-    required!("body", Part::Name, Stage::Lifecycle),
-    optional!("params", Part::Objects(Kind::Point), Stage::Lifecycle),
+    required!("kind", Part::MemberKind),
+    required!("name", Part::Name),
+    required!("body", Part::Name),
+    optional!("params", Part::Objects(Kind::Point)),
 ];
 
 const CALLBACK: &[Row] = &[
-    required!("kind", Part::MemberKind, Stage::Lifecycle),
-    required!("name", Part::Name, Stage::Lifecycle),
-    required!("body", Part::Name, Stage::Lifecycle),
+    required!("kind", Part::MemberKind),
+    required!("name", Part::Name),
+    required!("body", Part::Name),
 ];
 
 const PRODUCER: &[Row] = &[
-    required!("kind", Part::MemberKind, Stage::Producers),
-    required!("name", Part::Name, Stage::Producers),
-    required!("body", Part::Name, Stage::Producers),
-    required!("type", Part::Name, Stage::Producers),
-    optional!("quals", Part::Uses, Stage::Producers),
-    optional!("typed", Part::Names, Stage::Producers),
-    optional!("scope", Part::Scope, Stage::Producers),
-    optional!("params", Part::Objects(Kind::Point), Stage::Producers),
-    optional!("bindings", Part::Uses, Stage::Interceptors),
+    required!("kind", Part::MemberKind),
+    required!("name", Part::Name),
+    required!("body", Part::Name),
+    required!("type", Part::Name),
+    optional!("quals", Part::Uses),
+    optional!("typed", Part::Names),
+    optional!("scope", Part::Scope),
+    optional!("params", Part::Objects(Kind::Point)),
+    optional!("bindings", Part::Uses),
 ];
 
 const PRODUCER_FIELD: &[Row] = &[
-    required!("kind", Part::MemberKind, Stage::Producers),
-    required!("name", Part::Name, Stage::Producers),
-    required!("field", Part::Name, Stage::Producers),
-    required!("type", Part::Name, Stage::Producers),
-    optional!("quals", Part::Uses, Stage::Producers),
-    optional!("typed", Part::Names, Stage::Producers),
-    optional!("scope", Part::Scope, Stage::Producers),
+    required!("kind", Part::MemberKind),
+    required!("name", Part::Name),
+    required!("field", Part::Name),
+    required!("type", Part::Name),
+    optional!("quals", Part::Uses),
+    optional!("typed", Part::Names),
+    optional!("scope", Part::Scope),
 ];
 
 const DISPOSER: &[Row] = &[
-    required!("kind", Part::MemberKind, Stage::Producers),
-    required!("name", Part::Name, Stage::Producers),
-    required!("body", Part::Name, Stage::Producers),
-    required!("type", Part::Name, Stage::Producers),
-    optional!("quals", Part::Uses, Stage::Producers),
-    optional!("params", Part::Objects(Kind::Point), Stage::Producers),
-    optional!("bindings", Part::Uses, Stage::Interceptors),
+    required!("kind", Part::MemberKind),
+    required!("name", Part::Name),
+    required!("body", Part::Name),
+    required!("type", Part::Name),
+    optional!("quals", Part::Uses),
+    optional!("params", Part::Objects(Kind::Point)),
+    optional!("bindings", Part::Uses),
 ];
 
 const OBSERVER: &[Row] = &[
-    required!("kind", Part::MemberKind, Stage::Events),
-    required!("name", Part::Name, Stage::Events),
-    required!("body", Part::Name, Stage::Events),
-    required!("type", Part::Name, Stage::Events),
-    optional!("quals", Part::Uses, Stage::Events),
-    optional!("params", Part::Objects(Kind::Point), Stage::Events),
-    optional!("priority", Part::WholeNumber, Stage::Events),
-    optional!("if_exists", Part::Mark, Stage::Events),
-    optional!("bindings", Part::Uses, Stage::Events),
+    required!("kind", Part::MemberKind),
+    required!("name", Part::Name),
+    required!("body", Part::Name),
+    required!("type", Part::Name),
+    optional!("quals", Part::Uses),
+    optional!("params", Part::Objects(Kind::Point)),
+    optional!("priority", Part::WholeNumber),
+    optional!("if_exists", Part::Mark),
+    optional!("bindings", Part::Uses),
 ];
 
 /// The keys of an object of a kind.

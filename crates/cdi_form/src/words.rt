@@ -1,51 +1,44 @@
-//! The texts of scopes and of the kinds of members, each with the stage since which it is served.
-ghost use Rattle.std.specs.Prelude.{◌≡◌, bytes_eq, find, map, option_map, option_and_then};
+//! The texts of scopes and of the kinds of members.
+ghost use Rattle.std.specs.Prelude.{◌≡◌, bytes_eq, find, map, option_map};
 ghost use Rattle.std.specs.Option.{option_copied};
 ghost use Rattle.cdi_form.specs.Words as spec;
-ghost use Rattle.cdi_form.specs.Words.{word_of, served_meaning};
+ghost use Rattle.cdi_form.specs.Words.{word_of};
 
 use crate::form::Kind;
 use cdi_base::Scope;
-use cdi_stage::Stage;
 
-/// A text that stands for something, since a stage.
+/// A text that stands for something.
 #[derive(Clone, Copy)]
 struct Word<T> {
     text: &'static str,
     meaning: T,
-    since: Stage,
 }
 
 macro_rules! word {
-    ($text:literal, $meaning:expr, $since:expr) => {
+    ($text:literal, $meaning:expr) => {
         Word {
             text: $text,
             meaning: $meaning,
-            since: $since,
         }
     };
 }
 
 const SCOPES: &[Word<Scope>] = &[
-    word!(
-        "ApplicationScoped",
-        Scope::ApplicationScoped,
-        Stage::Counter
-    ),
-    word!("SessionScoped", Scope::SessionScoped, Stage::Requests),
-    word!("RequestScoped", Scope::RequestScoped, Stage::Requests),
-    word!("Dependent", Scope::Dependent, Stage::Counter),
+    word!("ApplicationScoped", Scope::ApplicationScoped),
+    word!("SessionScoped", Scope::SessionScoped),
+    word!("RequestScoped", Scope::RequestScoped),
+    word!("Dependent", Scope::Dependent),
 ];
 
 const MEMBER_KINDS: &[Word<Kind>] = &[
-    word!("method", Kind::Method, Stage::Counter),
-    word!("init", Kind::Initializer, Stage::Lifecycle),
-    word!("post", Kind::PostConstruct, Stage::Lifecycle),
-    word!("pre", Kind::PreDestroy, Stage::Lifecycle),
-    word!("producer", Kind::Producer, Stage::Producers),
-    word!("field", Kind::ProducerField, Stage::Producers),
-    word!("disposer", Kind::Disposer, Stage::Producers),
-    word!("observer", Kind::Observer, Stage::Events),
+    word!("method", Kind::Method),
+    word!("init", Kind::Initializer),
+    word!("post", Kind::PostConstruct),
+    word!("pre", Kind::PreDestroy),
+    word!("producer", Kind::Producer),
+    word!("field", Kind::ProducerField),
+    word!("disposer", Kind::Disposer),
+    word!("observer", Kind::Observer),
 ];
 
 fn scopes() -> &'static [Word<Scope>]
@@ -67,32 +60,27 @@ fn word_in<'w, T: Copy>(words: &'w [Word<T>], text: &str) -> Option<&'w Word<T>>
     words.iter().find(|word| word.text == text)
 }
 
-/// What a text among some words stands for at a stage.
-fn meaning_in<T: Copy>(words: &[Word<T>], stage: Stage, text: &str) -> Option<T>
-    ensures { result ≡ option_and_then (served_meaning stage)
+/// What a text among some words stands for.
+fn meaning_in<T: Copy>(words: &[Word<T>], text: &str) -> Option<T>
+    ensures { result ≡ option_map (λ word. word.meaning)
         (option_map word_of (find (λ word. bytes_eq word.text.now text.now) words.now)) }
 {
     match word_in(words, text).copied() {
-        Some(word) => if stage.includes(word.since) {
-            Some(word.meaning)
-        } else {
-            None
-        },
+        Some(word) => Some(word.meaning),
         None => None,
     }
 }
 
-/// The scope of a text (Jakarta CDI 4.0, *Built-in scope types*), or `None` where it is no scope, or one that is not served
-/// at this stage.
-pub fn scope_named(stage: Stage, text: &str) -> Option<Scope>
-    ensures { result ≡ spec.scope_named stage text.now }
+/// The scope of a text (Jakarta CDI 4.0, *Built-in scope types*), or `None` where it is no scope.
+pub fn scope_named(text: &str) -> Option<Scope>
+    ensures { result ≡ spec.scope_named text.now }
 {
-    meaning_in(scopes(), stage, text)
+    meaning_in(scopes(), text)
 }
 
-/// The kind of member that a text names, or `None` where it names none, or one that is not served at this stage.
-pub fn member_kind(stage: Stage, text: &str) -> Option<Kind>
-    ensures { result ≡ spec.member_kind stage text.now }
+/// The kind of member that a text names, or `None` where it names none.
+pub fn member_kind(text: &str) -> Option<Kind>
+    ensures { result ≡ spec.member_kind text.now }
 {
-    meaning_in(member_kinds(), stage, text)
+    meaning_in(member_kinds(), text)
 }

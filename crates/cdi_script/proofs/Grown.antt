@@ -11,7 +11,6 @@ use Rattle.cdi_base.specs.declared.uses.WrittenUse.{WrittenUse}
 use Rattle.cdi_base.specs.declared.act.Via.TheVariants as vias
 use Rattle.cdi_form.specs.ValueForms.{use_in}
 use Rattle.cdi_form.specs.Json.{is_word}
-use Rattle.cdi_stage.specs.declared.stage.Stage.{Stage}
 use Rattle.cdi_script.specs.declared.fault.ScriptFault.{ScriptFault}
 use Rattle.cdi_script.specs.Term as terms
 use Rattle.cdi_script.specs.declared.fault.ScriptFault.TheVariants.{BadStep}
@@ -19,9 +18,9 @@ use Rattle.cdi_script.specs.declared.part.PartKind.{PartKind}
 use Rattle.cdi_script.specs.declared.part.PartKind.TheVariants.{Name, Via, Local, Qualifiers, Value, Values}
 use Rattle.cdi_script.specs.declared.part.Parts.{Parts}
 use Rattle.cdi_script.specs.declared.step.StepKind.{StepKind}
-use Rattle.cdi_script.specs.Build.{action_as, action_in, behind_word, script_at, step_at, steps_at}
+use Rattle.cdi_script.specs.Build.{action_as, action_in, behind_word, script_of, step_of, steps_of}
 use Rattle.cdi_script.specs.Expression.{expression_of, pair_of}
-use Rattle.cdi_script.specs.Form.{are_steps_at, kind_of, plain_items}
+use Rattle.cdi_script.specs.Form.{are_steps, kind_of, plain_items}
 use Rattle.cdi_script.specs.Part.{no_parts, with_part, with_parts}
 use Rattle.cdi_script.specs.Qualifier.{named_use, or_full, qualifier_of}
 use Rattle.cdi_script.specs.Reading.{Reads, array_of, count_of, each, found, name_of, named}
@@ -202,29 +201,29 @@ action-grows names (Some kind) items =
     grows-on (parts-grow no_parts names (row_of kind).parts (behind_word items)) (λ read. keeps read.1)
 action-grows names None items = Grows.err
 
-action-in-grows : (stage : Stage) (names : List (List ℕ)) (items : Items) → Grows names (action_in stage names items)
+action-in-grows : (names : List (List ℕ)) (items : Items) → Grows names (action_in names items)
 unfolding action_in
-action-in-grows stage names items = action-grows names (kind_of stage items) items
+action-in-grows names items = action-grows names (kind_of items) items
 
-step-grows : (stage : Stage) (names : List (List ℕ)) (d : Data) → Grows names (step_at stage names d)
-step-grows stage names null = Grows.err
-step-grows stage names (boolean b) = Grows.err
-step-grows stage names (number n) = Grows.err
-step-grows stage names (string text) = Grows.err
-step-grows stage names (array items) =
-    grows-on (action-in-grows stage names (plain_items stage items)) (λ read. keeps read.1)
-step-grows stage names (object ms) = Grows.err
+step-grows : (names : List (List ℕ)) (d : Data) → Grows names (step_of names d)
+step-grows names null = Grows.err
+step-grows names (boolean b) = Grows.err
+step-grows names (number n) = Grows.err
+step-grows names (string text) = Grows.err
+step-grows names (array items) =
+    grows-on (action-in-grows names (plain_items items)) (λ read. keeps read.1)
+step-grows names (object ms) = Grows.err
 
-steps-grow : (stage : Stage) (names : List (List ℕ)) (items : Items) → Grows names (steps_at stage names items)
-steps-grow stage names items =
-    grows-if (are_steps_at stage items)
-    (grows-if (nat_le (items_len items) 256) (each-grows (step_at stage) (step-grows stage) names items) Grows.err) Grows.err
+steps-grow : (names : List (List ℕ)) (items : Items) → Grows names (steps_of names items)
+steps-grow names items =
+    grows-if (are_steps items)
+    (grows-if (nat_le (items_len items) 256) (each-grows step_of step-grows names items) Grows.err) Grows.err
 
 -- the table that a script leaves begins with the names before it
-pub script-grows : (stage : Stage) (names : List (List ℕ)) (d : Data) → Grows names (script_at stage names d)
-script-grows stage names null = Grows.err
-script-grows stage names (boolean b) = Grows.err
-script-grows stage names (number n) = Grows.err
-script-grows stage names (string text) = Grows.err
-script-grows stage names (array items) = steps-grow stage names items
-script-grows stage names (object ms) = Grows.err
+pub script-grows : (names : List (List ℕ)) (d : Data) → Grows names (script_of names d)
+script-grows names null = Grows.err
+script-grows names (boolean b) = Grows.err
+script-grows names (number n) = Grows.err
+script-grows names (string text) = Grows.err
+script-grows names (array items) = steps-grow names items
+script-grows names (object ms) = Grows.err

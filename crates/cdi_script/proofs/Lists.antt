@@ -4,7 +4,6 @@ use Rattle.std.specs.List.{list_all}
 use Rattle.serde_json.specs.Data.{Data}
 use Rattle.serde_json.specs.View.{view, items_view}
 use Rattle.serde_json.specs.declared.value.Value.{Value}
-use Rattle.cdi_stage.specs.declared.stage.Stage.{Stage}
 use Rattle.cdi_script.specs.declared.part.PartKind.{PartKind}
 use Rattle.cdi_script.specs.Part.{are_parts}
 use Rattle.cdi_script.specs.Reading.{all_items}
@@ -14,7 +13,7 @@ list_all-view test [] = refl
 list_all-view test (x ∷ xs) = ap (λ b. test (view x) && b) (list_all-view test xs)
 
 -- where no kinds are left there are parts only if no values are left
-pub none_left : (stage : Stage) (kinds : List PartKind) (xs : List Value) → length kinds ≡ 0 → (length xs == 0) ≡ are_parts stage kinds (items_view xs)
-none_left stage (kind ∷ kinds) xs h = absurd (omega arith)
-none_left stage [] [] h = refl
-none_left stage [] (x ∷ xs) h = grind arith
+pub none_left : (kinds : List PartKind) (xs : List Value) → length kinds ≡ 0 → (length xs == 0) ≡ are_parts kinds (items_view xs)
+none_left (kind ∷ kinds) xs h = absurd (omega arith)
+none_left [] [] h = refl
+none_left [] (x ∷ xs) h = grind arith

@@ -1,14 +1,13 @@
 -- Arrays by the number of their items: of one, of three and more, of four and more.
 use Rattle.std.proofs.Common.{◌≡◌, ℕ, suc, ap, ◌≤◌, List, [], ◌∷◌, length, false, None, Err, refl, arith}
 use Rattle.std.proofs.lemmas.Bool.{and_right, le-ltb}
-use Rattle.cdi_stage.specs.declared.stage.Stage.{Stage}
 use Rattle.serde_json.specs.Data.{Data, array, Items, no_items, item}
 use Rattle.serde_json.specs.Events.{items_len}
 use Rattle.serde_json.specs.View.{view, items_view}
 use Rattle.serde_json.specs.declared.value.Value.{Value}
 use Rattle.cdi_script.specs.declared.fault.ScriptFault.TheVariants.{BadStep}
 use Rattle.cdi_script.specs.Expression.{is_expression, expression_of}
-use Rattle.cdi_script.specs.Form.{caught, are_steps_at, are_too_many_at}
+use Rattle.cdi_script.specs.Form.{caught, are_steps, are_too_many}
 use Rattle.cdi_script.specs.Qualifier.{has_use_names}
 use Rattle.cdi_script.specs.Via.{is_via, via_of, local_of}
 
@@ -49,11 +48,11 @@ is_none (a ∷ b ∷ c ∷ []) h = absurd (omega arith)
 is_none (a ∷ b ∷ c ∷ d ∷ xs) h = refl
 
 -- one item or three are no reference
-pub one_is_no_via : (stage : Stage) (xs : List Value) → length xs ≡ 1 → is_via stage (array (items_view xs)) ≡ false
-one_is_no_via stage xs h = rw (one xs h).is refl
+pub one_is_no_via : (xs : List Value) → length xs ≡ 1 → is_via (array (items_view xs)) ≡ false
+one_is_no_via xs h = rw (one xs h).is refl
 
-pub three_are_no_via : (stage : Stage) (xs : List Value) → 3 ≤ length xs → is_via stage (array (items_view xs)) ≡ false
-three_are_no_via stage xs h = rw (three xs h).is refl
+pub three_are_no_via : (xs : List Value) → 3 ≤ length xs → is_via (array (items_view xs)) ≡ false
+three_are_no_via xs h = rw (three xs h).is refl
 
 pub no_via_of_one : (names : List (List ℕ)) (xs : List Value) → length xs ≡ 1 → via_of names (array (items_view xs)) ≡ Err BadStep
 no_via_of_one names xs h = rw (one xs h).is refl
@@ -76,11 +75,11 @@ pub three_have_no_use : (xs : List Value) → 3 ≤ length xs → has_use_names 
 three_have_no_use xs h = rw (three xs h).is refl
 
 -- nor are they a catch
-pub one_catches_nothing : (stage : Stage) (xs : List Value) → length xs ≡ 1 → caught stage (items_view xs) ≡ None
-one_catches_nothing stage xs h = rw (one xs h).is refl
+pub one_catches_nothing : (xs : List Value) → length xs ≡ 1 → caught (items_view xs) ≡ None
+one_catches_nothing xs h = rw (one xs h).is refl
 
-pub three_catch_nothing : (stage : Stage) (xs : List Value) → 3 ≤ length xs → caught stage (items_view xs) ≡ None
-three_catch_nothing stage xs h = rw (three xs h).is refl
+pub three_catch_nothing : (xs : List Value) → 3 ≤ length xs → caught (items_view xs) ≡ None
+three_catch_nothing xs h = rw (three xs h).is refl
 
 pub items_len-items_view : (xs : List Value) → items_len (items_view xs) ≡ length xs
 items_len-items_view [] = refl
@@ -88,5 +87,5 @@ items_len-items_view (x ∷ xs) = ap suc (items_len-items_view xs)
 
 pub ruleset lengths = (items_len-items_view)
 
-pub few_are_not_many : (stage : Stage) (xs : List Value) → length xs ≤ 256 → are_too_many_at stage (items_view xs) ≡ false
-few_are_not_many stage xs h = and_right (are_steps_at stage (items_view xs)) _ (le-ltb _ _ (omega (arith, items_len-items_view xs)))
+pub few_are_not_many : (xs : List Value) → length xs ≤ 256 → are_too_many (items_view xs) ≡ false
+few_are_not_many xs h = and_right (are_steps (items_view xs)) _ (le-ltb _ _ (omega (arith, items_len-items_view xs)))

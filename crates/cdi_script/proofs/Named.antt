@@ -13,9 +13,9 @@ use Rattle.cdi_base.specs.declared.uses.WrittenMember.{WrittenMember}
 use Rattle.cdi_base.specs.declared.uses.WrittenUse.{WrittenUse}
 use Rattle.cdi_form.specs.ValueForms.{use_in}
 use Rattle.cdi_form.specs.Json.{is_word}
-use Rattle.cdi_script.specs.Build.{action_as, action_in, behind_word, script_at, step_at, steps_at}
+use Rattle.cdi_script.specs.Build.{action_as, action_in, behind_word, script_of, step_of, steps_of}
 use Rattle.cdi_script.specs.Expression.{expression_of, pair_of}
-use Rattle.cdi_script.specs.Form.{are_steps_at, kind_of, plain_items}
+use Rattle.cdi_script.specs.Form.{are_steps, kind_of, plain_items}
 use Rattle.cdi_script.specs.Part.{no_parts, with_part, with_parts}
 use Rattle.cdi_script.specs.Qualifier.{named_use, or_full, qualifier_of}
 use Rattle.cdi_script.specs.Reading.{Reads, array_of, count_of, each, found, name_of, named}
@@ -27,7 +27,6 @@ use Rattle.cdi_script.specs.declared.part.PartKind.{PartKind}
 use Rattle.cdi_script.specs.declared.part.PartKind.TheVariants.{Name, Via, Local, Qualifiers, Value, Values}
 use Rattle.cdi_script.specs.declared.part.Parts.{Parts}
 use Rattle.cdi_script.specs.declared.step.StepKind.{StepKind}
-use Rattle.cdi_stage.specs.declared.stage.Stage.{Stage}
 use Rattle.serde_json.specs.Data.{Data, null, boolean, number, string, array, object, Items, no_items, item}
 use Rattle.serde_json.specs.Events.{items_len}
 
@@ -216,28 +215,28 @@ action-named names (Some kind) items are =
     named-on (parts-named no_parts names (row_of kind).parts (behind_word items) are) (λ read h. Named.ok h)
 action-named names None items are = Named.err
 
-action-in-named : (stage : Stage) (names : List (List ℕ)) (items : Items) → AreNames names → Named (action_in stage names items)
+action-in-named : (names : List (List ℕ)) (items : Items) → AreNames names → Named (action_in names items)
 unfolding action_in
-action-in-named stage names items are = action-named names (kind_of stage items) items are
+action-in-named names items are = action-named names (kind_of items) items are
 
-step-named : (stage : Stage) (names : List (List ℕ)) (d : Data) → AreNames names → Named (step_at stage names d)
-step-named stage names null are = Named.err
-step-named stage names (boolean b) are = Named.err
-step-named stage names (number n) are = Named.err
-step-named stage names (string text) are = Named.err
-step-named stage names (array items) are =
-    named-on (action-in-named stage names (plain_items stage items) are) (λ read h. Named.ok h)
-step-named stage names (object ms) are = Named.err
+step-named : (names : List (List ℕ)) (d : Data) → AreNames names → Named (step_of names d)
+step-named names null are = Named.err
+step-named names (boolean b) are = Named.err
+step-named names (number n) are = Named.err
+step-named names (string text) are = Named.err
+step-named names (array items) are =
+    named-on (action-in-named names (plain_items items) are) (λ read h. Named.ok h)
+step-named names (object ms) are = Named.err
 
-steps-named : (stage : Stage) (names : List (List ℕ)) (items : Items) → AreNames names → Named (steps_at stage names items)
-steps-named stage names items are =
-    named-if (are_steps_at stage items)
-    (named-if (nat_le (items_len items) 256) (each-named (step_at stage) (step-named stage) names items are) Named.err) Named.err
+steps-named : (names : List (List ℕ)) (items : Items) → AreNames names → Named (steps_of names items)
+steps-named names items are =
+    named-if (are_steps items)
+    (named-if (nat_le (items_len items) 256) (each-named step_of step-named names items are) Named.err) Named.err
 
-pub script-named : (stage : Stage) (names : List (List ℕ)) (d : Data) → AreNames names → Named (script_at stage names d)
-script-named stage names null are = Named.err
-script-named stage names (boolean b) are = Named.err
-script-named stage names (number n) are = Named.err
-script-named stage names (string text) are = Named.err
-script-named stage names (array items) are = steps-named stage names items are
-script-named stage names (object ms) are = Named.err
+pub script-named : (names : List (List ℕ)) (d : Data) → AreNames names → Named (script_of names d)
+script-named names null are = Named.err
+script-named names (boolean b) are = Named.err
+script-named names (number n) are = Named.err
+script-named names (string text) are = Named.err
+script-named names (array items) are = steps-named names items are
+script-named names (object ms) are = Named.err

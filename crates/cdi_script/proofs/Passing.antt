@@ -6,11 +6,8 @@ use Rattle.std.specs.Option.{option_map_or}
 use Rattle.cdi_base.specs.Name.{is_name, has_room}
 use Rattle.cdi_base.specs.Reading.{◌>>=◌, Gives, IsFault}
 use Rattle.cdi_base.specs.declared.or_memory.OrMemory.{OrMemory}
-use Rattle.cdi_stage.specs.Stage.{is_included}
 use Rattle.cdi_base.specs.Uses.{has_names, numbered_use}
 use Rattle.cdi_base.specs.declared.act.Via.TheVariants as vias
-use Rattle.cdi_stage.specs.declared.stage.Stage.{Stage}
-use Rattle.cdi_stage.specs.declared.stage.Stage.TheVariants.{Injection, Lifecycle, Lookups}
 use Rattle.cdi_base.specs.declared.uses.WrittenUse.{WrittenUse}
 use Rattle.cdi_form.specs.ValueForms.{use_in}
 use Rattle.cdi_form.specs.Json.{is_word}
@@ -23,9 +20,9 @@ use Rattle.cdi_script.specs.declared.part.PartKind.TheVariants as parts
 use Rattle.cdi_script.specs.declared.part.Parts.{Parts}
 use Rattle.cdi_script.specs.declared.step.Step.{Step}
 use Rattle.cdi_script.specs.declared.step.StepKind.{StepKind}
-use Rattle.cdi_script.specs.Build.{action_as, action_in, step_at}
+use Rattle.cdi_script.specs.Build.{action_as, action_in, step_of}
 use Rattle.cdi_script.specs.Expression.{is_pair, is_expression, pair_of, expression_of}
-use Rattle.cdi_script.specs.Form.{fits, kind_of, plain_items, is_step_at, are_steps_at}
+use Rattle.cdi_script.specs.Form.{fits, kind_of, plain_items, is_step, are_steps}
 use Rattle.cdi_script.specs.Part.{is_part, are_parts, with_part, with_parts, no_parts}
 use Rattle.cdi_script.specs.Qualifier.{is_qualifier, or_full, named_use, qualifier_of}
 use Rattle.cdi_script.specs.Reading.{Reads, is_named, named, name_of, count_of, found, all_items, is_array_of, each, array_of}
@@ -114,25 +111,25 @@ expression-read names (array (item word (item left (item right no_items)))) h =
 expression-read names (array (item word (item left (item right (item d ds))))) h = nothing h
 expression-read names (object ms) h = nothing h
 
-via_pair-read : (stage : Stage) (names : Names) (word value : Data) → is_via_pair stage word value ≡ true → IsRead (via_pair_of names word value)
+via_pair-read : (names : Names) (word value : Data) → is_via_pair word value ≡ true → IsRead (via_pair_of names word value)
 unfolding is_via_pair via_pair_of
-via_pair-read stage names word value h =
-    word_by_word (is_word word (codes "field")) (is_word word (codes "param")) (is_word word (codes "local")) (is_included stage Injection && is_named value)
-    (is_included stage Lifecycle && is_some (count_of value)) (is_included stage Lookups && is_some (count_of value)) (name_of names value >>= λ name. Ok (vias.Field name.0, name.1))
+via_pair-read names word value h =
+    word_by_word (is_word word (codes "field")) (is_word word (codes "param")) (is_word word (codes "local")) (is_named value)
+    (is_some (count_of value)) (is_some (count_of value)) (name_of names value >>= λ name. Ok (vias.Field name.0, name.1))
     (found vias.Param names (count_of value)) (found vias.Local names (count_of value))
-    (λ p. then (name_of names value) _ (name-read names value (and_parts _ (is_named value) p).1) (λ x. tt))
-    (λ p. found-read _ names (count_of value) (and_parts _ (is_some (count_of value)) p).1) (λ p. found-read _ names (count_of value) (and_parts _ (is_some (count_of value)) p).1) h
+    (λ p. then (name_of names value) _ (name-read names value p) (λ x. tt))
+    (λ p. found-read _ names (count_of value) p) (λ p. found-read _ names (count_of value) p) h
 
-via-read : (stage : Stage) (names : Names) (d : Data) → is_via stage d ≡ true → IsRead (via_of names d)
-via-read stage names (array (item word (item value no_items))) h = via_pair-read stage names word value h
-via-read stage names (array no_items) h = nothing h
-via-read stage names (array (item word no_items)) h = nothing h
-via-read stage names (array (item word (item value (item d ds)))) h = nothing h
-via-read stage names null h = nothing h
-via-read stage names (boolean b) h = nothing h
-via-read stage names (number n) h = nothing h
-via-read stage names (string text) h = nothing h
-via-read stage names (object ms) h = nothing h
+via-read : (names : Names) (d : Data) → is_via d ≡ true → IsRead (via_of names d)
+via-read names (array (item word (item value no_items))) h = via_pair-read names word value h
+via-read names (array no_items) h = nothing h
+via-read names (array (item word no_items)) h = nothing h
+via-read names (array (item word (item value (item d ds)))) h = nothing h
+via-read names null h = nothing h
+via-read names (boolean b) h = nothing h
+via-read names (number n) h = nothing h
+via-read names (string text) h = nothing h
+via-read names (object ms) h = nothing h
 
 full-read : {X : Type 0} (o : Option (X × Names)) → IsRead (or_full o)
 full-read (Some x) = tt
@@ -160,21 +157,21 @@ module _ {X : Type 0} (test : Data → Bool) (form : Names → Data → Reads X)
   array-read names (string text) h = nothing h
   array-read names (object ms) h = nothing h
 
-part-read : (stage : Stage) (kind : PartKind) (read : Parts) (names : Names) (d : Data) → is_part stage kind d ≡ true → IsRead (with_part read names kind d)
-part-read stage parts.Name read names d h = then (name_of names d) _ (name-read names d h) (λ x. tt)
-part-read stage parts.Via read names d h = then (via_of names d) _ (via-read stage names d h) (λ x. tt)
-part-read stage parts.Local read names d h = found-read _ names (local_of d) h
-part-read stage parts.Qualifiers read names d h = then (array_of qualifier_of names d) _ (array-read is_qualifier qualifier_of qualifier-read names d h) (λ x. tt)
-part-read stage parts.Value read names d h = then (expression_of names d) _ (expression-read names d h) (λ x. tt)
-part-read stage parts.Values read names d h = then (array_of expression_of names d) _ (array-read is_expression expression_of expression-read names d h) (λ x. tt)
+part-read : (kind : PartKind) (read : Parts) (names : Names) (d : Data) → is_part kind d ≡ true → IsRead (with_part read names kind d)
+part-read parts.Name read names d h = then (name_of names d) _ (name-read names d h) (λ x. tt)
+part-read parts.Via read names d h = then (via_of names d) _ (via-read names d h) (λ x. tt)
+part-read parts.Local read names d h = found-read _ names (local_of d) h
+part-read parts.Qualifiers read names d h = then (array_of qualifier_of names d) _ (array-read is_qualifier qualifier_of qualifier-read names d h) (λ x. tt)
+part-read parts.Value read names d h = then (expression_of names d) _ (expression-read names d h) (λ x. tt)
+part-read parts.Values read names d h = then (array_of expression_of names d) _ (array-read is_expression expression_of expression-read names d h) (λ x. tt)
 
-parts-read : (stage : Stage) (kinds : List PartKind) (read : Parts) (names : Names) (ds : Items) → are_parts stage kinds ds ≡ true → IsRead (with_parts read names kinds ds)
-parts-read stage [] read names no_items h = tt
-parts-read stage [] read names (item d ds) h = nothing h
-parts-read stage (kind ∷ kinds) read names no_items h = nothing h
-parts-read stage (kind ∷ kinds) read names (item d ds) h =
+parts-read : (kinds : List PartKind) (read : Parts) (names : Names) (ds : Items) → are_parts kinds ds ≡ true → IsRead (with_parts read names kinds ds)
+parts-read [] read names no_items h = tt
+parts-read [] read names (item d ds) h = nothing h
+parts-read (kind ∷ kinds) read names no_items h = nothing h
+parts-read (kind ∷ kinds) read names (item d ds) h =
     let both = and_parts _ _ h in
-    then (with_part read names kind d) _ (part-read stage kind read names d both.0) (λ next. parts-read stage kinds next.0 next.1 ds both.1)
+    then (with_part read names kind d) _ (part-read kind read names d both.0) (λ next. parts-read kinds next.0 next.1 ds both.1)
 
 -- what is found passes
 found-passes : {X : Type 0} (p : X → Bool) (xs : List X) (x : X) → find p xs ≡ Some x → p x ≡ true
@@ -185,31 +182,31 @@ found-passes p (y ∷ ys) x h = by (found-passes p ys x) (p y) refl h
     by later true e h = cc
     by later false e h = later h
 
-as-read : (stage : Stage) (kind : StepKind) (names : Names) (ds : Items) → fits stage (row_of kind) ds ≡ true → IsRead (action_as (Some kind) names ds)
-as-read stage of names no_items h = nothing h
-as-read stage of names (item word ds) h =
-    then (with_parts no_parts names (row_of of).parts ds) _ (parts-read stage (row_of of).parts no_parts names ds (and_parts _ _ (and_parts _ _ h).1).1) (λ x. tt)
+as-read : (kind : StepKind) (names : Names) (ds : Items) → fits (row_of kind) ds ≡ true → IsRead (action_as (Some kind) names ds)
+as-read of names no_items h = nothing h
+as-read of names (item word ds) h =
+    then (with_parts no_parts names (row_of of).parts ds) _ (parts-read (row_of of).parts no_parts names ds (and_parts _ _ h).1) (λ x. tt)
 
-action-read : (stage : Stage) (names : Names) (ds : Items) → is_some (kind_of stage ds) ≡ true → IsRead (action_in stage names ds)
+action-read : (names : Names) (ds : Items) → is_some (kind_of ds) ≡ true → IsRead (action_in names ds)
 unfolding action_in
-action-read stage names ds h = by (kind_of stage ds) refl h
+action-read names ds h = by (kind_of ds) refl h
   where
-    by : (o : Option StepKind) → kind_of stage ds ≡ o → is_some o ≡ true → IsRead (action_as o names ds)
-    by (Some k) e h = as-read stage k names ds (found-passes (λ other. fits stage (row_of other) ds) all_kinds k e)
+    by : (o : Option StepKind) → kind_of ds ≡ o → is_some o ≡ true → IsRead (action_as o names ds)
+    by (Some k) e h = as-read k names ds (found-passes (λ other. fits (row_of other) ds) all_kinds k e)
     by None e h = nothing h
 
-step-read : (stage : Stage) (names : Names) (d : Data) → is_step_at stage d ≡ true → IsRead (step_at stage names d)
-step-read stage names (array ds) h = then (action_in stage names (plain_items stage ds)) _ (action-read stage names (plain_items stage ds) h) (λ x. tt)
-step-read stage names null h = nothing h
-step-read stage names (boolean b) h = nothing h
-step-read stage names (number n) h = nothing h
-step-read stage names (string text) h = nothing h
-step-read stage names (object ms) h = nothing h
+step-read : (names : Names) (d : Data) → is_step d ≡ true → IsRead (step_of names d)
+step-read names (array ds) h = then (action_in names (plain_items ds)) _ (action-read names (plain_items ds) h) (λ x. tt)
+step-read names null h = nothing h
+step-read names (boolean b) h = nothing h
+step-read names (number n) h = nothing h
+step-read names (string text) h = nothing h
+step-read names (object ms) h = nothing h
 
 -- steps are read, unless the table of names is full or memory runs out
-module _ (stage : Stage) (names : Names) (ds : Items) where
+module _ (names : Names) (ds : Items) where
   pub no_other_fault : {A : Type 0} (fault : ScriptFault) (view : A → List Step × Names) (r : Result A (OrMemory ScriptFault)) → (fault ≡ Full → ⊥)
-      → are_steps_at stage ds ≡ true → Gives view r (each (step_at stage) names ds) → IsFault r fault → ⊥
+      → are_steps ds ≡ true → Gives view r (each step_of names ds) → IsFault r fault → ⊥
   no_other_fault fault view r other steps gives h =
-      let is_fault : each (step_at stage) names ds ≡ Err fault = subst (λ x. Gives view x (each (step_at stage) names ds)) h gives in
-      other (subst IsRead is_fault (each-read (is_step_at stage) (step_at stage) (step-read stage) names ds steps))
+      let is_fault : each step_of names ds ≡ Err fault = subst (λ x. Gives view x (each step_of names ds)) h gives in
+      other (subst IsRead is_fault (each-read is_step step_of step-read names ds steps))

@@ -1,5 +1,5 @@
--- What a script does next lies in its shape. A step that is served has a line in each of two lemmas: `with_action-grows`, that what
--- was listed stays so, and `act_of-in_shape`, that its act lies in the shape with what it names.
+-- What a script does next lies in its shape. Each step has a line in each of two lemmas: `with_action-grows`, that what was
+-- listed stays so, and `act_of-in_shape`, that its act lies in the shape with what it names.
 use Rattle.std.proofs.Common.{◌≡◌, ◌∙◌, sym, ap, subst, refl, ℕ, ◌+◌, ◌-◌, ◌<◌, ◌==◌, ◌&&◌, ◌||◌, Bool, true, false, cond, List, [], ◌∷◌, ◌++◌, length, fold, Option, Some, None, nat_eq, nat_lt, length-append, append_assoc, append-nil, arith}
 use Rattle.std.proofs.lemmas.Bool.{lt-ltb}
 use borrow.Author.Tests.{ltb-true}

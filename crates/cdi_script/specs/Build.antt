@@ -1,15 +1,13 @@
--- The script that a value is, with the table of names that it is read into. Where no stage is named, it is the one that is served.
+-- The script that a value is, with the table of names that it is read into.
 use Rattle.std.specs.Prelude.{ℕ, List, nat_le, is_some, Option, Some, None, Ok, Err, if◌then◌else◌}
 use Rattle.cdi_base.specs.Reading.{◌>>=◌}
-use Rattle.cdi_stage.specs.Stage.{served}
-use Rattle.cdi_stage.specs.declared.stage.Stage.{Stage}
 use Rattle.serde_json.specs.Data.{Data, array, Items, no_items, item}
 use Rattle.serde_json.specs.Events.{items_len}
 use Rattle.cdi_script.specs.declared.fault.ScriptFault.TheVariants.{BadStep, TooLong}
 use Rattle.cdi_script.specs.declared.step.Action.{Action}
 use Rattle.cdi_script.specs.declared.step.Step.{Step}
 use Rattle.cdi_script.specs.declared.step.StepKind.{StepKind}
-use Rattle.cdi_script.specs.Form.{kind_of, caught, plain_items, are_steps_at}
+use Rattle.cdi_script.specs.Form.{kind_of, caught, plain_items, are_steps}
 use Rattle.cdi_script.specs.Part.{no_parts, with_parts}
 use Rattle.cdi_script.specs.Reading.{Reads, each}
 use Rattle.cdi_script.specs.Step.{row_of, action_of}
@@ -26,29 +24,26 @@ action_as (Some kind) names items =
     >>= λ read. Ok (action_of kind read.0, read.1)
 action_as None names items = Err BadStep
 
-unfoldable pub action_in : Stage → List (List ℕ) → Items → Reads Action
-action_in stage names items = action_as (kind_of stage items) names items
+unfoldable pub action_in : List (List ℕ) → Items → Reads Action
+action_in names items = action_as (kind_of items) names items
 
-abbrev pub step_in : Stage → List (List ℕ) → Items → Reads Step
-step_in stage names items =
-    action_in stage names (plain_items stage items)
-    >>= λ read. Ok (record { is_catch = is_some (caught stage items); action = read.0 }, read.1)
+abbrev pub step_in : List (List ℕ) → Items → Reads Step
+step_in names items =
+    action_in names (plain_items items)
+    >>= λ read. Ok (record { is_catch = is_some (caught items); action = read.0 }, read.1)
 
-abbrev pub step_at : Stage → List (List ℕ) → Data → Reads Step
-step_at stage names (array items) = step_in stage names items
-step_at stage names _ = Err BadStep
+abbrev pub step_of : List (List ℕ) → Data → Reads Step
+step_of names (array items) = step_in names items
+step_of names _ = Err BadStep
 
 -- the steps, where each is one and they are at most 256
-abbrev pub steps_at : Stage → List (List ℕ) → Items → Reads (List Step)
-steps_at stage names items =
-    if are_steps_at stage items then
-    (if nat_le (items_len items) 256 then each (step_at stage) names items else Err TooLong)
+abbrev pub steps_of : List (List ℕ) → Items → Reads (List Step)
+steps_of names items =
+    if are_steps items then
+    (if nat_le (items_len items) 256 then each step_of names items else Err TooLong)
     else Err BadStep
 
 -- the script that a value is
-abbrev pub script_at : Stage → List (List ℕ) → Data → Reads (List Step)
-script_at stage names (array items) = steps_at stage names items
-script_at stage names _ = Err BadStep
-
 abbrev pub script_of : List (List ℕ) → Data → Reads (List Step)
-script_of names d = script_at served names d
+script_of names (array items) = steps_of names items
+script_of names _ = Err BadStep

@@ -2,7 +2,6 @@
 use Rattle.std.specs.Prelude.{◌≡◌, ℕ, List, [], ◌∷◌, Bool, true, false, ◌&&◌, Ok}
 use Rattle.cdi_base.specs.Reading.{◌>>=◌}
 use Rattle.cdi_base.specs.declared.act.Via.TheVariants as vias
-use Rattle.cdi_stage.specs.declared.stage.Stage.{Stage}
 use Rattle.serde_json.specs.Data.{Data, Items, no_items, item}
 use Rattle.cdi_script.specs.declared.part.PartKind.{PartKind}
 use Rattle.cdi_script.specs.declared.part.PartKind.TheVariants.{Name, Via, Local, Qualifiers, Value, Values}
@@ -13,20 +12,20 @@ use Rattle.cdi_script.specs.Reading.{Reads, is_named, name_of, found, is_array_o
 use Rattle.cdi_script.specs.Term as terms
 use Rattle.cdi_script.specs.Via.{is_via, via_of, is_local, local_of}
 
-abbrev pub is_part : Stage → PartKind → Data → Bool
-is_part stage Name d = is_named d
-is_part stage Via d = is_via stage d
-is_part stage Local d = is_local d
-is_part stage Qualifiers d = is_array_of is_qualifier d
-is_part stage Value d = is_expression d
-is_part stage Values d = is_array_of is_expression d
+abbrev pub is_part : PartKind → Data → Bool
+is_part Name d = is_named d
+is_part Via d = is_via d
+is_part Local d = is_local d
+is_part Qualifiers d = is_array_of is_qualifier d
+is_part Value d = is_expression d
+is_part Values d = is_array_of is_expression d
 
 -- as many values as kinds, each a part of its kind
-abbrev pub are_parts : Stage → List PartKind → Items → Bool
-are_parts stage [] no_items = true
-are_parts stage [] (item d ds) = false
-are_parts stage (kind ∷ kinds) no_items = false
-are_parts stage (kind ∷ kinds) (item d ds) = is_part stage kind d && are_parts stage kinds ds
+abbrev pub are_parts : List PartKind → Items → Bool
+are_parts [] no_items = true
+are_parts [] (item d ds) = false
+are_parts (kind ∷ kinds) no_items = false
+are_parts (kind ∷ kinds) (item d ds) = is_part kind d && are_parts kinds ds
 
 -- where nothing is read yet
 abbrev pub no_parts : Parts

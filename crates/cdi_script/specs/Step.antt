@@ -1,11 +1,9 @@
--- The steps of scripts. For each: its row, which says how it is written and since when it is served; its action; the act that
+-- The steps of scripts. For each: its row, which says how it is written; its action; the act that
 -- the action comes to; and what it names.
 use Rattle.std.specs.Prelude.{◌≡◌, ℕ, List, [], ◌∷◌, ◌++◌, length, codes, Bool, true, false, Some, None}
 use Rattle.cdi_base.specs.declared.act.Act.{Act}
 use Rattle.cdi_base.specs.declared.act.Act.TheVariants as acts
 use Rattle.cdi_base.specs.declared.fields.Fields.{Fields}
-use Rattle.cdi_stage.specs.declared.stage.Stage.{Stage}
-use Rattle.cdi_stage.specs.declared.stage.Stage.TheVariants as since
 use Rattle.cdi_bodies.specs.declared.shape.Shape.{Shape}
 use Rattle.cdi_bodies.specs.declared.view.View.{View}
 use Rattle.cdi_script.specs.declared.part.PartKind.{PartKind}
@@ -18,36 +16,34 @@ use Rattle.cdi_script.specs.declared.step.StepKind.{StepKind}
 use Rattle.cdi_script.specs.declared.step.StepKind.TheVariants as kinds
 use Rattle.cdi_script.specs.Value.{value_of, values_of}
 
--- how a step of a kind is written, its word and what stands behind that, and since when it is served
+-- how a step of a kind is written: its word, and what stands behind that
 pub record Row : Type 0 where
   pub word : List ℕ
   pub parts : List PartKind
-  pub since : Stage
 
-abbrev pub row : List ℕ → List PartKind → Stage → Row
-row word parts since = record { word = word; parts = parts; since = since }
+abbrev pub row : List ℕ → List PartKind → Row
+row word parts = record { word = word; parts = parts }
 
 -- a row of the program is this one
 pub record Shows (row : AnyRow) (is : Row) : Type 0 where
   pub word : row.word.now ≡ is.word
   pub parts : row.parts.now ≡ is.parts
-  pub since : row.since ≡ is.since
 
 abbrev pub row_of : StepKind → Row
-row_of kinds.Set = row (codes "set") (Name ∷ Value ∷ []) since.Counter
-row_of kinds.Call = row (codes "call") (Via ∷ Name ∷ Values ∷ []) since.Injection
-row_of kinds.Own = row (codes "own") (Name ∷ Values ∷ []) since.Counter
-row_of kinds.Read = row (codes "read") (Via ∷ []) since.Producers
-row_of kinds.Write = row (codes "write") (Via ∷ Value ∷ []) since.Producers
-row_of kinds.Fire = row (codes "fire") (Name ∷ Qualifiers ∷ Value ∷ []) since.Events
-row_of kinds.Proceed = row (codes "proceed") [] since.Interceptors
-row_of kinds.ProceedWith = row (codes "proceed") (Values ∷ []) since.Interceptors
-row_of kinds.Find = row (codes "find") (Name ∷ Qualifiers ∷ []) since.Lookups
-row_of kinds.Destroy = row (codes "destroy") (Local ∷ []) since.Lookups
-row_of kinds.Keep = row (codes "keep") (Name ∷ Value ∷ []) since.Interceptors
-row_of kinds.Peek = row (codes "peek") (Name ∷ []) since.Interceptors
-row_of kinds.Give = row (codes "give") (Value ∷ []) since.Counter
-row_of kinds.Throw = row (codes "throw") (Name ∷ []) since.Injection
+row_of kinds.Set = row (codes "set") (Name ∷ Value ∷ [])
+row_of kinds.Call = row (codes "call") (Via ∷ Name ∷ Values ∷ [])
+row_of kinds.Own = row (codes "own") (Name ∷ Values ∷ [])
+row_of kinds.Read = row (codes "read") (Via ∷ [])
+row_of kinds.Write = row (codes "write") (Via ∷ Value ∷ [])
+row_of kinds.Fire = row (codes "fire") (Name ∷ Qualifiers ∷ Value ∷ [])
+row_of kinds.Proceed = row (codes "proceed") []
+row_of kinds.ProceedWith = row (codes "proceed") (Values ∷ [])
+row_of kinds.Find = row (codes "find") (Name ∷ Qualifiers ∷ [])
+row_of kinds.Destroy = row (codes "destroy") (Local ∷ [])
+row_of kinds.Keep = row (codes "keep") (Name ∷ Value ∷ [])
+row_of kinds.Peek = row (codes "peek") (Name ∷ [])
+row_of kinds.Give = row (codes "give") (Value ∷ [])
+row_of kinds.Throw = row (codes "throw") (Name ∷ [])
 
 abbrev pub all_kinds : List StepKind
 all_kinds =

@@ -1,27 +1,24 @@
 -- How the references are written by which a body reaches another instance.
-use Rattle.std.specs.Prelude.{ℕ, List, Bool, false, ◌&&◌, codes, is_some, Option, None, Ok, Err, if◌then◌else◌}
+use Rattle.std.specs.Prelude.{ℕ, List, Bool, false, codes, is_some, Option, None, Ok, Err, if◌then◌else◌}
 use Rattle.cdi_base.specs.Reading.{◌>>=◌}
-use Rattle.cdi_stage.specs.Stage.{is_included}
 use Rattle.cdi_base.specs.declared.act.Via.{Via}
 use Rattle.cdi_base.specs.declared.act.Via.TheVariants.{Field, Param, Local}
-use Rattle.cdi_stage.specs.declared.stage.Stage.{Stage}
-use Rattle.cdi_stage.specs.declared.stage.Stage.TheVariants.{Injection, Lifecycle, Lookups}
 use Rattle.cdi_form.specs.Json.{is_word}
 use Rattle.serde_json.specs.Data.{Data, array, no_items, item}
 use Rattle.cdi_script.specs.declared.fault.ScriptFault.TheVariants.{BadStep}
 use Rattle.cdi_script.specs.Reading.{Reads, is_named, name_of, count_of, is_count, found}
 
--- `["field",f]`, `["param",k]` and `["local",k]`, each since its stage
-unfoldable pub is_via_pair : Stage → Data → Data → Bool
-is_via_pair stage word value =
-    if is_word word (codes "field") then (is_included stage Injection && is_named value)
-    else (if is_word word (codes "param") then (is_included stage Lifecycle && is_count value)
+-- `["field",f]`, `["param",k]` and `["local",k]`
+unfoldable pub is_via_pair : Data → Data → Bool
+is_via_pair word value =
+    if is_word word (codes "field") then is_named value
+    else (if is_word word (codes "param") then is_count value
     else
-    (if is_word word (codes "local") then (is_included stage Lookups && is_count value) else false))
+    (if is_word word (codes "local") then is_count value else false))
 
-abbrev pub is_via : Stage → Data → Bool
-is_via stage (array (item word (item value no_items))) = is_via_pair stage word value
-is_via stage _ = false
+abbrev pub is_via : Data → Bool
+is_via (array (item word (item value no_items))) = is_via_pair word value
+is_via _ = false
 
 unfoldable pub via_pair_of : List (List ℕ) → Data → Data → Reads Via
 via_pair_of names word value =

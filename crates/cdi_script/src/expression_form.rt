@@ -10,7 +10,6 @@ use crate::fault::ScriptFault;
 use crate::reading::{Item, bad, count_of, is_count, is_named, name_of};
 use cdi_base::{Names, OrMemory, Text};
 use cdi_form::is_word;
-use cdi_stage::Stage;
 use serde_json::Value as Json;
 use std::alloc::Global;
 
@@ -131,17 +130,16 @@ fn expression_of(
 }
 
 impl Item for Expression {
-    ghost test = { λ _. spec.is_expression };
+    ghost test = { spec.is_expression };
 
-    ghost form = { λ _. spec.expression_of };
+    ghost form = { spec.expression_of };
 
-    fn is_in(_stage: Stage, value: &Json) -> bool {
+    fn is_in(value: &Json) -> bool {
         is_expression(value)
     }
 
     fn read(
         alloc: Global,
-        _stage: Stage,
         names: &mut Names,
         value: &Json,
     ) -> Result<Expression, OrMemory<ScriptFault>> {

@@ -13,38 +13,37 @@ use crate::reading::{Item, are_all, bad};
 use crate::step::{Action, Step, StepKind};
 use cdi_base::{Names, OrMemory};
 use cdi_form::is_word;
-use cdi_stage::{SERVED, Stage};
 use serde_json::Value as Json;
 use std::alloc::Global;
 
-/// Whether these values are a step of a kind that is served at a stage: the word of its row, and then its parts.
-fn fits(stage: Stage, kind: StepKind, items: &[Json]) -> bool
-    ensures { result ≡ spec.fits stage (row_of kind) (items_view items.now) }
+/// Whether these values are a step of a kind: the word of its row, and then its parts.
+fn fits(kind: StepKind, items: &[Json]) -> bool
+    ensures { result ≡ spec.fits (row_of kind) (items_view items.now) }
 {
     let Some((word, parts)) = items.split_first() else {
         return false;
     };
     let row = kind.row();
-    is_word(word, row.word) && stage.includes(row.since) && are_parts(stage, row.parts, parts)
+    is_word(word, row.word) && are_parts(row.parts, parts)
 }
 
 /// The kind of the step that these values are, a catch apart.
-fn kind_of(stage: Stage, items: &[Json]) -> Option<StepKind>
-    ensures { result ≡ spec.kind_of stage (items_view items.now) }
+fn kind_of(items: &[Json]) -> Option<StepKind>
+    ensures { result ≡ spec.kind_of (items_view items.now) }
 {
     StepKind::ALL
         .iter()
         .copied()
-        .find(|kind| fits(stage, *kind, items))
+        .find(|kind| fits(*kind, items))
 }
 
-fn caught_in<'v>(stage: Stage, word: &Json, step: &'v Json) -> Option<&'v [Json]>
+fn caught_in<'v>(word: &Json, step: &'v Json) -> Option<&'v [Json]>
     ensures { option_map (λ inner. items_view inner.now) result
-        ≡ spec.caught_in stage (view word.now) (view step.now) }
+        ≡ spec.caught_in (view word.now) (view step.now) }
 {
     match step {
         Json::Array(inner) => {
-            if stage.includes(Stage::Injection) && is_word(word, "catch") {
+            if is_word(word, "catch") {
                 Some(inner.as_slice())
             } else {
                 None
@@ -55,62 +54,56 @@ fn caught_in<'v>(stage: Stage, word: &Json, step: &'v Json) -> Option<&'v [Json]
 }
 
 /// The values of the array that stands in a catch.
-fn caught(stage: Stage, items: &[Json]) -> Option<&[Json]>
+fn caught(items: &[Json]) -> Option<&[Json]>
     ensures { option_map (λ inner. items_view inner.now) result
-        ≡ spec.caught stage (items_view items.now) }
+        ≡ spec.caught (items_view items.now) }
 {
     match items {
         [] => None,
         [_] => None,
-        [word, step] => caught_in(stage, word, step),
+        [word, step] => caught_in(word, step),
         [_, _, _, ..] => None,
     }
 }
 
 /// Whether these values are a step, which may stand in a catch.
-fn is_step_in(stage: Stage, items: &[Json]) -> bool
-    ensures { result ≡ spec.is_step_in stage (items_view items.now) }
+fn is_step_in(items: &[Json]) -> bool
+    ensures { result ≡ spec.is_step_in (items_view items.now) }
 {
-    match caught(stage, items) {
-        Some(inner) => kind_of(stage, inner).is_some(),
-        None => kind_of(stage, items).is_some(),
+    match caught(items) {
+        Some(inner) => kind_of(inner).is_some(),
+        None => kind_of(items).is_some(),
     }
 }
 
 #[tactic(auto, unfolding(crate::specs::Build::action_in))]
 fn action_in(
     alloc: Global,
-    stage: Stage,
     names: &mut Names,
     items: &[Json],
 ) -> Result<Action, OrMemory<ScriptFault>>
     ensures gives { Gives (λ action. (action, names.new)) result
-        (build.action_in stage names.old (items_view items.now)) }
+        (build.action_in names.old (items_view items.now)) }
     ensures kept { Extends names.old names.new }
 {
-    let Some(kind) = kind_of(stage, items) else {
+    let Some(kind) = kind_of(items) else {
         return bad();
     };
     let Some((_, values)) = items.split_first() else {
         return bad();
     };
     let mut parts = Parts::none(alloc);
-    parts.read_all(alloc, stage, names, kind.row().parts, values)?;
+    parts.read_all(alloc, names, kind.row().parts, values)?;
     Ok(kind.action(parts))
 }
 
-fn step_in(
-    alloc: Global,
-    stage: Stage,
-    names: &mut Names,
-    items: &[Json],
-) -> Result<Step, OrMemory<ScriptFault>>
+fn step_in(alloc: Global, names: &mut Names, items: &[Json]) -> Result<Step, OrMemory<ScriptFault>>
     ensures gives { Gives (λ step. (step, names.new)) result
-        (build.step_in stage names.old (items_view items.now)) }
+        (build.step_in names.old (items_view items.now)) }
     ensures kept { Extends names.old names.new }
 {
-    let inner = caught(stage, items);
-    let action = action_in(alloc, stage, names, inner.unwrap_or(items))?;
+    let inner = caught(items);
+    let action = action_in(alloc, names, inner.unwrap_or(items))?;
     Ok(Step {
         is_catch: inner.is_some(),
         action,
@@ -118,54 +111,35 @@ fn step_in(
 }
 
 impl Item for Step {
-    ghost test = { spec.is_step_at };
+    ghost test = { spec.is_step };
 
-    ghost form = { build.step_at };
+    ghost form = { build.step_of };
 
-    fn is_in(stage: Stage, value: &Json) -> bool {
+    fn is_in(value: &Json) -> bool {
         match value {
-            Json::Array(items) => is_step_in(stage, items.as_slice()),
+            Json::Array(items) => is_step_in(items.as_slice()),
             _ => false,
         }
     }
 
-    fn read(
-        alloc: Global,
-        stage: Stage,
-        names: &mut Names,
-        value: &Json,
-    ) -> Result<Step, OrMemory<ScriptFault>> {
+    fn read(alloc: Global, names: &mut Names, value: &Json) -> Result<Step, OrMemory<ScriptFault>> {
         match value {
-            Json::Array(items) => step_in(alloc, stage, names, items.as_slice()),
+            Json::Array(items) => step_in(alloc, names, items.as_slice()),
             _ => bad(),
         }
     }
 }
 
-/// Whether a value is a step that is served at a stage.
-pub fn is_step_at(stage: Stage, value: &Json) -> bool
-    ensures { result ≡ spec.is_step_at stage (view value.now) }
-{
-    Step::is_in(stage, value)
-}
-
-/// Whether each of these values is a step that is served at a stage.
-pub fn are_steps_at(stage: Stage, items: &[Json]) -> bool
-    ensures { result ≡ spec.are_steps_at stage (items_view items.now) }
-{
-    are_all::<Step>(stage, items)
-}
-
-/// Whether a value is a step that is served.
+/// Whether a value is a step.
 pub fn is_step(value: &Json) -> bool
     ensures { result ≡ spec.is_step (view value.now) }
 {
-    is_step_at(SERVED, value)
+    Step::is_in(value)
 }
 
-/// Whether each of these values is a step that is served.
+/// Whether each of these values is a step.
 pub fn are_steps(items: &[Json]) -> bool
     ensures { result ≡ spec.are_steps (items_view items.now) }
 {
-    are_steps_at(SERVED, items)
+    are_all::<Step>(items)
 }

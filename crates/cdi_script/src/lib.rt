@@ -19,6 +19,6 @@ mod via;
 
 pub use expression::Expression;
 pub use fault::ScriptFault;
-pub use form::{are_steps, are_steps_at, is_step, is_step_at};
+pub use form::{are_steps, is_step};
 pub use script::{MAX_STEPS, Script};
 pub use step::{Action, Step};

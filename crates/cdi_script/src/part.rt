@@ -10,7 +10,6 @@ use crate::fault::ScriptFault;
 use crate::reading::{Item, array_of, bad, is_array_of, is_named, name_of};
 use crate::via::{is_via, local_of, via_of};
 use cdi_base::{BuiltIn, Name, Names, OrMemory, Seq, Use, Via};
-use cdi_stage::Stage;
 use serde_json::Value as Json;
 use std::alloc::Global;
 
@@ -44,23 +43,23 @@ pub(crate) struct Parts {
 }
 
 impl PartKind {
-    fn is_in(self, stage: Stage, value: &Json) -> bool
-        ensures { result ≡ spec.is_part stage self (view value.now) }
+    fn is_in(self, value: &Json) -> bool
+        ensures { result ≡ spec.is_part self (view value.now) }
     {
         match self {
             PartKind::Name => is_named(value),
-            PartKind::Via => is_via(stage, value),
+            PartKind::Via => is_via(value),
             PartKind::Local => local_of(value).is_some(),
-            PartKind::Qualifiers => is_array_of::<Use>(stage, value),
-            PartKind::Value => Expression::is_in(stage, value),
-            PartKind::Values => is_array_of::<Expression>(stage, value),
+            PartKind::Qualifiers => is_array_of::<Use>(value),
+            PartKind::Value => Expression::is_in(value),
+            PartKind::Values => is_array_of::<Expression>(value),
         }
     }
 }
 
 /// Whether there are as many values as kinds, and each is a part of its kind.
-pub(crate) fn are_parts(stage: Stage, kinds: &[PartKind], values: &[Json]) -> bool
-    ensures { result ≡ spec.are_parts stage kinds.now (items_view values.now) }
+pub(crate) fn are_parts(kinds: &[PartKind], values: &[Json]) -> bool
+    ensures { result ≡ spec.are_parts kinds.now (items_view values.now) }
 {
     let Some((kind, kinds)) = kinds.split_first() else {
         return values.is_empty();
@@ -68,7 +67,7 @@ pub(crate) fn are_parts(stage: Stage, kinds: &[PartKind], values: &[Json]) -> bo
     let Some((value, values)) = values.split_first() else {
         return false;
     };
-    kind.is_in(stage, value) && are_parts(stage, kinds, values)
+    kind.is_in(value) && are_parts(kinds, values)
 }
 
 impl Parts {
@@ -89,7 +88,6 @@ impl Parts {
     fn read(
         &mut self,
         alloc: Global,
-        stage: Stage,
         names: &mut Names,
         kind: PartKind,
         value: &Json,
@@ -105,9 +103,9 @@ impl Parts {
                 Some(local) => self.local = local,
                 None => return bad(),
             },
-            PartKind::Qualifiers => self.qualifiers = array_of::<Use>(alloc, stage, names, value)?,
-            PartKind::Value => self.value = Expression::read(alloc, stage, names, value)?,
-            PartKind::Values => self.values = array_of::<Expression>(alloc, stage, names, value)?,
+            PartKind::Qualifiers => self.qualifiers = array_of::<Use>(alloc, names, value)?,
+            PartKind::Value => self.value = Expression::read(alloc, names, value)?,
+            PartKind::Values => self.values = array_of::<Expression>(alloc, names, value)?,
         }
         Ok(())
     }
@@ -116,7 +114,6 @@ impl Parts {
     pub(crate) fn read_all(
         &mut self,
         alloc: Global,
-        stage: Stage,
         names: &mut Names,
         kinds: &[PartKind],
         values: &[Json],
@@ -131,7 +128,7 @@ impl Parts {
         let Some((value, values)) = values.split_first() else {
             return Ok(());
         };
-        self.read(alloc, stage, names, *kind, value)?;
-        self.read_all(alloc, stage, names, kinds, values)
+        self.read(alloc, names, *kind, value)?;
+        self.read_all(alloc, names, kinds, values)
     }
 }

@@ -9,7 +9,6 @@ use crate::fault::ScriptFault;
 use crate::reading::{Item, bad, is_named};
 use cdi_base::{Names, OrMemory, TableFull, Use, WrittenUse, is_name};
 use cdi_form::{Form, is_use};
-use cdi_stage::Stage;
 use serde_json::{Map, Value as Json};
 use std::alloc::Global;
 
@@ -89,20 +88,15 @@ fn qualifier_of(
 }
 
 impl Item for Use {
-    ghost test = { λ _. spec.is_qualifier };
+    ghost test = { spec.is_qualifier };
 
-    ghost form = { λ _. spec.qualifier_of };
+    ghost form = { spec.qualifier_of };
 
-    fn is_in(_stage: Stage, value: &Json) -> bool {
+    fn is_in(value: &Json) -> bool {
         is_qualifier(value)
     }
 
-    fn read(
-        alloc: Global,
-        _stage: Stage,
-        names: &mut Names,
-        value: &Json,
-    ) -> Result<Use, OrMemory<ScriptFault>> {
+    fn read(alloc: Global, names: &mut Names, value: &Json) -> Result<Use, OrMemory<ScriptFault>> {
         qualifier_of(alloc, names, value)
     }
 }

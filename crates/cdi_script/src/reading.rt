@@ -2,14 +2,12 @@
 ghost use Rattle.std.specs.Prelude.{◌≡◌, ℕ, List, length, Bool, Err, IfOk};
 ghost use Rattle.cdi_base.specs.Name.{Extends};
 ghost use Rattle.cdi_base.specs.Reading.{Gives};
-ghost use Rattle.cdi_stage.specs.declared.stage.Stage.{Stage as AnyStage};
 ghost use Rattle.serde_json.specs.Data.{Data};
 ghost use Rattle.serde_json.specs.View.{view, items_view};
 ghost use Rattle.cdi_script.specs.Reading as spec;
 
 use crate::fault::ScriptFault;
 use cdi_base::{Name, Names, OrMemory, Seq, TableFull, is_name};
-use cdi_stage::Stage;
 use serde_json::Value as Json;
 use std::alloc::Global;
 
@@ -83,40 +81,34 @@ pub(crate) fn is_count(value: &Json) -> bool
 
 /// What lists in a script have as their items.
 pub(crate) trait Item: Sized + Drop {
-    ghost test: { AnyStage → Data → Bool };
+    ghost test: { Data → Bool };
 
-    ghost form: { AnyStage → List (List ℕ) → Data → spec.Reads Self };
+    ghost form: { List (List ℕ) → Data → spec.Reads Self };
 
-    /// Whether a value is such an item at a stage.
-    fn is_in(stage: Stage, value: &Json) -> bool
-        ensures { result ≡ test stage (view value.now) };
+    /// Whether a value is such an item.
+    fn is_in(value: &Json) -> bool
+        ensures { result ≡ test (view value.now) };
 
     /// The item that a value is.
-    fn read(
-        alloc: Global,
-        stage: Stage,
-        names: &mut Names,
-        value: &Json,
-    ) -> Result<Self, OrMemory<ScriptFault>>
+    fn read(alloc: Global, names: &mut Names, value: &Json) -> Result<Self, OrMemory<ScriptFault>>
         ensures gives { Gives (λ x. (x, names.new)) result
-            (form stage names.old (view value.now)) }
+            (form names.old (view value.now)) }
         ensures kept { Extends names.old names.new };
 }
 
-/// Whether each of these values is such an item at a stage.
-
-pub(crate) fn are_all<T: Item>(stage: Stage, values: &[Json]) -> bool
-    ensures { result ≡ spec.all_items (T.test stage) (items_view values.now) }
+/// Whether each of these values is such an item.
+pub(crate) fn are_all<T: Item>(values: &[Json]) -> bool
+    ensures { result ≡ spec.all_items T.test (items_view values.now) }
 {
-    values.iter().all(|value| T::is_in(stage, value))
+    values.iter().all(|value| T::is_in(value))
 }
 
 /// Whether a value is an array of such items.
-pub(crate) fn is_array_of<T: Item>(stage: Stage, value: &Json) -> bool
-    ensures { result ≡ spec.is_array_of (T.test stage) (view value.now) }
+pub(crate) fn is_array_of<T: Item>(value: &Json) -> bool
+    ensures { result ≡ spec.is_array_of T.test (view value.now) }
 {
     match value {
-        Json::Array(items) => are_all::<T>(stage, items.as_slice()),
+        Json::Array(items) => are_all::<T>(items.as_slice()),
         _ => false,
     }
 }
@@ -124,18 +116,17 @@ pub(crate) fn is_array_of<T: Item>(stage: Stage, value: &Json) -> bool
 /// The items that values are, one after another.
 pub(crate) fn each<T: Item>(
     alloc: Global,
-    stage: Stage,
     names: &mut Names,
     items: &[Json],
 ) -> Result<Seq<T>, OrMemory<ScriptFault>>
     ensures gives { Gives (λ xs. (xs, names.new)) result
-        (spec.each (T.form stage) names.old (items_view items.now)) }
+        (spec.each T.form names.old (items_view items.now)) }
     ensures kept { Extends names.old names.new }
     ensures count { IfOk result (λ xs. length xs ≡ length items.now) }
 {
     let mut read = Vec::new(alloc);
     for item in items {
-        read.push(T::read(alloc, stage, names, item)?)?;
+        read.push(T::read(alloc, names, item)?)?;
     }
     Ok(Seq::new(read))
 }
@@ -143,16 +134,15 @@ pub(crate) fn each<T: Item>(
 /// The items of the array that a value is, one after another.
 pub(crate) fn array_of<T: Item>(
     alloc: Global,
-    stage: Stage,
     names: &mut Names,
     value: &Json,
 ) -> Result<Seq<T>, OrMemory<ScriptFault>>
     ensures gives { Gives (λ xs. (xs, names.new)) result
-        (spec.array_of (T.form stage) names.old (view value.now)) }
+        (spec.array_of T.form names.old (view value.now)) }
     ensures kept { Extends names.old names.new }
 {
     match value {
-        Json::Array(items) => each::<T>(alloc, stage, names, items.as_slice()),
+        Json::Array(items) => each::<T>(alloc, names, items.as_slice()),
         _ => bad(),
     }
 }

@@ -12,7 +12,6 @@ use crate::places::Places;
 use crate::reading::{Item, are_all, bad, each};
 use crate::step::Step;
 use cdi_base::{Names, OrMemory, Seq};
-use cdi_stage::{SERVED, Stage};
 use serde_json::Value as Json;
 use std::alloc::{AllocError, Global};
 use std::marker::Model;
@@ -49,30 +48,29 @@ impl Model for Script {
 }
 
 #[tactic(auto, using(crate::proofs::Long::lengths))]
-fn steps_at(
+fn steps_of(
     alloc: Global,
-    stage: Stage,
     names: &mut Names,
     items: &[Json],
 ) -> Result<Seq<Step>, OrMemory<ScriptFault>>
     ensures gives { Gives (λ steps. (steps, names.new)) result
-        (spec.steps_at stage names.old (items_view items.now)) }
+        (spec.steps_of names.old (items_view items.now)) }
     ensures within { IfOk result (λ steps. length steps ≤ MAX_STEPS) }
     ensures bad_step { IsFault result BadStep
-        ↔ (form.are_steps_at stage (items_view items.now) ≡ false) }
+        ↔ (form.are_steps (items_view items.now) ≡ false) }
     ensures too_long { IsFault result TooLong
-        ↔ IsTrue (form.are_too_many_at stage (items_view items.now)) }
-    ensures refused { form.are_few_steps_at stage (items_view items.now) ≡ false
+        ↔ IsTrue (form.are_too_many (items_view items.now)) }
+    ensures refused { form.are_few_steps (items_view items.now) ≡ false
         → names.new ≡ names.old }
     ensures kept { Extends names.old names.new }
 {
-    if !are_all::<Step>(stage, items) {
+    if !are_all::<Step>(items) {
         return bad();
     }
     if items.len() > MAX_STEPS {
         return Err(OrMemory::Fault(ScriptFault::TooLong));
     }
-    each::<Step>(alloc, stage, names, items)
+    each::<Step>(alloc, names, items)
 }
 
 impl Script {
@@ -97,34 +95,10 @@ impl Script {
         self.steps.as_slice()
     }
 
-    /// The script that a value is at a stage: an array of at most [`MAX_STEPS`] steps that are served there. Its names go
-    /// into the table. A value that is no script, or one that is too long, leaves the table as it was, and memory is never
-    /// wanting for it; where the table is full or memory runs out, the table may have got some names of the script. The
-    /// names that were in it keep their numbers.
-    pub fn read_at(
-        alloc: Global,
-        stage: Stage,
-        value: &Json,
-        names: &mut Names,
-    ) -> Result<Script, OrMemory<ScriptFault>>
-        ensures gives { Gives (λ script. (script, names.new)) result
-            (spec.script_at stage names.old (view value.now)) }
-        ensures bad_step { IsFault result BadStep
-            ↔ (form.has_steps_at stage (view value.now) ≡ false) }
-        ensures too_long { IsFault result TooLong
-            ↔ IsTrue (form.is_too_long_at stage (view value.now)) }
-        ensures refused { form.is_script_at stage (view value.now) ≡ false
-            → names.new ≡ names.old }
-        ensures kept { Extends names.old names.new }
-    {
-        let Json::Array(items) = value else {
-            return bad();
-        };
-        let steps = steps_at(alloc, stage, names, items.as_slice())?;
-        Ok(Script::with_places(alloc, steps)?)
-    }
-
-    /// The script that a value is at the stage that is served, as [`Script::read_at`] reads it.
+    /// The script that a value is: an array of at most [`MAX_STEPS`] steps. Its names go into the table. A value that is no
+    /// script, or one that is too long, leaves the table as it was, and memory is never wanting for it; where the table is
+    /// full or memory runs out, the table may have got some names of the script. The names that were in it keep their
+    /// numbers.
     pub fn read(
         alloc: Global,
         value: &Json,
@@ -132,13 +106,19 @@ impl Script {
     ) -> Result<Script, OrMemory<ScriptFault>>
         ensures gives { Gives (λ script. (script, names.new)) result
             (spec.script_of names.old (view value.now)) }
-        ensures bad_step { IsFault result BadStep ↔ (form.has_steps (view value.now) ≡ false) }
+        ensures bad_step { IsFault result BadStep
+            ↔ (form.has_steps (view value.now) ≡ false) }
         ensures too_long { IsFault result TooLong
             ↔ IsTrue (form.is_too_long (view value.now)) }
-        ensures refused { form.is_script (view value.now) ≡ false → names.new ≡ names.old }
+        ensures refused { form.is_script (view value.now) ≡ false
+            → names.new ≡ names.old }
         ensures kept { Extends names.old names.new }
     {
-        Script::read_at(alloc, SERVED, value, names)
+        let Json::Array(items) = value else {
+            return bad();
+        };
+        let steps = steps_of(alloc, names, items.as_slice())?;
+        Ok(Script::with_places(alloc, steps)?)
     }
 
     /// How many steps there are.

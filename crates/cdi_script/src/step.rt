@@ -1,6 +1,6 @@
-//! The steps of scripts. A step that is to be served is added here: its action; its kind with the row that says how it is
-//! written; the action that is made of the parts read; the act that the action comes to; and what it names. `specs/Step.antt`
-//! says the same as definitions, `proofs/Within.antt` that each act lies in the shape.
+//! The steps of scripts. A further step is added here: its action; its kind with the row that says how it is written; the
+//! action that is made of the parts read; the act that the action comes to; and what it names. `specs/Step.antt` says the
+//! same as definitions, `proofs/Within.antt` that each act lies in the shape.
 ghost use Rattle.std.specs.Prelude.{◌≡◌, IfOk, OnOk};
 ghost use Rattle.cdi_script.specs.Step as spec;
 
@@ -9,7 +9,6 @@ use crate::part::{PartKind, Parts};
 use crate::value::values_of;
 use cdi_base::{Act, Fields, Name, Seq, Use, Via};
 use cdi_bodies::{FiredEvent, Lookup, MethodCall, OwnCall, Shape, View};
-use cdi_stage::Stage;
 use std::alloc::{AllocError, Global};
 
 /// One step of a script.
@@ -116,19 +115,18 @@ pub(crate) enum StepKind {
     Throw,
 }
 
-/// How a step of a kind is written, its word and what stands behind that, and since when it is served.
+/// How a step of a kind is written: its word, and what stands behind that.
 #[derive(Clone, Copy, Debug)]
 pub(crate) struct Row {
     pub(crate) word: &'static str,
     pub(crate) parts: &'static [PartKind],
-    pub(crate) since: Stage,
 }
 
 impl Row {
-    fn new(word: &'static str, parts: &'static [PartKind], since: Stage) -> Row
-        ensures { spec.Shows result (spec.row word.now parts.now since) }
+    fn new(word: &'static str, parts: &'static [PartKind]) -> Row
+        ensures { spec.Shows result (spec.row word.now parts.now) }
     {
-        Row { word, parts, since }
+        Row { word, parts }
     }
 }
 
@@ -156,40 +154,23 @@ impl StepKind {
         ensures { spec.Shows result (spec.row_of self) }
     {
         match self {
-            StepKind::Set => Row::new("set", &[PartKind::Name, PartKind::Value], Stage::Counter),
-            StepKind::Call => Row::new(
-                "call",
-                &[PartKind::Via, PartKind::Name, PartKind::Values],
-                Stage::Injection,
-            ),
-            StepKind::Own => Row::new("own", &[PartKind::Name, PartKind::Values], Stage::Counter),
-            StepKind::Read => Row::new("read", &[PartKind::Via], Stage::Producers),
-            StepKind::Write => Row::new(
-                "write",
-                &[PartKind::Via, PartKind::Value],
-                Stage::Producers,
-            ),
+            StepKind::Set => Row::new("set", &[PartKind::Name, PartKind::Value]),
+            StepKind::Call => Row::new("call", &[PartKind::Via, PartKind::Name, PartKind::Values]),
+            StepKind::Own => Row::new("own", &[PartKind::Name, PartKind::Values]),
+            StepKind::Read => Row::new("read", &[PartKind::Via]),
+            StepKind::Write => Row::new("write", &[PartKind::Via, PartKind::Value]),
             StepKind::Fire => Row::new(
                 "fire",
                 &[PartKind::Name, PartKind::Qualifiers, PartKind::Value],
-                Stage::Events,
             ),
-            StepKind::Proceed => Row::new("proceed", &[], Stage::Interceptors),
-            StepKind::ProceedWith => Row::new("proceed", &[PartKind::Values], Stage::Interceptors),
-            StepKind::Find => Row::new(
-                "find",
-                &[PartKind::Name, PartKind::Qualifiers],
-                Stage::Lookups,
-            ),
-            StepKind::Destroy => Row::new("destroy", &[PartKind::Local], Stage::Lookups),
-            StepKind::Keep => Row::new(
-                "keep",
-                &[PartKind::Name, PartKind::Value],
-                Stage::Interceptors,
-            ),
-            StepKind::Peek => Row::new("peek", &[PartKind::Name], Stage::Interceptors),
-            StepKind::Give => Row::new("give", &[PartKind::Value], Stage::Counter),
-            StepKind::Throw => Row::new("throw", &[PartKind::Name], Stage::Injection),
+            StepKind::Proceed => Row::new("proceed", &[]),
+            StepKind::ProceedWith => Row::new("proceed", &[PartKind::Values]),
+            StepKind::Find => Row::new("find", &[PartKind::Name, PartKind::Qualifiers]),
+            StepKind::Destroy => Row::new("destroy", &[PartKind::Local]),
+            StepKind::Keep => Row::new("keep", &[PartKind::Name, PartKind::Value]),
+            StepKind::Peek => Row::new("peek", &[PartKind::Name]),
+            StepKind::Give => Row::new("give", &[PartKind::Value]),
+            StepKind::Throw => Row::new("throw", &[PartKind::Name]),
         }
     }
 

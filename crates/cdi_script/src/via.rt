@@ -9,34 +9,33 @@ use crate::fault::ScriptFault;
 use crate::reading::{bad, count_of, is_count, is_named, name_of};
 use cdi_base::{Names, OrMemory, Via};
 use cdi_form::is_word;
-use cdi_stage::Stage;
 use serde_json::Value as Json;
 
 #[tactic(auto, unfolding(crate::specs::Via::is_via_pair))]
-fn is_via_pair(stage: Stage, word: &Json, value: &Json) -> bool
-    ensures { result ≡ spec.is_via_pair stage (view word.now) (view value.now) }
+fn is_via_pair(word: &Json, value: &Json) -> bool
+    ensures { result ≡ spec.is_via_pair (view word.now) (view value.now) }
 {
     if is_word(word, "field") {
-        return stage.includes(Stage::Injection) && is_named(value);
+        return is_named(value);
     }
     if is_word(word, "param") {
-        return stage.includes(Stage::Lifecycle) && is_count(value);
+        return is_count(value);
     }
     if is_word(word, "local") {
-        return stage.includes(Stage::Lookups) && is_count(value);
+        return is_count(value);
     }
     false
 }
 
-/// Whether a value is a reference that is served at a stage.
-pub(crate) fn is_via(stage: Stage, value: &Json) -> bool
-    ensures { result ≡ spec.is_via stage (view value.now) }
+/// Whether a value is a reference.
+pub(crate) fn is_via(value: &Json) -> bool
+    ensures { result ≡ spec.is_via (view value.now) }
 {
     match value {
         Json::Array(items) => match items.as_slice() {
             [] => false,
             [_] => false,
-            [word, value] => is_via_pair(stage, word, value),
+            [word, value] => is_via_pair(word, value),
             [_, _, _, ..] => false,
         },
         _ => false,
@@ -68,7 +67,7 @@ fn via_pair_of(names: &mut Names, word: &Json, value: &Json) -> Result<Via, OrMe
     bad()
 }
 
-/// The reference that a value is, at whatever stage.
+/// The reference that a value is.
 pub(crate) fn via_of(names: &mut Names, value: &Json) -> Result<Via, OrMemory<ScriptFault>>
     ensures gives { Gives (λ via. (via, names.new)) result
         (spec.via_of names.old (view value.now)) }

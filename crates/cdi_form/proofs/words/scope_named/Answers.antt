@@ -1,6 +1,6 @@
-use Rattle.std.proofs.Common.{◌∙◌, Bool, sym, ap, option_and_then, bytes_eq, find}
+use Rattle.std.proofs.Common.{◌∙◌, Bool, sym, ap, option_map, bytes_eq, find}
 use Rattle.cdi_base.specs.declared.scope.Scope.{Scope}
-use Rattle.cdi_form.specs.Words.{Word, word_of, served_meaning}
+use Rattle.cdi_form.specs.Words.{Word, word_of}
 use Rattle.cdi_form.proofs.Finds.{find-map}
 use Rattle.cdi_form.proofs.words.scope_named.Goals as goal
 
@@ -8,4 +8,4 @@ pub returns : goal.returns
 returns c =
     let test : Word Scope → Bool = λ w. bytes_eq w.text c.args.text.now in
     c.meaning_in.ensures
-    ∙ ap (option_and_then (served_meaning c.args.stage)) (sym (find-map word_of test c.scopes.result.now) ∙ ap (find test) c.scopes.ensures)
+    ∙ ap (option_map (λ w. w.meaning)) (sym (find-map word_of test c.scopes.result.now) ∙ ap (find test) c.scopes.ensures)
