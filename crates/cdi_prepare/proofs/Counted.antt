@@ -1,16 +1,15 @@
 -- A deployment that was read has at most 1,024 scripts.
 use Rattle.std.proofs.Common.{◌≡◌, ℕ, ◌+◌, ◌≤◌, nat_le, Bool, true, false, ◌&&◌, List, [], ◌∷◌, ◌++◌, length, length-append, Result, Ok, Err, IfOk, refl, subst, arith}
 use Rattle.cdi_base.specs.Reading.{◌>>=◌}
-use Rattle.cdi_stage.specs.declared.stage.Stage.{Stage}
 use Rattle.cdi_deployment.specs.declared.deployment.Deployment.{Deployment}
 use Rattle.cdi_deployment.specs.declared.deployment.Script.{Script as Declared}
 use Rattle.cdi_deployment.specs.Limits.{are_types_within, is_length_within, is_within}
 use Rattle.cdi_deploy.proofs.Readable.{read-within}
 use Rattle.cdi_deploy.specs.declared.fault.ReadFault.{ReadFault}
-use Rattle.cdi_deploy.specs.Reading.{read_at}
+use Rattle.cdi_deploy.specs.Reading.{deployment_in}
 use Rattle.cdi_script.specs.declared.fault.ScriptFault.{ScriptFault}
 use Rattle.cdi_script.specs.declared.step.Step.{Step}
-use Rattle.cdi_script.specs.Build.{script_at}
+use Rattle.cdi_script.specs.Build.{script_of}
 use Rattle.cdi_prepare.specs.declared.scripts.BadScript.{BadScript}
 use Rattle.cdi_prepare.specs.declared.scripts.NamedScript.{NamedScript}
 use Rattle.cdi_problems.specs.Places.{name_text}
@@ -35,14 +34,14 @@ within-few d e =
     back (are_types_within d) _ (front _ _ (front _ _ (front _ _ (front _ _ (front _ _ lengths))))) in
     grind (arith, scripts)
 
-pub deployment-few : (stage : Stage) (bytes : List ℕ) → IfOk (read_at stage bytes) (λ d. length d.scripts ≤ 1024)
-deployment-few stage bytes =
-    weaker (λ d. is_within d ≡ true) (λ d. length d.scripts ≤ 1024) (read_at stage bytes) within-few (read-within stage bytes)
+pub deployment-few : (bytes : List ℕ) → IfOk (deployment_in bytes) (λ d. length d.scripts ≤ 1024)
+deployment-few bytes =
+    weaker (λ d. is_within d ≡ true) (λ d. length d.scripts ≤ 1024) (deployment_in bytes) within-few (read-within bytes)
 
 -- as many scripts are read as are declared
-after-count : (stage : Stage) (ds : List Declared) (done : List NamedScript) (names : List (List ℕ)) → IfOk (scripts_after stage done names ds) (λ read. length read.0 ≡ length done + length ds)
-after-count stage [] done names = omega arith
-after-count stage (d ∷ ds) done names = by (script_at stage names d.steps) (λ more table. after-count stage ds more table)
+after-count : (ds : List Declared) (done : List NamedScript) (names : List (List ℕ)) → IfOk (scripts_after done names ds) (λ read. length read.0 ≡ length done + length ds)
+after-count [] done names = omega arith
+after-count (d ∷ ds) done names = by (script_of names d.steps) (λ more table. after-count ds more table)
   where
     script_with : List Step × List (List ℕ) → NamedScript
     script_with read = record { name = d.name; script = read.0 }
@@ -51,15 +50,15 @@ after-count stage (d ∷ ds) done names = by (script_at stage names d.steps) (λ
     later script (Err bad) h = tt
     later script (Ok found) h = omega (arith, h, length-append done (script ∷ []))
 
-    by : (r : Result (List Step × List (List ℕ)) ScriptFault) → ((more : List NamedScript) (table : List (List ℕ)) → IfOk (scripts_after stage more table ds) (λ read. length read.0 ≡ length more + length ds))
-        → IfOk (told (name_text names d.name) d.name r >>= λ read. scripts_after stage (done ++ read.0 ∷ []) read.1 ds) (λ read. length read.0 ≡ length done + length (d ∷ ds))
+    by : (r : Result (List Step × List (List ℕ)) ScriptFault) → ((more : List NamedScript) (table : List (List ℕ)) → IfOk (scripts_after more table ds) (λ read. length read.0 ≡ length more + length ds))
+        → IfOk (told (name_text names d.name) d.name r >>= λ read. scripts_after (done ++ read.0 ∷ []) read.1 ds) (λ read. length read.0 ≡ length done + length (d ∷ ds))
     by (Err fault) count = tt
-    by (Ok read) count = later (script_with read) (scripts_after stage (done ++ script_with read ∷ []) read.1 ds) (count (done ++ script_with read ∷ []) read.1)
+    by (Ok read) count = later (script_with read) (scripts_after (done ++ script_with read ∷ []) read.1 ds) (count (done ++ script_with read ∷ []) read.1)
 
-pub scripts-count : (stage : Stage) (names : List (List ℕ)) (ds : List Declared) (scripts : List NamedScript) (table : List (List ℕ)) → scripts_in stage names ds ≡ Ok (scripts, table) → length scripts ≡ length ds
-scripts-count stage names ds scripts table e =
-    let count = subst (λ (r : Result (List NamedScript × List (List ℕ)) BadScript). IfOk r (λ read. length read.0 ≡ 0 + length ds)) e (after-count stage ds [] names) in
+pub scripts-count : (names : List (List ℕ)) (ds : List Declared) (scripts : List NamedScript) (table : List (List ℕ)) → scripts_in names ds ≡ Ok (scripts, table) → length scripts ≡ length ds
+scripts-count names ds scripts table e =
+    let count = subst (λ (r : Result (List NamedScript × List (List ℕ)) BadScript). IfOk r (λ read. length read.0 ≡ 0 + length ds)) e (after-count ds [] names) in
     omega (arith, count)
 
-pub few-scripts : (stage : Stage) (bytes : List ℕ) (d : Deployment) → read_at stage bytes ≡ Ok d → length d.scripts ≤ 1024
-few-scripts stage bytes d e = subst (λ (r : Result Deployment ReadFault). IfOk r (λ d. length d.scripts ≤ 1024)) e (deployment-few stage bytes)
+pub few-scripts : (bytes : List ℕ) (d : Deployment) → deployment_in bytes ≡ Ok d → length d.scripts ≤ 1024
+few-scripts bytes d e = subst (λ (r : Result Deployment ReadFault). IfOk r (λ d. length d.scripts ≤ 1024)) e (deployment-few bytes)

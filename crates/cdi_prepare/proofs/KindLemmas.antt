@@ -4,7 +4,6 @@ use Rattle.std.specs.Bool.{MatchBool}
 use Rattle.std.specs.Option.{option_or, is_none}
 use Rattle.std.specs.Str.{is_utf8}
 use Rattle.std.specs.Str.Lossy.{utf8_valid_len}
-use Rattle.cdi_stage.specs.declared.stage.Stage.{Stage}
 use Rattle.cdi_base.specs.Reading.{◌>>=◌}
 use Rattle.cdi_form.specs.Json.{json_in}
 use Rattle.serde_json.specs.Data.{Data}
@@ -17,8 +16,8 @@ use Rattle.cdi_deployment.specs.Limits.{are_fields_within, is_annotation_type_wi
 use Rattle.cdi_form.specs.Names.{first_bad_name, names_fit}
 use Rattle.cdi_form.specs.Numbers.{numbers_fit}
 use Rattle.cdi_form.specs.Shape.{wrong}
-use Rattle.cdi_deploy.specs.Reading.{is_too_long, or_not_json, or_shape, root, within_limits, lists_at, deployment_at, read_at}
-use Rattle.cdi_script.specs.Form.{is_script_at}
+use Rattle.cdi_deploy.specs.Reading.{is_too_long, or_not_json, or_shape, root, within_limits, lists_of, deployment_of, deployment_in}
+use Rattle.cdi_script.specs.Form.{is_script}
 use Rattle.cdi_problems.specs.Places.{name_text}
 use Rattle.cdi_prepare.specs.BadStep.{bad_step, bad_step_of}
 use Rattle.cdi_prepare.specs.Hint.{IsHintBy, IsHintFor, bad_name, hint_by, hint_of}
@@ -86,9 +85,9 @@ step_at : (script : List ℕ) (o : Option ℕ) → IfSome (option_map (λ step. 
 step_at script None = tt
 step_at script (Some step) = tt
 
-step_of : (stage : Stage) (names : List (List ℕ)) (o : Option Script) → IfSome (option_and_then (bad_step_of stage names) o) IsStep
-step_of stage names None = tt
-step_of stage names (Some s) = step_at (name_text names s.name) (bad_step stage s.steps)
+step_of : (names : List (List ℕ)) (o : Option Script) → IfSome (option_and_then (bad_step_of names) o) IsStep
+step_of names None = tt
+step_of names (Some s) = step_at (name_text names s.name) (bad_step s.steps)
 
 -- ---- names
 
@@ -96,8 +95,8 @@ name_where : (o : Option (List ℕ)) → is_none o ≡ false → IsSomeAnd (opti
 name_where None h = absurd cc
 name_where (Some s) h = tt
 
-name_for : (stage : Stage) (d : Data) → names_fit stage d root ≡ false → IsSomeAnd (bad_name stage d) IsName
-name_for stage d unfit = name_where (first_bad_name stage d root) unfit
+name_for : (d : Data) → names_fit d root ≡ false → IsSomeAnd (bad_name d) IsName
+name_for d unfit = name_where (first_bad_name d root) unfit
 
 -- ---- places
 
@@ -133,54 +132,53 @@ long_fits : (lists : Result Deployment ReadFault) (hint : Option Hint) → hint 
 long_fits (Ok deployment) hint none = none
 long_fits (Err fault) hint none = none
 
-module _ (stage : Stage) where
-  limits_fit : (d : Data) (deployment : Deployment) (b : Bool) → is_within deployment ≡ b
-      → let read : Result Deployment ReadFault = if b then Ok deployment else Err faults.TooMany in
-      FitsReading (Ok deployment) read (hint_by stage d (Ok deployment) read)
-  limits_fit d deployment true within = step_of stage deployment.names (find (λ s. not (is_script_at stage s.steps)) deployment.scripts)
-  limits_fit d deployment false within = list_for deployment within
+limits_fit : (d : Data) (deployment : Deployment) (b : Bool) → is_within deployment ≡ b
+    → let read : Result Deployment ReadFault = if b then Ok deployment else Err faults.TooMany in
+    FitsReading (Ok deployment) read (hint_by d (Ok deployment) read)
+limits_fit d deployment true within = step_of deployment.names (find (λ s. not (is_script s.steps)) deployment.scripts)
+limits_fit d deployment false within = list_for deployment within
 
-  full_fits : (d : Data) (fault : ReadFault) → OnlyFull {X = Deployment} (Err fault)
-      → FitsReading (Err fault) (Err fault) (hint_by stage d (Err fault) (Err fault))
-  full_fits d faults.TooMany h = refl
-  full_fits d _ h = absurd h
+full_fits : (d : Data) (fault : ReadFault) → OnlyFull {X = Deployment} (Err fault)
+    → FitsReading (Err fault) (Err fault) (hint_by d (Err fault) (Err fault))
+full_fits d faults.TooMany h = refl
+full_fits d _ h = absurd h
 
-  lists_fit : (d : Data) (lists : Result Deployment ReadFault) → OnlyFull lists
-      → FitsReading lists (lists >>= within_limits) (hint_by stage d lists (lists >>= within_limits))
-  lists_fit d (Ok deployment) h = limits_fit d deployment (is_within deployment) refl
-  lists_fit d (Err fault) h = full_fits d fault h
+lists_fit : (d : Data) (lists : Result Deployment ReadFault) → OnlyFull lists
+    → FitsReading lists (lists >>= within_limits) (hint_by d lists (lists >>= within_limits))
+lists_fit d (Ok deployment) h = limits_fit d deployment (is_within deployment) refl
+lists_fit d (Err fault) h = full_fits d fault h
 
-  name_fits : (d : Data) (lists : Result Deployment ReadFault) → IsSomeAnd (bad_name stage d) IsName
-      → FitsReading lists (Err faults.BadName) (bad_name stage d)
-  name_fits d (Ok deployment) named = named
-  name_fits d (Err fault) named = named
+name_fits : (d : Data) (lists : Result Deployment ReadFault) → IsSomeAnd (bad_name d) IsName
+    → FitsReading lists (Err faults.BadName) (bad_name d)
+name_fits d (Ok deployment) named = named
+name_fits d (Err fault) named = named
 
-  value_fits_by : (d : Data) (numbers : Bool) (place : Option (List ℕ)) (names : Bool)
-      → wrong stage d root ≡ place → names_fit stage d root ≡ names
-      → let read : Result Deployment ReadFault =
-      if not numbers then Err faults.BadNumber
-      else or_shape place (if not names then Err faults.BadName else lists_at stage d >>= within_limits) in
-      FitsReading (lists_at stage d) read (hint_by stage d (lists_at stage d) read)
-  value_fits_by d false place names form fit = number_fits (lists_at stage d)
-  value_fits_by d true (Some path) names form fit = none_fits (lists_at stage d) path
-  value_fits_by d true None false form fit = name_fits d (lists_at stage d) (name_for stage d fit)
-  value_fits_by d true None true form fit = lists_fit d (lists_at stage d) (lists_full stage d)
+value_fits_by : (d : Data) (numbers : Bool) (place : Option (List ℕ)) (names : Bool)
+    → wrong d root ≡ place → names_fit d root ≡ names
+    → let read : Result Deployment ReadFault =
+    if not numbers then Err faults.BadNumber
+    else or_shape place (if not names then Err faults.BadName else lists_of d >>= within_limits) in
+    FitsReading (lists_of d) read (hint_by d (lists_of d) read)
+value_fits_by d false place names form fit = number_fits (lists_of d)
+value_fits_by d true (Some path) names form fit = none_fits (lists_of d) path
+value_fits_by d true None false form fit = name_fits d (lists_of d) (name_for d fit)
+value_fits_by d true None true form fit = lists_fit d (lists_of d) (lists_full d)
 
-  value_fits : (d : Data) → FitsReading (lists_at stage d) (deployment_at stage d) (hint_of stage d)
-  unfolding deployment_at hint_of
-  value_fits d = value_fits_by d (numbers_fit d) (wrong stage d root) (names_fit stage d root) refl refl
+value_fits : (d : Data) → FitsReading (lists_of d) (deployment_of d) (hint_of d)
+unfolding deployment_of hint_of
+value_fits d = value_fits_by d (numbers_fit d) (wrong d root) (names_fit d root) refl refl
 
-  -- ---- bytes
+-- ---- bytes
 
-  bytes_fit_by : (bytes : List ℕ) (long : Bool) (read : Option Data) (hint : Option Hint)
-      → MatchBool long (hint ≡ None) (IsHintBy stage bytes read hint)
-      → FitsReading (or_not_json read >>= lists_at stage)
-      (if long then Err faults.TooLong else or_not_json read >>= deployment_at stage) hint
-  bytes_fit_by bytes true read hint is = long_fits (or_not_json read >>= lists_at stage) hint is
-  bytes_fit_by bytes false None hint is = position_in bytes hint is
-  bytes_fit_by bytes false (Some d) hint is = subst (FitsReading (lists_at stage d) (deployment_at stage d)) (sym is) (value_fits d)
+bytes_fit_by : (bytes : List ℕ) (long : Bool) (read : Option Data) (hint : Option Hint)
+    → MatchBool long (hint ≡ None) (IsHintBy bytes read hint)
+    → FitsReading (or_not_json read >>= lists_of)
+    (if long then Err faults.TooLong else or_not_json read >>= deployment_of) hint
+bytes_fit_by bytes true read hint is = long_fits (or_not_json read >>= lists_of) hint is
+bytes_fit_by bytes false None hint is = position_in bytes hint is
+bytes_fit_by bytes false (Some d) hint is = subst (FitsReading (lists_of d) (deployment_of d)) (sym is) (value_fits d)
 
-  pub bytes_fit : (bytes : List ℕ) (hint : Option Hint) → IsHintFor stage bytes hint
-      → FitsReading (lists_in stage bytes) (read_at stage bytes) hint
-  unfolding read_at
-  bytes_fit bytes hint is = bytes_fit_by bytes (is_too_long bytes) (json_in bytes) hint is
+pub bytes_fit : (bytes : List ℕ) (hint : Option Hint) → IsHintFor bytes hint
+    → FitsReading (lists_in bytes) (deployment_in bytes) hint
+unfolding deployment_in
+bytes_fit bytes hint is = bytes_fit_by bytes (is_too_long bytes) (json_in bytes) hint is

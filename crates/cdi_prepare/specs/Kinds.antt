@@ -1,9 +1,8 @@
 -- Which kind of hint there is, by what reading the bytes gives.
 use Rattle.std.specs.Prelude.{◌≡◌, ℕ, List, Option, None, Result, Ok, Err, IfSome, IsSomeAnd}
-use Rattle.cdi_stage.specs.declared.stage.Stage.{Stage}
 use Rattle.cdi_base.specs.Reading.{◌>>=◌}
 use Rattle.cdi_form.specs.Json.{json_in}
-use Rattle.cdi_deploy.specs.Reading.{lists_at, or_not_json}
+use Rattle.cdi_deploy.specs.Reading.{lists_of, or_not_json}
 use Rattle.cdi_deployment.specs.declared.deployment.Deployment.{Deployment}
 use Rattle.cdi_deploy.specs.declared.fault.ReadFault.{ReadFault}
 use Rattle.cdi_deploy.specs.declared.fault.ReadFault.TheVariants as faults
@@ -25,9 +24,9 @@ abbrev pub IsStep : Hint → Type 0
 IsStep (hints.Step script step) = Unit {0}
 IsStep _ = ⊥
 
--- the lists that bytes have at a stage, where they are a value whose names find room in their table
-abbrev pub lists_in : Stage → List ℕ → Result Deployment ReadFault
-lists_in stage bytes = or_not_json (json_in bytes) >>= lists_at stage
+-- the lists that bytes have, where they are a value whose names find room in their table
+abbrev pub lists_in : List ℕ → Result Deployment ReadFault
+lists_in bytes = or_not_json (json_in bytes) >>= lists_of
 
 -- a position for NotJson, a name for BadName, a list for TooMany where there are lists, at most a step for a deployment, and else none
 abbrev pub FitsReading : Result Deployment ReadFault → Result Deployment ReadFault → Option Hint

@@ -1,13 +1,12 @@
 -- The scripts of a deployment.
 use Rattle.std.specs.Prelude.{ℕ, ◌==◌, List, [], ◌∷◌, ◌++◌, Bool, Option, Result, Ok, Err, fold, if◌then◌else◌, slice_get, position, option_map, option_and_then}
 use Rattle.std.specs.List.{list_any}
-use Rattle.cdi_stage.specs.declared.stage.Stage.{Stage}
 use Rattle.cdi_base.specs.Reading.{◌>>=◌}
 use Rattle.cdi_bodies.specs.declared.shape.Shape.{Shape}
 use Rattle.cdi_deployment.specs.declared.deployment.Script.{Script as Declared}
 use Rattle.cdi_script.specs.declared.fault.ScriptFault.{ScriptFault}
 use Rattle.cdi_script.specs.declared.step.Step.{Step}
-use Rattle.cdi_script.specs.Build.{script_at}
+use Rattle.cdi_script.specs.Build.{script_of}
 use Rattle.cdi_script.specs.Listed.{shape_of}
 use Rattle.cdi_prepare.specs.declared.scripts.BadScript.{BadScript}
 use Rattle.cdi_prepare.specs.declared.scripts.NamedScript.{NamedScript}
@@ -23,19 +22,19 @@ told text name (Ok read) = Ok (record { name = name; script = read.0 }, read.1)
 told text name (Err fault) = Err (record { name = text; fault = fault })
 
 -- the script of a declaration, and the table of names with those of the script
-abbrev pub script_in : Stage → List (List ℕ) → Declared → Reads NamedScript
-script_in stage names declared =
-    told (name_text names declared.name) declared.name (script_at stage names declared.steps)
+abbrev pub script_in : List (List ℕ) → Declared → Reads NamedScript
+script_in names declared =
+    told (name_text names declared.name) declared.name (script_of names declared.steps)
 
-abbrev pub scripts_after : Stage → List NamedScript → List (List ℕ) → List Declared
+abbrev pub scripts_after : List NamedScript → List (List ℕ) → List Declared
     → Reads (List NamedScript)
-scripts_after stage scripts names [] = Ok (scripts, names)
-scripts_after stage scripts names (d ∷ ds) =
-    script_in stage names d >>= λ read. scripts_after stage (scripts ++ read.0 ∷ []) read.1 ds
+scripts_after scripts names [] = Ok (scripts, names)
+scripts_after scripts names (d ∷ ds) =
+    script_in names d >>= λ read. scripts_after (scripts ++ read.0 ∷ []) read.1 ds
 
 -- the scripts of the declarations, read in their order, or the first that is bad
-abbrev pub scripts_in : Stage → List (List ℕ) → List Declared → Reads (List NamedScript)
-scripts_in stage names declared = scripts_after stage [] names declared
+abbrev pub scripts_in : List (List ℕ) → List Declared → Reads (List NamedScript)
+scripts_in names declared = scripts_after [] names declared
 
 -- ---- scripts as bodies
 

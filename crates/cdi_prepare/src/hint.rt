@@ -4,7 +4,7 @@ ghost use Rattle.cdi_prepare.specs.HintText.{hint_text};
 use cdi_base::Text;
 use std::fmt;
 
-/// What is wrong with a deployment that is refused at a stage, beyond the line that tells its fault.
+/// What is wrong with a deployment that is refused, beyond the line that tells its fault.
 #[derive(Drop)]
 pub enum Hint {
     /// The bytes stop being one JSON text here. Lines end with a line feed and are counted from 1. A column counts bytes,
@@ -12,8 +12,8 @@ pub enum Hint {
     /// their longest front that is. Of others it is the place that `serde_json` gives: where the text ends too early, that of
     /// its last byte, with column 0 where the last line is empty.
     Position { line: usize, column: usize },
-    /// This text stands in the place of a name at the stage, and is none. It is the first such, where items go by their
-    /// index and members by their keys in the order of bytes.
+    /// This text stands in the place of a name, and is none. It is the first such, where items go by their index and members
+    /// by their keys in the order of bytes.
     Name(Text),
     /// The list at this JSON Pointer (RFC 6901) has more items than its limit. `/classes` counts with the interfaces and
     /// the interceptors, and the `fields` of a class with its injected fields. It is the first list of a deployment that
@@ -25,8 +25,8 @@ pub enum Hint {
     /// limit, or more fields of an interceptor and injected ones together. It is the first list that is too long, in the
     /// order of [`Hint::List`].
     Item { path: Text },
-    /// The item at this index of the steps of this script, counted from 0, is no step at the stage. It is the first such
-    /// of the first script that isn't one there.
+    /// The item at this index of the steps of this script, counted from 0, is no step. It is the first such of the first
+    /// script that isn't one.
     Step { script: Text, step: usize },
 }
 

@@ -1,5 +1,5 @@
-//! Makes a deployment ready: reads it with its scripts, or tells by a line why it can't be read, and by a hint what is wrong with one that
-//! is refused at a stage.
+//! Makes a deployment ready: reads it with its scripts, or tells by a line why it can't be read, and by a hint what is wrong
+//! with one that is refused.
 #![tactic(auto)]
 
 mod bad_steps;

@@ -7,9 +7,8 @@ use crate::fault_text::{write_fault, write_script_fault};
 use crate::scripts::{NamedScript, read_scripts};
 use cdi_base::OrMemory;
 use cdi_bodies::MAX_BODIES;
-use cdi_deploy::read_at;
+use cdi_deploy::read;
 use cdi_deployment::Deployment;
-use cdi_stage::Stage;
 use std::alloc::Global;
 
 /// A deployment with its scripts, whose names are in its table.
@@ -20,22 +19,13 @@ pub struct Prepared {
 }
 
 /// Reads the scripts of a deployment. The fault is the bytes of the line that tells the first bad one.
-fn prepare_scripts(
-    alloc: Global,
-    stage: Stage,
-    deployment: Deployment,
-) -> Result<Prepared, OrMemory<Vec<u8>>>
-    ensures ok { IfOk result (λ p. spec.with_scripts stage deployment ≡ Ok (ready_of p)) }
-    ensures err { IfErr result (IsRefusal (spec.with_scripts stage deployment)) }
+fn prepare_scripts(alloc: Global, deployment: Deployment) -> Result<Prepared, OrMemory<Vec<u8>>>
+    ensures ok { IfOk result (λ p. spec.with_scripts deployment ≡ Ok (ready_of p)) }
+    ensures err { IfErr result (IsRefusal (spec.with_scripts deployment)) }
     ensures count { IfOk result (λ p. length p.scripts.items ≡ length deployment.scripts) }
 {
     let mut deployment = deployment;
-    match read_scripts(
-        alloc,
-        stage,
-        &mut deployment.names,
-        deployment.scripts.as_slice(),
-    ) {
+    match read_scripts(alloc, &mut deployment.names, deployment.scripts.as_slice()) {
         Ok(scripts) => Ok(Prepared {
             deployment,
             scripts,
@@ -48,16 +38,16 @@ fn prepare_scripts(
     }
 }
 
-/// Reads a deployment with its scripts, of which there are at most as many as bodies, as they are served at a stage. The
-/// fault is the bytes of a line: that which tells the deployment's first fault or, if it has none, its first bad script. An
-/// error is [`OrMemory::Memory`] if a growth was refused.
-pub fn prepare(alloc: Global, stage: Stage, bytes: &[u8]) -> Result<Prepared, OrMemory<Vec<u8>>>
-    ensures ok { IfOk result (λ p. spec.readied_at stage bytes.now ≡ Ok (ready_of p)) }
-    ensures err { IfErr result (IsRefusal (spec.readied_at stage bytes.now)) }
+/// Reads a deployment with its scripts, of which there are at most as many as bodies. The fault is the bytes of a line: that
+/// which tells the deployment's first fault or, if it has none, its first bad script. An error is [`OrMemory::Memory`] if a
+/// growth was refused.
+pub fn prepare(alloc: Global, bytes: &[u8]) -> Result<Prepared, OrMemory<Vec<u8>>>
+    ensures ok { IfOk result (λ p. spec.readied_in bytes.now ≡ Ok (ready_of p)) }
+    ensures err { IfErr result (IsRefusal (spec.readied_in bytes.now)) }
     ensures few { IfOk result (λ p. length p.scripts.items ≤ MAX_BODIES) }
 {
-    match read_at(alloc, stage, bytes) {
-        Ok(deployment) => prepare_scripts(alloc, stage, deployment),
+    match read(alloc, bytes) {
+        Ok(deployment) => prepare_scripts(alloc, deployment),
         Err(OrMemory::Fault(fault)) => {
             let line = write_fault(alloc, &fault)?;
             Err(OrMemory::Fault(line))

@@ -7,7 +7,6 @@ use cdi_base::{Name, Names, OrMemory, Text};
 use cdi_deployment::deployment::Script as Declared;
 use cdi_problems::name_text;
 use cdi_script::{Script, ScriptFault};
-use cdi_stage::Stage;
 use std::alloc::Global;
 
 /// A script under its name.
@@ -26,16 +25,15 @@ pub struct BadScript {
 
 fn read_script(
     alloc: Global,
-    stage: Stage,
     names: &mut Names,
     declared: &Declared,
 ) -> Result<NamedScript, OrMemory<BadScript>>
     ensures gives { Gives (λ script. (script, names.new)) result
-        (spec.script_in stage names.old declared.now) }
+        (spec.script_in names.old declared.now) }
     ensures kept { Extends names.old names.new }
 {
     let name = Text::from_str(alloc, name_text(names, declared.name))?;
-    match Script::read_at(alloc, stage, declared.steps.as_value(), names) {
+    match Script::read(alloc, declared.steps.as_value(), names) {
         Ok(script) => Ok(NamedScript {
             name: declared.name,
             script,
@@ -45,22 +43,20 @@ fn read_script(
     }
 }
 
-/// Reads the scripts of a deployment one after the other, with the steps of a stage, up to the first that can't be read.
-/// Their names go into the table. An error is [`OrMemory::Memory`] if a growth was refused; the table may then have
-/// some of the names.
+/// Reads the scripts of a deployment one after the other, up to the first that can't be read. Their names go into the table.
+/// An error is [`OrMemory::Memory`] if a growth was refused; the table may then have some of the names.
 pub fn read_scripts(
     alloc: Global,
-    stage: Stage,
     names: &mut Names,
     declared: &[Declared],
 ) -> Result<Vec<NamedScript>, OrMemory<BadScript>>
     ensures gives { Gives (λ scripts. (scripts.items, names.new)) result
-        (spec.scripts_in stage names.old declared.now) }
+        (spec.scripts_in names.old declared.now) }
     ensures kept { Extends names.old names.new }
 {
     let mut scripts = Vec::new(alloc);
     for script in declared {
-        scripts.push(read_script(alloc, stage, names, script)?)?;
+        scripts.push(read_script(alloc, names, script)?)?;
     }
     Ok(scripts)
 }

@@ -13,7 +13,6 @@ use cdi_prepare::hint_for;
 use cdi_report::{Verdict, report};
 use cdi_shell::Ending;
 use cdi_shell::drive::drive;
-use cdi_stage::WHOLE;
 use clap::Error;
 use std::alloc::Global;
 use std::convert::AsStr;
@@ -90,7 +89,7 @@ fn tell_hint<E: Sink>(alloc: Global, is_refused: bool, file: &str, bytes: &[u8],
     if !is_refused {
         return;
     }
-    if let Ok(Some(hint)) = hint_for(alloc, WHOLE, bytes) {
+    if let Ok(Some(hint)) = hint_for(alloc, bytes) {
         tell_of_file(alloc, errors, file, &hint);
     }
 }

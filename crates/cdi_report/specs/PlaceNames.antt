@@ -3,12 +3,11 @@ use Rattle.std.specs.Prelude.{ℕ, List, All, IfOk, IfSome, IsTrue}
 use Rattle.cdi_base.specs.Name.{is_name}
 use Rattle.cdi_base.specs.declared.place.Place.{Place}
 use Rattle.cdi_base.specs.declared.place.Place.TheVariants as places
-use Rattle.cdi_prepare.specs.Ready.{readied_at}
+use Rattle.cdi_prepare.specs.Ready.{readied_in}
 use Rattle.cdi_prepare.specs.Scripts.{registered}
 use Rattle.cdi_problems.specs.Places.{name_text}
 use Rattle.cdi_problems.specs.declared.problem.Problem.{Problem}
 use Rattle.cdi_report.specs.Reports.{AreProblemsWith}
-use Rattle.cdi_stage.specs.declared.stage.Stage.{Stage}
 
 -- its text in a table of names is a name, and so never empty
 abbrev pub HasName : List (List ℕ) → ℕ → Type 0
@@ -21,9 +20,9 @@ HasNames names (places.Member class member) = HasName names class × HasName nam
 HasNames names (places.Constructor class) = HasName names class
 HasNames names (places.Interceptor interceptor method) = HasName names interceptor
 
--- and so, at any stage, of the place of each problem that has one
+-- and so of the place of each problem that has one
 abbrev pub PlacesHaveNames : Type 0
 PlacesHaveNames =
-    (stage : Stage) (bytes : List ℕ) → IfOk (readied_at stage bytes) (λ r.
+    (bytes : List ℕ) → IfOk (readied_in bytes) (λ r.
     (problems : List Problem) → AreProblemsWith (registered r.scripts) r.deployment problems
     → All (λ p. IfSome p.place (HasNames r.deployment.names)) problems)

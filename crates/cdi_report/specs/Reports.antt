@@ -1,7 +1,6 @@
 -- What is told of the bytes of a deployment.
 use Rattle.std.specs.Prelude.{◌≡◌, ℕ, Bool, true, false, List, [], ◌∷◌, codes, Option, Result, Ok, Err}
 use Rattle.std.specs.List.{flat_map}
-use Rattle.cdi_stage.specs.Stage.{whole}
 use Rattle.cdi_bodies.specs.declared.shape.Shape.{Shape}
 use Rattle.cdi_check.specs.Problems.{AreProblemsOf}
 use Rattle.cdi_deployment.specs.declared.deployment.Deployment.{Deployment}
@@ -10,7 +9,7 @@ use Rattle.cdi_lines.specs.declared.sink.WriteFailed.{WriteFailed}
 use Rattle.cdi_lines.specs.Ends.{WritesAll}
 use Rattle.cdi_prepare.specs.declared.scripts.NamedScript.{NamedScript}
 use Rattle.cdi_prepare.specs.FaultText.{line}
-use Rattle.cdi_prepare.specs.Ready.{Readied, readied_at}
+use Rattle.cdi_prepare.specs.Ready.{Readied, readied_in}
 use Rattle.cdi_prepare.specs.Scripts.{registered, shape_under}
 use Rattle.cdi_problems.specs.declared.problem.Problem.{Problem}
 use Rattle.cdi_problems.specs.Words.{problem_text}
@@ -73,5 +72,5 @@ pub data ReportsOn (bytes : List ℕ) (held held_after : Option (List ℕ)) (ver
     : Type 0 where
   starves : held_after ≡ held → verdict ≡ verdicts.Fault faults.Memory
       → ReportsOn bytes held held_after verdict
-  tells : Told (readied_at whole bytes) held held_after verdict
+  tells : Told (readied_in bytes) held held_after verdict
       → ReportsOn bytes held held_after verdict

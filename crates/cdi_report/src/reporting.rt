@@ -14,7 +14,6 @@ use cdi_check::check;
 use cdi_lines::{ServeFault, Sink};
 use cdi_prepare::{NamedScript, Prepared, prepare};
 use cdi_problems::Problem;
-use cdi_stage::WHOLE;
 use std::alloc::{AllocError, Global};
 
 /// What is told of a deployment, and whether it is accepted.
@@ -92,8 +91,8 @@ fn write_findings<W: Sink>(lines: &[u8], is_accepted: bool, output: &mut W) -> V
     }
 }
 
-/// Tells of the bytes of a deployment of the whole form what is wrong with it: its first fault, its first bad script, or
-/// its problems, each on a line (Jakarta CDI 4.0, *Problems detected automatically by the container*); or `accepted`.
+/// Tells of the bytes of a deployment what is wrong with it: its first fault, its first bad script, or its problems, each on
+/// a line (Jakarta CDI 4.0, *Problems detected automatically by the container*); or `accepted`.
 ///
 /// The scripts are the bodies. All is passed on unless writing fails: the verdict is then [`ServeFault::Write`], and a front
 /// part of the lines is written. If memory runs out, it is [`ServeFault::Memory`], and nothing is written.
@@ -104,7 +103,7 @@ pub fn report<W: Sink>(alloc: Global, deployment: &[u8], output: &mut W) -> Verd
     ensures blames { (source : Bool) → Blames (outcome_of result) source source
         (W.has_failed output.old) (W.has_failed output.new) }
 {
-    match prepare(alloc, WHOLE, deployment) {
+    match prepare(alloc, deployment) {
         Ok(prepared) => match findings_in(alloc, prepared) {
             Ok(findings) => write_findings(&findings.lines, findings.is_accepted, output),
             Err(_) => STARVED,

@@ -16,13 +16,13 @@ use Rattle.cdi_container.specs.Commands.{machine_command}
 use Rattle.cdi_container.specs.History.{History, answer_items}
 use Rattle.cdi_container.specs.Sessions.{AnswersLine, AnswersRead, reply_in}
 use Rattle.cdi_container.specs.States.{ContainerState, AnswersCommand, before_start}
-use Rattle.cdi_prepare.specs.Ready.{Readied}
+use Rattle.cdi_prepare.specs.Ready.{Readied, readied_in}
 use Rattle.cdi_prepare.specs.Scripts.{registered}
 use Rattle.cdi_report.specs.Reports.{AreProblemsWith}
-use Rattle.cdi_serving.specs.Facts.{HasFacts}
+use Rattle.cdi_read_laws.specs.Facts.{HasFacts}
 use Rattle.cdi_settings.specs.declared.settings.Settings.{Settings}
 use Rattle.cdi_shell.specs.declared.ending.Ending.{Ending}
-use Rattle.cdi_shell.specs.Drive.{AreTablesWith, Lives, Streams, legal_by, readied}
+use Rattle.cdi_shell.specs.Drive.{AreTablesWith, Lives, Streams, legal_by}
 use Rattle.cdi_shell.specs.Thrown.{AnswersByName, LinesTellTrueNames, LivesByNames, TellsThem, TellsTrueName}
 use Rattle.cdi_shell.proofs.Attended.{attended}
 use Rattle.cdi_shell.proofs.SoundScripts.{sound_scripts}
@@ -68,10 +68,10 @@ lives_by_names o t legal streams ending told l =
 
 -- ---- those of a run
 
-pub lines_tell : ((bytes : List ℕ) → IfOk (readied bytes) (λ r. HasFacts r.deployment)) → LinesTellTrueNames
-lines_tell facts bytes = by (readied bytes) refl (facts bytes)
+pub lines_tell : ((bytes : List ℕ) → IfOk (readied_in bytes) (λ r. HasFacts r.deployment)) → LinesTellTrueNames
+lines_tell facts bytes = by (readied_in bytes) refl (facts bytes)
   where
-    by : (found : Result Readied (List ℕ)) → readied bytes ≡ found → IfOk found (λ r. HasFacts r.deployment)
+    by : (found : Result Readied (List ℕ)) → readied_in bytes ≡ found → IfOk found (λ r. HasFacts r.deployment)
         → IfOk found (λ r. (t : RunTables) → AreProblemsWith (registered r.scripts) r.deployment [] → AreTablesWith (registered r.scripts) r.deployment t
         → (o : Settings) (streams : Streams) (ending : Ending) → Lives o t (legal_by o.order (registered r.scripts)) streams ending
         → LivesByNames o t (legal_by o.order (registered r.scripts)) streams ending)

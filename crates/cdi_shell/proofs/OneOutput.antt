@@ -28,10 +28,10 @@ use Rattle.cdi_lines.specs.declared.fault.ServeFault.{ServeFault}
 use Rattle.cdi_lines.specs.declared.fault.ServeFault.TheVariants as faults
 use Rattle.cdi_lines.specs.declared.sink.WriteFailed.{WriteFailed}
 use Rattle.cdi_prepare.specs.declared.scripts.NamedScript.{NamedScript}
-use Rattle.cdi_prepare.specs.Ready.{Readied}
+use Rattle.cdi_prepare.specs.Ready.{Readied, readied_in}
 use Rattle.cdi_prepare.specs.Scripts.{registered}
 use Rattle.cdi_report.specs.Reports.{AreProblemsWith, problem_lines}
-use Rattle.cdi_shell.specs.Drive.{Streams, Writes, Refuses, Lives, PlaysScripts, DrivesReadied, Drives, legal_by, readied}
+use Rattle.cdi_shell.specs.Drive.{Streams, Writes, Refuses, Lives, PlaysScripts, DrivesReadied, Drives, legal_by}
 use Rattle.cdi_lines.specs.Ends.{WritesAll}
 use Rattle.cdi_shell.specs.Endings.{after_serving, after_refusal}
 use Rattle.cdi_shell.specs.Laws.{IsSettled, SameOutput, OneOutput}
@@ -235,7 +235,7 @@ module _ (o : Settings) (input held : List ℕ) (s s' : Streams) (e e' : Ending)
   drives_one : (bytes : List ℕ) → Drives o bytes s e → Drives o bytes s' e' → SameOutput s s' e e'
   drives_one bytes (Drives.starves q) d' = absurd (subst IsSettled q.is_ending settled)
   drives_one bytes d (Drives.starves q) = absurd (subst IsSettled q.is_ending settled')
-  drives_one bytes (Drives.drives d) (Drives.drives d') = readied_one (readied bytes) d d'
+  drives_one bytes (Drives.drives d) (Drives.drives d') = readied_one (readied_in bytes) d d'
 
 pub one_output : OneOutput
 one_output o bytes input held s s' e e' settled settled' u u' h h' d d' = drives_one o input held s s' e e' settled settled' u u' h h' bytes d d'

@@ -7,15 +7,14 @@ use Rattle.cdi_base.specs.Name.{is_name}
 use Rattle.cdi_bodies.specs.declared.entry.Entry.{Entry}
 use Rattle.cdi_deployment.specs.declared.deployment.Deployment.{Deployment}
 use Rattle.cdi_machine.specs.Registered.{legal_of}
-use Rattle.cdi_prepare.specs.Ready.{Readied}
+use Rattle.cdi_prepare.specs.Ready.{Readied, readied_in}
 use Rattle.cdi_run_tables.specs.declared.tables.RunTables.{RunTables}
-use Rattle.cdi_serving.proofs.TrueNames.{name-at}
-use Rattle.cdi_serving.specs.Facts.{HasFacts}
+use Rattle.cdi_read_laws.proofs.TrueNames.{name-at}
+use Rattle.cdi_read_laws.specs.Facts.{HasFacts}
 use Rattle.cdi_problems.specs.Places.{name_text}
 use Rattle.cdi_container.specs.Accepted.{IsAccepted}
 use Rattle.cdi_container.specs.Sound.{IsSound}
 use Rattle.cdi_container.specs.Thrown.{TellsName}
-use Rattle.cdi_shell.specs.Drive.{readied}
 use Rattle.cdi_shell.specs.Thrown.{TellsThem, TellsTrueName, TellsTrueNames}
 
 pub true_name : (names : List (List ℕ)) (reply : Reply) → list_all is_name names ≡ true → TellsName names reply → TellsTrueName names reply
@@ -31,8 +30,8 @@ module _ {X : Type 0} {F : X → Type 0} {g : _} (entries : List (Entry X F g)) 
   abbrev pub SoundIfAccepted : Type 0
   SoundIfAccepted = (d : Deployment) (t : RunTables) → IsAccepted d entries t → IsSound t (legal_of entries)
 
-  pub tells_true_names : SoundIfAccepted → ((bytes : List ℕ) → IfOk (readied bytes) (λ r. HasFacts r.deployment)) → TellsTrueNames entries
-  tells_true_names sound facts bytes = by (readied bytes) (facts bytes)
+  pub tells_true_names : SoundIfAccepted → ((bytes : List ℕ) → IfOk (readied_in bytes) (λ r. HasFacts r.deployment)) → TellsTrueNames entries
+  tells_true_names sound facts bytes = by (readied_in bytes) (facts bytes)
     where
       by : (found : Result Readied (List ℕ)) → IfOk found (λ r. HasFacts r.deployment)
           → IfOk found (λ r. (t : RunTables) → IsAccepted r.deployment entries t → TellsThem t (legal_of entries))

@@ -7,7 +7,6 @@ use Rattle.cdi_base.specs.declared.reply.Reply.{Reply}
 use Rattle.cdi_settings.specs.Chosen.{chosen}
 use Rattle.cdi_settings.specs.declared.settings.Order.{Order}
 use Rattle.cdi_settings.specs.declared.settings.Settings.{Settings}
-use Rattle.cdi_stage.specs.Stage.{whole}
 use Rattle.cdi_bodies.specs.declared.shape.Lookup.{Lookup}
 use Rattle.cdi_body_check.specs.Sites.{sites_of}
 use Rattle.cdi_deployment.specs.declared.deployment.Deployment.{Deployment}
@@ -29,15 +28,11 @@ use Rattle.cdi_shell.specs.declared.ending.Ending.{Ending}
 use Rattle.cdi_lines.specs.declared.fault.ServeFault.{ServeFault}
 use Rattle.cdi_lines.specs.declared.sink.WriteFailed.{WriteFailed}
 use Rattle.cdi_prepare.specs.declared.scripts.NamedScript.{NamedScript}
-use Rattle.cdi_prepare.specs.Ready.{Readied, readied_at}
+use Rattle.cdi_prepare.specs.Ready.{Readied, readied_in}
 use Rattle.cdi_prepare.specs.Scripts.{registered, place_under, shape_under}
 use Rattle.cdi_report.specs.Reports.{AreProblemsWith, problem_lines}
 use Rattle.cdi_shell.specs.Endings.{after_serving, after_refusal, starved}
 use Rattle.cdi_lines.specs.Ends.{WritesAll}
-
--- the deployment that bytes are with its scripts, or the line of its first fault
-abbrev pub readied : List ℕ → Result Readied (List ℕ)
-readied bytes = readied_at whole bytes
 
 -- A body does what its script does next, and of several candidates the first is picked, or the last: one act and one pick is
 -- legal.
@@ -132,7 +127,7 @@ DrivesReadied o (Ok r) streams ending =
 pub data Drives (o : Settings) (bytes : List ℕ) (streams : Streams) (ending : Ending)
     : Type 0 where
   starves : IsSilent streams ending → Drives o bytes streams ending
-  drives : DrivesReadied o (readied bytes) streams ending
+  drives : DrivesReadied o (readied_in bytes) streams ending
       → Drives o bytes streams ending
 
 -- ---- parts of a run, for private clauses

@@ -20,8 +20,9 @@ use Rattle.cdi_container.specs.Accepted.{IsAccepted}
 use Rattle.cdi_container.specs.History.{History}
 use Rattle.cdi_container.specs.Sessions.{AnswersRead, Served, reply_in}
 use Rattle.cdi_container.specs.States.{ContainerState, AnswersCommand}
+use Rattle.cdi_prepare.specs.Ready.{readied_in}
 use Rattle.cdi_shell.specs.declared.ending.Ending.{Ending}
-use Rattle.cdi_shell.specs.Drive.{AreTablesWith, Lives, Streams, legal_by, readied}
+use Rattle.cdi_shell.specs.Drive.{AreTablesWith, Lives, Streams, legal_by}
 
 -- if the reply tells an exception, then the text in its line is a name: 1 to 255 letters, digits, `_`, `.` and `$`
 abbrev pub TellsTrueName : List (List ℕ) → Reply → Type 0
@@ -40,7 +41,7 @@ TellsThem t legal =
 -- that is replied is told by a name.
 abbrev pub TellsTrueNames : {X : Type 0} {F : X → Type 0} {g : _} → List (Entry X F g) → Type 0
 TellsTrueNames entries =
-    (bytes : List ℕ) → IfOk (readied bytes) (λ r.
+    (bytes : List ℕ) → IfOk (readied_in bytes) (λ r.
     (t : RunTables) → IsAccepted r.deployment entries t → TellsThem t (legal_of entries))
 
 -- ---- the lines of a run
@@ -63,7 +64,7 @@ pub record LivesByNames (o : Settings) (t : RunTables) (legal : Legal) (streams 
 -- Whatever run of the program there is on the bytes of a deployment: if its container lives, it does so by names.
 abbrev pub LinesTellTrueNames : Type 0
 LinesTellTrueNames =
-    (bytes : List ℕ) → IfOk (readied bytes) (λ r.
+    (bytes : List ℕ) → IfOk (readied_in bytes) (λ r.
     (t : RunTables) → AreProblemsWith (registered r.scripts) r.deployment []
     → AreTablesWith (registered r.scripts) r.deployment t
     → (o : Settings) (streams : Streams) (ending : Ending)

@@ -23,7 +23,6 @@ use cdi_problems::Problem;
 use cdi_report::problem_lines::write_problems;
 use cdi_run_tables::RunTables;
 use cdi_settings::Settings;
-use cdi_stage::WHOLE;
 use std::alloc::{AllocError, Global};
 
 /// Memory ran out where no container was served.
@@ -210,7 +209,7 @@ fn run<R: Source, W: Sink>(
         (R.has_failed input.old) (R.has_failed input.new)
         (W.has_failed output.old) (W.has_failed output.new) }
 {
-    match prepare(alloc, WHOLE, deployment) {
+    match prepare(alloc, deployment) {
         Ok(prepared) => match play_scripts(alloc, prepared, settings, input, output) {
             Ok(ending) => ending,
             Err(_) => STARVED,

@@ -6,7 +6,7 @@ ghost use Rattle.cdi_shell.specs.WorkedLines.{WorkedLines};
 
 use cdi_bodies::Bodies;
 use cdi_container::laws as container;
-use cdi_serving::laws as serving;
+use cdi_read_laws::laws as read_laws;
 
 /// Where no read or write fails and memory does not run out, what the program writes is a function of its settings, of the
 /// bytes of the deployment and of the bytes of the input, and so is how it ends. That holds of an input that is too long,
@@ -21,7 +21,7 @@ pub fn law_tells_true_names(bodies: &Bodies)
     ensures { TellsTrueNames (entries_of bodies.now) }
 {
     container::law_accepted_is_sound(bodies);
-    serving::law_reads_facts();
+    read_laws::law_reads_facts();
 }
 
 /// So it is with the lines of a run: whatever run of the program there is on the bytes of a deployment, if its container lives,

@@ -7,9 +7,8 @@ use crate::faultless::faultless_tables;
 use cdi_base::{Act, Fields, OrMemory};
 use cdi_bodies::{Bodies, Body, View};
 use cdi_prepare::{NamedScript, Prepared, prepare};
+use cdi_read_laws::laws::law_reads_texts;
 use cdi_run_tables::RunTables;
-use cdi_serving::laws::law_reads_texts;
-use cdi_stage::WHOLE;
 use std::alloc::{AllocError, Global};
 
 /// The tables of a deployment whose scripts are its bodies, unless it has problems. A body is made in the function that registers it,
@@ -43,19 +42,18 @@ fn tables_of(alloc: Global, prepared: Prepared) -> Result<Option<RunTables>, All
     }
 }
 
-/// Reads a deployment of the whole form, which has no fault.
+/// Reads a deployment, which has no fault.
 fn prepared(alloc: Global, bytes: &[u8]) -> Option<Prepared>
     ensures { IfSome result (λ p. has_texts p.deployment ≡ true) }
 {
     law_reads_texts();
-    match prepare(alloc, WHOLE, bytes) {
+    match prepare(alloc, bytes) {
         Ok(prepared) => Some(prepared),
         Err(_) => None,
     }
 }
 
-/// The tables of a deployment of the whole form, by its text, unless it has problems. The error is that it has a fault, or that memory
-/// ran out.
+/// The tables of a deployment, by its text, unless it has problems. The error is that it has a fault, or that memory ran out.
 pub fn read_tables(alloc: Global, text: &str) -> Result<Option<RunTables>, AllocError> {
     match prepared(alloc, text.as_bytes()) {
         Some(prepared) => tables_of(alloc, prepared),

@@ -1,4 +1,4 @@
-//! Tests of deployments of the whole form that have no problem: their tables fit their bodies, whether or not a container serves them.
+//! Tests of deployments that have no problem: their tables fit their bodies, whether or not a container serves them.
 //! This library serves these tests alone.
 #![tactic(auto)]
 

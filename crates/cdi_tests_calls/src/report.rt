@@ -3,7 +3,7 @@
 //! | Words | The deployment and its bodies |
 //! |---|---|
 //! | `scripts` | its scripts are the bodies |
-//! | `whole` | the same, of the whole form |
+//! | `whole` | the same |
 //! | `counting COUNT` | its one body is `up`: it counts the field `n` so many times, calls itself with one less than it was called with unless that was 0, and then gives the field |
 //!
 //! A depth and a number of ticks may stand behind each of them, as the limits. Before these the word `last` may stand: of
@@ -24,7 +24,6 @@ use cdi_deployment::Deployment;
 use cdi_machine::Registered;
 use cdi_prepare::{NamedScript, Prepared, prepare};
 use cdi_script::Script;
-use cdi_stage::WHOLE;
 use cdi_tests_player::limits::limits_of;
 use std::alloc::{AllocError, Global};
 
@@ -139,7 +138,7 @@ fn report_of_bytes(
     sets: Option<usize>,
     asking: Asking,
 ) -> Result<String, AllocError> {
-    match prepare(alloc, WHOLE, bytes) {
+    match prepare(alloc, bytes) {
         Ok(prepared) => report_of_prepared(alloc, prepared, sets, asking),
         Err(_) => String::from_str(alloc, "not read\n"),
     }

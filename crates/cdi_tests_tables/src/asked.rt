@@ -1,5 +1,4 @@
-//! What is told of a deployment behind the word `tables`. It is of the whole form, and each `##` in it stands for a number, counted
-//! from 0.
+//! What is told of a deployment behind the word `tables`. Each `##` in it stands for a number, counted from 0.
 //!
 //! | Words | What is told | Module |
 //! |---|---|---|
@@ -11,9 +10,8 @@ use crate::chains::chains_answers;
 use crate::observers::observers_answers;
 use crate::plans::plans_answers;
 use crate::runs::run_answers;
-use cdi_deploy::read_at;
+use cdi_deploy::read;
 use cdi_deployment::Deployment;
-use cdi_stage::WHOLE;
 use cdi_tests_player::marks::with_numbers;
 use cdi_tests_player::{Played, Player, Scene};
 use std::alloc::{AllocError, Global};
@@ -33,7 +31,7 @@ fn answers_of(alloc: Global, deployment: Deployment, words: &[&str]) -> Result<S
 fn answers(alloc: Global, words: &[&str], scene: &Scene) -> Result<String, AllocError> {
     let text = scene.whole_deployment(alloc)?;
     let text = with_numbers(alloc, text.as_str(), "##")?;
-    match read_at(alloc, WHOLE, text.as_str().as_bytes()) {
+    match read(alloc, text.as_str().as_bytes()) {
         Ok(deployment) => answers_of(alloc, deployment, words),
         Err(_) => String::from_str(alloc, "not read\n"),
     }

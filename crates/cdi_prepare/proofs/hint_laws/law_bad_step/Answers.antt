@@ -6,7 +6,7 @@ use Rattle.cdi_prepare.proofs.Options.{none_of}
 use Rattle.cdi_prepare.proofs.hint_laws.law_bad_step.Goals as goal
 
 pub returns : goal.returns
-returns c = λ stage items. (
-  λ none. steps_where_none stage 0 items ∙ ap is_none none,
-  λ steps. none_of (bad_item_from stage 0 items) (sym (steps_where_none stage 0 items) ∙ steps),
+returns c = λ items. (
+  λ none. steps_where_none 0 items ∙ ap is_none none,
+  λ steps. none_of (bad_item_from 0 items) (sym (steps_where_none 0 items) ∙ steps),
 )

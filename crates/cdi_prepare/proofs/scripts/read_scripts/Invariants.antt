@@ -5,6 +5,6 @@ use Rattle.cdi_prepare.proofs.scripts.read_scripts.Given as goal
 
 abbrev pub invariant-loop-script : goal.invariant-loop-script
 invariant-loop-script l = record {
-  goes_on : scripts_after l.stage l.scripts.items l.names (drop l.script-index l.declared) ≡ scripts_in l.fn.stage l.fn.names l.declared;
+  goes_on : scripts_after l.scripts.items l.names (drop l.script-index l.declared) ≡ scripts_in l.fn.names l.declared;
   kept : Extends l.fn.names l.names;
 }
