@@ -9,7 +9,7 @@ use std::process::ExitCode;
 
 /// Runs the program on what came of asking for its words, over the files and the streams of the machine, with the output
 /// to this writer.
-fn run<W: Writer>(
+fn run<W: Writer + Drop>(
     rt: &HostRuntime,
     alloc: Global,
     words: Result<&[String], WordsError>,
