@@ -1,35 +1,44 @@
 //! The program `cdi`: runs a deployment on the command lines of its standard input.
 #![tactic(auto)]
 
-use cdi_lines::{Input, Output};
-use cdi_program::status::FAULT;
-use cdi_program::{HostFiles, host_words, run_program};
+use cdi_lines::{Buffered, Input, Output, Writer};
+use cdi_program::{HostFiles, WordsError, host_words, run_program};
 use std::alloc::Global;
 use std::io;
-use std::io::BufWriter;
 use std::process::ExitCode;
 
-/// Runs the program over the words, the files and the streams of the machine.
-fn run(rt: &HostRuntime, alloc: Global) -> io::Result<u8> {
-    let words = host_words(rt, alloc);
-    let words = match &words {
-        Ok(words) => Ok(words.as_slice()),
-        Err(error) => Err(*error),
-    };
+/// Runs the program on what came of asking for its words, over the files and the streams of the machine, with the output
+/// to this writer.
+fn run<W: Writer + Drop>(
+    rt: &HostRuntime,
+    alloc: Global,
+    words: Result<&[String], WordsError>,
+    writer: W,
+) -> u8 {
     let mut input = Input::new(rt.reader());
-    let mut output = Output::new(BufWriter::new(alloc, io::writer(rt))?);
+    let mut output = Output::new(writer);
     let mut errors = Output::new(rt.stderr());
-    Ok(run_program(
+    run_program(
         alloc,
         words,
         &HostFiles::new(rt),
         &mut input,
         &mut output,
         &mut errors,
-    ))
+    )
+}
+
+/// Runs the program. Where there is no memory for a buffer of its output there is none for its words either.
+fn run_on(rt: &HostRuntime, alloc: Global) -> u8 {
+    let Ok(writer) = Buffered::new(alloc, io::writer(rt)) else {
+        return run(rt, alloc, Err(WordsError::Memory), io::writer(rt));
+    };
+    match host_words(rt, alloc) {
+        Ok(words) => run(rt, alloc, Ok(words.as_slice()), writer),
+        Err(error) => run(rt, alloc, Err(error), writer),
+    }
 }
 
 fn main(rt: HostRuntime) -> ExitCode {
-    let status = run(&rt, rt.alloc()).unwrap_or(FAULT);
-    ExitCode::from(status)
+    ExitCode::from(run_on(&rt, rt.alloc()))
 }

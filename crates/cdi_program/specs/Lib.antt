@@ -1,2 +1,5 @@
+pub mod Files
 pub mod Program
 pub mod Statuses
+pub mod Streams
+pub mod Telling

@@ -1,10 +1,11 @@
 //! Where the bytes of files come from.
-ghost use Rattle.std.specs.Prelude.{◌≡◌, ◌≤◌, ℕ, List, length, take, IfOk, IfSome, OnErr};
+ghost use Rattle.std.specs.Prelude.{ℕ, List, IfOk, OnErr};
+ghost use Rattle.cdi_program.specs.Files.{GivesFront, IsFrontOf};
 
 use std::alloc::Global;
 use std::fs::File;
-use std::io;
 use std::io::Read;
+use std::{fs, io};
 
 /// Where the bytes of files come from.
 pub trait Files {
@@ -20,11 +21,32 @@ pub trait Files {
         ensures err { OnErr result (refuses self.now path.now) };
 }
 
+/// What opens files: any file system of the standard library. Here a clause can name what was opened, which it can't of
+/// [`fs::Files`].
+pub trait Opener {
+    type Opened: Read + Drop;
+
+    // Opening the file at a path may give this.
+    ghost opens: { Self → List ℕ → Self.Opened → Type 0 };
+
+    /// Opens the file at a path to be read from its begin.
+    fn opened(&self, path: &str) -> io::Result<Self::Opened>
+        ensures { IfOk result (λ file. opens self.now path.now file) };
+}
+
+impl<F: fs::Files> Opener for F {
+    type Opened = F::File;
+
+    ghost opens = { λ files path file. Unit {0} };
+
+    fn opened(&self, path: &str) -> io::Result<F::File> {
+        File::open(self, path)
+    }
+}
+
 /// The first bytes that a reader gives, up to a count.
 pub fn read_front<R: Read + Drop>(alloc: Global, reader: R, most: usize) -> io::Result<Vec<u8>>
-    ensures few { IfOk result (λ bytes. length bytes.items ≤ most) }
-    ensures bytes { IfOk result (λ bytes.
-        IfSome (R.remaining reader) (λ whole. bytes.items ≡ take most whole)) }
+    ensures { IfOk result (λ bytes. IsFrontOf (R.remaining reader) most bytes.items) }
 {
     let mut bytes = Vec::new(alloc);
     reader.take(most as u64).read_to_end(&mut bytes)?;
@@ -35,23 +57,23 @@ pub fn read_front<R: Read + Drop>(alloc: Global, reader: R, most: usize) -> io::
 
 /// The files of the machine.
 #[derive(Drop)]
-pub struct HostFiles<'a> {
-    rt: &'a HostRuntime,
+pub struct HostFiles<'a, F = HostRuntime> {
+    opener: &'a F,
 }
 
-impl<'a> HostFiles<'a> {
+impl<'a, F> HostFiles<'a, F> {
     /// The files of the machine that the program runs on.
-    pub fn new(rt: &'a HostRuntime) -> HostFiles<'a> {
-        HostFiles { rt }
+    pub fn new(opener: &'a F) -> HostFiles<'a, F> {
+        HostFiles { opener }
     }
 }
 
-impl Files for HostFiles<'_> {
-    ghost gives = { λ files path most bytes. length bytes ≤ most };
+impl<F: Opener> Files for HostFiles<'_, F> {
+    ghost gives = { GivesFront F.opens F.Opened.remaining };
 
     ghost refuses = { λ files path. Unit {0} };
 
     fn front(&self, alloc: Global, path: &str, most: usize) -> io::Result<Vec<u8>> {
-        read_front(alloc, File::open(self.rt, path)?, most)
+        read_front(alloc, self.opener.opened(path)?, most)
     }
 }

@@ -7,6 +7,6 @@ pub mod status;
 mod telling;
 pub mod words;
 
-pub use files::{Files, HostFiles};
+pub use files::{Files, HostFiles, Opener};
 pub use program::run_program;
 pub use words::{WordsError, host_words};

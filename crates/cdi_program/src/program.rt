@@ -2,23 +2,50 @@
 ghost use Rattle.std.specs.Prelude.{◌≡◌, map};
 ghost use Rattle.clap.specs.Words.{kind_of};
 ghost use Rattle.cdi_program.specs.Program as spec;
+ghost use Rattle.cdi_program.specs.Streams.{ends_of, input_of, output_of};
 
 use crate::files::Files;
 use crate::status::{FAULT, is_shown, status_of};
-use crate::telling::{tell, tell_of_file};
+use crate::telling::{tell, tell_ending, tell_of_file, tell_verdict};
 use crate::words::WordsError;
 use cdi_lines::{ServeFault, Sink, Source};
 use cdi_options::{Mode, Options};
-use cdi_prepare::hint_for;
-use cdi_report::{Verdict, report};
-use cdi_shell::Ending;
+use cdi_report::report;
 use cdi_shell::drive::drive;
 use clap::Error;
+use clap::error::ErrorKind;
 use std::alloc::Global;
 use std::convert::AsStr;
 
 /// The most bytes that are read of a file: one more than a deployment has at most, so that a longer one is told as that.
 pub const MAX_READ: usize = 1_048_577;
+
+/// Writes a text that the words ask for, or one that tells what is wrong with them.
+fn answer_with<R: Source, W: Sink, E: Sink>(
+    kind: ErrorKind,
+    text: &str,
+    input: &R,
+    output: &mut W,
+    errors: &mut E,
+) -> u8
+    ensures { spec.AnswersWith kind text.now
+        (ends_of (input_of R.unread R.has_failed)
+        (output_of W.written W.has_failed W.is_passed_on)
+        (output_of E.written E.has_failed E.is_passed_on)
+        input.now input.now output.old output.new errors.old errors.new) result }
+{
+    if !is_shown(kind) {
+        let _ = errors.write_through(text.as_bytes());
+        return status_of(kind);
+    }
+    match output.write_through(text.as_bytes()) {
+        Ok(()) => 0,
+        Err(_) => {
+            tell(errors, ServeFault::Write.text());
+            FAULT
+        }
+    }
+}
 
 /// Writes what the words ask for, or tells what is wrong with them.
 fn answer_usage<R: Source, W: Sink, E: Sink>(
@@ -29,68 +56,17 @@ fn answer_usage<R: Source, W: Sink, E: Sink>(
     errors: &mut E,
 ) -> u8
     ensures { spec.AnswersUsage (kind_of error.now)
-        (record {
-          unread = R.unread input.now;
-          unread_after = R.unread input.now;
-          held = W.written output.old;
-          held_after = W.written output.new;
-          source = R.has_failed input.now;
-          source_after = R.has_failed input.now;
-          sink = W.has_failed output.old;
-          sink_after = W.has_failed output.new;
-          is_passed_on = W.is_passed_on output.new;
-        }) result }
+        (ends_of (input_of R.unread R.has_failed)
+        (output_of W.written W.has_failed W.is_passed_on)
+        (output_of E.written E.has_failed E.is_passed_on)
+        input.now input.now output.old output.new errors.old errors.new) result }
 {
-    let Ok(text) = error.to_string(alloc) else {
-        tell(alloc, errors, &ServeFault::Memory);
-        return FAULT;
-    };
-    if !is_shown(error.kind()) {
-        let _ = errors.write_through(text.as_bytes());
-        return status_of(error.kind());
-    }
-    match output.write_through(text.as_bytes()) {
-        Ok(()) => 0,
+    match error.to_string(alloc) {
+        Ok(text) => answer_with(error.kind(), &text, input, output, errors),
         Err(_) => {
-            tell(alloc, errors, &ServeFault::Write);
+            tell(errors, ServeFault::Memory.text());
             FAULT
         }
-    }
-}
-
-/// Tells the cause of a fault. Without one all has been passed on; after a fault, what is held back still goes out if it
-/// can.
-fn tell_outcome<W: Sink, E: Sink>(
-    alloc: Global,
-    outcome: Result<(), ServeFault>,
-    output: &mut W,
-    errors: &mut E,
-)
-    ensures { spec.IsLeft outcome
-        (record {
-          held = W.written output.old;
-          has_failed = W.has_failed output.old;
-          is_passed_on = W.is_passed_on output.old;
-        })
-        (record {
-          held = W.written output.new;
-          has_failed = W.has_failed output.new;
-          is_passed_on = W.is_passed_on output.new;
-        }) }
-{
-    if let Err(fault) = outcome {
-        let _ = output.flush();
-        tell(alloc, errors, &fault);
-    }
-}
-
-/// Tells what is wrong with a refused deployment beyond what its line says, if there is more to say.
-fn tell_hint<E: Sink>(alloc: Global, is_refused: bool, file: &str, bytes: &[u8], errors: &mut E) {
-    if !is_refused {
-        return;
-    }
-    if let Ok(Some(hint)) = hint_for(alloc, bytes) {
-        tell_of_file(alloc, errors, file, &hint);
     }
 }
 
@@ -103,23 +79,14 @@ fn check_bytes<R: Source, W: Sink, E: Sink>(
     output: &mut W,
     errors: &mut E,
 ) -> u8
-    ensures { spec.ChecksBytes bytes.now
-        (record {
-          unread = R.unread input.now;
-          unread_after = R.unread input.now;
-          held = W.written output.old;
-          held_after = W.written output.new;
-          source = R.has_failed input.now;
-          source_after = R.has_failed input.now;
-          sink = W.has_failed output.old;
-          sink_after = W.has_failed output.new;
-          is_passed_on = W.is_passed_on output.new;
-        }) result }
+    ensures { spec.ChecksBytes file.now bytes.now
+        (ends_of (input_of R.unread R.has_failed)
+        (output_of W.written W.has_failed W.is_passed_on)
+        (output_of E.written E.has_failed E.is_passed_on)
+        input.now input.now output.old output.new errors.old errors.new) result }
 {
     let verdict = report(alloc, bytes, output);
-    tell_outcome(alloc, verdict.outcome(), output, errors);
-    let is_refused = verdict == Verdict::Refused;
-    tell_hint(alloc, is_refused, file, bytes, errors);
+    tell_verdict(alloc, verdict, file, bytes, output, errors);
     verdict.status()
 }
 
@@ -132,23 +99,14 @@ fn run_bytes<R: Source, W: Sink, E: Sink>(
     output: &mut W,
     errors: &mut E,
 ) -> u8
-    ensures { spec.RunsBytes options.now.settings bytes.now
-        (record {
-          unread = R.unread input.old;
-          unread_after = R.unread input.new;
-          held = W.written output.old;
-          held_after = W.written output.new;
-          source = R.has_failed input.old;
-          source_after = R.has_failed input.new;
-          sink = W.has_failed output.old;
-          sink_after = W.has_failed output.new;
-          is_passed_on = W.is_passed_on output.new;
-        }) result }
+    ensures { spec.RunsBytes options.now.settings options.now.file.now bytes.now
+        (ends_of (input_of R.unread R.has_failed)
+        (output_of W.written W.has_failed W.is_passed_on)
+        (output_of E.written E.has_failed E.is_passed_on)
+        input.old input.new output.old output.new errors.old errors.new) result }
 {
     let ending = drive(alloc, bytes, options.settings, input, output);
-    tell_outcome(alloc, ending.outcome(), output, errors);
-    let is_refused = ending == Ending::Refused;
-    tell_hint(alloc, is_refused, options.file, bytes, errors);
+    tell_ending(alloc, ending, options.file, bytes, output, errors);
     ending.status()
 }
 
@@ -161,18 +119,11 @@ fn serve_bytes<R: Source, W: Sink, E: Sink>(
     output: &mut W,
     errors: &mut E,
 ) -> u8
-    ensures { spec.ServesBytes options.now.mode options.now.settings bytes.now
-        (record {
-          unread = R.unread input.old;
-          unread_after = R.unread input.new;
-          held = W.written output.old;
-          held_after = W.written output.new;
-          source = R.has_failed input.old;
-          source_after = R.has_failed input.new;
-          sink = W.has_failed output.old;
-          sink_after = W.has_failed output.new;
-          is_passed_on = W.is_passed_on output.new;
-        }) result }
+    ensures { spec.ServesBytes options.now.mode options.now.settings options.now.file.now bytes.now
+        (ends_of (input_of R.unread R.has_failed)
+        (output_of W.written W.has_failed W.is_passed_on)
+        (output_of E.written E.has_failed E.is_passed_on)
+        input.old input.new output.old output.new errors.old errors.new) result }
 {
     match options.mode {
         Mode::Check => check_bytes(alloc, options.file, bytes, input, output, errors),
@@ -191,17 +142,10 @@ fn serve_options<F: Files, R: Source, W: Sink, E: Sink>(
 ) -> u8
     ensures { spec.ServesFile (F.gives files.now) (F.refuses files.now)
         options.now.mode options.now.settings options.now.file.now
-        (record {
-          unread = R.unread input.old;
-          unread_after = R.unread input.new;
-          held = W.written output.old;
-          held_after = W.written output.new;
-          source = R.has_failed input.old;
-          source_after = R.has_failed input.new;
-          sink = W.has_failed output.old;
-          sink_after = W.has_failed output.new;
-          is_passed_on = W.is_passed_on output.new;
-        }) result }
+        (ends_of (input_of R.unread R.has_failed)
+        (output_of W.written W.has_failed W.is_passed_on)
+        (output_of E.written E.has_failed E.is_passed_on)
+        input.old input.new output.old output.new errors.old errors.new) result }
 {
     match files.front(alloc, options.file, MAX_READ) {
         Ok(bytes) => serve_bytes(alloc, options, &bytes, input, output, errors),
@@ -215,12 +159,15 @@ fn serve_options<F: Files, R: Source, W: Sink, E: Sink>(
 /// Runs the program, from what came of asking for its words to the exit status.
 ///
 /// Words that ask for a mode name the file of a deployment, which is read up to [`MAX_READ`] bytes. [`Mode::Check`] tells
-/// its problems as [`report`] does, reads nothing, and the status is that of the verdict ([`Verdict::status`]).
+/// its problems as [`report`] does, reads nothing, and the status is that of the verdict ([`cdi_report::Verdict::status`]).
 /// [`Mode::Run`] runs it as [`drive`] does, with what the words set for it, and the status is that of how the run ended
-/// ([`Ending::status`]). Help and the version go to the output, with status 0. Wrong words are status 2, and a file that
-/// can't be read, and want of memory outside of a command, status 3: nothing is read or written then. Each status 2 and 3
-/// has words on `errors` that name the cause, as far as these can be written, and a refused deployment may have a hint
-/// there.
+/// ([`cdi_shell::Ending::status`]). Help and the version go to the output, and are passed on, with status 0. Wrong words
+/// are status 2, and a file that can't be read, and want of memory outside of a command, status 3: nothing is read or
+/// written then.
+///
+/// With status 2 and 3 a line on `errors` names the cause, which for wrong words is a text of their own. With status 1
+/// the hint for the deployment stands there, if there is one, or that memory ran out. Otherwise nothing does. As far as
+/// `errors` lets, each is written and passed on.
 pub fn run_program<S: AsStr, F: Files, R: Source, W: Sink, E: Sink>(
     alloc: Global,
     words: Result<&[S], WordsError>,
@@ -231,17 +178,10 @@ pub fn run_program<S: AsStr, F: Files, R: Source, W: Sink, E: Sink>(
 ) -> u8
     ensures { spec.RunsProgram (F.gives files.now) (F.refuses files.now)
         (spec.texts_of S.text words.entry)
-        (record {
-          unread = R.unread input.old;
-          unread_after = R.unread input.new;
-          held = W.written output.old;
-          held_after = W.written output.new;
-          source = R.has_failed input.old;
-          source_after = R.has_failed input.new;
-          sink = W.has_failed output.old;
-          sink_after = W.has_failed output.new;
-          is_passed_on = W.is_passed_on output.new;
-        }) result }
+        (ends_of (input_of R.unread R.has_failed)
+        (output_of W.written W.has_failed W.is_passed_on)
+        (output_of E.written E.has_failed E.is_passed_on)
+        input.old input.new output.old output.new errors.old errors.new) result }
 {
     match words {
         Ok(words) => match Options::parse(alloc, words) {
@@ -249,7 +189,7 @@ pub fn run_program<S: AsStr, F: Files, R: Source, W: Sink, E: Sink>(
             Err(error) => answer_usage(alloc, &error, input, output, errors),
         },
         Err(error) => {
-            tell(alloc, errors, &error);
+            tell(errors, error.text());
             error.status()
         }
     }

@@ -1,25 +1,149 @@
 //! What is told on standard error.
-use cdi_lines::Sink;
+ghost use Rattle.std.specs.Prelude.{◌++◌, IsTrue, OnOk, codes};
+ghost use Rattle.cdi_lines.specs.Ends.{Tells, WritesAll};
+ghost use Rattle.cdi_report.specs.Verdicts.{outcome_of as outcome_of_verdict};
+ghost use Rattle.cdi_shell.specs.Endings.{outcome_of as outcome_of_ending};
+ghost use Rattle.cdi_program.specs.Streams.{output_of};
+ghost use Rattle.cdi_program.specs.Telling as spec;
+
+use cdi_lines::{ServeFault, Sink, WriteFailed};
+use cdi_prepare::hint_for;
+use cdi_report::Verdict;
+use cdi_shell::Ending;
 use std::alloc::Global;
 use std::fmt::Display;
 
+/// Writes the rest of a line, and passes it on.
+fn end_line<E: Sink>(errors: &mut E, rest: &str) -> Result<(), WriteFailed>
+    ensures bytes { WritesAll (E.written errors.old) (E.written errors.new) result
+        (rest.now ++ codes "\n") }
+    ensures failed { Tells result (E.has_failed errors.old) (E.has_failed errors.new) }
+    ensures passed_on { OnOk result (IsTrue (E.is_passed_on errors.new)) }
+{
+    errors.write(rest.as_bytes())?;
+    errors.write_through(b"\n")
+}
+
+/// Writes the line that names a cause.
+fn write_cause<E: Sink>(errors: &mut E, cause: &str) -> Result<(), WriteFailed>
+    ensures bytes { WritesAll (E.written errors.old) (E.written errors.new) result
+        (spec.cause_line cause.now) }
+    ensures failed { Tells result (E.has_failed errors.old) (E.has_failed errors.new) }
+    ensures passed_on { OnOk result (IsTrue (E.is_passed_on errors.new)) }
+{
+    errors.write(b"cdi: ")?;
+    end_line(errors, cause)
+}
+
+/// Writes the line that names a cause that lies in a file.
+fn write_of_file<E: Sink>(errors: &mut E, file: &str, cause: &str) -> Result<(), WriteFailed>
+    ensures bytes { WritesAll (E.written errors.old) (E.written errors.new) result
+        (spec.file_line file.now cause.now) }
+    ensures failed { Tells result (E.has_failed errors.old) (E.has_failed errors.new) }
+    ensures passed_on { OnOk result (IsTrue (E.is_passed_on errors.new)) }
+{
+    errors.write(b"cdi: ")?;
+    errors.write(file.as_bytes())?;
+    errors.write(b": ")?;
+    end_line(errors, cause)
+}
+
 /// Tells the user of a cause. Where that fails nobody can be told, and the exit status has to say all.
-pub(crate) fn tell<E: Sink>(alloc: Global, errors: &mut E, cause: &impl Display) {
-    let _ = match format!(in alloc; "cdi: {cause}\n") {
-        Ok(text) => errors.write_through(text.as_bytes()),
-        Err(_) => errors.write_through(b"cdi: out of memory\n"),
-    };
+pub(crate) fn tell<E: Sink>(errors: &mut E, cause: &str)
+    ensures { spec.PassesOn (spec.cause_line cause.now)
+        (output_of E.written E.has_failed E.is_passed_on errors.old)
+        (output_of E.written E.has_failed E.is_passed_on errors.new) }
+{
+    let _ = write_cause(errors, cause);
 }
 
 /// Tells the user what is wrong with a file.
-pub(crate) fn tell_of_file<E: Sink>(
+pub(crate) fn tell_of_file<E: Sink, C: Display>(
     alloc: Global,
     errors: &mut E,
     file: &str,
-    cause: &impl Display,
-) {
-    let _ = match format!(in alloc; "cdi: {file}: {cause}\n") {
-        Ok(text) => errors.write_through(text.as_bytes()),
-        Err(_) => errors.write_through(b"cdi: out of memory\n"),
-    };
+    cause: &C,
+)
+    ensures { spec.TellsOfFile file.now (C.output cause.now)
+        (output_of E.written E.has_failed E.is_passed_on errors.old)
+        (output_of E.written E.has_failed E.is_passed_on errors.new) }
+{
+    match cause.to_string(alloc) {
+        Ok(cause) => {
+            let _ = write_of_file(errors, file, &cause);
+        }
+        Err(_) => tell(errors, ServeFault::Memory.text()),
+    }
+}
+
+/// Tells the user what is wrong with a refused deployment beyond what its line says, if there is more to say.
+fn tell_hint<E: Sink>(alloc: Global, file: &str, bytes: &[u8], errors: &mut E)
+    ensures { spec.TellsRefused file.now bytes.now
+        (output_of E.written E.has_failed E.is_passed_on errors.old)
+        (output_of E.written E.has_failed E.is_passed_on errors.new) }
+{
+    match hint_for(alloc, bytes) {
+        Ok(Some(hint)) => tell_of_file(alloc, errors, file, &hint),
+        Ok(None) => {}
+        Err(_) => tell(errors, ServeFault::Memory.text()),
+    }
+}
+
+/// Tells the user of a fault. What is held back still goes out if it can.
+fn tell_fault<W: Sink, E: Sink>(fault: ServeFault, output: &mut W, errors: &mut E)
+    ensures flushed { spec.IsFlushed
+        (output_of W.written W.has_failed W.is_passed_on output.old)
+        (output_of W.written W.has_failed W.is_passed_on output.new) }
+    ensures tells { spec.TellsFault fault
+        (output_of E.written E.has_failed E.is_passed_on errors.old)
+        (output_of E.written E.has_failed E.is_passed_on errors.new) }
+{
+    let _ = output.flush();
+    tell(errors, fault.text());
+}
+
+/// Tells the user how a run ended, unless all is well or has been said.
+pub(crate) fn tell_ending<W: Sink, E: Sink>(
+    alloc: Global,
+    ending: Ending,
+    file: &str,
+    bytes: &[u8],
+    output: &mut W,
+    errors: &mut E,
+)
+    ensures left { spec.IsLeft (outcome_of_ending ending)
+        (output_of W.written W.has_failed W.is_passed_on output.old)
+        (output_of W.written W.has_failed W.is_passed_on output.new) }
+    ensures tells { spec.TellsEnding file.now bytes.now ending
+        (output_of E.written E.has_failed E.is_passed_on errors.old)
+        (output_of E.written E.has_failed E.is_passed_on errors.new) }
+{
+    match ending {
+        Ending::Fine | Ending::Halted(_) => {}
+        Ending::Refused => tell_hint(alloc, file, bytes, errors),
+        Ending::Fault { fault, .. } => tell_fault(fault, output, errors),
+    }
+}
+
+/// The same for a report.
+pub(crate) fn tell_verdict<W: Sink, E: Sink>(
+    alloc: Global,
+    verdict: Verdict,
+    file: &str,
+    bytes: &[u8],
+    output: &mut W,
+    errors: &mut E,
+)
+    ensures left { spec.IsLeft (outcome_of_verdict verdict)
+        (output_of W.written W.has_failed W.is_passed_on output.old)
+        (output_of W.written W.has_failed W.is_passed_on output.new) }
+    ensures tells { spec.TellsVerdict file.now bytes.now verdict
+        (output_of E.written E.has_failed E.is_passed_on errors.old)
+        (output_of E.written E.has_failed E.is_passed_on errors.new) }
+{
+    match verdict {
+        Verdict::Accepted => {}
+        Verdict::Refused => tell_hint(alloc, file, bytes, errors),
+        Verdict::Fault(fault) => tell_fault(fault, output, errors),
+    }
 }

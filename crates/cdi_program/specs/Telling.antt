@@ -1,0 +1,79 @@
+-- What is told on standard error.
+use Rattle.std.specs.Prelude.{◌≡◌, ℕ, List, ◌++◌, codes, Option, Some, None, Result, Ok, Err, IfSome, IsTrue, OnOk}
+use Rattle.std.specs.Io.KnownBytes.{Keeps}
+use Rattle.cdi_lines.specs.Ends.{Tells, WritesAll}
+use Rattle.cdi_lines.specs.Faults.{fault_text}
+use Rattle.cdi_lines.specs.declared.sink.WriteFailed.{WriteFailed}
+use Rattle.cdi_lines.specs.declared.fault.ServeFault.{ServeFault}
+use Rattle.cdi_lines.specs.declared.fault.ServeFault.TheVariants as faults
+use Rattle.cdi_prepare.specs.Hint.{IsHintFor}
+use Rattle.cdi_prepare.specs.HintText.{hint_text}
+use Rattle.cdi_prepare.specs.declared.hint.Hint.{Hint}
+use Rattle.cdi_report.specs.declared.verdict.Verdict.{Verdict}
+use Rattle.cdi_report.specs.declared.verdict.Verdict.TheVariants as verdicts
+use Rattle.cdi_shell.specs.declared.ending.Ending.{Ending}
+use Rattle.cdi_shell.specs.declared.ending.Ending.TheVariants as endings
+use Rattle.cdi_program.specs.Streams.{Output}
+
+-- Writing a text and passing it on came to this. Where it failed, a front part of the text is written, and the output has
+-- failed.
+pub record Passes (text : List ℕ) (result : Result (Unit {0}) WriteFailed) (old new : Output) : Type 0 where
+  pub written : WritesAll old.held new.held result text
+  pub failed : Tells result old.has_failed new.has_failed
+  pub passed_on : OnOk result (IsTrue new.is_passed_on)
+
+-- the text is written and passed on, as far as the output lets
+abbrev pub PassesOn : List ℕ → Output → Output → Type 0
+PassesOn text old new = (result : Result (Unit {0}) WriteFailed) × Passes text result old new
+
+-- the line that names a cause
+abbrev pub cause_line : List ℕ → List ℕ
+cause_line cause = codes "cdi: " ++ (cause ++ codes "\n")
+
+-- the line that names a cause that lies in a file
+abbrev pub file_line : List ℕ → List ℕ → List ℕ
+file_line file cause = codes "cdi: " ++ (file ++ (codes ": " ++ (cause ++ codes "\n")))
+
+abbrev pub TellsFault : ServeFault → Output → Output → Type 0
+TellsFault fault old new = PassesOn (cause_line (fault_text fault)) old new
+
+-- A cause that lies in a file is told, which is written so if it is known how; or that memory ran out.
+pub data TellsOfFile (file : List ℕ) (cause : Option (List ℕ)) (old new : Output) : Type 0 where
+  tells : (words : List ℕ) → IfSome cause (λ bytes. words ≡ bytes)
+      → PassesOn (file_line file words) old new → TellsOfFile file cause old new
+  starves : TellsFault faults.Memory old new → TellsOfFile file cause old new
+
+abbrev pub TellsHint : List ℕ → Option Hint → Output → Output → Type 0
+TellsHint file None old new = new ≡ old
+TellsHint file (Some hint) old new = TellsOfFile file (hint_text hint) old new
+
+-- These bytes were refused: the hint for them is told, if there is one; or that memory ran out.
+pub data TellsRefused (file bytes : List ℕ) (old new : Output) : Type 0 where
+  tells : (hint : Option Hint) → IsHintFor bytes hint → TellsHint file hint old new
+      → TellsRefused file bytes old new
+  starves : TellsFault faults.Memory old new → TellsRefused file bytes old new
+
+-- A fault is told, and what is told of a deployment that is refused; otherwise nothing.
+abbrev pub TellsEnding : List ℕ → List ℕ → Ending → Output → Output → Type 0
+TellsEnding file bytes endings.Fine old new = new ≡ old
+TellsEnding file bytes endings.Refused old new = TellsRefused file bytes old new
+TellsEnding file bytes (endings.Fault fault halted) old new = TellsFault fault old new
+TellsEnding file bytes (endings.Halted cause) old new = new ≡ old
+
+-- the same for a report
+abbrev pub TellsVerdict : List ℕ → List ℕ → Verdict → Output → Output → Type 0
+TellsVerdict file bytes verdicts.Accepted old new = new ≡ old
+TellsVerdict file bytes verdicts.Refused old new = TellsRefused file bytes old new
+TellsVerdict file bytes (verdicts.Fault fault) old new = TellsFault fault old new
+
+-- an output is asked to pass all on, whether it can or not
+pub record IsFlushed (old new : Output) : Type 0 where
+  pub result : Result (Unit {0}) WriteFailed
+  pub kept : Keeps old.held new.held
+  pub failed : Tells result old.has_failed new.has_failed
+  pub passed_on : OnOk result (IsTrue new.is_passed_on)
+
+-- the output is as the run left it, but after a fault it is asked once more to pass all on
+abbrev pub IsLeft : Result (Unit {0}) ServeFault → Output → Output → Type 0
+IsLeft (Ok _) old new = new ≡ old
+IsLeft (Err _) old new = IsFlushed old new
