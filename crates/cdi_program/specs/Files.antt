@@ -1,6 +1,5 @@
 -- What comes of a file.
 use Rattle.std.specs.Prelude.{◌≡◌, ℕ, ◌≤◌, List, length, take, Option, IfSome}
-use Rattle.std.specs.Borrow.{Bor}
 use Rattle.cdi_program.specs.declared.files.HostFiles.{HostFiles}
 
 -- these are the first bytes of what is still to come, up to a count
