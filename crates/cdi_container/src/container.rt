@@ -223,7 +223,7 @@ impl<D: Driver> Container<D> {
 
     /// Tells them, or halts if memory is wanting for them.
     fn tell_live(&mut self) -> Reply
-        requires admitted { machine_refusal
+        requires { machine_refusal
             (spec.tables_of self.old) (machine_state (spec.state_of self.old)) MachineCommand.Live
             ≡ None }
         ensures answers { AnswersCommand
@@ -240,7 +240,7 @@ impl<D: Driver> Container<D> {
 
     /// Answers a job that isn't refused.
     fn answer_job(&mut self, job: Job) -> Reply
-        requires admitted { machine_refusal
+        requires { machine_refusal
             (spec.tables_of self.old) (machine_state (spec.state_of self.old)) (command_of job)
             ≡ None }
         ensures answers { AnswersCommand
@@ -310,13 +310,12 @@ impl<D: Driver> Container<D> {
         ensures same { spec.SameParts
             (D.legal self.old.runtime.driver) (D.legal self.new.runtime.driver) self.old self.new }
     {
-        if let Some(refusal) = self.refusal_in_state(command) {
-            return self.refuse(refusal);
-        }
-        let names = self.names();
-        match job_for(self.runtime.alloc, names, command) {
-            Ok(job) => self.ask(job),
-            Err(_) => self.starve(),
+        match self.refusal_in_state(command) {
+            Some(refusal) => self.refuse(refusal),
+            None => match job_for(self.runtime.alloc, self.names(), command) {
+                Ok(job) => self.ask(job),
+                Err(_) => self.starve(),
+            },
         }
     }
 }

@@ -16,9 +16,9 @@ returns-in-Some-clause-answers g c =
 
 pub returns-in-None-clause-answers : goal.returns-in-None-clause-answers
 returns-in-None-clause-answers g c =
-    subst (λ s. AnswersCommand (tables_of s) (g.D.Driver.legal s.runtime.driver) (Unit {0}) (state_of s) (command_of c.args.job) c.perform.result (state_of c.perform.new.self)) c.refusal.ensures.kept
-    c.perform.ensures.answers
+    subst (λ s. AnswersCommand (tables_of s) (g.D.Driver.legal s.runtime.driver) (Unit {0}) (state_of s) (command_of c.args.job) c.answer_job.result (state_of c.answer_job.new.self)) c.refusal.ensures.kept
+    c.answer_job.ensures.answers
 
-pub perform-requires-clause-admitted : goal.perform-requires-clause-admitted
-perform-requires-clause-admitted g c =
+pub answer_job-requires : goal.answer_job-requires
+answer_job-requires g c =
     subst (λ s. refusal (tables_of s) (machine_state (state_of s)) (command_of c.args.job) ≡ None) (sym c.refusal.ensures.kept) (sym c.refusal.ensures.refusal ∙ c.in-None.is)

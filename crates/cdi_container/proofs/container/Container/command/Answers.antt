@@ -16,7 +16,7 @@ returns-in-Some-clause-answers g c =
     refuses c.in-Some.refusal (refused_in_state (tables_of s) (machine_state (state_of s)) command c.in-Some.refusal told) c.refuse.ensures.reply c.refuse.ensures.state
 
 pub returns-in-Ok-clause-answers : goal.returns-in-Ok-clause-answers
-returns-in-Ok-clause-answers g c = rw (c.in-Ok.ensures, c.names-names.ensures) at c.ask.ensures.answers
+returns-in-Ok-clause-answers g c = rw (c.in-Ok.ensures, c.names.ensures) at c.ask.ensures.answers
 
 pub returns-in-Err-clause-answers : goal.returns-in-Err-clause-answers
 returns-in-Err-clause-answers g c =
