@@ -3,7 +3,7 @@ ghost use Rattle.std.specs.Prelude.{◌≡◌, map, IfOk};
 ghost use Rattle.std.specs.Option.{option_copied};
 ghost use Rattle.cdi_base.specs.Name.{number_of};
 ghost use Rattle.cdi_container.specs.Commands as spec;
-ghost use Rattle.cdi_steps.specs.Words.{command_of};
+ghost use Rattle.cdi_steps.specs.Words.{command_of, use_command};
 ghost use Rattle.cdi_steps.specs.declared.task.BeanPurpose.TheVariants as purposes;
 
 use cdi_base::{Command, MemberValue, Names, Seq, Text, Use, Value, WrittenMember, WrittenUse};
@@ -128,15 +128,33 @@ fn copy_of(name: &Option<Text>) -> Result<Option<Text>, AllocError>
     }
 }
 
+/// The use of a bean, in a request or in none.
+fn use_job(
+    alloc: Global,
+    names: &Names,
+    request: &Option<Text>,
+    bean_type: &Text,
+    qualifiers: &[WrittenUse],
+    purpose: BeanPurpose,
+) -> Result<Job, AllocError>
+    ensures { IfOk result (λ job. command_of job ≡ use_command request.now
+        (spec.asked_in names.now bean_type.now qualifiers.now) purpose) }
+{
+    Ok(Job::Use {
+        request: copy_of(request)?,
+        used: bean_use(alloc, names, bean_type, qualifiers, purpose)?,
+    })
+}
+
 /// What a command asks the engine for, with the names of the deployment.
 pub(crate) fn job_for(alloc: Global, names: &Names, command: &Command) -> Result<Job, AllocError>
     ensures { IfOk result (λ job. command_of job ≡ spec.machine_command names.now command.now) }
 {
-    Ok(match command {
-        Command::Begin { request, session } => Job::Begin {
+    match command {
+        Command::Begin { request, session } => Ok(Job::Begin {
             request: request.clone()?,
             session: copy_of(session)?,
-        },
+        }),
         Command::Call {
             request,
             bean_type,
@@ -145,10 +163,14 @@ pub(crate) fn job_for(alloc: Global, names: &Names, command: &Command) -> Result
             args,
         } => {
             let call = call_of(names, method, args)?;
-            Job::Use {
-                request: copy_of(request)?,
-                used: bean_use(alloc, names, bean_type, qualifiers.as_slice(), call)?,
-            }
+            use_job(
+                alloc,
+                names,
+                request,
+                bean_type,
+                qualifiers.as_slice(),
+                call,
+            )
         }
         Command::Read {
             request,
@@ -156,27 +178,31 @@ pub(crate) fn job_for(alloc: Global, names: &Names, command: &Command) -> Result
             qualifiers,
         } => {
             let qualifiers = qualifiers.as_slice();
-            Job::Use {
-                request: copy_of(request)?,
-                used: bean_use(alloc, names, bean_type, qualifiers, BeanPurpose::Read)?,
-            }
+            use_job(
+                alloc,
+                names,
+                request,
+                bean_type,
+                qualifiers,
+                BeanPurpose::Read,
+            )
         }
         Command::Fire {
             request,
             class,
             qualifiers,
             value,
-        } => Job::Fire {
+        } => Ok(Job::Fire {
             request: copy_of(request)?,
             event: event(alloc, names, class, qualifiers.as_slice(), value)?,
-        },
-        Command::End { request } => Job::End {
+        }),
+        Command::End { request } => Ok(Job::End {
             request: request.clone()?,
-        },
-        Command::Invalidate { session } => Job::Invalidate {
+        }),
+        Command::Invalidate { session } => Ok(Job::Invalidate {
             session: session.clone()?,
-        },
-        Command::Live => Job::Live,
-        Command::Shutdown => Job::Shutdown,
-    })
+        }),
+        Command::Live => Ok(Job::Live),
+        Command::Shutdown => Ok(Job::Shutdown),
+    }
 }
