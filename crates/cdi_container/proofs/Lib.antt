@@ -13,3 +13,4 @@ pub mod Resting
 pub mod Sound
 pub mod Traces
 mod Answering
+pub mod Turning

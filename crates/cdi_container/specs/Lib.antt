@@ -11,3 +11,4 @@ pub mod OnItsWay
 pub mod Resting
 pub mod Sound
 pub mod Traces
+pub mod Turns

@@ -1,5 +1,5 @@
 //! The container: it carries out commands, one after the other.
-ghost use Rattle.std.specs.Prelude.{◌≡◌, None, length, map};
+ghost use Rattle.std.specs.Prelude.{◌≡◌, None, Some, IfOk, length, map};
 ghost use Rattle.std.specs.Option.{is_some};
 ghost use Rattle.cdi_base.specs.Maps.{at};
 ghost use Rattle.cdi_machine.specs.Commands.{task};
@@ -7,19 +7,25 @@ ghost use Rattle.cdi_machine.specs.Container.{refusal as machine_refusal};
 ghost use Rattle.cdi_machine.specs.World.{at_begin};
 ghost use Rattle.cdi_run_tables.specs.Machine.{machine_tables};
 ghost use Rattle.cdi_runtime.specs.Standing.{IsServable};
+ghost use Rattle.cdi_frames.specs.Stacks.{KeepsCount, KnownStack, KnownTurn, TurnsTo};
 ghost use Rattle.cdi_steps.specs.Driving.{Drives};
 ghost use Rattle.cdi_steps.specs.Words.{command_of, outcome_of};
 ghost use Rattle.cdi_steps.specs.Known.{KnownJob};
 ghost use Rattle.cdi_container.specs.Standing as spec;
 ghost use Rattle.cdi_container.specs.States.{AnswersCommand, CarriesOut, after_refusal, machine_state};
-ghost use Rattle.cdi_container.specs.States.{refusal_in_state, without_memory};
+ghost use Rattle.cdi_container.specs.States.{cause_of, refusal_in_state, without_memory};
+ghost use Rattle.cdi_container.specs.Replies.{reply_of};
+ghost use Rattle.cdi_container.specs.Turns.{BeginsCommand, IsLeftOf, KeepsOn, KnownLeft, WritesMost};
+ghost use Rattle.cdi_container.specs.Turns.{busy_refusal, left_in, stack_of, turned_of};
 ghost use Rattle.cdi_base.specs.declared.reply.Reply.TheVariants.{Halted, Refused};
 
 use crate::asked::{job_for, text_of};
+use crate::left::{Left, Progress};
 use crate::reply::{asks_for_live, cause, has_value, reply_of};
 use cdi_base::{Cause, Command, Entry, Limits, Names, Refusal, Reply, Seq};
-use cdi_frames::run::run;
-use cdi_machine::Driver;
+use cdi_frames::run::{run, turn};
+use cdi_frames::stack::{Stack, Turn};
+use cdi_machine::{Driver, Failure};
 use cdi_run_tables::RunTables;
 use cdi_runtime::Runtime;
 use cdi_steps::task::Task;
@@ -57,6 +63,37 @@ impl<D: Driver> Model for Container<D> {
     ghost coded = { Prim.hlevel (codes, run_tables.the_row.coded) };
 
     ghost view = { λ c. record { runtime = c.runtime; halted = c.halted; booted = c.booted } };
+}
+
+/// A job begins, with a trace of its own: what is to be done for it.
+fn begun<D: Driver>(runtime: &mut Runtime<D>, job: Job) -> Stack
+    requires { KnownJob runtime.old.world job }
+    ensures stack { result ≡ stack_of job }
+    ensures known { KnownStack (spec.tables_in runtime.new) runtime.new.world result }
+    ensures begins { runtime.new ≡ record runtime.old { world = at_begin runtime.old.world } }
+{
+    runtime.begin();
+    Stack::start(runtime.alloc, Task::Begin(job))
+}
+
+/// Goes on with a stack, until one entry more than so many is due or it is over.
+fn turn_of<D: Driver>(runtime: &mut Runtime<D>, stack: Stack, most: u64) -> Result<Turn, Failure>
+    requires { KnownStack (spec.tables_in runtime.old) runtime.old.world stack }
+    ensures turned { TurnsTo (spec.tables_in runtime.old) (D.legal runtime.old.driver) stack
+        runtime.old.world result runtime.new.world }
+    ensures counted { IfOk result (λ turn. KeepsCount most
+        runtime.old.world turn runtime.new.world) }
+    ensures known { IfOk result (KnownTurn (spec.tables_in runtime.new) runtime.new.world) }
+    ensures keeps { spec.KeepsParts
+        (D.legal runtime.old.driver) (D.legal runtime.new.driver) runtime.old runtime.new }
+{
+    turn(
+        &runtime.tables,
+        &mut runtime.driver,
+        &mut runtime.world,
+        stack,
+        most,
+    )
 }
 
 /// Carries a job out, with a trace of its own. It is cut if memory runs out, and a driver that ends cuts it in the same way.
@@ -267,6 +304,121 @@ impl<D: Driver> Container<D> {
             Some(refusal) => self.refuse(refusal),
             None => self.answer_job(job),
         }
+    }
+
+    /// Begins a job that isn't refused: what is left of it then.
+    fn begin_admitted(&mut self, job: Job) -> Left
+        requires { machine_refusal
+            (spec.tables_of self.old) (machine_state (spec.state_of self.old)) (command_of job)
+            ≡ None }
+        ensures left { IsLeftOf (spec.tables_of self.old) (D.legal self.old.runtime.driver)
+            (spec.state_of self.old) (command_of job) result (spec.state_of self.new) }
+        ensures known { KnownLeft (spec.tables_of self.new) (spec.state_of self.new) (Some result) }
+        ensures same { spec.SameParts
+            (D.legal self.old.runtime.driver) (D.legal self.new.runtime.driver) self.old self.new }
+    {
+        if asks_for_live(&job) {
+            self.forget();
+            return Left::Tells;
+        }
+        let is_valued = has_value(&job);
+        let stack = begun(&mut self.runtime, job);
+        Left::Runs(stack, is_valued)
+    }
+
+    /// Begins a job, or refuses it.
+    fn begin_job(&mut self, job: Job) -> Result<Left, Refusal>
+        ensures begins { BeginsCommand (spec.tables_of self.old) (D.legal self.old.runtime.driver)
+            (spec.state_of self.old) (command_of job) result (spec.state_of self.new) }
+        ensures known { IfOk result (λ left.
+            KnownLeft (spec.tables_of self.new) (spec.state_of self.new) (Some left)) }
+        ensures same { spec.SameParts
+            (D.legal self.old.runtime.driver) (D.legal self.new.runtime.driver) self.old self.new }
+    {
+        match self.refusal(&job) {
+            Some(refusal) => {
+                self.forget();
+                Err(refusal)
+            }
+            None => Ok(self.begin_admitted(job)),
+        }
+    }
+
+    /// Begins a command, or refuses it: what is left of it then.
+    pub(crate) fn begin_command(&mut self, command: &Command) -> Result<Left, Refusal>
+        ensures begins { BeginsCommand (spec.tables_of self.old) (D.legal self.old.runtime.driver)
+            (spec.state_of self.old) (machine_command (spec.names_of self.old) command.now)
+            result (spec.state_of self.new) }
+        ensures known { IfOk result (λ left.
+            KnownLeft (spec.tables_of self.new) (spec.state_of self.new) (Some left)) }
+        ensures same { spec.SameParts
+            (D.legal self.old.runtime.driver) (D.legal self.new.runtime.driver) self.old self.new }
+    {
+        match self.refusal_in_state(command) {
+            Some(refusal) => {
+                self.forget();
+                Err(refusal)
+            }
+            None => match job_for(self.runtime.alloc, self.names(), command) {
+                Ok(job) => self.begin_job(job),
+                Err(_) => {
+                    self.forget();
+                    Ok(Left::Starves)
+                }
+            },
+        }
+    }
+
+    /// Ends a command that was carried out, and answers it.
+    fn close(&mut self, is_valued: bool, outcome: Outcome) -> Reply
+        ensures reply { result ≡ reply_of is_valued outcome }
+        ensures state { spec.state_of self.new
+            ≡ record (spec.state_of self.old) { halted = cause_of (outcome_of outcome) } }
+        ensures same { spec.SameParts
+            (D.legal self.old.runtime.driver) (D.legal self.new.runtime.driver) self.old self.new }
+    {
+        let halted = cause(&outcome);
+        self.halted = halted;
+        reply_of(is_valued, outcome)
+    }
+
+    /// Goes on with what is left of a command, until one entry more than so many is due or it is over.
+    pub(crate) fn go_on(&mut self, left: Left, most: u64) -> Progress
+        requires { KnownLeft (spec.tables_of self.old) (spec.state_of self.old) (Some left) }
+        ensures goes { KeepsOn (spec.tables_of self.old) (D.legal self.old.runtime.driver)
+            left (spec.state_of self.old) result (spec.state_of self.new) }
+        ensures counted { WritesMost most (spec.state_of self.old) (turned_of result)
+            (spec.state_of self.new) }
+        ensures known { KnownLeft (spec.tables_of self.new) (spec.state_of self.new)
+            (left_in result) }
+        ensures same { spec.SameParts
+            (D.legal self.old.runtime.driver) (D.legal self.new.runtime.driver) self.old self.new }
+    {
+        match left {
+            Left::Starves => Progress::Finished(self.starve()),
+            Left::Tells => Progress::Finished(self.tell_live()),
+            Left::Runs(stack, is_valued) => match turn_of(&mut self.runtime, stack, most) {
+                Ok(Turn::Running(stack)) => Progress::Running(Left::Runs(stack, is_valued)),
+                Ok(Turn::Finished(outcome)) => Progress::Finished(self.close(is_valued, outcome)),
+                Err(_) => {
+                    let cut = Outcome::Cut(Cause::Memory);
+                    Progress::Finished(self.close(is_valued, cut))
+                }
+            },
+        }
+    }
+
+    /// Why a command is refused while another is under way.
+    pub(crate) fn busy_refusal(&self) -> Refusal
+        ensures { result ≡ busy_refusal (spec.state_of self.now) }
+    {
+        if self.halted.is_some() {
+            return Refusal::Halted;
+        }
+        if self.runtime.world().is_down() {
+            return Refusal::Down;
+        }
+        Refusal::Busy
     }
 
     /// Why a command is refused whatever the deployment is, if it is: the container has halted or is down, or a request or

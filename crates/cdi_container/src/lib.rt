@@ -5,9 +5,12 @@ mod acceptance;
 mod asked;
 mod container;
 pub mod laws;
+pub mod left;
 mod reply;
 mod session;
+mod turns;
 
 pub use acceptance::{Unaccepted, accept};
 pub use container::Container;
 pub use session::Session;
+pub use turns::{Turned, Turns};

@@ -5,9 +5,9 @@ ghost use Rattle.cdi_run_tables.specs.Machine.{machine_tables};
 ghost use Rattle.cdi_runtime.specs.Standing.{IsServable};
 ghost use Rattle.cdi_steps.specs.Driving.{Drives};
 
-use cdi_base::{Act, Fields, Limits, OrMemory, Value};
+use cdi_base::{Act, Cause, Command, Fields, Limits, OrMemory, Refusal, Reply, Value};
 use cdi_bodies::{Bodies, Body, Choice, Chooser, Shape, View};
-use cdi_container::{Container, Unaccepted, accept};
+use cdi_container::{Container, Turned, Turns, Unaccepted, accept};
 use cdi_deploy::read;
 use cdi_machine::{Driver, Registered};
 use cdi_run_tables::RunTables;
@@ -56,18 +56,22 @@ const ASKED: &[Asked] = &[
     },
 ];
 
-/// What is told of a container behind a line.
-fn told_behind<D: Driver>(
+/// The command that a line is.
+fn command_of(alloc: Global, line: &[u8]) -> Result<Command, AllocError> {
+    match read_command(alloc, line) {
+        Ok(command) => Ok(command),
+        Err(_) => Err(AllocError),
+    }
+}
+
+/// What is told of a container behind a command: the reply, how many entries are shown of it, and what lives.
+fn told_of<D: Driver>(
     alloc: Global,
-    container: &mut Container<D>,
-    line: &[u8],
+    container: &Container<D>,
+    reply: &Reply,
+    entries: usize,
 ) -> Result<Vec<u8>, AllocError> {
-    let Ok(command) = read_command(alloc, line) else {
-        return Err(AllocError);
-    };
-    let reply = container.command(&command);
-    let mut told = write_reply(alloc, container.names(), &reply)?;
-    let entries = container.trace().len();
+    let mut told = write_reply(alloc, container.names(), reply)?;
     let live = container.live_count();
     let first = container.live(1);
     let second = container.live(2);
@@ -77,12 +81,90 @@ fn told_behind<D: Driver>(
     Ok(told)
 }
 
-/// The first line behind which a started container tells something else, with what it tells.
+/// The first line behind which a container tells something else, with what it tells.
+fn first_other_at_once<D: Driver>(
+    alloc: Global,
+    container: &mut Container<D>,
+) -> Result<Option<Vec<u8>>, AllocError> {
+    for asked in ASKED {
+        let reply = container.command(&command_of(alloc, asked.line)?);
+        let told = told_of(alloc, container, &reply, container.trace().len())?;
+        if told.as_slice() != asked.told {
+            return Ok(Some(told));
+        }
+    }
+    Ok(None)
+}
+
+/// The most turns of a command.
+const MAX_TURNS: u32 = 1_001;
+
+/// The reply to a command that is carried out by turns of so many entries.
+fn reply_by_turns<D: Driver>(turns: &mut Turns<D>, command: &Command, most: u64) -> Reply {
+    if let Some(refusal) = turns.start(command) {
+        return Reply::Refused(refusal);
+    }
+    for _turn in 0..MAX_TURNS {
+        if let Turned::Finished(reply) = turns.turn(most) {
+            return reply;
+        }
+    }
+    Reply::Halted(Cause::Ticks)
+}
+
+/// The same by turns of so many entries.
+fn first_other_by_turns<D: Driver>(
+    alloc: Global,
+    turns: &mut Turns<D>,
+    most: u64,
+) -> Result<Option<Vec<u8>>, AllocError> {
+    for asked in ASKED {
+        let reply = reply_by_turns(turns, &command_of(alloc, asked.line)?, most);
+        let told = told_of(alloc, turns.container(), &reply, turns.trace().len())?;
+        if told.as_slice() != asked.told {
+            return Ok(Some(told));
+        }
+    }
+    Ok(None)
+}
+
+/// What is told while a call of the pair is under way, by turns of 0, 2 and 3 entries, between which another command comes,
+/// and one to the end: what each turn is answered, and how many entries are shown then.
+fn told_under_way<D: Driver>(
+    alloc: Global,
+    turns: &mut Turns<D>,
+) -> Result<Option<Vec<u8>>, AllocError> {
+    let call = command_of(alloc, br#"["call",null,"K",[],"m",[]]"#)?;
+    let idle = matches!(turns.turn(1), Turned::Idle);
+    let starts = turns.start(&call).is_none();
+    let waits = matches!(turns.turn(0), Turned::Running) && turns.trace().is_empty();
+    let runs = matches!(turns.turn(2), Turned::Running) && turns.trace().len() == 2;
+    let busy = turns.start(&Command::Shutdown) == Some(Refusal::Busy) && turns.trace().is_empty();
+    let goes_on = matches!(turns.turn(3), Turned::Running) && turns.trace().len() == 3;
+    let ends = matches!(turns.turn(100), Turned::Finished(Reply::Value(Value::Null)));
+    let shown = turns.trace().len() == 4;
+    if idle && starts && waits && runs && busy && goes_on && ends && shown {
+        return Ok(None);
+    }
+    let told = format!(in alloc; "{idle} {starts} {waits} {runs} {busy} {goes_on} {ends} {shown}")?;
+    Ok(Some(told.into_bytes()))
+}
+
+/// How the commands are carried out.
+#[derive(Clone, Copy)]
+enum Way {
+    AtOnce,
+    ByTurns(u64),
+    UnderWay,
+}
+
+/// The first line behind which a container that is started tells something else, with what it tells.
 fn first_other<D: Driver + Drop>(
     alloc: Global,
     accepted: Result<RunTables, OrMemory<Unaccepted>>,
     driver: D,
     limits: Limits,
+    way: Way,
 ) -> Result<Option<Vec<u8>>, AllocError>
     requires drives { IfOk accepted (λ tables.
         Drives (machine_tables tables) (D.knows driver)) }
@@ -92,18 +174,20 @@ fn first_other<D: Driver + Drop>(
         return Err(AllocError);
     };
     let mut container = Container::start(alloc, tables, driver, limits);
-    for asked in ASKED {
-        let told = told_behind(alloc, &mut container, asked.line)?;
-        if told.as_slice() != asked.told {
-            return Ok(Some(told));
-        }
+    match way {
+        Way::AtOnce => first_other_at_once(alloc, &mut container),
+        Way::ByTurns(most) => first_other_by_turns(alloc, &mut Turns::new(container), most),
+        Way::UnderWay => told_under_way(alloc, &mut Turns::new(container)),
     }
-    Ok(None)
 }
 
 /// The same of the pair.
 #[tactic(auto, using(crate::proofs::Driven::drives_with))]
-fn first_other_of_pair(alloc: Global, limits: Limits) -> Result<Option<Vec<u8>>, AllocError> {
+fn first_other_of_pair(
+    alloc: Global,
+    limits: Limits,
+    way: Way,
+) -> Result<Option<Vec<u8>>, AllocError> {
     let Ok(deployment) = read(alloc, PAIR) else {
         return Err(AllocError);
     };
@@ -127,15 +211,38 @@ fn first_other_of_pair(alloc: Global, limits: Limits) -> Result<Option<Vec<u8>>,
         { 0 },
     )?;
     let chooser = Chooser::new(choice);
-    first_other(alloc, accepted, Registered { bodies, chooser }, limits)
+    first_other(alloc, accepted, Registered { bodies, chooser }, limits, way)
+}
+
+/// Fails if another answer comes.
+fn check(rt: &HostRuntime, way: Way) {
+    let limits = Limits::new(32, 1_000).expect(rt, "limits within their ranges");
+    let other = first_other_of_pair(rt.alloc(), limits, way);
+    let other = other.expect(rt, "memory, and an accepted deployment");
+    assert!(rt; other.is_none(), "{other:?}");
 }
 
 #[test]
 fn what_lives_is_told_behind_each_command(rt: HostRuntime) {
-    let limits = Limits::new(32, 1_000).expect(&rt, "limits within their ranges");
-    let other = first_other_of_pair(rt.alloc(), limits).expect(
-        &rt,
-        "memory, and an accepted deployment",
-    );
-    assert!(rt; other.is_none(), "{other:?}");
+    check(&rt, Way::AtOnce);
+}
+
+#[test]
+fn turns_of_one_entry_give_the_same(rt: HostRuntime) {
+    check(&rt, Way::ByTurns(1));
+}
+
+#[test]
+fn turns_of_three_entries_give_the_same(rt: HostRuntime) {
+    check(&rt, Way::ByTurns(3));
+}
+
+#[test]
+fn one_turn_gives_the_same(rt: HostRuntime) {
+    check(&rt, Way::ByTurns(1_000));
+}
+
+#[test]
+fn another_command_is_refused_while_one_is_under_way(rt: HostRuntime) {
+    check(&rt, Way::UnderWay);
 }
