@@ -215,34 +215,34 @@ fn first_other_of_pair(
 }
 
 /// Fails if another answer comes.
-fn check(rt: &HostRuntime, way: Way) {
+fn check(rt: &impl Abort, alloc: Global, way: Way) {
     let limits = Limits::new(32, 1_000).expect(rt, "limits within their ranges");
-    let other = first_other_of_pair(rt.alloc(), limits, way);
+    let other = first_other_of_pair(alloc, limits, way);
     let other = other.expect(rt, "memory, and an accepted deployment");
     assert!(rt; other.is_none(), "{other:?}");
 }
 
 #[test]
 fn what_lives_is_told_behind_each_command(rt: HostRuntime) {
-    check(&rt, Way::AtOnce);
+    check(&rt, rt.alloc(), Way::AtOnce);
 }
 
 #[test]
 fn turns_of_one_entry_give_the_same(rt: HostRuntime) {
-    check(&rt, Way::ByTurns(1));
+    check(&rt, rt.alloc(), Way::ByTurns(1));
 }
 
 #[test]
 fn turns_of_three_entries_give_the_same(rt: HostRuntime) {
-    check(&rt, Way::ByTurns(3));
+    check(&rt, rt.alloc(), Way::ByTurns(3));
 }
 
 #[test]
 fn one_turn_gives_the_same(rt: HostRuntime) {
-    check(&rt, Way::ByTurns(1_000));
+    check(&rt, rt.alloc(), Way::ByTurns(1_000));
 }
 
 #[test]
 fn another_command_is_refused_while_one_is_under_way(rt: HostRuntime) {
-    check(&rt, Way::UnderWay);
+    check(&rt, rt.alloc(), Way::UnderWay);
 }
