@@ -42,6 +42,10 @@ worked_settings = record {
   order_first = refl;
   trace = refl;
   trace_before = refl;
+  slice = refl;
+  slice_before = refl;
+  least_slice = refl;
+  most_slice = refl;
   all = refl;
 }
 
@@ -53,6 +57,8 @@ worked_wrong = record {
   many_ticks = refl;
   no_depth = refl;
   great_depth = refl;
+  no_slice = refl;
+  great_slice = refl;
   no_number = refl;
   no_whole_number = refl;
   no_digits = refl;
@@ -65,6 +71,7 @@ worked_wrong = record {
   ticks_twice = refl;
   depth_twice = refl;
   order_twice = refl;
+  slice_twice = refl;
   trace_twice = refl;
 }
 
@@ -76,6 +83,7 @@ worked_none_to_check = record {
   depth = refl;
   order = refl;
   trace = refl;
+  slice = refl;
 }
 
 pub worked_words : WorkedWords

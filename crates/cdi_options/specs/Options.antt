@@ -1,5 +1,5 @@
 -- What the words of the command line ask for.
-use Rattle.std.specs.Prelude.{◌≡◌, ◌&&◌, ◌||◌, ℕ, Bool, true, false, List, [], ◌∷◌, Option, Some, None, option_map, unwrap_or, codes, if◌then◌else◌}
+use Rattle.std.specs.Prelude.{◌≡◌, ◌≤◌, ◌&&◌, ◌||◌, ℕ, Bool, true, false, List, [], ◌∷◌, Option, Some, None, option_map, unwrap_or, codes, if◌then◌else◌}
 use Rattle.std.specs.Option.{option_map_or}
 use Rattle.std.specs.Str.{bytes_eq}
 use Rattle.std.specs.Str.Parse.{digits_value, without_leading_plus}
@@ -45,9 +45,9 @@ check_form = mode_form (codes "check")
 -- what is set for a run can be told by options
 abbrev pub run_form : App
 run_form =
-    with_rule (with_rule (with_rule (with_rule (mode_form (codes "run"))
+    with_rule (with_rule (with_rule (with_rule (with_rule (mode_form (codes "run"))
     (number_rule (codes "ticks") 100000)) (number_rule (codes "depth") 1024))
-    (option_rule (codes "order"))) (flag_rule (codes "trace"))
+    (option_rule (codes "order"))) (flag_rule (codes "trace"))) (number_rule (codes "slice") 100000)
 
 -- a command is of this form, with no argument that other modes have too
 pub record IsMode (of : App) (c : Command) : Type 0 where
@@ -131,7 +131,11 @@ order_under rows = order_of (first_of (codes "order") rows)
 abbrev pub trace_under : List Row → Bool
 trace_under rows = is_set (first_of (codes "trace") rows)
 
--- what the words set: 32 levels, 100,000 entries, the first candidate and no trace, if they say nothing of it
+abbrev pub slice_under : List Row → ℕ
+slice_under rows = number_of 100000 (first_of (codes "slice") rows)
+
+-- what the words set: 32 levels, 100,000 entries, the first candidate, no trace and turns of 100,000 entries, if they say nothing
+-- of it
 abbrev pub depth_in : List Text → ℕ
 depth_in words = depth_under (rows_in words)
 
@@ -144,6 +148,9 @@ order_in words = order_under (rows_in words)
 abbrev pub trace_in : List Text → Bool
 trace_in words = trace_under (rows_in words)
 
+abbrev pub slice_in : List Text → ℕ
+slice_in words = slice_under (rows_in words)
+
 -- ---- what is wrong with them
 
 -- each option that is there has a value that it can have (a number that is none, or out of its range, is a fault of the
@@ -152,7 +159,8 @@ abbrev pub are_values : List Row → Bool
 are_values rows =
     is_number_to 1024 (first_of (codes "depth") rows)
     && (is_number_to 100000 (first_of (codes "ticks") rows)
-    && is_order (first_of (codes "order") rows))
+    && (is_order (first_of (codes "order") rows)
+    && is_number_to 100000 (first_of (codes "slice") rows)))
 
 abbrev pub value_faults : List Row → Kinds
 value_faults rows = if are_values rows then [] else kinds.InvalidValue ∷ []
@@ -162,16 +170,20 @@ value_faults rows = if are_values rows then [] else kinds.InvalidValue ∷ []
 abbrev pub faults_in : List Text → Kinds
 faults_in words = or_else (fault_of form words) (value_faults (rows_in words))
 
--- these settings are what the rows of a mode say
-pub record Sets (rows : List Row) (settings : Settings) : Type 0 where
+-- these settings, and this slice, are what the rows of a mode say
+pub record Sets (rows : List Row) (settings : Settings) (slice : ℕ) : Type 0 where
   pub are_fit : are_values rows ≡ true
   pub depth : settings.limits.depth ≡ depth_under rows
   pub ticks : settings.limits.ticks ≡ ticks_under rows
   pub order : settings.order ≡ order_under rows
   pub shows_trace : settings.shows_trace ≡ trace_under rows
+  pub slice_is : slice ≡ slice_under rows
+  pub some_slice : 1 ≤ slice
+  pub within_slice : slice ≤ 100000
 
--- the words are of the form, and name this mode, this file and these settings
-pub record AsksFor (words : List Text) (mode : Mode) (file : Text) (settings : Settings) : Type 0 where
+-- the words are of the form, and name this mode, this file, these settings and this slice
+pub record AsksFor (words : List Text) (mode : Mode) (file : Text) (settings : Settings)
+    (slice : ℕ) : Type 0 where
   pub is_fit : faults_in words ≡ []
   pub names_mode : mode ≡ mode_in words
   pub names : file ≡ file_in words
@@ -179,3 +191,6 @@ pub record AsksFor (words : List Text) (mode : Mode) (file : Text) (settings : S
   pub ticks : settings.limits.ticks ≡ ticks_in words
   pub order : settings.order ≡ order_in words
   pub shows_trace : settings.shows_trace ≡ trace_in words
+  pub slice_is : slice ≡ slice_in words
+  pub some_slice : 1 ≤ slice
+  pub within_slice : slice ≤ 100000

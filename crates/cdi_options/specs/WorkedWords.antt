@@ -5,7 +5,7 @@ use Rattle.clap.specs.declared.error.kind.ErrorKind.{ErrorKind}
 use Rattle.clap.specs.declared.error.kind.ErrorKind.TheVariants as kinds
 use Rattle.cdi_settings.specs.declared.settings.Order.{Order}
 use Rattle.cdi_settings.specs.declared.settings.Order.TheVariants as orders
-use Rattle.cdi_options.specs.Options.{depth_in, faults_in, file_in, mode_in, order_in, ticks_in, trace_in}
+use Rattle.cdi_options.specs.Options.{depth_in, faults_in, file_in, mode_in, order_in, slice_in, ticks_in, trace_in}
 use Rattle.cdi_options.specs.declared.options.Mode.{Mode}
 use Rattle.cdi_options.specs.declared.options.Mode.TheVariants as modes
 
@@ -18,6 +18,7 @@ pub record Asked : Type 0 where
   pub ticks : ℕ
   pub order : Order
   pub shows_trace : Bool
+  pub slice : ℕ
 
 -- of the words behind the program's name
 abbrev pub asked_by : List Text → Asked
@@ -31,6 +32,7 @@ asked_by words =
       ticks = ticks_in all;
       order = order_in all;
       shows_trace = trace_in all;
+      slice = slice_in all;
     }
 
 -- the words are fit, and ask for this mode of the file `a.json`, with nothing set
@@ -43,6 +45,7 @@ Ask words mode = asked_by words ≡ record {
   ticks = 100000;
   order = orders.First;
   shows_trace = false;
+  slice = 100000;
 }
 
 -- the words are fit, and ask for a run of the file `a.json` with this set
@@ -55,6 +58,20 @@ SetSo words depth ticks order trace = asked_by words ≡ record {
   ticks = ticks;
   order = order;
   shows_trace = trace;
+  slice = 100000;
+}
+
+-- the words are fit, and ask for a run of the file `a.json` by turns of so many entries
+abbrev pub TurnSo : List Text → ℕ → Type 0
+TurnSo words slice = asked_by words ≡ record {
+  faults = [];
+  mode = modes.Run;
+  file = codes "a.json";
+  depth = 32;
+  ticks = 100000;
+  order = orders.First;
+  shows_trace = false;
+  slice = slice;
 }
 
 -- the words of a run
@@ -117,6 +134,10 @@ pub record WorkedSettings : Type 0 where
   pub order_first : SetSo (before (codes "--order") (codes "first")) 32 100000 orders.First false
   pub trace : SetSo (behind (codes "--trace" ∷ [])) 32 100000 orders.First true
   pub trace_before : SetSo (run (codes "--trace" ∷ codes "a.json" ∷ [])) 32 100000 orders.First true
+  pub slice : TurnSo (behind (codes "--slice" ∷ codes "3" ∷ [])) 3
+  pub slice_before : TurnSo (before (codes "--slice") (codes "1000")) 1000
+  pub least_slice : TurnSo (before (codes "--slice") (codes "1")) 1
+  pub most_slice : TurnSo (before (codes "--slice") (codes "100000")) 100000
   pub all :
       SetSo (run (codes "--trace" ∷ codes "--order=last" ∷ codes "a.json" ∷ codes "--depth"
       ∷ codes "2" ∷ codes "--ticks=3" ∷ [])) 2 3 orders.Last true
@@ -127,6 +148,8 @@ pub record WrongSettings : Type 0 where
   pub many_ticks : FailBy (before (codes "--ticks") (codes "100001")) kinds.ValueValidation
   pub no_depth : FailBy (before (codes "--depth") (codes "0")) kinds.ValueValidation
   pub great_depth : FailBy (before (codes "--depth") (codes "1025")) kinds.ValueValidation
+  pub no_slice : FailBy (before (codes "--slice") (codes "0")) kinds.ValueValidation
+  pub great_slice : FailBy (before (codes "--slice") (codes "100001")) kinds.ValueValidation
   pub no_number : FailBy (before (codes "--ticks") (codes "many")) kinds.ValueValidation
   pub no_whole_number : FailBy (before (codes "--depth") (codes "1.5")) kinds.ValueValidation
   pub no_digits : FailBy (behind (codes "--ticks=" ∷ [])) kinds.ValueValidation
@@ -143,6 +166,8 @@ pub record WrongSettings : Type 0 where
       FailBy (twice (codes "--depth=5") (codes "--depth=5")) kinds.ArgumentConflict
   pub order_twice :
       FailBy (twice (codes "--order=last") (codes "--order=last")) kinds.ArgumentConflict
+  pub slice_twice :
+      FailBy (twice (codes "--slice=5") (codes "--slice=5")) kinds.ArgumentConflict
   pub trace_twice : FailBy (twice (codes "--trace") (codes "--trace")) kinds.ArgumentConflict
 
 -- a check has none of the options of a run
@@ -151,6 +176,7 @@ pub record NoneToCheck : Type 0 where
   pub depth : CheckRefuses (codes "--depth=5")
   pub order : CheckRefuses (codes "--order=last")
   pub trace : CheckRefuses (codes "--trace")
+  pub slice : CheckRefuses (codes "--slice=5")
 
 pub record WorkedWords : Type 0 where
   pub modes : WorkedModes

@@ -21,6 +21,9 @@ pub enum Mode {
     Run,
 }
 
+/// The most entries that a turn of a command may be set to have.
+pub const MAX_SLICE: u32 = 100_000;
+
 /// What the words of the command line ask for.
 #[derive(Drop)]
 pub struct Options<'a> {
@@ -30,6 +33,15 @@ pub struct Options<'a> {
     pub file: &'a str,
     /// What is set for a run.
     pub settings: Settings,
+    /// By turns of how many entries each command is carried out, from 1 to [`MAX_SLICE`]. No line of the output depends on it.
+    pub slice: u32,
+}
+
+/// What the words of a run set.
+#[derive(Clone, Copy)]
+struct RunOptions {
+    settings: Settings,
+    slice: u32,
 }
 
 /// The version that `--version` tells.
@@ -128,12 +140,19 @@ fn run_command<'a>(alloc: Global) -> Result<Command<'a>, AllocError>
         .long("trace")
         .help("Writes the entries of each command before its reply")
         .action(ArgAction::SetTrue);
+    let slice = number_option(
+        alloc,
+        "slice",
+        MAX_SLICE,
+        "The most entries of a turn, by which each command is carried out, from 1 to 100000 [default: 100000]",
+    );
     let about = "Runs a deployment on the command lines of the standard input";
     mode_command(alloc, "run", about)?
         .arg(ticks)?
         .arg(depth)?
         .arg(order)?
-        .arg(trace)
+        .arg(trace)?
+        .arg(slice)
 }
 
 /// The words that the program takes.
@@ -210,21 +229,23 @@ fn is_set(text: Option<&str>) -> bool
     }
 }
 
-/// What the words set for a run; none where an option has a value that it can't have.
-fn settings_in(matches: &ArgMatches<'_>) -> Option<Settings>
+/// What the words set for a run; none if an option has a value that it can't have.
+fn run_options_in(matches: &ArgMatches<'_>) -> Option<RunOptions>
     ensures { MatchOption result
         (spec.are_values (spec.rows_under (subcommand_rows_of matches.now)) ≡ false)
-        (spec.Sets (spec.rows_under (subcommand_rows_of matches.now))) }
+        (λ run. spec.Sets (spec.rows_under (subcommand_rows_of matches.now)) run.settings run.slice) }
 {
     let usual = Settings::default();
     let depth = number_in(text_in(matches, "depth"), usual.limits.depth, MAX_DEPTH)?;
     let ticks = number_in(text_in(matches, "ticks"), usual.limits.ticks, MAX_TICKS)?;
     let order = order_in(text_in(matches, "order"))?;
-    Some(Settings {
+    let slice = number_in(text_in(matches, "slice"), MAX_SLICE, MAX_SLICE)?;
+    let settings = Settings {
         limits: Limits { depth, ticks },
         order,
         shows_trace: is_set(text_in(matches, "trace")),
-    })
+    };
+    Some(RunOptions { settings, slice })
 }
 
 impl<'a> Options<'a> {
@@ -232,16 +253,17 @@ impl<'a> Options<'a> {
     /// version, a mistake in the words, or want of memory, and has the text for the user.
     pub fn parse<S: AsStr>(alloc: Global, words: &'a [S]) -> Result<Options<'a>, Error>
         ensures ok { IfOk result (λ o. spec.AsksFor (map S.text words.entry.now)
-            o.mode o.file.now o.settings) }
+            o.mode o.file.now o.settings o.slice) }
         ensures err { IfErr result (HasKind (spec.faults_in (map S.text words.entry.now))) }
     {
         let mut command = command(alloc)?;
         let matches = command.try_get_matches_from_mut(words)?;
-        match settings_in(&matches) {
-            Some(settings) => Ok(Options {
+        match run_options_in(&matches) {
+            Some(RunOptions { settings, slice }) => Ok(Options {
                 mode: mode_in(&matches),
                 file: text_in(&matches, "FILE").unwrap_or(""),
                 settings,
+                slice,
             }),
             // A number that is none or out of its range is an error of the parse, so it is the order.
             None => Err(command.error(ErrorKind::InvalidValue, NO_ORDER)?),

@@ -1,8 +1,12 @@
-use Rattle.std.proofs.Common.{rules, ap₂, ◌≡◌, ◌∙◌, codes}
+use Rattle.std.proofs.Common.{rules, ap₂, ◌≡◌, ◌∙◌, ◌||◌, Bool, codes, false}
 use Rattle.std.proofs.lemmas.Result.{IfOk-weaker}
 use Rattle.clap.specs.Words.{app_of, rule_of, with_rule}
 use Rattle.cdi_options.specs.Options as spec
 use Rattle.cdi_options.proofs.options.run_command.Goals as goal
+
+-- nothing is global if neither what was there is nor what is added
+neither : (before added all : Bool) → all ≡ (before || added) → before ≡ false → added ≡ false → all ≡ false
+neither before added all e f g = rw (f, g) at e
 
 pub returns : goal.returns
 returns c =
@@ -14,7 +18,14 @@ returns c =
     let with_ticks = c.in_ok-arg.ensures.shape c.number_option-ticks.ensures.own ∙ ap₂ with_rule mode_is ticks_is in
     let with_depth = c.in_ok-arg-2.ensures.shape c.number_option-depth.ensures.own ∙ ap₂ with_rule with_ticks depth_is in
     let with_order = c.in_ok-arg-3.ensures.shape c.value_option-order.ensures.own ∙ ap₂ with_rule with_depth order_is in
-    IfOk-weaker c.arg-4.result _ _ (λ app added. record {
-      form = added.shape (search rules) ∙ ap₂ with_rule with_order trace_is;
-      none_global = search rules;
-    }) c.arg-4.ensures
+    let trace_own : c.action-trace.result.global ≡ false = search rules in
+    let with_trace = c.in_ok-arg-4.ensures.shape trace_own ∙ ap₂ with_rule with_order trace_is in
+    let slice_is : rule_of c.number_option-slice.result ≡ spec.number_rule (codes "slice") 100000 = c.number_option-slice.ensures.rule in
+    let none_of_one = neither _ _ _ c.in_ok-arg.ensures.globals c.in_ok-mode_command.ensures.none_global c.number_option-ticks.ensures.own in
+    let none_of_two = neither _ _ _ c.in_ok-arg-2.ensures.globals none_of_one c.number_option-depth.ensures.own in
+    let none_of_three = neither _ _ _ c.in_ok-arg-3.ensures.globals none_of_two c.value_option-order.ensures.own in
+    let none_of_four = neither _ _ _ c.in_ok-arg-4.ensures.globals none_of_three trace_own in
+    IfOk-weaker c.arg-5.result _ _ (λ app added. record {
+      form = added.shape c.number_option-slice.ensures.own ∙ ap₂ with_rule with_trace slice_is;
+      none_global = neither _ _ _ added.globals none_of_four c.number_option-slice.ensures.own;
+    }) c.arg-5.ensures

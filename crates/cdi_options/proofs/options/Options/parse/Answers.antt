@@ -25,8 +25,8 @@ returns-in-Some-clause-ok g c =
     (c.in_ok-matches.ensures.ok.2 (ap is_simple is)).1 ∙ ap (λ (a : App). subcommand_of a words) is in
     let named : subcommand_name_of c.in_ok-matches.matches ≡ option_map (λ found. found.0) (subcommand_of spec.form words) =
     name_of_met (out-ArgMatches c.in_ok-matches.matches).subcommand ∙ ap (option_map (λ (found : Text × List Row). found.0)) found in
-    let sets : spec.Sets (spec.rows_in words) c.in-Some.settings =
-    subst (λ (o : Option (Text × List Row)). spec.Sets (spec.rows_under o) c.in-Some.settings) found c.in-Some.ensures in
+    let sets : spec.Sets (spec.rows_in words) c.in-Some.field-0.settings c.in-Some.field-0.slice =
+    subst (λ (o : Option (Text × List Row)). spec.Sets (spec.rows_under o) c.in-Some.field-0.settings c.in-Some.field-0.slice) found c.in-Some.ensures in
     record {
       is_fit = fit (fault_of spec.form words) (spec.rows_in words) (sym (ap (λ (a : App). fault_of a words) is) ∙ c.in_ok-matches.ensures.kinds (ap is_simple_and_free is)) sets.are_fit;
       names_mode = c.mode_in.ensures ∙ ap spec.mode_of named;
@@ -36,4 +36,7 @@ returns-in-Some-clause-ok g c =
       ticks = sets.ticks;
       order = sets.order;
       shows_trace = sets.shows_trace;
+      slice_is = sets.slice_is;
+      some_slice = sets.some_slice;
+      within_slice = sets.within_slice;
     }
