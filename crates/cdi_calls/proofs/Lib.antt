@@ -1,1 +1,2 @@
 pub mod CallSteps
+pub mod ReferenceSteps

@@ -1,5 +1,6 @@
 pub mod Accepted
 pub mod States
+pub mod Booted
 pub mod Commands
 pub mod Standing
 pub mod Sessions

@@ -17,10 +17,12 @@ use Rattle.cdi_container.specs.Commands.{machine_command}
 use Rattle.cdi_container.specs.Standing.{ContainerParts, SameParts, names_of, tables_of, state_of}
 use Rattle.cdi_container.specs.States.{ContainerState, AnswersCommand, after_refusal}
 
--- what answers lines: a container, and whether the entries of each command stand before its reply
+-- what answers lines: a container, whether the entries of each command stand before its reply, and by turns of how many entries
+-- it is carried out
 pub record SessionParts (Driving : Type 0) : Type 0 where
   pub container : ContainerParts Driving
   pub shows_trace : Bool
+  pub slice : ℕ
 
 -- a reply in a state: the entries of the command if they are shown, and its line
 abbrev pub reply_in : List (List ℕ) → Bool → Reply → ContainerState → List ℕ
@@ -46,6 +48,7 @@ pub record AnswersSo {Driving : Type 0} (before after : Legal) (s : SessionParts
     (line text : List ℕ) (t : SessionParts Driving) : Type 0 where
   pub same : SameParts before after s.container t.container
   pub shows : t.shows_trace ≡ s.shows_trace
+  pub slice : t.slice ≡ s.slice
   pub answers : AnswersLine s.shows_trace (names_of s.container) (tables_of s.container) before
       (Unit {0}) (state_of s.container) line text (state_of t.container)
 

@@ -1,10 +1,11 @@
 -- A command that is carried out by turns, between which others can be served.
-use Rattle.std.specs.Prelude.{◌≡◌, ℕ, ◌+◌, [], length, true, Option, Some, None, Result, Ok, Err, is_some, if◌then◌else◌}
+use Rattle.std.specs.Prelude.{◌≡◌, ◌≤◌, ℕ, suc, ◌+◌, ◌*◌, [], length, true, Option, Some, None, Result, Ok, Err, is_some, if◌then◌else◌}
 use Rattle.cdi_base.specs.declared.reply.Cause.TheVariants as causes
+use Rattle.cdi_base.specs.declared.reply.Reply.{Reply}
 use Rattle.cdi_base.specs.declared.reply.Reply.TheVariants as replies
 use Rattle.cdi_base.specs.declared.reply.Refusal.{Refusal}
 use Rattle.cdi_base.specs.declared.reply.Refusal.TheVariants as refusals
-use Rattle.cdi_frames.specs.Stacks.{KnownStack, StepsTo, program_of}
+use Rattle.cdi_frames.specs.Stacks.{KnownStack, StepsTo, entries_left, program_of}
 use Rattle.cdi_frames.specs.declared.stack.Stack.{Stack}
 use Rattle.cdi_frames.specs.declared.stack.Pending.TheVariants as pendings
 use Rattle.cdi_machine.specs.Commands.{Command}
@@ -143,7 +144,32 @@ pub data TakesTurn {Driving : Type 0} (tables : Tables) (legal : Legal) (t : Tur
       → u.left ≡ left_in progress → u.shown_from ≡ t.shown_from
       → TakesTurn tables legal t (turned_of progress) u
 
--- A turn that goes on has written just so many entries.
+-- just so many entries more, taken from the budget of the command
+pub record WritesExactly (most : ℕ) (t u : ContainerState) : Type 0 where
+  pub count : length u.world.trace ≡ length t.world.trace + most
+  pub budget : entries_left u.world + length u.world.trace
+      ≡ entries_left t.world + length t.world.trace
+
+-- A turn writes no more than so many entries, and just so many if it goes on.
 abbrev pub WritesMost : ℕ → ContainerState → Turned → ContainerState → Type 0
-WritesMost most t turneds.Running u = length u.world.trace ≡ length t.world.trace + most
-WritesMost most t _ u = Unit {0}
+WritesMost most t turneds.Running u = WritesExactly most t u
+WritesMost most t _ u = length u.world.trace ≤ length t.world.trace + most
+
+-- so many turns that go on, each of so many entries
+pub data GoOn (most : ℕ) : ℕ → ContainerState → ContainerState → Type 0 where
+  none : {t : ContainerState} → GoOn most 0 t t
+  once_more : {n : ℕ} {t u v : ContainerState} → WritesExactly most t u → GoOn most n u v
+      → GoOn most (suc n) t v
+
+-- Turns of a command that go on write no more entries than its container lets a command have: so with a limit of N, it is over
+-- after at most N + 1 turns of 1.
+abbrev pub EndsByTurns : Tables → Legal → Type 0
+EndsByTurns tables legal =
+    (most n : ℕ) (s t u : ContainerState) (c : Command) (left : Left) → GoOn most n t u
+    → IsLeftOf tables legal s c left u → n * most ≤ s.world.ticks
+
+-- what is left of a command is carried out up to its end, and the command is answered
+abbrev pub FinishesCommand : Tables → Legal → Left → ContainerState → Reply → ContainerState → Type 0
+FinishesCommand tables legal left t reply u =
+    (s : ContainerState) (c : Command) → IsLeftOf tables legal s c left t
+    → AnswersCommand tables legal (Unit {0}) s c reply u

@@ -1,5 +1,5 @@
 //! The container: it carries out commands, one after the other.
-ghost use Rattle.std.specs.Prelude.{◌≡◌, None, Some, IfOk, length, map};
+ghost use Rattle.std.specs.Prelude.{◌≡◌, [], None, Some, IfOk, length, map};
 ghost use Rattle.std.specs.Option.{is_some};
 ghost use Rattle.cdi_base.specs.Maps.{at};
 ghost use Rattle.cdi_machine.specs.Commands.{task};
@@ -7,7 +7,7 @@ ghost use Rattle.cdi_machine.specs.Container.{refusal as machine_refusal};
 ghost use Rattle.cdi_machine.specs.World.{at_begin};
 ghost use Rattle.cdi_run_tables.specs.Machine.{machine_tables};
 ghost use Rattle.cdi_runtime.specs.Standing.{IsServable};
-ghost use Rattle.cdi_frames.specs.Stacks.{KeepsCount, KnownStack, KnownTurn, TurnsTo};
+ghost use Rattle.cdi_frames.specs.Stacks.{AddsAtMost, KeepsCount, KnownStack, KnownTurn, TurnsTo};
 ghost use Rattle.cdi_steps.specs.Driving.{Drives};
 ghost use Rattle.cdi_steps.specs.Words.{command_of, outcome_of};
 ghost use Rattle.cdi_steps.specs.Known.{KnownJob};
@@ -83,6 +83,7 @@ fn turn_of<D: Driver>(runtime: &mut Runtime<D>, stack: Stack, most: u64) -> Resu
         runtime.old.world result runtime.new.world }
     ensures counted { IfOk result (λ turn. KeepsCount most
         runtime.old.world turn runtime.new.world) }
+    ensures grown { AddsAtMost most runtime.old.world runtime.new.world }
     ensures known { IfOk result (KnownTurn (spec.tables_in runtime.new) runtime.new.world) }
     ensures keeps { spec.KeepsParts
         (D.legal runtime.old.driver) (D.legal runtime.new.driver) runtime.old runtime.new }
@@ -203,24 +204,6 @@ impl<D: Driver> Container<D> {
         Reply::Refused(refusal)
     }
 
-    /// Carries a job out that isn't refused, and answers it.
-    fn perform(&mut self, job: Job) -> Reply
-        requires told { IsToldByEnd job }
-        requires admitted { machine_refusal
-            (spec.tables_of self.old) (machine_state (spec.state_of self.old)) (command_of job)
-            ≡ None }
-        ensures answers { AnswersCommand
-            (spec.tables_of self.old) (D.legal self.old.runtime.driver) (Unit {0})
-            (spec.state_of self.old) (command_of job) result (spec.state_of self.new) }
-        ensures same { spec.SameParts
-            (D.legal self.old.runtime.driver) (D.legal self.new.runtime.driver) self.old self.new }
-    {
-        let valued = has_value(&job);
-        let outcome = carry_out(&mut self.runtime, job);
-        self.halted = cause(&outcome);
-        reply_of(valued, outcome)
-    }
-
     /// Why what a job asks for is refused, if it is.
     fn refusal(&mut self, job: &Job) -> Option<Refusal>
         ensures refusal { result ≡ machine_refusal
@@ -251,6 +234,7 @@ impl<D: Driver> Container<D> {
         ensures answers { AnswersCommand
             (spec.tables_of self.old) (D.legal self.old.runtime.driver) (Unit {0})
             (spec.state_of self.old) MachineCommand.Live result (spec.state_of self.new) }
+        ensures silent { (spec.state_of self.new).world.trace ≡ [] }
         ensures same { spec.SameParts
             (D.legal self.old.runtime.driver) (D.legal self.new.runtime.driver) self.old self.new }
     {
@@ -266,43 +250,13 @@ impl<D: Driver> Container<D> {
         ensures answers { AnswersCommand
             (spec.tables_of self.old) (D.legal self.old.runtime.driver) (Unit {0})
             (spec.state_of self.old) MachineCommand.Live result (spec.state_of self.new) }
+        ensures silent { (spec.state_of self.new).world.trace ≡ [] }
         ensures same { spec.SameParts
             (D.legal self.old.runtime.driver) (D.legal self.new.runtime.driver) self.old self.new }
     {
         match self.runtime.world().live_numbers() {
             Ok(numbers) => self.tell(numbers),
             Err(_) => self.starve(),
-        }
-    }
-
-    /// Answers a job that isn't refused.
-    fn answer_job(&mut self, job: Job) -> Reply
-        requires { machine_refusal
-            (spec.tables_of self.old) (machine_state (spec.state_of self.old)) (command_of job)
-            ≡ None }
-        ensures answers { AnswersCommand
-            (spec.tables_of self.old) (D.legal self.old.runtime.driver) (Unit {0})
-            (spec.state_of self.old) (command_of job) result (spec.state_of self.new) }
-        ensures same { spec.SameParts
-            (D.legal self.old.runtime.driver) (D.legal self.new.runtime.driver) self.old self.new }
-    {
-        if asks_for_live(&job) {
-            return self.tell_live();
-        }
-        self.perform(job)
-    }
-
-    /// Carries a job out, or refuses it.
-    fn ask(&mut self, job: Job) -> Reply
-        ensures answers { AnswersCommand
-            (spec.tables_of self.old) (D.legal self.old.runtime.driver) (Unit {0})
-            (spec.state_of self.old) (command_of job) result (spec.state_of self.new) }
-        ensures same { spec.SameParts
-            (D.legal self.old.runtime.driver) (D.legal self.new.runtime.driver) self.old self.new }
-    {
-        match self.refusal(&job) {
-            Some(refusal) => self.refuse(refusal),
-            None => self.answer_job(job),
         }
     }
 
@@ -444,30 +398,6 @@ impl<D: Driver> Container<D> {
             Command::End { request } => world.refuses_in(Some(request.as_str())),
             Command::Invalidate { session } => world.refuses_invalidate(session.as_str()),
             Command::Live | Command::Shutdown => None,
-        }
-    }
-
-    /// Carries a command out, or refuses it: the first refusal that holds, in the order of [`Refusal`]. A refused
-    /// command leaves all as it was, but for the trace, which is empty. A command that is cut is answered as halted with
-    /// the cause, and every later one is refused.
-    ///
-    /// Want of memory is such a cause, also before anything is carried out: then the trace is empty. Whether the container
-    /// has halted or is down, and whether the request and the session are there, is looked at before any memory is asked
-    /// for.
-    pub fn command(&mut self, command: &Command) -> Reply
-        ensures answers { AnswersCommand
-            (spec.tables_of self.old) (D.legal self.old.runtime.driver) (Unit {0})
-            (spec.state_of self.old) (machine_command (spec.names_of self.old) command.now)
-            result (spec.state_of self.new) }
-        ensures same { spec.SameParts
-            (D.legal self.old.runtime.driver) (D.legal self.new.runtime.driver) self.old self.new }
-    {
-        match self.refusal_in_state(command) {
-            Some(refusal) => self.refuse(refusal),
-            None => match job_for(self.runtime.alloc, self.names(), command) {
-                Ok(job) => self.ask(job),
-                Err(_) => self.starve(),
-            },
         }
     }
 }

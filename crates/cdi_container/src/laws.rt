@@ -14,7 +14,7 @@ ghost use Rattle.cdi_container.specs.Resting.{NothingRuns};
 ghost use Rattle.cdi_container.specs.Sound.{IsSound};
 ghost use Rattle.cdi_container.specs.Thrown.{NamesThrown};
 ghost use Rattle.cdi_container.specs.Traces.{TraceTells};
-ghost use Rattle.cdi_container.specs.Turns.{AnswersByTurns};
+ghost use Rattle.cdi_container.specs.Turns.{AnswersByTurns, EndsByTurns};
 ghost use Rattle.cdi_machine.specs.Laws.{IsWithin};
 
 use cdi_bodies::Bodies;
@@ -100,8 +100,11 @@ pub fn law_trace_tells<D: Driver>(driver: &D)
 
 /// Whatever the turns are, a command that was started is answered, and leaves the container, as one that is carried out at once
 /// may: what a turn leaves of it is left of it still, and if the turn is its last, then it is answered so.
+///
+/// And it ends: turns that go on write no more entries than its container lets a command have.
 pub fn law_turns<D: Driver, E: Driver>(driver: &D, wider: &E)
-    ensures { IsWithin (D.legal driver.now) (E.legal wider.now) → (tables : Tables)
+    ensures ends { (tables : Tables) → EndsByTurns tables (E.legal wider.now) }
+    ensures answers { IsWithin (D.legal driver.now) (E.legal wider.now) → (tables : Tables)
         → AnswersByTurns tables (D.legal driver.now) (E.legal wider.now) }
 {
     let _driver = driver;

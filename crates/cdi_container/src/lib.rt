@@ -3,11 +3,13 @@
 
 mod acceptance;
 mod asked;
+mod boot;
 mod container;
 pub mod laws;
 pub mod left;
 mod reply;
 mod session;
+mod slices;
 mod turns;
 
 pub use acceptance::{Unaccepted, accept};

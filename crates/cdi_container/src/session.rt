@@ -16,8 +16,9 @@ impl<D: Driver> Container<D> {
     ghost use Rattle.cdi_container.specs.Standing.{SameParts, names_of, state_of, tables_of};
     ghost use Rattle.cdi_container.specs.Sessions.{AnswersRead};
 
-    /// The reply to a line. If memory runs out for reading it, nothing changes.
-    fn reply_to(&mut self, alloc: Global, line: &[u8]) -> Result<Reply, AllocError>
+    /// The reply to a line, whose command is carried out by turns of so many entries. If memory runs out for reading it, nothing
+    /// changes.
+    fn reply_to(&mut self, alloc: Global, line: &[u8], slice: u64) -> Result<Reply, AllocError>
         ensures answers { IfOk result (λ reply.
             AnswersRead (names_of self.old) (tables_of self.old)
             (D.legal self.old.runtime.driver) (Unit {0})
@@ -27,7 +28,7 @@ impl<D: Driver> Container<D> {
         ensures err { OnErr result (self.new ≡ self.old) }
     {
         match read_command(alloc, line) {
-            Ok(command) => Ok(self.command(&command)),
+            Ok(command) => Ok(self.command_by_turns(&command, slice)),
             Err(OrMemory::Fault(_)) => Ok(self.refuse(Refusal::BadLine)),
             Err(OrMemory::Memory) => Err(AllocError),
         }
@@ -38,6 +39,8 @@ impl<D: Driver> Container<D> {
 pub struct Session<D: Driver> {
     container: Container<D>,
     shows_trace: bool,
+    /// By turns of so many entries each command is carried out.
+    slice: u64,
 }
 
 /// In one call, so that the proof of each function that owns a session has one step here, and not one for each of its parts.
@@ -46,6 +49,7 @@ impl<D: Driver + Drop> Drop for Session<D> {
         let Self {
             container: _container,
             shows_trace: _shows_trace,
+            slice: _slice,
         } = self;
     }
 }
@@ -59,7 +63,11 @@ impl<D: Driver> Model for Session<D> {
 
     ghost coded = { Prim.hlevel (codes, run_tables.the_row.coded) };
 
-    ghost view = { λ s. record { container = s.container; shows_trace = s.shows_trace } };
+    ghost view = { λ s. record {
+      container = s.container;
+      shows_trace = s.shows_trace;
+      slice = s.slice;
+    } };
 }
 
 impl<D: Driver> Responder for Session<D> {
@@ -69,7 +77,7 @@ impl<D: Driver> Responder for Session<D> {
         (D.legal s.container.runtime.driver) (D.legal t.container.runtime.driver) s line text t };
 
     fn answer(&mut self, alloc: Global, line: &[u8]) -> Result<Vec<u8>, AllocError> {
-        let reply = self.container.reply_to(alloc, line)?;
+        let reply = self.container.reply_to(alloc, line, self.slice)?;
         self.text_of(alloc, &reply)
     }
 }
@@ -79,14 +87,17 @@ impl<D: Driver> Session<D> {
     ghost use Rattle.cdi_container.specs.Standing.{names_of, state_of};
     ghost use Rattle.cdi_container.specs.Sessions.{ServedBy, reply_in};
 
-    /// A container whose replies stand alone, or behind the entries of their commands.
-    pub fn new(container: Container<D>, shows_trace: bool) -> Session<D>
+    /// A container whose replies stand alone, or behind the entries of their commands, which are carried out by turns of so many
+    /// entries, of which 0 counts as 1. No reply depends on their number.
+    pub fn new(container: Container<D>, shows_trace: bool, slice: u64) -> Session<D>
         ensures container { result.container ≡ container }
         ensures shows { result.shows_trace ≡ shows_trace }
+        ensures slice { result.slice ≡ slice }
     {
         Session {
             container,
             shows_trace,
+            slice,
         }
     }
 

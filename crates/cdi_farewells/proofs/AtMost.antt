@@ -6,7 +6,7 @@ use Rattle.cdi_machine.specs.Tables.{Tables, Managed}
 use Rattle.cdi_ledger.specs.Ledger.{Item, Wrote, Between, Born}
 use Rattle.cdi_ledger.specs.Ends.{Each, marks, one_more_if}
 use Rattle.cdi_ledger.specs.Callbacks.{IsMark, Holds, StartsFarewell}
-use Rattle.cdi_ledger.proofs.Stages.{eq_same}
+use Rattle.cdi_ledger.proofs.Phases.{eq_same}
 use Rattle.cdi_farewells.specs.Beginnings.{StartsAtMarkOnly}
 
 module _ (tables : Tables) (n : ℕ) (c : Managed) where

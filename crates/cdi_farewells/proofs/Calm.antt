@@ -30,7 +30,7 @@ use Rattle.cdi_ownership.proofs.Cores.{Core, core_of, core_at, deps_at, list_of}
 use Rattle.cdi_ledger.specs.Ledger.{Item, Wrote, Between, Born, with_birth}
 use Rattle.cdi_ledger.specs.Ends.{Each, IsOfClass}
 use Rattle.cdi_ledger.proofs.Judge.{Does, guard_of, note_of}
-use Rattle.cdi_ledger.proofs.Stages.{eq_true}
+use Rattle.cdi_ledger.proofs.Phases.{eq_true}
 use Rattle.cdi_ledger.proofs.Owed.{Ok, Pre}
 use Rattle.cdi_ledger.proofs.Nesting.{BothPost}
 use Rattle.cdi_ledger.proofs.Births.{Known, KG, all_born}

@@ -14,7 +14,7 @@ use Rattle.cdi_ownership.specs.Whose.{IsIn}
 use Rattle.cdi_ledger.specs.Ledger.{Item, Wrote, Between, Born, InOrder}
 use Rattle.cdi_ledger.specs.Ends.{Each, IsOfClass, marks, one_more_if}
 use Rattle.cdi_ledger.specs.Callbacks.{IsMark, IsFirstOf, Holds, StartsFarewell}
-use Rattle.cdi_ledger.proofs.Stages.{eq_same}
+use Rattle.cdi_ledger.proofs.Phases.{eq_same}
 use Rattle.cdi_ledger.proofs.Marks.{once_in}
 use Rattle.cdi_ledger.proofs.Ledgered.{shorter}
 use Rattle.cdi_farewells.specs.Beginnings.{HasFirst, IsFirstStart, IsRightBehindMark, StartsAtMarkOnly}

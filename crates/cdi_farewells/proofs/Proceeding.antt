@@ -38,7 +38,7 @@ use Rattle.cdi_ledger.specs.Ledger.{Item, Wrote, Between, Born, with_birth, fate
 use Rattle.cdi_ledger.specs.Ends.{Each, IsOfClass, IsEnding}
 use Rattle.cdi_ledger.specs.Callbacks.{IsOrdinary, PlacesOfBodiesAreApart, IsProceed, IsFirstOf}
 use Rattle.cdi_ledger.proofs.Judge.{Does, guard_of, note_of}
-use Rattle.cdi_ledger.proofs.Stages.{phase_at, phase_of}
+use Rattle.cdi_ledger.proofs.Phases.{phase_at, phase_of}
 use Rattle.cdi_ledger.proofs.Owed.{Ok, Pre, post_rel, IsEndOf, behind_first, StartsSo, InFarewell}
 use Rattle.cdi_ledger.proofs.Nesting.{BothPost, ending_leaving}
 use Rattle.cdi_ledger.proofs.Births.{KG, all_born}

@@ -43,11 +43,11 @@ use Rattle.cdi_ledger.specs.Stories.{Story}
 use Rattle.cdi_ownership.specs.Whose.{IsIn}
 use Rattle.cdi_ledger.specs.Ends.{Each, IsOver, IsNamed, IsBornAsWritten, IsBirth, IsBirthBehindNew, IsNoNew, OneAtATime, Suits, SuitsItsScope, OneInAContext, OneInAContextIfShort, PlacesAreApart, OnceByPlace, OneOfTheApplication}
 use Rattle.cdi_ledger.proofs.Judge.{Does, sound, guard_map, note_map}
-use Rattle.cdi_ledger.proofs.Stages.{phase_at, phase_of}
+use Rattle.cdi_ledger.proofs.Phases.{phase_at, phase_of}
 use Rattle.cdi_ledger.proofs.Plain.{Sane, Kept, standing, stands}
 use Rattle.cdi_ledger.proofs.Ledgered as ledgered
 use Rattle.cdi_ownership.proofs.Holdings.{IsFree, free_none, free_apart}
-use Rattle.cdi_ownership.proofs.Cores.{Core, core_of, core_at, in_stage, when, core_same, core_ready, core_leaving, core_gone, core_left}
+use Rattle.cdi_ownership.proofs.Cores.{Core, core_of, core_at, with_phase, when, core_same, core_ready, core_leaving, core_gone, core_left}
 use Rattle.cdi_ownership.proofs.Homes.{Inv}
 use Rattle.cdi_ownership.proofs.Spans.{CanBegin, Begun, begins}
 use Rattle.cdi_ledger.proofs.Owed.{Ok, Pre, CanOwn}
@@ -201,13 +201,13 @@ WasSo w k c = (d : Core) × (core_at k w.instances ≡ Some d) × (d.component �
 was_same : (w : World) (k : ℕ) (c : Core) (x : Option Core) → x ≡ core_at k w.instances → x ≡ Some c → WasSo w k c
 was_same w k c x e f = (c, sym e ∙ f, refl, refl)
 
-was_staged : (w : World) (p : Phase) (b : Bool) (k : ℕ) (c : Core) (x : Option Core) → x ≡ when b (in_stage p) (core_at k w.instances) → x ≡ Some c → WasSo w k c
-was_staged w p b k c x e f = by b (core_at k w.instances) refl (sym e ∙ f)
+was_phased : (w : World) (p : Phase) (b : Bool) (k : ℕ) (c : Core) (x : Option Core) → x ≡ when b (with_phase p) (core_at k w.instances) → x ≡ Some c → WasSo w k c
+was_phased w p b k c x e f = by b (core_at k w.instances) refl (sym e ∙ f)
   where
-    by : (b : Bool) (o : Option Core) → core_at k w.instances ≡ o → when b (in_stage p) o ≡ Some c → WasSo w k c
+    by : (b : Bool) (o : Option Core) → core_at k w.instances ≡ o → when b (with_phase p) o ≡ Some c → WasSo w k c
     by true None q z = absurd (cc)
     by false None q z = absurd (cc)
-    by true (Some d) q z = let y : in_stage p d ≡ c = cc in (d, q, ap (λ (u : Core). u.component) y, ap (λ (u : Core). u.owner) y)
+    by true (Some d) q z = let y : with_phase p d ≡ c = cc in (d, q, ap (λ (u : Core). u.component) y, ap (λ (u : Core). u.owner) y)
     by false (Some d) q z = (c, q ∙ z, refl, refl)
 
 was_left : (w : World) (n k : ℕ) (c : Core) → core_at k (without n w.instances) ≡ Some c → WasSo w k c
@@ -228,9 +228,9 @@ alike_change (Change.Make component owner fields) w X x = absurd x
 alike_change (Change.Settle n) w X x = (by (instance_at w n), x)
   where
     owned : (component : Component) (owner : Owner) → Alike w (with_owned n component owner (with_instances (with_ready n) w))
-    owned component (owners.Context c) = record { next = refl; was = λ k c f. was_staged w phases.Ready (nat_eq k n) k c _ (core_ready n w.instances k) f }
-    owned component (owners.Instance m) = record { next = refl; was = λ k c f. was_staged w phases.Ready (nat_eq k n) k c _ (core_ready n w.instances k) f }
-    owned component owners.Borrower = record { next = refl; was = λ k c f. was_staged w phases.Ready (nat_eq k n) k c _ (core_ready n w.instances k) f }
+    owned component (owners.Context c) = record { next = refl; was = λ k c f. was_phased w phases.Ready (nat_eq k n) k c _ (core_ready n w.instances k) f }
+    owned component (owners.Instance m) = record { next = refl; was = λ k c f. was_phased w phases.Ready (nat_eq k n) k c _ (core_ready n w.instances k) f }
+    owned component owners.Borrower = record { next = refl; was = λ k c f. was_phased w phases.Ready (nat_eq k n) k c _ (core_ready n w.instances k) f }
 
     by : (o : Option Instance) → Alike w (for_instance w o (λ o. with_owned n o.component o.owner (with_instances (with_ready n) w)))
     by None = alike_same w w refl refl
@@ -248,9 +248,9 @@ alike_change (Change.Discard n) w X x = (by (instance_at w n), x)
 alike_change (Change.Leave n) w X x = (by (instance_at w n), x)
   where
     owned : (component : Component) (owner : Owner) → Alike w (without_owned n component owner (with_instances (with_leaving n) w))
-    owned component (owners.Context c) = record { next = refl; was = λ k c f. was_staged w phases.Leaving (nat_eq k n) k c _ (core_leaving n w.instances k) f }
-    owned component (owners.Instance m) = record { next = refl; was = λ k c f. was_staged w phases.Leaving (nat_eq k n) k c _ (core_leaving n w.instances k) f }
-    owned component owners.Borrower = record { next = refl; was = λ k c f. was_staged w phases.Leaving (nat_eq k n) k c _ (core_leaving n w.instances k) f }
+    owned component (owners.Context c) = record { next = refl; was = λ k c f. was_phased w phases.Leaving (nat_eq k n) k c _ (core_leaving n w.instances k) f }
+    owned component (owners.Instance m) = record { next = refl; was = λ k c f. was_phased w phases.Leaving (nat_eq k n) k c _ (core_leaving n w.instances k) f }
+    owned component owners.Borrower = record { next = refl; was = λ k c f. was_phased w phases.Leaving (nat_eq k n) k c _ (core_leaving n w.instances k) f }
 
     by : (o : Option Instance) → Alike w (for_instance w o (λ o. without_owned n o.component o.owner (with_instances (with_leaving n) w)))
     by None = alike_same w w refl refl

@@ -29,7 +29,7 @@ use Rattle.cdi_ownership.specs.Whose.{IsIn}
 use Rattle.cdi_ledger.specs.Ends.{Each, IsEnding, IsOfClass}
 use Rattle.cdi_ledger.specs.Callbacks.{IsOrdinary, PlacesOfBodiesAreApart, IsFarewellOf, IsInDestruction, FarewellsInDestruction, FarewellsInDestructionIfShort}
 use Rattle.cdi_ledger.proofs.Judge.{Does, sound, Guard, guard_map, Note, note_map}
-use Rattle.cdi_ledger.proofs.Stages.{phase_of}
+use Rattle.cdi_ledger.proofs.Phases.{phase_of}
 use Rattle.cdi_ledger.proofs.Plain.{Sane, stands}
 use Rattle.cdi_ledger.proofs.Ledgered as ledgered
 use Rattle.cdi_ledger.proofs.Fronts.{anything, also_short}

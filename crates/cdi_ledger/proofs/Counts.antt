@@ -7,7 +7,7 @@ use Rattle.cdi_machine.specs.Runs.{Legal}
 use Rattle.cdi_ledger.specs.Ledger.{Item, Wrote, Between, Born}
 use Rattle.cdi_ledger.specs.Ends.{Each, marks, one_more_if}
 use Rattle.cdi_ledger.specs.Callbacks.{IsMark, IsBegun, IsBegunOnly, Holds, StartsFarewell, StartsAtMostOnce}
-use Rattle.cdi_ledger.proofs.Stages.{eq_same}
+use Rattle.cdi_ledger.proofs.Phases.{eq_same}
 use Rattle.cdi_ledger.proofs.Marks.{marks_once}
 use Rattle.cdi_ledger.proofs.Firsts.{begins_only_at_mark}
 

@@ -34,7 +34,7 @@ use Rattle.cdi_machine.specs.Words.{Fields}
 use Rattle.cdi_machine.specs.Programs.{give_number}
 use Rattle.cdi_machine.specs.Bodies.{run_body}
 use Rattle.cdi_machine.specs.Creation.{create, intercept, create_by, end_creation, discard, make_ready, begin_creation, first_fields}
-use Rattle.cdi_ownership.proofs.Cores.{in_stage}
+use Rattle.cdi_ownership.proofs.Cores.{with_phase}
 use Rattle.cdi_ownership.proofs.Homes.{Chain, IsStaying, chain_map, IsReadyOf}
 use Rattle.cdi_ownership.proofs.Makings.{CanStand, settles, drops}
 use Rattle.cdi_ownership.proofs.Spans.{CanBegin, MakingIn, Begun, begins, rel_created, rel_destroyed}
@@ -91,8 +91,8 @@ module _ (t : Tables) where
       from_start : (v : World) → Rel w0 v → Rel w v
       from_start v r = rel_then w w0 v (fine.rel_entry (entries.New n place) w w g (rel_self w g)) r
 
-      is_ready : (c : Core) → Some (in_stage phases.Ready newborn_core) ≡ Some c → c.phase ≡ phases.Ready
-      is_ready c e = let q : in_stage phases.Ready newborn_core ≡ c = cc in ap (λ (z : Core). z.phase) (sym q)
+      is_ready : (c : Core) → Some (with_phase phases.Ready newborn_core) ≡ Some c → c.phase ≡ phases.Ready
+      is_ready c e = let q : with_phase phases.Ready newborn_core ≡ c = cc in ap (λ (z : Core). z.phase) (sym q)
 
       -- it is ready
       readied : (v : World) (k : List Item) → Inv v → Rel w1 v → Does (make_ready n) v k (Created owner w)
@@ -101,8 +101,8 @@ module _ (t : Tables) where
           let gv0 : Inv v0 = fine.inv_entry (entries.Ready n) v gv in
           let r0 : Rel w1 v0 = fine.rel_entry (entries.Ready n) w1 v gv r in
           let s = settles v0 n gv0 newborn_core (new_at v0 r0) refl (older v0 r0) (stands v0 r0) in
-          let q = rel_created {T = λ k. k ≤ n} w0 w1 v0 (after_change (Change.Settle n) v0) component owner (Some (in_stage phases.Ready newborn_core)) g0 can0 begun r0 s.1 (omega arith) s.2 is_ready in
-          (gv, (s.0, (from_start (after_change (Change.Settle n) v0) q, (in_stage phases.Ready newborn_core, s.1.own, refl, refl))))
+          let q = rel_created {T = λ k. k ≤ n} w0 w1 v0 (after_change (Change.Settle n) v0) component owner (Some (with_phase phases.Ready newborn_core)) g0 can0 begun r0 s.1 (omega arith) s.2 is_ready in
+          (gv, (s.0, (from_start (after_change (Change.Settle n) v0) q, (with_phase phases.Ready newborn_core, s.1.own, refl, refl))))
 
       free : (v : World) → Rel w1 v → IsFreeBelow v n
       free v r d x e s own b =

@@ -42,7 +42,7 @@ use Rattle.cdi_machine.specs.Creation.{construct, inject, initialize, take_step,
 use Rattle.cdi_machine.specs.Events.{fire, observe, deliver, notify, is_skipped, fire_context_event, fire_container_event, qualifier}
 use Rattle.cdi_ledger.specs.Ledger.{Item, Wrote, fate}
 use Rattle.cdi_ledger.proofs.Past.{Past}
-use Rattle.cdi_ledger.proofs.Stages.{eq_true}
+use Rattle.cdi_ledger.proofs.Phases.{eq_true}
 use Rattle.cdi_ledger.specs.Callbacks.{IsOrdinary, codes_in, IsMark}
 use Rattle.cdi_store.specs.Live.{Instances}
 use Rattle.cdi_ownership.specs.Whose.{IsIn}

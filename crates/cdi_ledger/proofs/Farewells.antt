@@ -25,11 +25,11 @@ use Rattle.cdi_ledger.specs.Stories.{Story}
 use Rattle.cdi_ownership.specs.Whose.{IsIn}
 use Rattle.cdi_ledger.specs.Ends.{Each, IsEnding, IsOfClass, IsFarewell, BodiesAreFarewells, BodiesAreFarewellsIfShort, IsAlive, IsOnLiving}
 use Rattle.cdi_ledger.proofs.Judge.{Does, sound, Guard, guard_map, Note, note_map}
-use Rattle.cdi_ledger.proofs.Stages.{phase_at, eq_true, eq_same}
+use Rattle.cdi_ledger.proofs.Phases.{phase_at, eq_true, eq_same}
 use Rattle.cdi_ledger.proofs.Plain.{Sane}
 use Rattle.cdi_ledger.proofs.Ledgered as ledgered
 use Rattle.cdi_ownership.proofs.Maps.{at_added, at_before}
-use Rattle.cdi_ownership.proofs.Cores.{Core, core_of, core_at, in_stage, when, core_same, core_ready, core_leaving, core_gone, core_left}
+use Rattle.cdi_ownership.proofs.Cores.{Core, core_of, core_at, with_phase, when, core_same, core_ready, core_leaving, core_gone, core_left}
 use Rattle.cdi_ownership.proofs.Homes.{targets}
 use Rattle.cdi_ledger.proofs.Owed.{Ok, AreParting, IsMember, MayRun, Pre}
 use Rattle.cdi_ledger.proofs.Tops.{Tidy}
@@ -50,16 +50,16 @@ was_same a k c x e f l = (c, sym e ∙ f, l, refl)
 was_readied : (a : Instances) (n k : ℕ) (c : Core) → core_at k (with_ready n a) ≡ Some c → c.phase ≡ phases.Leaving → WasLeaving a k c
 was_readied a n k c e l = by (nat_eq k n) (core_at k a) refl (sym (core_ready n a k) ∙ e)
   where
-    by : (b : Bool) (o : Option Core) → core_at k a ≡ o → when b (in_stage phases.Ready) o ≡ Some c → WasLeaving a k c
+    by : (b : Bool) (o : Option Core) → core_at k a ≡ o → when b (with_phase phases.Ready) o ≡ Some c → WasLeaving a k c
     by true None q z = absurd (cc)
     by false None q z = absurd (cc)
-    by true (Some d) q z = let y : in_stage phases.Ready d ≡ c = cc in let t : phases.Ready ≡ phases.Leaving = ap (λ (u : Core). u.phase) y ∙ l in absurd (cc)
+    by true (Some d) q z = let y : with_phase phases.Ready d ≡ c = cc in let t : phases.Ready ≡ phases.Leaving = ap (λ (u : Core). u.phase) y ∙ l in absurd (cc)
     by false (Some d) q z = let y : d ≡ c = cc in (d, q, ap (λ (u : Core). u.phase) y ∙ l, ap (λ (u : Core). u.component) y)
 
 was_left : (a : Instances) (n k : ℕ) (c : Core) → (k ≡ n → ⊥) → core_at k (with_leaving n a) ≡ Some c → c.phase ≡ phases.Leaving → WasLeaving a k c
 was_left a n k c d e l = by (nat_eq k n) refl (core_at k a) refl (sym (core_leaving n a k) ∙ e)
   where
-    by : (b : Bool) → nat_eq k n ≡ b → (o : Option Core) → core_at k a ≡ o → when b (in_stage phases.Leaving) o ≡ Some c → WasLeaving a k c
+    by : (b : Bool) → nat_eq k n ≡ b → (o : Option Core) → core_at k a ≡ o → when b (with_phase phases.Leaving) o ≡ Some c → WasLeaving a k c
     by true s o q z = absurd (d (eq_true k n s))
     by false s None q z = absurd (cc)
     by false s (Some d) q z = let y : d ≡ c = cc in (d, q, ap (λ (u : Core). u.phase) y ∙ l, ap (λ (u : Core). u.component) y)

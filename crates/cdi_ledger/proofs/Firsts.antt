@@ -25,7 +25,7 @@ use Rattle.cdi_ownership.specs.Whose.{IsIn}
 use Rattle.cdi_ledger.specs.Ends.{Each, IsOfClass}
 use Rattle.cdi_ledger.specs.Callbacks.{IsOrdinary, PlacesOfBodiesAreApart, FirstsStandOnce, IsMark, IsFirstOf, IsBegun, IsBegunOnly, BeginsOnlyAtMark, BeginsOnlyAtMarkIfShort}
 use Rattle.cdi_ledger.proofs.Judge.{Does, sound, Note, guard_map, note_map}
-use Rattle.cdi_ledger.proofs.Stages.{phase_of}
+use Rattle.cdi_ledger.proofs.Phases.{phase_of}
 use Rattle.cdi_ledger.proofs.Plain.{Sane, stands}
 use Rattle.cdi_ledger.proofs.Ledgered as ledgered
 use Rattle.cdi_ledger.proofs.Past.{Past}

@@ -1,5 +1,5 @@
 pub mod Judge
-pub mod Stages
+pub mod Phases
 mod Past
 mod Plain
 mod Steps

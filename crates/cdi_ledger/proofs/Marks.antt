@@ -9,7 +9,7 @@ use Rattle.cdi_machine.specs.Runs.{Legal, Outcome, Runs}
 use Rattle.cdi_ownership.specs.Whose.{IsIn}
 use Rattle.cdi_ledger.specs.Ledger.{Item, Wrote, Between, Born, Fate, Unborn, Made, Readied, Ended, Left, Lost, Wrong, fate, if_is, by_new, by_ready, by_drop, by_run, by_end, by_between, by_gone, InOrder, items_of}
 use Rattle.cdi_ledger.specs.Ends.{marks, one_more_if, MarksOnce, MarksOnceIfShort}
-use Rattle.cdi_ledger.proofs.Stages.{eq_same}
+use Rattle.cdi_ledger.proofs.Phases.{eq_same}
 use Rattle.cdi_ledger.proofs.Fronts.{anything, also_short}
 use Rattle.cdi_ledger.proofs.Ledgered as ledgered
 use Rattle.cdi_ledger.proofs.Settled.{sane_story}

@@ -37,7 +37,7 @@ use Rattle.cdi_ledger.specs.Stories.{Story}
 use Rattle.cdi_ledger.specs.Ends.{Each, IsNestedEnd, IsEnding, before_end, if_ended, EndsNested, EndsNestedIfShort}
 use Rattle.cdi_ledger.proofs.Judge.{Free, Does, sound, guard_map, guard_both, note_map, note_both}
 use Rattle.cdi_ledger.proofs.Fronts.{anything, also_short}
-use Rattle.cdi_ledger.proofs.Stages.{phase_at, phase_of}
+use Rattle.cdi_ledger.proofs.Phases.{phase_at, phase_of}
 use Rattle.cdi_ledger.proofs.Past.{Past, past_step, past_end, past_begun}
 use Rattle.cdi_ledger.proofs.Plain as plain
 use Rattle.cdi_ledger.proofs.Plain.{Sane, Kept, standing, stands, plain_change}

@@ -3,7 +3,7 @@ use Rattle.std.proofs.Common.{ℕ, ◌≡◌, List, ◌∷◌, Bool, true, false
 use Rattle.std.specs.Prelude.{nat_eq}
 use Rattle.cdi_base.specs.declared.entry.Entry.TheVariants as entries
 use Rattle.cdi_ledger.specs.Ledger.{Item, Wrote, Between, Born, Fate, Unborn, Made, Readied, Ended, Left, Lost, Wrong, fate, step_of, if_is, by_new, by_ready, by_drop, by_run, by_end, by_between, by_gone}
-use Rattle.cdi_ledger.proofs.Stages.{eq_same}
+use Rattle.cdi_ledger.proofs.Phases.{eq_same}
 
 abbrev pub Past : Fate → Type 0
 Past Left = Unit {0}

@@ -11,7 +11,7 @@ use Rattle.cdi_machine.specs.World.{World, Change, after_change, with_entry}
 use Rattle.cdi_machine.specs.Programs.{Task, Given, Completion, Prog, ret, throw, cut, miss, see, change, tick, mark, act, choose, nested, candidates, handle}
 use Rattle.cdi_machine.proofs.Walk.{PlainChange, PlainEntry, Plain, map_change, map_entry}
 use Rattle.cdi_ledger.specs.Ledger.{Item, Wrote, with_birth, Fate, Unborn, Made, Readied, Left, Lost, fate, numbers, InSequence}
-use Rattle.cdi_ledger.proofs.Stages.{phase_at, adjusted_same}
+use Rattle.cdi_ledger.proofs.Phases.{phase_at, adjusted_same}
 use Rattle.cdi_ledger.proofs.Judge.{Free, guard_free, note_free, Does}
 
 pub plainly : {A B : Type 0} (p : Prog A) (f : A → Prog B) (g : Name → Prog B) → Plain p → ((a : A) → Plain (f a)) → ((x : Name) → Plain (g x)) → Plain (handle p f g)

@@ -145,7 +145,7 @@ refs_given w n field x r ok k o f m e z = owned (by (nat_eq k n) refl (at w.inst
     by true s (Some p) q t =
         let u : record p { references = put field x p.references } ≡ o = cc in
         let v : at (put field x p.references) f ≡ Some (Direct m) = subst (λ v. at v.references f ≡ Some (Direct m)) (sym u) z in
-        given p (Rattle.cdi_ledger.proofs.Stages.eq_true k n s) q (nat_eq f field) (sym (put_at p.references field x f) ∙ v)
+        given p (Rattle.cdi_ledger.proofs.Phases.eq_true k n s) q (nat_eq f field) (sym (put_at p.references field x f) ∙ v)
 
 -- ---- each change
 

@@ -26,7 +26,7 @@ use Rattle.cdi_ledger.specs.Ledger.{Item, items_of, Unborn, Lost, fate}
 use Rattle.cdi_ledger.specs.Stories.{Story}
 use Rattle.cdi_ownership.specs.Whose.{IsIn, IsHeld, DependsOn, StandsAtHome, IsTidy}
 use Rattle.cdi_ledger.specs.Ends.{OwnersAreSmaller, IsUnderWay, LeavesTidy, LeavesNothing}
-use Rattle.cdi_ledger.proofs.Stages.{phase_at, phase_of}
+use Rattle.cdi_ledger.proofs.Phases.{phase_at, phase_of}
 use Rattle.cdi_ledger.proofs.Plain.{Sane, stands}
 use Rattle.cdi_ledger.proofs.Ledgered.{before, at_rest, command_keeps}
 use Rattle.cdi_ledger.proofs.Judge.{sound}

@@ -34,7 +34,7 @@ use Rattle.cdi_machine.specs.Destruction.{destroy, destroy_ready, only_ready, re
 use Rattle.cdi_ledger.specs.Ledger.{Between}
 use Rattle.cdi_ownership.proofs.Lists.{in_got, got}
 use Rattle.cdi_ownership.proofs.Holdings.{NoneHeld, IsMaking}
-use Rattle.cdi_ownership.proofs.Cores.{in_stage}
+use Rattle.cdi_ownership.proofs.Cores.{with_phase}
 use Rattle.cdi_ownership.proofs.Homes.{Chain, IsStaying, chain_map, IsReadyOf}
 use Rattle.cdi_ownership.proofs.Changes.{Moves, leaves, removes}
 use Rattle.cdi_ownership.proofs.Spans.{rel_destroyed}
@@ -163,7 +163,7 @@ module _ (t : Tables) where
     w1 = after_change (Change.Leave n) w0
 
     abbrev left : Core
-    left = in_stage phases.Leaving c
+    left = with_phase phases.Leaving c
 
     left_world : Inv w1 × Moves (λ c b. ⊥) (λ k. Unit {0}) n (Some left) w0 w1 × (w1.next ≡ w0.next)
     left_world = leaves w0 n g0 c e ready

@@ -4,4 +4,4 @@
 pub mod laws;
 pub mod options;
 
-pub use options::{Mode, Options};
+pub use options::{MAX_SLICE, Mode, Options};

@@ -16,7 +16,7 @@ use Rattle.cdi_machine.specs.World.{World, Change, after_change, instance_at, fo
 use Rattle.cdi_ownership.specs.Whose.{IsIn, IsHeld}
 use Rattle.cdi_ownership.proofs.Lists.{IsAmong, in_left, among_others, among_left}
 use Rattle.cdi_ownership.proofs.Holdings.{IsMaking, AllHeld, all_held_map, all_held_left, held_left, held_once, held_apart, making_left}
-use Rattle.cdi_ownership.proofs.Cores.{Core, core_of, core_at, deps_at, in_stage, is_there, when_own, when_other, core_ready, core_leaving, ready_was, ready_stays, ready_own, ready_only, leaving_was, leaving_stays, leaving_only, core_gone, core_left, deps_gone, deps_left, core_born, core_before, deps_born, deps_before, no_deps}
+use Rattle.cdi_ownership.proofs.Cores.{Core, core_of, core_at, deps_at, with_phase, is_there, when_own, when_other, core_ready, core_leaving, ready_was, ready_stays, ready_own, ready_only, leaving_was, leaving_stays, leaving_only, core_gone, core_left, deps_gone, deps_left, core_born, core_before, deps_born, deps_before, no_deps}
 use Rattle.cdi_ownership.proofs.Places.{context_or, context_own, context_other}
 use Rattle.cdi_store.specs.declared.references.Reference.{Reference}
 use Rattle.cdi_ownership.proofs.Homes.{codes, provisions, AreParameters, MayOwn, IsNewAt, IsReferred, being, Grown, grown_self, Inv, HeldIn, IsReadyOf, Placed, OnStack, targets}
@@ -137,14 +137,14 @@ grown_less : (n k : ℕ) (ts : List (List ℕ)) → Grown k ts (map (all_but n) 
 grown_less n k [] = tt
 grown_less n k (xs ∷ ts) = (λ m h. inl (in_left m n xs h).1, grown_less n k ts)
 
-pub leave_stage : (p : Phase) (c d : Core) → Some (in_stage p c) ≡ Some d → d.phase ≡ p
-leave_stage p c d e = let q : in_stage p c ≡ d = cc in ap (λ (z : Core). z.phase) (sym q)
+pub leave_phase : (p : Phase) (c d : Core) → Some (with_phase p c) ≡ Some d → d.phase ≡ p
+leave_phase p c d e = let q : with_phase p c ≡ d = cc in ap (λ (z : Core). z.phase) (sym q)
 
-pub leave_owner : (p : Phase) (c d : Core) → Some (in_stage p c) ≡ Some d → d.owner ≡ c.owner
-leave_owner p c d e = let q : in_stage p c ≡ d = cc in ap (λ (z : Core). z.owner) (sym q)
+pub leave_owner : (p : Phase) (c d : Core) → Some (with_phase p c) ≡ Some d → d.owner ≡ c.owner
+leave_owner p c d e = let q : with_phase p c ≡ d = cc in ap (λ (z : Core). z.owner) (sym q)
 
-pub leave_component : (p : Phase) (c d : Core) → Some (in_stage p c) ≡ Some d → d.component ≡ c.component
-leave_component p c d e = let q : in_stage p c ≡ d = cc in ap (λ (z : Core). z.component) (sym q)
+pub leave_component : (p : Phase) (c d : Core) → Some (with_phase p c) ≡ Some d → d.component ≡ c.component
+leave_component p c d e = let q : with_phase p c ≡ d = cc in ap (λ (z : Core). z.component) (sym q)
 
 -- two that stand for one number
 pub one_core : {c d : Core} {x : Option Core} → x ≡ Some c → x ≡ Some d → d ≡ c
@@ -153,14 +153,14 @@ one_core {c} {d} {x} e f = let q : Some d ≡ Some c = sym f ∙ e in cc
 module _ (w : World) (n : ℕ) (g : Inv w) where
   -- what is made of w
   module _ (c : Core) (e : core_at n w.instances ≡ Some c) (ready : c.phase ≡ phases.Ready) where
-    leave_own : core_at n (with_leaving n w.instances) ≡ Some (in_stage phases.Leaving c)
-    leave_own = core_leaving n w.instances n ∙ (ap (Rattle.cdi_ownership.proofs.Cores.when (nat_eq n n) (in_stage phases.Leaving)) e ∙ when_own n (in_stage phases.Leaving) c)
+    leave_own : core_at n (with_leaving n w.instances) ≡ Some (with_phase phases.Leaving c)
+    leave_own = core_leaving n w.instances n ∙ (ap (Rattle.cdi_ownership.proofs.Cores.when (nat_eq n n) (with_phase phases.Leaving)) e ∙ when_own n (with_phase phases.Leaving) c)
 
     leave_other : (k : ℕ) → k ≢ n → core_at k (with_leaving n w.instances) ≡ core_at k w.instances
-    leave_other k d = core_leaving n w.instances k ∙ when_other n k (in_stage phases.Leaving) (core_at k w.instances) d
+    leave_other k d = core_leaving n w.instances k ∙ when_other n k (with_phase phases.Leaving) (core_at k w.instances) d
 
     no_leaving : (d : Core) → core_at n (with_leaving n w.instances) ≡ Some d → d.phase ≡ phases.Ready → ⊥
-    no_leaving d f r = let p = leave_stage phases.Leaving c d (sym leave_own ∙ f) in let q : phases.Ready ≡ phases.Leaving = sym r ∙ p in cc
+    no_leaving d f r = let p = leave_phase phases.Leaving c d (sym leave_own ∙ f) in let q : phases.Ready ≡ phases.Leaving = sym r ∙ p in cc
 
     dep_owner : (m : ℕ) → IsIn n (deps_at m w.instances) → c.owner ≡ owners.Instance m
     dep_owner m h = let q = g.depends m n h in ap (λ (z : Core). z.owner) (one_core q.1 e)
@@ -203,7 +203,7 @@ module _ (w : World) (n : ℕ) (g : Inv w) where
     }
       where
         never : (y : Context) (a : ℕ) → core_at n v.instances ≡ Some (being a y) → ⊥
-        never y a q = let z = leave_stage phases.Leaving c (being a y) (sym leave_own ∙ (sym (ap (core_at n) i) ∙ q)) in let r : phases.New ≡ phases.Leaving = z in cc
+        never y a q = let z = leave_phase phases.Leaving c (being a y) (sym leave_own ∙ (sym (ap (core_at n) i) ∙ q)) in let r : phases.New ≡ phases.Leaving = z in cc
 
     dep_on : (v : World) → v.instances ≡ with_leaving n w.instances → (k m : ℕ) → k ≢ n → IsIn k (deps_at m w.instances) → IsIn k (deps_at m v.instances)
     dep_on v i k m d h = subst (λ z. IsIn k (deps_at m z)) (sym i) (leaving_stays n w.instances c e k m d h)
@@ -215,7 +215,7 @@ module _ (w : World) (n : ℕ) (g : Inv w) where
     stood = g.placed n c e ready
 
     abbrev pub LeftTo : World → Type 0
-    LeftTo v = Inv v × Moves (λ c b. ⊥) (λ k. Unit {0}) n (Some (in_stage phases.Leaving c)) w v × (v.next ≡ w.next)
+    LeftTo v = Inv v × Moves (λ c b. ⊥) (λ k. Unit {0}) n (Some (with_phase phases.Leaving c)) w v × (v.next ≡ w.next)
 
     leave_by : (o : Owner) (component : Component) → c.owner ≡ o → c.component ≡ component → LeftTo (without_owned n component o (with_instances (with_leaving n) w))
     leave_by (owners.Instance m) component o q =

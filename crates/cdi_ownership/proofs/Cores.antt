@@ -32,8 +32,8 @@ list_of (Some o) = o.dependents
 abbrev pub deps_at : ℕ → Instances → List ℕ
 deps_at n m = list_of (at m n)
 
-abbrev pub in_stage : Phase → Core → Core
-in_stage p c = record c { phase = p }
+abbrev pub with_phase : Phase → Core → Core
+with_phase p c = record c { phase = p }
 
 abbrev pub when : Bool → (Core → Core) → Option Core → Option Core
 when b u x = option_map (λ v. cond b (u v) v) x
@@ -51,14 +51,14 @@ core_same m k f q n = ap (option_map core_of) (at_adjusted m k f n) ∙ by (at m
     by None = refl
     by (Some x) = over (nat_eq n k) x
 
-pub core_staged : (m : Instances) (k : ℕ) (p : Phase) (n : ℕ) → core_at n (in_phase p k m) ≡ when (nat_eq n k) (in_stage p) (core_at n m)
-core_staged m k p n = ap (option_map core_of) (at_adjusted m k (λ o. record o { phase = p }) n) ∙ by (at m n)
+pub core_phased : (m : Instances) (k : ℕ) (p : Phase) (n : ℕ) → core_at n (in_phase p k m) ≡ when (nat_eq n k) (with_phase p) (core_at n m)
+core_phased m k p n = ap (option_map core_of) (at_adjusted m k (λ o. record o { phase = p }) n) ∙ by (at m n)
   where
-    over : (b : Bool) (x : Instance) → core_of (cond b (record x { phase = p }) x) ≡ cond b (in_stage p (core_of x)) (core_of x)
+    over : (b : Bool) (x : Instance) → core_of (cond b (record x { phase = p }) x) ≡ cond b (with_phase p (core_of x)) (core_of x)
     over true x = refl
     over false x = refl
 
-    by : (o : Option Instance) → option_map core_of (option_map (λ x. cond (nat_eq n k) (record x { phase = p }) x) o) ≡ when (nat_eq n k) (in_stage p) (option_map core_of o)
+    by : (o : Option Instance) → option_map core_of (option_map (λ x. cond (nat_eq n k) (record x { phase = p }) x) o) ≡ when (nat_eq n k) (with_phase p) (option_map core_of o)
     by None = refl
     by (Some x) = ap (λ z. Some z) (over (nat_eq n k) x)
 
@@ -141,11 +141,11 @@ core_owner : (o : Option Instance) (f : Owner → Instances → Instances) → (
 core_owner None f q live k = refl
 core_owner (Some o) f q live k = q o.owner live k
 
-pub core_ready : (n : ℕ) (live : Instances) (k : ℕ) → core_at k (with_ready n live) ≡ when (nat_eq k n) (in_stage phases.Ready) (core_at k live)
-core_ready n live k = core_staged (for_owner (at live n) (with_dependent n) live) n phases.Ready k ∙ ap (when (nat_eq k n) (in_stage phases.Ready)) (core_owner (at live n) (with_dependent n) (core_dependent n) live k)
+pub core_ready : (n : ℕ) (live : Instances) (k : ℕ) → core_at k (with_ready n live) ≡ when (nat_eq k n) (with_phase phases.Ready) (core_at k live)
+core_ready n live k = core_phased (for_owner (at live n) (with_dependent n) live) n phases.Ready k ∙ ap (when (nat_eq k n) (with_phase phases.Ready)) (core_owner (at live n) (with_dependent n) (core_dependent n) live k)
 
-pub core_leaving : (n : ℕ) (live : Instances) (k : ℕ) → core_at k (with_leaving n live) ≡ when (nat_eq k n) (in_stage phases.Leaving) (core_at k live)
-core_leaving n live k = core_staged (for_owner (at live n) (without_dependent n) live) n phases.Leaving k ∙ ap (when (nat_eq k n) (in_stage phases.Leaving)) (core_owner (at live n) (without_dependent n) (core_less n) live k)
+pub core_leaving : (n : ℕ) (live : Instances) (k : ℕ) → core_at k (with_leaving n live) ≡ when (nat_eq k n) (with_phase phases.Leaving) (core_at k live)
+core_leaving n live k = core_phased (for_owner (at live n) (without_dependent n) live) n phases.Leaving k ∙ ap (when (nat_eq k n) (with_phase phases.Leaving)) (core_owner (at live n) (without_dependent n) (core_less n) live k)
 
 -- of another, and of itself
 pub when_other : (n k : ℕ) (u : Core → Core) (x : Option Core) → k ≢ n → when (nat_eq k n) u x ≡ x

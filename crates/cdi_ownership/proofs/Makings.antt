@@ -17,10 +17,10 @@ use Rattle.cdi_machine.specs.World.{World, Change, after_change, instance_at, fo
 use Rattle.cdi_ownership.specs.Whose.{IsIn, IsHeld}
 use Rattle.cdi_ownership.proofs.Lists.{IsAmong, HasTop, in_either, among_new, among_old, among_either}
 use Rattle.cdi_ownership.proofs.Holdings.{IsMaking, AllHeld, all_held_map, all_held_put, all_held_left, held_left, making_left, held_put, put_held, making_put, making_none}
-use Rattle.cdi_ownership.proofs.Cores.{Core, core_at, deps_at, in_stage, when, is_there, when_own, when_other, core_ready, ready_was, ready_stays, ready_own, ready_only, core_gone, core_left, deps_gone, deps_left}
+use Rattle.cdi_ownership.proofs.Cores.{Core, core_at, deps_at, with_phase, when, is_there, when_own, when_other, core_ready, ready_was, ready_stays, ready_own, ready_only, core_gone, core_left, deps_gone, deps_left}
 use Rattle.cdi_ownership.proofs.Places.{context_or, context_own, context_other}
 use Rattle.cdi_ownership.proofs.Homes.{provisions, IsReferred, being, Grown, grown_self, Inv, HeldIn, IsReadyOf, Placed, targets}
-use Rattle.cdi_ownership.proofs.Changes.{Moves, Kept, inv_kept, one_core, leave_stage, leave_owner, leave_component}
+use Rattle.cdi_ownership.proofs.Changes.{Moves, Kept, inv_kept, one_core, leave_phase, leave_owner, leave_component}
 
 -- the pair that isn't told to be still making
 abbrev pub For : Component → Owner → Context → ℕ → Type 0
@@ -49,11 +49,11 @@ module _ (w : World) (n : ℕ) (g : Inv w) (c : Core) (e : core_at n w.instances
 
   -- ---- it is ready
 
-  own_ready : core_at n (with_ready n w.instances) ≡ Some (in_stage phases.Ready c)
-  own_ready = core_ready n w.instances n ∙ (ap (when (nat_eq n n) (in_stage phases.Ready)) e ∙ when_own n (in_stage phases.Ready) c)
+  own_ready : core_at n (with_ready n w.instances) ≡ Some (with_phase phases.Ready c)
+  own_ready = core_ready n w.instances n ∙ (ap (when (nat_eq n n) (with_phase phases.Ready)) e ∙ when_own n (with_phase phases.Ready) c)
 
   other_ready : (k : ℕ) → k ≢ n → core_at k (with_ready n w.instances) ≡ core_at k w.instances
-  other_ready k d = core_ready n w.instances k ∙ when_other n k (in_stage phases.Ready) (core_at k w.instances) d
+  other_ready k d = core_ready n w.instances k ∙ when_other n k (with_phase phases.Ready) (core_at k w.instances) d
 
   stands : {component : Component} {o : Owner} → c.owner ≡ o → c.component ≡ component → core_at n (with_ready n w.instances) ≡ Some (record { component = component; owner = o; phase = phases.Ready })
   stands {component} {o} p q = own_ready ∙ ap (λ z. Some z) (ap (λ x. record { component = x; owner = c.owner; phase = phases.Ready }) q ∙ ap (λ x. record { component = component; owner = x; phase = phases.Ready }) p)
@@ -94,7 +94,7 @@ module _ (w : World) (n : ℕ) (g : Inv w) (c : Core) (e : core_at n w.instances
   }
     where
       never : (y : Context) (a : ℕ) → core_at n v.instances ≡ Some (being a y) → ⊥
-      never y a q = let z = leave_stage phases.Ready c (being a y) (sym own_ready ∙ (sym (ap (core_at n) i) ∙ q)) in let r : phases.New ≡ phases.Ready = z in cc
+      never y a q = let z = leave_phase phases.Ready c (being a y) (sym own_ready ∙ (sym (ap (core_at n) i) ∙ q)) in let r : phases.New ≡ phases.Ready = z in cc
 
   -- what it is, if it is made for this pair
   own_being : (y : Context) (a : ℕ) → For c.component c.owner y a → core_at n w.instances ≡ Some (being a y)
@@ -107,7 +107,7 @@ module _ (w : World) (n : ℕ) (g : Inv w) (c : Core) (e : core_at n w.instances
   not_among h = let q = g.borrowed n h in not_ready q.0 owners.Borrower q.1
 
   abbrev pub SettledTo : World → Type 0
-  SettledTo v = Inv v × Moves (For c.component c.owner) (λ k. k ≤ n) n (Some (in_stage phases.Ready c)) w v × (v.next ≡ w.next)
+  SettledTo v = Inv v × Moves (For c.component c.owner) (λ k. k ≤ n) n (Some (with_phase phases.Ready c)) w v × (v.next ≡ w.next)
 
   settle_by : (o : Owner) (component : Component) → c.owner ≡ o → c.component ≡ component → CanStand w component o → SettledTo (with_owned n component o (with_instances (with_ready n) w))
   settle_by (owners.Instance m) component o q can =

@@ -16,7 +16,7 @@ use Rattle.cdi_machine.specs.World.{World, Change, after_change}
 use Rattle.cdi_ownership.specs.Whose.{IsIn, IsHeld}
 use Rattle.cdi_ownership.proofs.Lists.{IsAmong}
 use Rattle.cdi_ownership.proofs.Holdings.{IsMaking, IsFree, AllHeld, all_held_map, all_held_put, held_put, put_making, making_put, free_none, free_apart}
-use Rattle.cdi_ownership.proofs.Cores.{Core, core_of, core_at, deps_at, in_stage, core_born, core_before, deps_born, deps_before}
+use Rattle.cdi_ownership.proofs.Cores.{Core, core_of, core_at, deps_at, with_phase, core_born, core_before, deps_born, deps_before}
 use Rattle.cdi_ownership.proofs.Places.{context_or, context_own, context_other}
 use Rattle.cdi_ownership.proofs.Homes.{codes, provisions, parameters_same, being, Grown, grown_self, grown_then, Inv, HeldIn, IsReadyOf, Placed, OnStack, Busy, IsFixed, IsStaying, Chain, Rel, rel_self, rel_then, targets, lt_or, chain_map, fixed_then, was_busy}
 use Rattle.cdi_ownership.proofs.Changes.{Moves, inv_kept, one_core}

@@ -1,5 +1,5 @@
 //! Where the bytes of files come from.
-ghost use Rattle.std.specs.Prelude.{ℕ, List, IfOk, OnErr};
+ghost use Rattle.std.specs.Prelude.{◌≡◌, ℕ, List, IfOk, OnErr};
 ghost use Rattle.cdi_program.specs.Files.{GivesFront, IsFrontOf};
 
 use std::alloc::Global;
@@ -63,7 +63,9 @@ pub struct HostFiles<'a, F = HostRuntime> {
 
 impl<'a, F> HostFiles<'a, F> {
     /// The files of the machine that the program runs on.
-    pub fn new(opener: &'a F) -> HostFiles<'a, F> {
+    pub fn new(opener: &'a F) -> HostFiles<'a, F>
+        ensures { result.opener.now ≡ opener.now }
+    {
         HostFiles { opener }
     }
 }

@@ -105,7 +105,7 @@ fn run_bytes<R: Source, W: Sink, E: Sink>(
         (output_of E.written E.has_failed E.is_passed_on)
         input.old input.new output.old output.new errors.old errors.new) result }
 {
-    let ending = drive(alloc, bytes, options.settings, input, output);
+    let ending = drive(alloc, bytes, options.settings, options.slice, input, output);
     tell_ending(alloc, ending, options.file, bytes, output, errors);
     ending.status()
 }

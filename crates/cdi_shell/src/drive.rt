@@ -100,6 +100,7 @@ fn live<R: Source, W: Sink, D: Driver + Drop>(
     tables: RunTables,
     driver: D,
     settings: Settings,
+    slice: u32,
     input: &mut R,
     output: &mut W,
 ) -> Ending
@@ -118,7 +119,7 @@ fn live<R: Source, W: Sink, D: Driver + Drop>(
         (W.has_failed output.old) (W.has_failed output.new) }
 {
     let container = Container::start(alloc, tables, driver, settings.limits);
-    let mut session = Session::new(container, settings.shows_trace);
+    let mut session = Session::new(container, settings.shows_trace, u64::from(slice));
     let served = session.serve(alloc, input, output);
     after_serving(served, session.container().halted())
 }
@@ -128,6 +129,7 @@ fn play_scripts<R: Source, W: Sink>(
     alloc: Global,
     prepared: Prepared,
     settings: Settings,
+    slice: u32,
     input: &mut R,
     output: &mut W,
 ) -> Result<Ending, AllocError>
@@ -183,7 +185,7 @@ fn play_scripts<R: Source, W: Sink>(
             )?;
             let chooser = Chooser::new(choice);
             let driver = Registered { bodies, chooser };
-            Ok(live(alloc, tables, driver, settings, input, output))
+            Ok(live(alloc, tables, driver, settings, slice, input, output))
         }
         Err(unaccepted) => Ok(refuse_unaccepted(alloc, unaccepted, output)),
     }
@@ -194,6 +196,7 @@ fn run<R: Source, W: Sink>(
     alloc: Global,
     deployment: &[u8],
     settings: Settings,
+    slice: u32,
     input: &mut R,
     output: &mut W,
 ) -> Ending
@@ -210,7 +213,7 @@ fn run<R: Source, W: Sink>(
         (W.has_failed output.old) (W.has_failed output.new) }
 {
     match prepare(alloc, deployment) {
-        Ok(prepared) => match play_scripts(alloc, prepared, settings, input, output) {
+        Ok(prepared) => match play_scripts(alloc, prepared, settings, slice, input, output) {
             Ok(ending) => ending,
             Err(_) => STARVED,
         },
@@ -223,15 +226,16 @@ fn run<R: Source, W: Sink>(
 ///
 /// A refused deployment is told by its first fault, by the first of its scripts that is bad, or by its problems, each on
 /// a line. Otherwise the scripts are the bodies, the container is started and its command lines are answered, as
-/// [`Session::serve`] does: the lines that stand written are those of a run of the machine for the lines that were read, in which
+/// [`Session::serve`] does, each by turns of so many entries, of which 0 counts as 1, and the boot at once: the lines that stand written are those of a run of the machine for the lines that were read, in which
 /// each body does what its script does next. Where no read or write fails and memory does not run out, they are a
-/// function of the settings, the deployment and the input, also where that is too long. All is passed on before each read,
+/// function of the settings, the deployment and the input, whatever the turns are, also where that is too long. All is passed on before each read,
 /// and where the run ends without a fault. A read, a write or a flush that fails is never passed over: the run ends then
 /// with a fault, whose status is 3.
 pub fn drive<R: Source, W: Sink>(
     alloc: Global,
     deployment: &[u8],
     settings: Settings,
+    slice: u32,
     input: &mut R,
     output: &mut W,
 ) -> Ending
@@ -245,5 +249,5 @@ pub fn drive<R: Source, W: Sink>(
         (R.has_failed input.old) (R.has_failed input.new)
         (W.has_failed output.old) (W.has_failed output.new) (W.is_passed_on output.new) result }
 {
-    run(alloc, deployment, settings, input, output)
+    run(alloc, deployment, settings, slice, input, output)
 }

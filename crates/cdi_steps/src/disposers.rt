@@ -99,10 +99,3 @@ pub fn disposed<T: Tables, W: Contents>(
 {
     dispose_next(tables, world.alloc(), Box::into_inner(disposal))
 }
-
-/// A disposer threw: no other is called, and the dependents are destroyed.
-pub fn disposed_with(number: u32) -> Next
-    ensures { result ≡ Next.Needs (Task.Start (Call.Release number)) (Frame.Releasing number) }
-{
-    free(number)
-}

@@ -4,7 +4,7 @@ use std::alloc::{AllocError, Global};
 
 /// How far the life of an instance has come.
 #[derive(Clone, Copy, Debug, PartialEq, Eq, Drop)]
-enum Stage {
+enum Phase {
     New,
     Ready,
     Ending,
@@ -16,7 +16,7 @@ enum Stage {
 #[derive(Drop)]
 struct Instance {
     bean: Place,
-    stage: Stage,
+    phase: Phase,
     callbacks: Vec<Place>,
 }
 
@@ -73,16 +73,16 @@ impl Ledger {
         self.instances.get(number.checked_sub(self.first)? as usize)
     }
 
-    fn stage(&self, number: u32) -> Option<Stage> {
-        Some(self.instance(number)?.stage)
+    fn phase(&self, number: u32) -> Option<Phase> {
+        Some(self.instance(number)?.phase)
     }
 
-    fn put_stage(&mut self, number: u32, stage: Stage) {
+    fn put_phase(&mut self, number: u32, phase: Phase) {
         let Some(place) = number.checked_sub(self.first) else {
             return;
         };
         if let Some(instance) = self.instances.get_mut(place as usize) {
-            instance.stage = stage;
+            instance.phase = phase;
         }
     }
 
@@ -94,7 +94,7 @@ impl Ledger {
     fn stands(&self, bean: &Place) -> bool {
         self.beans.shared.contains(bean)
             && self.instances.iter().any(|other| other.bean == *bean
-                && (other.stage == Stage::New || other.stage == Stage::Ready))
+                && (other.phase == Phase::New || other.phase == Phase::Ready))
     }
 
     fn hear_new(&mut self, number: u32, bean: Place) -> Result<(), AllocError> {
@@ -111,29 +111,29 @@ impl Ledger {
         );
         let made = Instance {
             bean,
-            stage: Stage::New,
+            phase: Phase::New,
             callbacks: Vec::new(self.alloc),
         };
         self.instances.push(made)?;
         Ok(())
     }
 
-    fn hear_stage(&mut self, number: u32, from: Stage, to: Stage, sentence: &'static str) {
-        self.need(self.stage(number) == Some(from), sentence);
-        self.put_stage(number, to);
+    fn hear_phase(&mut self, number: u32, from: Phase, to: Phase, sentence: &'static str) {
+        self.need(self.phase(number) == Some(from), sentence);
+        self.put_phase(number, to);
     }
 
     fn hear_end(&mut self, number: u32) -> Result<(), AllocError> {
-        self.hear_stage(number, Stage::Ready, Stage::Ending, "what ends was ready");
+        self.hear_phase(number, Phase::Ready, Phase::Ending, "what ends was ready");
         self.ending.push(number)?;
         Ok(())
     }
 
     fn hear_gone(&mut self, number: u32) {
-        self.hear_stage(
+        self.hear_phase(
             number,
-            Stage::Ending,
-            Stage::Gone,
+            Phase::Ending,
+            Phase::Gone,
             "what is gone had its end",
         );
         let last = self.ending.pop();
@@ -156,7 +156,7 @@ impl Ledger {
     }
 
     fn hear_farewell(&mut self, number: u32, callback: Place) -> Result<(), AllocError> {
-        let is_ending = self.stage(number) == Some(Stage::Ending);
+        let is_ending = self.phase(number) == Some(Phase::Ending);
         self.need(is_ending, "callbacks run in the destruction");
         let is_first = self.is_first(number, callback)?;
         self.need(is_first, "each callback runs once");
@@ -165,13 +165,13 @@ impl Ledger {
 
     /// A body starts: on what is there, and in a destruction it is a callback or what that calls of its own.
     fn hear_run(&mut self, number: u32, member: Place) -> Result<(), AllocError> {
-        let stage = self.stage(number);
-        let is_there = matches!(stage, Some(Stage::New | Stage::Ready | Stage::Ending));
+        let phase = self.phase(number);
+        let is_there = matches!(phase, Some(Phase::New | Phase::Ready | Phase::Ending));
         self.need(is_there, "bodies start on what is there");
         if self.beans.farewells.contains(&member) {
             return self.hear_farewell(number, member);
         }
-        let may = stage != Some(Stage::Ending) || self.calls_own;
+        let may = phase != Some(Phase::Ending) || self.calls_own;
         self.need(may, "only farewells run in the destruction");
         Ok(())
     }
@@ -181,13 +181,13 @@ impl Ledger {
         match entry {
             Entry::New { number, bean } => self.hear_new(*number, *bean)?,
             Entry::Ready { number } => {
-                self.hear_stage(*number, Stage::New, Stage::Ready, "what is ready was new")
+                self.hear_phase(*number, Phase::New, Phase::Ready, "what is ready was new")
             }
             Entry::Drop { number } => {
-                self.hear_stage(
+                self.hear_phase(
                     *number,
-                    Stage::New,
-                    Stage::Dropped,
+                    Phase::New,
+                    Phase::Dropped,
                     "what is dropped was new",
                 )
             }
@@ -210,8 +210,8 @@ impl Ledger {
 
     /// Hears that a shutdown was answered done.
     pub fn hear_shutdown(&mut self) {
-        let is_empty = self.instances.iter().all(|instance| instance.stage == Stage::Gone
-            || instance.stage == Stage::Dropped);
+        let is_empty = self.instances.iter().all(|instance| instance.phase == Phase::Gone
+            || instance.phase == Phase::Dropped);
         self.need(is_empty, "a shutdown leaves nothing");
     }
 }

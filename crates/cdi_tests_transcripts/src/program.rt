@@ -1,5 +1,6 @@
 //! Running the program over one file.
 use cdi_lines::{Input, Output};
+use cdi_options::MAX_SLICE;
 use cdi_program::{Files, WordsError, run_program};
 use cdi_settings::Settings;
 use cdi_shell::drive::drive;
@@ -65,7 +66,9 @@ pub(crate) fn run<R: Read + Drop, W: Write>(
     let mut output = Output::new(writer);
     let mut errors = Output::new(Vec::new(alloc));
     let status = match settings_in(words) {
-        Some(settings) => drive(alloc, bytes, settings, &mut input, &mut output).status(),
+        Some(settings) => {
+            drive(alloc, bytes, settings, MAX_SLICE, &mut input, &mut output).status()
+        }
         None => run_program(
             alloc,
             Ok(words),

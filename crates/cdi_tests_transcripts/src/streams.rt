@@ -71,6 +71,25 @@ impl Run<'_> {
         }
     }
 
+    /// The run as it is, up to one by turns that differs.
+    pub(crate) fn by_turns(self, input: &[u8]) -> Result<Played, AllocError> {
+        let plain = self.over(input);
+        for slice in SLICES {
+            let Some(words) = with_slice(self.alloc, self.words, slice)? else {
+                return Ok(plain);
+            };
+            let sliced = Run {
+                words: words.as_slice(),
+                ..self
+            };
+            let played = sliced.over(input);
+            if played.status != plain.status || played.output != plain.output {
+                return Ok(played);
+            }
+        }
+        Ok(plain)
+    }
+
     /// The run over an input that comes in two parts, up to one that differs.
     fn in_parts(self, input: &[u8]) -> Played {
         let plain = self.over(input);
@@ -154,6 +173,25 @@ impl Run<'_> {
             output: Vec::new(self.alloc),
             errors: ran.errors,
         }
+    }
+}
+
+/// By turns of how many entries each run is played again.
+const SLICES: [&str; 4] = ["--slice=1", "--slice=2", "--slice=3", "--slice=1000"];
+
+/// The words of a run of the program with one more, if they don't say by turns of how many entries its commands are carried out.
+fn with_slice<'a>(
+    alloc: Global,
+    words: &[&'a str],
+    slice: &'a str,
+) -> Result<Option<Vec<&'a str>>, AllocError> {
+    match words {
+        ["cdi", "run", rest @ ..] if !rest.iter().any(|word| word.starts_with("--slice")) => {
+            let mut sliced = vec![in alloc; "cdi", "run", slice]?;
+            sliced.extend_from_slice(rest)?;
+            Ok(Some(sliced))
+        }
+        _ => Ok(None),
     }
 }
 

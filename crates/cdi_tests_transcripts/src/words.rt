@@ -2,7 +2,7 @@
 //!
 //! | Words | What is played |
 //! |---|---|
-//! | `cdi ..` | the program |
+//! | `cdi ..` | the program; a run also by turns of 1, 2, 3 and 1,000 entries |
 //! | `limits DEPTH TICKS` | what stands below it, under these limits |
 //! | `over ..`, `blanks ..`, `room ..`, `bytes ..` | one of these over other streams: see the module `streams` |
 //! | `numbered COUNT ..` | one of these with many items: see the module `numbered` |
@@ -116,7 +116,7 @@ fn play_words(
     input: &str,
 ) -> Result<Played, AllocError> {
     match words {
-        ["cdi" | "limits", ..] => Ok(run_of(alloc, words, deployment).over(input.as_bytes())),
+        ["cdi" | "limits", ..] => run_of(alloc, words, deployment).by_turns(input.as_bytes()),
         ["over", kind, words @ ..] => {
             let run = run_of(alloc, words, deployment);
             play_over(run, kind, input.as_bytes())

@@ -12,7 +12,7 @@ use Rattle.cdi_types.proofs.Refined.{below_from_path, edge_to, is_graph, nothing
 use Rattle.cdi_types.specs.Graph.{ProperPath}
 use Rattle.cdi_types.specs.Height.{count_below, height}
 use Rattle.cdi_types.specs.Nodes.{graph_of, place_of}
-use Rattle.cdi_types.specs.Stages.{has_path_through}
+use Rattle.cdi_types.specs.Rounds.{has_path_through}
 use Rattle.cdi_types.specs.Subtype.{IsAcyclic, IsBelow, IsSubtype, object, supertypes_of}
 use Rattle.cdi_types.specs.declared.declaration.TypeDeclaration.{TypeDeclaration}
 use Rattle.cdi_event_tables.specs.Events.{is_below_within, is_subtype}

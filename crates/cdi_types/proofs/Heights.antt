@@ -4,7 +4,7 @@ use Rattle.std.proofs.lemmas.Bool.{cases_Bool, cases_eq}
 use Rattle.std.specs.List.{Contains}
 use Rattle.cdi_types.specs.Graph.{targets_of, IsGraph, Path, ProperPath}
 use Rattle.cdi_types.specs.Height.{count_below, height}
-use Rattle.cdi_types.specs.Stages.{has_path_through}
+use Rattle.cdi_types.specs.Rounds.{has_path_through}
 use Rattle.cdi_types.proofs.Paths.{edge_within, path_from_through, through_from_path, path_from_proper}
 
 module _ (p q : ℕ → Bool) (more : (i : ℕ) → p i ≡ true → q i ≡ true) where

@@ -1,4 +1,4 @@
--- What the last stage says of the paths.
+-- What the last round says of the paths.
 use Rattle.std.proofs.Common.{◌≡◌, ◌≢◌, ◌↔◌, ◌∙◌, IsTrue, ℕ, zero, suc, ◌<◌, Bool, true, false, ◌||◌, ◌&&◌, List, [], length, refl, sym, ap, subst, ◌⊎◌, inl, inr, arith}
 use Rattle.std.proofs.lemmas.Bool.{cases_eq, cases_lt, eqb-true, true≢false}
 use Rattle.std.proofs.lemmas.List.{get_or_past}
@@ -7,9 +7,9 @@ use Rattle.std.specs.Cmp.{nat_eq_equiv}
 use Rattle.std.proofs.lemmas.Map.Views.{Contains-from_any, list_any-from_Contains}
 use Rattle.std.specs.List.{Contains}
 use Rattle.cdi_types.specs.Graph.{targets_of, IsGraph, Path, ProperPath}
-use Rattle.cdi_types.specs.Stages.{is_edge, has_path_through, has_bit_at, IsTable}
+use Rattle.cdi_types.specs.Rounds.{is_edge, has_path_through, has_bit_at, IsTable}
 
--- the last node of a stage as an inner one, and an earlier one
+-- the last node of a round as an inner one, and an earlier one
 at_last : (ab ak kk kb : Bool) → (ak || (ak && kk)) ≡ true → (kb || (kk && kb)) ≡ true → (ab || (ak && kb)) ≡ true
 at_last ab ak kk kb h g = grind arith
 
@@ -45,7 +45,7 @@ module _ (graph : List (List ℕ)) where
   through-more zero a b h = h
   through-more (suc k) a b h = more (has_path_through graph k a b) (has_path_through graph k a k && has_path_through graph k k b) (through-more k a b h)
 
-  -- a stage is closed under paths through its nodes
+  -- a round is closed under paths through its nodes
   through-closed : (k c : ℕ) → c < k → (a b : ℕ) → has_path_through graph k a c ≡ true → has_path_through graph k c b ≡ true → has_path_through graph k a b ≡ true
   through-closed zero c lt a b h g = absurd (omega arith)
   through-closed (suc k) c lt a b h g =
@@ -55,7 +55,7 @@ module _ (graph : List (List ℕ)) where
         | inr ne ↦ (let below : c < k = omega arith in at_earlier (R a b) (R a c) (R a k) (R k c) (R c b) (R c k) (R k b) (through-closed k c below a b) (through-closed k c below a k) (through-closed k c below k b) h g)
       ]
 
-  -- what a stage says is a path
+  -- what a round says is a path
   pub path_from_through : (k a b : ℕ) → has_path_through graph k a b ≡ true → ProperPath graph a b
   path_from_through zero a b h = (b, edge_from_test a b h, Path.here)
   path_from_through (suc k) a b h =
@@ -71,7 +71,7 @@ module _ (graph : List (List ℕ)) where
       none : targets_of graph a ≡ [] → Contains (targets_of graph a) b → b < length graph
       none is e = absurd (omega (arith, e.1, ap length is))
 
-  -- and each path stands in the last stage
+  -- and each path stands in the last round
   pub through_from_path : IsGraph graph → (a b c : ℕ) → Contains (targets_of graph a) b → Path graph b c → has_path_through graph (length graph) a c ≡ true
   through_from_path ok a b c e Path.here = through-more (length graph) a b (test_from_edge a b e)
   through_from_path ok a b c e (Path.step {b = m} f p) =

@@ -1,6 +1,6 @@
 -- How many nodes a node leads to by one edge or more: what falls with each edge of a graph without a cycle.
 use Rattle.std.specs.Prelude.{ℕ, zero, suc, ◌+◌, List, Bool, length, if◌then◌else◌}
-use Rattle.cdi_types.specs.Stages.{has_path_through}
+use Rattle.cdi_types.specs.Rounds.{has_path_through}
 
 -- how many of the numbers below n pass a test
 abbrev pub count_below : (ℕ → Bool) → ℕ → ℕ

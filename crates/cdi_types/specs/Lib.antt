@@ -5,7 +5,7 @@ pub mod Graph
 pub mod Height
 pub mod ListsThose
 pub mod BitRow
-pub mod Stages
+pub mod Rounds
 pub mod Declarations
 pub mod Index
 pub mod Lineage

@@ -5,7 +5,7 @@ ghost use Rattle.std.specs.Prelude.{◌≡◌, ◌<◌, ◌*◌, ◌||◌, ◌&&
 ghost use Rattle.std.specs.List.{list_any};
 ghost use Rattle.cdi_types.specs.BitRow.{has_bit};
 ghost use Rattle.cdi_types.specs.Graph.{IsGraph, Path, ProperPath};
-ghost use Rattle.cdi_types.specs.Stages.{is_edge, has_bit_at, IsTable};
+ghost use Rattle.cdi_types.specs.Rounds.{is_edge, has_bit_at, IsTable};
 
 use crate::bit_row::BitRow;
 use cdi_base::Seq;
@@ -24,7 +24,7 @@ pub struct Reachability {
 
 impl Model for Reachability {
     ghost use Rattle.std.specs.Prelude.{ℕ, List};
-    ghost use Rattle.cdi_types.specs.Stages.{IsTable};
+    ghost use Rattle.cdi_types.specs.Rounds.{IsTable};
 
     ghost Value = { List (List ℕ) };
 
@@ -33,7 +33,7 @@ impl Model for Reachability {
     ghost invariant = { λ r. IsTable r.graph r.rows.items };
 }
 
-/// The row of a node in the first stage: its edges.
+/// The row of a node in the first round: its edges.
 fn row_of(alloc: Global, targets: &[usize], width: usize) -> Result<BitRow, AllocError>
     requires { All (λ b. b < width * 64) targets.now }
     ensures len { IfOk result (λ row. length row ≡ width) }
@@ -47,7 +47,7 @@ fn row_of(alloc: Global, targets: &[usize], width: usize) -> Result<BitRow, Allo
     Ok(row)
 }
 
-/// The first stage: the edges.
+/// The first round: the edges.
 fn edges(alloc: Global, graph: &[Seq<usize>], width: usize) -> Result<Vec<BitRow>, AllocError>
     requires { All (All (λ b. b < width * 64)) graph.now }
     ensures len { IfOk result (λ rows. vec_len rows ≡ length graph.now) }
@@ -62,7 +62,7 @@ fn edges(alloc: Global, graph: &[Seq<usize>], width: usize) -> Result<Vec<BitRow
     Ok(rows)
 }
 
-/// The next stage: the paths through one node more, whose row is given.
+/// The next round: the paths through one node more, whose row is given.
 fn go_through(rows: &mut [BitRow], node: usize, inner: &BitRow)
     requires { All (λ row. length row ≡ length inner.now) rows.old }
     ensures width { All (λ row. length row ≡ length inner.now) rows.new }
@@ -76,7 +76,7 @@ fn go_through(rows: &mut [BitRow], node: usize, inner: &BitRow)
     }
 }
 
-/// The last stage: the paths of one edge or more.
+/// The last round: the paths of one edge or more.
 fn rows_of(alloc: Global, graph: &[Seq<usize>]) -> Result<Vec<BitRow>, AllocError>
     requires { IsGraph graph.now }
     ensures { IfOk result (λ rows. IsTable graph.now rows.items) }

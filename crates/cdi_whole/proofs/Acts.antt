@@ -299,7 +299,7 @@ module _ (t : Tables) (legal : Legal) (fits : Fits t legal) (moves : Moves t leg
   held_safe b n c a w g e h =
       let held : AllHeld (HeldBy w.instances c) (Some a) = subst (λ x. AllHeld (HeldBy w.instances c) x) e (held_at (HeldBy w.instances) w.contexts c g.held) in
       let s = all_at (λ p. EachHeld (HeldBy w.instances c) p.0 p.1) a.holds b (Is n) held h in
-      (s.instance, s.there, s.of, s.stage)
+      (s.instance, s.there, s.of, s.phase_is)
 
   proxy_safe : (b : ℕ) (w : World) → Good t legal w → FitsBean t legal b → Does (destroy_by (Proxy b)) w (Leaves w)
   proxy_safe b w g served = found t legal fits (t.bean b) served.bean _ w _ served.known (by_scope (context_of w.environment served.bean.scope) refl)

@@ -111,7 +111,7 @@ module _ (t : Tables) (legal : Legal) (fits : Fits t legal) (moves : Moves t leg
   attends_new w u n i c o a s q =
       let same : Some q.0 ≡ Some s.instance = sym q.1 ∙ s.there in
       let is : q.0 ≡ s.instance = cc in
-      let x = a.attends n q.0 q.2.0 i tt q.1 (inr (λ r. not_ready (sym s.stage ∙ (ap (λ (y : Instance). y.phase) (sym is) ∙ r)))) tt q.2.1 q.2.2 in
+      let x = a.attends n q.0 q.2.0 i tt q.1 (inr (λ r. not_ready (sym s.phase_is ∙ (ap (λ (y : Instance). y.phase) (sym is) ∙ r)))) tt q.2.1 q.2.2 in
       (x.0, x.1, (q.2.0, x.2, x.3))
 
   -- ---- injected fields
@@ -406,7 +406,7 @@ module _ (t : Tables) (legal : Legal) (fits : Fits t legal) (moves : Moves t leg
       by_kind (Kind.Producer p) e h = product_safe w.next b served.bean p owner start stood.0.good served.known e h stood.1
 
       gets : (d : Completion Given) (u : World) → After t legal w u → Creates bean.place w (components.Bean b) owner (first_fields bean.kind) g served older same (IsLoose t b) d u → Post t legal (Task.Create b owner) w d u
-      gets (Gave (Given.Number k)) u a h = (a, subst (λ z. Serves u.instances z (components.Bean b)) (sym h.0) (h.1.instance, h.1.there, h.1.of, h.1.stage), tt)
+      gets (Gave (Given.Number k)) u a h = (a, subst (λ z. Serves u.instances z (components.Bean b)) (sym h.0) (h.1.instance, h.1.there, h.1.of, h.1.phase_is), tt)
       gets (Gave (Given.Result v)) u a h = absurd h
       gets (Gave Given.Empty) u a h = (a, h, tt)
       gets (Threw x) u a h = (a, tt, h)

@@ -149,12 +149,12 @@ module _ (t : Tables) (legal : Legal) (fits : Fits t legal) (moves : Moves t leg
       let x : at w.instances n ≡ Some o = subst (λ i. at w.instances i ≡ Some o) (sym z) h in
       let y : Some s.stands.instance ≡ Some o = sym s.stands.there ∙ x in
       let v : s.stands.instance ≡ o = cc in
-      s.unready (sym s.stands.stage ∙ (ap (λ (i : Instance). i.phase) v ∙ r))
+      s.unready (sym s.stands.phase_is ∙ (ap (λ (i : Instance). i.phase) v ∙ r))
 
   -- a dependent is destroyed, and then the others
   next_one : (n d : ℕ) (w : World) → Good t legal w → IsUnready w.instances n → IdleIn w n → IsOwned w.instances d (owners.Instance n) → Does (handle (call (Task.Destroy d)) (λ _. call (Task.Release n)) throw) w (Released n w)
   next_one n d w g s f owned =
-      calling t legal fits (Task.Destroy d) _ throw w _ (g, (owned.1.instance, owned.1.there, owned.1.stage), (λ b. f (owner_busy owned.1 (λ e. (let q : phases.Ready ≡ phases.Leaving = e in cc)) b)), owned_free t legal w w d (owners.Instance n) g owned (unready_owner n w s))
+      calling t legal fits (Task.Destroy d) _ throw w _ (g, (owned.1.instance, owned.1.there, owned.1.phase_is), (λ b. f (owner_busy owned.1 (λ e. (let q : phases.Ready ≡ phases.Leaving = e in cc)) b)), owned_free t legal w w d (owners.Instance n) g owned (unready_owner n w s))
       (λ a u p. let q = owned_gone t legal w u d (owners.Instance n) (Of n) g owned (λ m k r e. (let z : n ≡ m = cc in r (sym z))) p in
       called t legal fits (Task.Release n) u _ (q.good, unready_then n w u q s, idle_then q n f) (λ c v r. released_then n w u q c v r))
       (λ x u p. absurd p)
@@ -226,7 +226,7 @@ module _ (t : Tables) (legal : Legal) (fits : Fits t legal) (moves : Moves t leg
     gone_from = after_change (Change.Leave n) (with_entry (entries.End n) w)
 
     stood : Stands w.instances n ready.0.component ready.0.owner phases.Ready
-    stood = record { instance = ready.0; there = ready.1; of = refl; owned = refl; stage = ready.2 }
+    stood = record { instance = ready.0; there = ready.1; of = refl; owned = refl; phase_is = ready.2 }
 
     left : AfterAt t legal (Other n) (But n) w gone_from × Stands gone_from.instances n ready.0.component ready.0.owner phases.Leaving × ((i : ℕ) → IsIn i (intercepted_in t ready.0.component) → Attends gone_from.instances n i)
     left = moves.leaves (with_entry (entries.End n) w) n ready.0.component ready.0.owner g stood idle free
@@ -281,7 +281,7 @@ module _ (t : Tables) (legal : Legal) (fits : Fits t legal) (moves : Moves t leg
           let i = latest_in ns n q in
           let s = g.borrowed n (subst (IsAmong n) (sym e) (inl i)) in
           let f : IdleIn w n = subst (AllIdle w) e h n i in
-          calling t legal fits (Task.Destroy n) _ throw w _ (g, (s.1.instance, s.1.there, s.1.stage), f, owned_free t legal w w n owners.Borrower g s (λ m o v q r. (let y : owners.Borrower ≡ owners.Instance m = v in cc)))
+          calling t legal fits (Task.Destroy n) _ throw w _ (g, (s.1.instance, s.1.there, s.1.phase_is), f, owned_free t legal w w n owners.Borrower g s (λ m o v q r. (let y : owners.Borrower ≡ owners.Instance m = v in cc)))
           (λ a u p. let r = owned_gone t legal w u n owners.Borrower Each g s (λ m d z v. (let y : owners.Borrower ≡ owners.Instance m = v in cc)) p in
           called t legal fits Task.Dismiss u _ (r.good, idle_left w u g r w.temporaries u.temporaries r.level h) (then-on u r))
           (λ x u p. absurd p)
@@ -317,7 +317,7 @@ module _ (t : Tables) (legal : Legal) (fits : Fits t legal) (moves : Moves t leg
 
       one : (n : ℕ) → (b : ℕ) → Stands w.instances n (components.Bean b) (owners.Context c) phases.Ready → Does (clear_from c (Some n)) w (λ d u. Gives d (After t legal w u))
       one n b s =
-          calling t legal fits (Task.Destroy n) _ throw w _ (g, (s.instance, s.there, s.stage), empty_idle w e n, bean_free w.instances n b (s.instance, s.there, s.of))
+          calling t legal fits (Task.Destroy n) _ throw w _ (g, (s.instance, s.there, s.phase_is), empty_idle w e n, bean_free w.instances n b (s.instance, s.there, s.of))
           (λ a u p. let r = bean_gone t legal w u n b (s.instance, s.there, s.of) p in
           called t legal fits (Task.Clear c) u _ (r.good, empty_then w u r e) (on_with u r))
           (λ x u p. absurd p)

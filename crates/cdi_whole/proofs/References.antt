@@ -109,7 +109,7 @@ module _ (t : Tables) (legal : Legal) (fits : Fits t legal) where
       lives c a n e h =
           let held : AllHeld (HeldBy w.instances c) (Some a) = subst (λ x. AllHeld (HeldBy w.instances c) x) e (held_at (HeldBy w.instances) w.contexts c g.held) in
           let s = all_at (λ p. EachHeld (HeldBy w.instances c) p.0 p.1) a.holds b (Is n) held h in
-          (s.instance, s.there, s.of, s.stage)
+          (s.instance, s.there, s.of, s.phase_is)
 
       by_held : (c : Context) (a : Active) (x : Option Held) → context_of w.environment served.bean.scope ≡ Some c → context_at w.contexts c ≡ Some a → at a.holds b ≡ x → Does (find_or_create b (record { context = c; has = a }) x) w (Post t legal (Task.Obtain b) w)
       by_held c a None s e h = by_status c s a.status

@@ -29,7 +29,7 @@ on_top {s = s} h = record { root = s; on = h; under = Under.self }
 
 -- the owner of what is busy is busy, unless that is being destroyed
 pub owner_busy : {i : Instances} {vs : List Invocation} {bodies : List ℕ} {d n : ℕ} {c : Component} {p : Phase} → Stands i d c (owners.Instance n) p → (p ≡ phases.Leaving → ⊥) → Busy i vs bodies d → Busy i vs bodies n
-owner_busy s f b = record { root = b.root; on = b.on; under = under_trans b.under (Under.up s.instance s.there (λ e. f (sym s.stage ∙ e)) s.owned Under.self) }
+owner_busy s f b = record { root = b.root; on = b.on; under = under_trans b.under (Under.up s.instance s.there (λ e. f (sym s.phase_is ∙ e)) s.owned Under.self) }
 
 module _ {t : Tables} {legal : Legal} {i : Instances} {next : ℕ} {contexts : Contexts} {ts : List (List ℕ)} {vs : List Invocation} {bodies : List ℕ} (g : Whole t legal i next contexts ts vs bodies) where
   pub older : (m k : ℕ) (o : Instance) → at i m ≡ Some o → o.owner ≡ owners.Instance k → k < m

@@ -42,7 +42,7 @@ other_phase {instances} {k} {n} s z f e =
     let x : at instances n ≡ Some s.instance = subst (λ i. at instances i ≡ Some s.instance) e s.there in
     let y : Some s.instance ≡ Some z.instance = sym x ∙ z.there in
     let v : s.instance ≡ z.instance = cc in
-    f (sym s.stage ∙ (ap (λ (i : Instance). i.phase) v ∙ z.stage))
+    f (sym s.phase_is ∙ (ap (λ (i : Instance). i.phase) v ∙ z.phase_is))
 
 same_component : {instances : Instances} {k n : ℕ} {c d : Component} {o r : Owner} {p q : Phase} → Stands instances k c o p → Stands instances n d r q → k ≡ n → c ≡ d
 same_component {instances} {k} {n} s z e =
@@ -128,7 +128,7 @@ module _ (t : Tables) (legal : Legal) (w : World) (component : Component) (owner
   MadeIn u = AfterAt t legal (Other w.next) Each w u × Stands u.instances w.next component owner phases.New
 
   stands : Stands more w.next component owner phases.New
-  stands = record { instance = new_one; there = there; of = refl; owned = refl; stage = refl }
+  stands = record { instance = new_one; there = there; of = refl; owned = refl; phase_is = refl }
 
   made_in : (contexts : Contexts) → AllContexts (HeldBy more) contexts → AfterOf t legal (Other w.next) Each w.instances w.next w.temporaries w.invocations w.bodies more (w.next + 1) contexts w.temporaries w.invocations w.bodies
   made_in contexts held = shift_each t legal w w.next more (w.next + 1) shift g grows never w.next (omega arith) contexts w.temporaries (one_more contexts held) one_path (levels_self w.next w.temporaries) not_dependent
@@ -244,7 +244,7 @@ shift_of {n} {p} {H} {before} {after} f = record {
 }
   where
     kept : (k : ℕ) (x y : Instance) → k ≢ n → Passed n p H k x y → Kept n x y
-    kept k x y d q = record { of = q.alike.of; owned = q.alike.owned; stage = q.stage d; fields = q.alike.fields; references = q.references; stays = q.stays; was = q.was }
+    kept k x y d q = record { of = q.alike.of; owned = q.alike.owned; phase_is = q.phase_is d; fields = q.alike.fields; references = q.references; stays = q.stays; was = q.was }
 
 whole_like : (t : Tables) (legal : Legal) (n : ℕ) (x y : Instance) → IsLike x y → IsWhole t legal n x → IsWhole t legal n y
 whole_like t legal n x y k h = record {
@@ -262,7 +262,7 @@ module _ (t : Tables) (legal : Legal) (w : World) (n : ℕ) (component : Compone
   here x e = let q : Some x ≡ Some s.instance = sym e ∙ s.there in cc
 
   pub now : Stands after n component owner p
-  now = let q = f.forth n s.instance s.there in record { instance = q.0; there = q.1; of = q.2.alike.of ∙ s.of; owned = q.2.alike.owned ∙ s.owned; stage = q.2.passed refl }
+  now = let q = f.forth n s.instance s.there in record { instance = q.0; there = q.1; of = q.2.alike.of ∙ s.of; owned = q.2.alike.owned ∙ s.owned; phase_is = q.2.passed refl }
 
   abbrev pub even : w.next ≤ w.next
   even = omega arith
@@ -298,7 +298,7 @@ module _ (t : Tables) (legal : Legal) (w : World) (n : ℕ) (component : Compone
   }
     where
       owned : (m : ℕ) → H m → (p ≡ phases.Ready) ⊎ ((m : ℕ) → H m → ⊥) → IsOwned after n (owners.Instance m)
-      owned m q (inl r) = (component, record { instance = now.instance; there = now.there; of = now.of; owned = now.owned ∙ h m q; stage = now.stage ∙ r })
+      owned m q (inl r) = (component, record { instance = now.instance; there = now.there; of = now.of; owned = now.owned ∙ h m q; phase_is = now.phase_is ∙ r })
       owned m q (inr k) = absurd (k m q)
 
       dependents : (y : Instance) (d : ℕ) → at after n ≡ Some y → IsIn d y.dependents → Tested d n → (x : Instance) × (at w.instances n ≡ Some x) × IsIn d x.dependents
@@ -366,7 +366,7 @@ module _ (t : Tables) (legal : Legal) (w : World) (n : ℕ) (component : Compone
   path_ready : Path t legal w n ready w.next step g (even t legal w n component owner phases.New phases.Ready (Owns owner) ready g s pass (owner_of owner) not_made) (before_it t legal w n component owner phases.New phases.Ready (Owns owner) ready g s pass (owner_of owner) not_made)
   path_ready = record {
     forth = λ x b e. (let y = pass.forth n x e in (y.0, y.1, y.2.alike.owned, λ d q. ready_leaving (sym (y.2.passed refl) ∙ q)));
-    back = λ y b e. (let x = pass.back n y e in (x.0, x.1, x.2.alike.owned, λ d q. new_leaving (sym s.stage ∙ (ap (λ (o : Instance). o.phase) (here x.0 x.1) ∙ q))));
+    back = λ y b e. (let x = pass.back n y e in (x.0, x.1, x.2.alike.owned, λ d q. new_leaving (sym s.phase_is ∙ (ap (λ (o : Instance). o.phase) (here x.0 x.1) ∙ q))));
   }
     where
       new_leaving : phases.New ≡ phases.Leaving → ⊥
@@ -488,7 +488,7 @@ module _ (t : Tables) (legal : Legal) (w : World) (n : ℕ) (component : Compone
 
   attends_left : (i : ℕ) → IsIn i (intercepted_in t component) → Attends left n i
   attends_left i h =
-      let a = g.attended n s.instance i s.there s.stage (subst (λ c. IsIn i (intercepted_in t c)) (sym s.of) h) in
+      let a = g.attended n s.instance i s.there s.phase_is (subst (λ c. IsIn i (intercepted_in t c)) (sym s.of) h) in
       let o = g.owned n s.instance a.0 s.there a.1 in
       let d : a.0 ≢ n = (λ e. (let q : owners.Instance n ≡ owner = same_owner o.1 s e in let l = older g n n s.instance s.there (s.owned ∙ sym q) in absurd (omega arith))) in
       let y = pass_left.forth n s.instance s.there in

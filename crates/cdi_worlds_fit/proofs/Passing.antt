@@ -27,7 +27,7 @@ pub record IsLike (x y : Instance) : Type 0 where
 pub record Passed (n : ℕ) (p : Phase) (H : ℕ → Type 0) (k : ℕ) (x y : Instance) : Type 0 where
   pub alike : IsLike x y
   pub references : y.references ≡ x.references
-  pub stage : k ≢ n → y.phase ≡ x.phase
+  pub phase_is : k ≢ n → y.phase ≡ x.phase
   pub passed : k ≡ n → y.phase ≡ p
   pub stays : (d : ℕ) → d ≢ n → IsIn d x.dependents → IsIn d y.dependents
   pub was : (d : ℕ) → d ≢ n → IsIn d y.dependents → IsIn d x.dependents
@@ -39,34 +39,34 @@ pub record Passes (n : ℕ) (p : Phase) (H : ℕ → Type 0) (before after : Ins
   pub back : (k : ℕ) (y : Instance) → at after k ≡ Some y → (x : Instance) × (at before k ≡ Some x) × Passed n p H k x y
 
 -- in a phase, and with other dependents
-abbrev pub in_stage : Bool → Phase → List ℕ → Instance → Instance
-in_stage b p ds x = record x { phase = cond b p x.phase; dependents = ds }
+abbrev pub with_phase : Bool → Phase → List ℕ → Instance → Instance
+with_phase b p ds x = record x { phase = cond b p x.phase; dependents = ds }
 
 -- if each instance becomes this
 pub passes_by : (n : ℕ) (p : Phase) (H : ℕ → Type 0) (before after : Instances) (D : ℕ → List ℕ → List ℕ)
-    → ((k : ℕ) → at after k ≡ option_map (λ x. in_stage (nat_eq k n) p (D k x.dependents) x) (at before k))
+    → ((k : ℕ) → at after k ≡ option_map (λ x. with_phase (nat_eq k n) p (D k x.dependents) x) (at before k))
     → ((k d : ℕ) (ds : List ℕ) → d ≢ n → IsIn d ds → IsIn d (D k ds))
     → ((k d : ℕ) (ds : List ℕ) → d ≢ n → IsIn d (D k ds) → IsIn d ds)
     → ((k : ℕ) (x : Instance) → at before k ≡ Some x → IsIn n (D k x.dependents) → H k)
     → ((k : ℕ) (x : Instance) → at before k ≡ Some x → H k → IsIn n (D k x.dependents))
     → Passes n p H before after
 passes_by n p H before after D e stays was has gains = record {
-  forth = λ k x q. (in_stage (nat_eq k n) p (D k x.dependents) x, e k ∙ ap (option_map (λ x. in_stage (nat_eq k n) p (D k x.dependents) x)) q, passed k x q);
+  forth = λ k x q. (with_phase (nat_eq k n) p (D k x.dependents) x, e k ∙ ap (option_map (λ x. with_phase (nat_eq k n) p (D k x.dependents) x)) q, passed k x q);
   back = λ k y q. from k y q (at before k) refl;
 }
   where
-    stage : (k : ℕ) (x : Instance) → k ≢ n → cond (nat_eq k n) p x.phase ≡ x.phase
-    stage k x d = elim (equal_or_not k n) [ inl s ↦ absurd (d s.1) | inr s ↦ rw s.0 refl ]
+    phase_is : (k : ℕ) (x : Instance) → k ≢ n → cond (nat_eq k n) p x.phase ≡ x.phase
+    phase_is k x d = elim (equal_or_not k n) [ inl s ↦ absurd (d s.1) | inr s ↦ rw s.0 refl ]
 
-    staged : (k : ℕ) (x : Instance) → k ≡ n → cond (nat_eq k n) p x.phase ≡ p
-    staged k x d = elim (equal_or_not k n) [ inl s ↦ rw s.0 refl | inr s ↦ absurd (s.1 d) ]
+    phased : (k : ℕ) (x : Instance) → k ≡ n → cond (nat_eq k n) p x.phase ≡ p
+    phased k x d = elim (equal_or_not k n) [ inl s ↦ rw s.0 refl | inr s ↦ absurd (s.1 d) ]
 
-    passed : (k : ℕ) (x : Instance) → at before k ≡ Some x → Passed n p H k x (in_stage (nat_eq k n) p (D k x.dependents) x)
+    passed : (k : ℕ) (x : Instance) → at before k ≡ Some x → Passed n p H k x (with_phase (nat_eq k n) p (D k x.dependents) x)
     passed k x q = record {
       alike = record { of = refl; owned = refl; fields = λ name. refl };
       references = refl;
-      stage = stage k x;
-      passed = staged k x;
+      phase_is = phase_is k x;
+      passed = phased k x;
       stays = λ d a h. stays k d x.dependents a h;
       was = λ d a h. was k d x.dependents a h;
       has = has k x q;
@@ -75,11 +75,11 @@ passes_by n p H before after D e stays was has gains = record {
 
     from : (k : ℕ) (y : Instance) → at after k ≡ Some y → (o : Option Instance) → at before k ≡ o → (x : Instance) × (at before k ≡ Some x) × Passed n p H k x y
     from k y q None h =
-        let z : at after k ≡ None = e k ∙ ap (option_map (λ x. in_stage (nat_eq k n) p (D k x.dependents) x)) h in
+        let z : at after k ≡ None = e k ∙ ap (option_map (λ x. with_phase (nat_eq k n) p (D k x.dependents) x)) h in
         absurd (cc)
     from k y q (Some x) h =
-        let z : at after k ≡ Some (in_stage (nat_eq k n) p (D k x.dependents) x) = e k ∙ ap (option_map (λ x. in_stage (nat_eq k n) p (D k x.dependents) x)) h in
-        let s : in_stage (nat_eq k n) p (D k x.dependents) x ≡ y = cc in
+        let z : at after k ≡ Some (with_phase (nat_eq k n) p (D k x.dependents) x) = e k ∙ ap (option_map (λ x. with_phase (nat_eq k n) p (D k x.dependents) x)) h in
+        let s : with_phase (nat_eq k n) p (D k x.dependents) x ≡ y = cc in
         (x, h, subst (Passed n p H k x) s (passed k x h))
 
 -- ---- an instance is ready
@@ -103,32 +103,32 @@ pub option_two : {X Y Z : Type 0} (f : X → Y) (g : Y → Z) (h : X → Z) (o :
 option_two f g h None e = refl
 option_two f g h (Some x) e = ap Some (e x)
 
-pub plain_stage : (b : Bool) (p : Phase) (x : Instance) → cond b (record x { phase = p }) x ≡ in_stage b p x.dependents x
-plain_stage true p x = refl
-plain_stage false p x = refl
+pub plain_phase : (b : Bool) (p : Phase) (x : Instance) → cond b (record x { phase = p }) x ≡ with_phase b p x.dependents x
+plain_phase true p x = refl
+plain_phase false p x = refl
 
-pub both_stages : (b c : Bool) (p : Phase) (ds : List ℕ) (x : Instance) → cond b (record (cond c (record x { dependents = ds }) x) { phase = p }) (cond c (record x { dependents = ds }) x) ≡ in_stage b p (cond c ds x.dependents) x
-both_stages true true p ds x = refl
-both_stages true false p ds x = refl
-both_stages false true p ds x = refl
-both_stages false false p ds x = refl
+pub both_phases : (b c : Bool) (p : Phase) (ds : List ℕ) (x : Instance) → cond b (record (cond c (record x { dependents = ds }) x) { phase = p }) (cond c (record x { dependents = ds }) x) ≡ with_phase b p (cond c ds x.dependents) x
+both_phases true true p ds x = refl
+both_phases true false p ds x = refl
+both_phases false true p ds x = refl
+both_phases false false p ds x = refl
 
 -- one in a phase
-pub staged : (n : ℕ) (p : Phase) (live : Instances) (k : ℕ) → at (in_phase p n live) k ≡ option_map (λ x. in_stage (nat_eq k n) p x.dependents x) (at live k)
-staged n p live k = at_adjusted live n (λ o. record o { phase = p }) k ∙ option_same _ _ (at live k) (plain_stage (nat_eq k n) p)
+pub phased : (n : ℕ) (p : Phase) (live : Instances) (k : ℕ) → at (in_phase p n live) k ≡ option_map (λ x. with_phase (nat_eq k n) p x.dependents x) (at live k)
+phased n p live k = at_adjusted live n (λ o. record o { phase = p }) k ∙ option_same _ _ (at live k) (plain_phase (nat_eq k n) p)
 
 -- and another with other dependents
-pub staged_both : (n m : ℕ) (p : Phase) (G : List ℕ → List ℕ) (live : Instances) (k : ℕ)
-    → at (in_phase p n (adjusted m (λ o. record o { dependents = G o.dependents }) live)) k ≡ option_map (λ x. in_stage (nat_eq k n) p (cond (nat_eq k m) (G x.dependents) x.dependents) x) (at live k)
-staged_both n m p G live k =
+pub phased_both : (n m : ℕ) (p : Phase) (G : List ℕ → List ℕ) (live : Instances) (k : ℕ)
+    → at (in_phase p n (adjusted m (λ o. record o { dependents = G o.dependents }) live)) k ≡ option_map (λ x. with_phase (nat_eq k n) p (cond (nat_eq k m) (G x.dependents) x.dependents) x) (at live k)
+phased_both n m p G live k =
     at_adjusted (adjusted m (λ o. record o { dependents = G o.dependents }) live) n (λ o. record o { phase = p }) k
     ∙ (ap (option_map (λ x. cond (nat_eq k n) (record x { phase = p }) x)) (at_adjusted live m (λ o. record o { dependents = G o.dependents }) k)
-    ∙ option_two (λ x. cond (nat_eq k m) (record x { dependents = G x.dependents }) x) _ _ (at live k) (λ x. both_stages (nat_eq k n) (nat_eq k m) p (G x.dependents) x))
+    ∙ option_two (λ x. cond (nat_eq k m) (record x { dependents = G x.dependents }) x) _ _ (at live k) (λ x. both_phases (nat_eq k n) (nat_eq k m) p (G x.dependents) x))
 
-joined : (n : ℕ) (owner : Owner) (live : Instances) (k : ℕ) → at (in_phase phases.Ready n (with_dependent n owner live)) k ≡ option_map (λ x. in_stage (nat_eq k n) phases.Ready (joining owner n k x.dependents) x) (at live k)
-joined n (owners.Context context) live k = staged n phases.Ready live k
-joined n (owners.Instance m) live k = staged_both n m phases.Ready (λ ds. all_but n ds ++ n ∷ []) live k
-joined n owners.Borrower live k = staged n phases.Ready live k
+joined : (n : ℕ) (owner : Owner) (live : Instances) (k : ℕ) → at (in_phase phases.Ready n (with_dependent n owner live)) k ≡ option_map (λ x. with_phase (nat_eq k n) phases.Ready (joining owner n k x.dependents) x) (at live k)
+joined n (owners.Context context) live k = phased n phases.Ready live k
+joined n (owners.Instance m) live k = phased_both n m phases.Ready (λ ds. all_but n ds ++ n ∷ []) live k
+joined n owners.Borrower live k = phased n phases.Ready live k
 
 join_stays : (n : ℕ) (owner : Owner) (k d : ℕ) (ds : List ℕ) → d ≢ n → IsIn d ds → IsIn d (joining owner n k ds)
 join_stays n (owners.Context context) k d ds a h = h
@@ -182,10 +182,10 @@ leaving owners.Borrower n k ds = ds
 abbrev pub left_among : ℕ → Owner → Instances → Instances
 left_among n owner live = in_phase phases.Leaving n (without_dependent n owner live)
 
-parted : (n : ℕ) (owner : Owner) (live : Instances) (k : ℕ) → at (left_among n owner live) k ≡ option_map (λ x. in_stage (nat_eq k n) phases.Leaving (leaving owner n k x.dependents) x) (at live k)
-parted n (owners.Context context) live k = staged n phases.Leaving live k
-parted n (owners.Instance m) live k = staged_both n m phases.Leaving (all_but n) live k
-parted n owners.Borrower live k = staged n phases.Leaving live k
+parted : (n : ℕ) (owner : Owner) (live : Instances) (k : ℕ) → at (left_among n owner live) k ≡ option_map (λ x. with_phase (nat_eq k n) phases.Leaving (leaving owner n k x.dependents) x) (at live k)
+parted n (owners.Context context) live k = phased n phases.Leaving live k
+parted n (owners.Instance m) live k = phased_both n m phases.Leaving (all_but n) live k
+parted n owners.Borrower live k = phased n phases.Leaving live k
 
 part_stays : (n : ℕ) (owner : Owner) (k d : ℕ) (ds : List ℕ) → d ≢ n → IsIn d ds → IsIn d (leaving owner n k ds)
 part_stays n (owners.Context context) k d ds a h = h

@@ -30,12 +30,12 @@ use Rattle.cdi_worlds_fit.proofs.Changes.{makes, settles, discards, leaves, remo
 pub record Quiet (x y : Instance) : Type 0 where
   pub of : y.component ≡ x.component
   pub owned : y.owner ≡ x.owner
-  pub stage : y.phase ≡ x.phase
+  pub phase_is : y.phase ≡ x.phase
   pub fields : (name : Name) → has y.fields name ≡ has x.fields name
   pub dependents : y.dependents ≡ x.dependents
 
 quiet_self : (x : Instance) → Quiet x x
-quiet_self x = record { of = refl; owned = refl; stage = refl; fields = λ name. refl; dependents = refl }
+quiet_self x = record { of = refl; owned = refl; phase_is = refl; fields = λ name. refl; dependents = refl }
 
 module _ (t : Tables) (legal : Legal) (w : World) (after : Instances) (f : ℕ → Instance → Instance) (is : (k : ℕ) → at after k ≡ option_map (f k) (at w.instances k)) (q : (k : ℕ) (x : Instance) → Quiet x (f k x)) (g : Good t legal w) where
   forth : (k : ℕ) (x : Instance) → at w.instances k ≡ Some x → at after k ≡ Some (f k x)
@@ -52,7 +52,7 @@ module _ (t : Tables) (legal : Legal) (w : World) (after : Instances) (f : ℕ �
   quiet k x y e = subst (Quiet x) e (q k x)
 
   stands : (k : ℕ) (c : Component) (o : Owner) (p : Phase) → Stands w.instances k c o p → Stands after k c o p
-  stands k c o p s = record { instance = f k s.instance; there = forth k s.instance s.there; of = (q k s.instance).of ∙ s.of; owned = (q k s.instance).owned ∙ s.owned; stage = (q k s.instance).stage ∙ s.stage }
+  stands k c o p s = record { instance = f k s.instance; there = forth k s.instance s.there; of = (q k s.instance).of ∙ s.of; owned = (q k s.instance).owned ∙ s.owned; phase_is = (q k s.instance).phase_is ∙ s.phase_is }
 
   lives : (k : ℕ) (c : Component) → Lives w.instances k c → Lives after k c
   lives k c s = (f k s.0, forth k s.0 s.1, (q k s.0).of ∙ s.2)
@@ -67,7 +67,7 @@ module _ (t : Tables) (legal : Legal) (w : World) (after : Instances) (f : ℕ �
     h.0,
     record {
       is = λ y e. (let x = back k y e in (quiet k x.0 y x.2).of ∙ h.1.is x.0 x.1);
-      made = λ y e p. (let x = back k y e in h.1.made x.0 x.1 (sym (quiet k x.0 y x.2).stage ∙ p));
+      made = λ y e p. (let x = back k y e in h.1.made x.0 x.1 (sym (quiet k x.0 y x.2).phase_is ∙ p));
     },
   )
 
@@ -79,14 +79,14 @@ module _ (t : Tables) (legal : Legal) (w : World) (after : Instances) (f : ℕ �
 
   under_forth : {s m : ℕ} → Under w.instances s m → Under after s m
   under_forth Under.self = Under.self
-  under_forth (Under.up {m = s} x e d o p) = Under.up (f s x) (forth s x e) (λ z. d (sym (q s x).stage ∙ z)) ((q s x).owned ∙ o) (under_forth p)
+  under_forth (Under.up {m = s} x e d o p) = Under.up (f s x) (forth s x e) (λ z. d (sym (q s x).phase_is ∙ z)) ((q s x).owned ∙ o) (under_forth p)
 
   under_back : {s m : ℕ} → Under after s m → Under w.instances s m
   under_back Under.self = Under.self
   under_back (Under.up {m = s} y e d o p) =
       let x = back s y e in
       let k = quiet s x.0 y x.2 in
-      Under.up x.0 x.1 (λ z. d (k.stage ∙ z)) (sym k.owned ∙ o) (under_back p)
+      Under.up x.0 x.1 (λ z. d (k.phase_is ∙ z)) (sym k.owned ∙ o) (under_back p)
 
   pub quiet_after : ((k : ℕ) (y : Instance) (field : Name) (r : Reference) → at after k ≡ Some y → at y.references field ≡ Some r → (point : Asked) × IsIn (field, point) (injected_in t y.component) × IsFor t after w.next point r)
       → AfterOf t legal Any Each w.instances w.next w.temporaries w.invocations w.bodies after w.next w.contexts w.temporaries w.invocations w.bodies
@@ -101,14 +101,14 @@ module _ (t : Tables) (legal : Legal) (w : World) (after : Instances) (f : ℕ �
       refer = refer;
       attended = λ k y i e p h. (let x = back k y e in
           let a = quiet k x.0 y x.2 in
-          attended x.0 y i a (g.attended k x.0 i x.1 (sym a.stage ∙ p) (subst (λ c. IsIn i (intercepted_in t c)) a.of h)));
+          attended x.0 y i a (g.attended k x.0 i x.1 (sym a.phase_is ∙ p) (subst (λ c. IsIn i (intercepted_in t c)) a.of h)));
       held = contexts_map (HeldBy w.instances) (HeldBy after) w.contexts (λ k b m s. stands m (components.Bean b) (owners.Context k) phases.Ready s) g.held;
       borrowed = λ k h. owned k owners.Borrower (g.borrowed k h);
       stacked = λ s o. (let x = g.stacked s o in (f s x.0, forth s x.0 x.1));
     };
-    keeps = λ k x p e h. record { instance = f k x; there = forth k x e; of = (q k x).of; owned = (q k x).owned; stage = (q k x).stage };
+    keeps = λ k x p e h. record { instance = f k x; there = forth k x e; of = (q k x).of; owned = (q k x).owned; phase_is = (q k x).phase_is };
     attends = λ k x d i p e h s m l. (f k x, forth k x e, subst (IsIn d) (sym (q k x).dependents) m, lives d (components.Interceptor i) l);
-    born = λ k y e l. (let x = back k y e in let a = quiet k x.0 y x.2 in (x.0, x.1, a.of, λ p. sym a.stage ∙ p));
+    born = λ k y e l. (let x = back k y e in let a = quiet k x.0 y x.2 in (x.0, x.1, a.of, λ p. sym a.phase_is ∙ p));
     grows = omega arith;
     stack = alike_self w.invocations;
     running = refl;
@@ -134,7 +134,7 @@ has_set (p ∷ fields) field v name = by (nat_eq field p.0) (has_set fields fiel
     by false h = ap (λ x. nat_eq name p.0 || x) h
 
 set_quiet : (b : Bool) (field : Name) (v : Value) (x : Instance) → Quiet x (cond b (record x { fields = set x.fields field v }) x)
-set_quiet true field v x = record { of = refl; owned = refl; stage = refl; fields = has_set x.fields field v; dependents = refl }
+set_quiet true field v x = record { of = refl; owned = refl; phase_is = refl; fields = has_set x.fields field v; dependents = refl }
 set_quiet false field v x = quiet_self x
 
 set_references : (b : Bool) (field : Name) (v : Value) (x : Instance) → (cond b (record x { fields = set x.fields field v }) x).references ≡ x.references
@@ -147,7 +147,7 @@ assigns t legal w n field v g =
     (λ k x. set_quiet (nat_eq k n) field v x) g (λ k x. set_references (nat_eq k n) field v x)
 
 value_quiet : (b : Bool) (v : Value) (x : Instance) → Quiet x (cond b (record x { value = v }) x)
-value_quiet true v x = record { of = refl; owned = refl; stage = refl; fields = λ name. refl; dependents = refl }
+value_quiet true v x = record { of = refl; owned = refl; phase_is = refl; fields = λ name. refl; dependents = refl }
 value_quiet false v x = quiet_self x
 
 value_references : (b : Bool) (v : Value) (x : Instance) → (cond b (record x { value = v }) x).references ≡ x.references
@@ -162,7 +162,7 @@ holds t legal w n v g =
 -- ---- references
 
 refer_quiet : (b : Bool) (field : Name) (r : Reference) (x : Instance) → Quiet x (cond b (record x { references = put field r x.references }) x)
-refer_quiet true field r x = record { of = refl; owned = refl; stage = refl; fields = λ name. refl; dependents = refl }
+refer_quiet true field r x = record { of = refl; owned = refl; phase_is = refl; fields = λ name. refl; dependents = refl }
 refer_quiet false field r x = quiet_self x
 
 refers_safe : (t : Tables) (legal : Legal) → RefersTo t legal

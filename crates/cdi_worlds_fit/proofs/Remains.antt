@@ -120,7 +120,7 @@ After t legal w u = AfterAt t legal Any Each w u
 pub after_self : (t : Tables) (legal : Legal) (P : ℕ → Type 0) (S : ℕ → ℕ → Type 0) (w : World) → Good t legal w → AfterAt t legal P S w w
 after_self t legal P S w g = record {
   good = g;
-  keeps = λ n o p e h. record { instance = o; there = e; of = refl; owned = refl; stage = refl };
+  keeps = λ n o p e h. record { instance = o; there = e; of = refl; owned = refl; phase_is = refl };
   attends = λ n o d i p e h s q l. (o, e, q, l);
   born = λ n x e l. (x, e, refl, λ q. q);
   grows = omega arith;
@@ -172,12 +172,12 @@ module _ {t : Tables} {legal : Legal} {P : ℕ → Type 0} {S : ℕ → ℕ → 
   after_on first a b = record {
     good = b.good;
     keeps = λ n o p e h. (let s = a.keeps n o p e h in
-        let r = b.keeps n s.instance p s.there (holds_then a n o s.instance s.stage h) in
-        record { instance = r.instance; there = r.there; of = r.of ∙ s.of; owned = r.owned ∙ s.owned; stage = r.stage ∙ s.stage });
+        let r = b.keeps n s.instance p s.there (holds_then a n o s.instance s.phase_is h) in
+        record { instance = r.instance; there = r.there; of = r.of ∙ s.of; owned = r.owned ∙ s.owned; phase_is = r.phase_is ∙ s.phase_is });
     attends = λ n o d i p e h q k l. (let s = a.keeps n o p e h in
         let x = a.attends n o d i p e h q k l in
         let same : Some s.instance ≡ Some x.0 = sym s.there ∙ x.1 in
-        let is : x.0.phase ≡ o.phase = ap (λ (y : Instance). y.phase) (sym (inside same)) ∙ s.stage in
+        let is : x.0.phase ≡ o.phase = ap (λ (y : Instance). y.phase) (sym (inside same)) ∙ s.phase_is in
         b.attends n x.0 d i p x.1 (holds_then a n o x.0 is h) q x.2 x.3);
     born = λ n x e l. (let y = b.born n x e (omega arith) in
         let z = a.born n y.0 y.1 l in
@@ -216,11 +216,11 @@ module _ {t : Tables} {legal : Legal} {P : ℕ → Type 0} {S : ℕ → ℕ → 
   pub stands_then : (n : ℕ) (c : Component) (o : Owner) (p : Phase) → P n → Stands i0 n c o p → Busy i0 v0 b0 n ⊎ (p ≡ phases.Ready → ⊥) → Stands i1 n c o p
   stands_then n c o p q s h =
       let r = a.keeps n s.instance q s.there (by h) in
-      record { instance = r.instance; there = r.there; of = r.of ∙ s.of; owned = r.owned ∙ s.owned; stage = r.stage ∙ s.stage }
+      record { instance = r.instance; there = r.there; of = r.of ∙ s.of; owned = r.owned ∙ s.owned; phase_is = r.phase_is ∙ s.phase_is }
     where
       by : Busy i0 v0 b0 n ⊎ (p ≡ phases.Ready → ⊥) → Holds i0 v0 b0 n s.instance
       by (inl b) = inl b
-      by (inr d) = inr (λ e. d (sym s.stage ∙ e))
+      by (inr d) = inr (λ e. d (sym s.phase_is ∙ e))
 
   pub lives_then : (n : ℕ) (c : Component) → P n → Lives i0 n c → Busy i0 v0 b0 n → Lives i1 n c
   lives_then n c q s h = let r = a.keeps n s.0 q s.1 (inl h) in (r.instance, r.there, r.of ∙ s.2)

@@ -29,14 +29,14 @@ use Rattle.cdi_worlds_fit.proofs.Busy.{under_trans, older}
 pub record Kept (n : ℕ) (x y : Instance) : Type 0 where
   pub of : y.component ≡ x.component
   pub owned : y.owner ≡ x.owner
-  pub stage : y.phase ≡ x.phase
+  pub phase_is : y.phase ≡ x.phase
   pub fields : (name : Name) → has y.fields name ≡ has x.fields name
   pub references : y.references ≡ x.references
   pub stays : (d : ℕ) → d ≢ n → IsIn d x.dependents → IsIn d y.dependents
   pub was : (d : ℕ) → d ≢ n → IsIn d y.dependents → IsIn d x.dependents
 
 pub kept_self : (n : ℕ) (x : Instance) → Kept n x x
-kept_self n x = record { of = refl; owned = refl; stage = refl; fields = λ name. refl; references = refl; stays = λ d a h. h; was = λ d a h. h }
+kept_self n x = record { of = refl; owned = refl; phase_is = refl; fields = λ name. refl; references = refl; stays = λ d a h. h; was = λ d a h. h }
 
 -- all but n do
 pub record Shift (n : ℕ) (before after : Instances) : Type 0 where
@@ -45,7 +45,7 @@ pub record Shift (n : ℕ) (before after : Instances) : Type 0 where
 
 module _ {n : ℕ} {before after : Instances} (f : Shift n before after) where
   pub shift_stands : {k : ℕ} {c : Component} {o : Owner} {p : Phase} → k ≢ n → Stands before k c o p → Stands after k c o p
-  shift_stands {k} d s = let y = f.forth k s.instance d s.there in record { instance = y.0; there = y.1; of = y.2.of ∙ s.of; owned = y.2.owned ∙ s.owned; stage = y.2.stage ∙ s.stage }
+  shift_stands {k} d s = let y = f.forth k s.instance d s.there in record { instance = y.0; there = y.1; of = y.2.of ∙ s.of; owned = y.2.owned ∙ s.owned; phase_is = y.2.phase_is ∙ s.phase_is }
 
   pub shift_owned : {k : ℕ} {o : Owner} → k ≢ n → IsOwned before k o → IsOwned after k o
   shift_owned d s = (s.0, shift_stands d s.1)
@@ -68,7 +68,7 @@ module _ (t : Tables) (legal : Legal) (w : World) (n : ℕ) (after : Instances) 
       by (inl s) =
           let b = born y (subst (λ i. at after i ≡ Some y) s.1 e) (subst (λ i. i < w.next) s.1 l) in
           (b.0, subst (λ i. at w.instances i ≡ Some b.0) (sym s.1) b.1, b.2, b.3)
-      by (inr s) = let b = f.back k y s.1 e in (b.0, b.1, b.2.of, λ q. sym b.2.stage ∙ q)
+      by (inr s) = let b = f.back k y s.1 e in (b.0, b.1, b.2.of, λ q. sym b.2.phase_is ∙ q)
 
   refers_on : (b : ℕ) (r : Reference) → Refers w.instances w.next b r → Refers after next b r
   refers_on b Empty h = tt
@@ -162,7 +162,7 @@ module _ (t : Tables) (legal : Legal) (w : World) (n : ℕ) (after : Instances) 
       attended k y i e p h (inl s) = one.attended y i (subst (λ j. at after j ≡ Some y) s.1 e) p h
       attended k y i e p h (inr s) =
           let b = f.back k y s.1 e in
-          let r : b.0.phase ≡ phases.Ready = sym b.2.stage ∙ p in
+          let r : b.0.phase ≡ phases.Ready = sym b.2.phase_is ∙ p in
           attended_on b.0 y i b.2 (λ q l. one.free i k b.0 l b.1 q r) (g.attended k b.0 i b.1 r (subst (λ c. IsIn i (intercepted_in t c)) b.2.of h))
 
       stacked : (s : ℕ) → OnStack w.invocations w.bodies s → Tested s n → IsThere after s
@@ -187,7 +187,7 @@ module _ (t : Tables) (legal : Legal) (w : World) (n : ℕ) (after : Instances) 
         by (inl s) =
             let z = path.forth x (subst (Busy w.instances w.invocations w.bodies) s.1 (busy k u)) (subst (λ i. at w.instances i ≡ Some x) s.1 e) in
             (z.0, subst (λ i. at after i ≡ Some z.0) (sym s.1) z.1, z.2, z.3 d)
-        by (inr s) = let z = f.forth k x s.1 e in (z.0, z.1, z.2.owned, λ q. d (sym z.2.stage ∙ q))
+        by (inr s) = let z = f.forth k x s.1 e in (z.0, z.1, z.2.owned, λ q. d (sym z.2.phase_is ∙ q))
 
     step_back : (k : ℕ) (y : Instance) → Under w.instances root k → at after k ≡ Some y → (y.phase ≡ phases.Leaving → ⊥) → (x : Instance) × (at w.instances k ≡ Some x) × (y.owner ≡ x.owner) × (x.phase ≡ phases.Leaving → ⊥)
     step_back k y u e d = by (equal_or_not k n)
@@ -196,7 +196,7 @@ module _ (t : Tables) (legal : Legal) (w : World) (n : ℕ) (after : Instances) 
         by (inl s) =
             let z = path.back y (subst (Busy w.instances w.invocations w.bodies) s.1 (busy k u)) (subst (λ i. at after i ≡ Some y) s.1 e) in
             (z.0, subst (λ i. at w.instances i ≡ Some z.0) (sym s.1) z.1, z.2, z.3 d)
-        by (inr s) = let z = f.back k y s.1 e in (z.0, z.1, z.2.owned, λ q. d (z.2.stage ∙ q))
+        by (inr s) = let z = f.back k y s.1 e in (z.0, z.1, z.2.owned, λ q. d (z.2.phase_is ∙ q))
 
     under_forth : {s m : ℕ} → Under w.instances s m → Under w.instances root s → Under after s m
     under_forth Under.self u = Under.self
@@ -216,7 +216,7 @@ module _ (t : Tables) (legal : Legal) (w : World) (n : ℕ) (after : Instances) 
       → AfterOf t legal (Other n) (But n) w.instances first w.temporaries w.invocations w.bodies after next contexts ts w.invocations w.bodies
   shift_after first low contexts ts one path level = record {
     good = shift_whole contexts ts one;
-    keeps = λ k o p e h. (let y = f.forth k o p e in record { instance = y.0; there = y.1; of = y.2.of; owned = y.2.owned; stage = y.2.stage });
+    keeps = λ k o p e h. (let y = f.forth k o p e in record { instance = y.0; there = y.1; of = y.2.of; owned = y.2.owned; phase_is = y.2.phase_is });
     attends = λ k o d i p e h s q l. (let y = f.forth k o p e in (y.0, y.1, y.2.stays d s q, shift_lives f d (components.Interceptor i) s l));
     born = λ k y e l. all_born k y e (omega arith);
     grows = omega arith;

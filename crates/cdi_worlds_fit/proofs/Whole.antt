@@ -79,7 +79,7 @@ pub record Stands (instances : Instances) (n : ℕ) (component : Component) (own
   pub there : at instances n ≡ Some instance
   pub of : instance.component ≡ component
   pub owned : instance.owner ≡ owner
-  pub stage : instance.phase ≡ phase
+  pub phase_is : instance.phase ≡ phase
 
 abbrev pub IsOwned : Instances → ℕ → Owner → Type 0
 IsOwned instances n owner = (component : Component) × Stands instances n component owner phases.Ready

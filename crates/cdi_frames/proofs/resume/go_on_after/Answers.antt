@@ -112,7 +112,7 @@ returns-in-Producing-clause-step g c =
 
 pub returns-in-Disposing-clause-step : goal.returns-in-Disposing-clause-step
 returns-in-Disposing-clause-step g c =
-    rw (c.in-Disposing.is, c.disposed_with.ensures, c.deref.ensures) (leaves_alone (disposed_threw (g.T.Tables.tables c.args.tables.now) c.in-Disposing.disposal c.args.exception (g.W.Contents.world c.args.world.now)) (omega arith) refl (tt, tt) tt)
+    rw (c.in-Disposing.is, c.free.ensures, c.deref.ensures) (leaves_alone (disposed_threw (g.T.Tables.tables c.args.tables.now) c.in-Disposing.disposal c.args.exception (g.W.Contents.world c.args.world.now)) (omega arith) refl (tt, tt) tt)
 
 pub returns-in-Observing-clause-step : goal.returns-in-Observing-clause-step
 returns-in-Observing-clause-step g c = rw c.in-Observing.is c.observed_with.ensures

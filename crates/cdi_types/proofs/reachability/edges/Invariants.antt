@@ -1,5 +1,5 @@
 use Rattle.std.proofs.Common.{◌≡◌, ℕ, ◌<◌, length, vec_len, All}
-use Rattle.cdi_types.specs.Stages.{has_bit_at, is_edge}
+use Rattle.cdi_types.specs.Rounds.{has_bit_at, is_edge}
 use Rattle.cdi_types.proofs.reachability.edges.Given as goal
 
 abbrev pub invariant-loop-targets : goal.invariant-loop-targets

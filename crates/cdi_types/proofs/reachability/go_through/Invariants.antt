@@ -1,6 +1,6 @@
 use Rattle.std.proofs.Common.{◌≡◌, ℕ, ◌<◌, ◌≤◌, ◌||◌, ◌&&◌, [], length, get_or, All}
 use Rattle.cdi_types.specs.BitRow.{has_bit}
-use Rattle.cdi_types.specs.Stages.{has_bit_at}
+use Rattle.cdi_types.specs.Rounds.{has_bit_at}
 use Rattle.cdi_types.proofs.reachability.go_through.Given as goal
 
 abbrev pub invariant-loop-row : goal.invariant-loop-row

@@ -1,6 +1,6 @@
 use Rattle.std.proofs.Common.{rules, ◌≡◌, ◌∙◌, ap, List, ℕ, [], ◌++◌, length, get_or, take, drop, add-one, arith}
 use Rattle.std.proofs.lemmas.List.{get_or_default}
-use Rattle.cdi_types.proofs.Rows.{written_back, next_stage}
+use Rattle.cdi_types.proofs.Rows.{written_back, next_round}
 use Rattle.cdi_types.proofs.reachability.rows_of.Goals as goal
 
 pub loop-node-preserved : goal.loop-node-preserved
@@ -15,5 +15,5 @@ loop-node-preserved c =
     record {
       len = c.loop-node.invariant.len;
       width = rw back (λ k d lt. c.go_through.ensures.width k d lt ∙ ap length inner ∙ c.loop-node.invariant.width node [] (omega arith));
-      bits = rw (back, add-one) (next_stage c.args.graph.now old new c.in_ok-inner.inner node inner c.loop-node.invariant.bits (rw c.as_mut_slice.ensures.value at c.go_through.ensures.bits));
+      bits = rw (back, add-one) (next_round c.args.graph.now old new c.in_ok-inner.inner node inner c.loop-node.invariant.bits (rw c.as_mut_slice.ensures.value at c.go_through.ensures.bits));
     }

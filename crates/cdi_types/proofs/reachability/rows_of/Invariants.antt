@@ -1,5 +1,5 @@
 use Rattle.std.proofs.Common.{◌≡◌, ℕ, ◌+◌, ◌/◌, length, vec_len, All}
-use Rattle.cdi_types.specs.Stages.{has_bit_at, has_path_through}
+use Rattle.cdi_types.specs.Rounds.{has_bit_at, has_path_through}
 use Rattle.cdi_types.proofs.reachability.rows_of.Given as goal
 
 abbrev pub invariant-loop-node : goal.invariant-loop-node

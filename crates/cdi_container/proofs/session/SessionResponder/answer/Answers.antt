@@ -17,11 +17,11 @@ returns-clause-replies g c =
     let t = c.reply_to.new.self in
     let reply = c.in_ok-reply.reply in
     let so = c.in_ok-reply.ensures in
-    let after : SessionParts g.row.D.Denot = record { container = t; shows_trace = s.shows_trace } in
+    let after : SessionParts g.row.D.Denot = record { container = t; shows_trace = s.shows_trace; slice = s.slice } in
     if_ok c.text_of.result
     (λ text is.
     subst (λ k. AnswersSo (g.D.Driver.legal k.container.runtime.driver) (g.D.Driver.legal t.runtime.driver) k c.args.line.now text.items after) c.self.view_is
-    (record { same = so.same; shows = refl; answers = (reply, so.answers, is ∙ ap (λ (ns : List (List ℕ)). reply_in ns s.shows_trace reply (state_of t)) so.same.parts.names) }))
+    (record { same = so.same; shows = refl; slice = refl; answers = (reply, so.answers, is ∙ ap (λ (ns : List (List ℕ)). reply_in ns s.shows_trace reply (state_of t)) so.same.parts.names) }))
     c.text_of.ensures
 
 pub returns-clause-lost : goal.returns-clause-lost
@@ -30,10 +30,10 @@ returns-clause-lost g c =
     let t = c.reply_to.new.self in
     let reply = c.in_ok-reply.reply in
     let so = c.in_ok-reply.ensures in
-    let after : SessionParts g.row.D.Denot = record { container = t; shows_trace = s.shows_trace } in
+    let after : SessionParts g.row.D.Denot = record { container = t; shows_trace = s.shows_trace; slice = s.slice } in
     let text = reply_in (names_of s.container) s.shows_trace reply (state_of t) in
     on_err c.text_of.result (inr (
       text,
       subst (λ k. AnswersSo (g.D.Driver.legal k.container.runtime.driver) (g.D.Driver.legal t.runtime.driver) k c.args.line.now text after) c.self.view_is
-          (record { same = so.same; shows = refl; answers = (reply, so.answers, refl) }),
+          (record { same = so.same; shows = refl; slice = refl; answers = (reply, so.answers, refl) }),
     ))

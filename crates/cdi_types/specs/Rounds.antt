@@ -1,4 +1,4 @@
--- How the table is made: in stages, each with the paths whose inner nodes are among the first so many.
+-- How the table is made: in rounds, each with the paths whose inner nodes are among the first so many.
 use Rattle.std.specs.Prelude.{ℕ, zero, suc, ◌==◌, ◌||◌, ◌&&◌, ◌≡◌, List, [], Bool, length, slice_index_or}
 use Rattle.std.specs.List.{list_any}
 use Rattle.cdi_types.specs.BitRow.{has_bit}
@@ -17,7 +17,7 @@ has_path_through graph (suc k) a b =
 abbrev pub has_bit_at : List (List ℕ) → ℕ → ℕ → Bool
 has_bit_at rows a b = has_bit (slice_index_or rows a []) b
 
--- the table of a graph: the last stage
+-- the table of a graph: the last round
 pub record IsTable (graph rows : List (List ℕ)) : Type 0 where
   pub nodes : IsGraph graph
   pub bits : (a b : ℕ) → has_bit_at rows a b ≡ has_path_through graph (length graph) a b

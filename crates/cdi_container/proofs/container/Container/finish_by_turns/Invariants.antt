@@ -1,0 +1,19 @@
+use Rattle.std.proofs.Common.{Some}
+use Rattle.cdi_frames.specs.Stacks.{entries_left}
+use Rattle.cdi_machine.specs.Commands.{Command}
+use Rattle.cdi_container.specs.Standing.{SameParts, state_of, tables_of}
+use Rattle.cdi_container.specs.States.{ContainerState}
+use Rattle.cdi_container.specs.Turns.{IsLeftOf, KnownLeft}
+use Rattle.cdi_container.proofs.container.Container.finish_by_turns.Given as goal
+
+abbrev pub invariant-turns : goal.invariant-turns
+invariant-turns g l = record {
+  so_far : (s : ContainerState) (c : Command)
+      → IsLeftOf (tables_of l.fn.self) (g.D.Driver.legal l.fn.self.runtime.driver) s c l.fn.left (state_of l.fn.self)
+      → IsLeftOf (tables_of l.fn.self) (g.D.Driver.legal l.fn.self.runtime.driver) s c l.left (state_of l.self);
+  known : KnownLeft (tables_of l.self) (state_of l.self) (Some l.left);
+  same : SameParts (g.D.Driver.legal l.fn.self.runtime.driver) (g.D.Driver.legal l.self.runtime.driver) l.fn.self l.self;
+}
+
+abbrev pub decreases-turns : goal.decreases-turns
+decreases-turns g l = entries_left (state_of l.self).world
