@@ -108,10 +108,11 @@ pub data ServesFile (gives : List ℕ → ℕ → List ℕ → Type 0) (unreadab
       → ServesFile gives unreadable mode settings path ends status
 
 -- Words that ask for a mode check or run the file that they name, with what they set, and others are answered by one of
--- their kinds; or memory ran out.
+-- their kinds; or memory ran out. By turns of how many entries a run goes decides nothing of it.
 pub data RunsWords (gives : List ℕ → ℕ → List ℕ → Type 0) (unreadable : List ℕ → Type 0)
     (words : List Text) (ends : Ends) (status : ℕ) : Type 0 where
-  serves : (mode : Mode) (path : List ℕ) (settings : Settings) → AsksFor words mode path settings
+  serves : (mode : Mode) (path : List ℕ) (settings : Settings) (slice : ℕ)
+      → AsksFor words mode path settings slice
       → ServesFile gives unreadable mode settings path ends status
       → RunsWords gives unreadable words ends status
   tells : (kind : ErrorKind) → IsAmong kind (faults_in words) → AnswersUsage kind ends status
