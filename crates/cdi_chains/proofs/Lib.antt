@@ -1,2 +1,3 @@
 pub mod Bound
 pub mod Places
+pub mod Some

@@ -53,3 +53,12 @@ module _ (passes : EnabledInterceptor → Bool) where
 pub get_behind : {X : Type 0} (x : X) (xs : List X) (n : ℕ) → 0 < n → slice_get (x ∷ xs) n ≡ slice_get xs (n - 1)
 get_behind x xs zero h = absurd (omega arith)
 get_behind x xs (suc n) h = let e : suc n - 1 ≡ n = omega arith in rw e refl
+
+-- two tests that are passed by the same interceptors
+pub same_places : (p q : EnabledInterceptor → Bool) → ((j : EnabledInterceptor) → p j ≡ q j) → (k : ℕ) (js : List EnabledInterceptor) → places_from p k js ≡ places_from q k js
+same_places p q same k [] = refl
+same_places p q same k (j ∷ js) = ap (λ b. places_with p b k j js) (same j) ∙ by (q j) (same_places p q same (k + 1) js)
+  where
+    by : (b : Bool) → places_from p (k + 1) js ≡ places_from q (k + 1) js → places_with p b k j js ≡ places_with q b k j js
+    by true rest = ap (λ ps. k ∷ ps) rest
+    by false rest = rest

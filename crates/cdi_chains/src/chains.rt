@@ -1,11 +1,14 @@
 //! The chains of all beans.
-ghost use Rattle.std.specs.Prelude.{◌≡◌, ◌==◌, ℕ, position, nat_eq, map, option_map, option_and_then, IfOk};
+ghost use Rattle.std.specs.Prelude.{◌≡◌, ◌==◌, [], ℕ, position, nat_eq, map, option_map, option_and_then, IfOk};
 ghost use Rattle.std.specs.HashMap.{get};
 ghost use Rattle.std.specs.List.{find, list_any};
 ghost use Rattle.std.specs.Option.{option_copied};
+ghost use Rattle.cdi_beans.specs.declared.bean.EnabledInterceptor.{EnabledInterceptor as Enabled};
+ghost use Rattle.cdi_chains.specs.BeanBindings as gathered;
 ghost use Rattle.cdi_chains.specs.Bindings.{class_bindings};
 ghost use Rattle.cdi_chains.specs.Chains as spec;
 
+use crate::bean_bindings::{BeanBindings, stands_in_lifecycle};
 use crate::bindings::{ClassBindings, MemberBindings, bindings_of_classes};
 use crate::chain::{Chain, is_bound};
 use cdi_base::{InterceptorMethod, Name, Seq};
@@ -86,30 +89,21 @@ fn member_of(class: Option<&ClassBindings>, name: Name) -> Option<&[Qualifier]>
     }
 }
 
-/// Whether an interceptor stands in the chain of a member with these bindings of its own, none if its calls aren't intercepted.
-fn is_bound_with(
-    own: Option<&[Qualifier]>,
+/// Whether one of some interceptors stands in the chain of a member with these bindings of its own.
+fn is_some_bound_to(
+    own: &[Qualifier],
     of_class: &[Qualifier],
-    interceptor: &EnabledInterceptor,
+    interceptors: &[EnabledInterceptor],
 ) -> bool
-    ensures { result ≡ spec.is_bound_with
-        (option_map (λ q. q.now) own.entry) of_class.now interceptor.now }
+    ensures { result
+        ≡ list_any (λ j. gathered.is_bound_to of_class.now j own.now) interceptors.now }
 {
-    match own {
-        Some(own) => is_bound(InterceptorMethod::AroundInvoke, own, of_class, interceptor),
-        None => false,
-    }
-}
-
-/// Whether an interceptor has a lifecycle method, and stands round that of what has these class-level bindings.
-fn is_bound_by_class(
-    method: InterceptorMethod,
-    of_class: &[Qualifier],
-    interceptor: &EnabledInterceptor,
-) -> bool
-    ensures { result ≡ spec.is_bound method of_class.now interceptor.now }
-{
-    is_bound(method, &[], of_class, interceptor)
+    interceptors.iter().any(|interceptor| is_bound(
+        InterceptorMethod::AroundInvoke,
+        own,
+        of_class,
+        interceptor,
+    ))
 }
 
 impl Chains {
@@ -187,64 +181,83 @@ impl Chains {
         Chain::of_lifecycle(self.interceptors.as_slice(), method, self.class_level(bean))
     }
 
-    /// Whether an interceptor stands in the chain of a member of a bean.
-    fn intercepts_member(
-        &self,
-        bean: Name,
-        interceptor: &EnabledInterceptor,
-        member: BeanMember,
-    ) -> bool
-        ensures { result ≡ spec.intercepts_member self.now bean interceptor.now member }
+    /// The bindings of a bean and of its members.
+    fn bindings_of(&self, alloc: Global, bean: &Bean) -> Result<BeanBindings<'_>, AllocError>
+        ensures { IfOk result (λ bindings. (j : Enabled)
+            → gathered.stands_in_some bindings j ≡ spec.intercepts self.now bean.now j) }
     {
-        is_bound_with(
-            self.member_level(member),
-            self.class_level(bean),
-            interceptor,
-        )
+        let mut bindings = BeanBindings::of_class(alloc, self.class_level(bean.class));
+        for member in bean.members.as_slice() {
+            if let Some(own) = self.member_level(*member) {
+                bindings.add(own)?;
+            }
+        }
+        Ok(bindings)
     }
 
-    /// Whether an interceptor stands in the chain of one of some members of a bean.
-    fn intercepts_some(
-        &self,
-        bean: Name,
-        interceptor: &EnabledInterceptor,
-        members: &[BeanMember],
-    ) -> bool
-        ensures { result
-            ≡ list_any (spec.intercepts_member self.now bean interceptor.now) members.now }
-    {
-        members.iter().any(|member| self.intercepts_member(bean, interceptor, *member))
-    }
-
-    /// Whether an interceptor stands in a chain of the lifecycle of a bean.
-    fn intercepts_lifecycle(&self, bean: Name, interceptor: &EnabledInterceptor) -> bool
-        ensures { result ≡ spec.intercepts_lifecycle self.now bean interceptor.now }
-    {
-        let of_class = self.class_level(bean);
-        is_bound_by_class(InterceptorMethod::AroundConstruct, of_class, interceptor)
-            || is_bound_by_class(InterceptorMethod::PostConstruct, of_class, interceptor)
-            || is_bound_by_class(InterceptorMethod::PreDestroy, of_class, interceptor)
-    }
-
-    /// Whether an enabled interceptor stands in a chain of a bean: in that of one of its members, or in one of its lifecycle.
-    pub fn intercepts(&self, bean: &Bean, interceptor: &EnabledInterceptor) -> bool
-        ensures { result ≡ spec.intercepts self.now bean.now interceptor.now }
-    {
-        self.intercepts_some(bean.class, interceptor, bean.members.as_slice())
-            || self.intercepts_lifecycle(bean.class, interceptor)
-    }
-
-    /// The interceptors that stand in the chains of a bean, by their places among the enabled ones, in their order.
+    /// The interceptors that stand in the chains of a bean, by their places among the enabled ones, in their order. It looks up each
+    /// member of the bean once, and none if no interceptor is enabled.
     pub fn interceptors_of(&self, alloc: Global, bean: &Bean) -> Result<Seq<usize>, AllocError>
         ensures { IfOk result (λ places. places ≡ spec.interceptors_of self.now bean.now) }
     {
-        let interceptors = self.interceptors();
-        let mut places = Seq::empty(alloc);
-        for (place, interceptor) in interceptors.iter().enumerate() {
-            if self.intercepts(bean, interceptor) {
-                places.push(place)?;
+        if self.interceptors.is_empty() {
+            return Ok(Seq::empty(alloc));
+        }
+        let bindings = self.bindings_of(alloc, bean)?;
+        let places = bindings.places_among(alloc, self.interceptors.as_slice())?;
+        Ok(places)
+    }
+
+    /// Whether one of the enabled interceptors stands in the chain of a member of a bean with these class-level bindings, by whether one
+    /// stands in that of a member without bindings of its own.
+    fn is_member_intercepted(&self, of_class: &[Qualifier], plain: bool, member: BeanMember) -> bool
+        requires { plain
+            ≡ list_any (λ j. gathered.is_bound_to of_class.now j []) self.now.interceptors }
+        ensures { result ≡ list_any (spec.is_bound_with (spec.member_level self.now member)
+            of_class.now) self.now.interceptors }
+    {
+        match self.member_level(member) {
+            Some(own) => {
+                if own.is_empty() {
+                    plain
+                } else {
+                    is_some_bound_to(own, of_class, self.interceptors.as_slice())
+                }
+            }
+            None => false,
+        }
+    }
+
+    /// Whether one of the enabled interceptors stands in the chain of one of these members of a bean with these class-level bindings.
+    fn is_some_member_intercepted(&self, of_class: &[Qualifier], members: &[BeanMember]) -> bool
+        ensures { result ≡ list_any (λ m. list_any (spec.is_bound_with
+            (spec.member_level self.now m) of_class.now) self.now.interceptors) members.now }
+    {
+        let plain = is_some_bound_to(&[], of_class, self.interceptors.as_slice());
+        for member in members {
+            if self.is_member_intercepted(of_class, plain, *member) {
+                return true;
             }
         }
-        Ok(places)
+        false
+    }
+
+    /// Whether one of the enabled interceptors stands in a chain of the lifecycle of a bean with these class-level bindings.
+    fn is_lifecycle_intercepted(&self, of_class: &[Qualifier]) -> bool
+        ensures { result
+            ≡ list_any (gathered.stands_in_lifecycle of_class.now) self.now.interceptors }
+    {
+        self.interceptors
+            .iter()
+            .any(|interceptor| stands_in_lifecycle(of_class, interceptor))
+    }
+
+    /// Whether an enabled interceptor stands in a chain of a bean. It looks up each member of the bean at most once.
+    pub fn is_intercepted(&self, bean: &Bean) -> bool
+        ensures { result ≡ list_any (spec.intercepts self.now bean.now) self.now.interceptors }
+    {
+        let of_class = self.class_level(bean.class);
+        self.is_some_member_intercepted(of_class, bean.members.as_slice())
+            || self.is_lifecycle_intercepted(of_class)
     }
 }

@@ -2,6 +2,7 @@
 //! *Interceptor Ordering*).
 #![tactic(auto)]
 
+mod bean_bindings;
 pub mod bindings;
 pub mod chain;
 pub mod chains;

@@ -5,7 +5,6 @@ ghost use Rattle.cdi_check.specs.BeanRules as spec;
 ghost use Rattle.cdi_resolve.specs.Filters.{is_bean_of};
 
 use cdi_base::Name;
-use cdi_beans::Bean;
 use cdi_chains::Chains;
 use cdi_enable::EnabledSet;
 use cdi_live::LiveTables;
@@ -25,21 +24,11 @@ pub(crate) struct FinalIntercepted<'a> {
     pub(crate) chains: &'a Chains,
 }
 
-/// Whether an interceptor stands in a chain of a bean.
-fn is_intercepted(chains: &Chains, bean: &Bean) -> bool
-    ensures { result ≡ spec.is_intercepted chains.now bean.now }
-{
-    chains
-        .interceptors()
-        .iter()
-        .any(|interceptor| chains.intercepts(bean, interceptor))
-}
-
 /// Whether a bean is a managed one of a class, and intercepted.
 fn is_intercepted_bean_of(chains: &Chains, class: Name, bean: &EnabledBean<'_>) -> bool
     ensures { result ≡ (is_bean_of class bean.now && spec.is_intercepted chains.now bean.now.1) }
 {
-    bean.is_of(class) && is_intercepted(chains, bean.bean())
+    bean.is_of(class) && chains.is_intercepted(bean.bean())
 }
 
 /// Whether an enabled managed bean of a class is intercepted.
