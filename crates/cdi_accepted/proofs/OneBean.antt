@@ -13,7 +13,7 @@ use Rattle.cdi_beans.specs.declared.bean.BeanKind.{BeanKind}
 use Rattle.cdi_beans.specs.declared.bean.BeanKind.TheVariants as kinds
 use Rattle.cdi_accepted.proofs.DeterminedLists.{one_listed}
 use Rattle.cdi_accepted.proofs.OneLine.{one_membership}
-use Rattle.cdi_accepted.proofs.Types.{one_qualifier_set, one_use_list}
+use Rattle.cdi_accepted.proofs.Types.{one_use_list}
 
 -- the same in what the class that declares it gives
 record SameDeclared (a b : Bean) : Type 0 where
@@ -53,7 +53,7 @@ module _ (d : Deployment) (qualifiers : List QualifierType) where
       record {
         kind = x.kind_is ∙ sym y.kind_is;
         types = one_listed x.types y.types;
-        qualifiers = one_qualifier_set d.names qualifiers uses a.qualifiers b.qualifiers x.set y.set;
+        qualifiers = x.are_full ∙ sym y.are_full;
         scope = cc;
       }
 

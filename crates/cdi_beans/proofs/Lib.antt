@@ -1,4 +1,5 @@
 pub mod Adding
+pub mod InParts
 pub mod ObserverLists
 pub mod Restricted
 pub mod Served

@@ -1,9 +1,13 @@
 -- The walk along the beans that a bean specializes ends.
-use Rattle.std.proofs.Common.{◌≡◌, ◌∙◌, ℕ, ◌<◌, ◌&&◌, Bool, true, false, cond, nat_eq, List, [], ◌∷◌, ◌++◌, map, filter, Option, Some, None, option_and_then, option_to_list, refl, sym, ap, subst, inl, inr, append_assoc, arith}
+use Rattle.std.proofs.Common.{◌≡◌, ◌∙◌, ℕ, ◌<◌, ◌&&◌, Bool, true, false, cond, nat_eq, List, [], ◌∷◌, ◌++◌, map, filter, Option, Some, None, option_and_then, option_to_list, refl, sym, ap, subst, inl, inr, append_assoc, append-nil, IfSome, arith}
 use Rattle.std.proofs.lemmas.Bool.{eqb-true, eq-eqb}
 use Rattle.std.proofs.lemmas.Grind.{flat_map-append}
+use Rattle.std.proofs.lemmas.List.{map-append}
 use Rattle.std.proofs.lemmas.List.Elements.{Contains-append_left, Contains-append_right, filter-append}
+use Rattle.std.specs.HashMap.{HashMap, get}
 use Rattle.std.specs.List.{Contains, find, flat_map}
+use Rattle.std.specs.Rc.{rc_value}
+use Rattle.std.specs.declared.rc.Rc.{Rc}
 use Rattle.cdi_base.specs.declared.built_in.BuiltIn.TheVariants as names
 use Rattle.cdi_base.specs.declared.uses.Use.{Use}
 use Rattle.cdi_deployment.specs.declared.deployment.Class.{Class}
@@ -17,7 +21,11 @@ use Rattle.cdi_types.proofs.Listed.{cases_Option, not_in_none, first_or_later}
 use Rattle.cdi_types.proofs.Refined.{is_graph, nothing_above, edge_to, below_from_path}
 use Rattle.cdi_types.proofs.Steps.{steps_of}
 use Rattle.cdi_bean_check.specs.ManagedBeans.{is_bean, bean_class, extended_bean, says_specializes}
-use Rattle.cdi_bean_check.specs.Qualifiers.{specialized_bean, AreUsesOf, declared_uses, specializing_uses, uses_with_built_in}
+use Rattle.cdi_bean_check.specs.Qualifiers.{specialized_bean, AreUsesOf, declared_uses, full_uses}
+use Rattle.cdi_beans.specs.ManagedQualifiers.{qualifiers_in, added_uses, own_uses, AreManaged, AreSpecialized}
+use Rattle.cdi_quals.specs.Qualifiers.{full_use}
+use Rattle.cdi_quals.specs.declared.qualifier.Qualifier.{Qualifier}
+use Rattle.cdi_quals.specs.declared.types.QualifierType.{QualifierType}
 
 -- what stands above a type in some declarations stands above it in more
 supertypes-more : (front types : List TypeDeclaration) (a b : ℕ) → Contains (supertypes_of types a) b → Contains (supertypes_of (front ++ types) a) b
@@ -117,17 +125,90 @@ pub steps-fall_specialized : (classes : List Class) → IsAcyclic (map of_class 
 steps-fall_specialized classes acyclic c s listed e =
     steps-fall_above (map of_class classes) acyclic c.name s.name (class_above classes c s.name listed (specializes classes c s e).extends_it)
 
--- a loop along the beans that a bean specializes, with the uses so far
-module _ (classes : List Class) (c lowest : Class) (uses new declared : List Use) (are : declared ≡ declared_uses lowest.bean) (so_far : (rest : List Use) → AreUsesOf classes lowest rest → AreUsesOf classes c (uses ++ rest)) where
-  pub goes_down : (s : Class) → specialized_bean classes lowest ≡ Some s → new ≡ uses ++ specializing_uses declared → (rest : List Use) → AreUsesOf classes s rest → AreUsesOf classes c (new ++ rest)
-  goes_down s e is rest below =
-      let own = specializing_uses (declared_uses lowest.bean) in
-      let P : List Use → Type 0 = AreUsesOf classes c in
-      let same : uses ++ (own ++ rest) ≡ new ++ rest = sym (append_assoc uses own rest) ∙ ap (λ us. us ++ rest) (ap (λ us. uses ++ specializing_uses us) (sym are) ∙ sym is) in
-      subst P same (so_far (own ++ rest) (AreUsesOf.specializing e below))
+-- a bean that a class specializes is found by its name
+extended_named : (classes : List Class) (s : Class) (o : Option ℕ) → option_and_then (bean_class classes) o ≡ Some s → bean_class classes s.name ≡ Some s
+extended_named classes s None e = absurd cc
+extended_named classes s (Some n) e =
+    let there = found (λ (k : Class). nat_eq k.name n && is_bean k) classes s e in
+    ap (bean_class classes) (eqb-true s.name n (both_true (nat_eq s.name n) (is_bean s) there.1)) ∙ e
 
-  pub ends : specialized_bean classes lowest ≡ None → new ≡ uses ++ uses_with_built_in declared → AreUsesOf classes c new
-  ends e is =
+pub specialized_named : (classes : List Class) (c s : Class) → specialized_bean classes c ≡ Some s → bean_class classes s.name ≡ Some s
+specialized_named classes c s e = by (says_specializes c.bean) e
+  where
+    by : (b : Bool) → cond b (extended_bean classes c) None ≡ Some s → bean_class classes s.name ≡ Some s
+    by true h = extended_named classes s c.extends h
+    by false h = absurd cc
+
+-- the uses that a bean has of the beans that it specializes
+pub data AreAbove (classes : List Class) : Class → List Use → Type 0 where
+  none : {c : Class} → specialized_bean classes c ≡ None → AreAbove classes c []
+  more : {c s : Class} {uses : List Use} → specialized_bean classes c ≡ Some s → AreAbove classes s uses → AreAbove classes c (own_uses classes s ++ uses)
+
+module _ (classes : List Class) where
+  with_own : {c : Class} {uses : List Use} → AreAbove classes c uses → AreUsesOf classes c (own_uses classes c ++ uses)
+  with_own (AreAbove.none {c = c} e) =
       let P : List Use → Type 0 = AreUsesOf classes c in
-      let same : uses ++ uses_with_built_in (declared_uses lowest.bean) ≡ new = ap (λ us. uses ++ uses_with_built_in us) (sym are) ∙ sym is in
-      subst P same (so_far (uses_with_built_in (declared_uses lowest.bean)) (AreUsesOf.plain e))
+      let declared = declared_uses c.bean in
+      subst P (sym (append-nil (own_uses classes c) ∙ ap (λ o. added_uses o declared) e)) (AreUsesOf.plain e)
+  with_own (AreAbove.more {c = c} {s = s} {uses = uses} e above) =
+      let P : List Use → Type 0 = AreUsesOf classes c in
+      let declared = declared_uses c.bean in
+      subst P (ap (λ o. added_uses o declared ++ (own_uses classes s ++ uses)) (sym e)) (AreUsesOf.specializing e (with_own above))
+
+  -- a loop along the beans that a bean specializes, with the qualifiers that it found so far
+  pub record HasWalked (types : List QualifierType) (c lowest : Class) (found : List Qualifier) : Type 0 where
+    pub front : List Use
+    pub full : found ≡ full_uses types front
+    pub goes_on : (rest : List Use) → AreAbove classes lowest rest → AreAbove classes c (front ++ rest)
+
+  module _ (types : List QualifierType) (c : Class) where
+    pub begins : {Z : Type 0} (found : List (Rc (List Qualifier) Z)) → found ≡ [] → HasWalked types c c (qualifiers_in found)
+    begins found e = record { front = []; full = ap qualifiers_in e; goes_on = λ rest h. h }
+
+    pub goes_down : {Z : Type 0} (lowest s : Class) (found new : List (Rc (List Qualifier) Z)) (part : Rc (List Qualifier) Z) → HasWalked types c lowest (qualifiers_in found)
+        → specialized_bean classes lowest ≡ Some s → part.value ≡ full_uses types (own_uses classes s) → new ≡ found ++ part ∷ [] → HasWalked types c s (qualifiers_in new)
+    goes_down lowest s found new part w e own is =
+        let uses = own_uses classes s in
+        let P : List Use → Type 0 = AreAbove classes c in
+        record {
+          front = w.front ++ uses;
+          full =
+              ap qualifiers_in is ∙ flat_map-append rc_value found (part ∷ []) ∙ ap (λ qs. qs ++ (part.value ++ [])) w.full
+              ∙ ap (λ qs. full_uses types w.front ++ qs) (append-nil part.value ∙ own) ∙ sym (map-append (full_use types) w.front uses);
+          goes_on = λ rest h. subst P (sym (append_assoc w.front uses rest)) (w.goes_on (uses ++ rest) (AreAbove.more e h));
+        }
+
+    pub ends : (lowest : Class) (found : List Qualifier) → HasWalked types c lowest found → specialized_bean classes lowest ≡ None → AreSpecialized classes types c found
+    ends lowest found w e =
+        let P : List Use → Type 0 = AreAbove classes c in
+        record { uses = w.front; are_uses = with_own (subst P (append-nil w.front) (w.goes_on [] (AreAbove.none e))); are_full = w.full }
+
+    -- its own qualifiers and these are all of its qualifiers
+    pub all_of : (own specialized all : List Qualifier) → own ≡ full_uses types (own_uses classes c) → AreSpecialized classes types c specialized → all ≡ own ++ specialized → AreManaged classes types c all
+    all_of own specialized all is are both =
+        record {
+          uses = own_uses classes c ++ are.uses;
+          are_uses = are.are_uses;
+          are_full = both ∙ ap (λ qs. qs ++ specialized) is ∙ ap (λ qs. full_uses types (own_uses classes c) ++ qs) are.are_full ∙ sym (map-append (full_use types) (own_uses classes c) are.uses);
+        }
+
+-- a table of own qualifiers gets those of one bean more
+pub one_more : {Z S : Type 0} (classes : List Class) (types : List QualifierType) (class : Class) (part : Rc (List Qualifier) Z) (old new : HashMap ℕ (Rc (List Qualifier) Z) S) → bean_class classes class.name ≡ Some class
+    → part.value ≡ full_uses types (own_uses classes class) → ((q : ℕ) → get nat_eq new q ≡ cond (nat_eq class.name q) (Some part) (get nat_eq old q))
+    → ((name : ℕ) (c : Class) → bean_class classes name ≡ Some c → IfSome (get nat_eq old name) (λ p. p.value ≡ full_uses types (own_uses classes c)))
+    → (name : ℕ) (c : Class) → bean_class classes name ≡ Some c → IfSome (get nat_eq new name) (λ p. p.value ≡ full_uses types (own_uses classes c))
+one_more {Z} classes types class part old new named own updates has name c is = let P : Option (Rc (List Qualifier) Z) → Type 0 = λ o. IfSome o (λ p. p.value ≡ full_uses types (own_uses classes c)) in subst P (sym (updates name)) (by (nat_eq class.name name) refl)
+  where
+    by : (b : Bool) → nat_eq class.name name ≡ b → IfSome (cond b (Some part) (get nat_eq old name)) (λ p. p.value ≡ full_uses types (own_uses classes c))
+    by true e =
+        let found : Some class ≡ Some c = sym named ∙ ap (bean_class classes) (eqb-true class.name name e) ∙ is in
+        let same : class ≡ c = cc in
+        own ∙ ap (λ k. full_uses types (own_uses classes k)) same
+    by false e = has name c is
+
+-- what the table has for a bean
+pub known_own : {Z S : Type 0} (classes : List Class) (types : List QualifierType) (class : Class) (part : Rc (List Qualifier) Z) (table : HashMap ℕ (Rc (List Qualifier) Z) S) → bean_class classes class.name ≡ Some class
+    → ((name : ℕ) (c : Class) → bean_class classes name ≡ Some c → IfSome (get nat_eq table name) (λ p. p.value ≡ full_uses types (own_uses classes c))) → get nat_eq table class.name ≡ Some part → part.value ≡ full_uses types (own_uses classes class)
+known_own {Z} classes types class part table named has is =
+    let P : Option (Rc (List Qualifier) Z) → Type 0 = λ o. IfSome o (λ p. p.value ≡ full_uses types (own_uses classes class)) in
+    subst P is (has class.name class named)

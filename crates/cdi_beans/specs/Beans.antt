@@ -18,7 +18,7 @@ use Rattle.cdi_bean_check.specs.BeanTypes.{IsBeanType, restriction}
 use Rattle.cdi_bean_check.specs.Inherited.{AreMembersOf}
 use Rattle.cdi_bean_rules.specs.Limits.{is_producer}
 use Rattle.cdi_bean_check.specs.ManagedBeans.{is_bean}
-use Rattle.cdi_bean_check.specs.Qualifiers.{AreUsesOf, uses_with_built_in, IsSetOf, specialized_bean}
+use Rattle.cdi_bean_check.specs.Qualifiers.{AreUsesOf, uses_with_built_in, full_uses, specialized_bean}
 use Rattle.cdi_beans.specs.declared.bean.Bean.{Bean}
 use Rattle.cdi_beans.specs.declared.bean.BeanKind.{BeanKind}
 use Rattle.cdi_beans.specs.declared.bean.BeanKind.TheVariants as kinds
@@ -56,7 +56,7 @@ pub record IsBeanWith (d : Deployment) (qualifiers : List QualifierType) (kind :
   pub kind_is : b.kind ≡ kind
   pub types :
       ListsThose (IsBeanType (declarations_of d) of typed) (all_types (declarations_of d)) b.types
-  pub set : IsSetOf d.names qualifiers uses b.qualifiers
+  pub are_full : b.qualifiers ≡ full_uses qualifiers uses
   pub scope_is : scope ≡ Some b.scope
 
 -- a member by the class that declares it and its name

@@ -5,5 +5,7 @@ pub mod Declarations
 pub mod DisposerMethods
 pub mod Kinds
 pub mod Interceptors
+pub mod ManagedQualifiers
 pub mod ObserverMethods
 pub mod Problems
+pub mod SpecializedParts

@@ -2,6 +2,7 @@
 ghost use Rattle.std.specs.Prelude.{◌≡◌};
 ghost use Rattle.cdi_beans.specs.Kinds as kinds;
 
+use crate::qualifiers::BeanQualifiers;
 use cdi_base::{Name, Scope, Seq};
 use cdi_quals::QualSet;
 
@@ -33,7 +34,7 @@ pub struct Bean {
     /// Its bean types, each once, in the order of their declaration (Jakarta CDI 4.0, *Bean types*).
     pub types: Seq<Name>,
     /// Its qualifiers, also those that it needn't declare (Jakarta CDI 4.0, *Qualifiers*, *Specialization*).
-    pub qualifiers: QualSet,
+    pub qualifiers: BeanQualifiers,
     pub scope: Scope,
     /// Whether it, or the bean that declares it, is an alternative (Jakarta CDI 4.0, *Alternatives*).
     pub alternative: bool,

@@ -4,10 +4,11 @@ ghost use Rattle.std.specs.List.{flat_map, AllZip};
 ghost use Rattle.cdi_deployment.specs.declared.deployment.Member.TheVariants as members;
 ghost use Rattle.cdi_beans.specs.Adds.{Adds};
 ghost use Rattle.cdi_beans.specs.Beans as spec;
+ghost use Rattle.cdi_beans.specs.SpecializedParts.{HasOwn};
 
 use crate::bean::{Bean, BeanKind, BeanMember};
+use crate::specialized_parts::SpecializedParts;
 use crate::tables::Tables;
-use crate::uses::uses_with_built_in;
 use cdi_base::Seq;
 use cdi_deployment::{Bean as DeclaredBean, Class, Member, ProducerField, ProducerMethod};
 use cdi_types::ClassPart;
@@ -40,17 +41,20 @@ fn bean_members(
 fn managed<'a>(
     alloc: Global,
     tables: &Tables<'a>,
+    parts: &mut SpecializedParts,
     class: &'a Class,
     declared: &DeclaredBean,
 ) -> Result<Bean, AllocError>
     requires declared { class.now.bean ≡ Some declared.now }
     requires listed { Contains tables.now.deployment.now.classes class.now }
-    ensures { IfOk result (λ bean. spec.IsBeanOf tables.now.deployment.now
+    requires own { HasOwn tables.now.deployment.now.classes tables.now.qualifiers.now parts.old }
+    ensures bean { IfOk result (λ bean. spec.IsBeanOf tables.now.deployment.now
         tables.now.qualifiers.now (spec.Source.AClass class.now) bean) }
+    ensures own { OnOk result
+        (HasOwn tables.now.deployment.now.classes tables.now.qualifiers.now parts.new) }
 {
     let types = tables.types_of(alloc, class.name, &declared.typed)?;
-    let uses = tables.uses_of(alloc, class)?;
-    let qualifiers = tables.set_of(alloc, uses.as_slice())?;
+    let qualifiers = tables.managed_qualifiers(alloc, parts, class)?;
     let has = tables.members_of(alloc, class)?;
     let members = bean_members(alloc, has.as_slice())?;
     Ok(Bean {
@@ -80,8 +84,7 @@ fn produced(
         (spec.Source.AProducer class.now (members.Producer producer.now)) bean) }
 {
     let types = tables.types_of(alloc, producer.ty, &producer.typed)?;
-    let uses = uses_with_built_in(alloc, producer.quals.as_slice())?;
-    let qualifiers = tables.set_of(alloc, uses.as_slice())?;
+    let qualifiers = tables.product_qualifiers(alloc, producer.quals.as_slice())?;
     Ok(Bean {
         kind: BeanKind::ProducerMethod(producer.name),
         class: class.name,
@@ -109,8 +112,7 @@ fn held(
         (spec.Source.AProducer class.now (members.ProducerField producer.now)) bean) }
 {
     let types = tables.types_of(alloc, producer.ty, &producer.typed)?;
-    let uses = uses_with_built_in(alloc, producer.quals.as_slice())?;
-    let qualifiers = tables.set_of(alloc, uses.as_slice())?;
+    let qualifiers = tables.product_qualifiers(alloc, producer.quals.as_slice())?;
     Ok(Bean {
         kind: BeanKind::ProducerField(producer.name),
         class: class.name,
@@ -174,17 +176,21 @@ fn add_products(
 fn add_beans<'a>(
     alloc: Global,
     tables: &Tables<'a>,
+    parts: &mut SpecializedParts,
     class: &'a Class,
     beans: &mut Seq<Bean>,
 ) -> Result<(), AllocError>
-    requires { Contains tables.now.deployment.now.classes class.now }
-    ensures { OnOk result
+    requires listed { Contains tables.now.deployment.now.classes class.now }
+    requires own { HasOwn tables.now.deployment.now.classes tables.now.qualifiers.now parts.old }
+    ensures adds { OnOk result
         (Adds (spec.IsBeanOf tables.now.deployment.now tables.now.qualifiers.now)
         (spec.sources_in class.now) beans.old beans.new) }
+    ensures own { OnOk result
+        (HasOwn tables.now.deployment.now.classes tables.now.qualifiers.now parts.new) }
 {
     match &class.bean {
         Some(declared) => {
-            beans.push(managed(alloc, tables, class, declared)?)?;
+            beans.push(managed(alloc, tables, parts, class, declared)?)?;
             add_products(alloc, tables, class, declared, beans)
         }
         None => Ok(()),
@@ -197,9 +203,10 @@ pub(crate) fn beans_of(alloc: Global, tables: &Tables<'_>) -> Result<Seq<Bean>, 
         AllZip (spec.IsBeanOf tables.now.deployment.now tables.now.qualifiers.now)
         (flat_map spec.sources_in tables.now.deployment.now.classes) beans) }
 {
+    let mut parts = SpecializedParts::new(alloc);
     let mut beans = Seq::empty(alloc);
     for class in tables.deployment.classes.as_slice() {
-        add_beans(alloc, tables, class, &mut beans)?;
+        add_beans(alloc, tables, &mut parts, class, &mut beans)?;
     }
     Ok(beans)
 }

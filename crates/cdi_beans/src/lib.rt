@@ -10,6 +10,8 @@ mod interceptors;
 pub mod list;
 pub mod listed;
 mod observers;
+pub mod qualifiers;
+mod specialized_parts;
 mod tables;
 mod types;
 mod uses;
@@ -20,3 +22,4 @@ pub use bean::{
 pub use declared::DeclaredTables;
 pub use list::list_beans;
 pub use listed::ListedBeans;
+pub use qualifiers::{BeanQualifiers, QualifierParts};

@@ -1,14 +1,18 @@
 //! What a bean list is made from.
-ghost use Rattle.std.specs.Prelude.{◌≡◌, Contains, option_map, IfOk};
+ghost use Rattle.std.specs.Prelude.{◌≡◌, Contains, option_map, IfOk, OnOk};
 ghost use Rattle.cdi_types.specs.ListsThose.{ListsThose};
 ghost use Rattle.cdi_types.specs.Declarations.{declarations_of};
 ghost use Rattle.cdi_types.specs.Subtype.{all_types};
 ghost use Rattle.cdi_bean_check.specs.BeanTypes.{IsBeanType};
 ghost use Rattle.cdi_bean_check.specs.Inherited.{AreMembersOf};
-ghost use Rattle.cdi_bean_check.specs.Qualifiers.{AreUsesOf, IsSetOf, specialized_bean};
+ghost use Rattle.cdi_bean_check.specs.Qualifiers.{IsSetOf, full_uses, specialized_bean, uses_with_built_in};
+ghost use Rattle.cdi_beans.specs.ManagedQualifiers.{AreManaged};
+ghost use Rattle.cdi_beans.specs.SpecializedParts.{HasOwn};
 
+use crate::qualifiers::BeanQualifiers;
+use crate::specialized_parts::SpecializedParts;
 use crate::types::bean_types;
-use crate::uses::uses_of;
+use crate::uses::{managed_qualifiers, with_built_in};
 use cdi_base::{Name, Seq, Use};
 use cdi_bean_check::BeanClasses;
 use cdi_bean_rules::RuleTables;
@@ -67,13 +71,35 @@ impl<'a> Tables<'a> {
         QualSet::new(alloc, &self.deployment.names, self.qualifiers, uses)
     }
 
-    /// The uses of the bean of a class.
-    pub(crate) fn uses_of(&self, alloc: Global, class: &'a Class) -> Result<Seq<Use>, AllocError>
-        requires { Contains self.now.deployment.now.classes class.now }
-        ensures { IfOk result (λ uses. AreUsesOf self.now.deployment.now.classes class.now uses) }
+    /// The qualifiers of the bean of a class, of which the parts may have some.
+    pub(crate) fn managed_qualifiers(
+        &self,
+        alloc: Global,
+        parts: &mut SpecializedParts,
+        class: &'a Class,
+    ) -> Result<BeanQualifiers, AllocError>
+        requires listed { Contains self.now.deployment.now.classes class.now }
+        requires own { HasOwn self.now.deployment.now.classes self.now.qualifiers.now parts.old }
+        ensures are { IfOk result
+            (AreManaged self.now.deployment.now.classes self.now.qualifiers.now class.now) }
+        ensures own { OnOk result
+            (HasOwn self.now.deployment.now.classes self.now.qualifiers.now parts.new) }
     {
         self.types.law_sound();
-        uses_of(alloc, self.beans, class)
+        managed_qualifiers(alloc, self.qualifiers, self.beans, parts, class)
+    }
+
+    /// The qualifiers of a product that declares these.
+    pub(crate) fn product_qualifiers(
+        &self,
+        alloc: Global,
+        declared: &[Use],
+    ) -> Result<BeanQualifiers, AllocError>
+        ensures { IfOk result (λ q.
+            q ≡ full_uses self.now.qualifiers.now (uses_with_built_in declared.now)) }
+    {
+        let own = with_built_in(alloc, self.qualifiers, declared)?;
+        Ok(BeanQualifiers::new(alloc, own))
     }
 
     /// The class of the bean that a class directly specializes, if it does.

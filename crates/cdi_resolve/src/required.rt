@@ -1,13 +1,16 @@
 //! Required qualifiers, and whether a bean has them.
 ghost use Rattle.std.specs.Prelude.{◌≡◌, unwrap_or, map};
+ghost use Rattle.std.specs.List.{list_any};
 ghost use Rattle.std.specs.Option.{option_copied};
 ghost use Rattle.cdi_quals.specs.Qualifiers as quals;
 ghost use Rattle.cdi_bean_check.specs.Qualifiers.{full_uses};
 ghost use Rattle.cdi_resolve.specs.Filters as spec;
 
-use cdi_base::{MemberValue, Name, Use, Value};
+use cdi_base::{MemberValue, Name, Seq, Use, Value};
+use cdi_beans::BeanQualifiers;
 use cdi_quals::order::compare_values;
 use cdi_quals::{MemberType, QualSet, Qualifier, QualifierMember, QualifierTypes};
+use std::rc::Rc;
 
 /// Required qualifiers, as they are given.
 #[derive(Clone, Copy)]
@@ -64,13 +67,13 @@ fn meets(own: &Qualifier, name: Name, members: &[MemberType], given: &[MemberVal
     name == own.name && agree(members, given, own.members.as_slice())
 }
 
-/// Whether a set has a qualifier that is given as it was written.
-fn has_written(set: &QualSet, types: &QualifierTypes, written: &Use) -> bool
-    ensures { result ≡ quals.has set.now (quals.full_use types.now written.now) }
+/// Whether one of some qualifiers is one that is given as it was written.
+fn has_written(qualifiers: &[Qualifier], types: &QualifierTypes, written: &Use) -> bool
+    ensures { result ≡ quals.has qualifiers.now (quals.full_use types.now written.now) }
 {
     let members = types.members_of(written.name);
     let given = written.members.as_slice();
-    for own in set.as_slice() {
+    for own in qualifiers {
         if meets(own, written.name, members, given) {
             return true;
         }
@@ -78,20 +81,39 @@ fn has_written(set: &QualSet, types: &QualifierTypes, written: &Use) -> bool
     false
 }
 
-/// Whether a set has each of the qualifiers that are given as they were written.
-fn has_each_written(set: &QualSet, types: &QualifierTypes, uses: &[Use]) -> bool
-    ensures { result ≡ quals.has_all set.now (full_uses types.now uses.now) }
+/// Whether one of the qualifiers in some parts is one that is given as it was written.
+fn has_written_in(parts: &[Rc<Seq<Qualifier>>], types: &QualifierTypes, written: &Use) -> bool
+    ensures { result ≡ list_any
+        (λ part. quals.has part.value (quals.full_use types.now written.now)) parts.now }
+{
+    parts
+        .iter()
+        .any(|part| has_written(part.as_slice(), types, written))
+}
+
+/// Whether a bean has a qualifier that is given as it was written.
+#[tactic(auto, using(cdi_beans::proofs::InParts::any_of))]
+fn bean_has_written(own: &BeanQualifiers, types: &QualifierTypes, written: &Use) -> bool
+    ensures { result ≡ quals.has own.now (quals.full_use types.now written.now) }
+{
+    let parts = own.parts();
+    has_written(parts.own, types, written) || has_written_in(parts.specialized, types, written)
+}
+
+/// Whether a bean has each of the qualifiers that are given as they were written.
+fn has_each_written(own: &BeanQualifiers, types: &QualifierTypes, uses: &[Use]) -> bool
+    ensures { result ≡ quals.has_all own.now (full_uses types.now uses.now) }
 {
     for written in uses {
-        if !has_written(set, types, written) {
+        if !bean_has_written(own, types, written) {
             return false;
         }
     }
     true
 }
 
-/// Whether a set has what a set requires; an empty one requires `Default`.
-fn has_set(own: &QualSet, set: &QualSet, default: &Qualifier) -> bool
+/// Whether a bean has what a set requires; an empty one requires `Default`.
+fn has_set(own: &BeanQualifiers, set: &QualSet, default: &Qualifier) -> bool
     requires { default.now ≡ spec.default }
     ensures { result ≡ quals.has_all own.now (spec.required set.now) }
 {
@@ -101,8 +123,8 @@ fn has_set(own: &QualSet, set: &QualSet, default: &Qualifier) -> bool
     own.has_all(set)
 }
 
-/// Whether a set has what is required as it was written; if nothing is written, that is `Default`.
-fn has_uses(own: &QualSet, types: &QualifierTypes, uses: &[Use], default: &Qualifier) -> bool
+/// Whether a bean has what is required as it was written; if nothing is written, that is `Default`.
+fn has_uses(own: &BeanQualifiers, types: &QualifierTypes, uses: &[Use], default: &Qualifier) -> bool
     requires { default.now ≡ spec.default }
     ensures { result ≡ quals.has_all own.now (spec.required (full_uses types.now uses.now)) }
 {
@@ -114,7 +136,7 @@ fn has_uses(own: &QualSet, types: &QualifierTypes, uses: &[Use], default: &Quali
 
 impl Required<'_> {
     /// Whether a bean with these qualifiers has each required one; if none is required, `Default` is.
-    pub(crate) fn is_had_by(&self, own: &QualSet, default: &Qualifier) -> bool
+    pub(crate) fn is_had_by(&self, own: &BeanQualifiers, default: &Qualifier) -> bool
         requires { default.now ≡ spec.default }
         ensures { result ≡ quals.has_all own.now (spec.required (spec.required_of self.now)) }
     {

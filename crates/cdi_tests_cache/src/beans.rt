@@ -1,9 +1,9 @@
 //! Beans with a name, and lookups by a name. Beans 0 to 99 have the names 0 to 99, beans 100 to 199 have the names 100 to 199, and so
 //! have beans 200 to 299.
 use cdi_base::{BuiltIn, MemberValue, Name, Names, Scope, Seq, Use, Value};
-use cdi_beans::{Bean, BeanKind};
+use cdi_beans::{Bean, BeanKind, BeanQualifiers};
 use cdi_deployment::Deployment;
-use cdi_quals::{QualSet, QualifierTypes};
+use cdi_quals::{QualSet, Qualifier, QualifierTypes};
 use cdi_resolve::{Resolution, Resolver};
 use std::alloc::Global;
 use std::process::Abort;
@@ -39,11 +39,14 @@ fn named(rt: &impl Abort, alloc: Global, number: i64) -> Use {
     }
 }
 
+fn types(rt: &impl Abort, alloc: Global) -> QualifierTypes {
+    QualifierTypes::qualifiers_of(alloc, &no_deployment(alloc)).expect(rt, "memory")
+}
+
 /// The qualifiers of a lookup by a number.
 pub(crate) fn set_of(rt: &impl Abort, alloc: Global, number: i64) -> QualSet {
-    let types = QualifierTypes::qualifiers_of(alloc, &no_deployment(alloc)).expect(rt, "memory");
     let uses = [named(rt, alloc, number)];
-    QualSet::new(alloc, &Names::new(alloc), &types, &uses).expect(rt, "memory")
+    QualSet::new(alloc, &Names::new(alloc), &types(rt, alloc), &uses).expect(rt, "memory")
 }
 
 /// The qualifiers of the lookups by numbers below this one.
@@ -61,12 +64,21 @@ fn object(rt: &impl Abort, alloc: Global) -> Seq<Name> {
     types
 }
 
+/// The qualifiers of a bean that is named by a number.
+fn qualifiers(rt: &impl Abort, alloc: Global, number: i64) -> BeanQualifiers {
+    let written = named(rt, alloc, number);
+    let mut own = Seq::empty(alloc);
+    own.push(Qualifier::new(alloc, &types(rt, alloc), &written).expect(rt, "memory"))
+        .expect(rt, "memory");
+    BeanQualifiers::new(alloc, own)
+}
+
 fn bean(rt: &impl Abort, alloc: Global, number: i64) -> Bean {
     Bean {
         kind: BeanKind::Managed,
         class: BuiltIn::Object.name(),
         types: object(rt, alloc),
-        qualifiers: set_of(rt, alloc, number),
+        qualifiers: qualifiers(rt, alloc, number),
         scope: Scope::Dependent,
         alternative: false,
         priority: None,

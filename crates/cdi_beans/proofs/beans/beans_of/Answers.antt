@@ -5,4 +5,8 @@ use Rattle.cdi_beans.proofs.beans.beans_of.Goals as goal
 pub loop-class-preserved : goal.loop-class-preserved
 loop-class-preserved c =
     let i = c.loop-class in
-    adds_flat sources_in c.as_slice-class-items.result.now i.class-index c.class-item.result _ i.beans c.add_beans.new.beans c.loop-class-test.true c.class-item.is i.invariant c.in_ok-add_beans.ensures
+    record {
+      adds =
+          adds_flat sources_in c.as_slice-class-items.result.now i.class-index c.class-item.result _ i.beans c.add_beans.new.beans c.loop-class-test.true c.class-item.is i.invariant.adds c.in_ok-add_beans.ensures.adds;
+      own = c.in_ok-add_beans.ensures.own;
+    }

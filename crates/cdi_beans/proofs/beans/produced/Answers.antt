@@ -1,13 +1,11 @@
-use Rattle.std.proofs.Common.{◌∙◌, List, refl, sym, ap, subst}
-use Rattle.cdi_base.specs.declared.uses.Use.{Use}
-use Rattle.cdi_bean_check.specs.Qualifiers.{uses_with_built_in, IsSetOf}
+use Rattle.std.proofs.Common.{◌∙◌, refl, sym, ap}
+use Rattle.cdi_bean_check.specs.Qualifiers.{full_uses, uses_with_built_in}
 use Rattle.cdi_beans.specs.Beans.{IsBeanOf, is_alternative, priority_of}
 use Rattle.cdi_beans.proofs.beans.produced.Goals as goal
 
 pub returns : goal.returns
 returns c =
-    let tables = c.args.tables.now in
-    let P : List Use → Type 0 = λ uses. IsSetOf tables.deployment.now.names tables.qualifiers.now uses c.in_ok-qualifiers.qualifiers in
+    let types = c.args.tables.now.qualifiers.now in
     IsBeanOf.produced
     (record {
       declared = record { class = refl; alternative = sym (ap is_alternative c.requires); priority = sym (ap priority_of c.requires) };
@@ -17,6 +15,6 @@ returns c =
     (record {
       kind_is = refl;
       types = c.in_ok-types.ensures;
-      set = subst P (c.as_slice-2.ensures ∙ c.in_ok-uses.ensures ∙ ap uses_with_built_in c.as_slice.ensures) c.in_ok-qualifiers.ensures;
+      are_full = c.in_ok-qualifiers.ensures ∙ ap (λ uses. full_uses types (uses_with_built_in uses)) c.as_slice.ensures;
       scope_is = refl;
     })

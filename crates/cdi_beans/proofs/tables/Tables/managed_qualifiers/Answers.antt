@@ -4,10 +4,10 @@ use Rattle.cdi_types.specs.Declarations.{of_class}
 use Rattle.cdi_types.specs.Subtype.{IsAcyclic}
 use Rattle.cdi_types.specs.declared.declaration.TypeDeclaration.{TypeDeclaration}
 use Rattle.cdi_beans.proofs.Specialized.{acyclic_classes}
-use Rattle.cdi_beans.proofs.tables.Tables.uses_of.Goals as goal
+use Rattle.cdi_beans.proofs.tables.Tables.managed_qualifiers.Goals as goal
 
-pub uses_of-requires-clause-acyclic : goal.uses_of-requires-clause-acyclic
-uses_of-requires-clause-acyclic c =
+pub managed_qualifiers-requires-clause-acyclic : goal.managed_qualifiers-requires-clause-acyclic
+managed_qualifiers-requires-clause-acyclic c =
     let tables = c.args.self.now in
     let P : List Class → Type 0 = λ classes. IsAcyclic (map of_class classes) in
     let Q : List TypeDeclaration → Type 0 = IsAcyclic in
