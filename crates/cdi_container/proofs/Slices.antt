@@ -1,5 +1,5 @@
 -- A command that was begun ends, whatever its turns are.
-use Rattle.std.proofs.Common.{◌≡◌, ◌≤◌, ◌+◌, ◌*◌, ℕ, length, sym, subst, arith}
+use Rattle.std.proofs.Common.{◌≡◌, ◌∙◌, ◌≤◌, ◌+◌, ◌*◌, ℕ, length, sym, subst, arith}
 use Rattle.cdi_base.specs.declared.reply.Cause.TheVariants as causes
 use Rattle.cdi_frames.specs.Stacks.{program_of}
 use Rattle.cdi_frames.proofs.Stacks.{steps_run}
@@ -9,6 +9,7 @@ use Rattle.cdi_machine.specs.Runs.{Cut, Legal, Runs}
 use Rattle.cdi_machine.specs.Tables.{Tables}
 use Rattle.cdi_machine.specs.World.{at_begin}
 use Rattle.cdi_machine.proofs.Order.{grows}
+use Rattle.cdi_container.specs.Standing.{ContainerParts, SameParts}
 use Rattle.cdi_container.specs.States.{ContainerState, after_refusal}
 use Rattle.cdi_container.specs.Turns.{EndsByTurns, GoOn, IsLeftOf, stack_of}
 use Rattle.cdi_container.specs.declared.left.Left.{Left}
@@ -40,3 +41,17 @@ ends_by_turns tables legal most n s t u c left go is =
     let written = written_by most n t u go in
     let within = within_limit tables legal s c left u is in
     omega (arith, written, within)
+
+-- what stays over one change and over the next stays over both
+pub same_then : {Driving : Type 0} {a b c : Legal} {p q r : ContainerParts Driving} → SameParts a b p q → SameParts b c q r → SameParts a c p r
+same_then s t = record {
+  parts = record {
+    names = t.parts.names ∙ s.parts.names;
+    tables = t.parts.tables ∙ s.parts.tables;
+    legal = record {
+      act = λ body entries fields view a h. s.parts.legal.act body entries fields view a (t.parts.legal.act body entries fields view a h);
+      pick = λ count entries i h. s.parts.legal.pick count entries i (t.parts.legal.pick count entries i h);
+    };
+  };
+  booted = t.booted ∙ s.booted;
+}

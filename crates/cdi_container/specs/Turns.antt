@@ -1,7 +1,6 @@
 -- A command that is carried out by turns, between which others can be served.
 use Rattle.std.specs.Prelude.{◌≡◌, ◌≤◌, ℕ, suc, ◌+◌, ◌*◌, [], length, true, Option, Some, None, Result, Ok, Err, is_some, if◌then◌else◌}
 use Rattle.cdi_base.specs.declared.reply.Cause.TheVariants as causes
-use Rattle.cdi_base.specs.declared.reply.Reply.{Reply}
 use Rattle.cdi_base.specs.declared.reply.Reply.TheVariants as replies
 use Rattle.cdi_base.specs.declared.reply.Refusal.{Refusal}
 use Rattle.cdi_base.specs.declared.reply.Refusal.TheVariants as refusals
@@ -167,9 +166,3 @@ abbrev pub EndsByTurns : Tables → Legal → Type 0
 EndsByTurns tables legal =
     (most n : ℕ) (s t u : ContainerState) (c : Command) (left : Left) → GoOn most n t u
     → IsLeftOf tables legal s c left u → n * most ≤ s.world.ticks
-
--- what is left of a command is carried out up to its end, and the command is answered
-abbrev pub FinishesCommand : Tables → Legal → Left → ContainerState → Reply → ContainerState → Type 0
-FinishesCommand tables legal left t reply u =
-    (s : ContainerState) (c : Command) → IsLeftOf tables legal s c left t
-    → AnswersCommand tables legal (Unit {0}) s c reply u

@@ -1,34 +1,14 @@
 //! Carries commands out by turns, up to their end.
-ghost use Rattle.std.specs.Prelude.{◌<◌, Some};
 ghost use Rattle.cdi_container.specs.Commands.{machine_command};
 ghost use Rattle.cdi_container.specs.Standing.{SameParts, names_of, state_of, tables_of};
 ghost use Rattle.cdi_container.specs.States.{AnswersCommand};
-ghost use Rattle.cdi_container.specs.Turns.{FinishesCommand, KnownLeft};
 
 use crate::container::Container;
-use crate::left::{Left, Progress};
+use crate::left::Progress;
 use cdi_base::{Command, Reply};
 use cdi_machine::Driver;
 
 impl<D: Driver> Container<D> {
-    /// Goes on with what is left of a command, by turns of so many entries, up to its end.
-    fn finish_by_turns(&mut self, left: Left, most: u64) -> Reply
-        requires known { KnownLeft (tables_of self.old) (state_of self.old) (Some left) }
-        requires some { 0 < most }
-        ensures finishes { FinishesCommand (tables_of self.old) (D.legal self.old.runtime.driver)
-            left (state_of self.old) result (state_of self.new) }
-        ensures same { SameParts
-            (D.legal self.old.runtime.driver) (D.legal self.new.runtime.driver) self.old self.new }
-    {
-        let mut left = left;
-        'turns: loop {
-            match self.go_on(left, most) {
-                Progress::Running(rest) => left = rest,
-                Progress::Finished(reply) => return reply,
-            }
-        }
-    }
-
     /// Carries a command out as [`Container::command`] does, by turns of so many entries, of which 0 counts as 1. What comes of it
     /// doesn't depend on their number.
     pub fn command_by_turns(&mut self, command: &Command, most: u64) -> Reply
@@ -39,9 +19,16 @@ impl<D: Driver> Container<D> {
         ensures same { SameParts
             (D.legal self.old.runtime.driver) (D.legal self.new.runtime.driver) self.old self.new }
     {
-        match self.begin_command(command) {
-            Ok(left) => self.finish_by_turns(left, most.max(1)),
-            Err(refusal) => Reply::Refused(refusal),
+        let most = most.max(1);
+        let mut left = match self.begin_command(command) {
+            Ok(left) => left,
+            Err(refusal) => return Reply::Refused(refusal),
+        };
+        'turns: loop {
+            match self.go_on(left, most) {
+                Progress::Running(rest) => left = rest,
+                Progress::Finished(reply) => return reply,
+            }
         }
     }
 
