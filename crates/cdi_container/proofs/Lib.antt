@@ -13,5 +13,5 @@ pub mod Resting
 pub mod Sound
 pub mod Traces
 mod Answering
-pub mod Slices
+pub mod TurnCounts
 pub mod Turning

@@ -1,6 +1,5 @@
 pub mod Accepted
 pub mod States
-pub mod Booted
 pub mod Commands
 pub mod Standing
 pub mod Sessions

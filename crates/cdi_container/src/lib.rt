@@ -3,7 +3,6 @@
 
 mod acceptance;
 mod asked;
-mod boot;
 mod container;
 pub mod laws;
 pub mod left;

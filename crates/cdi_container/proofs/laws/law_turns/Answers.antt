@@ -1,5 +1,5 @@
 use Rattle.cdi_container.proofs.Turning.{by_turns}
-use Rattle.cdi_container.proofs.Slices.{ends_by_turns}
+use Rattle.cdi_container.proofs.TurnCounts.{ends_by_turns}
 use Rattle.cdi_container.proofs.laws.law_turns.Goals as goal
 
 pub returns-clause-ends : goal.returns-clause-ends

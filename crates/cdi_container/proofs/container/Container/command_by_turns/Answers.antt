@@ -3,7 +3,7 @@ use Rattle.cdi_container.specs.Commands.{machine_command}
 use Rattle.cdi_container.specs.Standing.{names_of, state_of, tables_of}
 use Rattle.cdi_container.specs.Turns.{KeepsOn}
 use Rattle.cdi_container.specs.declared.left.Progress.TheVariants as progresses
-use Rattle.cdi_container.proofs.Slices.{same_then}
+use Rattle.cdi_container.proofs.TurnCounts.{same_then}
 use Rattle.cdi_container.proofs.Turning.{by_turns}
 use Rattle.cdi_container.proofs.container.Container.command_by_turns.Goals as goal
 
