@@ -1,15 +1,19 @@
 //! Two containers in one thread. A method is called in each, and then they take turns of one entry each until both have answered:
 //! neither waits for the other.
 #![tactic(auto)]
-
 ghost use Rattle.std.specs.Prelude.{◌≡◌, ◌<◌, true, IfOk};
 ghost use Rattle.cdi_bodies.specs.Shape.{in_shape, no_acts};
+ghost use Rattle.cdi_run_tables.specs.Machine.{machine_tables};
+ghost use Rattle.cdi_runtime.specs.Standing.{IsServable};
+ghost use Rattle.cdi_steps.specs.Driving.{Drives};
 
-use cdi_base::{Act, Command, Fields, Limits, Seq, Text, Value};
+use cdi_base::{Act, Command, Fields, Limits, OrMemory, Seq, Text, Value};
 use cdi_bodies::{Bodies, Body, Choice, Chooser, Shape, View};
-use cdi_container::{Container, Turned, Turns};
+use cdi_container::{Container, Turned, Turns, Unaccepted, accept};
 use cdi_deploy::read;
-use cdi_machine::Registered;
+use cdi_deployment::Deployment;
+use cdi_machine::{Driver, Registered};
+use cdi_run_tables::RunTables;
 use cdi_text::{write_reply, write_trace};
 use std::alloc::{AllocError, Global};
 use std::io;
@@ -21,51 +25,16 @@ const SHOP: &[u8] = br#"{"classes": [
     {"name": "Till", "bean": {"scope": "ApplicationScoped"},
         "members": [{"kind": "method", "name": "price", "body": "price"}]}]}"#;
 
+/// More turns than a command of these shops needs.
+const ENOUGH: u32 = 100;
+
 /// A container that goes by turns, with the name under which its lines are told.
 #[derive(Drop)]
-struct Shop {
+struct Shop<D: Driver> {
     name: &'static str,
-    turns: Turns<Registered>,
+    turns: Turns<D>,
     /// So many entries of its command are told.
     told: usize,
-}
-
-/// A container of a shop whose till tells this price, before its first turn.
-fn shop(alloc: Global, name: &'static str, price: i64) -> io::Result<Shop> {
-    let Ok(deployment) = read(alloc, SHOP) else {
-        return Err(io::Error::from(ErrorKind::InvalidData));
-    };
-    let body: Body = Box::new(
-        alloc,
-        move |_fields: &Fields, view: &View| -> Result<Act, AllocError>
-            ensures { IfOk result (λ act. in_shape no_acts view.now act ≡ true) }
-        {
-            Ok(Act::Give {
-                value: Value::Int(price),
-            })
-        },
-    )?;
-    let mut bodies = Bodies::new(alloc);
-    let place = deployment.names.name_for("price");
-    if bodies.add(place, Shape::new(alloc), body).is_err() {
-        return Err(io::Error::from(ErrorKind::InvalidData));
-    }
-    let choice: Choice = Box::new(
-        alloc,
-        |_count: u32, _entries: u64| -> u32
-            requires { 0 < _count }
-            ensures { result < _count }
-        { 0 },
-    )?;
-    let limits = Limits::default();
-    match Container::boot(alloc, deployment, bodies, Chooser::new(choice), limits) {
-        Ok(container) => Ok(Shop {
-            name,
-            turns: Turns::new(container),
-            told: 0,
-        }),
-        Err(_) => Err(io::Error::from(ErrorKind::InvalidData)),
-    }
 }
 
 /// A call of the till's method.
@@ -79,31 +48,44 @@ fn call(alloc: Global) -> Result<Command, AllocError> {
     })
 }
 
-impl Shop {
-    /// Writes lines behind the shop's name.
-    fn tell(&self, output: &mut impl Write, lines: &[u8]) -> io::Result<()> {
-        for line in lines.split(|byte| *byte == b'\n') {
-            if !line.is_empty() {
-                output.write_all(self.name.as_bytes())?;
-                output.write_all(b": ")?;
-                output.write_all(line)?;
-                output.write_all(b"\n")?;
-            }
+/// Writes a line behind the name of a shop.
+fn tell(output: &mut impl Write, name: &str, line: &[u8]) -> io::Result<()> {
+    output.write_all(name.as_bytes())?;
+    output.write_all(b": ")?;
+    output.write_all(line)
+}
+
+impl<D: Driver> Shop<D> {
+    /// A container, before its first turn.
+    fn new(name: &'static str, container: Container<D>) -> Shop<D> {
+        Shop {
+            name,
+            turns: Turns::new(container),
+            told: 0,
         }
+    }
+
+    /// Writes the entry that the turn before has written, if it has written one.
+    fn tell_entry(&mut self, alloc: Global, output: &mut impl Write) -> io::Result<()> {
+        let entries = self.turns.trace().get(self.told..).unwrap_or(&[]);
+        if entries.is_empty() {
+            return Ok(());
+        }
+        let line = write_trace(alloc, self.turns.container().names(), entries)?;
+        tell(output, self.name, &line)?;
+        self.told = self.turns.trace().len();
         Ok(())
     }
 
     /// Takes a turn of one entry, and writes what it has done. Whether the command goes on.
     fn take_turn(&mut self, alloc: Global, output: &mut impl Write) -> io::Result<bool> {
         let turned = self.turns.turn(1);
-        let names = self.turns.container().names();
-        let entries = self.turns.trace().get(self.told..).unwrap_or(&[]);
-        self.tell(output, &write_trace(alloc, names, entries)?)?;
-        self.told = self.turns.trace().len();
+        self.tell_entry(alloc, output)?;
         match turned {
             Turned::Running => Ok(true),
             Turned::Finished(reply) => {
-                self.tell(output, &write_reply(alloc, names, &reply)?)?;
+                let line = write_reply(alloc, self.turns.container().names(), &reply)?;
+                tell(output, self.name, &line)?;
                 Ok(false)
             }
             Turned::Idle => Ok(false),
@@ -111,24 +93,136 @@ impl Shop {
     }
 }
 
-/// More turns than both commands need.
-const ENOUGH: u32 = 100;
-
-fn main(rt: HostRuntime) -> io::Result<ExitCode> {
-    let alloc = rt.alloc();
-    let mut output = io::writer(&rt);
-    let mut first = shop(alloc, "bakery", 3)?;
-    let mut second = shop(alloc, "bookshop", 12)?;
+/// Calls the method in both shops, by turns of one entry each.
+fn take_turns<D: Driver + Drop, E: Driver + Drop>(
+    alloc: Global,
+    output: &mut impl Write,
+    first: Container<D>,
+    second: Container<E>,
+) -> io::Result<()> {
     let command = call(alloc)?;
+    let mut first = Shop::new("bakery", first);
+    let mut second = Shop::new("bookshop", second);
     if first.turns.start(&command).is_some() || second.turns.start(&command).is_some() {
-        return Ok(ExitCode::FAILURE);
+        return Err(io::Error::from(ErrorKind::InvalidData));
     }
     for _turn in 0..ENOUGH {
-        let first_goes_on = first.take_turn(alloc, &mut output)?;
-        let second_goes_on = second.take_turn(alloc, &mut output)?;
+        let first_goes_on = first.take_turn(alloc, output)?;
+        let second_goes_on = second.take_turn(alloc, output)?;
         if !first_goes_on && !second_goes_on {
             break;
         }
     }
+    Ok(())
+}
+
+/// The bodies of a shop in which all has this price, which its one closure keeps.
+fn bodies_with(alloc: Global, deployment: &Deployment, price: i64) -> io::Result<Bodies> {
+    let body: Body = Box::new(
+        alloc,
+        move |_fields: &Fields, view: &View| -> Result<Act, AllocError>
+            ensures { IfOk result (λ act. in_shape no_acts view.now act ≡ true) }
+        {
+            Ok(Act::Give {
+                value: Value::Int(price),
+            })
+        },
+    )?;
+    let mut bodies = Bodies::new(alloc);
+    let name = deployment.names.name_for("price");
+    match bodies.add(name, Shape::new(alloc), body) {
+        Ok(_) => Ok(bodies),
+        Err(_) => Err(io::Error::from(ErrorKind::InvalidData)),
+    }
+}
+
+/// A chooser that takes the first candidate.
+fn first_of_all(alloc: Global) -> io::Result<Chooser> {
+    let choice: Choice = Box::new(
+        alloc,
+        |_count: u32, _entries: u64| -> u32
+            requires { 0 < _count }
+            ensures { result < _count }
+        { 0 },
+    )?;
+    Ok(Chooser::new(choice))
+}
+
+/// The deployment of a shop.
+fn shop(alloc: Global) -> io::Result<Deployment> {
+    match read(alloc, SHOP) {
+        Ok(deployment) => Ok(deployment),
+        Err(_) => Err(io::Error::from(ErrorKind::InvalidData)),
+    }
+}
+
+/// Starts a second container, if its deployment is accepted, and lets both take turns.
+fn run_second<D: Driver + Drop, E: Driver + Drop>(
+    alloc: Global,
+    output: &mut impl Write,
+    first: Container<D>,
+    accepted: Result<RunTables, OrMemory<Unaccepted>>,
+    driver: E,
+) -> io::Result<()>
+    requires drives { IfOk accepted (λ tables. Drives (machine_tables tables) (E.knows driver)) }
+    requires servable { IfOk accepted IsServable }
+{
+    let Ok(tables) = accepted else {
+        return Err(io::Error::from(ErrorKind::InvalidData));
+    };
+    let second = Container::start(alloc, tables, driver, Limits::default());
+    take_turns(alloc, output, first, second)
+}
+
+/// Makes a second shop beside a first one, with a price of its own.
+#[tactic(auto, using(crate::proofs::Driven::drives_with))]
+fn run_beside<D: Driver + Drop>(
+    alloc: Global,
+    output: &mut impl Write,
+    first: Container<D>,
+) -> io::Result<()> {
+    let deployment = shop(alloc)?;
+    let bodies = bodies_with(alloc, &deployment, 12)?;
+    let accepted = accept(alloc, deployment, &bodies);
+    let chooser = first_of_all(alloc)?;
+    run_second(
+        alloc,
+        output,
+        first,
+        accepted,
+        Registered { bodies, chooser },
+    )
+}
+
+/// Starts a first container, if its deployment is accepted, and goes on with a second one.
+fn run_first<D: Driver + Drop>(
+    alloc: Global,
+    output: &mut impl Write,
+    accepted: Result<RunTables, OrMemory<Unaccepted>>,
+    driver: D,
+) -> io::Result<()>
+    requires drives { IfOk accepted (λ tables. Drives (machine_tables tables) (D.knows driver)) }
+    requires servable { IfOk accepted IsServable }
+{
+    let Ok(tables) = accepted else {
+        return Err(io::Error::from(ErrorKind::InvalidData));
+    };
+    let first = Container::start(alloc, tables, driver, Limits::default());
+    run_beside(alloc, output, first)
+}
+
+/// Makes the first shop, and goes on with a second one.
+#[tactic(auto, using(crate::proofs::Driven::drives_with))]
+fn run(alloc: Global, output: &mut impl Write) -> io::Result<()> {
+    let deployment = shop(alloc)?;
+    let bodies = bodies_with(alloc, &deployment, 3)?;
+    let accepted = accept(alloc, deployment, &bodies);
+    let chooser = first_of_all(alloc)?;
+    run_first(alloc, output, accepted, Registered { bodies, chooser })
+}
+
+fn main(rt: HostRuntime) -> io::Result<ExitCode> {
+    let mut output = io::writer(&rt);
+    run(rt.alloc(), &mut output)?;
     Ok(ExitCode::SUCCESS)
 }
