@@ -1,4 +1,4 @@
-use Rattle.std.proofs.Common.{◌≡◌, subst, arith}
+use Rattle.std.proofs.Common.{refl, subst}
 use Rattle.cdi_container.specs.Commands.{machine_command}
 use Rattle.cdi_container.specs.Standing.{names_of, state_of, tables_of}
 use Rattle.cdi_container.specs.Turns.{KeepsOn}
@@ -13,6 +13,9 @@ turns-init g c = record {
   known = c.in-Ok.ensures.known;
   same = c.begin_command.ensures.same;
 }
+
+pub returns-in-Err-clause-answers : goal.returns-in-Err-clause-answers
+returns-in-Err-clause-answers g c = let told = c.in-Err.ensures.begins in refuses c.in-Err.refusal told.0 refl told.1
 
 pub turns-preserved : goal.turns-preserved
 turns-preserved g c =
