@@ -1,5 +1,5 @@
 -- A deployment without problems that is as one that was read is accepted.
-use Rattle.std.proofs.Common.{◌≡◌, List, [], true, IsTrue, is_some, refl, sym, ap, subst}
+use Rattle.std.proofs.Common.{◌≡◌, List, [], true, is_some, refl, sym, ap, subst}
 use Rattle.cdi_bodies.specs.Gives.{lookups_of}
 use Rattle.cdi_bodies.specs.declared.entry.Entry.{Entry}
 use Rattle.cdi_body_check.specs.Shapes.{shape_of}

@@ -1,7 +1,5 @@
 -- The tables of an accepted deployment are those of one without problems, by which the laws on whole deployments hold of it.
-use Rattle.std.proofs.Common.{ℕ, ◌≡◌, ◌&&◌, List, [], true, Option, refl, sym, subst}
-use Rattle.std.proofs.lemmas.Bool.{and_parts}
-use Rattle.std.specs.List.{list_all}
+use Rattle.std.proofs.Common.{ℕ, List, [], Option, refl, sym, subst}
 use Rattle.cdi_accepted.proofs.Tables.{one_tables}
 use Rattle.cdi_bodies.specs.declared.entry.Entry.{Entry}
 use Rattle.cdi_bodies.specs.declared.shape.Shape.{Shape}

@@ -1,11 +1,9 @@
 -- A command of a container misses nothing, since that of the machine in the same state doesn't.
-use Rattle.std.proofs.Common.{◌≡◌, ◌∙◌, List, None, sym, subst}
-use Rattle.cdi_ledger.specs.Ledger.{Item}
-use Rattle.cdi_machine.specs.Commands.{Command, task}
+use Rattle.std.proofs.Common.{◌≡◌, ◌∙◌, None, sym, subst}
+use Rattle.cdi_machine.specs.Commands.{task}
 use Rattle.cdi_machine.specs.Container.{refusal}
-use Rattle.cdi_machine.specs.Runs.{Legal, Outcome, Runs}
+use Rattle.cdi_machine.specs.Runs.{Legal, Runs}
 use Rattle.cdi_machine.specs.Tables.{Tables}
-use Rattle.cdi_machine.specs.World.{World, at_begin}
 use Rattle.cdi_whole.specs.Missing.{MissesNothing, NothingMissing}
 use Rattle.cdi_container.specs.Missing.{NoneMissed}
 use Rattle.cdi_container.proofs.Halted.{works_on}

@@ -1,6 +1,5 @@
 -- Between two commands nothing is running, since a command that isn't cut leaves nothing running.
-use Rattle.std.proofs.Common.{◌≡◌, ◌∙◌, List, None, refl, sym, ap, subst}
-use Rattle.cdi_ledger.specs.Ledger.{Item}
+use Rattle.std.proofs.Common.{◌≡◌, ◌∙◌, None, refl, sym, ap, subst}
 use Rattle.cdi_machine.specs.Commands.{Command, task}
 use Rattle.cdi_machine.specs.Laws.{IsEnd, IsAtRest, Rests}
 use Rattle.cdi_machine.specs.Runs.{Legal, Outcome, Ends, Cut}

@@ -7,7 +7,7 @@ use Rattle.cdi_base.specs.declared.reply.Reply.{Reply}
 use Rattle.cdi_base.specs.declared.reply.Reply.TheVariants as replies
 use Rattle.cdi_contexts.specs.Refusals.{first_that_holds}
 use Rattle.cdi_machine.specs.Commands.{Command, task}
-use Rattle.cdi_machine.specs.Container.{State, refusal, refused_by_contexts}
+use Rattle.cdi_machine.specs.Container.{refusal, refused_by_contexts}
 use Rattle.cdi_machine.specs.Runs.{Legal, Cut, Runs}
 use Rattle.cdi_machine.specs.Tables.{Tables}
 use Rattle.cdi_machine.specs.World.{World, at_begin}

@@ -15,11 +15,9 @@ use Rattle.cdi_machine.specs.World.{World, at_begin}
 use Rattle.cdi_machine.proofs.Order.{wider}
 use Rattle.cdi_steps.specs.Words.{command_of, outcome_of}
 use Rattle.cdi_container.specs.declared.left.Left.{Left}
-use Rattle.cdi_container.specs.declared.left.Left.TheVariants as lefts
-use Rattle.cdi_container.specs.declared.left.Progress.{Progress}
 use Rattle.cdi_container.specs.declared.left.Progress.TheVariants as progresses
 use Rattle.cdi_container.specs.States.{ContainerState, AnswersCommand, CarriesOut, after_refusal, without_memory}
-use Rattle.cdi_container.specs.Turns.{AnswersByTurns, GoesOnWith, IsLeftOf, KeepsOn, stack_of}
+use Rattle.cdi_container.specs.Turns.{AnswersByTurns, IsLeftOf, stack_of}
 use Rattle.cdi_container.proofs.Replying.{replied}
 use Rattle.cdi_container.proofs.Starving.{starved_answer}
 

@@ -1,5 +1,5 @@
 -- Which deployments are accepted.
-use Rattle.std.specs.Prelude.{ℕ, ◌≡◌, ◌≢◌, ◌<◌, List, [], length, true, false}
+use Rattle.std.specs.Prelude.{◌≡◌, ◌≢◌, ◌<◌, List, [], length, true, false}
 use Rattle.cdi_base.specs.declared.or_memory.OrMemory.{OrMemory}
 use Rattle.cdi_base.specs.declared.or_memory.OrMemory.TheVariants as errors
 use Rattle.cdi_bodies.specs.Gives.{lookups_of}

@@ -1,6 +1,7 @@
 use Rattle.std.proofs.Common.{refl, subst}
 use Rattle.cdi_container.specs.Commands.{machine_command}
 use Rattle.cdi_container.specs.Standing.{names_of, state_of, tables_of}
+use Rattle.cdi_container.specs.States.AnswersCommand.{refuses}
 use Rattle.cdi_container.specs.Turns.{KeepsOn}
 use Rattle.cdi_container.specs.declared.left.Progress.TheVariants as progresses
 use Rattle.cdi_container.proofs.TurnCounts.{same_then}

@@ -1,8 +1,4 @@
-use Rattle.std.proofs.Common.{subst, sym}
-use Rattle.cdi_base.specs.declared.reply.Reply.TheVariants as replies
-use Rattle.cdi_machine.specs.Commands.{Command}
 use Rattle.cdi_container.specs.Standing.{state_of, tables_of}
-use Rattle.cdi_container.specs.States.{AnswersCommand}
 use Rattle.cdi_container.proofs.Answering.{live_told}
 use Rattle.cdi_container.proofs.container.Container.tell.Goals as goal
 

@@ -1,4 +1,4 @@
-use Rattle.std.proofs.Common.{◌≡◌, ◌∙◌, ℕ, List, Result, Ok, Err, OnErr, IfOk, inr, refl, ap, subst}
+use Rattle.std.proofs.Common.{◌∙◌, ℕ, List, Result, Ok, Err, OnErr, IfOk, inr, refl, ap, subst}
 use Rattle.cdi_container.specs.Standing.{names_of, state_of}
 use Rattle.cdi_container.specs.Sessions.{AnswersSo, SessionParts, reply_in}
 use Rattle.cdi_container.proofs.session.SessionResponder.answer.Goals as goal

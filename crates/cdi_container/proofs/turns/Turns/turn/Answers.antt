@@ -1,5 +1,5 @@
 use Rattle.std.proofs.Common.{◌∙◌, refl, sym, ap, subst, Some}
-use Rattle.cdi_container.specs.Standing.{state_of, tables_of}
+use Rattle.cdi_container.specs.Standing.{tables_of}
 use Rattle.cdi_container.specs.Turns.{TakesTurn, TurnsParts}
 use Rattle.cdi_container.specs.declared.left.Progress.TheVariants as progresses
 use Rattle.cdi_container.specs.declared.turns.Turned.TheVariants as turneds
