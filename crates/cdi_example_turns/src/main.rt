@@ -1,6 +1,7 @@
 //! Two containers in one thread. A method is called in each, and then they take turns of one entry each until both have answered:
 //! neither waits for the other.
 #![tactic(auto)]
+
 ghost use Rattle.std.specs.Prelude.{◌≡◌, ◌<◌, true, IfOk};
 ghost use Rattle.cdi_bodies.specs.Shape.{in_shape, no_acts};
 ghost use Rattle.cdi_run_tables.specs.Machine.{machine_tables};
@@ -149,7 +150,7 @@ fn first_of_all(alloc: Global) -> io::Result<Chooser> {
 }
 
 /// The deployment of a shop.
-fn shop(alloc: Global) -> io::Result<Deployment> {
+fn shop_deployment(alloc: Global) -> io::Result<Deployment> {
     match read(alloc, SHOP) {
         Ok(deployment) => Ok(deployment),
         Err(_) => Err(io::Error::from(ErrorKind::InvalidData)),
@@ -181,7 +182,7 @@ fn run_beside<D: Driver + Drop>(
     output: &mut impl Write,
     first: Container<D>,
 ) -> io::Result<()> {
-    let deployment = shop(alloc)?;
+    let deployment = shop_deployment(alloc)?;
     let bodies = bodies_with(alloc, &deployment, 12)?;
     let accepted = accept(alloc, deployment, &bodies);
     let chooser = first_of_all(alloc)?;
@@ -214,7 +215,7 @@ fn run_first<D: Driver + Drop>(
 /// Makes the first shop, and goes on with a second one.
 #[tactic(auto, using(crate::proofs::Driven::drives_with))]
 fn run(alloc: Global, output: &mut impl Write) -> io::Result<()> {
-    let deployment = shop(alloc)?;
+    let deployment = shop_deployment(alloc)?;
     let bodies = bodies_with(alloc, &deployment, 3)?;
     let accepted = accept(alloc, deployment, &bodies);
     let chooser = first_of_all(alloc)?;
