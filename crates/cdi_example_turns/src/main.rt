@@ -117,38 +117,6 @@ fn take_turns<D: Driver + Drop, E: Driver + Drop>(
     Ok(())
 }
 
-/// The bodies of a shop in which all has this price, which its one closure keeps.
-fn bodies_with(alloc: Global, deployment: &Deployment, price: i64) -> io::Result<Bodies> {
-    let body: Body = Box::new(
-        alloc,
-        move |_fields: &Fields, view: &View| -> Result<Act, AllocError>
-            ensures { IfOk result (λ act. in_shape no_acts view.now act ≡ true) }
-        {
-            Ok(Act::Give {
-                value: Value::Int(price),
-            })
-        },
-    )?;
-    let mut bodies = Bodies::new(alloc);
-    let name = deployment.names.name_for("price");
-    match bodies.add(name, Shape::new(alloc), body) {
-        Ok(_) => Ok(bodies),
-        Err(_) => Err(io::Error::from(ErrorKind::InvalidData)),
-    }
-}
-
-/// A chooser that takes the first candidate.
-fn first_of_all(alloc: Global) -> io::Result<Chooser> {
-    let choice: Choice = Box::new(
-        alloc,
-        |_count: u32, _entries: u64| -> u32
-            requires { 0 < _count }
-            ensures { result < _count }
-        { 0 },
-    )?;
-    Ok(Chooser::new(choice))
-}
-
 /// The deployment of a shop.
 fn shop_deployment(alloc: Global) -> io::Result<Deployment> {
     match read(alloc, SHOP) {
@@ -175,7 +143,7 @@ fn run_second<D: Driver + Drop, E: Driver + Drop>(
     take_turns(alloc, output, first, second)
 }
 
-/// Makes a second shop beside a first one, with a price of its own.
+/// Makes a second shop beside a first one, with a price of its own. Where an order is left open, its container takes the last.
 #[tactic(auto, using(crate::proofs::Driven::drives_with))]
 fn run_beside<D: Driver + Drop>(
     alloc: Global,
@@ -183,9 +151,32 @@ fn run_beside<D: Driver + Drop>(
     first: Container<D>,
 ) -> io::Result<()> {
     let deployment = shop_deployment(alloc)?;
-    let bodies = bodies_with(alloc, &deployment, 12)?;
+    let body: Body = Box::new(
+        alloc,
+        |_fields: &Fields, view: &View| -> Result<Act, AllocError>
+            ensures { IfOk result (λ act. in_shape no_acts view.now act ≡ true) }
+        {
+            Ok(Act::Give {
+                value: Value::Int(12),
+            })
+        },
+    )?;
+    let mut bodies = Bodies::new(alloc);
+    if bodies
+        .add(deployment.names.name_for("price"), Shape::new(alloc), body)
+        .is_err()
+    {
+        return Err(io::Error::from(ErrorKind::InvalidData));
+    }
+    let choice: Choice = Box::new(
+        alloc,
+        |_count: u32, _entries: u64| -> u32
+            requires { 0 < _count }
+            ensures { result < _count }
+        { _count - 1 },
+    )?;
+    let chooser = Chooser::new(choice);
     let accepted = accept(alloc, deployment, &bodies);
-    let chooser = first_of_all(alloc)?;
     run_second(
         alloc,
         output,
@@ -212,13 +203,36 @@ fn run_first<D: Driver + Drop>(
     run_beside(alloc, output, first)
 }
 
-/// Makes the first shop, and goes on with a second one.
+/// Makes the first shop, whose container takes the first where an order is left open, and goes on with a second one.
 #[tactic(auto, using(crate::proofs::Driven::drives_with))]
 fn run(alloc: Global, output: &mut impl Write) -> io::Result<()> {
     let deployment = shop_deployment(alloc)?;
-    let bodies = bodies_with(alloc, &deployment, 3)?;
+    let body: Body = Box::new(
+        alloc,
+        |_fields: &Fields, view: &View| -> Result<Act, AllocError>
+            ensures { IfOk result (λ act. in_shape no_acts view.now act ≡ true) }
+        {
+            Ok(Act::Give {
+                value: Value::Int(3),
+            })
+        },
+    )?;
+    let mut bodies = Bodies::new(alloc);
+    if bodies
+        .add(deployment.names.name_for("price"), Shape::new(alloc), body)
+        .is_err()
+    {
+        return Err(io::Error::from(ErrorKind::InvalidData));
+    }
+    let choice: Choice = Box::new(
+        alloc,
+        |_count: u32, _entries: u64| -> u32
+            requires { 0 < _count }
+            ensures { result < _count }
+        { 0 },
+    )?;
+    let chooser = Chooser::new(choice);
     let accepted = accept(alloc, deployment, &bodies);
-    let chooser = first_of_all(alloc)?;
     run_first(alloc, output, accepted, Registered { bodies, chooser })
 }
 
