@@ -31,13 +31,13 @@ is_lowest i j (c ∷ cs) name before = by (is_lowest i (j + 1) cs name (omega ar
     by rest true = later i (j + 1) j cs name (omega arith) before
     by rest false = rest
 
-module _ (lowest : ℕ → Option ℕ) (i : ℕ) (class : Class) (below : List Class) (before : ℕ → Option ℕ) (is : (name : ℕ) → lowest name ≡ lowest_from i (class ∷ below) name (before name)) where
-  had : (last : Bool) → last ≡ nat_eq (length below) 0 → (m : Member) → declares (member_name m) class ≡ true → is_had lowest i last m ≡ comes_down below m
-  had last end m own = by below refl
+module _ (lowest : ℕ → Option ℕ) (i : ℕ) (class : Class) (below : List Class) (m : Member) (before : Option ℕ) (is : lowest (member_name m) ≡ lowest_from i (class ∷ below) (member_name m) before) where
+  pub had : (last : Bool) → last ≡ nat_eq (length below) 0 → declares (member_name m) class ≡ true → is_had lowest i last m ≡ comes_down below m
+  had last end own = by below refl
     where
       at_place : is_at i (lowest (member_name m)) ≡ not (list_any (declares (member_name m)) below)
       at_place =
-          ap (is_at i) (is (member_name m) ∙ ap (λ b. lowest_from (i + 1) below (member_name m) (cond b (Some i) (before (member_name m)))) own)
+          ap (is_at i) (is ∙ ap (λ b. lowest_from (i + 1) below (member_name m) (cond b (Some i) before)) own)
           ∙ is_lowest i (i + 1) below (member_name m) (omega arith)
 
       test : (b : Bool) → last ≡ b → is_had lowest i last m ≡ (b || (is_inherited m && not (list_any (declares (member_name m)) below)))
@@ -64,7 +64,7 @@ among (f ∷ fs) m ms = by (among fs m ms) (nat_eq (member_name f) (member_name 
     by rest false = rest
 
 module _ (p q : Member → Bool) where
-  same_from : (front ms : List Member) → ((m : Member) → list_any (λ k. nat_eq (member_name k) (member_name m)) (front ++ ms) ≡ true → p m ≡ q m) → filter p ms ≡ filter q ms
+  pub same_from : (front ms : List Member) → ((m : Member) → list_any (λ k. nat_eq (member_name k) (member_name m)) (front ++ ms) ≡ true → p m ≡ q m) → filter p ms ≡ filter q ms
   same_from front [] h = refl
   same_from front (m ∷ ms) h =
       let rest : filter p ms ≡ filter q ms = same_from (front ++ m ∷ []) ms (λ k e. h k (ap (list_any (λ k'. nat_eq (member_name k') (member_name k))) (sym (append_assoc front (m ∷ []) ms)) ∙ e)) in
@@ -76,7 +76,8 @@ pub same_members : (lowest : ℕ → Option ℕ) (i : ℕ) (class : Class) (belo
     → (last : Bool) → last ≡ nat_eq (length below) 0
     → filter (is_had lowest i last) class.members ≡ filter (comes_down below) class.members
 same_members lowest i class below before is last end =
-    same_from (is_had lowest i last) (comes_down below) [] class.members (had lowest i class below before is last end)
+    same_from (is_had lowest i last) (comes_down below) [] class.members
+    (λ m own. had lowest i class below m (before (member_name m)) (is (member_name m)) last end own)
 
 -- what is known and what was found so far, where one class more was looked at
 module _ (lowest : ℕ → Option ℕ) (items : List (Bor Class)) (i : ℕ) (class : Bor Class) (within : i < length items) (is : class ≡ get_or items i class) where
@@ -86,13 +87,13 @@ module _ (lowest : ℕ → Option ℕ) (items : List (Bor Class)) (i : ℕ) (cla
   abbrev pub below : List Class
   below = line (drop (i + 1) items)
 
-  item_first : drop i items ≡ class ∷ drop (i + 1) items
+  pub item_first : drop i items ≡ class ∷ drop (i + 1) items
   item_first = drop-cons items i class within ∙ ap (λ c. c ∷ drop (suc i) items) (sym is) ∙ ap (λ j. class ∷ drop j items) (sym (add-one i))
 
   pub knows : (before : ℕ → Option ℕ) → ((name : ℕ) → lowest name ≡ lowest_from i (line (drop i items)) name (before name)) → (name : ℕ) → lowest name ≡ lowest_from i (class.now ∷ below) name (before name)
   knows before known name = known name ∙ ap (λ cs. lowest_from i (line cs) name (before name)) item_first
 
-  end : (n : ℕ) → n ≡ length items → nat_eq (i + 1) n ≡ nat_eq (length below) 0
+  pub end : (n : ℕ) → n ≡ length items → nat_eq (i + 1) n ≡ nat_eq (length below) 0
   end n all =
       let len : length below ≡ length (drop (i + 1) items) = length-map (drop (i + 1) items) (λ (k : Bor Class). k.now) in
       let left : length (drop (i + 1) items) ≡ length items - (i + 1) = length-drop (i + 1) items in

@@ -1,4 +1,6 @@
 pub mod Inherited
+pub mod OfKind
+pub mod KindLists
 pub mod Lines
 pub mod ClassPlaces
 pub mod Bits

@@ -1,8 +1,10 @@
 //! A class with its superclasses.
 ghost use Rattle.std.specs.Prelude.{◌≡◌, ◌++◌, map, filter, IfOk, OnOk};
+ghost use Rattle.cdi_types.specs.Kinds.{has_kind, of_kind};
 ghost use Rattle.cdi_types.specs.Lowest.{place_in, is_had};
 ghost use Rattle.cdi_types.specs.Members as spec;
 
+use crate::kind::MemberKind;
 use crate::lowest::LowestDeclarations;
 use crate::part::ClassPart;
 use cdi_base::Seq;
@@ -52,6 +54,27 @@ fn add_members<'a>(
 {
     for part in class.members.as_slice() {
         if lowest.is_had(place, is_last, part) {
+            found.push(ClassPart { class, part })?;
+        }
+    }
+    Ok(())
+}
+
+/// Adds those members of a kind of the class at a place that the last class of the line has.
+fn add_members_of_kind<'a>(
+    class: &'a Class,
+    place: usize,
+    is_last: bool,
+    lowest: &LowestDeclarations,
+    kind: MemberKind,
+    found: &mut Seq<ClassPart<'a, Member>>,
+) -> Result<(), AllocError>
+    ensures { OnOk result (found.new ≡ found.old ++ spec.parts_of class.now
+        (filter (is_had (place_in lowest.now) place is_last)
+        (filter (has_kind kind) class.now.members))) }
+{
+    for part in class.members.as_slice() {
+        if kind.is_of(part) && lowest.is_had(place, is_last, part) {
             found.push(ClassPart { class, part })?;
         }
     }
@@ -112,6 +135,28 @@ impl<'a> ClassLine<'a> {
         for (place, class) in self.classes.as_slice().iter().enumerate() {
             let is_last = place + 1 == self.classes.len();
             add_members(class, place, is_last, &lowest, &mut members)?;
+        }
+        Ok(members)
+    }
+    /// Those members of a kind that the last class of the line has, as [`ClassLine::members`] lists them. It takes time in
+    /// proportion to what all classes of the line declare, and memory in proportion to what they declare of this kind: none if they
+    /// declare none.
+    pub fn members_of_kind(
+        &self,
+        alloc: Global,
+        kind: MemberKind,
+    ) -> Result<Seq<ClassPart<'a, Member>>, AllocError>
+        ensures { IfOk result (λ members. members ≡ of_kind kind (spec.members_of self.now)) }
+    {
+        let classes = self.classes.as_slice();
+        let mut members = Seq::empty(alloc);
+        if !kind.is_declared_in(classes) {
+            return Ok(members);
+        }
+        let lowest = LowestDeclarations::of_kind(alloc, classes, kind)?;
+        for (place, class) in classes.iter().enumerate() {
+            let is_last = place + 1 == classes.len();
+            add_members_of_kind(class, place, is_last, &lowest, kind, &mut members)?;
         }
         Ok(members)
     }

@@ -1,14 +1,18 @@
 //! Which class of a line declares a name last.
-ghost use Rattle.std.specs.Prelude.{◌≡◌, ◌+◌, ◌==◌, ℕ, Some, None, map, nat_eq, IfOk, OnOk, if◌then◌else◌};
+ghost use Rattle.std.specs.Prelude.{◌≡◌, ◌+◌, ◌==◌, ◌&&◌, ◌||◌, ℕ, Some, None, map, nat_eq, IfOk, OnOk, IsTrue, if◌then◌else◌};
 ghost use Rattle.std.specs.HashMap.{get};
+ghost use Rattle.std.specs.HashSet.{contains};
+ghost use Rattle.std.specs.List.{list_any};
+ghost use Rattle.cdi_types.specs.Kinds.{declares_of_kind};
 ghost use Rattle.cdi_types.specs.Members.{declares};
 ghost use Rattle.cdi_types.specs.Lowest as spec;
 
+use crate::kind::MemberKind;
 use crate::member::is_inherited;
 use cdi_base::Name;
 use cdi_deployment::{Class, Member};
 use std::alloc::{AllocError, Global};
-use std::collections::HashMap;
+use std::collections::{HashMap, HashSet};
 
 /// The place in a line of the lowest class that declares a member of each name.
 #[derive(Drop)]
@@ -31,6 +35,59 @@ fn put_names(
     Ok(())
 }
 
+/// Adds the names of those members of a class that are of a kind.
+fn add_names_of_kind(
+    names: &mut HashSet<Name>,
+    class: &Class,
+    kind: MemberKind,
+) -> Result<(), AllocError>
+    ensures { OnOk result ((name : ℕ) → contains nat_eq names.new name
+        ≡ (contains nat_eq names.old name || declares_of_kind kind name class.now)) }
+{
+    for member in class.members.as_slice() {
+        if kind.is_of(member) {
+            names.insert(member.name())?;
+        }
+    }
+    Ok(())
+}
+
+/// The names of those members of a line that are of a kind.
+fn names_of_kind(
+    alloc: Global,
+    line: &[&Class],
+    kind: MemberKind,
+) -> Result<HashSet<Name>, AllocError>
+    ensures { IfOk result (λ names. (name : ℕ) → contains nat_eq names name
+        ≡ list_any (declares_of_kind kind name) (map (λ c. c.now) line.now)) }
+{
+    let mut names = HashSet::new(alloc);
+    for class in line {
+        add_names_of_kind(&mut names, class, kind)?;
+    }
+    Ok(names)
+}
+
+/// Puts down those of these names that a class declares at its place.
+fn put_those_names(
+    places: &mut HashMap<Name, usize>,
+    names: &HashSet<Name>,
+    class: &Class,
+    place: usize,
+) -> Result<(), AllocError>
+    ensures { OnOk result ((name : ℕ) → get nat_eq places.new name
+        ≡ if contains nat_eq names.now name && declares name class.now then Some place
+        else get nat_eq places.old name) }
+{
+    for member in class.members.as_slice() {
+        let name = member.name();
+        if names.contains(&name) {
+            places.insert(name, place)?;
+        }
+    }
+    Ok(())
+}
+
 impl LowestDeclarations {
     /// Those of a line.
     pub(crate) fn of(alloc: Global, line: &[&Class]) -> Result<LowestDeclarations, AllocError>
@@ -41,6 +98,25 @@ impl LowestDeclarations {
         let mut places = HashMap::new(alloc);
         for (place, class) in line.iter().enumerate() {
             put_names(&mut places, class, place)?;
+        }
+        Ok(LowestDeclarations { places })
+    }
+
+    /// Those of a line, of the names alone that its members of a kind have.
+    pub(crate) fn of_kind(
+        alloc: Global,
+        line: &[&Class],
+        kind: MemberKind,
+    ) -> Result<LowestDeclarations, AllocError>
+        ensures { IfOk result (λ lowest. (name : ℕ)
+            → IsTrue (list_any (declares_of_kind kind name) (map (λ c. c.now) line.now))
+            → spec.place_in lowest name
+            ≡ spec.lowest_from 0 (map (λ c. c.now) line.now) name None) }
+    {
+        let names = names_of_kind(alloc, line, kind)?;
+        let mut places = HashMap::new(alloc);
+        for (place, class) in line.iter().enumerate() {
+            put_those_names(&mut places, &names, class, place)?;
         }
         Ok(LowestDeclarations { places })
     }
