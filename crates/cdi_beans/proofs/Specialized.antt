@@ -12,7 +12,7 @@ use Rattle.cdi_base.specs.declared.built_in.BuiltIn.TheVariants as names
 use Rattle.cdi_base.specs.declared.uses.Use.{Use}
 use Rattle.cdi_deployment.specs.declared.deployment.Class.{Class}
 use Rattle.cdi_deployment.specs.declared.deployment.Deployment.{Deployment}
-use Rattle.cdi_types.proofs.Heights.{height-falls}
+use Rattle.cdi_paths.proofs.Heights.{height-falls}
 use Rattle.cdi_types.specs.Declarations.{of_class, of_interface, of_built_in, declarations_of}
 use Rattle.cdi_types.specs.Nodes.{place_of, graph_of}
 use Rattle.cdi_types.specs.Subtype.{direct_supertypes, supertypes_of, IsBelow, IsAcyclic}

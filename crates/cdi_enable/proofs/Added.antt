@@ -4,8 +4,8 @@ use Rattle.std.proofs.lemmas.Bool.{cases_lt}
 use Rattle.std.proofs.lemmas.List.{get_or_append_left, get_or_past, map-append, length-map}
 use Rattle.std.proofs.lemmas.Option.{slice_get-get_or}
 use Rattle.std.specs.List.{Contains}
-use Rattle.cdi_types.specs.Graph.{targets_of, Path}
-use Rattle.cdi_types.proofs.Paths.{edge_within}
+use Rattle.cdi_paths.specs.Graph.{targets_of, Path}
+use Rattle.cdi_paths.proofs.Paths.{edge_within}
 use Rattle.cdi_types.proofs.Listed.{not_in_none}
 use Rattle.cdi_enable.specs.declared.managed_bean.ManagedBean.{ManagedBean}
 use Rattle.cdi_enable.specs.Enabled.{graph_of, is_candidate, may_be_enabled, Specializes, IsForest, Enabled}

@@ -10,7 +10,7 @@ use Rattle.cdi_deployment.specs.declared.deployment.Class.{Class}
 use Rattle.cdi_deployment.specs.declared.deployment.Deployment.{Deployment}
 use Rattle.cdi_deployment.specs.declared.deployment.Member.{Member}
 use Rattle.cdi_quals.specs.declared.types.QualifierType.{QualifierType}
-use Rattle.cdi_types.specs.Graph.{targets_of, Path}
+use Rattle.cdi_paths.specs.Graph.{targets_of, Path}
 use Rattle.cdi_types.specs.Declarations.{of_class}
 use Rattle.cdi_types.specs.Subtype.{IsAcyclic}
 use Rattle.cdi_types.proofs.Listed.{not_in_none, first_or_later}

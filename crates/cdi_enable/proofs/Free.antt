@@ -2,7 +2,7 @@
 use Rattle.std.proofs.Common.{◌≡◌, ◌∙◌, ◌↔◌, ℕ, ◌<◌, ◌≤◌, zero, suc, Bool, true, false, List, length, IsTrue, refl, sym, ap, subst, ◌⊎◌, inl, inr, arith}
 use Rattle.std.proofs.lemmas.Bool.{cases_Bool, cases_eq, cases_lt, true≢false}
 use Rattle.std.proofs.lemmas.Option.{slice_get_past}
-use Rattle.cdi_types.proofs.Paths.{proper_join, proper_decided}
+use Rattle.cdi_paths.proofs.Paths.{proper_join, proper_decided}
 use Rattle.cdi_enable.specs.declared.managed_bean.ManagedBean.{ManagedBean}
 use Rattle.cdi_enable.specs.Enabled.{graph_of, is_candidate, may_be_enabled, Specializes, IsForest, Enabled}
 use Rattle.cdi_enable.specs.Free.{flag, IsFree, IsEnabledSetOf}

@@ -1,6 +1,6 @@
 -- Which managed beans are enabled (Jakarta CDI 4.0, Enabled and disabled beans).
 use Rattle.std.specs.Prelude.{ℕ, ◌≡◌, ◌≢◌, ◌||◌, List, Bool, true, false, not, map, Option, Some, None, option_to_list, slice_get}
-use Rattle.cdi_types.specs.Graph.{IsGraph, ProperPath}
+use Rattle.cdi_paths.specs.Graph.{IsGraph, ProperPath}
 use Rattle.cdi_enable.specs.declared.managed_bean.ManagedBean.{ManagedBean}
 
 -- each bean with the one that it directly specializes

@@ -5,7 +5,7 @@ ghost use Rattle.cdi_enable.specs.Free.{flag, IsFree};
 
 use crate::managed_bean::ManagedBean;
 use cdi_base::Seq;
-use cdi_types::Reachability;
+use cdi_paths::Reachability;
 use std::alloc::{AllocError, Global};
 use std::marker::Model;
 

@@ -15,7 +15,7 @@ use Rattle.cdi_types.specs.Line.{class_named}
 use Rattle.cdi_types.proofs.Lines.{one_line}
 use Rattle.cdi_live.specs.Points.{field_point}
 use Rattle.cdi_live.specs.PointProblems.{resolved}
-use Rattle.cdi_types.specs.Graph.{targets_of, Path, ProperPath}
+use Rattle.cdi_paths.specs.Graph.{targets_of, Path, ProperPath}
 use Rattle.cdi_resolve.specs.Filters.{enabled_beans}
 use Rattle.cdi_resolve.specs.declared.resolution.Resolution.{Resolution}
 use Rattle.cdi_resolve.specs.declared.resolution.Resolution.TheVariants.{Nothing, One, Many}

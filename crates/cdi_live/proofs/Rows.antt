@@ -5,7 +5,7 @@ use Rattle.std.proofs.lemmas.Bool.{cases_lt}
 use Rattle.std.proofs.lemmas.Bool.Decides.{nat_tests}
 use Rattle.std.proofs.lemmas.List.{get_or_append_left, get_or_default}
 use Rattle.std.specs.Prelude.{All, Contains}
-use Rattle.cdi_types.specs.Graph.{targets_of, IsGraph}
+use Rattle.cdi_paths.specs.Graph.{targets_of, IsGraph}
 use Rattle.cdi_live.specs.Graphs.{Counts, number_of, IsRowOf, HasBeanRows, HasRows}
 use Rattle.cdi_live.specs.OwnPoints.{Inventory}
 use Rattle.cdi_live.specs.declared.node.Node.{Node}

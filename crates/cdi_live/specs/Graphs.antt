@@ -1,7 +1,7 @@
 -- The beans and interceptors as nodes of a graph: beans by their indices, and behind them interceptors by their places.
 use Rattle.std.specs.Prelude.{ℕ, ◌≡◌, ◌+◌, ◌-◌, ◌<◌, List, [], Option, Some, None, nat_lt, length, if◌then◌else◌}
 use Rattle.std.specs.List.{filter_map}
-use Rattle.cdi_types.specs.Graph.{targets_of}
+use Rattle.cdi_paths.specs.Graph.{targets_of}
 use Rattle.cdi_live.specs.Needs.{NeedsThose}
 use Rattle.cdi_live.specs.OwnPoints.{Inventory}
 use Rattle.cdi_live.specs.declared.node.Node.{Node}

@@ -6,7 +6,7 @@ ghost use Rattle.cdi_live.specs.Settings.{setting_of, counts_of};
 
 use crate::deployment_tables::DeploymentTables;
 use cdi_base::Seq;
-use cdi_types::Reachability;
+use cdi_paths::Reachability;
 use std::alloc::{AllocError, Global};
 
 /// For each bean of the list, and for each enabled interceptor, whether it needs an instance of itself, directly or through others

@@ -5,14 +5,14 @@ use Rattle.std.proofs.lemmas.Bool.{cases_Bool, cases_eq, eq-eqb, eqb-true, or_ca
 use Rattle.std.proofs.lemmas.List.{length-map}
 use Rattle.std.proofs.lemmas.Option.{slice_get_within}
 use Rattle.std.specs.List.{Contains}
-use Rattle.cdi_types.proofs.Heights.{height-falls}
+use Rattle.cdi_paths.proofs.Heights.{height-falls}
 use Rattle.cdi_types.proofs.Listed.{cases_Option, not_in_none}
-use Rattle.cdi_types.proofs.Paths.{path_from_through}
+use Rattle.cdi_paths.proofs.Paths.{path_from_through}
 use Rattle.cdi_types.proofs.Refined.{below_from_path, edge_to, is_graph, nothing_above}
-use Rattle.cdi_types.specs.Graph.{ProperPath}
-use Rattle.cdi_types.specs.Height.{count_below, height}
+use Rattle.cdi_paths.specs.Graph.{ProperPath}
+use Rattle.cdi_paths.specs.Height.{count_below, height}
 use Rattle.cdi_types.specs.Nodes.{graph_of, place_of}
-use Rattle.cdi_types.specs.Rounds.{has_path_through}
+use Rattle.cdi_paths.specs.Rounds.{has_path_through}
 use Rattle.cdi_types.specs.Subtype.{IsAcyclic, IsBelow, IsSubtype, object, supertypes_of}
 use Rattle.cdi_types.specs.declared.declaration.TypeDeclaration.{TypeDeclaration}
 use Rattle.cdi_event_tables.specs.Events.{is_below_within, is_subtype}

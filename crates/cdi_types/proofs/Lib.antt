@@ -3,12 +3,7 @@ pub mod OfKind
 pub mod KindLists
 pub mod Lines
 pub mod ClassPlaces
-pub mod Bits
-pub mod Paths
-pub mod Rows
-pub mod Heights
 pub mod Listings
-pub mod OneWay
 pub mod Cycles
 pub mod Listed
 pub mod Order

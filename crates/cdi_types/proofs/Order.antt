@@ -1,10 +1,9 @@
 -- Subtypes are ordered, and superclasses are a forest.
 use Rattle.std.proofs.Common.{◌≡◌, ◌≢◌, ◌∙◌, ℕ, ◌||◌, true, false, nat_eq, List, [], refl, sym, ap, subst}
-use Rattle.std.proofs.lemmas.Bool.{eqb-false, true≢false}
-use Rattle.std.specs.List.{Contains}
+use Rattle.std.proofs.lemmas.Bool.{eqb-false}
 use Rattle.cdi_types.specs.declared.declaration.TypeDeclaration.{TypeDeclaration}
-use Rattle.cdi_types.specs.Lineage.{superclass_of, IsSuperclass}
-use Rattle.cdi_types.specs.Subtype.{object, supertypes_of, is_declared, is_type, knows_supertypes, IsBelow, IsSubtype, IsAcyclic}
+use Rattle.cdi_types.specs.Lineage.{IsSuperclass}
+use Rattle.cdi_types.specs.Subtype.{object, supertypes_of, is_declared, knows_supertypes, IsBelow, IsSubtype, IsAcyclic}
 use Rattle.cdi_types.proofs.Listed.{not_in_none}
 use Rattle.cdi_types.proofs.Supertypes.{superclass_above, known_above}
 

@@ -1,14 +1,11 @@
 -- What stands above a name, and the paths between the places of declarations.
-use Rattle.std.proofs.Common.{◌≡◌, ◌∙◌, ◌↔◌, ℕ, ◌<◌, ◌≤◌, ◌||◌, Bool, true, false, cond, nat_eq, List, [], ◌∷◌, length, get_or, position, Option, Some, None, IsTrue, refl, sym, ap, subst, inl, inr, arith}
-use Rattle.std.proofs.lemmas.Bool.{eqb-true, true≢false}
+use Rattle.std.proofs.Common.{◌≡◌, ◌∙◌, ◌↔◌, ℕ, ◌<◌, ◌||◌, Bool, true, false, cond, nat_eq, List, [], ◌∷◌, length, get_or, Option, Some, None, IsTrue, refl, sym, ap, subst, inl, inr, arith}
+use Rattle.std.proofs.lemmas.Bool.{eqb-true}
 use Rattle.std.proofs.lemmas.List.{get_or-map, length-map}
 use Rattle.std.proofs.lemmas.List.Elements.{All-map, All-weaker, All-contains_itself}
-use Rattle.std.proofs.lemmas.List.Folds.{find_at}
 use Rattle.std.proofs.lemmas.List.Quantifiers.{position-Some}
-use Rattle.std.proofs.lemmas.Option.{slice_get_past}
-use Rattle.std.specs.Bool.{nat_lt}
-use Rattle.std.specs.List.{All, Contains, list_any, filter_map, find, position_or_len}
-use Rattle.cdi_types.specs.Graph.{IsGraph, Path, ProperPath, targets_of}
+use Rattle.std.specs.List.{All, Contains, list_any, filter_map, find}
+use Rattle.cdi_paths.specs.Graph.{IsGraph, Path, ProperPath, targets_of}
 use Rattle.cdi_types.specs.declared.declaration.TypeDeclaration.{TypeDeclaration}
 use Rattle.cdi_types.specs.Nodes.{place_of, graph_of}
 use Rattle.cdi_types.specs.Subtype.{is_declared, supertypes_of, IsBelow}

@@ -1,8 +1,8 @@
 -- The walk up to the superclasses ends.
 use Rattle.std.proofs.Common.{◌≡◌, ℕ, ◌+◌, ◌<◌, List, Option, Some, None, refl, inl, inr, arith}
 use Rattle.std.specs.List.{Contains}
-use Rattle.cdi_types.specs.Height.{height}
-use Rattle.cdi_types.proofs.Heights.{height-falls}
+use Rattle.cdi_paths.specs.Height.{height}
+use Rattle.cdi_paths.proofs.Heights.{height-falls}
 use Rattle.cdi_types.specs.declared.declaration.TypeDeclaration.{TypeDeclaration}
 use Rattle.cdi_types.specs.Lineage.{superclass_of}
 use Rattle.cdi_types.specs.Nodes.{place_of, graph_of}

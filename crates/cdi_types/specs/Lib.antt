@@ -2,11 +2,7 @@ pub mod Kinds
 pub mod Line
 pub mod Lowest
 pub mod Members
-pub mod Graph
-pub mod Height
 pub mod ListsThose
-pub mod BitRow
-pub mod Rounds
 pub mod Declarations
 pub mod Index
 pub mod Lineage

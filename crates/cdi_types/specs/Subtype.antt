@@ -1,5 +1,5 @@
 -- Subtypes, over the names of the declared types (Jakarta CDI 4.0, Bean types).
-use Rattle.std.specs.Prelude.{ℕ, ◌==◌, ◌||◌, ◌≡◌, ◌++◌, List, [], ◌∷◌, filter, map, Bool, Option, option_to_list, Contains}
+use Rattle.std.specs.Prelude.{ℕ, ◌==◌, ◌||◌, ◌++◌, List, [], ◌∷◌, filter, map, Bool, option_to_list, Contains}
 use Rattle.std.specs.List.{flat_map, list_any, list_all}
 use Rattle.cdi_base.specs.BuiltIn.{number_of}
 use Rattle.cdi_base.specs.declared.built_in.BuiltIn.TheVariants as names

@@ -5,9 +5,9 @@ ghost use Rattle.std.specs.List.{list_all};
 use crate::declaration::{TypeDeclaration, declarations_of};
 use crate::edges::graph_of;
 use crate::index::TypeIndex;
-use crate::reachability::Reachability;
 use cdi_base::{BuiltIn, Name, Seq};
 use cdi_deployment::Deployment;
+use cdi_paths::Reachability;
 use std::alloc::{AllocError, Global};
 use std::marker::Model;
 

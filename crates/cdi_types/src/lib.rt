@@ -1,8 +1,7 @@
-//! The types of a deployment: which nodes of a graph reach which, which type is a subtype of which (Jakarta CDI 4.0, *Bean types*), and
+//! The types of a deployment: which type is a subtype of which (Jakarta CDI 4.0, *Bean types*), and
 //! what a class has of what it and its superclasses declare (Jakarta CDI 4.0, *Inheritance and specialization*).
 #![tactic(auto)]
 
-mod bit_row;
 pub mod class_index;
 pub mod declaration;
 mod edges;
@@ -16,8 +15,6 @@ mod lineage;
 mod lowest;
 pub mod member;
 pub mod part;
-pub mod path_laws;
-pub mod reachability;
 pub mod subtype_laws;
 pub mod table;
 
@@ -28,5 +25,4 @@ pub use graph::TypeGraph;
 pub use kind::MemberKind;
 pub use line::ClassLine;
 pub use part::ClassPart;
-pub use reachability::Reachability;
 pub use table::TypeTable;

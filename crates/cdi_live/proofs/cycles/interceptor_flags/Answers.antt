@@ -1,7 +1,7 @@
 use Rattle.std.proofs.Common.{◌≡◌, ◌+◌, ◌<◌, ◌≤◌, refl, sym, ap, length-append, arith}
 use Rattle.std.specs.Prelude.{◌↔◌, IsTrue}
 use Rattle.cdi_enable.proofs.Flags.{flag_push}
-use Rattle.cdi_types.specs.Graph.{ProperPath}
+use Rattle.cdi_paths.specs.Graph.{ProperPath}
 use Rattle.cdi_live.specs.Cycles.{InterceptorNeedsItself}
 use Rattle.cdi_live.specs.Settings.{setting_of, counts_of}
 use Rattle.cdi_live.proofs.Needy.{flags_all}

@@ -1,4 +1,4 @@
-use Rattle.std.proofs.Common.{◌≡◌, ◌∙◌, sym}
+use Rattle.std.proofs.Common.{sym}
 use Rattle.cdi_types.specs.Index.{place_in}
 use Rattle.cdi_types.proofs.Supertypes.{adds_edges, adds_none}
 use Rattle.cdi_types.proofs.edges.edges_of.Goals as goal

@@ -1,5 +1,5 @@
 use Rattle.std.proofs.Common.{◌≡◌, ◌∙◌, ℕ, true, false, List, true≢false, sym, ap, subst, refl}
-use Rattle.cdi_types.specs.Graph.{ProperPath}
+use Rattle.cdi_paths.specs.Graph.{ProperPath}
 use Rattle.cdi_enable.specs.Enabled.{Enabled, Specializes, graph_of}
 use Rattle.cdi_enable.proofs.Free.{once}
 use Rattle.cdi_enable.proofs.Two.{next_such, next_other}

@@ -1,4 +1,4 @@
-use Rattle.std.proofs.Common.{◌≡◌, true, true≢false, sym, List, take, subst, arith, All}
+use Rattle.std.proofs.Common.{◌≡◌, true≢false, sym, List, take, subst, arith, All}
 use Rattle.std.proofs.lemmas.Grind.{common_steps}
 use Rattle.cdi_types.specs.Subtype.{IsCyclic}
 use Rattle.cdi_types.specs.declared.declaration.TypeDeclaration.{TypeDeclaration}

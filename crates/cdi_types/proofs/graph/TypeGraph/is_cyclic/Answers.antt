@@ -1,4 +1,4 @@
-use Rattle.std.proofs.Common.{◌∙◌, true≢false, sym}
+use Rattle.std.proofs.Common.{true≢false, sym}
 use Rattle.cdi_types.specs.Index.{place_in}
 use Rattle.cdi_types.proofs.Refined.{below_told, not_below}
 use Rattle.cdi_types.proofs.graph.TypeGraph.is_cyclic.Goals as goal

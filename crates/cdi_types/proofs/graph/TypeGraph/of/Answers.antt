@@ -1,5 +1,5 @@
-use Rattle.std.proofs.Common.{◌≡◌, sym, subst, List, ℕ}
-use Rattle.cdi_types.specs.Graph.{IsGraph}
+use Rattle.std.proofs.Common.{sym, subst, List, ℕ}
+use Rattle.cdi_paths.specs.Graph.{IsGraph}
 use Rattle.cdi_types.specs.Index.{place_in}
 use Rattle.cdi_types.proofs.Refined.{is_graph}
 use Rattle.cdi_types.proofs.graph.TypeGraph.of.Goals as goal

@@ -1,4 +1,4 @@
-use Rattle.std.proofs.Common.{◌≡◌, ◌∙◌, ℕ, Option, option_and_then, slice_get, sym, ap}
+use Rattle.std.proofs.Common.{◌∙◌, option_and_then, slice_get, sym, ap}
 use Rattle.cdi_types.specs.declared.declaration.TypeDeclaration.{TypeDeclaration}
 use Rattle.cdi_types.proofs.Places.{superclass_at, superclass_nowhere}
 use Rattle.cdi_types.proofs.graph.TypeGraph.superclass_of.Goals as goal

@@ -1,4 +1,4 @@
-use Rattle.std.proofs.Common.{sym, ◌≢◌, ◌∙◌, ◌≡◌, subst, refl, ℕ}
+use Rattle.std.proofs.Common.{sym, ◌≢◌, ◌∙◌, subst, refl, ℕ}
 use Rattle.std.proofs.lemmas.Bool.{eqb-true, eqb-false}
 use Rattle.cdi_types.specs.Subtype.{object, IsSubtype}
 use Rattle.cdi_types.proofs.Order.{below_other, declared_above}

@@ -1,0 +1,5 @@
+pub mod Bits
+pub mod Paths
+pub mod Rows
+pub mod Heights
+pub mod OneWay

@@ -1,0 +1,4 @@
+pub mod Graph
+pub mod Height
+pub mod BitRow
+pub mod Rounds

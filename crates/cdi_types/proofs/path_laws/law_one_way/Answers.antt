@@ -1,5 +1,0 @@
-use Rattle.cdi_types.proofs.OneWay.{one_way}
-use Rattle.cdi_types.proofs.path_laws.law_one_way.Goals as goal
-
-pub returns : goal.returns
-returns c = one_way

@@ -1,5 +1,0 @@
-use Rattle.cdi_types.proofs.Paths.{join}
-use Rattle.cdi_types.proofs.path_laws.law_paths_join.Goals as goal
-
-pub returns : goal.returns
-returns c = λ graph a b c. join graph
