@@ -74,9 +74,6 @@ impl Run<'_> {
     /// The run as it is, up to one by turns that differs.
     pub(crate) fn by_turns(self, input: &[u8]) -> Result<Played, AllocError> {
         let plain = self.over(input);
-        if self.bytes.len() > MAX_BY_TURNS || input.len() > MAX_BY_TURNS {
-            return Ok(plain);
-        }
         for slice in SLICES {
             let Some(words) = with_slice(self.alloc, self.words, slice)? else {
                 return Ok(plain);
@@ -181,9 +178,6 @@ impl Run<'_> {
 
 /// By turns of how many entries each run is played again.
 const SLICES: [&str; 4] = ["--slice=1", "--slice=2", "--slice=3", "--slice=1000"];
-
-/// The most bytes of a deployment, and of an input, that are played by turns too: of the few longer ones it would take too long.
-const MAX_BY_TURNS: usize = 8_192;
 
 /// The words of a run of the program with one more, if they don't say by turns of how many entries its commands are carried out.
 fn with_slice<'a>(

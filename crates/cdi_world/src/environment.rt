@@ -1,11 +1,11 @@
 //! In which request and session a command runs.
 ghost use Rattle.std.specs.Prelude.{◌≡◌, IfOk, IsErr, IsSome, IsTrue};
 ghost use Rattle.cdi_contexts.specs.Contexts.{context_of, session_of_request};
-ghost use Rattle.cdi_contexts.specs.Standing.{environment_of, request_name_at, session_name_at};
+ghost use Rattle.cdi_contexts.specs.Standing.{environment_of};
 ghost use Rattle.cdi_machine.specs.Commands as commands;
 ghost use Rattle.cdi_machine.specs.World.{no_environment};
 ghost use Rattle.cdi_host.specs.Standing.{has_named_contexts};
-ghost use Rattle.cdi_world.specs.Reached.{environment_there, name_in, request_there, session_there};
+ghost use Rattle.cdi_world.specs.Reached.{environment_there, name_in};
 
 use cdi_base::{Scope, Text};
 use cdi_contexts::{Contexts, Env};
@@ -71,10 +71,15 @@ impl Environment {
         ensures { environment_of contexts.now result
             ≡ environment_there contexts.now.contexts self.now }
     {
-        Env {
-            request: request_slot(contexts, &self.request),
-            session: session_slot(contexts, &self.session),
-        }
+        let request = match &self.request {
+            Some(name) => contexts.request_slot(name.as_str()),
+            None => None,
+        };
+        let session = match &self.session {
+            Some(name) => contexts.session_slot(name.as_str()),
+            None => None,
+        };
+        Env { request, session }
     }
 
     /// The context of a scope, if there is one (Jakarta CDI 4.0, *The active context object for a
@@ -107,27 +112,5 @@ fn session_of(contexts: &Contexts, request: &Text) -> Result<Option<Text>, Alloc
     match contexts.session_of(request.as_str()) {
         Some(session) => Ok(Some(session.clone()?)),
         None => Ok(None),
-    }
-}
-
-/// The slot of a request, if one is named that is there.
-fn request_slot(contexts: &Contexts, request: &Option<Text>) -> Option<usize>
-    ensures { request_name_at contexts.now result
-        ≡ request_there contexts.now.contexts request.now }
-{
-    match request {
-        Some(name) => contexts.request_slot(name.as_str()),
-        None => None,
-    }
-}
-
-/// The slot of a session, if one is named that is there.
-fn session_slot(contexts: &Contexts, session: &Option<Text>) -> Option<usize>
-    ensures { session_name_at contexts.now result
-        ≡ session_there contexts.now.contexts session.now }
-{
-    match session {
-        Some(name) => contexts.session_slot(name.as_str()),
-        None => None,
     }
 }

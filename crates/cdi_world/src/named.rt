@@ -1,6 +1,5 @@
 //! The contexts by their names. A context that is gone changes nothing.
 ghost use Rattle.std.specs.Prelude.{◌≡◌, None, IfOk, OnOk, OnErr};
-ghost use Rattle.std.specs.Option.{option_copied};
 ghost use Rattle.cdi_contexts.specs.Contexts.{context_at, with_ending, with_held, with_nothing};
 ghost use Rattle.cdi_contexts.specs.Contexts.{with_mark, without_context};
 ghost use Rattle.cdi_contexts.specs.Refusals.{begin_refusal, opens_session};
@@ -38,27 +37,12 @@ pub(crate) fn begin_in(
         ≡ opens_session contexts.old.contexts session.now) }
     ensures err { OnErr result (contexts.new ≡ contexts.old) }
 {
-    match session {
-        Some(name) => begin_as(contexts, request.as_str(), Some(name.as_str())),
-        None => begin_as(contexts, request.as_str(), None),
-    }
-}
-
-/// As `begin_in`, of texts.
-fn begin_as(
-    contexts: &mut Contexts,
-    request: &str,
-    session: Option<&str>,
-) -> Result<bool, AllocError>
-    requires { begin_refusal contexts.old.contexts request.now (option_copied session) ≡ None }
-    ensures begun { OnOk result (contexts.new.contexts
-        ≡ with_begun request.now (option_copied session.entry) contexts.old.contexts) }
-    ensures opens { IfOk result (λ opens. opens
-        ≡ opens_session contexts.old.contexts (option_copied session.entry)) }
-    ensures err { OnErr result (contexts.new ≡ contexts.old) }
-{
+    let session = match session {
+        Some(name) => Some(name.as_str()),
+        None => None,
+    };
     let opens = contexts.opens_session(session);
-    match contexts.begin(request, session) {
+    match contexts.begin(request.as_str(), session) {
         Ok(_) => Ok(opens),
         Err(_) => Err(AllocError),
     }

@@ -1,0 +1,255 @@
+//! A box office in a program of its own: its bodies are closures, of which one has a list of prices. A request begins, a ticket is
+//! bought in it, an event is fired from outside, and all ends; each reply is told, behind the entries of its command.
+#![tactic(auto)]
+
+ghost use Rattle.std.specs.Prelude.{◌≡◌, ◌<◌, true, IfOk};
+ghost use Rattle.cdi_bodies.specs.Shape.{in_shape, no_acts};
+ghost use Rattle.cdi_run_tables.specs.Machine.{machine_tables};
+ghost use Rattle.cdi_runtime.specs.Standing.{IsServable};
+ghost use Rattle.cdi_steps.specs.Driving.{Drives};
+ghost use Rattle.cdi_example.specs.Shapes as spec;
+
+mod bodies;
+
+use bodies::{buy_shape, call_office, first_answer, first_argument, note_shape, number_in};
+use cdi_base::{Act, Command, Fields, Limits, OrMemory, Reply, Seq, Text, Value};
+use cdi_bodies::{Bodies, Body, Choice, Chooser, Shape, View};
+use cdi_container::{Container, Unaccepted, accept};
+use cdi_deploy::read;
+use cdi_deployment::Deployment;
+use cdi_machine::{Driver, Registered};
+use cdi_run_tables::RunTables;
+use cdi_text::{write_reply, write_trace};
+use std::alloc::{AllocError, Global};
+use std::io;
+use std::io::{ErrorKind, Write};
+use std::process::ExitCode;
+
+/// A box office, a desk for each request, and a ledger that hears of each ticket that is sold.
+const BOX_OFFICE: &[u8] = br#"{"classes": [
+    {"name": "Sold"},
+    {"name": "BoxOffice", "bean": {"scope": "ApplicationScoped"},
+        "members": [{"kind": "method", "name": "sell", "args": 1, "body": "sell"}]},
+    {"name": "Desk", "bean": {"scope": "RequestScoped"},
+        "inject": [{"name": "office", "type": "BoxOffice"}],
+        "members": [{"kind": "method", "name": "buy", "args": 1, "body": "buy"}]},
+    {"name": "Ledger", "bean": {"scope": "ApplicationScoped"},
+        "fields": [{"name": "takings", "value": 0}],
+        "members": [{"kind": "observer", "name": "note", "type": "Sold", "body": "note"}]}]}"#;
+
+/// The request in which a ticket is bought.
+const REQUEST: &str = "monday";
+
+/// Begins the request.
+fn begin(alloc: Global) -> Result<Command, AllocError> {
+    Ok(Command::Begin {
+        request: Text::from_str(alloc, REQUEST)?,
+        session: None,
+    })
+}
+
+/// Buys a ticket of a row at the request's desk.
+fn buy(alloc: Global, row: i64) -> Result<Command, AllocError> {
+    let mut args = Seq::empty(alloc);
+    args.push(Value::Int(row))?;
+    Ok(Command::Call {
+        request: Some(Text::from_str(alloc, REQUEST)?),
+        bean_type: Text::from_str(alloc, "Desk")?,
+        qualifiers: Seq::empty(alloc),
+        method: Text::from_str(alloc, "buy")?,
+        args,
+    })
+}
+
+/// Tells the ledger of a ticket that was sold elsewhere.
+fn fire(alloc: Global, price: i64) -> Result<Command, AllocError> {
+    Ok(Command::Fire {
+        request: None,
+        class: Text::from_str(alloc, "Sold")?,
+        qualifiers: Seq::empty(alloc),
+        value: Value::Int(price),
+    })
+}
+
+/// Writes the entries of the last command, and its reply.
+fn tell<D: Driver>(
+    alloc: Global,
+    output: &mut impl Write,
+    container: &Container<D>,
+    reply: &Reply,
+) -> io::Result<()> {
+    output.write_all(&write_trace(alloc, container.names(), container.trace())?)?;
+    output.write_all(&write_reply(alloc, container.names(), reply)?)
+}
+
+/// Carries out one command after the other, and tells what came of each.
+fn play<D: Driver + Drop>(
+    alloc: Global,
+    output: &mut impl Write,
+    container: Container<D>,
+) -> io::Result<()> {
+    let mut container = container;
+    tell(alloc, output, &container, container.boot_reply())?;
+    let commands = [
+        begin(alloc)?,
+        buy(alloc, 1)?,
+        fire(alloc, 12)?,
+        Command::Shutdown,
+    ];
+    for command in &commands {
+        let reply = container.command(command);
+        tell(alloc, output, &container, &reply)?;
+    }
+    Ok(())
+}
+
+/// The end of a program that was written wrongly: its deployment can't be read, or has a problem.
+fn wrong() -> io::Error {
+    io::Error::from(ErrorKind::InvalidData)
+}
+
+/// Starts a container, if its deployment is accepted, and asks it.
+fn run_accepted<D: Driver + Drop>(
+    alloc: Global,
+    output: &mut impl Write,
+    accepted: Result<RunTables, OrMemory<Unaccepted>>,
+    driver: D,
+) -> io::Result<()>
+    requires drives { IfOk accepted (λ tables. Drives (machine_tables tables) (D.knows driver)) }
+    requires servable { IfOk accepted IsServable }
+{
+    let Ok(tables) = accepted else {
+        return Err(wrong());
+    };
+    play(
+        alloc,
+        output,
+        Container::start(alloc, tables, driver, Limits::default()),
+    )
+}
+
+/// The deployment with its closures.
+fn deployment(alloc: Global) -> io::Result<Deployment> {
+    match read(alloc, BOX_OFFICE) {
+        Ok(deployment) => Ok(deployment),
+        Err(_) => Err(wrong()),
+    }
+}
+
+/// Accepts the deployment with the bodies, and goes on with a container. Where an order is left open, it takes the first.
+#[tactic(auto, using(crate::proofs::Driven::drives_with))]
+fn run_with(
+    alloc: Global,
+    output: &mut impl Write,
+    deployment: Deployment,
+    bodies: Bodies,
+) -> io::Result<()> {
+    let choice: Choice = Box::new(
+        alloc,
+        |_count: u32, _entries: u64| -> u32
+            requires { 0 < _count }
+            ensures { result < _count }
+        { 0 },
+    )?;
+    let chooser = Chooser::new(choice);
+    let accepted = accept(alloc, deployment, &bodies);
+    run_accepted(alloc, output, accepted, Registered { bodies, chooser })
+}
+
+/// Registers what the ledger does as it hears of a ticket: it adds the event's price to its takings. Goes on with all bodies.
+fn run_with_note(
+    alloc: Global,
+    output: &mut impl Write,
+    deployment: Deployment,
+    bodies: Bodies,
+) -> io::Result<()> {
+    let takings = deployment.names.name_for("takings");
+    let body: Body = Box::new(
+        alloc,
+        move |fields: &Fields, view: &View| -> Result<Act, AllocError>
+            ensures { IfOk result (λ act. in_shape (spec.note_shape takings) view.now act ≡ true) }
+        {
+            if view.answers.len() > 0 {
+                return Ok(Act::Give { value: Value::Null });
+            }
+            let total = number_in(fields, takings).saturating_add(first_argument(view));
+            Ok(Act::Set {
+                field: takings,
+                value: Value::Int(total),
+            })
+        },
+    )?;
+    let mut bodies = bodies;
+    let name = deployment.names.name_for("note");
+    match bodies.add(name, note_shape(alloc, takings)?, body) {
+        Ok(_) => run_with(alloc, output, deployment, bodies),
+        Err(_) => Err(wrong()),
+    }
+}
+
+/// Registers what the desk does: it calls the office, fires an event with the price, and gives that. Goes on with the other bodies.
+fn run_with_buy(
+    alloc: Global,
+    output: &mut impl Write,
+    deployment: Deployment,
+    bodies: Bodies,
+) -> io::Result<()> {
+    let office = deployment.names.name_for("office");
+    let sell = deployment.names.name_for("sell");
+    let sold = deployment.names.name_for("Sold");
+    let body: Body = Box::new(
+        alloc,
+        move |_fields: &Fields, view: &View| -> Result<Act, AllocError>
+            ensures { IfOk result
+                (λ act. in_shape (spec.buy_shape office sell sold) view.now act ≡ true) }
+        {
+            match view.answers.len() {
+                0 => call_office(alloc, office, sell, first_argument(view)),
+                1 => Ok(Act::Fire {
+                    class: sold,
+                    qualifiers: Seq::empty(alloc),
+                    value: Value::Int(first_answer(view)),
+                }),
+                _ => Ok(Act::Give {
+                    value: Value::Int(first_answer(view)),
+                }),
+            }
+        },
+    )?;
+    let mut bodies = bodies;
+    let name = deployment.names.name_for("buy");
+    match bodies.add(name, buy_shape(alloc, office, sell, sold)?, body) {
+        Ok(_) => run_with_note(alloc, output, deployment, bodies),
+        Err(_) => Err(wrong()),
+    }
+}
+
+/// Registers what the office does, by a list of prices of its own: it gives the price of a row. Goes on with the other bodies.
+fn run(alloc: Global, output: &mut impl Write) -> io::Result<()> {
+    let deployment = deployment(alloc)?;
+    let prices = vec![in alloc; 40i64, 25, 15]?;
+    let body: Body = Box::new(
+        alloc,
+        move |_fields: &Fields, view: &View| -> Result<Act, AllocError>
+            ensures { IfOk result (λ act. in_shape no_acts view.now act ≡ true) }
+        {
+            let row = usize::try_from(first_argument(view)).unwrap_or(usize::MAX);
+            let price = prices.get(row).copied().unwrap_or(0);
+            Ok(Act::Give {
+                value: Value::Int(price),
+            })
+        },
+    )?;
+    let mut bodies = Bodies::new(alloc);
+    let name = deployment.names.name_for("sell");
+    match bodies.add(name, Shape::new(alloc), body) {
+        Ok(_) => run_with_buy(alloc, output, deployment, bodies),
+        Err(_) => Err(wrong()),
+    }
+}
+
+fn main(rt: HostRuntime) -> io::Result<ExitCode> {
+    let mut output = io::writer(&rt);
+    run(rt.alloc(), &mut output)?;
+    Ok(ExitCode::SUCCESS)
+}
