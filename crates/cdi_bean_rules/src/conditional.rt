@@ -8,7 +8,7 @@ use cdi_base::{Name, Scope};
 use cdi_bean_check::member_places::has_place;
 use cdi_deployment::{Bean, Class, Member};
 use cdi_problems::{Element, Rule};
-use cdi_types::{ClassIndex, ClassPart, TypeTable};
+use cdi_types::{ClassIndex, ClassPart, MemberKind, TypeTable};
 use std::alloc::{AllocError, Global};
 use std::collections::HashSet;
 
@@ -80,8 +80,8 @@ fn add_of_class(
         return Ok(());
     }
     let line = index.line(alloc, types, class.name)?;
-    let members = line.members(alloc)?;
-    add_conditional(members.as_slice(), found)
+    let observers = line.members_of_kind(alloc, MemberKind::Observer)?;
+    add_conditional(observers.as_slice(), found)
 }
 
 /// Where conditional observers are declared that a bean of the dependent pseudo-scope has: the name of a class, and that of a

@@ -5,7 +5,7 @@ ghost use Rattle.cdi_bean_rules.specs.Limits as spec;
 
 use cdi_bean_check::bean_names::is_bean;
 use cdi_deployment::{Class, Deployment, Member};
-use cdi_types::{ClassIndex, ClassPart, TypeTable};
+use cdi_types::{ClassIndex, MemberKind, TypeTable};
 use std::alloc::{AllocError, Global};
 
 /// The most managed beans and products together.
@@ -18,12 +18,6 @@ fn is_producer(member: &Member) -> bool
     ensures { result ≡ spec.is_producer member.now }
 {
     matches!(member, Member::Producer(_) | Member::ProducerField(_))
-}
-
-fn is_observer(member: &Member) -> bool
-    ensures { result ≡ spec.is_observer member.now }
-{
-    matches!(member, Member::Observer(_))
 }
 
 fn producers_in(members: &[Member]) -> usize
@@ -60,15 +54,6 @@ fn bean_count(classes: &[Class]) -> usize
     count
 }
 
-fn observers_in(members: &[ClassPart<'_, Member>]) -> usize
-    ensures { result ≡ spec.observer_count members.now }
-{
-    members
-        .iter()
-        .filter(|member| is_observer(member.part))
-        .count()
-}
-
 /// How many observers a class has as a bean, with those that it inherits.
 fn observers_of(
     alloc: Global,
@@ -79,8 +64,8 @@ fn observers_of(
     ensures { IfOk result (spec.IsObserverCountOf index.now types.now class.now) }
 {
     let line = index.line(alloc, types, class.name)?;
-    let members = line.members(alloc)?;
-    Ok(observers_in(members.as_slice()))
+    let observers = line.members_of_kind(alloc, MemberKind::Observer)?;
+    Ok(observers.len())
 }
 
 /// How many observers the beans have, with those that they inherit. It stops at the greatest number.

@@ -1,5 +1,6 @@
 pub mod Adding
 pub mod InParts
+pub mod ObserverKinds
 pub mod ObserverLists
 pub mod Restricted
 pub mod Served

@@ -6,6 +6,7 @@ pub mod DisposerMethods
 pub mod Kinds
 pub mod Interceptors
 pub mod ManagedQualifiers
+pub mod ObserverMembers
 pub mod ObserverMethods
 pub mod Problems
 pub mod SpecializedParts

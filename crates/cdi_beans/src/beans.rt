@@ -30,7 +30,7 @@ fn bean_members(
 ) -> Result<Seq<BeanMember>, AllocError>
     ensures { IfOk result (λ found. found ≡ map spec.bean_member members.now) }
 {
-    let mut found = Seq::empty(alloc);
+    let mut found = Seq::new(Vec::with_capacity(alloc, members.len())?);
     for member in members {
         found.push(bean_member(member))?;
     }

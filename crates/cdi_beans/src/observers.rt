@@ -97,8 +97,8 @@ pub(crate) fn observers_of(
     let mut observers = Seq::empty(alloc);
     for class in tables.deployment.classes.as_slice() {
         if class.bean.is_some() {
-            let members = tables.members_of(alloc, class)?;
-            add_observers(alloc, tables, class, members.as_slice(), &mut observers)?;
+            let has = tables.observers_of(alloc, class)?;
+            add_observers(alloc, tables, class, has.as_slice(), &mut observers)?;
         }
     }
     Ok(observers)

@@ -7,6 +7,7 @@ ghost use Rattle.cdi_bean_check.specs.BeanTypes.{IsBeanType};
 ghost use Rattle.cdi_bean_check.specs.Inherited.{AreMembersOf};
 ghost use Rattle.cdi_bean_check.specs.Qualifiers.{IsSetOf, full_uses, specialized_bean, uses_with_built_in};
 ghost use Rattle.cdi_beans.specs.ManagedQualifiers.{AreManaged};
+ghost use Rattle.cdi_beans.specs.ObserverMembers.{AreObserverMembersOf};
 ghost use Rattle.cdi_beans.specs.SpecializedParts.{HasOwn};
 
 use crate::qualifiers::BeanQualifiers;
@@ -18,7 +19,7 @@ use cdi_bean_check::BeanClasses;
 use cdi_bean_rules::RuleTables;
 use cdi_deployment::{Class, Deployment, Member};
 use cdi_quals::{QualSet, QualifierTypes};
-use cdi_types::{ClassIndex, ClassPart, TypeTable};
+use cdi_types::{ClassIndex, ClassPart, MemberKind, TypeTable};
 use std::alloc::{AllocError, Global};
 
 /// A deployment with the tables of its types, its qualifiers and its classes.
@@ -124,5 +125,18 @@ impl<'a> Tables<'a> {
     {
         let line = self.classes.line(alloc, self.types, class.name)?;
         line.members(alloc)
+    }
+
+    /// The observers that a class has, each with the class that declares it.
+    pub(crate) fn observers_of(
+        &self,
+        alloc: Global,
+        class: &Class,
+    ) -> Result<Seq<ClassPart<'a, Member>>, AllocError>
+        ensures { IfOk result (AreObserverMembersOf self.now.deployment.now class.now) }
+    {
+        let line = self.classes.line(alloc, self.types, class.name)?;
+        let observers = line.members_of_kind(alloc, MemberKind::Observer)?;
+        Ok(observers)
     }
 }
