@@ -20,7 +20,8 @@ fn member<'v>(members: &'v Map<String, Json>, key: &str) -> Option<&'v Json>
     members.get(key)
 }
 
-fn has(members: &Map<String, Json>, key: &str) -> bool
+/// Whether an object has a key.
+pub fn has(members: &Map<String, Json>, key: &str) -> bool
     ensures { result ≡ is_some (get_member key.now (members_view members.now.entries)) }
 {
     member(members, key).is_some()
@@ -58,7 +59,8 @@ pub(crate) fn has_right_keys(kind: Kind, members: &Map<String, Json>) -> bool
     has_required(kind, members) && are_listed(kind, members)
 }
 
-fn kind_word(members: &Map<String, Json>) -> Option<&str>
+/// The text at the key `kind` of an object, or `None` where it has no such key or no text there.
+pub fn kind_word(members: &Map<String, Json>) -> Option<&str>
     ensures { option_map (λ s. s.now) result ≡ spec.kind_word (members_view members.now.entries) }
 {
     match member(members, "kind") {

@@ -9,13 +9,14 @@ use cdi_base::is_name;
 use serde_json::{Map, Value};
 
 /// A text, if it is no name.
-fn no_name(text: &str) -> Option<&str>
+pub fn no_name(text: &str) -> Option<&str>
     ensures { option_map (λ s. s.now) result ≡ spec.no_name text.now }
 {
     if is_name(text) { None } else { Some(text) }
 }
 
-fn bad_text(part: Part, text: &str) -> Option<&str>
+/// A text at a part, if it stands in the place of a name and is none.
+pub fn bad_text(part: Part, text: &str) -> Option<&str>
     ensures { option_map (λ s. s.now) result ≡ spec.bad_text part text.now }
 {
     match part {

@@ -26,33 +26,38 @@ fn here_unless(alloc: Global, fits: bool) -> Result<Option<Text>, AllocError>
     if fits { Ok(None) } else { here(alloc) }
 }
 
-fn under_key(alloc: Global, key: &str, path: Text) -> Result<Text, AllocError>
+/// The path to a place that is seen from the value at a key of an object.
+pub fn under_key(alloc: Global, key: &str, path: Text) -> Result<Text, AllocError>
     ensures { IfOk result (λ above. above ≡ 47 ∷ key.now ++ path) }
 {
     let path = path.as_str();
     Ok(Text::new(format!(in alloc; "/{key}{path}")?))
 }
 
-fn under_index(alloc: Global, index: usize, path: Text) -> Result<Text, AllocError>
+/// The path to a place that is seen from an item of an array.
+pub fn under_index(alloc: Global, index: usize, path: Text) -> Result<Text, AllocError>
     ensures { IfOk result (λ above. above ≡ 47 ∷ decimal index ++ path) }
 {
     let path = path.as_str();
     Ok(Text::new(format!(in alloc; "/{index}{path}")?))
 }
 
-fn may_be_null(part: Part) -> bool
+/// Whether null may stand at a part.
+pub fn may_be_null(part: Part) -> bool
     ensures { result ≡ spec.may_be_null part }
 {
     matches!(part, Part::Value)
 }
 
-fn may_be_mark(part: Part) -> bool
+/// Whether true or false may stand at a part.
+pub fn may_be_mark(part: Part) -> bool
     ensures { result ≡ spec.may_be_mark part }
 {
     matches!(part, Part::Mark)
 }
 
-fn may_be_number(part: Part, number: &Number) -> bool
+/// Whether a number may stand at a part.
+pub fn may_be_number(part: Part, number: &Number) -> bool
     ensures { result ≡ spec.may_be_number part (number_view number.now) }
 {
     match part {
@@ -66,7 +71,8 @@ fn may_be_number(part: Part, number: &Number) -> bool
     }
 }
 
-fn may_be_text(part: Part, text: &str) -> bool
+/// Whether a text may stand at a part.
+pub fn may_be_text(part: Part, text: &str) -> bool
     ensures { result ≡ spec.may_be_text part text.now }
 {
     match part {
@@ -77,7 +83,7 @@ fn may_be_text(part: Part, text: &str) -> bool
 }
 
 /// Whether an array may stand at a part, as far as that is seen without looking at each item.
-fn may_be_array(part: Part, value: &Value) -> bool
+pub fn may_be_array(part: Part, value: &Value) -> bool
     ensures { result ≡ spec.may_be_array part (view value.now) }
 {
     match part {

@@ -193,7 +193,7 @@ const OBSERVER: &[Row] = &[
 ];
 
 /// The keys of an object of a kind.
-pub(crate) fn rows(kind: Kind) -> &'static [Row]
+pub fn rows(kind: Kind) -> &'static [Row]
     ensures { map row_of result.now ≡ spec.rows kind }
 {
     match kind {

@@ -9,9 +9,9 @@ use cdi_base::Scope;
 
 /// A text that stands for something.
 #[derive(Clone, Copy)]
-struct Word<T> {
-    text: &'static str,
-    meaning: T,
+pub struct Word<T> {
+    pub text: &'static str,
+    pub meaning: T,
 }
 
 macro_rules! word {
@@ -41,13 +41,15 @@ const MEMBER_KINDS: &[Word<Kind>] = &[
     word!("observer", Kind::Observer),
 ];
 
-fn scopes() -> &'static [Word<Scope>]
+/// The texts of scopes (Jakarta CDI 4.0, *Built-in scope types*).
+pub fn scopes() -> &'static [Word<Scope>]
     ensures { map word_of result.now ≡ spec.scope_words }
 {
     SCOPES
 }
 
-fn member_kinds() -> &'static [Word<Kind>]
+/// The texts that name the kinds of members.
+pub fn member_kinds() -> &'static [Word<Kind>]
     ensures { map word_of result.now ≡ spec.member_words }
 {
     MEMBER_KINDS

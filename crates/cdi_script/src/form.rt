@@ -53,8 +53,8 @@ fn caught_in<'v>(word: &Json, step: &'v Json) -> Option<&'v [Json]>
     }
 }
 
-/// The values of the array that stands in a catch.
-fn caught(items: &[Json]) -> Option<&[Json]>
+/// The values of the array that stands in a catch, or `None` where these values are no catch of an array.
+pub fn caught(items: &[Json]) -> Option<&[Json]>
     ensures { option_map (λ inner. items_view inner.now) result
         ≡ spec.caught (items_view items.now) }
 {

@@ -19,6 +19,7 @@ mod via;
 
 pub use expression::Expression;
 pub use fault::ScriptFault;
-pub use form::{are_steps, is_step};
+pub use form::{are_steps, caught, is_step};
+pub use part::PartKind;
 pub use script::{MAX_STEPS, Script};
-pub use step::{Action, Step};
+pub use step::{Action, Step, StepKind};

@@ -15,7 +15,7 @@ use std::alloc::Global;
 
 /// What stands at a place behind the word of a step.
 #[derive(Clone, Copy, Debug, PartialEq, Eq)]
-pub(crate) enum PartKind {
+pub enum PartKind {
     /// A name: of a field, a method, a class, a type, a key or an exception.
     Name,
     /// A reference to another instance.
@@ -43,7 +43,8 @@ pub(crate) struct Parts {
 }
 
 impl PartKind {
-    fn is_in(self, value: &Json) -> bool
+    /// Whether a value is a part of this kind.
+    pub fn is_in(self, value: &Json) -> bool
         ensures { result ≡ spec.is_part self (view value.now) }
     {
         match self {

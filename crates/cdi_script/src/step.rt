@@ -98,7 +98,7 @@ pub(crate) fn copy_of(qualifiers: &Seq<Use>) -> Result<Seq<Use>, AllocError>
 
 /// The kinds of steps, a catch apart.
 #[derive(Clone, Copy, Debug, PartialEq, Eq)]
-pub(crate) enum StepKind {
+pub enum StepKind {
     Set,
     Call,
     Own,
@@ -117,9 +117,9 @@ pub(crate) enum StepKind {
 
 /// How a step of a kind is written: its word, and what stands behind that.
 #[derive(Clone, Copy, Debug)]
-pub(crate) struct Row {
-    pub(crate) word: &'static str,
-    pub(crate) parts: &'static [PartKind],
+pub struct Row {
+    pub word: &'static str,
+    pub parts: &'static [PartKind],
 }
 
 impl Row {
@@ -132,7 +132,7 @@ impl Row {
 
 impl StepKind {
     /// All kinds, in the order in which a step is looked for among them.
-    pub(crate) const ALL: [StepKind; 14] = [
+    pub const ALL: [StepKind; 14] = [
         StepKind::Set,
         StepKind::Call,
         StepKind::Own,
@@ -150,7 +150,7 @@ impl StepKind {
     ];
 
     /// The row of a kind in the table of steps.
-    pub(crate) fn row(self) -> Row
+    pub fn row(self) -> Row
         ensures { spec.Shows result (spec.row_of self) }
     {
         match self {

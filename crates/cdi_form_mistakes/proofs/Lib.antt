@@ -1,0 +1,4 @@
+pub mod Mapped
+pub mod FormPlaces
+pub mod NamesFound
+pub mod NumbersFound

@@ -1,0 +1,6 @@
+pub mod Written
+pub mod UnknownWord
+pub mod Mistake
+pub mod FormMistake
+pub mod NumberMistake
+pub mod NameMistake
