@@ -3,3 +3,4 @@ pub mod Subtypes
 pub mod Grouped
 pub mod Enabled
 pub mod Heard
+pub mod Sets
