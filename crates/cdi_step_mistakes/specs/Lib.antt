@@ -1,0 +1,2 @@
+pub mod Mistake
+pub mod Steps
