@@ -6,33 +6,49 @@ use Rattle.cdi_deploy.specs.Reading.{lists_of, or_not_json}
 use Rattle.cdi_deployment.specs.declared.deployment.Deployment.{Deployment}
 use Rattle.cdi_deploy.specs.declared.fault.ReadFault.{ReadFault}
 use Rattle.cdi_deploy.specs.declared.fault.ReadFault.TheVariants as faults
-use Rattle.cdi_prepare.specs.Position.{IsPosition}
 use Rattle.cdi_prepare.specs.declared.hint.Hint.{Hint}
-use Rattle.cdi_prepare.specs.declared.hint.Hint.TheVariants as hints
+use Rattle.cdi_prepare.specs.declared.hint.Mistake.{Mistake}
+use Rattle.cdi_prepare.specs.declared.hint.Mistake.TheVariants as mistakes
 
-abbrev pub IsName : Hint → Type 0
-IsName (hints.Name text) = Unit {0}
-IsName _ = ⊥
+-- the text itself is wrong
+abbrev pub IsSyntax : Mistake → Type 0
+IsSyntax mistakes.Empty = Unit {0}
+IsSyntax mistakes.ByteOrderMark = Unit {0}
+IsSyntax mistakes.NotUtf8 = Unit {0}
+IsSyntax mistakes.NotJson = Unit {0}
+IsSyntax _ = ⊥
+
+-- a value, a number or a name is wrong
+abbrev pub IsForm : Mistake → Type 0
+IsForm (mistakes.Form mistake) = Unit {0}
+IsForm _ = ⊥
+
+-- a value is wrong at this path
+abbrev pub IsFormAt : List ℕ → Mistake → Type 0
+IsFormAt path (mistakes.Form mistake) = mistake.path ≡ path
+IsFormAt path _ = ⊥
 
 -- a list, or what it is a list of
-abbrev pub IsList : Hint → Type 0
-IsList (hints.List path limit) = Unit {0}
-IsList (hints.Item path) = Unit {0}
+abbrev pub IsList : Mistake → Type 0
+IsList (mistakes.List path limit) = Unit {0}
+IsList (mistakes.Item path) = Unit {0}
 IsList _ = ⊥
 
-abbrev pub IsStep : Hint → Type 0
-IsStep (hints.Step script step) = Unit {0}
+abbrev pub IsStep : Mistake → Type 0
+IsStep (mistakes.Step path script mistake) = Unit {0}
 IsStep _ = ⊥
 
 -- the lists that bytes have, where they are a value whose names find room in their table
 abbrev pub lists_in : List ℕ → Result Deployment ReadFault
 lists_in bytes = or_not_json (json_in bytes) >>= lists_of
 
--- a position for NotJson, a name for BadName, a list for TooMany where there are lists, at most a step for a deployment, and else none
-abbrev pub FitsReading : Result Deployment ReadFault → Result Deployment ReadFault → Option Hint
+-- the text for NotJson, the wrong value for Shape, BadNumber and BadName, a list for TooMany where there are lists, at most a step for a deployment, and else none
+abbrev pub FitsReading : Result Deployment ReadFault → Result Deployment ReadFault → Option Mistake
     → Type 0
-FitsReading lists (Err faults.NotJson) hint = IsSomeAnd hint IsPosition
-FitsReading lists (Err faults.BadName) hint = IsSomeAnd hint IsName
-FitsReading (Ok deployment) (Err faults.TooMany) hint = IsSomeAnd hint IsList
-FitsReading lists (Err _) hint = hint ≡ None
-FitsReading lists (Ok deployment) hint = IfSome hint IsStep
+FitsReading lists (Err faults.NotJson) m = IsSomeAnd m IsSyntax
+FitsReading lists (Err (faults.Shape path)) m = IsSomeAnd m (IsFormAt path)
+FitsReading lists (Err faults.BadNumber) m = IsSomeAnd m IsForm
+FitsReading lists (Err faults.BadName) m = IsSomeAnd m IsForm
+FitsReading (Ok deployment) (Err faults.TooMany) m = IsSomeAnd m IsList
+FitsReading lists (Err _) m = m ≡ None
+FitsReading lists (Ok deployment) m = IfSome m IsStep

@@ -1,5 +1,5 @@
 pub mod HintText
-pub mod Position
+pub mod Syntax
 pub mod LongList
 pub mod BadStep
 pub mod Hint

@@ -1,5 +1,5 @@
 //! Laws of the definitions that the contracts cite.
-ghost use Rattle.std.specs.Prelude.{◌≡◌, ◌↔◌, ℕ, List, Option, None, Some, IsTrue, false};
+ghost use Rattle.std.specs.Prelude.{◌≡◌, ◌↔◌, ℕ, List, Option, None, Some, IsTrue, false, option_map};
 ghost use Rattle.cdi_base.specs.Name.{is_name};
 ghost use Rattle.serde_json.specs.Data.{Data, Items};
 ghost use Rattle.cdi_deployment.specs.declared.deployment.Deployment.{Deployment as AnyDeployment};
@@ -15,13 +15,14 @@ ghost use Rattle.cdi_prepare.specs.Kinds.{FitsReading, lists_in};
 ghost use Rattle.cdi_prepare.specs.LongList.{first_long_list};
 ghost use Rattle.cdi_prepare.specs.declared.hint.Hint.{Hint as AnyHint};
 
-/// The kind of a hint fits what [`cdi_deploy::read`] answers: a position exactly if it is `NotJson`, a name exactly if it is
-/// `BadName`, a list exactly if it is `TooMany` and not because the table of names is full, and a step only if it is a
-/// deployment.
+/// What a hint tells fits what [`cdi_deploy::read`] answers: the text exactly if it is `NotJson`, a wrong value, number or name exactly
+/// if it is `Shape`, with the same path, `BadNumber` or `BadName`, a list exactly if it is `TooMany` and not because the table of
+/// names is full, and a step only if it is a deployment.
 pub fn law_kind()
     ensures { (bytes : List ℕ) (hint : Option AnyHint)
         → IsHintFor bytes hint
-        → FitsReading (lists_in bytes) (deployment_in bytes) hint }
+        → FitsReading (lists_in bytes) (deployment_in bytes)
+        (option_map (λ h. h.mistake) hint) }
 {}
 
 /// No bad name is found exactly if the names fit, as [`cdi_deploy::read`] tests it; and one that is found stands in the

@@ -8,11 +8,11 @@ pub mod hint;
 pub mod hint_laws;
 pub mod hint_search;
 mod long_lists;
-mod position;
 pub mod reading;
 pub mod scripts;
+mod syntax;
 
-pub use hint::Hint;
+pub use hint::{Hint, Mistake};
 pub use hint_search::hint_for;
 pub use reading::{Prepared, prepare};
 pub use scripts::NamedScript;

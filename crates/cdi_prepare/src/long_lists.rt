@@ -3,7 +3,7 @@ ghost use Rattle.std.specs.Prelude.{◌≡◌, Some, IfOk, option_map};
 ghost use Rattle.cdi_deployment.specs.Limits.{is_interface_within, is_annotation_type_within, is_interceptor_within};
 ghost use Rattle.cdi_prepare.specs.LongList as spec;
 
-use crate::hint::Hint;
+use crate::hint::Mistake;
 use cdi_base::Text;
 use cdi_deployment::limits::{
     MAX_DECLARED, MAX_FIELDS, MAX_MEMBERS, MAX_SCRIPTS, MAX_TYPES, are_fields_within,
@@ -14,30 +14,35 @@ use cdi_deployment::{AnnotationType, Class, Deployment, Interceptor, Interface};
 use std::alloc::{AllocError, Global};
 
 /// A list of a deployment, under its key. All have the same limit.
-fn list_at(alloc: Global, key: &str) -> Result<Hint, AllocError>
-    ensures { IfOk result (λ hint. hint ≡ spec.list_at key.now) }
+fn list_at(alloc: Global, key: &str) -> Result<Mistake, AllocError>
+    ensures { IfOk result (λ m. m ≡ spec.list_at key.now) }
 {
     let path = Text::new(format!(in alloc; "/{key}")?);
-    Ok(Hint::List {
+    Ok(Mistake::List {
         path,
         limit: MAX_TYPES,
     })
 }
 
 /// A list of a class, under its key.
-fn class_list_at(alloc: Global, index: usize, key: &str, limit: usize) -> Result<Hint, AllocError>
-    ensures { IfOk result (λ hint. hint ≡ spec.class_list_at index key.now limit) }
+fn class_list_at(
+    alloc: Global,
+    index: usize,
+    key: &str,
+    limit: usize,
+) -> Result<Mistake, AllocError>
+    ensures { IfOk result (λ m. m ≡ spec.class_list_at index key.now limit) }
 {
     let path = Text::new(format!(in alloc; "/classes/{index}/{key}")?);
-    Ok(Hint::List { path, limit })
+    Ok(Mistake::List { path, limit })
 }
 
 /// An item of a list of a deployment.
-fn item_at(alloc: Global, key: &str, index: usize) -> Result<Hint, AllocError>
-    ensures { IfOk result (λ hint. hint ≡ spec.item_at key.now index) }
+fn item_at(alloc: Global, key: &str, index: usize) -> Result<Mistake, AllocError>
+    ensures { IfOk result (λ m. m ≡ spec.item_at key.now index) }
 {
     let path = Text::new(format!(in alloc; "/{key}/{index}")?);
-    Ok(Hint::Item { path })
+    Ok(Mistake::Item { path })
 }
 
 /// The key of the first list of a deployment that is too long itself.
@@ -72,8 +77,8 @@ fn long_list_of_class(
     alloc: Global,
     index: usize,
     class: &Class,
-) -> Result<Option<Hint>, AllocError>
-    ensures { IfOk result (λ hint. hint ≡ spec.long_list_of_class index class.now) }
+) -> Result<Option<Mistake>, AllocError>
+    ensures { IfOk result (λ m. m ≡ spec.long_list_of_class index class.now) }
 {
     if is_class_within(class) {
         return Ok(None);
@@ -87,13 +92,13 @@ fn long_list_of_class(
     Ok(Some(item_at(alloc, "classes", index)?))
 }
 
-fn long_list_in_classes(alloc: Global, classes: &[Class]) -> Result<Option<Hint>, AllocError>
-    ensures { IfOk result (λ hint. hint ≡ spec.long_list_in_classes 0 classes.now) }
+fn long_list_in_classes(alloc: Global, classes: &[Class]) -> Result<Option<Mistake>, AllocError>
+    ensures { IfOk result (λ m. m ≡ spec.long_list_in_classes 0 classes.now) }
 {
     for (index, class) in classes.iter().enumerate() {
-        let hint = long_list_of_class(alloc, index, class)?;
-        if hint.is_some() {
-            return Ok(hint);
+        let mistake = long_list_of_class(alloc, index, class)?;
+        if mistake.is_some() {
+            return Ok(mistake);
         }
     }
     Ok(None)
@@ -124,8 +129,8 @@ fn long_interceptor(interceptors: &[Interceptor]) -> Option<usize>
 }
 
 /// The first item of a list of a deployment, but of its classes, that has a list longer than its limit.
-fn long_item(alloc: Global, deployment: &Deployment) -> Result<Option<Hint>, AllocError>
-    ensures { IfOk result (λ hint. hint ≡ spec.long_item deployment.now) }
+fn long_item(alloc: Global, deployment: &Deployment) -> Result<Option<Mistake>, AllocError>
+    ensures { IfOk result (λ m. m ≡ spec.long_item deployment.now) }
 {
     if let Some(index) = long_interface(deployment.interfaces.as_slice()) {
         return Ok(Some(item_at(alloc, "interfaces", index)?));
@@ -146,15 +151,15 @@ fn long_item(alloc: Global, deployment: &Deployment) -> Result<Option<Hint>, All
 pub(crate) fn first_long_list(
     alloc: Global,
     deployment: &Deployment,
-) -> Result<Option<Hint>, AllocError>
-    ensures { IfOk result (λ hint. hint ≡ spec.first_long_list deployment.now) }
+) -> Result<Option<Mistake>, AllocError>
+    ensures { IfOk result (λ m. m ≡ spec.first_long_list deployment.now) }
 {
     if let Some(key) = long_list_key(deployment) {
         return Ok(Some(list_at(alloc, key)?));
     }
-    let hint = long_list_in_classes(alloc, deployment.classes.as_slice())?;
-    if hint.is_some() {
-        return Ok(hint);
+    let mistake = long_list_in_classes(alloc, deployment.classes.as_slice())?;
+    if mistake.is_some() {
+        return Ok(mistake);
     }
     long_item(alloc, deployment)
 }
