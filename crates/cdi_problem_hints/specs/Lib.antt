@@ -1,3 +1,4 @@
-pub mod Groups
+pub mod Hints
+pub mod Points
 pub mod Rule
-pub mod Uses
+pub mod Sentences

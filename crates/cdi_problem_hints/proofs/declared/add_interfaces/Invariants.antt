@@ -1,6 +1,0 @@
-use Rattle.std.proofs.Common.{◌≡◌, ◌++◌, take}
-use Rattle.cdi_problem_hints.specs.Groups as spec
-use Rattle.cdi_problem_hints.proofs.declared.add_interfaces.Given as goal
-
-abbrev pub invariant-loop-interface : goal.invariant-loop-interface
-invariant-loop-interface l = l.names ≡ l.initial.names ++ spec.names_of_interfaces (take l.interface-index l.interfaces)

@@ -1,6 +1,0 @@
-use Rattle.std.proofs.Common.{◌≡◌, ◌++◌, map, take}
-use Rattle.cdi_problem_hints.specs.Uses as spec
-use Rattle.cdi_problem_hints.proofs.name_use.add_annotations.Given as goal
-
-abbrev pub invariant-loop-one : goal.invariant-loop-one
-invariant-loop-one l = l.uses ≡ l.initial.uses ++ spec.annotations_uses l.annotation (take l.one-index l.written)

@@ -1,6 +1,0 @@
-use Rattle.std.proofs.Common.{◌≡◌, ◌++◌, map, take}
-use Rattle.cdi_problem_hints.specs.Uses as spec
-use Rattle.cdi_problem_hints.proofs.name_use.add_members.Given as goal
-
-abbrev pub invariant-loop-member : goal.invariant-loop-member
-invariant-loop-member l = l.uses ≡ l.initial.uses ++ spec.member_uses l.group (take l.member-index l.members)

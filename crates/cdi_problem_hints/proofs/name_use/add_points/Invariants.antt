@@ -1,6 +1,0 @@
-use Rattle.std.proofs.Common.{◌≡◌, ◌++◌, map, take}
-use Rattle.cdi_problem_hints.specs.Uses as spec
-use Rattle.cdi_problem_hints.proofs.name_use.add_points.Given as goal
-
-abbrev pub invariant-loop-point : goal.invariant-loop-point
-invariant-loop-point l = l.uses ≡ l.initial.uses ++ spec.points_uses (take l.point-index l.points)
