@@ -11,7 +11,7 @@ abbrev pub quals_text : List (List ℕ) → List Use → List ℕ
 quals_text names quals = flat_map (λ u. codes " @" ++ name_text names u.name) quals
 
 -- a type with qualifiers
-abbrev pub point_text : List (List ℕ) → ℕ → List Use → List ℕ
+unfoldable pub point_text : List (List ℕ) → ℕ → List Use → List ℕ
 point_text names ty quals =
     codes "; it asks for " ++ (name_text names ty ++ quals_text names quals)
 

@@ -47,7 +47,7 @@ fn add_details(
             add_sentences(alloc, deployment, element, unknown.as_slice(), hint)
         }
         ProblemKind::Unsatisfied | ProblemKind::Ambiguous | ProblemKind::Unproxyable => {
-            add_points(&deployment.names, element, hint)
+            add_points(alloc, &deployment.names, element, hint)
         }
         _ => Ok(()),
     }

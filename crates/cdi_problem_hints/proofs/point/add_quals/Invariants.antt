@@ -1,8 +1,0 @@
-use Rattle.std.proofs.Common.{◌≡◌, ◌++◌, string_bytes, take}
-use Rattle.cdi_problem_hints.specs.Points as spec
-use Rattle.cdi_problem_hints.proofs.point.add_quals.Given as goal
-
-abbrev pub invariant-loop-qual : goal.invariant-loop-qual
-invariant-loop-qual l =
-    string_bytes l.hint ≡ string_bytes l.initial.hint
-    ++ spec.quals_text l.names (take l.qual-index l.quals)
