@@ -21,7 +21,17 @@ fn quals_text(alloc: Global, names: &Names, quals: &[Use]) -> Result<String, All
     Ok(text)
 }
 
+/// What a point asks for: its type, and its qualifiers.
 #[tactic(auto, unfolding(crate::specs::Points::point_text))]
+fn point_text(alloc: Global, names: &Names, ty: Name, quals: &[Use]) -> Result<String, AllocError>
+    ensures { IfOk result (λ text.
+        string_bytes text ≡ spec.point_text names.now ty quals.now) }
+{
+    let ty = name_text(names, ty);
+    let quals = quals_text(alloc, names, quals)?;
+    format!(in alloc; "; it asks for {ty}{quals}")
+}
+
 fn add_point(
     alloc: Global,
     names: &Names,
@@ -32,9 +42,7 @@ fn add_point(
     ensures { OnOk result
         (string_bytes hint.new ≡ string_bytes hint.old ++ spec.point_text names.now ty quals.now) }
 {
-    let ty = name_text(names, ty);
-    let quals = quals_text(alloc, names, quals)?;
-    let point = format!(in alloc; "; it asks for {ty}{quals}")?;
+    let point = point_text(alloc, names, ty, quals)?;
     hint.push_str(&point)
 }
 
