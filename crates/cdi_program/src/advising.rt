@@ -1,5 +1,5 @@
 //! The hints for the problems of a deployment, on standard error.
-ghost use Rattle.std.specs.Prelude.{◌≡◌, ◌++◌, string_bytes, IfOk, OnOk};
+ghost use Rattle.std.specs.Prelude.{◌≡◌, ◌++◌, Some, string_bytes, IfOk, OnOk};
 ghost use Rattle.cdi_prepare.specs.Ready.{readied_in};
 ghost use Rattle.cdi_program.specs.Advice as spec;
 ghost use Rattle.cdi_program.specs.Lines as lines;
@@ -77,18 +77,26 @@ fn advice_on(
     Ok(Text::new(advice))
 }
 
-/// The same for bytes, if they are a deployment.
-fn advice_for(alloc: Global, file: &str, bytes: &[u8]) -> Result<Option<Text>, AllocError>
-    ensures { IfOk result (spec.IsAdviceFor file.now (readied_in bytes.now)) }
+fn some_advice(alloc: Global, file: &str, review: Review) -> Result<Option<Text>, AllocError>
+    ensures { IfOk result (λ advice.
+        advice ≡ Some (spec.advice_text file.now review.deployment review.problems)) }
 {
-    let Some(review) = review_bytes(alloc, bytes)? else {
-        return Ok(None);
-    };
     let Review {
         deployment,
         problems,
     } = review;
     Ok(Some(advice_on(alloc, file, &deployment, problems.as_slice())?))
+}
+
+/// The same for bytes, if they are a deployment.
+fn advice_for(alloc: Global, file: &str, bytes: &[u8]) -> Result<Option<Text>, AllocError>
+    ensures { IfOk result (spec.IsAdviceFor file.now (readied_in bytes.now)) }
+{
+    match review_bytes(alloc, bytes) {
+        Ok(Some(review)) => some_advice(alloc, file, review),
+        Ok(None) => Ok(None),
+        Err(error) => Err(error),
+    }
 }
 
 /// Tells the user of the problems of a deployment more than their lines do, by a hint for each (see

@@ -1,5 +1,5 @@
 //! The problems of a deployment, from its bytes.
-ghost use Rattle.std.specs.Prelude.{◌≡◌, ◌≤◌, length, IfOk};
+ghost use Rattle.std.specs.Prelude.{◌≡◌, ◌≤◌, length, IfOk, IsSomeAnd};
 ghost use Rattle.cdi_prepare.specs.Ready.{readied_in, ready_of};
 ghost use Rattle.cdi_report.specs.Reviews as spec;
 ghost use Rattle.cdi_script.specs.Next.{next_of};
@@ -55,13 +55,20 @@ pub(crate) fn review_of(alloc: Global, prepared: Prepared) -> Result<Review, All
     })
 }
 
+fn some_review(alloc: Global, prepared: Prepared) -> Result<Option<Review>, AllocError>
+    requires { length prepared.scripts.items ≤ MAX_BODIES }
+    ensures { IfOk result (λ review. IsSomeAnd review (spec.IsReview (ready_of prepared))) }
+{
+    Ok(Some(review_of(alloc, prepared)?))
+}
+
 /// The deployment that bytes are, and its problems (Jakarta CDI 4.0, *Problems detected automatically by the container*); none if it
 /// can't be read, or one of its scripts can't.
 pub fn review_bytes(alloc: Global, bytes: &[u8]) -> Result<Option<Review>, AllocError>
     ensures { IfOk result (spec.Reviews (readied_in bytes.now)) }
 {
     match prepare(alloc, bytes) {
-        Ok(prepared) => Ok(Some(review_of(alloc, prepared)?)),
+        Ok(prepared) => some_review(alloc, prepared),
         Err(OrMemory::Fault(_)) => Ok(None),
         Err(OrMemory::Memory) => Err(AllocError),
     }
