@@ -1,2 +1,3 @@
+pub mod Advised
 pub mod Told
 pub mod Usage

@@ -1,4 +1,6 @@
+pub mod Advice
 pub mod Files
+pub mod Lines
 pub mod Program
 pub mod Statuses
 pub mod Streams

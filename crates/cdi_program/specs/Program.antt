@@ -16,9 +16,10 @@ use Rattle.cdi_settings.specs.declared.settings.Settings.{Settings}
 use Rattle.cdi_shell.specs.Endings.{outcome_of, status_of as status_of_ending}
 use Rattle.cdi_shell.specs.Laws.{DrivesOnce}
 use Rattle.cdi_shell.specs.declared.ending.Ending.{Ending}
+use Rattle.cdi_program.specs.Lines.{cause_line}
 use Rattle.cdi_program.specs.Statuses.{is_shown, status_of}
 use Rattle.cdi_program.specs.Streams.{Ends, IsUnread, IsUntouched, Output}
-use Rattle.cdi_program.specs.Telling.{IsLeft, Passes, PassesOn, TellsEnding, TellsFault, TellsOfFile, TellsVerdict, cause_line}
+use Rattle.cdi_program.specs.Telling.{IsLeft, Passes, PassesOn, TellsEnding, TellsFault, TellsOfFile, TellsVerdict}
 use Rattle.cdi_program.specs.declared.words.WordsError.{WordsError}
 use Rattle.cdi_program.specs.declared.words.WordsError.TheVariants as words_errors
 

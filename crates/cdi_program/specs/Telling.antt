@@ -1,5 +1,5 @@
 -- What is told on standard error.
-use Rattle.std.specs.Prelude.{◌≡◌, ℕ, List, ◌++◌, codes, Option, Some, None, Result, Ok, Err, IfSome, IsTrue, OnOk}
+use Rattle.std.specs.Prelude.{◌≡◌, ℕ, List, Option, Some, None, Result, Ok, Err, IfSome, IsTrue, OnOk}
 use Rattle.std.specs.Io.KnownBytes.{Keeps}
 use Rattle.cdi_lines.specs.Ends.{Tells, WritesAll}
 use Rattle.cdi_lines.specs.Faults.{fault_text}
@@ -13,6 +13,9 @@ use Rattle.cdi_report.specs.declared.verdict.Verdict.{Verdict}
 use Rattle.cdi_report.specs.declared.verdict.Verdict.TheVariants as verdicts
 use Rattle.cdi_shell.specs.declared.ending.Ending.{Ending}
 use Rattle.cdi_shell.specs.declared.ending.Ending.TheVariants as endings
+use Rattle.cdi_prepare.specs.Ready.{readied_in}
+use Rattle.cdi_program.specs.Advice.{IsAdviceFor}
+use Rattle.cdi_program.specs.Lines.{cause_line, file_line}
 use Rattle.cdi_program.specs.Streams.{Output}
 
 -- Writing a text and passing it on came to this. Where it failed, a front part of the text is written, and the output has
@@ -26,14 +29,6 @@ pub record Passes (text : List ℕ) (result : Result (Unit {0}) WriteFailed) (ol
 abbrev pub PassesOn : List ℕ → Output → Output → Type 0
 PassesOn text old new = (result : Result (Unit {0}) WriteFailed) × Passes text result old new
 
--- the line that names a cause
-abbrev pub cause_line : List ℕ → List ℕ
-cause_line cause = codes "cdi: " ++ (cause ++ codes "\n")
-
--- the line that names a cause that lies in a file
-abbrev pub file_line : List ℕ → List ℕ → List ℕ
-file_line file cause = codes "cdi: " ++ (file ++ (codes ": " ++ (cause ++ codes "\n")))
-
 abbrev pub TellsFault : ServeFault → Output → Output → Type 0
 TellsFault fault old new = PassesOn (cause_line (fault_text fault)) old new
 
@@ -43,13 +38,24 @@ pub data TellsOfFile (file : List ℕ) (cause : Option (List ℕ)) (old new : Ou
       → PassesOn (file_line file words) old new → TellsOfFile file cause old new
   starves : TellsFault faults.Memory old new → TellsOfFile file cause old new
 
-abbrev pub TellsHint : List ℕ → Option Hint → Output → Output → Type 0
-TellsHint file None old new = new ≡ old
-TellsHint file (Some hint) old new = TellsOfFile file (hint_text hint) old new
+abbrev pub PassesOnSome : Option (List ℕ) → Output → Output → Type 0
+PassesOnSome None old new = new ≡ old
+PassesOnSome (Some text) old new = PassesOn text old new
 
--- These bytes were refused: the hint for them is told, if there is one; or that memory ran out.
+-- The hints for the problems of the deployment that these bytes are, if they are one, are told; or that memory ran out.
+pub data Advises (file bytes : List ℕ) (old new : Output) : Type 0 where
+  advises : (advice : Option (List ℕ)) → IsAdviceFor file (readied_in bytes) advice
+      → PassesOnSome advice old new → Advises file bytes old new
+  starves : TellsFault faults.Memory old new → Advises file bytes old new
+
+-- the hint for a deployment that can't be read, or else those for its problems
+abbrev pub TellsHint : List ℕ → List ℕ → Option Hint → Output → Output → Type 0
+TellsHint file bytes None old new = Advises file bytes old new
+TellsHint file bytes (Some hint) old new = TellsOfFile file (hint_text hint) old new
+
+-- These bytes were refused: the hint for them is told, or those for their problems; or that memory ran out.
 pub data TellsRefused (file bytes : List ℕ) (old new : Output) : Type 0 where
-  tells : (hint : Option Hint) → IsHintFor bytes hint → TellsHint file hint old new
+  tells : (hint : Option Hint) → IsHintFor bytes hint → TellsHint file bytes hint old new
       → TellsRefused file bytes old new
   starves : TellsFault faults.Memory old new → TellsRefused file bytes old new
 

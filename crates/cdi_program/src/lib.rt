@@ -1,6 +1,7 @@
 //! The program below `main`: from the words of the command line to the exit status.
 #![tactic(auto)]
 
+mod advising;
 pub mod files;
 pub mod program;
 pub mod status;

@@ -3,9 +3,11 @@ ghost use Rattle.std.specs.Prelude.{◌++◌, IsTrue, OnOk, codes};
 ghost use Rattle.cdi_lines.specs.Ends.{Tells, WritesAll};
 ghost use Rattle.cdi_report.specs.Verdicts.{outcome_of as outcome_of_verdict};
 ghost use Rattle.cdi_shell.specs.Endings.{outcome_of as outcome_of_ending};
+ghost use Rattle.cdi_program.specs.Lines as lines;
 ghost use Rattle.cdi_program.specs.Streams.{output_of};
 ghost use Rattle.cdi_program.specs.Telling as spec;
 
+use crate::advising::advise;
 use cdi_lines::{ServeFault, Sink, WriteFailed};
 use cdi_prepare::hint_for;
 use cdi_report::Verdict;
@@ -27,7 +29,7 @@ fn end_line<E: Sink>(errors: &mut E, rest: &str) -> Result<(), WriteFailed>
 /// Writes the line that names a cause.
 fn write_cause<E: Sink>(errors: &mut E, cause: &str) -> Result<(), WriteFailed>
     ensures bytes { WritesAll (E.written errors.old) (E.written errors.new) result
-        (spec.cause_line cause.now) }
+        (lines.cause_line cause.now) }
     ensures failed { Tells result (E.has_failed errors.old) (E.has_failed errors.new) }
     ensures passed_on { OnOk result (IsTrue (E.is_passed_on errors.new)) }
 {
@@ -38,7 +40,7 @@ fn write_cause<E: Sink>(errors: &mut E, cause: &str) -> Result<(), WriteFailed>
 /// Writes the line that names a cause that lies in a file.
 fn write_of_file<E: Sink>(errors: &mut E, file: &str, cause: &str) -> Result<(), WriteFailed>
     ensures bytes { WritesAll (E.written errors.old) (E.written errors.new) result
-        (spec.file_line file.now cause.now) }
+        (lines.file_line file.now cause.now) }
     ensures failed { Tells result (E.has_failed errors.old) (E.has_failed errors.new) }
     ensures passed_on { OnOk result (IsTrue (E.is_passed_on errors.new)) }
 {
@@ -50,7 +52,7 @@ fn write_of_file<E: Sink>(errors: &mut E, file: &str, cause: &str) -> Result<(),
 
 /// Tells the user of a cause. Where that fails nobody can be told, and the exit status has to say all.
 pub(crate) fn tell<E: Sink>(errors: &mut E, cause: &str)
-    ensures { spec.PassesOn (spec.cause_line cause.now)
+    ensures { spec.PassesOn (lines.cause_line cause.now)
         (output_of E.written E.has_failed E.is_passed_on errors.old)
         (output_of E.written E.has_failed E.is_passed_on errors.new) }
 {
@@ -84,7 +86,7 @@ fn tell_hint<E: Sink>(alloc: Global, file: &str, bytes: &[u8], errors: &mut E)
 {
     match hint_for(alloc, bytes) {
         Ok(Some(hint)) => tell_of_file(alloc, errors, file, &hint),
-        Ok(None) => {}
+        Ok(None) => advise(alloc, file, bytes, errors),
         Err(_) => tell(errors, ServeFault::Memory.text()),
     }
 }

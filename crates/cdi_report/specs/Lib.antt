@@ -1,4 +1,5 @@
 pub mod OneReport
 pub mod PlaceNames
 pub mod Reports
+pub mod Reviews
 pub mod Verdicts

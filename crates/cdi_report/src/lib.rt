@@ -4,7 +4,9 @@
 pub mod laws;
 pub mod problem_lines;
 pub mod reporting;
+pub mod reviewing;
 pub mod verdict;
 
 pub use reporting::report;
+pub use reviewing::{Review, review_bytes};
 pub use verdict::Verdict;

@@ -4,15 +4,14 @@ ghost use Rattle.cdi_lines.specs.Served.{Blames};
 ghost use Rattle.cdi_prepare.specs.Ready.{ready_of};
 ghost use Rattle.cdi_report.specs.Reports as spec;
 ghost use Rattle.cdi_report.specs.Verdicts.{outcome_of};
-ghost use Rattle.cdi_script.specs.Next.{next_of};
 
 use crate::problem_lines::write_problems;
+use crate::reviewing::review_of;
 use crate::verdict::Verdict;
-use cdi_base::{Act, Fields, Names, OrMemory};
-use cdi_bodies::{AddError, Bodies, Body, MAX_BODIES, View};
-use cdi_check::check;
+use cdi_base::{Names, OrMemory};
+use cdi_bodies::MAX_BODIES;
 use cdi_lines::{ServeFault, Sink};
-use cdi_prepare::{NamedScript, Prepared, prepare};
+use cdi_prepare::{Prepared, prepare};
 use cdi_problems::Problem;
 use std::alloc::{AllocError, Global};
 
@@ -48,32 +47,8 @@ fn findings_in(alloc: Global, prepared: Prepared) -> Result<Findings, AllocError
     requires { length prepared.scripts.items ≤ MAX_BODIES }
     ensures { IfOk result (λ f. spec.Judges (ready_of prepared) f.lines.items f.is_accepted) }
 {
-    let Prepared {
-        deployment,
-        scripts,
-    } = prepared;
-    let mut bodies = Bodies::new(alloc);
-    for named in scripts {
-        let NamedScript { name, script } = named;
-        if bodies.find(name).is_some() {
-            continue;
-        }
-        let shape = script.shape_of(alloc)?;
-        let body: Body = Box::new(
-            alloc,
-            move |fields: &Fields, view: &View| -> Result<Act, AllocError>
-                ensures { IfOk result (λ act. act ≡ next_of script fields.now view.now) }
-            { script.next(alloc, fields, view) },
-        )?;
-        match bodies.add(name, shape, body) {
-            Ok(_) => {}
-            Err(AddError::Memory(_)) => return Err(AllocError),
-            Err(AddError::Repeated(_)) => unreachable!(),
-            Err(AddError::Full(_)) => unreachable!(),
-        }
-    }
-    let problems = check(alloc, &deployment, &bodies)?;
-    findings_of(alloc, &deployment.names, problems.as_slice())
+    let review = review_of(alloc, prepared)?;
+    findings_of(alloc, &review.deployment.names, review.problems.as_slice())
 }
 
 /// Writes what is told of a deployment.

@@ -4,7 +4,7 @@ use Rattle.cdi_bodies.specs.Table.{entries_of}
 use Rattle.cdi_prepare.specs.declared.scripts.NamedScript.{NamedScript}
 use Rattle.cdi_prepare.specs.Scripts.{added, registered}
 use Rattle.cdi_prepare.proofs.Holding.{AreBodiesOf}
-use Rattle.cdi_report.proofs.reporting.findings_in.Given as goal
+use Rattle.cdi_report.proofs.reviewing.review_of.Given as goal
 
 abbrev pub invariant-loop-named : goal.invariant-loop-named
 invariant-loop-named l =

@@ -1,0 +1,8 @@
+use Rattle.std.proofs.Common.{◌≡◌, ◌++◌, string_bytes, take}
+use Rattle.cdi_problem_hints.specs.Points as spec
+use Rattle.cdi_problem_hints.proofs.point.add_params.Given as goal
+
+abbrev pub invariant-loop-point : goal.invariant-loop-point
+invariant-loop-point l =
+    string_bytes l.hint ≡ string_bytes l.initial.hint
+    ++ spec.params_text l.names (take l.point-index l.params)

@@ -1,0 +1,39 @@
+-- The hint for a problem.
+use Rattle.std.specs.Prelude.{ℕ, Bool, false, List, [], ◌++◌, codes, Option, Some, None, if◌then◌else◌}
+use Rattle.std.specs.List.{flat_map}
+use Rattle.cdi_base.specs.declared.place.Place.{Place}
+use Rattle.cdi_deployment.specs.declared.deployment.Deployment.{Deployment}
+use Rattle.cdi_name_uses.specs.Unknown.{unknown_names}
+use Rattle.cdi_problem_hints.specs.Points.{points_text}
+use Rattle.cdi_problem_hints.specs.Rule.{rule_text}
+use Rattle.cdi_problem_hints.specs.Sentences.{sentences}
+use Rattle.cdi_problems.specs.Elements.{Element, elements_of, place_of}
+use Rattle.cdi_problems.specs.Places.{same_place}
+use Rattle.cdi_problems.specs.Words.{problem_text}
+use Rattle.cdi_problems.specs.declared.problem.Problem.{Problem}
+use Rattle.cdi_problems.specs.declared.problem.ProblemKind.{ProblemKind}
+use Rattle.cdi_problems.specs.declared.problem.ProblemKind.TheVariants as kinds
+
+-- the element stands at the place
+abbrev pub is_at : Option Place → Element → Bool
+is_at None e = false
+is_at (Some place) e = same_place (place_of e) place
+
+-- of an unknown name what it has to be and what was probably meant, and of a point what it asks for
+abbrev pub details : Deployment → ProblemKind → Element → List ℕ
+details d kinds.UnknownName e = sentences d e (unknown_names d e)
+details d kinds.Unsatisfied e = points_text d.names e
+details d kinds.Ambiguous e = points_text d.names e
+details d kinds.Unproxyable e = points_text d.names e
+details d _ e = []
+
+abbrev pub details_at : Deployment → Problem → Element → List ℕ
+details_at d p e = if is_at p.place e then details d p.kind e else []
+
+-- the problem as it is printed, and the rule that it breaks
+abbrev pub head : List (List ℕ) → Problem → List ℕ
+head names p = problem_text names p ++ (codes ": " ++ rule_text p.kind)
+
+-- that, and what is told of the elements at its place
+abbrev pub problem_hint : Deployment → Problem → List ℕ
+problem_hint d p = head d.names p ++ flat_map (details_at d p) (elements_of d)

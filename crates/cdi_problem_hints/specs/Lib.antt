@@ -1,0 +1,4 @@
+pub mod Hints
+pub mod Points
+pub mod Rule
+pub mod Sentences

@@ -1,0 +1,10 @@
+//! Hints for the problems of a deployment: the rule that is broken, and the names that break it.
+#![tactic(auto)]
+
+pub mod hint;
+mod point;
+pub mod rule;
+mod sentence;
+
+pub use hint::problem_hint;
+pub use rule::rule_text;

@@ -1,0 +1,88 @@
+//! What the injection points of an element ask for.
+ghost use Rattle.std.specs.Prelude.{◌≡◌, ◌++◌, string_bytes, IfOk, OnOk};
+ghost use Rattle.cdi_problem_hints.specs.Points as spec;
+ghost use Rattle.cdi_problems.specs.Elements.{element_of};
+
+use cdi_base::{Name, Names, Use};
+use cdi_deployment::Point;
+use cdi_problems::{Element, name_text};
+use std::alloc::{AllocError, Global};
+
+/// Qualifiers as they are told of a point.
+fn quals_text(alloc: Global, names: &Names, quals: &[Use]) -> Result<String, AllocError>
+    ensures { IfOk result (λ text.
+        string_bytes text ≡ spec.quals_text names.now quals.now) }
+{
+    let mut text = String::new(alloc);
+    for qual in quals {
+        text.push_str(" @")?;
+        text.push_str(name_text(names, qual.name))?;
+    }
+    Ok(text)
+}
+
+/// What a point asks for: its type, and its qualifiers.
+#[tactic(auto, unfolding(crate::specs::Points::point_text))]
+fn point_text(alloc: Global, names: &Names, ty: Name, quals: &[Use]) -> Result<String, AllocError>
+    ensures { IfOk result (λ text.
+        string_bytes text ≡ spec.point_text names.now ty quals.now) }
+{
+    let ty = name_text(names, ty);
+    let quals = quals_text(alloc, names, quals)?;
+    format!(in alloc; "; it asks for {ty}{quals}")
+}
+
+fn add_point(
+    alloc: Global,
+    names: &Names,
+    ty: Name,
+    quals: &[Use],
+    hint: &mut String,
+) -> Result<(), AllocError>
+    ensures { OnOk result
+        (string_bytes hint.new ≡ string_bytes hint.old ++ spec.point_text names.now ty quals.now) }
+{
+    let point = point_text(alloc, names, ty, quals)?;
+    hint.push_str(&point)
+}
+
+fn add_params(
+    alloc: Global,
+    names: &Names,
+    params: &[Point],
+    hint: &mut String,
+) -> Result<(), AllocError>
+    ensures { OnOk result
+        (string_bytes hint.new ≡ string_bytes hint.old ++ spec.params_text names.now params.now) }
+{
+    for point in params {
+        add_point(alloc, names, point.ty, point.quals.as_slice(), hint)?;
+    }
+    Ok(())
+}
+
+/// Adds what the injection points of an element ask for (Jakarta CDI 4.0, *Injection points*): an injected field is one, and so is
+/// each injected parameter.
+pub(crate) fn add_points(
+    alloc: Global,
+    names: &Names,
+    element: &Element<'_>,
+    hint: &mut String,
+) -> Result<(), AllocError>
+    ensures { OnOk result (string_bytes hint.new
+        ≡ string_bytes hint.old ++ spec.points_text names.now (element_of element.now)) }
+{
+    match element {
+        Element::InjectedField { field, .. } => {
+            add_point(alloc, names, field.ty, field.quals.as_slice(), hint)
+        }
+        Element::InterceptorInjectedField { field, .. } => {
+            add_point(alloc, names, field.ty, field.quals.as_slice(), hint)
+        }
+        Element::Constructor { constructor, .. } => {
+            add_params(alloc, names, constructor.params.as_slice(), hint)
+        }
+        Element::Member { member, .. } => add_params(alloc, names, member.params(), hint),
+        _ => Ok(()),
+    }
+}

@@ -1,0 +1,117 @@
+//! The hints for the problems of a deployment, on standard error.
+ghost use Rattle.std.specs.Prelude.{◌≡◌, ◌++◌, Some, string_bytes, IfOk, OnOk};
+ghost use Rattle.cdi_prepare.specs.Ready.{readied_in};
+ghost use Rattle.cdi_program.specs.Advice as spec;
+ghost use Rattle.cdi_program.specs.Lines as lines;
+ghost use Rattle.cdi_program.specs.Streams.{output_of};
+ghost use Rattle.cdi_program.specs.Telling as telling;
+
+use crate::telling::tell;
+use cdi_base::Text;
+use cdi_deployment::Deployment;
+use cdi_lines::{ServeFault, Sink};
+use cdi_problem_hints::problem_hint;
+use cdi_problems::Problem;
+use cdi_report::{Review, review_bytes};
+use std::alloc::{AllocError, Global};
+
+/// The most problems of a deployment that get a hint.
+const MAX_HINTS: usize = 50;
+
+/// Adds the line of a hint.
+fn add_line(file: &str, hint: &str, advice: &mut String) -> Result<(), AllocError>
+    ensures { OnOk result (string_bytes advice.new
+        ≡ string_bytes advice.old ++ lines.file_line file.now hint.now) }
+{
+    advice.push_str("cdi: ")?;
+    advice.push_str(file)?;
+    advice.push_str(": ")?;
+    advice.push_str(hint)?;
+    advice.push_str("\n")
+}
+
+/// Adds the lines of the hints for problems, in their order.
+fn add_hints(
+    alloc: Global,
+    file: &str,
+    deployment: &Deployment,
+    problems: &[Problem],
+    advice: &mut String,
+) -> Result<(), AllocError>
+    ensures { OnOk result (string_bytes advice.new ≡ string_bytes advice.old
+        ++ spec.hint_lines file.now deployment.now problems.now) }
+{
+    for problem in problems {
+        let hint = problem_hint(alloc, deployment, problem)?;
+        add_line(file, hint.as_str(), advice)?;
+    }
+    Ok(())
+}
+
+/// Adds the line that tells how many problems have no hint, if there are such.
+fn add_rest(alloc: Global, file: &str, count: usize, advice: &mut String) -> Result<(), AllocError>
+    ensures { OnOk result
+        (string_bytes advice.new ≡ string_bytes advice.old ++ spec.rest_line file.now count) }
+{
+    if count == 0 {
+        return Ok(());
+    }
+    let rest = format!(in alloc; "and {count} more problems")?;
+    add_line(file, &rest, advice)
+}
+
+/// The lines of the hints for the first [`MAX_HINTS`] problems, and one that tells how many more there are.
+fn advice_on(
+    alloc: Global,
+    file: &str,
+    deployment: &Deployment,
+    problems: &[Problem],
+) -> Result<Text, AllocError>
+    ensures { IfOk result (λ advice.
+        advice ≡ spec.advice_text file.now deployment.now problems.now) }
+{
+    let mut advice = String::new(alloc);
+    let hinted = problems.len().min(MAX_HINTS);
+    add_hints(alloc, file, deployment, &problems[..hinted], &mut advice)?;
+    add_rest(alloc, file, problems.len() - hinted, &mut advice)?;
+    Ok(Text::new(advice))
+}
+
+fn some_advice(alloc: Global, file: &str, review: Review) -> Result<Option<Text>, AllocError>
+    ensures { IfOk result (λ advice.
+        advice ≡ Some (spec.advice_text file.now review.deployment review.problems)) }
+{
+    let Review {
+        deployment,
+        problems,
+    } = review;
+    Ok(Some(advice_on(alloc, file, &deployment, problems.as_slice())?))
+}
+
+/// The same for bytes, if they are a deployment.
+fn advice_for(alloc: Global, file: &str, bytes: &[u8]) -> Result<Option<Text>, AllocError>
+    ensures { IfOk result (spec.IsAdviceFor file.now (readied_in bytes.now)) }
+{
+    match review_bytes(alloc, bytes) {
+        Ok(Some(review)) => some_advice(alloc, file, review),
+        Ok(None) => Ok(None),
+        Err(error) => Err(error),
+    }
+}
+
+/// Tells the user of the problems of a deployment more than their lines do, by a hint for each (see
+/// [`problem_hint`]). Of more than [`MAX_HINTS`] problems the first get one, and a line tells how many more there
+/// are. Nothing is told if the deployment can't be read.
+pub(crate) fn advise<E: Sink>(alloc: Global, file: &str, bytes: &[u8], errors: &mut E)
+    ensures { telling.Advises file.now bytes.now
+        (output_of E.written E.has_failed E.is_passed_on errors.old)
+        (output_of E.written E.has_failed E.is_passed_on errors.new) }
+{
+    match advice_for(alloc, file, bytes) {
+        Ok(Some(advice)) => {
+            let _ = errors.write_through(advice.as_str().as_bytes());
+        }
+        Ok(None) => {}
+        Err(_) => tell(errors, ServeFault::Memory.text()),
+    }
+}
