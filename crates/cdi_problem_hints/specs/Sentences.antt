@@ -39,10 +39,16 @@ fault_word_in d name groups.BeanClass =
     if is_declared_class d.classes name then codes "is no bean" else undeclared
 fault_word_in d name (groups.Annotation annotations.EventQualifier) =
     if name == number_of built_in.Default then codes "is none of an event" else undeclared
+fault_word_in d name (groups.MemberOf annotation owner) = codes "isn't one of "
 fault_word_in d name _ = undeclared
 
 abbrev pub fault_word : Deployment → NameUse → List ℕ
 fault_word d u = fault_word_in d u.name u.group
+
+-- the annotation of which a name has to be a member
+abbrev pub owner_text : List (List ℕ) → Group → List ℕ
+owner_text names (groups.MemberOf annotation name) = name_text names name
+owner_text names _ = []
 
 -- the known name that was probably meant
 abbrev pub meant : List (List ℕ) → List ℕ → ℕ → Option (List ℕ)
@@ -57,8 +63,8 @@ abbrev pub sentence : Deployment → Element → NameUse → List ℕ
 sentence d e u =
     codes "; the " ++ (group_word u.group
     ++ (codes " " ++ (name_text d.names u.name
-    ++ (codes " " ++ (fault_word d u
-    ++ suggestion (meant d.names (group_names d e u.group) u.name))))))
+    ++ (codes " " ++ (fault_word d u ++ (owner_text d.names u.group
+    ++ suggestion (meant d.names (group_names d e u.group) u.name)))))))
 
 abbrev pub sentences : Deployment → Element → List NameUse → List ℕ
 sentences d e unknown = flat_map (sentence d e) unknown

@@ -87,7 +87,18 @@ fn fault_word(deployment: &Deployment, used: &NameUse) -> &'static str
         Group::Annotation(Annotation::EventQualifier) if used.name == BuiltIn::Default.name() => {
             "is none of an event"
         }
+        Group::MemberOf(_, _) => "isn't one of ",
         _ => "isn't declared",
+    }
+}
+
+/// The name of the annotation of which a name has to be a member.
+fn owner_text<'a>(names: &'a Names, group: Group) -> &'a str
+    ensures { result.now ≡ spec.owner_text names.now group }
+{
+    match group {
+        Group::MemberOf(_, name) => name_text(names, name),
+        _ => "",
     }
 }
 
@@ -105,9 +116,10 @@ fn add_sentence(
     let group = group_word(used.group);
     let name = name_text(names, used.name);
     let fault = fault_word(deployment, used);
+    let owner = owner_text(names, used.group);
     let known = group_names(alloc, deployment, element, used.group)?;
     let suggestion = suggestion(alloc, names, known.as_slice(), used.name)?;
-    let sentence = format!(in alloc; "; the {group} {name} {fault}{suggestion}")?;
+    let sentence = format!(in alloc; "; the {group} {name} {fault}{owner}{suggestion}")?;
     hint.push_str(&sentence)
 }
 
