@@ -1,5 +1,4 @@
 pub mod Growing
-pub mod InitializerPoints
 pub mod Members
 pub mod Needy
 pub mod NeedyProducts

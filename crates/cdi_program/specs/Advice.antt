@@ -1,5 +1,5 @@
 -- The hints for the problems of a deployment, as lines on standard error.
-use Rattle.std.specs.Prelude.{◌≡◌, ℕ, ◌-◌, List, [], ◌++◌, codes, decimal, length, take, nat_eq, Option, None, Result, Ok, Err, IsSomeAnd, if◌then◌else◌}
+use Rattle.std.specs.Prelude.{◌≡◌, ℕ, ◌-◌, List, [], ◌++◌, codes, decimal, length, min, take, nat_eq, Option, None, Result, Ok, Err, IsSomeAnd, if◌then◌else◌}
 use Rattle.std.specs.List.{flat_map}
 use Rattle.cdi_deployment.specs.declared.deployment.Deployment.{Deployment}
 use Rattle.cdi_prepare.specs.Ready.{Readied}
@@ -18,10 +18,15 @@ rest_line file count =
     if nat_eq count 0 then []
     else file_line file (codes "and " ++ (decimal count ++ codes " more problems"))
 
--- a line for each of the first 50 problems, and how many there are more
+-- how many problems get a hint: 50 at most
+abbrev pub hinted : List Problem → ℕ
+hinted problems = min (length problems) 50
+
+-- a line for each of these, and how many there are more
 abbrev pub advice_text : List ℕ → Deployment → List Problem → List ℕ
 advice_text file d problems =
-    hint_lines file d (take 50 problems) ++ rest_line file (length problems - 50)
+    hint_lines file d (take (hinted problems) problems)
+    ++ rest_line file (length problems - hinted problems)
 
 -- that of the problems of a deployment whose bodies are its scripts
 pub record IsAdviceOn (file : List ℕ) (r : Readied) (advice : List ℕ) : Type 0 where

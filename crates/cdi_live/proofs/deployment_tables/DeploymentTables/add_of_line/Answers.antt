@@ -7,7 +7,6 @@ use Rattle.cdi_live.specs.Needs.{needed_at}
 use Rattle.cdi_live.specs.OwnPoints.{initializer_points}
 use Rattle.cdi_live.specs.Settings.{setting_of}
 use Rattle.cdi_live.proofs.Growing.{joined}
-use Rattle.cdi_live.proofs.InitializerPoints.{points-of_initializers}
 use Rattle.cdi_live.proofs.deployment_tables.DeploymentTables.add_of_line.Goals as goal
 
 pub returns : goal.returns
@@ -16,6 +15,5 @@ returns c =
     let injected : List Point = map (λ p. field_point p.1) (injected_fields_of c.args.line.now) in
     let initialized : List Point = flat_map initializer_points (members_of c.args.line.now) in
     let first : c.add_injected.new.needs ≡ c.args.needs.now ++ filter_map f injected = rw (← c.in_ok-fields.ensures, ← c.as_slice.ensures) c.in_ok-add_injected.ensures in
-    let second : c.add_initializers.new.needs ≡ c.add_injected.new.needs ++ filter_map f initialized =
-        rw (← points-of_initializers (members_of c.args.line.now), ← c.in_ok-initializers.ensures, ← c.as_slice-2.ensures) c.in_ok-add_initializers.ensures in
+    let second : c.add_initializers.new.needs ≡ c.add_injected.new.needs ++ filter_map f initialized = rw (← c.in_ok-members.ensures, ← c.as_slice-2.ensures) c.in_ok-add_initializers.ensures in
     joined f injected initialized c.args.needs.now c.add_injected.new.needs c.add_initializers.new.needs first second
