@@ -3,7 +3,7 @@
 #![tactic(auto)]
 
 ghost use Rattle.std.specs.Prelude.{◌≡◌, ◌<◌, true, IfOk};
-ghost use Rattle.cdi_bodies.specs.Shape.{in_shape, no_acts};
+ghost use Rattle.cdi_bodies.specs.Shape.{KeepsShape, in_shape, no_acts};
 ghost use Rattle.cdi_run_tables.specs.Machine.{machine_tables};
 ghost use Rattle.cdi_runtime.specs.Standing.{IsServable};
 ghost use Rattle.cdi_steps.specs.Driving.{Drives};
@@ -12,7 +12,7 @@ ghost use Rattle.cdi_example.specs.Shapes as spec;
 mod bodies;
 
 use bodies::{buy_shape, call_office, first_answer, first_argument, note_shape, number_in};
-use cdi_base::{Act, Command, Fields, Limits, OrMemory, Reply, Seq, Text, Value};
+use cdi_base::{Act, Command, Fields, Limits, Names, OrMemory, Reply, Seq, Text, Value};
 use cdi_bodies::{Bodies, Body, Choice, Chooser, Shape, View};
 use cdi_container::{Container, Unaccepted, accept};
 use cdi_deploy::read;
@@ -136,6 +136,23 @@ fn deployment(alloc: Global) -> io::Result<Deployment> {
     }
 }
 
+/// Registers a body under a name.
+fn register(
+    names: &Names,
+    name: &str,
+    shape: Shape,
+    body: Body,
+    bodies: &mut Bodies,
+) -> io::Result<()>
+    requires callable { Body.IsAlwaysCallable body }
+    requires within { KeepsShape (Body.post body) shape }
+{
+    match bodies.add(names.name_for(name), shape, body) {
+        Ok(_) => Ok(()),
+        Err(_) => Err(wrong()),
+    }
+}
+
 /// Accepts the deployment with the bodies, and goes on with a container. Where an order is left open, it takes the first.
 #[tactic(auto, using(crate::proofs::Driven::drives_with))]
 fn run_with(
@@ -156,48 +173,27 @@ fn run_with(
     run_accepted(alloc, output, accepted, Registered { bodies, chooser })
 }
 
-/// Registers what the ledger does as it hears of a ticket: it adds the event's price to its takings. Goes on with all bodies.
-fn run_with_note(
-    alloc: Global,
-    output: &mut impl Write,
-    deployment: Deployment,
-    bodies: Bodies,
-) -> io::Result<()> {
-    let takings = deployment.names.name_for("takings");
-    let body: Body = Box::new(
+/// Makes the bodies, closures of which one has a list of prices, registers them, and goes on. The office gives the price of a row;
+/// the desk calls it, fires an event with the price, and gives that; the ledger adds an event's price to its takings.
+fn run(alloc: Global, output: &mut impl Write) -> io::Result<()> {
+    let deployment = deployment(alloc)?;
+    let prices = vec![in alloc; 40i64, 25, 15]?;
+    let sell_body: Body = Box::new(
         alloc,
-        move |fields: &Fields, view: &View| -> Result<Act, AllocError>
-            ensures { IfOk result (λ act. in_shape (spec.note_shape takings) view.now act ≡ true) }
+        move |_fields: &Fields, view: &View| -> Result<Act, AllocError>
+            ensures { IfOk result (λ act. in_shape no_acts view.now act ≡ true) }
         {
-            if view.answers.len() > 0 {
-                return Ok(Act::Give { value: Value::Null });
-            }
-            let total = number_in(fields, takings).saturating_add(first_argument(view));
-            Ok(Act::Set {
-                field: takings,
-                value: Value::Int(total),
+            let row = usize::try_from(first_argument(view)).unwrap_or(usize::MAX);
+            let price = prices.get(row).copied().unwrap_or(0);
+            Ok(Act::Give {
+                value: Value::Int(price),
             })
         },
     )?;
-    let mut bodies = bodies;
-    let name = deployment.names.name_for("note");
-    match bodies.add(name, note_shape(alloc, takings)?, body) {
-        Ok(_) => run_with(alloc, output, deployment, bodies),
-        Err(_) => Err(wrong()),
-    }
-}
-
-/// Registers what the desk does: it calls the office, fires an event with the price, and gives that. Goes on with the other bodies.
-fn run_with_buy(
-    alloc: Global,
-    output: &mut impl Write,
-    deployment: Deployment,
-    bodies: Bodies,
-) -> io::Result<()> {
     let office = deployment.names.name_for("office");
     let sell = deployment.names.name_for("sell");
     let sold = deployment.names.name_for("Sold");
-    let body: Body = Box::new(
+    let buy_body: Body = Box::new(
         alloc,
         move |_fields: &Fields, view: &View| -> Result<Act, AllocError>
             ensures { IfOk result
@@ -216,36 +212,30 @@ fn run_with_buy(
             }
         },
     )?;
-    let mut bodies = bodies;
-    let name = deployment.names.name_for("buy");
-    match bodies.add(name, buy_shape(alloc, office, sell, sold)?, body) {
-        Ok(_) => run_with_note(alloc, output, deployment, bodies),
-        Err(_) => Err(wrong()),
-    }
-}
-
-/// Registers what the office does, by a list of prices of its own: it gives the price of a row. Goes on with the other bodies.
-fn run(alloc: Global, output: &mut impl Write) -> io::Result<()> {
-    let deployment = deployment(alloc)?;
-    let prices = vec![in alloc; 40i64, 25, 15]?;
-    let body: Body = Box::new(
+    let takings = deployment.names.name_for("takings");
+    let note_body: Body = Box::new(
         alloc,
-        move |_fields: &Fields, view: &View| -> Result<Act, AllocError>
-            ensures { IfOk result (λ act. in_shape no_acts view.now act ≡ true) }
+        move |fields: &Fields, view: &View| -> Result<Act, AllocError>
+            ensures { IfOk result (λ act. in_shape (spec.note_shape takings) view.now act ≡ true) }
         {
-            let row = usize::try_from(first_argument(view)).unwrap_or(usize::MAX);
-            let price = prices.get(row).copied().unwrap_or(0);
-            Ok(Act::Give {
-                value: Value::Int(price),
+            if view.answers.len() > 0 {
+                return Ok(Act::Give { value: Value::Null });
+            }
+            let total = number_in(fields, takings).saturating_add(first_argument(view));
+            Ok(Act::Set {
+                field: takings,
+                value: Value::Int(total),
             })
         },
     )?;
+    let names = &deployment.names;
+    let buys = buy_shape(alloc, office, sell, sold)?;
+    let notes = note_shape(alloc, takings)?;
     let mut bodies = Bodies::new(alloc);
-    let name = deployment.names.name_for("sell");
-    match bodies.add(name, Shape::new(alloc), body) {
-        Ok(_) => run_with_buy(alloc, output, deployment, bodies),
-        Err(_) => Err(wrong()),
-    }
+    register(names, "sell", Shape::new(alloc), sell_body, &mut bodies)?;
+    register(names, "buy", buys, buy_body, &mut bodies)?;
+    register(names, "note", notes, note_body, &mut bodies)?;
+    run_with(alloc, output, deployment, bodies)
 }
 
 fn main(rt: HostRuntime) -> io::Result<ExitCode> {
