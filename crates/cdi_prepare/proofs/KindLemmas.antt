@@ -31,7 +31,7 @@ use Rattle.cdi_form_mistakes.proofs.NumbersFound.{number-found}
 use Rattle.cdi_step_mistakes.specs.Steps.{step_mistake}
 use Rattle.cdi_prepare.specs.BadStep.{bad_step, mistake_at, mistake_in, script_mistake, step_path}
 use Rattle.cdi_prepare.specs.Hint.{IsHintBy, IsHintFor, bad_form, bad_name, bad_number, mistake_by, mistake_of}
-use Rattle.cdi_prepare.specs.Kinds.{FitsReading, IsForm, IsFormAt, IsList, IsStep, IsSyntax, lists_in}
+use Rattle.cdi_prepare.specs.Kinds.{FitsReading, IsForm, IsFormAt, IsList, IsName, IsNoName, IsStep, IsSyntax, lists_in}
 use Rattle.cdi_prepare.specs.LongList.{class_list_at, first_beyond, first_long_list, item_at, list_at, long_item, long_list_in_classes, long_list_key, long_list_of_class}
 use Rattle.cdi_prepare.specs.Syntax.{IsSyntaxHint, has_mark}
 use Rattle.cdi_prepare.specs.declared.hint.Hint.{Hint}
@@ -126,12 +126,12 @@ form_for : (d : Data) (path : List ℕ) → wrong d root ≡ Some path → IsSom
 form_for d path is = form_at (form_mistake d root) path (form-place d root ∙ is)
 
 name_by : (o : Option PlacedMistake) (text : Option (List ℕ)) → option_map (λ m. m.mistake) o ≡ option_map FormMistake.NoName text
-    → is_none text ≡ false → IsSomeAnd (option_map mistakes.Form o) IsForm
+    → is_none text ≡ false → IsSomeAnd (option_map mistakes.Form o) IsName
 name_by o None found h = absurd cc
 name_by None (Some s) found h = absurd cc
-name_by (Some m) (Some s) found h = tt
+name_by (Some m) (Some s) found h = let same : m.mistake ≡ FormMistake.NoName s = cc in subst IsNoName (sym same) tt
 
-name_for : (d : Data) → names_fit d root ≡ false → IsSomeAnd (bad_name d) IsForm
+name_for : (d : Data) → names_fit d root ≡ false → IsSomeAnd (bad_name d) IsName
 name_for d unfit = name_by (name_mistake d root) (first_bad_name d root) (name-found d root) unfit
 
 -- ---- texts
@@ -158,7 +158,7 @@ number_fits : (lists : Result Deployment ReadFault) (m : Option Mistake) → IsS
 number_fits (Ok deployment) m is = is
 number_fits (Err fault) m is = is
 
-name_fits : (lists : Result Deployment ReadFault) (m : Option Mistake) → IsSomeAnd m IsForm → FitsReading lists (Err faults.BadName) m
+name_fits : (lists : Result Deployment ReadFault) (m : Option Mistake) → IsSomeAnd m IsName → FitsReading lists (Err faults.BadName) m
 name_fits (Ok deployment) m is = is
 name_fits (Err fault) m is = is
 

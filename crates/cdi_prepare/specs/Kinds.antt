@@ -6,6 +6,8 @@ use Rattle.cdi_deploy.specs.Reading.{lists_of, or_not_json}
 use Rattle.cdi_deployment.specs.declared.deployment.Deployment.{Deployment}
 use Rattle.cdi_deploy.specs.declared.fault.ReadFault.{ReadFault}
 use Rattle.cdi_deploy.specs.declared.fault.ReadFault.TheVariants as faults
+use Rattle.cdi_form_mistakes.specs.declared.mistake.FormMistake.{FormMistake}
+use Rattle.cdi_form_mistakes.specs.declared.mistake.FormMistake.TheVariants as form_mistakes
 use Rattle.cdi_prepare.specs.declared.hint.Hint.{Hint}
 use Rattle.cdi_prepare.specs.declared.hint.Mistake.{Mistake}
 use Rattle.cdi_prepare.specs.declared.hint.Mistake.TheVariants as mistakes
@@ -18,10 +20,19 @@ IsSyntax mistakes.NotUtf8 = Unit {0}
 IsSyntax mistakes.NotJson = Unit {0}
 IsSyntax _ = ⊥
 
--- a value, a number or a name is wrong
+-- a value or a number is wrong
 abbrev pub IsForm : Mistake → Type 0
 IsForm (mistakes.Form mistake) = Unit {0}
 IsForm _ = ⊥
+
+-- a text in the place of a name is none
+abbrev pub IsNoName : FormMistake → Type 0
+IsNoName (form_mistakes.NoName text) = Unit {0}
+IsNoName _ = ⊥
+
+abbrev pub IsName : Mistake → Type 0
+IsName (mistakes.Form mistake) = IsNoName mistake.mistake
+IsName _ = ⊥
 
 -- a value is wrong at this path
 abbrev pub IsFormAt : List ℕ → Mistake → Type 0
@@ -42,13 +53,13 @@ IsStep _ = ⊥
 abbrev pub lists_in : List ℕ → Result Deployment ReadFault
 lists_in bytes = or_not_json (json_in bytes) >>= lists_of
 
--- the text for NotJson, the wrong value for Shape, BadNumber and BadName, a list for TooMany where there are lists, at most a step for a deployment, and else none
+-- the text for NotJson, the wrong value for Shape and BadNumber, a name for BadName, a list for TooMany where there are lists, at most a step for a deployment, and else none
 abbrev pub FitsReading : Result Deployment ReadFault → Result Deployment ReadFault → Option Mistake
     → Type 0
 FitsReading lists (Err faults.NotJson) m = IsSomeAnd m IsSyntax
 FitsReading lists (Err (faults.Shape path)) m = IsSomeAnd m (IsFormAt path)
 FitsReading lists (Err faults.BadNumber) m = IsSomeAnd m IsForm
-FitsReading lists (Err faults.BadName) m = IsSomeAnd m IsForm
+FitsReading lists (Err faults.BadName) m = IsSomeAnd m IsName
 FitsReading (Ok deployment) (Err faults.TooMany) m = IsSomeAnd m IsList
 FitsReading lists (Err _) m = m ≡ None
 FitsReading lists (Ok deployment) m = IfSome m IsStep
