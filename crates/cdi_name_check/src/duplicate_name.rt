@@ -27,7 +27,7 @@ fn list_duplicates(alloc: Global, elements: &[Element<'_>]) -> Result<Seq<Place>
 /// The places of the elements that claim for themselves alone what a built-in name or an element before them claims, in their order,
 /// each once: of types, qualifiers, bindings, exceptions, scripts, selected alternatives or enabled interceptors of one name, of
 /// fields and members of one name in a class or an interceptor, and of two callbacks of one kind in a class. It takes time in
-/// proportion to the number of elements, and to that of the places found squared.
+/// proportion to the number of elements.
 pub fn duplicate_places(alloc: Global, elements: &[Element<'_>]) -> Result<Seq<Place>, AllocError>
     ensures { IfOk result (ArePlacesAfter HasDuplicateName (shown elements.now)) }
 {

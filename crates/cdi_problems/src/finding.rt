@@ -3,8 +3,8 @@ ghost use Rattle.std.specs.Prelude.{◌≡◌, IfOk};
 ghost use Rattle.cdi_problems.specs.Elements.{shown};
 ghost use Rattle.cdi_problems.specs.Findings.{ArePlacesOf, ListPlacesWhere};
 
+use crate::distinct::once;
 use crate::element::Element;
-use crate::place::once;
 use cdi_base::{Place, Seq};
 use std::alloc::{AllocError, Global};
 

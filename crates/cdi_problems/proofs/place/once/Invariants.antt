@@ -1,6 +1,0 @@
-use Rattle.std.proofs.Common.{◌≡◌, drop, fold}
-use Rattle.cdi_problems.specs.Places.{with_place, once}
-use Rattle.cdi_problems.proofs.place.once.Given as goal
-
-abbrev pub invariant-loop-place : goal.invariant-loop-place
-invariant-loop-place l = fold with_place l.listed (drop l.place-index l.places) ≡ once l.places
