@@ -1,0 +1,2 @@
+pub mod Explanation
+pub mod Words

@@ -1,0 +1,11 @@
+//! What the words mean that the program writes: faults, problems, refusals, causes of a cut and built-in exceptions.
+#![tactic(auto)]
+
+pub mod explaining;
+pub mod explanation;
+pub mod laws;
+pub mod table;
+
+pub use explaining::{explain, unknown_text};
+pub use explanation::{Explanation, Subject};
+pub use table::explanations;
