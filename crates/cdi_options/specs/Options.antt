@@ -16,12 +16,13 @@ use Rattle.cdi_settings.specs.declared.settings.Order.TheVariants as orders
 use Rattle.cdi_settings.specs.declared.settings.Settings.{Settings}
 use Rattle.cdi_options.specs.declared.options.Mode.{Mode}
 use Rattle.cdi_options.specs.declared.options.Mode.TheVariants as modes
+use Rattle.cdi_options.specs.declared.options.Options.{Options}
 
 -- ---- the form of the words
 
--- the file of the deployment, which has to be given
-abbrev pub file_rule : Rule
-file_rule = record (new_rule (codes "FILE")) { required = true; action = Some Set }
+-- a text that has to be given
+abbrev pub subject_rule : Text → Rule
+subject_rule name = record (new_rule name) { required = true; action = Some Set }
 
 -- an option with one value, of which the help tells a name
 abbrev pub option_rule : Text → Rule
@@ -35,17 +36,24 @@ number_rule name most = record (option_rule name) { parser = Some (Unsigned 1 mo
 abbrev pub flag_rule : Text → Rule
 flag_rule name = record (new_rule name) { long = Some name; action = Some SetTrue }
 
--- a mode with the file
-abbrev pub mode_form : Text → App
-mode_form name = with_rule (new_app name) file_rule
+-- a mode with what it is about
+abbrev pub mode_form : Text → Text → App
+mode_form name subject = with_rule (new_app name) (subject_rule subject)
+
+-- a mode with the file of a deployment
+abbrev pub file_form : Text → App
+file_form name = mode_form name (codes "FILE")
 
 abbrev pub check_form : App
-check_form = mode_form (codes "check")
+check_form = file_form (codes "check")
+
+abbrev pub explain_form : App
+explain_form = mode_form (codes "explain") (codes "WORD")
 
 -- what is set for a run can be told by options
 abbrev pub run_form : App
 run_form =
-    with_rule (with_rule (with_rule (with_rule (with_rule (mode_form (codes "run"))
+    with_rule (with_rule (with_rule (with_rule (with_rule (file_form (codes "run"))
     (number_rule (codes "ticks") 100000)) (number_rule (codes "depth") 1024))
     (option_rule (codes "order"))) (flag_rule (codes "trace"))) (number_rule (codes "slice") 100000)
 
@@ -60,9 +68,11 @@ bare_form =
     let app = new_app (codes "cdi") in
     record app { top = record app.top { subcommand_required = true; has_version = true } }
 
--- the words that the program takes: `cdi check FILE`, or `cdi run FILE` and its options
+-- the words that the program takes: `cdi check FILE`, `cdi run FILE` and its options, or `cdi explain WORD`
 abbrev pub form : App
-form = with_subcommand (with_subcommand bare_form check_form.top) run_form.top
+form =
+    with_subcommand (with_subcommand (with_subcommand bare_form check_form.top) run_form.top)
+    explain_form.top
 
 abbrev pub IsCommand : Command → Type 0
 IsCommand c = app_of c ≡ form
@@ -79,15 +89,22 @@ rows_in words = rows_under (subcommand_of form words)
 -- the mode of a subcommand
 abbrev pub mode_of : Option Text → Mode
 mode_of None = modes.Run
-mode_of (Some name) = if bytes_eq name (codes "check") then modes.Check else modes.Run
+mode_of (Some name) =
+    if bytes_eq name (codes "check") then modes.Check
+    else if bytes_eq name (codes "explain") then modes.Explain
+    else modes.Run
 
 -- the mode that the words name
 abbrev pub mode_in : List Text → Mode
 mode_in words = mode_of (option_map (λ found. found.0) (subcommand_of form words))
 
--- the file that the words name
+-- the file that the words name, if they name one
 abbrev pub file_in : List Text → Text
 file_in words = unwrap_or (first_of (codes "FILE") (rows_in words)) []
+
+-- the word that they ask to explain, if they ask for one
+abbrev pub word_in : List Text → Text
+word_in words = unwrap_or (first_of (codes "WORD") (rows_in words)) []
 
 -- the number in the text of an option, and without the option the usual one
 abbrev pub number_of : ℕ → Option Text → ℕ
@@ -181,16 +198,16 @@ pub record Sets (rows : List Row) (settings : Settings) (slice : ℕ) : Type 0 w
   pub some_slice : 1 ≤ slice
   pub within_slice : slice ≤ 100000
 
--- the words are of the form, and name this mode, this file, these settings and this slice
-pub record AsksFor (words : List Text) (mode : Mode) (file : Text) (settings : Settings)
-    (slice : ℕ) : Type 0 where
+-- the words are of the form, and this is what they name and set
+pub record AsksFor (words : List Text) (options : Options) : Type 0 where
   pub is_fit : faults_in words ≡ []
-  pub names_mode : mode ≡ mode_in words
-  pub names : file ≡ file_in words
-  pub depth : settings.limits.depth ≡ depth_in words
-  pub ticks : settings.limits.ticks ≡ ticks_in words
-  pub order : settings.order ≡ order_in words
-  pub shows_trace : settings.shows_trace ≡ trace_in words
-  pub slice_is : slice ≡ slice_in words
-  pub some_slice : 1 ≤ slice
-  pub within_slice : slice ≤ 100000
+  pub names_mode : options.mode ≡ mode_in words
+  pub names : options.file.now ≡ file_in words
+  pub explains : options.word.now ≡ word_in words
+  pub depth : options.settings.limits.depth ≡ depth_in words
+  pub ticks : options.settings.limits.ticks ≡ ticks_in words
+  pub order : options.settings.order ≡ order_in words
+  pub shows_trace : options.settings.shows_trace ≡ trace_in words
+  pub slice_is : options.slice ≡ slice_in words
+  pub some_slice : 1 ≤ options.slice
+  pub within_slice : options.slice ≤ 100000

@@ -5,7 +5,7 @@ use Rattle.clap.specs.declared.error.kind.ErrorKind.{ErrorKind}
 use Rattle.clap.specs.declared.error.kind.ErrorKind.TheVariants as kinds
 use Rattle.cdi_settings.specs.declared.settings.Order.{Order}
 use Rattle.cdi_settings.specs.declared.settings.Order.TheVariants as orders
-use Rattle.cdi_options.specs.Options.{depth_in, faults_in, file_in, mode_in, order_in, slice_in, ticks_in, trace_in}
+use Rattle.cdi_options.specs.Options.{depth_in, faults_in, file_in, mode_in, order_in, slice_in, ticks_in, trace_in, word_in}
 use Rattle.cdi_options.specs.declared.options.Mode.{Mode}
 use Rattle.cdi_options.specs.declared.options.Mode.TheVariants as modes
 
@@ -14,6 +14,7 @@ pub record Asked : Type 0 where
   pub faults : Kinds
   pub mode : Mode
   pub file : Text
+  pub word : Text
   pub depth : ℕ
   pub ticks : ℕ
   pub order : Order
@@ -28,6 +29,7 @@ asked_by words =
       faults = faults_in all;
       mode = mode_in all;
       file = file_in all;
+      word = word_in all;
       depth = depth_in all;
       ticks = ticks_in all;
       order = order_in all;
@@ -41,6 +43,7 @@ Ask words mode = asked_by words ≡ record {
   faults = [];
   mode = mode;
   file = codes "a.json";
+  word = [];
   depth = 32;
   ticks = 100000;
   order = orders.First;
@@ -54,6 +57,7 @@ SetSo words depth ticks order trace = asked_by words ≡ record {
   faults = [];
   mode = modes.Run;
   file = codes "a.json";
+  word = [];
   depth = depth;
   ticks = ticks;
   order = order;
@@ -67,11 +71,26 @@ TurnSo words slice = asked_by words ≡ record {
   faults = [];
   mode = modes.Run;
   file = codes "a.json";
+  word = [];
   depth = 32;
   ticks = 100000;
   order = orders.First;
   shows_trace = false;
   slice = slice;
+}
+
+-- the words are fit, and ask for the meaning of this word
+abbrev pub ExplainSo : List Text → Text → Type 0
+ExplainSo words word = asked_by words ≡ record {
+  faults = [];
+  mode = modes.Explain;
+  file = [];
+  word = word;
+  depth = 32;
+  ticks = 100000;
+  order = orders.First;
+  shows_trace = false;
+  slice = 100000;
 }
 
 -- the words of a run
@@ -116,6 +135,16 @@ pub record WorkedModes : Type 0 where
       FailBy (run (codes "--trace" ∷ codes "--ticks" ∷ codes "5" ∷ [])) kinds.MissingRequiredArgument
   pub two_files : FailBy (behind (codes "b" ∷ [])) kinds.UnknownArgument
   pub unknown : FailBy (behind (codes "--fast" ∷ [])) kinds.UnknownArgument
+
+-- words that ask for an explanation
+pub record WorkedExplanations : Type 0 where
+  pub word : ExplainSo (codes "explain" ∷ codes "Ambiguous" ∷ []) (codes "Ambiguous")
+  pub number : ExplainSo (codes "explain" ∷ codes "P17" ∷ []) (codes "P17")
+  pub no_word : FailBy (codes "explain" ∷ []) kinds.MissingRequiredArgument
+  pub two_words :
+      FailBy (codes "explain" ∷ codes "P1" ∷ codes "P2" ∷ []) kinds.UnknownArgument
+  pub option_of_run :
+      FailBy (codes "explain" ∷ codes "P1" ∷ codes "--trace" ∷ []) kinds.UnknownArgument
 
 -- words that set something for a run
 pub record WorkedSettings : Type 0 where
@@ -180,6 +209,7 @@ pub record NoneToCheck : Type 0 where
 
 pub record WorkedWords : Type 0 where
   pub modes : WorkedModes
+  pub explanations : WorkedExplanations
   pub settings : WorkedSettings
   pub wrong : WrongSettings
   pub none_to_check : NoneToCheck

@@ -12,13 +12,15 @@ use clap::{Arg, ArgAction, ArgMatches, Command, Error};
 use std::alloc::{AllocError, Global};
 use std::convert::AsStr;
 
-/// What is done with a deployment.
+/// What is done.
 #[derive(Clone, Copy, Debug, PartialEq, Eq)]
 pub enum Mode {
-    /// Its problems are told, or that there is none.
+    /// The problems of a deployment are told, or that there is none.
     Check,
-    /// It is run on command lines.
+    /// A deployment is run on command lines.
     Run,
+    /// A word of the output is explained; there is no deployment.
+    Explain,
 }
 
 /// The most entries that a turn of a command may be set to have.
@@ -27,10 +29,12 @@ pub const MAX_SLICE: u32 = 100_000;
 /// What the words of the command line ask for.
 #[derive(Drop)]
 pub struct Options<'a> {
-    /// What is done with the deployment.
+    /// What is done.
     pub mode: Mode,
-    /// The file of the deployment.
+    /// The file of the deployment, or the empty text if there is none.
     pub file: &'a str,
+    /// The word that is explained, or the empty text if none is.
+    pub word: &'a str,
     /// What is set for a run.
     pub settings: Settings,
     /// By turns of how many entries each command is carried out, from 1 to [`MAX_SLICE`]. No line of the output depends on it.
@@ -71,10 +75,14 @@ Examples:
     [\"did\",[\"give\",1]]
     [\"value\",1]
 
+  cdi explain Ambiguous
+
+  tells what the word Ambiguous means, and so for each fault, problem, refusal, cause and exception
+
 Exit status:
-  0  the deployment is accepted, or each line is answered
+  0  the deployment is accepted, each line is answered, or the word is explained
   1  the deployment is refused; the output says why
-  2  the words of the command line are wrong
+  2  the words of the command line are wrong, or the word isn't known
   3  a file can't be read, or reading, writing or memory failed
   4  each line is answered, but a command was cut, and the container has halted
 
@@ -103,15 +111,28 @@ fn number_option<'a>(alloc: Global, name: &'a str, most: u32, help: &'a str) -> 
     value_option(alloc, name, "N", help).value_parser(ValueParser::unsigned(1, u64::from(most)))
 }
 
-/// The words of a mode: its name, and the file of a deployment.
-fn mode_command<'a>(alloc: Global, name: &'a str, about: &'a str) -> Result<Command<'a>, AllocError>
-    ensures { IfOk result (spec.IsMode (spec.mode_form name.now)) }
+/// The words of a mode: its name, and a text that has to be given.
+fn mode_command<'a>(
+    alloc: Global,
+    name: &'a str,
+    about: &'a str,
+    subject: &'a str,
+    help: &'a str,
+) -> Result<Command<'a>, AllocError>
+    ensures { IfOk result (spec.IsMode (spec.mode_form name.now subject.now)) }
 {
-    let file = Arg::new(alloc, "FILE")
-        .help("The deployment, as JSON")
+    let subject = Arg::new(alloc, subject)
+        .help(help)
         .required(true)
         .action(ArgAction::Set);
-    Command::new(alloc, name).about(about).arg(file)
+    Command::new(alloc, name).about(about).arg(subject)
+}
+
+/// The words of a mode with a deployment: its name, and the file.
+fn file_command<'a>(alloc: Global, name: &'a str, about: &'a str) -> Result<Command<'a>, AllocError>
+    ensures { IfOk result (spec.IsMode (spec.file_form name.now)) }
+{
+    mode_command(alloc, name, about, "FILE", "The deployment, as JSON")
 }
 
 /// The words of a run: those of a mode, and the options that set something for it.
@@ -147,7 +168,7 @@ fn run_command<'a>(alloc: Global) -> Result<Command<'a>, AllocError>
         "The most entries of a turn, by which each command is carried out, from 1 to 100000 [default: 100000]",
     );
     let about = "Runs a deployment on the command lines of the standard input";
-    mode_command(alloc, "run", about)?
+    file_command(alloc, "run", about)?
         .arg(ticks)?
         .arg(depth)?
         .arg(order)?
@@ -159,19 +180,27 @@ fn run_command<'a>(alloc: Global) -> Result<Command<'a>, AllocError>
 fn command<'a>(alloc: Global) -> Result<Command<'a>, AllocError>
     ensures { IfOk result (λ c. spec.IsCommand c) }
 {
-    let check = mode_command(
+    let check = file_command(
         alloc,
         "check",
         "Tells all problems of a deployment, or that it is accepted",
     )?;
     let run = run_command(alloc)?;
+    let explain = mode_command(
+        alloc,
+        "explain",
+        "Tells what a word of the output means",
+        "WORD",
+        "A fault, a problem or its number, a refusal, a cause or an exception",
+    )?;
     Command::new(alloc, "cdi")
         .about("A container for Jakarta Contexts and Dependency Injection")
         .version(VERSION)
         .after_help(NOTES)
         .subcommand_required(true)
         .subcommand(check)?
-        .subcommand(run)
+        .subcommand(run)?
+        .subcommand(explain)
 }
 
 /// The mode that the words name.
@@ -180,6 +209,7 @@ fn mode_in(matches: &ArgMatches<'_>) -> Mode
 {
     match matches.subcommand_name() {
         Some(name) if name == "check" => Mode::Check,
+        Some(name) if name == "explain" => Mode::Explain,
         _ => Mode::Run,
     }
 }
@@ -252,8 +282,7 @@ impl<'a> Options<'a> {
     /// What the words ask for, of which the first is the program's name. An error is a request for help or for the
     /// version, a mistake in the words, or want of memory, and has the text for the user.
     pub fn parse<S: AsStr>(alloc: Global, words: &'a [S]) -> Result<Options<'a>, Error>
-        ensures ok { IfOk result (λ o. spec.AsksFor (map S.text words.entry.now)
-            o.mode o.file.now o.settings o.slice) }
+        ensures ok { IfOk result (spec.AsksFor (map S.text words.entry.now)) }
         ensures err { IfErr result (HasKind (spec.faults_in (map S.text words.entry.now))) }
     {
         let mut command = command(alloc)?;
@@ -262,6 +291,7 @@ impl<'a> Options<'a> {
             Some(RunOptions { settings, slice }) => Ok(Options {
                 mode: mode_in(&matches),
                 file: text_in(&matches, "FILE").unwrap_or(""),
+                word: text_in(&matches, "WORD").unwrap_or(""),
                 settings,
                 slice,
             }),

@@ -14,7 +14,7 @@ TellsSome old new = (text : List ℕ) × PassesOn text old new
 
 -- want of memory shows nothing, and is status 3
 starved : (ends : Ends) (status : ℕ) → AnswersUsage kinds.OutOfMemory ends status → IsUntouched ends × TellsSome ends.errors ends.errors_after × (status ≡ 3)
-starved ends status (AnswersUsage.answers text (AnswersWith.shows is result p t u s)) = absurd cc
+starved ends status (AnswersUsage.answers text (AnswersWith.shows is s)) = absurd cc
 starved ends status (AnswersUsage.answers text (AnswersWith.mistaken is p u s)) = (u, (text, p), s)
 starved ends status (AnswersUsage.starves u p s) = (u, (_, p), s)
 

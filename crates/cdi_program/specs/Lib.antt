@@ -5,3 +5,4 @@ pub mod Program
 pub mod Statuses
 pub mod Streams
 pub mod Telling
+pub mod WordAnswers

@@ -1,5 +1,5 @@
 -- The program: from the words of the command line to the exit status.
-use Rattle.std.specs.Prelude.{◌≡◌, ℕ, true, false, List, codes, map, None, Result, Ok, Err, OnOk, IsTrue}
+use Rattle.std.specs.Prelude.{◌≡◌, ℕ, true, false, List, codes, map, string_bytes, None, Result, Ok, Err, OnOk, IsTrue}
 use Rattle.std.specs.Borrow.{Bor}
 use Rattle.clap.specs.Words.{IsAmong, Text}
 use Rattle.clap.specs.declared.error.kind.ErrorKind.{ErrorKind}
@@ -9,6 +9,7 @@ use Rattle.cdi_lines.specs.Served.{Blames}
 use Rattle.cdi_options.specs.Options.{AsksFor, faults_in}
 use Rattle.cdi_options.specs.declared.options.Mode.{Mode}
 use Rattle.cdi_options.specs.declared.options.Mode.TheVariants as modes
+use Rattle.cdi_options.specs.declared.options.Options.{Options}
 use Rattle.cdi_report.specs.Reports.{ReportsOn}
 use Rattle.cdi_report.specs.Verdicts.{outcome_of as outcome_of_verdict, status_of as status_of_verdict}
 use Rattle.cdi_report.specs.declared.verdict.Verdict.{Verdict}
@@ -16,10 +17,13 @@ use Rattle.cdi_settings.specs.declared.settings.Settings.{Settings}
 use Rattle.cdi_shell.specs.Endings.{outcome_of, status_of as status_of_ending}
 use Rattle.cdi_shell.specs.Laws.{DrivesOnce}
 use Rattle.cdi_shell.specs.declared.ending.Ending.{Ending}
-use Rattle.cdi_program.specs.Lines.{cause_line}
+use Rattle.cdi_program.specs.Lines.{cause_line, file_line}
 use Rattle.cdi_program.specs.Statuses.{is_shown, status_of}
 use Rattle.cdi_program.specs.Streams.{Ends, IsUnread, IsUntouched, Output}
 use Rattle.cdi_program.specs.Telling.{IsLeft, Passes, PassesOn, TellsEnding, TellsFault, TellsOfFile, TellsVerdict}
+use Rattle.cdi_program.specs.WordAnswers.{IsAnswerOn}
+use Rattle.cdi_program.specs.declared.explaining.WordAnswer.{WordAnswer}
+use Rattle.cdi_program.specs.declared.explaining.WordAnswer.TheVariants as answers
 use Rattle.cdi_program.specs.declared.words.WordsError.{WordsError}
 use Rattle.cdi_program.specs.declared.words.WordsError.TheVariants as words_errors
 
@@ -48,12 +52,17 @@ abbrev pub TellsShowing : {T E : Type 0} → Result T E → Output → Output �
 TellsShowing (Ok _) old new = new ≡ old
 TellsShowing (Err _) old new = TellsFault faults.Write old new
 
+-- A text that is asked for is written, or it is told that it could not be. Nothing is read.
+pub record Shows (text : List ℕ) (ends : Ends) (status : ℕ) : Type 0 where
+  pub result : Result (Unit {0}) WriteFailed
+  pub passes : Passes text result ends.output ends.output_after
+  pub tells : TellsShowing result ends.errors ends.errors_after
+  pub is_unread : IsUnread ends
+  pub is_status : status ≡ status_of_showing result
+
 -- This text is written, help or the version; or it tells what is wrong with the words, and so does the status.
 pub data AnswersWith (kind : ErrorKind) (text : List ℕ) (ends : Ends) (status : ℕ) : Type 0 where
-  shows : is_shown kind ≡ true → (result : Result (Unit {0}) WriteFailed)
-      → Passes text result ends.output ends.output_after
-      → TellsShowing result ends.errors ends.errors_after → IsUnread ends
-      → status ≡ status_of_showing result → AnswersWith kind text ends status
+  shows : is_shown kind ≡ true → Shows text ends status → AnswersWith kind text ends status
   mistaken : is_shown kind ≡ false → PassesOn text ends.errors ends.errors_after
       → IsUntouched ends → status ≡ status_of kind → AnswersWith kind text ends status
 
@@ -94,27 +103,52 @@ pub record ChecksBytes (file bytes : List ℕ) (ends : Ends) (status : ℕ) : Ty
   pub tells : TellsVerdict file bytes verdict ends.errors ends.errors_after
   pub is_status : status ≡ status_of_verdict verdict
 
-abbrev pub ServesBytes : Mode → Settings → List ℕ → List ℕ → Ends → ℕ → Type 0
-ServesBytes modes.Check settings file bytes ends status = ChecksBytes file bytes ends status
-ServesBytes modes.Run settings file bytes ends status = RunsBytes settings file bytes ends status
+-- the bytes of a deployment are checked or run
+abbrev pub ServesBytesBy : Mode → Options → List ℕ → Ends → ℕ → Type 0
+ServesBytesBy modes.Check o bytes ends status = ChecksBytes o.file.now bytes ends status
+ServesBytesBy _ o bytes ends status = RunsBytes o.settings o.file.now bytes ends status
+
+abbrev pub ServesBytes : Options → List ℕ → Ends → ℕ → Type 0
+ServesBytes o bytes ends status = ServesBytesBy o.mode o bytes ends status
 
 -- A file is checked or run: the deployment is in the bytes that come of its first 1,048,577, or it can't be read.
 pub data ServesFile (gives : List ℕ → ℕ → List ℕ → Type 0) (unreadable : List ℕ → Type 0)
-    (mode : Mode) (settings : Settings) (path : List ℕ) (ends : Ends) (status : ℕ) : Type 0 where
-  reads : (bytes : List ℕ) → gives path 1048577 bytes
-      → ServesBytes mode settings path bytes ends status
-      → ServesFile gives unreadable mode settings path ends status
-  fails : unreadable path → IsUntouched ends
-      → TellsOfFile path None ends.errors ends.errors_after → status ≡ 3
-      → ServesFile gives unreadable mode settings path ends status
+    (o : Options) (ends : Ends) (status : ℕ) : Type 0 where
+  reads : (bytes : List ℕ) → gives o.file.now 1048577 bytes
+      → ServesBytes o bytes ends status → ServesFile gives unreadable o ends status
+  fails : unreadable o.file.now → IsUntouched ends
+      → TellsOfFile o.file.now None ends.errors ends.errors_after → status ≡ 3
+      → ServesFile gives unreadable o ends status
 
--- Words that ask for a mode check or run the file that they name, with what they set, and others are answered by one of
--- their kinds; or memory ran out. By turns of how many entries a run goes decides nothing of it.
+-- what is told of a word that is to be explained
+abbrev pub Answers : List ℕ → WordAnswer → Ends → ℕ → Type 0
+Answers word (answers.Known text) ends status = Shows (string_bytes text) ends status
+Answers word (answers.Unknown cause) ends status =
+    PassesOn (file_line word (string_bytes cause)) ends.errors ends.errors_after
+    × IsUntouched ends × (status ≡ 2)
+
+-- A word is explained, or it is told that it is none of the output; or memory ran out.
+pub data Explains (word : List ℕ) (ends : Ends) (status : ℕ) : Type 0 where
+  answers_word : (answer : WordAnswer) → IsAnswerOn word answer → Answers word answer ends status
+      → Explains word ends status
+  starves : IsUntouched ends → TellsFault faults.Memory ends.errors ends.errors_after
+      → status ≡ 3 → Explains word ends status
+
+abbrev pub ServesBy : (List ℕ → ℕ → List ℕ → Type 0) → (List ℕ → Type 0) → Mode → Options → Ends
+    → ℕ → Type 0
+ServesBy gives unreadable modes.Explain o ends status = Explains o.word.now ends status
+ServesBy gives unreadable _ o ends status = ServesFile gives unreadable o ends status
+
+-- what the words ask for is done
+abbrev pub Serves : (List ℕ → ℕ → List ℕ → Type 0) → (List ℕ → Type 0) → Options → Ends → ℕ
+    → Type 0
+Serves gives unreadable o ends status = ServesBy gives unreadable o.mode o ends status
+
+-- What words ask for is done, and others are answered by one of their kinds; or memory ran out. By turns of how many entries a run
+-- goes decides nothing of it.
 pub data RunsWords (gives : List ℕ → ℕ → List ℕ → Type 0) (unreadable : List ℕ → Type 0)
     (words : List Text) (ends : Ends) (status : ℕ) : Type 0 where
-  serves : (mode : Mode) (path : List ℕ) (settings : Settings) (slice : ℕ)
-      → AsksFor words mode path settings slice
-      → ServesFile gives unreadable mode settings path ends status
+  serves : (options : Options) → AsksFor words options → Serves gives unreadable options ends status
       → RunsWords gives unreadable words ends status
   tells : (kind : ErrorKind) → IsAmong kind (faults_in words) → AnswersUsage kind ends status
       → RunsWords gives unreadable words ends status

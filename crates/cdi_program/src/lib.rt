@@ -2,6 +2,7 @@
 #![tactic(auto)]
 
 mod advising;
+mod explaining;
 pub mod files;
 pub mod program;
 pub mod status;

@@ -4,9 +4,10 @@ ghost use Rattle.clap.specs.Words.{kind_of};
 ghost use Rattle.cdi_program.specs.Program as spec;
 ghost use Rattle.cdi_program.specs.Streams.{ends_of, input_of, output_of};
 
+use crate::explaining::{WordAnswer, answer_on};
 use crate::files::Files;
-use crate::status::{FAULT, is_shown, status_of};
-use crate::telling::{tell, tell_ending, tell_of_file, tell_verdict};
+use crate::status::{FAULT, USAGE, is_shown, status_of};
+use crate::telling::{tell, tell_ending, tell_in, tell_of_file, tell_verdict};
 use crate::words::WordsError;
 use cdi_lines::{ServeFault, Sink, Source};
 use cdi_options::{Mode, Options};
@@ -19,6 +20,28 @@ use std::convert::AsStr;
 
 /// The most bytes that are read of a file: one more than a deployment has at most, so that a longer one is told as that.
 pub const MAX_READ: usize = 1_048_577;
+
+/// Writes a text that is asked for.
+pub(crate) fn show<R: Source, W: Sink, E: Sink>(
+    text: &str,
+    input: &R,
+    output: &mut W,
+    errors: &mut E,
+) -> u8
+    ensures { spec.Shows text.now
+        (ends_of (input_of R.unread R.has_failed)
+        (output_of W.written W.has_failed W.is_passed_on)
+        (output_of E.written E.has_failed E.is_passed_on)
+        input.now input.now output.old output.new errors.old errors.new) result }
+{
+    match output.write_through(text.as_bytes()) {
+        Ok(()) => 0,
+        Err(_) => {
+            tell(errors, ServeFault::Write.text());
+            FAULT
+        }
+    }
+}
 
 /// Writes a text that the words ask for, or one that tells what is wrong with them.
 fn answer_with<R: Source, W: Sink, E: Sink>(
@@ -38,13 +61,7 @@ fn answer_with<R: Source, W: Sink, E: Sink>(
         let _ = errors.write_through(text.as_bytes());
         return status_of(kind);
     }
-    match output.write_through(text.as_bytes()) {
-        Ok(()) => 0,
-        Err(_) => {
-            tell(errors, ServeFault::Write.text());
-            FAULT
-        }
-    }
+    show(text, input, output, errors)
 }
 
 /// Writes what the words ask for, or tells what is wrong with them.
@@ -110,7 +127,34 @@ fn run_bytes<R: Source, W: Sink, E: Sink>(
     ending.status()
 }
 
-/// Does what the words ask for with the bytes of a deployment.
+/// Explains a word of the output.
+fn explain_word<R: Source, W: Sink, E: Sink>(
+    alloc: Global,
+    word: &str,
+    input: &R,
+    output: &mut W,
+    errors: &mut E,
+) -> u8
+    ensures { spec.Explains word.now
+        (ends_of (input_of R.unread R.has_failed)
+        (output_of W.written W.has_failed W.is_passed_on)
+        (output_of E.written E.has_failed E.is_passed_on)
+        input.now input.now output.old output.new errors.old errors.new) result }
+{
+    match answer_on(alloc, word) {
+        Ok(WordAnswer::Known(text)) => show(&text, input, output, errors),
+        Ok(WordAnswer::Unknown(cause)) => {
+            tell_in(errors, word, &cause);
+            USAGE
+        }
+        Err(_) => {
+            tell(errors, ServeFault::Memory.text());
+            FAULT
+        }
+    }
+}
+
+/// Does what the words ask for with the bytes of a deployment: checks it, or else runs it.
 fn serve_bytes<R: Source, W: Sink, E: Sink>(
     alloc: Global,
     options: &Options<'_>,
@@ -119,7 +163,7 @@ fn serve_bytes<R: Source, W: Sink, E: Sink>(
     output: &mut W,
     errors: &mut E,
 ) -> u8
-    ensures { spec.ServesBytes options.now.mode options.now.settings options.now.file.now bytes.now
+    ensures { spec.ServesBytes options.now bytes.now
         (ends_of (input_of R.unread R.has_failed)
         (output_of W.written W.has_failed W.is_passed_on)
         (output_of E.written E.has_failed E.is_passed_on)
@@ -127,12 +171,12 @@ fn serve_bytes<R: Source, W: Sink, E: Sink>(
 {
     match options.mode {
         Mode::Check => check_bytes(alloc, options.file, bytes, input, output, errors),
-        Mode::Run => run_bytes(alloc, options, bytes, input, output, errors),
+        _ => run_bytes(alloc, options, bytes, input, output, errors),
     }
 }
 
-/// Does what the words ask for.
-fn serve_options<F: Files, R: Source, W: Sink, E: Sink>(
+/// Checks or runs the deployment in a file.
+fn serve_file<F: Files, R: Source, W: Sink, E: Sink>(
     alloc: Global,
     options: &Options<'_>,
     files: &F,
@@ -140,8 +184,7 @@ fn serve_options<F: Files, R: Source, W: Sink, E: Sink>(
     output: &mut W,
     errors: &mut E,
 ) -> u8
-    ensures { spec.ServesFile (F.gives files.now) (F.refuses files.now)
-        options.now.mode options.now.settings options.now.file.now
+    ensures { spec.ServesFile (F.gives files.now) (F.refuses files.now) options.now
         (ends_of (input_of R.unread R.has_failed)
         (output_of W.written W.has_failed W.is_passed_on)
         (output_of E.written E.has_failed E.is_passed_on)
@@ -156,9 +199,31 @@ fn serve_options<F: Files, R: Source, W: Sink, E: Sink>(
     }
 }
 
+/// Does what the words ask for.
+fn serve_options<F: Files, R: Source, W: Sink, E: Sink>(
+    alloc: Global,
+    options: &Options<'_>,
+    files: &F,
+    input: &mut R,
+    output: &mut W,
+    errors: &mut E,
+) -> u8
+    ensures { spec.Serves (F.gives files.now) (F.refuses files.now) options.now
+        (ends_of (input_of R.unread R.has_failed)
+        (output_of W.written W.has_failed W.is_passed_on)
+        (output_of E.written E.has_failed E.is_passed_on)
+        input.old input.new output.old output.new errors.old errors.new) result }
+{
+    match options.mode {
+        Mode::Explain => explain_word(alloc, options.word, input, output, errors),
+        _ => serve_file(alloc, options, files, input, output, errors),
+    }
+}
+
 /// Runs the program, from what came of asking for its words to the exit status.
 ///
-/// Words that ask for a mode name the file of a deployment, which is read up to [`MAX_READ`] bytes. [`Mode::Check`] tells
+/// [`Mode::Explain`] writes what a word of the output means, with status 0, and reads nothing; a word that isn't known is status 2.
+/// The other modes name the file of a deployment, which is read up to [`MAX_READ`] bytes. [`Mode::Check`] tells
 /// its problems as [`report`] does, reads nothing, and the status is that of the verdict ([`cdi_report::Verdict::status`]).
 /// [`Mode::Run`] runs it as [`drive`] does, with what the words set for it, and the status is that of how the run ended
 /// ([`cdi_shell::Ending::status`]). Help and the version go to the output, and are passed on, with status 0. Wrong words

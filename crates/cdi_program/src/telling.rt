@@ -59,6 +59,15 @@ pub(crate) fn tell<E: Sink>(errors: &mut E, cause: &str)
     let _ = write_cause(errors, cause);
 }
 
+/// Tells the user of a cause that lies in a file, or in a word.
+pub(crate) fn tell_in<E: Sink>(errors: &mut E, subject: &str, cause: &str)
+    ensures { spec.PassesOn (lines.file_line subject.now cause.now)
+        (output_of E.written E.has_failed E.is_passed_on errors.old)
+        (output_of E.written E.has_failed E.is_passed_on errors.new) }
+{
+    let _ = write_of_file(errors, subject, cause);
+}
+
 /// Tells the user what is wrong with a file.
 pub(crate) fn tell_of_file<E: Sink, C: Display>(
     alloc: Global,

@@ -23,4 +23,7 @@ returns c =
     ∙ ap (λ (f : Command-F Command). told (app_of_fields f)) c.about.ensures ∙ ap told c.new.ensures.app in
     let checks_is : app_of c.in_ok-subcommand.field-0 ≡ with_mode spec.bare_form spec.check_form =
     c.in_ok-subcommand.ensures.shape c.in_ok-check.ensures.none_global ∙ ap₂ with_mode bare_is check_is in
-    IfOk-weaker c.subcommand-2.result _ _ (λ app added. added.shape c.in_ok-run.ensures.none_global ∙ ap₂ with_mode checks_is run_is) c.subcommand-2.ensures
+    let runs_is : app_of c.in_ok-subcommand-2.field-0 ≡ with_mode (with_mode spec.bare_form spec.check_form) spec.run_form =
+    c.in_ok-subcommand-2.ensures.shape c.in_ok-run.ensures.none_global ∙ ap₂ with_mode checks_is run_is in
+    let explain_is : app_of c.in_ok-explain.explain ≡ spec.explain_form = c.in_ok-explain.ensures.form in
+    IfOk-weaker c.subcommand-3.result _ _ (λ app added. added.shape c.in_ok-explain.ensures.none_global ∙ ap₂ with_mode runs_is explain_is) c.subcommand-3.ensures

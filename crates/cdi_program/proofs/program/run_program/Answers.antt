@@ -5,7 +5,7 @@ use Rattle.cdi_program.proofs.Usage.{usage}
 use Rattle.cdi_program.proofs.program.run_program.Goals as goal
 
 pub returns-in-Ok-parse : goal.returns-in-Ok-parse
-returns-in-Ok-parse g c = rw c.in-Ok.is (serves _ _ _ _ c.in-Ok-parse.ensures.ok c.serve_options.ensures)
+returns-in-Ok-parse g c = rw c.in-Ok.is (serves _ c.in-Ok-parse.ensures.ok c.serve_options.ensures)
 
 pub returns-in-Err-parse : goal.returns-in-Err-parse
 returns-in-Err-parse g c =

@@ -1,6 +1,6 @@
 use Rattle.std.proofs.Common.{rules, ◌≡◌, refl}
 use Rattle.cdi_program.specs.Program.ServesFile.{reads, fails}
-use Rattle.cdi_program.proofs.program.serve_options.Goals as goal
+use Rattle.cdi_program.proofs.program.serve_file.Goals as goal
 
 pub returns-in-Ok : goal.returns-in-Ok
 returns-in-Ok g c =
