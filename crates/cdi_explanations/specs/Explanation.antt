@@ -56,4 +56,5 @@ suggestion (Some near) = codes " (did you mean " ++ (near ++ codes "?)")
 -- what is told of a word that isn't explained
 abbrev pub unknown_text : List ℕ → List Explanation → List ℕ
 unknown_text word explanations =
-    codes "no word of the output" ++ suggestion (meant word explanations)
+    codes "no such fault, problem, refusal, cause or exception"
+    ++ suggestion (meant word explanations)

@@ -106,5 +106,5 @@ pub fn unknown_text(
 {
     let near = meant(alloc, explanations, word)?;
     let suggestion = suggestion(alloc, near)?;
-    format!(in alloc; "no word of the output{suggestion}")
+    format!(in alloc; "no such fault, problem, refusal, cause or exception{suggestion}")
 }
