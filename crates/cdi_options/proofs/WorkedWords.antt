@@ -1,7 +1,7 @@
 -- The worked words, computed.
 use Rattle.std.proofs.Common.{refl}
 use Rattle.clap.proofs.OnLiterals.{clap_on_literals}
-use Rattle.cdi_options.specs.WorkedWords.{NoneToCheck, WorkedExplanations, WorkedModes, WorkedSettings, WorkedWords, WrongSettings}
+use Rattle.cdi_options.specs.WorkedWords.{NoneToCheck, WorkedExplanations, WorkedJson, WorkedModes, WorkedSettings, WorkedWords, WrongSettings}
 
 -- words that ask for a mode, for help or the version, or that are wrong
 worked_modes : WorkedModes
@@ -21,6 +21,16 @@ worked_modes = record {
   no_file_but_options = refl;
   two_files = refl;
   unknown = refl;
+}
+
+-- words that ask for a check as JSON
+worked_json : WorkedJson
+unfolding clap_on_literals
+worked_json = record {
+  behind_file = refl;
+  before_file = refl;
+  not_of_run = refl;
+  no_value = refl;
 }
 
 -- words that ask for an explanation
@@ -98,4 +108,4 @@ worked_none_to_check = record {
 }
 
 pub worked_words : WorkedWords
-worked_words = record { modes = worked_modes; explanations = worked_explanations; settings = worked_settings; wrong = worked_wrong; none_to_check = worked_none_to_check }
+worked_words = record { modes = worked_modes; json = worked_json; explanations = worked_explanations; settings = worked_settings; wrong = worked_wrong; none_to_check = worked_none_to_check }

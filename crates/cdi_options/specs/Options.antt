@@ -44,8 +44,9 @@ mode_form name subject = with_rule (new_app name) (subject_rule subject)
 abbrev pub file_form : Text → App
 file_form name = mode_form name (codes "FILE")
 
+-- how a check writes can be told by an option
 abbrev pub check_form : App
-check_form = file_form (codes "check")
+check_form = with_rule (file_form (codes "check")) (flag_rule (codes "json"))
 
 abbrev pub explain_form : App
 explain_form = mode_form (codes "explain") (codes "WORD")
@@ -148,8 +149,15 @@ order_under rows = order_of (first_of (codes "order") rows)
 abbrev pub trace_under : List Row → Bool
 trace_under rows = is_set (first_of (codes "trace") rows)
 
+abbrev pub json_under : List Row → Bool
+json_under rows = is_set (first_of (codes "json") rows)
+
 abbrev pub slice_under : List Row → ℕ
 slice_under rows = number_of 100000 (first_of (codes "slice") rows)
+
+-- a check writes JSON
+abbrev pub json_in : List Text → Bool
+json_in words = json_under (rows_in words)
 
 -- what the words set: 32 levels, 100,000 entries, the first candidate, no trace and turns of 100,000 entries, if they say nothing
 -- of it
@@ -204,6 +212,7 @@ pub record AsksFor (words : List Text) (options : Options) : Type 0 where
   pub names_mode : options.mode ≡ mode_in words
   pub names : options.file.now ≡ file_in words
   pub explains : options.word.now ≡ word_in words
+  pub writes_json : options.writes_json ≡ json_in words
   pub depth : options.settings.limits.depth ≡ depth_in words
   pub ticks : options.settings.limits.ticks ≡ ticks_in words
   pub order : options.settings.order ≡ order_in words

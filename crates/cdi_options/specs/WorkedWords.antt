@@ -5,7 +5,7 @@ use Rattle.clap.specs.declared.error.kind.ErrorKind.{ErrorKind}
 use Rattle.clap.specs.declared.error.kind.ErrorKind.TheVariants as kinds
 use Rattle.cdi_settings.specs.declared.settings.Order.{Order}
 use Rattle.cdi_settings.specs.declared.settings.Order.TheVariants as orders
-use Rattle.cdi_options.specs.Options.{depth_in, faults_in, file_in, mode_in, order_in, slice_in, ticks_in, trace_in, word_in}
+use Rattle.cdi_options.specs.Options.{depth_in, faults_in, file_in, json_in, mode_in, order_in, slice_in, ticks_in, trace_in, word_in}
 use Rattle.cdi_options.specs.declared.options.Mode.{Mode}
 use Rattle.cdi_options.specs.declared.options.Mode.TheVariants as modes
 
@@ -15,6 +15,7 @@ pub record Asked : Type 0 where
   pub mode : Mode
   pub file : Text
   pub word : Text
+  pub writes_json : Bool
   pub depth : ℕ
   pub ticks : ℕ
   pub order : Order
@@ -30,6 +31,7 @@ asked_by words =
       mode = mode_in all;
       file = file_in all;
       word = word_in all;
+      writes_json = json_in all;
       depth = depth_in all;
       ticks = ticks_in all;
       order = order_in all;
@@ -44,6 +46,7 @@ Ask words mode = asked_by words ≡ record {
   mode = mode;
   file = codes "a.json";
   word = [];
+  writes_json = false;
   depth = 32;
   ticks = 100000;
   order = orders.First;
@@ -58,6 +61,7 @@ SetSo words depth ticks order trace = asked_by words ≡ record {
   mode = modes.Run;
   file = codes "a.json";
   word = [];
+  writes_json = false;
   depth = depth;
   ticks = ticks;
   order = order;
@@ -72,6 +76,7 @@ TurnSo words slice = asked_by words ≡ record {
   mode = modes.Run;
   file = codes "a.json";
   word = [];
+  writes_json = false;
   depth = 32;
   ticks = 100000;
   order = orders.First;
@@ -86,6 +91,7 @@ ExplainSo words word = asked_by words ≡ record {
   mode = modes.Explain;
   file = [];
   word = word;
+  writes_json = false;
   depth = 32;
   ticks = 100000;
   order = orders.First;
@@ -135,6 +141,28 @@ pub record WorkedModes : Type 0 where
       FailBy (run (codes "--trace" ∷ codes "--ticks" ∷ codes "5" ∷ [])) kinds.MissingRequiredArgument
   pub two_files : FailBy (behind (codes "b" ∷ [])) kinds.UnknownArgument
   pub unknown : FailBy (behind (codes "--fast" ∷ [])) kinds.UnknownArgument
+
+-- words that ask for a check that writes JSON
+abbrev pub CheckAsJson : List Text → Type 0
+CheckAsJson words = asked_by words ≡ record {
+  faults = [];
+  mode = modes.Check;
+  file = codes "a.json";
+  word = [];
+  writes_json = true;
+  depth = 32;
+  ticks = 100000;
+  order = orders.First;
+  shows_trace = false;
+  slice = 100000;
+}
+
+-- words that ask for a check as JSON
+pub record WorkedJson : Type 0 where
+  pub behind_file : CheckAsJson (codes "check" ∷ codes "a.json" ∷ codes "--json" ∷ [])
+  pub before_file : CheckAsJson (codes "check" ∷ codes "--json" ∷ codes "a.json" ∷ [])
+  pub not_of_run : FailBy (behind (codes "--json" ∷ [])) kinds.UnknownArgument
+  pub no_value : FailBy (codes "check" ∷ codes "a.json" ∷ codes "--json=1" ∷ []) kinds.TooManyValues
 
 -- words that ask for an explanation
 pub record WorkedExplanations : Type 0 where
@@ -209,6 +237,7 @@ pub record NoneToCheck : Type 0 where
 
 pub record WorkedWords : Type 0 where
   pub modes : WorkedModes
+  pub json : WorkedJson
   pub explanations : WorkedExplanations
   pub settings : WorkedSettings
   pub wrong : WrongSettings

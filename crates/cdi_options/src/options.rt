@@ -35,6 +35,8 @@ pub struct Options<'a> {
     pub file: &'a str,
     /// The word that is explained, or the empty text if none is.
     pub word: &'a str,
+    /// Whether a check writes what is wrong as lines of JSON.
+    pub writes_json: bool,
     /// What is set for a run.
     pub settings: Settings,
     /// By turns of how many entries each command is carried out, from 1 to [`MAX_SLICE`]. No line of the output depends on it.
@@ -135,6 +137,30 @@ fn file_command<'a>(alloc: Global, name: &'a str, about: &'a str) -> Result<Comm
     mode_command(alloc, name, about, "FILE", "The deployment, as JSON")
 }
 
+/// A flag, of which the help tells something.
+fn flag_option<'a>(alloc: Global, name: &'a str, help: &'a str) -> Arg<'a>
+    ensures rule { rule_of result ≡ spec.flag_rule name.now }
+    ensures own { result.global ≡ false }
+{
+    Arg::new(alloc, name)
+        .long(name)
+        .help(help)
+        .action(ArgAction::SetTrue)
+}
+
+/// The words of a check: those of a mode, and how it writes.
+fn check_command<'a>(alloc: Global) -> Result<Command<'a>, AllocError>
+    ensures { IfOk result (spec.IsMode spec.check_form) }
+{
+    let json = flag_option(
+        alloc,
+        "json",
+        "Writes what is wrong as JSON, an object in a line, with its place in the file",
+    );
+    let about = "Tells all problems of a deployment, or that it is accepted";
+    file_command(alloc, "check", about)?.arg(json)
+}
+
 /// The words of a run: those of a mode, and the options that set something for it.
 fn run_command<'a>(alloc: Global) -> Result<Command<'a>, AllocError>
     ensures { IfOk result (spec.IsMode spec.run_form) }
@@ -157,10 +183,11 @@ fn run_command<'a>(alloc: Global) -> Result<Command<'a>, AllocError>
         "first|last",
         "The candidate that is taken where the rules leave the order open [default: first]",
     );
-    let trace = Arg::new(alloc, "trace")
-        .long("trace")
-        .help("Writes the entries of each command before its reply")
-        .action(ArgAction::SetTrue);
+    let trace = flag_option(
+        alloc,
+        "trace",
+        "Writes the entries of each command before its reply",
+    );
     let slice = number_option(
         alloc,
         "slice",
@@ -180,11 +207,7 @@ fn run_command<'a>(alloc: Global) -> Result<Command<'a>, AllocError>
 fn command<'a>(alloc: Global) -> Result<Command<'a>, AllocError>
     ensures { IfOk result (λ c. spec.IsCommand c) }
 {
-    let check = file_command(
-        alloc,
-        "check",
-        "Tells all problems of a deployment, or that it is accepted",
-    )?;
+    let check = check_command(alloc)?;
     let run = run_command(alloc)?;
     let explain = mode_command(
         alloc,
@@ -292,6 +315,7 @@ impl<'a> Options<'a> {
                 mode: mode_in(&matches),
                 file: text_in(&matches, "FILE").unwrap_or(""),
                 word: text_in(&matches, "WORD").unwrap_or(""),
+                writes_json: is_set(text_in(&matches, "json")),
                 settings,
                 slice,
             }),

@@ -1,4 +1,4 @@
-use Rattle.std.proofs.Common.{rules, ap₂, ◌≡◌, ◌∙◌, ◌||◌, Bool, codes, false}
+use Rattle.std.proofs.Common.{ap₂, ◌≡◌, ◌∙◌, ◌||◌, Bool, codes, false}
 use Rattle.std.proofs.lemmas.Result.{IfOk-weaker}
 use Rattle.clap.specs.Words.{app_of, rule_of, with_rule}
 use Rattle.cdi_options.specs.Options as spec
@@ -13,12 +13,12 @@ returns c =
     let ticks_is : rule_of c.number_option-ticks.result ≡ spec.number_rule (codes "ticks") 100000 = c.number_option-ticks.ensures.rule in
     let depth_is : rule_of c.number_option-depth.result ≡ spec.number_rule (codes "depth") 1024 = c.number_option-depth.ensures.rule in
     let order_is : rule_of c.value_option-order.result ≡ spec.option_rule (codes "order") = c.value_option-order.ensures.rule in
-    let trace_is : rule_of c.action-trace.result ≡ spec.flag_rule (codes "trace") = search rules in
+    let trace_is : rule_of c.flag_option-trace.result ≡ spec.flag_rule (codes "trace") = c.flag_option-trace.ensures.rule in
     let mode_is : app_of c.in_ok-file_command.field-0 ≡ spec.file_form (codes "run") = c.in_ok-file_command.ensures.form in
     let with_ticks = c.in_ok-arg.ensures.shape c.number_option-ticks.ensures.own ∙ ap₂ with_rule mode_is ticks_is in
     let with_depth = c.in_ok-arg-2.ensures.shape c.number_option-depth.ensures.own ∙ ap₂ with_rule with_ticks depth_is in
     let with_order = c.in_ok-arg-3.ensures.shape c.value_option-order.ensures.own ∙ ap₂ with_rule with_depth order_is in
-    let trace_own : c.action-trace.result.global ≡ false = search rules in
+    let trace_own : c.flag_option-trace.result.global ≡ false = c.flag_option-trace.ensures.own in
     let with_trace = c.in_ok-arg-4.ensures.shape trace_own ∙ ap₂ with_rule with_order trace_is in
     let slice_is : rule_of c.number_option-slice.result ≡ spec.number_rule (codes "slice") 100000 = c.number_option-slice.ensures.rule in
     let none_of_one = neither _ _ _ c.in_ok-arg.ensures.globals c.in_ok-file_command.ensures.none_global c.number_option-ticks.ensures.own in

@@ -34,6 +34,7 @@ returns-in-Some-clause-ok g c =
           ∙ ap (λ (file : Option Text). unwrap_or file []) (c.text_in.ensures ∙ ap (λ (o : Option (Text × List Row)). first_of (codes "FILE") (spec.rows_under o)) found);
       explains = ap (λ (text : Bor Text). text.now) c.unwrap_or-in-Some.ensures ∙ now_or_empty c.text_in-in-Some.result _ refl
           ∙ ap (λ (word : Option Text). unwrap_or word []) (c.text_in-in-Some.ensures ∙ ap (λ (o : Option (Text × List Row)). first_of (codes "WORD") (spec.rows_under o)) found);
+      writes_json = c.is_set.ensures ∙ ap spec.is_set (c.text_in-in-Some-2.ensures ∙ ap (λ (o : Option (Text × List Row)). first_of (codes "json") (spec.rows_under o)) found);
       depth = sets.depth;
       ticks = sets.ticks;
       order = sets.order;
