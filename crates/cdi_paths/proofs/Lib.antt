@@ -3,3 +3,4 @@ pub mod Paths
 pub mod Rows
 pub mod Heights
 pub mod OneWay
+pub mod Walks

@@ -2,3 +2,4 @@ pub mod Graph
 pub mod Height
 pub mod BitRow
 pub mod Rounds
+pub mod Marks

@@ -2,7 +2,10 @@
 #![tactic(auto)]
 
 mod bit_row;
+pub mod cycles;
 pub mod path_laws;
 pub mod reachability;
+mod walk;
 
+pub use cycles::Cycles;
 pub use reachability::Reachability;
