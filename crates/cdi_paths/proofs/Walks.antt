@@ -1,7 +1,7 @@
 -- Walks that mark each node that they come to.
 use Rattle.std.proofs.Common.{◌≡◌, ◌∙◌, ◌↔◌, IsTrue, ℕ, zero, suc, ◌+◌, ◌<◌, Bool, true, false, List, [], ◌∷◌, ◌++◌, length, set, replicate, refl, sym, ap, subst, ◌⊎◌, inl, inr, arith, get_or-set_same, get_or-set_other}
 use Rattle.std.proofs.lemmas.Bool.{cases_Bool, cases_eq, cases_lt, true≢false}
-use Rattle.std.proofs.lemmas.List.{get_or_past, get_or_push, get_or_append_left, length_push}
+use Rattle.std.proofs.lemmas.List.{get_or_past, length_push}
 use Rattle.std.proofs.lemmas.List.Elements.{Contains-append_left, Contains-push, Contains-push_cases}
 use Rattle.std.specs.List.{Contains}
 use Rattle.cdi_paths.specs.Graph.{targets_of, IsGraph, Path, ProperPath}
@@ -9,7 +9,7 @@ use Rattle.cdi_paths.proofs.Paths.{edge_within}
 use Rattle.cdi_paths.specs.Marks.{is_marked, unmarked_count, IsNewTarget, HasMarked, IsFound, IsClosed, HasWalked}
 
 -- one mark more
-marked_same : (marks : List Bool) (a : ℕ) → a < length marks → is_marked (set marks a true) a ≡ true
+pub marked_same : (marks : List Bool) (a : ℕ) → a < length marks → is_marked (set marks a true) a ≡ true
 marked_same marks a lt = get_or-set_same marks a true false lt
 
 pub marked_kept : (marks : List Bool) (t a : ℕ) → is_marked marks a ≡ true → is_marked (set marks t true) a ≡ true
@@ -158,35 +158,14 @@ ahead_within graph root old new ahead rest a ok lt w is =
       | inr found ↦ found_within graph ok old root a found
     ]
 
+-- before the first mark
 pub unmarked : (n a : ℕ) → is_marked (replicate n false) a ≡ false
 unmarked zero a = refl
 unmarked (suc n) zero = refl
 unmarked (suc n) (suc a) = unmarked n a
 
--- without marks a node gets one exactly if it lies on a cycle
 pub none_closed : (graph : List (List ℕ)) (n : ℕ) → IsClosed graph (replicate n false)
 none_closed graph n a b h e = absurd (true≢false (sym h ∙ unmarked n a))
-
-pub leads_back_told : (graph : List (List ℕ)) (root : ℕ) (marks : List Bool) → HasWalked graph root (replicate (length graph) false) marks → IsTrue (is_marked marks root) ↔ ProperPath graph root root
-leads_back_told graph root marks w = (
-  λ h. elim (w.found root h) [ inl was ↦ absurd (true≢false (sym was ∙ unmarked (length graph) root)) | inr found ↦ path_from_found graph (replicate (length graph) false) root root found ],
-  λ p. marked_by_path graph marks p.0 root w.closed p.2 (w.begun p.0 p.1),
-)
-
-pub told_push : (graph : List (List ℕ)) (marks : List Bool) (m : Bool) (n : ℕ) → length marks ≡ n → ((a : ℕ) → a < n → IsTrue (is_marked marks a) ↔ ProperPath graph a a) → IsTrue m ↔ ProperPath graph n n
-    → (a : ℕ) → a < n + 1 → IsTrue (is_marked (marks ++ m ∷ []) a) ↔ ProperPath graph a a
-told_push graph marks m n len told last a lt = elim (cases_eq a n) [
-  | inl same ↦ (
-      let is : is_marked (marks ++ m ∷ []) a ≡ m = get_or_push marks m false a (len ∙ sym same) in
-      let P : ℕ → Type 0 = λ b. IsTrue m ↔ ProperPath graph b b in
-      rw is (subst P (sym same) last)
-      )
-  | inr other ↦ (
-      let within : a < length marks = omega arith in
-      let is : is_marked (marks ++ m ∷ []) a ≡ is_marked marks a = get_or_append_left marks (m ∷ []) false a within in
-      rw is (told a (omega arith))
-      )
-]
 
 -- past the last row there is neither a mark nor a path
 pub told_all : (graph : List (List ℕ)) (marks : List Bool) → length marks ≡ length graph → ((a : ℕ) → a < length graph → IsTrue (is_marked marks a) ↔ ProperPath graph a a)

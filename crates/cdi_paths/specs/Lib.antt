@@ -3,3 +3,6 @@ pub mod Height
 pub mod BitRow
 pub mod Rounds
 pub mod Marks
+pub mod Reversed
+pub mod FinishOrder
+pub mod Steps

@@ -1,5 +1,5 @@
 -- Nodes with a mark, and walks to nodes without one.
-use Rattle.std.specs.Prelude.{ℕ, suc, [], ◌∷◌, ◌≡◌, ◌+◌, ◌↔◌, List, Bool, true, false, ◌⊎◌, IsTrue, length, slice_index_or, Contains}
+use Rattle.std.specs.Prelude.{ℕ, suc, [], ◌∷◌, ◌≡◌, ◌+◌, ◌↔◌, List, Bool, true, false, ◌⊎◌, IsTrue, length, slice_index_or, slice_set, Contains}
 use Rattle.cdi_paths.specs.Graph.{targets_of, ProperPath}
 
 -- past the last mark no node has one
@@ -49,3 +49,11 @@ pub record HasWalked (graph : List (List ℕ)) (root : ℕ) (old new : List Bool
 -- the nodes with a mark are those that lie on a cycle
 abbrev pub HasMarkedCycles : List (List ℕ) → List Bool → Type 0
 HasMarkedCycles graph marks = (a : ℕ) → IsTrue (is_marked marks a) ↔ ProperPath graph a a
+
+-- the marks after a walk from a root, with one for the root, and whether the walk came back to it
+pub record HasSeenGroup (graph : List (List ℕ)) (root : ℕ) (old new : List Bool) (back : Bool) : Type 0 where
+  pub walked : List Bool
+  pub len : length walked ≡ length old
+  pub walk : HasWalked graph root old walked
+  pub back_is : back ≡ is_marked walked root
+  pub new_is : new ≡ slice_set walked root true

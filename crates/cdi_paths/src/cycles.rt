@@ -1,8 +1,13 @@
 //! Which nodes of a graph lie on a cycle.
+//!
+//! A walk in depth over the graph gives an order of its nodes, and walks over the graph with its edges the other way round, from one node
+//! after another in that order, then find those that lead to each other (Kosaraju's algorithm).
 ghost use Rattle.std.specs.Prelude.{◌≡◌, ◌<◌, ◌↔◌, ℕ, length, IsTrue, IfOk};
 ghost use Rattle.cdi_paths.specs.Graph.{IsGraph, ProperPath};
-ghost use Rattle.cdi_paths.specs.Marks.{is_marked, HasMarkedCycles};
+ghost use Rattle.cdi_paths.specs.Marks.{HasMarkedCycles, HasSeenGroup, IsClosed};
 
+use crate::finish_order::finish_order;
+use crate::reversed::reversed;
 use crate::walk::mark_from;
 use cdi_base::Seq;
 use std::alloc::{AllocError, Global};
@@ -11,7 +16,7 @@ use std::marker::Model;
 /// A finite directed graph with the nodes that lie on a cycle. Contracts see the graph: for each node, by its number, the nodes that
 /// its edges lead to, in any order and perhaps repeated. The numbers that have no row are nodes without edges.
 ///
-/// For n nodes with e edges it takes at most about n · (n + e) steps to make; a question takes constant time.
+/// For n nodes with e edges it takes about n + e steps to make; a question takes constant time.
 #[derive(Drop)]
 pub struct Cycles {
     graph: Seq<Seq<usize>>,
@@ -29,27 +34,42 @@ impl Model for Cycles {
     ghost invariant = { λ c. HasMarkedCycles c.graph c.on_cycle.items };
 }
 
-/// Whether a node lies on a cycle.
-fn leads_back(alloc: Global, graph: &[Seq<usize>], node: usize) -> Result<bool, AllocError>
-    requires graph { IsGraph graph.now }
-    requires node { node < length graph.now }
-    ensures { IfOk result (λ back. IsTrue back ↔ ProperPath graph.now node node) }
+/// Marks a root and all that leads to it by nodes without a mark, and says whether the root leads to itself so. What is given is the
+/// graph with its edges the other way round.
+fn see_group(
+    alloc: Global,
+    sources: &[Seq<usize>],
+    root: usize,
+    seen: &mut [bool],
+) -> Result<bool, AllocError>
+    requires graph { IsGraph sources.now }
+    requires root { root < length sources.now }
+    requires len { length seen.old ≡ length sources.now }
+    requires closed { IsClosed sources.now seen.old }
+    ensures { IfOk result (HasSeenGroup sources.now root seen.old seen.new) }
 {
-    let mut marks = vec![in alloc; false; graph.len()]?;
-    mark_from(alloc, graph, node, marks.as_mut_slice())?;
-    Ok(marks[node])
+    mark_from(alloc, sources, root, seen)?;
+    let leads_back = seen[root];
+    seen[root] = true;
+    Ok(leads_back)
 }
 
-/// For each node whether it lies on a cycle.
+/// For each node whether it lies on a cycle. The nodes are taken in the order in which a walk in depth is done with them, the last
+/// first. So all that leads to a node without coming by a node that was taken before can be reached from that node, too.
 fn cycle_marks(alloc: Global, graph: &[Seq<usize>]) -> Result<Vec<bool>, AllocError>
     requires { IsGraph graph.now }
     ensures { IfOk result (λ marks. HasMarkedCycles graph.now marks.items) }
 {
-    let mut marks = Vec::new(alloc);
-    for node in 0..graph.len() {
-        marks.push(leads_back(alloc, graph, node)?)?;
+    let sources = reversed(alloc, graph)?;
+    let mut order = finish_order(alloc, graph)?;
+    let mut seen = vec![in alloc; false; graph.len()]?;
+    let mut on_cycle = vec![in alloc; true; graph.len()]?;
+    while let Some(root) = order.pop() {
+        if !seen[root] {
+            on_cycle[root] = see_group(alloc, sources.as_slice(), root, seen.as_mut_slice())?;
+        }
     }
-    Ok(marks)
+    Ok(on_cycle)
 }
 
 impl Cycles {

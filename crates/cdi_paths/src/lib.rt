@@ -3,8 +3,10 @@
 
 mod bit_row;
 pub mod cycles;
+mod finish_order;
 pub mod path_laws;
 pub mod reachability;
+mod reversed;
 mod walk;
 
 pub use cycles::Cycles;

@@ -1,10 +1,9 @@
-use Rattle.std.proofs.Common.{◌≡◌, ◌<◌, ◌↔◌, ℕ, IsTrue, vec_len}
-use Rattle.cdi_paths.specs.Graph.{ProperPath}
-use Rattle.cdi_paths.specs.Marks.{is_marked}
+use Rattle.std.proofs.Common.{length}
+use Rattle.cdi_paths.proofs.Groups.{IsSorting}
 use Rattle.cdi_paths.proofs.cycles.cycle_marks.Given as goal
 
-abbrev pub invariant-loop-node : goal.invariant-loop-node
-invariant-loop-node l = record {
-  len : vec_len l.marks ≡ l.node;
-  marked : (a : ℕ) → a < l.node → IsTrue (is_marked l.marks.items a) ↔ ProperPath l.graph a a;
-}
+abbrev pub invariant-loop-root : goal.invariant-loop-root
+invariant-loop-root l = record { sorting : IsSorting l.graph l.sources.items l.order.items l.seen.items l.on_cycle.items }
+
+abbrev pub decreases-loop-root : goal.decreases-loop-root
+decreases-loop-root l = length l.order.items
