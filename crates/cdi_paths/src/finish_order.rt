@@ -1,6 +1,6 @@
 //! The order in which a walk in depth is done with the nodes of a graph.
 ghost use Rattle.std.specs.Prelude.{◌≡◌, ◌<◌, ◌++◌, [], ◌∷◌, true, false, if◌then◌else◌, length, map, All, OnOk, IfOk, slice_set};
-ghost use Rattle.cdi_paths.specs.Graph.{IsGraph};
+ghost use Rattle.cdi_paths.specs.Graph.{targets_of, IsGraph};
 ghost use Rattle.cdi_paths.specs.Marks.{is_marked};
 ghost use Rattle.cdi_paths.specs.FinishOrder.{IsFinishOrder};
 ghost use Rattle.cdi_paths.specs.Steps.{HasEntries};
@@ -39,21 +39,22 @@ fn add_entries(targets: &[usize], steps: &mut Vec<Step>) -> Result<(), AllocErro
 
 /// Goes into a node that has no mark: it gets one, and is left once each of its targets has one.
 fn enter(
-    targets: &[usize],
+    graph: &[Seq<usize>],
     node: usize,
     marks: &mut [bool],
     steps: &mut Vec<Step>,
 ) -> Result<(), AllocError>
-    requires { node < length marks.old }
+    requires node { node < length graph.now }
+    requires len { length marks.old ≡ length graph.now }
     ensures marks { OnOk result (marks.new ≡ slice_set marks.old node true) }
     ensures steps { OnOk result (steps.new.items ≡ (if is_marked marks.old node
         then steps.old.items
-        else (steps.old.items ++ Leave node ∷ []) ++ map Enter targets.now)) }
+        else (steps.old.items ++ Leave node ∷ []) ++ map Enter (targets_of graph.now node))) }
 {
     if !marks[node] {
         marks[node] = true;
         steps.push(Step::Leave(node))?;
-        add_entries(targets, steps)?;
+        add_entries(graph[node].as_slice(), steps)?;
     }
     Ok(())
 }
@@ -68,14 +69,7 @@ pub(crate) fn finish_order(alloc: Global, graph: &[Seq<usize>]) -> Result<Vec<us
     let mut order = Vec::new(alloc);
     while let Some(step) = steps.pop() {
         match step {
-            Step::Enter(node) => {
-                enter(
-                    graph[node].as_slice(),
-                    node,
-                    marks.as_mut_slice(),
-                    &mut steps,
-                )?;
-            }
+            Step::Enter(node) => enter(graph, node, marks.as_mut_slice(), &mut steps)?,
             Step::Leave(node) => order.push(node)?,
         }
     }

@@ -1,8 +1,6 @@
-use Rattle.std.proofs.Common.{◌≡◌, ◌<◌, ◌∙◌, ◌++◌, [], false, true, set, length, take, drop, replicate, ap, rules, arith}
-use Rattle.std.proofs.lemmas.List.{get_or_read}
+use Rattle.std.proofs.Common.{◌≡◌, ◌<◌, ◌++◌, [], false, true, set, length, take, drop, replicate, rules}
 use Rattle.std.proofs.lemmas.List.Elements.{Contains-push}
 use Rattle.cdi_paths.specs.declared.finish_order.Step.TheVariants.{Enter}
-use Rattle.cdi_paths.specs.Graph.{targets_of}
 use Rattle.cdi_paths.proofs.Order.{order_begins, order_ends, step_left, step_into, step_into_falls}
 use Rattle.cdi_paths.proofs.Rows.{written_back}
 use Rattle.cdi_paths.proofs.finish_order.finish_order.Goals as goal
@@ -14,25 +12,11 @@ loop-step-init c =
     let order : c.new-order.result.items ≡ [] = search rules in
     record { ordering = rw (none, order) (order_begins graph c.in_ok-steps.steps.items c.in_ok-steps.ensures) }
 
-pub bounds-graph-node : goal.bounds-graph-node
-bounds-graph-node c =
+pub enter-requires-clause-node : goal.enter-requires-clause-node
+enter-requires-clause-node c =
     let i = c.loop-step in
     let popped = rw (c.in-Some.ensures.items, c.in-Enter.is) at i.invariant.ordering in
     popped.within (Enter c.in-Enter.node) (Contains-push c.pop.new.self.items (Enter c.in-Enter.node))
-
-pub offset_bounds-graph-node : goal.offset_bounds-graph-node
-offset_bounds-graph-node c =
-    let i = c.loop-step in
-    let popped = rw (c.in-Some.ensures.items, c.in-Enter.is) at i.invariant.ordering in
-    let within : c.in-Enter.node < length c.args.graph.now = popped.within (Enter c.in-Enter.node) (Contains-push c.pop.new.self.items (Enter c.in-Enter.node)) in
-    omega arith
-
-pub enter-requires : goal.enter-requires
-enter-requires c =
-    let i = c.loop-step in
-    let popped = rw (c.in-Some.ensures.items, c.in-Enter.is) at i.invariant.ordering in
-    let within : c.in-Enter.node < length c.args.graph.now = popped.within (Enter c.in-Enter.node) (Contains-push c.pop.new.self.items (Enter c.in-Enter.node)) in
-    omega (arith, within, popped.len, ap length c.as_mut_slice.ensures.value)
 
 pub loop-step-preserved-in-Continue-branch-3 : goal.loop-step-preserved-in-Continue-branch-3
 loop-step-preserved-in-Continue-branch-3 c =
@@ -43,10 +27,9 @@ loop-step-preserved-in-Continue-branch-3 c =
     let new = c.enter.new.marks in
     let popped = rw (c.in-Some.ensures.items, c.in-Enter.is) at i.invariant.ordering in
     let within : node < length graph = popped.within (Enter node) (Contains-push c.pop.new.self.items (Enter node)) in
-    let row : c.as_slice.result.now ≡ targets_of graph node = c.as_slice.ensures ∙ get_or_read graph node c.index-graph-node.result within c.index-graph-node.is [] in
     let lent : c.as_mut_slice.result.now ≡ old.items = c.as_mut_slice.ensures.value in
     let marked : new ≡ set old.items node true = rw lent at c.in_ok-enter-in-Enter.ensures.marks in
-    let after = rw (lent, row) at c.in_ok-enter-in-Enter.ensures.steps in
+    let after = rw lent at c.in_ok-enter-in-Enter.ensures.steps in
     let back : take old.len (new ++ drop (length new) old.items) ≡ new = written_back old.len new old.items (search rules) (search rules) in
     record { ordering = rw back (step_into graph old.items new c.pop.new.self.items c.enter.new.steps.items i.order.items node c.requires popped marked after) }
 
@@ -59,10 +42,9 @@ loop-step-smaller-in-Continue-branch-3 c =
     let new = c.enter.new.marks in
     let popped = rw (c.in-Some.ensures.items, c.in-Enter.is) at i.invariant.ordering in
     let within : node < length graph = popped.within (Enter node) (Contains-push c.pop.new.self.items (Enter node)) in
-    let row : c.as_slice.result.now ≡ targets_of graph node = c.as_slice.ensures ∙ get_or_read graph node c.index-graph-node.result within c.index-graph-node.is [] in
     let lent : c.as_mut_slice.result.now ≡ old.items = c.as_mut_slice.ensures.value in
     let marked : new ≡ set old.items node true = rw lent at c.in_ok-enter-in-Enter.ensures.marks in
-    let after = rw (lent, row) at c.in_ok-enter-in-Enter.ensures.steps in
+    let after = rw lent at c.in_ok-enter-in-Enter.ensures.steps in
     let back : take old.len (new ++ drop (length new) old.items) ≡ new = written_back old.len new old.items (search rules) (search rules) in
     rw (back, c.in-Some.ensures.items, c.in-Enter.is) (step_into_falls graph old.items new c.pop.new.self.items c.enter.new.steps.items i.order.items node c.requires popped marked after)
 
