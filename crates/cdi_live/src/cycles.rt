@@ -6,7 +6,7 @@ ghost use Rattle.cdi_live.specs.Settings.{setting_of, counts_of};
 
 use crate::deployment_tables::DeploymentTables;
 use cdi_base::Seq;
-use cdi_paths::Reachability;
+use cdi_paths::Cycles;
 use std::alloc::{AllocError, Global};
 
 /// For each bean of the list, and for each enabled interceptor, whether it needs an instance of itself, directly or through others
@@ -21,16 +21,16 @@ pub(crate) struct NeedyFlags {
 fn bean_flags(
     alloc: Global,
     tables: &DeploymentTables<'_>,
-    reach: &Reachability,
+    cycles: &Cycles,
 ) -> Result<Seq<bool>, AllocError>
     requires { HasRows (setting_of tables.now) (counts_of tables.now)
-        (counts_of tables.now).interceptors reach.now }
+        (counts_of tables.now).interceptors cycles.now }
     ensures { IfOk result (λ flags. (i : ℕ)
         → IsTrue (spec.flag flags i) ↔ spec.BeanNeedsItself (setting_of tables.now) i) }
 {
     let mut flags = Seq::empty(alloc);
     for index in 0..tables.counts().beans {
-        flags.push(reach.is_on_cycle(index))?;
+        flags.push(cycles.is_on_cycle(index))?;
     }
     Ok(flags)
 }
@@ -39,23 +39,23 @@ fn bean_flags(
 fn interceptor_flags(
     alloc: Global,
     tables: &DeploymentTables<'_>,
-    reach: &Reachability,
+    cycles: &Cycles,
 ) -> Result<Seq<bool>, AllocError>
     requires { HasRows (setting_of tables.now) (counts_of tables.now)
-        (counts_of tables.now).interceptors reach.now }
+        (counts_of tables.now).interceptors cycles.now }
     ensures { IfOk result (λ flags. (k : ℕ)
         → IsTrue (spec.flag flags k) ↔ spec.InterceptorNeedsItself (setting_of tables.now) k) }
 {
     let counts = tables.counts();
     let mut flags = Seq::empty(alloc);
     for place in 0..counts.interceptors {
-        flags.push(reach.is_on_cycle(counts.beans + place))?;
+        flags.push(cycles.is_on_cycle(counts.beans + place))?;
     }
     Ok(flags)
 }
 
 impl NeedyFlags {
-    /// What the tables tell. For n beans and interceptors it takes at most n³ / 64 steps.
+    /// What the tables tell. Once the rows of the graph are made, it takes about as many steps as that has nodes and edges.
     pub(crate) fn build(
         alloc: Global,
         tables: &DeploymentTables<'_>,
@@ -63,10 +63,10 @@ impl NeedyFlags {
         ensures { IfOk result (spec.AreNeedy (setting_of tables.now)) }
     {
         let rows = tables.rows(alloc)?;
-        let reach = Reachability::build(alloc, rows)?;
+        let cycles = Cycles::build(alloc, rows)?;
         Ok(NeedyFlags {
-            beans: bean_flags(alloc, tables, &reach)?,
-            interceptors: interceptor_flags(alloc, tables, &reach)?,
+            beans: bean_flags(alloc, tables, &cycles)?,
+            interceptors: interceptor_flags(alloc, tables, &cycles)?,
         })
     }
 }

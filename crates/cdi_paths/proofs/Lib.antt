@@ -3,3 +3,8 @@ pub mod Paths
 pub mod Rows
 pub mod Heights
 pub mod OneWay
+pub mod Walks
+pub mod Reversal
+pub mod Steps
+pub mod Order
+pub mod Groups

@@ -2,7 +2,12 @@
 #![tactic(auto)]
 
 mod bit_row;
+pub mod cycles;
+mod finish_order;
 pub mod path_laws;
 pub mod reachability;
+mod reversed;
+mod walk;
 
+pub use cycles::Cycles;
 pub use reachability::Reachability;

@@ -16,7 +16,7 @@ loop-index-preserved c =
     let r = t.beans.now.resolver in
     let same : c.counts-index-end.result.beans ≡ n.beans = ap (λ k. k.beans) c.counts-index-end.ensures.counts in
     let lt : i.index < n.beans = omega (arith, same, c.loop-index-test.true) in
-    let cycle = bean_cycle s n r.beans r.flags (sym t.same_beans) refl refl t.same_interceptors c.args.reach.now c.requires i.index lt in
+    let cycle = bean_cycle s n r.beans r.flags (sym t.same_beans) refl refl t.same_interceptors c.args.cycles.now c.requires i.index lt in
     rw c.in_ok-push.ensures.ok (record {
       len = simp length-append (omega (arith, i.invariant.len));
       told = flag_push (λ b f. IsTrue f ↔ BeanNeedsItself s b) i.flags c.is_on_cycle.result i.index i.invariant.len i.invariant.told (λ h. cycle.0 (c.is_on_cycle.ensures.0 h), λ p. c.is_on_cycle.ensures.1 (cycle.1 p));
@@ -31,4 +31,4 @@ returns c =
     let r = t.beans.now.resolver in
     let same : c.counts-index-end.result.beans ≡ n.beans = ap (λ k. k.beans) c.counts-index-end.ensures.counts in
     let past : n.beans ≤ i.index = omega (arith, same, c.loop-index-test.false) in
-    flags_all i.flags i.index (BeanNeedsItself s) i.invariant.len (λ b le p. let lt : b < n.beans = bean_there s n r.beans r.flags (sym t.same_beans) refl refl t.same_interceptors c.args.reach.now c.requires b _ p in omega arith) i.invariant.told
+    flags_all i.flags i.index (BeanNeedsItself s) i.invariant.len (λ b le p. let lt : b < n.beans = bean_there s n r.beans r.flags (sym t.same_beans) refl refl t.same_interceptors c.args.cycles.now c.requires b _ p in omega arith) i.invariant.told

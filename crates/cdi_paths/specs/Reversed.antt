@@ -1,0 +1,13 @@
+-- A graph with each edge the other way round.
+use Rattle.std.specs.Prelude.{ℕ, ◌≡◌, ◌↔◌, ◌⊎◌, List, length, Contains}
+use Rattle.cdi_paths.specs.Graph.{targets_of, IsGraph}
+
+pub record IsReversed (graph reversed : List (List ℕ)) : Type 0 where
+  pub len : length reversed ≡ length graph
+  pub nodes : IsGraph reversed
+  pub edges : (a b : ℕ) → Contains (targets_of reversed a) b ↔ Contains (targets_of graph b) a
+
+-- each of the targets has a node more in its row
+pub record HasSource (node : ℕ) (targets : List ℕ) (old new : List (List ℕ)) : Type 0 where
+  pub rows : (a b : ℕ) → Contains (targets_of new a) b
+      ↔ (Contains (targets_of old a) b ⊎ (Contains targets a × (node ≡ b)))
