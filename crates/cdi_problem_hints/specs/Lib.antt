@@ -1,4 +1,5 @@
 pub mod Hints
 pub mod Points
 pub mod Rule
+pub mod Scripts
 pub mod Sentences

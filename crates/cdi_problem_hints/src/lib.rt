@@ -4,7 +4,10 @@
 pub mod hint;
 mod point;
 pub mod rule;
+mod script;
 mod sentence;
+pub mod subject;
 
 pub use hint::problem_hint;
 pub use rule::rule_text;
+pub use subject::Subject;
