@@ -1,3 +1,4 @@
+pub mod Candidates
 pub mod Hints
 pub mod Points
 pub mod Rule

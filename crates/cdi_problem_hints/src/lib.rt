@@ -1,6 +1,7 @@
 //! Hints for the problems of a deployment: the rule that is broken, and the names that break it.
 #![tactic(auto)]
 
+mod candidate;
 pub mod hint;
 mod point;
 pub mod rule;
