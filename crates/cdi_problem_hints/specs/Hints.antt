@@ -8,6 +8,7 @@ use Rattle.cdi_problem_hints.specs.Points.{points_text}
 use Rattle.cdi_problem_hints.specs.Rule.{rule_text}
 use Rattle.cdi_problem_hints.specs.Scripts.{scripts_text}
 use Rattle.cdi_problem_hints.specs.Sentences.{sentences}
+use Rattle.cdi_problem_hints.specs.Subjects.{Subject}
 use Rattle.cdi_problems.specs.Elements.{Element, elements_of, place_of}
 use Rattle.cdi_problems.specs.Places.{same_place}
 use Rattle.cdi_problems.specs.Words.{problem_text}
@@ -44,7 +45,8 @@ abbrev pub head : List (List ℕ) → Problem → List ℕ
 head names p = problem_text names p ++ (codes ": " ++ rule_text p.kind)
 
 -- that, and what is told of the elements and of the scripts at its place
-abbrev pub problem_hint : Deployment → List ScriptNames → Option BeanTables → Problem → List ℕ
-problem_hint d scripts tables p =
-    head d.names p
-    ++ (flat_map (details_at d tables p) (elements_of d) ++ script_details d scripts p.place p.kind)
+abbrev pub problem_hint : Subject → Problem → List ℕ
+problem_hint s p =
+    head s.deployment.names p
+    ++ (flat_map (details_at s.deployment s.tables p) (elements_of s.deployment)
+    ++ script_details s.deployment s.scripts p.place p.kind)

@@ -4,3 +4,4 @@ pub mod Points
 pub mod Rule
 pub mod Scripts
 pub mod Sentences
+pub mod Subjects

@@ -3,6 +3,7 @@ ghost use Rattle.std.specs.Prelude.{◌≡◌, ◌++◌, string_bytes, IfOk, OnO
 ghost use Rattle.std.specs.List.{flat_map};
 ghost use Rattle.std.specs.Option.{option_copied};
 ghost use Rattle.cdi_problem_hints.specs.Hints as spec;
+ghost use Rattle.cdi_problem_hints.specs.Subjects.{subject_of};
 ghost use Rattle.cdi_problems.specs.Elements.{element_of, shown};
 ghost use Rattle.cdi_problems.specs.Places as places;
 
@@ -122,9 +123,8 @@ pub fn problem_hint(
     subject: &Subject<'_>,
     problem: &Problem,
 ) -> Result<Text, AllocError>
-    ensures { IfOk result (λ hint. hint ≡ spec.problem_hint
-        subject.now.deployment.now subject.now.scripts.now
-        (option_copied subject.now.tables) problem.now) }
+    ensures { IfOk result (λ hint.
+        hint ≡ spec.problem_hint (subject_of subject.now) problem.now) }
 {
     let deployment = subject.deployment;
     let mut hint = head(alloc, &deployment.names, problem)?;
