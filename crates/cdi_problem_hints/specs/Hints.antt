@@ -6,34 +6,47 @@ use Rattle.cdi_deployment.specs.declared.deployment.Deployment.{Deployment}
 use Rattle.cdi_name_uses.specs.Unknown.{unknown_names}
 use Rattle.cdi_problem_hints.specs.Points.{points_text}
 use Rattle.cdi_problem_hints.specs.Rule.{rule_text}
+use Rattle.cdi_problem_hints.specs.Scripts.{scripts_text}
 use Rattle.cdi_problem_hints.specs.Sentences.{sentences}
+use Rattle.cdi_problem_hints.specs.Subjects.{Subject}
 use Rattle.cdi_problems.specs.Elements.{Element, elements_of, place_of}
 use Rattle.cdi_problems.specs.Places.{same_place}
 use Rattle.cdi_problems.specs.Words.{problem_text}
 use Rattle.cdi_problems.specs.declared.problem.Problem.{Problem}
 use Rattle.cdi_problems.specs.declared.problem.ProblemKind.{ProblemKind}
 use Rattle.cdi_problems.specs.declared.problem.ProblemKind.TheVariants as kinds
+use Rattle.cdi_resolve.specs.declared.bean_tables.BeanTables.{BeanTables}
+use Rattle.cdi_step_names.specs.declared.step_name.ScriptNames.{ScriptNames}
 
 -- the element stands at the place
 abbrev pub is_at : Option Place → Element → Bool
 is_at None e = false
 is_at (Some place) e = same_place (place_of e) place
 
--- of an unknown name what it has to be and what was probably meant, and of a point what it asks for
-abbrev pub details : Deployment → ProblemKind → Element → List ℕ
-details d kinds.UnknownName e = sentences d e (unknown_names d e)
-details d kinds.Unsatisfied e = points_text d.names e
-details d kinds.Ambiguous e = points_text d.names e
-details d kinds.Unproxyable e = points_text d.names e
-details d _ e = []
+-- of an unknown name what it has to be and what was probably meant, and of a point what it asks for, and if it is ambiguous what is
+-- left
+abbrev pub details : Deployment → Option BeanTables → ProblemKind → Element → List ℕ
+details d tables kinds.UnknownName e = sentences d e (unknown_names d e)
+details d tables kinds.Unsatisfied e = points_text d.names None e
+details d tables kinds.Ambiguous e = points_text d.names tables e
+details d tables kinds.Unproxyable e = points_text d.names None e
+details d tables _ e = []
 
-abbrev pub details_at : Deployment → Problem → Element → List ℕ
-details_at d p e = if is_at p.place e then details d p.kind e else []
+abbrev pub details_at : Deployment → Option BeanTables → Problem → Element → List ℕ
+details_at d tables p e = if is_at p.place e then details d tables p.kind e else []
+
+-- of a script that names something that isn't there, which step does
+abbrev pub script_details : Deployment → List ScriptNames → Option Place → ProblemKind → List ℕ
+script_details d scripts place kinds.BodyOutsideShape = scripts_text d scripts place
+script_details d scripts place _ = []
 
 -- the problem as it is printed, and the rule that it breaks
 abbrev pub head : List (List ℕ) → Problem → List ℕ
 head names p = problem_text names p ++ (codes ": " ++ rule_text p.kind)
 
--- that, and what is told of the elements at its place
-abbrev pub problem_hint : Deployment → Problem → List ℕ
-problem_hint d p = head d.names p ++ flat_map (details_at d p) (elements_of d)
+-- that, and what is told of the elements and of the scripts at its place
+abbrev pub problem_hint : Subject → Problem → List ℕ
+problem_hint s p =
+    head s.deployment.names p
+    ++ (flat_map (details_at s.deployment s.tables p) (elements_of s.deployment)
+    ++ script_details s.deployment s.scripts p.place p.kind)

@@ -1,4 +1,7 @@
+pub mod Candidates
 pub mod Hints
 pub mod Points
 pub mod Rule
+pub mod Scripts
 pub mod Sentences
+pub mod Subjects

@@ -1,5 +1,5 @@
 -- The rules that problems break, in words.
-use Rattle.std.specs.Prelude.{ℕ, List, ◌++◌, codes}
+use Rattle.std.specs.Prelude.{ℕ, List, codes}
 use Rattle.cdi_problems.specs.declared.problem.ProblemKind.{ProblemKind}
 use Rattle.cdi_problems.specs.declared.problem.ProblemKind.TheVariants as kinds
 

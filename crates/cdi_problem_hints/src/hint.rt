@@ -1,15 +1,19 @@
 //! The hint for a problem.
 ghost use Rattle.std.specs.Prelude.{◌≡◌, ◌++◌, string_bytes, IfOk, OnOk};
 ghost use Rattle.std.specs.List.{flat_map};
+ghost use Rattle.std.specs.Option.{option_copied};
 ghost use Rattle.cdi_problem_hints.specs.Hints as spec;
+ghost use Rattle.cdi_problem_hints.specs.Subjects.{subject_of};
 ghost use Rattle.cdi_problems.specs.Elements.{element_of, shown};
 ghost use Rattle.cdi_problems.specs.Places as places;
 
 use crate::point::add_points;
 use crate::rule::rule_text;
+use crate::script::add_scripts_at;
 use crate::sentence::add_sentences;
+use crate::subject::Subject;
 use cdi_base::{Names, Place, Text};
-use cdi_deployment::Deployment;
+use cdi_body_check::sites_of;
 use cdi_name_uses::unknown_names;
 use cdi_problems::{Element, Problem, ProblemKind, ProblemText, elements_of};
 use std::alloc::{AllocError, Global};
@@ -33,21 +37,26 @@ fn is_at(place: &Option<Place>, element: &Element<'_>) -> bool
 /// Adds what is told of an element that has a problem.
 fn add_details(
     alloc: Global,
-    deployment: &Deployment,
+    subject: &Subject<'_>,
     kind: ProblemKind,
     element: &Element<'_>,
     hint: &mut String,
 ) -> Result<(), AllocError>
     ensures { OnOk result (string_bytes hint.new ≡ string_bytes hint.old
-        ++ spec.details deployment.now kind (element_of element.now)) }
+        ++ spec.details subject.now.deployment.now (option_copied subject.now.tables) kind
+        (element_of element.now)) }
 {
+    let deployment = subject.deployment;
     match kind {
         ProblemKind::UnknownName => {
             let unknown = unknown_names(alloc, deployment, element)?;
             add_sentences(alloc, deployment, element, unknown.as_slice(), hint)
         }
-        ProblemKind::Unsatisfied | ProblemKind::Ambiguous | ProblemKind::Unproxyable => {
-            add_points(alloc, &deployment.names, element, hint)
+        ProblemKind::Ambiguous => {
+            add_points(alloc, &deployment.names, subject.tables, element, hint)
+        }
+        ProblemKind::Unsatisfied | ProblemKind::Unproxyable => {
+            add_points(alloc, &deployment.names, None, element, hint)
         }
         _ => Ok(()),
     }
@@ -56,17 +65,20 @@ fn add_details(
 /// Adds what is told of the elements at the place of a problem.
 fn add_details_at(
     alloc: Global,
-    deployment: &Deployment,
+    subject: &Subject<'_>,
     problem: &Problem,
     elements: &[Element<'_>],
     hint: &mut String,
 ) -> Result<(), AllocError>
     ensures { OnOk result (string_bytes hint.new ≡ string_bytes hint.old
-        ++ flat_map (spec.details_at deployment.now problem.now) (shown elements.now)) }
+        ++ flat_map
+        (spec.details_at subject.now.deployment.now (option_copied subject.now.tables)
+        problem.now)
+        (shown elements.now)) }
 {
     for element in elements {
         if is_at(&problem.place, element) {
-            add_details(alloc, deployment, problem.kind, element, hint)?;
+            add_details(alloc, subject, problem.kind, element, hint)?;
         }
     }
     Ok(())
@@ -81,18 +93,43 @@ fn head(alloc: Global, names: &Names, problem: &Problem) -> Result<String, Alloc
     format!(in alloc; "{problem}: {rule}")
 }
 
+/// Adds what is told of the scripts at the place of a problem.
+fn add_script_details(
+    alloc: Global,
+    subject: &Subject<'_>,
+    problem: &Problem,
+    hint: &mut String,
+) -> Result<(), AllocError>
+    ensures { OnOk result (string_bytes hint.new ≡ string_bytes hint.old
+        ++ spec.script_details subject.now.deployment.now subject.now.scripts.now
+        problem.now.place problem.now.kind) }
+{
+    match problem.kind {
+        ProblemKind::BodyOutsideShape => {
+            let sites = sites_of(alloc, subject.deployment)?;
+            add_scripts_at(alloc, subject, &problem.place, sites.as_slice(), hint)
+        }
+        _ => Ok(()),
+    }
+}
+
 /// The hint for a problem of a deployment: the problem as it is printed, the rule that it breaks, and the names that break it
 /// (Jakarta CDI 4.0, *Problems detected automatically by the container*). Of a name that isn't known the hint tells the group that
-/// it has to be of, and the known name that was probably meant, if one is near; of a point without its one bean, what it asks for.
+/// it has to be of, and the known name that was probably meant, if one is near; of a point without its one bean, what it asks for, and
+/// if it is ambiguous the beans that are left, by the tables; of a script that names something that isn't there, its first step with a name that isn't declared as what it has to be, if there is
+/// one.
 pub fn problem_hint(
     alloc: Global,
-    deployment: &Deployment,
+    subject: &Subject<'_>,
     problem: &Problem,
 ) -> Result<Text, AllocError>
-    ensures { IfOk result (λ hint. hint ≡ spec.problem_hint deployment.now problem.now) }
+    ensures { IfOk result (λ hint.
+        hint ≡ spec.problem_hint (subject_of subject.now) problem.now) }
 {
+    let deployment = subject.deployment;
     let mut hint = head(alloc, &deployment.names, problem)?;
     let elements = elements_of(alloc, deployment)?;
-    add_details_at(alloc, deployment, problem, elements.as_slice(), &mut hint)?;
+    add_details_at(alloc, subject, problem, elements.as_slice(), &mut hint)?;
+    add_script_details(alloc, subject, problem, &mut hint)?;
     Ok(Text::new(hint))
 }

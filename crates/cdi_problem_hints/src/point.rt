@@ -1,11 +1,15 @@
 //! What the injection points of an element ask for.
 ghost use Rattle.std.specs.Prelude.{◌≡◌, ◌++◌, string_bytes, IfOk, OnOk};
+ghost use Rattle.std.specs.Option.{option_copied};
 ghost use Rattle.cdi_problem_hints.specs.Points as spec;
 ghost use Rattle.cdi_problems.specs.Elements.{element_of};
 
+use crate::candidate::add_candidates;
 use cdi_base::{Name, Names, Use};
+use cdi_candidates::candidates;
 use cdi_deployment::Point;
 use cdi_problems::{Element, name_text};
+use cdi_resolve::BeanTables;
 use std::alloc::{AllocError, Global};
 
 /// Qualifiers as they are told of a point.
@@ -32,57 +36,82 @@ fn point_text(alloc: Global, names: &Names, ty: Name, quals: &[Use]) -> Result<S
     format!(in alloc; "; it asks for {ty}{quals}")
 }
 
-fn add_point(
+/// Adds the beans that are left for what a point asks for, by the tables of the deployment, if there are any.
+fn add_left(
     alloc: Global,
     names: &Names,
+    tables: Option<&BeanTables>,
     ty: Name,
     quals: &[Use],
     hint: &mut String,
 ) -> Result<(), AllocError>
-    ensures { OnOk result
-        (string_bytes hint.new ≡ string_bytes hint.old ++ spec.point_text names.now ty quals.now) }
+    ensures { OnOk result (string_bytes hint.new ≡ string_bytes hint.old
+        ++ spec.left_text names.now (option_copied tables.entry) ty quals.now) }
+{
+    match tables {
+        Some(tables) => {
+            let places = candidates(alloc, tables, ty, quals)?;
+            add_candidates(alloc, names, places.as_slice(), hint)
+        }
+        None => Ok(()),
+    }
+}
+
+fn add_point(
+    alloc: Global,
+    names: &Names,
+    tables: Option<&BeanTables>,
+    ty: Name,
+    quals: &[Use],
+    hint: &mut String,
+) -> Result<(), AllocError>
+    ensures { OnOk result (string_bytes hint.new ≡ string_bytes hint.old
+        ++ spec.asked_text names.now (option_copied tables.entry) ty quals.now) }
 {
     let point = point_text(alloc, names, ty, quals)?;
-    hint.push_str(&point)
+    hint.push_str(&point)?;
+    add_left(alloc, names, tables, ty, quals, hint)
 }
 
 fn add_params(
     alloc: Global,
     names: &Names,
+    tables: Option<&BeanTables>,
     params: &[Point],
     hint: &mut String,
 ) -> Result<(), AllocError>
-    ensures { OnOk result
-        (string_bytes hint.new ≡ string_bytes hint.old ++ spec.params_text names.now params.now) }
+    ensures { OnOk result (string_bytes hint.new ≡ string_bytes hint.old
+        ++ spec.params_text names.now (option_copied tables.entry) params.now) }
 {
     for point in params {
-        add_point(alloc, names, point.ty, point.quals.as_slice(), hint)?;
+        add_point(alloc, names, tables, point.ty, point.quals.as_slice(), hint)?;
     }
     Ok(())
 }
 
 /// Adds what the injection points of an element ask for (Jakarta CDI 4.0, *Injection points*): an injected field is one, and so is
-/// each injected parameter.
+/// each injected parameter. With the tables of the deployment come the beans that are left for each, if they are several.
 pub(crate) fn add_points(
     alloc: Global,
     names: &Names,
+    tables: Option<&BeanTables>,
     element: &Element<'_>,
     hint: &mut String,
 ) -> Result<(), AllocError>
-    ensures { OnOk result (string_bytes hint.new
-        ≡ string_bytes hint.old ++ spec.points_text names.now (element_of element.now)) }
+    ensures { OnOk result (string_bytes hint.new ≡ string_bytes hint.old
+        ++ spec.points_text names.now (option_copied tables.entry) (element_of element.now)) }
 {
     match element {
         Element::InjectedField { field, .. } => {
-            add_point(alloc, names, field.ty, field.quals.as_slice(), hint)
+            add_point(alloc, names, tables, field.ty, field.quals.as_slice(), hint)
         }
         Element::InterceptorInjectedField { field, .. } => {
-            add_point(alloc, names, field.ty, field.quals.as_slice(), hint)
+            add_point(alloc, names, tables, field.ty, field.quals.as_slice(), hint)
         }
         Element::Constructor { constructor, .. } => {
-            add_params(alloc, names, constructor.params.as_slice(), hint)
+            add_params(alloc, names, tables, constructor.params.as_slice(), hint)
         }
-        Element::Member { member, .. } => add_params(alloc, names, member.params(), hint),
+        Element::Member { member, .. } => add_params(alloc, names, tables, member.params(), hint),
         _ => Ok(()),
     }
 }

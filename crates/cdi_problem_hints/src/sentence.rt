@@ -39,7 +39,7 @@ fn meant<'a>(
 }
 
 /// What is told of the known name that was probably meant, if there is one.
-fn suggestion(
+pub(crate) fn suggestion(
     alloc: Global,
     names: &Names,
     known: &[Name],

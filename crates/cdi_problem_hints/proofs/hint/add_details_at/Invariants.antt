@@ -1,5 +1,6 @@
 use Rattle.std.proofs.Common.{◌≡◌, ◌++◌, string_bytes, take}
 use Rattle.std.specs.List.{flat_map}
+use Rattle.std.specs.Option.{option_copied}
 use Rattle.cdi_problems.specs.Elements.{shown}
 use Rattle.cdi_problem_hints.specs.Hints as spec
 use Rattle.cdi_problem_hints.proofs.hint.add_details_at.Given as goal
@@ -7,4 +8,4 @@ use Rattle.cdi_problem_hints.proofs.hint.add_details_at.Given as goal
 abbrev pub invariant-loop-element : goal.invariant-loop-element
 invariant-loop-element l =
     string_bytes l.hint ≡ string_bytes l.initial.hint
-    ++ flat_map (spec.details_at l.deployment l.problem) (shown (take l.element-index l.elements))
+    ++ flat_map (spec.details_at l.subject.deployment.now (option_copied l.subject.tables) l.problem) (shown (take l.element-index l.elements))

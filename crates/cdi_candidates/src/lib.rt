@@ -1,0 +1,11 @@
+//! The beans of a deployment that typesafe resolution leaves for what a point asks for (Jakarta CDI 4.0, *Typesafe resolution*,
+//! *Unsatisfied and ambiguous dependencies*).
+#![tactic(auto)]
+
+mod eligible;
+mod narrowing;
+pub mod point;
+pub mod tables;
+
+pub use point::candidates;
+pub use tables::tables_of;
