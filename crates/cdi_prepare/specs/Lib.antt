@@ -1,5 +1,6 @@
 pub mod HintText
 pub mod Syntax
+pub mod ItemLists
 pub mod LongList
 pub mod BadStep
 pub mod Hint

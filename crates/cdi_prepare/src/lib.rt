@@ -7,6 +7,7 @@ pub mod fault_text;
 pub mod hint;
 pub mod hint_laws;
 pub mod hint_search;
+mod item_lists;
 mod long_lists;
 pub mod reading;
 pub mod scripts;
