@@ -5,6 +5,7 @@ pub mod LongList
 pub mod BadStep
 pub mod Hint
 pub mod Kinds
+pub mod Warning
 pub mod FaultText
 pub mod Ready
 pub mod Scripts
