@@ -1,5 +1,4 @@
--- The first list of an item of a deployment that is longer than its limit. The items are told by the place of the whole: the JSON
--- Pointer to it.
+-- The first list of an item of a deployment that is longer than its limit. The place of an item is the JSON Pointer to it.
 use Rattle.std.specs.Prelude.{ℕ, ◌+◌, List, [], ◌∷◌, ◌++◌, codes, decimal, length, nat_le, Option, Some, None, if◌then◌else◌}
 use Rattle.std.specs.Option.{option_or}
 use Rattle.cdi_base.specs.declared.uses.Use.{Use}

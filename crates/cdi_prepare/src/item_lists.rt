@@ -1,4 +1,5 @@
-//! The lists of the items of a deployment, and whether one is longer than its limit.
+//! The lists of the items of a deployment. A check gives nothing if each list is within its limit; else its fault is the first
+//! that is longer.
 ghost use Rattle.std.specs.Prelude.{◌≡◌, ◌+◌, ℕ, List, length, Option};
 ghost use Rattle.cdi_prepare.specs.ItemLists as spec;
 ghost use Rattle.cdi_prepare.specs.LongList.{Tells};
@@ -15,16 +16,16 @@ use cdi_deployment::{
 };
 use std::alloc::Global;
 
-/// An item of a deployment, which stands at a place: the JSON Pointer (RFC 6901) to it.
+/// What has lists and stands at a place of a deployment, which is the JSON Pointer (RFC 6901) to it.
 pub(crate) trait Item {
     ghost long: { List ℕ → Self → Option AnyMistake };
 
-    /// Tells the first list of the item that is too long. An error is [`OrMemory::Memory`] if a growth was refused.
+    /// Checks the lists of the item. An error is [`OrMemory::Memory`] if a growth was refused.
     fn check(&self, alloc: Global, place: &str) -> Result<(), OrMemory<Mistake>>
         ensures { Tells (long place.now self.now) result };
 }
 
-/// Tells the list at a key of a place, if it has more items than its limit.
+/// Checks the list at a key of a place, by its length.
 pub(crate) fn check_length(
     alloc: Global,
     place: &str,
@@ -44,7 +45,7 @@ pub(crate) fn check_length(
     }))
 }
 
-/// Tells the first list of the items at a key of a place that is too long.
+/// Checks the lists of the items at a key of a place, item by item.
 pub(crate) fn check_items<T: Item>(
     alloc: Global,
     place: &str,

@@ -23,7 +23,7 @@ fn count_types(deployment: &Deployment) -> usize
         + deployment.interceptors.as_slice().len()
 }
 
-/// Tells the first list of a deployment itself that is too long.
+/// Checks the lists of a deployment itself.
 fn check_deployment(alloc: Global, deployment: &Deployment) -> Result<(), OrMemory<Mistake>>
     ensures { Tells (spec.list_of_deployment deployment.now) result }
 {
@@ -56,7 +56,7 @@ fn check_deployment(alloc: Global, deployment: &Deployment) -> Result<(), OrMemo
     Ok(())
 }
 
-/// Tells the first list of the items of a deployment that is too long.
+/// Checks the lists of the items of a deployment.
 fn check_all_items(alloc: Global, deployment: &Deployment) -> Result<(), OrMemory<Mistake>>
     ensures { Tells (spec.list_of_items deployment.now) result }
 {
@@ -73,7 +73,7 @@ fn check_all_items(alloc: Global, deployment: &Deployment) -> Result<(), OrMemor
     Ok(())
 }
 
-/// Tells the first list of a deployment that is too long.
+/// Checks all lists of a deployment.
 fn check(alloc: Global, deployment: &Deployment) -> Result<(), OrMemory<Mistake>>
     ensures { Tells (spec.first_long_list deployment.now) result }
 {
