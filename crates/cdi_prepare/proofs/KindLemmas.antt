@@ -1,19 +1,18 @@
 -- The kind of a hint fits what reading gives.
-use Rattle.std.proofs.Common.{◌≡◌, ◌∙◌, ℕ, ◌+◌, ◌==◌, Bool, true, false, not, List, [], ◌∷◌, codes, length, Option, Some, None, option_map, option_and_then, Result, Ok, Err, IfSome, IsSomeAnd, slice_get, if◌then◌else◌, refl, sym, ap, subst}
+use Rattle.std.proofs.Common.{◌≡◌, ◌∙◌, ℕ, ◌==◌, Bool, true, false, not, List, length, Option, Some, None, option_map, option_and_then, Result, Ok, Err, IfSome, IsSomeAnd, slice_get, if◌then◌else◌, refl, sym, ap, subst}
 use Rattle.std.specs.Bool.{MatchBool}
-use Rattle.std.specs.Option.{option_or, is_none}
+use Rattle.std.specs.Option.{is_none}
 use Rattle.std.specs.Str.{is_utf8}
 use Rattle.cdi_base.specs.Reading.{◌>>=◌}
 use Rattle.cdi_form.specs.Json.{json_in}
 use Rattle.serde_json.specs.Data.{Data}
 use Rattle.serde_json.specs.Find.{at}
 use Rattle.std.specs.List.{position_from}
-use Rattle.cdi_deployment.specs.declared.deployment.Class.{Class}
 use Rattle.cdi_deployment.specs.declared.deployment.Deployment.{Deployment}
 use Rattle.cdi_deployment.specs.declared.deployment.Script.{Script}
 use Rattle.cdi_deploy.specs.declared.fault.ReadFault.{ReadFault}
 use Rattle.cdi_deploy.specs.declared.fault.ReadFault.TheVariants as faults
-use Rattle.cdi_deployment.specs.Limits.{are_fields_within, is_annotation_type_within, is_at_most, is_class_within, is_interceptor_within, is_interface_within, is_within}
+use Rattle.cdi_deployment.specs.Limits.{is_within}
 use Rattle.cdi_form.specs.Names.{first_bad_name, names_fit}
 use Rattle.cdi_form.specs.Numbers.{numbers_fit}
 use Rattle.cdi_form.specs.Shape.{wrong}
@@ -32,63 +31,23 @@ use Rattle.cdi_step_mistakes.specs.Steps.{step_mistake}
 use Rattle.cdi_prepare.specs.BadStep.{bad_step, mistake_at, mistake_in, script_mistake, step_path}
 use Rattle.cdi_prepare.specs.Hint.{IsHintBy, IsHintFor, bad_form, bad_name, bad_number, mistake_by, mistake_of}
 use Rattle.cdi_prepare.specs.Kinds.{FitsReading, IsForm, IsFormAt, IsList, IsName, IsNoName, IsStep, IsSyntax, lists_in}
-use Rattle.cdi_prepare.specs.LongList.{class_list_at, first_beyond, first_long_list, item_at, list_at, long_item, long_list_in_classes, long_list_key, long_list_of_class}
+use Rattle.cdi_prepare.specs.LongList.{first_long_list}
 use Rattle.cdi_prepare.specs.Syntax.{IsSyntaxHint, has_mark}
 use Rattle.cdi_prepare.specs.declared.hint.Hint.{Hint}
 use Rattle.cdi_prepare.specs.declared.hint.Mistake.{Mistake}
 use Rattle.cdi_prepare.specs.declared.hint.Mistake.TheVariants as mistakes
 use Rattle.cdi_prepare.proofs.LongLists.{deployment-none}
+use Rattle.cdi_prepare.proofs.Longer.{first-longer}
 use Rattle.cdi_prepare.proofs.Full.{OnlyFull, lists_full}
 
 -- ---- lists
-
-list_if : (b : Bool) (o p : Option Mistake) → IfSome o IsList → IfSome p IsList → IfSome (if b then o else p) IsList
-list_if true o p first second = first
-list_if false o p first second = second
-
-list_or : (o p : Option Mistake) → IfSome o IsList → IfSome p IsList → IfSome (option_or o p) IsList
-list_or None p first second = second
-list_or (Some hint) p first second = first
-
-class_list : (index : ℕ) (c : Class) → IfSome (long_list_of_class index c) IsList
-class_list index c =
-    list_if (is_class_within c) None _ tt
-    (list_if (not (are_fields_within (length c.fields) (length c.inject))) (Some (class_list_at index (codes "fields") 64)) _ tt
-    (list_if (not (is_at_most 64 c.members)) (Some (class_list_at index (codes "members") 64)) (Some (item_at (codes "classes") index)) tt tt))
-
-classes_list : (index : ℕ) (cs : List Class) → IfSome (long_list_in_classes index cs) IsList
-classes_list index [] = tt
-classes_list index (c ∷ cs) = list_or (long_list_of_class index c) _ (class_list index c) (classes_list (index + 1) cs)
-
-map_list : {X : Type 0} (f : X → Mistake) (o : Option X) → ((x : X) → IsList (f x)) → IfSome (option_map f o) IsList
-map_list f None list = tt
-map_list f (Some x) list = list x
-
-item_list : (key : List ℕ) (o : Option ℕ) → IfSome (option_map (item_at key) o) IsList
-item_list key o = map_list (item_at key) o (λ index. tt)
-
-items_list : (d : Deployment) → IfSome (long_item d) IsList
-items_list d =
-    let interface : Option ℕ = first_beyond is_interface_within d.interfaces in
-    let qualifier : Option ℕ = first_beyond is_annotation_type_within d.qualifiers in
-    let binding : Option ℕ = first_beyond is_annotation_type_within d.bindings in
-    let interceptor : Option ℕ = first_beyond is_interceptor_within d.interceptors in
-    list_or (option_map (item_at (codes "interfaces")) interface) _ (item_list (codes "interfaces") interface)
-    (list_or (option_map (item_at (codes "qualifiers")) qualifier) _ (item_list (codes "qualifiers") qualifier)
-    (list_or (option_map (item_at (codes "bindings")) binding) _ (item_list (codes "bindings") binding)
-    (item_list (codes "interceptors") interceptor)))
-
-deployment_list : (d : Deployment) → IfSome (first_long_list d) IsList
-deployment_list d =
-    list_or (option_map list_at (long_list_key d)) _ (map_list list_at (long_list_key d) (λ key. tt))
-    (list_or (long_list_in_classes 0 d.classes) (long_item d) (classes_list 0 d.classes) (items_list d))
 
 list_where : (o : Option Mistake) → IfSome o IsList → is_none o ≡ false → IsSomeAnd o IsList
 list_where None list h = absurd cc
 list_where (Some hint) list h = list
 
 list_for : (d : Deployment) → is_within d ≡ false → IsSomeAnd (first_long_list d) IsList
-list_for d beyond = list_where (first_long_list d) (deployment_list d) (sym (deployment-none d) ∙ beyond)
+list_for d beyond = list_where (first_long_list d) (first-longer d) (sym (deployment-none d) ∙ beyond)
 
 -- ---- steps
 

@@ -1,6 +1,8 @@
 pub mod Options
 pub mod Items
+pub mod Telling
 pub mod LongLists
+pub mod Longer
 pub mod Full
 pub mod KindLemmas
 pub mod Counted

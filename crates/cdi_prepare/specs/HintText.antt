@@ -16,10 +16,9 @@ mistake_text mistakes.ByteOrderMark =
 mistake_text mistakes.NotUtf8 = Some (codes "here the file is no UTF-8, the encoding of JSON")
 mistake_text mistakes.NotJson = Some (codes "here the file is no JSON")
 mistake_text (mistakes.Form mistake) = placed_text mistake
-mistake_text (mistakes.List path limit) =
-    Some (path ++ (codes " has more than " ++ (decimal limit ++ codes " items")))
-mistake_text (mistakes.Item path) =
-    Some (path ++ codes " has a list that is longer than its limit")
+mistake_text (mistakes.List path length limit) =
+    Some (path ++ (codes " has " ++ (decimal length
+    ++ (codes " items, and at most " ++ (decimal limit ++ codes " are allowed")))))
 mistake_text (mistakes.Step path script mistake) =
     Some (path ++ (codes " of script " ++ (script ++ codes ": "))) ++? step_text mistake
 

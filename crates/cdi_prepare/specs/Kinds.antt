@@ -1,5 +1,5 @@
 -- Which kind of hint there is, by what reading the bytes gives.
-use Rattle.std.specs.Prelude.{◌≡◌, ℕ, List, Option, None, Result, Ok, Err, IfSome, IsSomeAnd}
+use Rattle.std.specs.Prelude.{◌≡◌, ◌<◌, ℕ, List, Option, None, Result, Ok, Err, IfSome, IsSomeAnd}
 use Rattle.cdi_base.specs.Reading.{◌>>=◌}
 use Rattle.cdi_form.specs.Json.{json_in}
 use Rattle.cdi_deploy.specs.Reading.{lists_of, or_not_json}
@@ -8,7 +8,6 @@ use Rattle.cdi_deploy.specs.declared.fault.ReadFault.{ReadFault}
 use Rattle.cdi_deploy.specs.declared.fault.ReadFault.TheVariants as faults
 use Rattle.cdi_form_mistakes.specs.declared.mistake.FormMistake.{FormMistake}
 use Rattle.cdi_form_mistakes.specs.declared.mistake.FormMistake.TheVariants as form_mistakes
-use Rattle.cdi_prepare.specs.declared.hint.Hint.{Hint}
 use Rattle.cdi_prepare.specs.declared.hint.Mistake.{Mistake}
 use Rattle.cdi_prepare.specs.declared.hint.Mistake.TheVariants as mistakes
 
@@ -39,10 +38,9 @@ abbrev pub IsFormAt : List ℕ → Mistake → Type 0
 IsFormAt path (mistakes.Form mistake) = mistake.path ≡ path
 IsFormAt path _ = ⊥
 
--- a list, or what it is a list of
+-- a list that is longer than its limit
 abbrev pub IsList : Mistake → Type 0
-IsList (mistakes.List path limit) = Unit {0}
-IsList (mistakes.Item path) = Unit {0}
+IsList (mistakes.List path length limit) = limit < length
 IsList _ = ⊥
 
 abbrev pub IsStep : Mistake → Type 0

@@ -1,9 +1,11 @@
 pub mod HintText
 pub mod Syntax
+pub mod ItemLists
 pub mod LongList
 pub mod BadStep
 pub mod Hint
 pub mod Kinds
+pub mod Warning
 pub mod FaultText
 pub mod Ready
 pub mod Scripts

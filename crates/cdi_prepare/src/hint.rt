@@ -21,19 +21,17 @@ pub enum Mistake {
     /// A value is not of the form of a deployment, a number is no whole number of 64 bits, or a text in the place of a name is none.
     Form(PlacedMistake),
     /// The list at this JSON Pointer (RFC 6901) has more items than its limit. `/classes` counts with the interfaces and
-    /// the interceptors, and the `fields` of a class with its injected fields. It is the first list of a deployment that
-    /// is too long, in the order `/classes`, `/scripts`, `/qualifiers`, `/bindings`, `/exceptions`, `/selected`, `/order`,
-    /// then class by class its `fields`, its `members` and its other lists, and then those of the interfaces, of the
-    /// qualifiers, of the bindings and of the interceptors.
+    /// the interceptors, and the `fields` of a class or an interceptor with its injected fields. It is the first list of a
+    /// deployment that is too long, in the order `/classes`, `/scripts`, `/qualifiers`, `/bindings`, `/exceptions`,
+    /// `/selected`, `/order`; then class by class its `fields`, `members`, `implements` and `bindings`, the `quals` and
+    /// `typed` of its `bean`, the `quals` of each of `inject`, the `params` of its `constructor` with their `quals`, and
+    /// member by member its `quals`, `typed`, `params` with their `quals`, and `bindings`; then the `extends` of each
+    /// interface, `members` and `nonbinding` of each qualifier and of each binding, and interceptor by interceptor its
+    /// `fields`, its `bindings` and the `quals` of each of `inject`.
     List {
         path: Text,
+        length: usize,
         limit: usize,
-    },
-    /// Some list of the class, interface, qualifier, binding or interceptor at this JSON Pointer has more items than its
-    /// limit, or more fields of an interceptor and injected ones together. It is the first list that is too long, in the
-    /// order of [`Mistake::List`].
-    Item {
-        path: Text,
     },
     /// The value at this JSON Pointer is no step. It is the first such of the first script that isn't one, which has this name.
     Step {
@@ -65,13 +63,16 @@ impl fmt::Display for Mistake {
             Mistake::NotUtf8 => f.write_str("here the file is no UTF-8, the encoding of JSON"),
             Mistake::NotJson => f.write_str("here the file is no JSON"),
             Mistake::Form(mistake) => write!(f, "{mistake}"),
-            Mistake::List { path, limit } => {
+            Mistake::List {
+                path,
+                length,
+                limit,
+            } => {
                 let path = path.as_str();
-                write!(f, "{path} has more than {limit} items")
-            }
-            Mistake::Item { path } => {
-                let path = path.as_str();
-                write!(f, "{path} has a list that is longer than its limit")
+                write!(
+                    f,
+                    "{path} has {length} items, and at most {limit} are allowed"
+                )
             }
             Mistake::Step {
                 path,

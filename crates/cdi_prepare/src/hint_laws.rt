@@ -16,8 +16,8 @@ ghost use Rattle.cdi_prepare.specs.LongList.{first_long_list};
 ghost use Rattle.cdi_prepare.specs.declared.hint.Hint.{Hint as AnyHint};
 
 /// What a hint tells fits what [`cdi_deploy::read`] answers: the text is wrong exactly if it is `NotJson`; what stands at its path
-/// is, if it is `Shape`; a number or a value, if it is `BadNumber`; a text that is no name, if it is `BadName`; a list exactly if
-/// it is `TooMany` and not because the table of names is full; and a step only if it is a deployment.
+/// is, if it is `Shape`; a number or a value, if it is `BadNumber`; a text that is no name, if it is `BadName`; a list that is longer
+/// than its limit exactly if it is `TooMany` and not because the table of names is full; and a step only if it is a deployment.
 pub fn law_kind()
     ensures { (bytes : List ℕ) (hint : Option AnyHint)
         → IsHintFor bytes hint

@@ -109,7 +109,6 @@ fn path_of(mistake: &Mistake) -> Option<&str> {
     match mistake {
         Mistake::Form(placed) => Some(placed.path.as_str()),
         Mistake::List { path, .. } => Some(path.as_str()),
-        Mistake::Item { path } => Some(path.as_str()),
         Mistake::Step { path, .. } => Some(path.as_str()),
         _ => None,
     }
@@ -140,10 +139,10 @@ fn hint_of(alloc: Global, bytes: &[u8], value: &Json) -> Result<Option<Hint>, Al
 
 /// The hint for the bytes of a deployment, if there is one. What is wrong is the text itself exactly where the bytes are at most
 /// [`MAX_BYTES`] and no JSON text in UTF-8; a [`Mistake::Form`] exactly where [`cdi_deploy::read`] answers
-/// [`ReadFault::BadNumber`], [`ReadFault::Shape`] or [`ReadFault::BadName`]; a [`Mistake::List`] or a [`Mistake::Item`] exactly
-/// where it answers [`ReadFault::TooMany`] because of a list; a [`Mistake::Step`] only where it gives a deployment whose first
-/// script that isn't one has a step that is none. An error where a growth was refused, which is neither for too many bytes nor
-/// for bytes that aren't UTF-8.
+/// [`ReadFault::BadNumber`], [`ReadFault::Shape`] or [`ReadFault::BadName`]; a [`Mistake::List`] exactly where it answers
+/// [`ReadFault::TooMany`] because of a list; a [`Mistake::Step`] only where it gives a deployment whose first script that isn't
+/// one has a step that is none. An error where a growth was refused, which is neither for too many bytes nor for bytes that
+/// aren't UTF-8.
 pub fn hint_for(alloc: Global, bytes: &[u8]) -> Result<Option<Hint>, AllocError>
     ensures gives { IfOk result (λ hint. spec.IsHintFor bytes.now hint) }
     ensures too_long { IsTrue (is_too_long bytes.now) → IsOk result }

@@ -1,150 +1,85 @@
-//! The first list that is longer than its limit.
-ghost use Rattle.std.specs.Prelude.{◌≡◌, Some, IfOk, option_map};
-ghost use Rattle.cdi_deployment.specs.Limits.{is_interface_within, is_annotation_type_within, is_interceptor_within};
+//! The first list of a deployment that is longer than its limit.
+ghost use Rattle.std.specs.Prelude.{◌≡◌, ◌+◌, length, IfOk};
 ghost use Rattle.cdi_prepare.specs.LongList as spec;
+ghost use Rattle.cdi_prepare.specs.LongList.{Tells};
 
 use crate::hint::Mistake;
-use cdi_base::Text;
-use cdi_deployment::limits::{
-    MAX_DECLARED, MAX_FIELDS, MAX_MEMBERS, MAX_SCRIPTS, MAX_TYPES, are_fields_within,
-    are_types_within, is_annotation_type_within, is_class_within, is_interceptor_within,
-    is_interface_within,
-};
-use cdi_deployment::{AnnotationType, Class, Deployment, Interceptor, Interface};
+use crate::item_lists::{check_items, check_length};
+use cdi_base::OrMemory;
+use cdi_deployment::Deployment;
+use cdi_deployment::limits::{MAX_DECLARED, MAX_SCRIPTS, MAX_TYPES};
 use std::alloc::{AllocError, Global};
 
-/// A list of a deployment, under its key. All have the same limit.
-fn list_at(alloc: Global, key: &str) -> Result<Mistake, AllocError>
-    ensures { IfOk result (λ m. m ≡ spec.list_at key.now) }
+/// The JSON Pointer (RFC 6901) to a deployment.
+const ROOT: &str = "";
+
+/// How many types a deployment has: interfaces and interceptors count with the classes.
+fn count_types(deployment: &Deployment) -> usize
+    ensures { result ≡ length deployment.now.interfaces + length deployment.now.classes
+        + length deployment.now.interceptors }
 {
-    let path = Text::new(format!(in alloc; "/{key}")?);
-    Ok(Mistake::List {
-        path,
-        limit: MAX_TYPES,
-    })
+    deployment.interfaces.as_slice().len()
+        + deployment.classes.as_slice().len()
+        + deployment.interceptors.as_slice().len()
 }
 
-/// A list of a class, under its key.
-fn class_list_at(
-    alloc: Global,
-    index: usize,
-    key: &str,
-    limit: usize,
-) -> Result<Mistake, AllocError>
-    ensures { IfOk result (λ m. m ≡ spec.class_list_at index key.now limit) }
+/// Checks the lists of a deployment itself.
+fn check_deployment(alloc: Global, deployment: &Deployment) -> Result<(), OrMemory<Mistake>>
+    ensures { Tells (spec.list_of_deployment deployment.now) result }
 {
-    let path = Text::new(format!(in alloc; "/classes/{index}/{key}")?);
-    Ok(Mistake::List { path, limit })
+    let declared = MAX_DECLARED;
+    check_length(alloc, ROOT, "classes", count_types(deployment), MAX_TYPES)?;
+    check_length(
+        alloc,
+        ROOT,
+        "scripts",
+        deployment.scripts.len(),
+        MAX_SCRIPTS,
+    )?;
+    check_length(
+        alloc,
+        ROOT,
+        "qualifiers",
+        deployment.qualifiers.len(),
+        declared,
+    )?;
+    check_length(alloc, ROOT, "bindings", deployment.bindings.len(), declared)?;
+    check_length(
+        alloc,
+        ROOT,
+        "exceptions",
+        deployment.exceptions.len(),
+        declared,
+    )?;
+    check_length(alloc, ROOT, "selected", deployment.selected.len(), declared)?;
+    check_length(alloc, ROOT, "order", deployment.order.len(), declared)?;
+    Ok(())
 }
 
-/// An item of a list of a deployment.
-fn item_at(alloc: Global, key: &str, index: usize) -> Result<Mistake, AllocError>
-    ensures { IfOk result (λ m. m ≡ spec.item_at key.now index) }
+/// Checks the lists of the items of a deployment.
+fn check_all_items(alloc: Global, deployment: &Deployment) -> Result<(), OrMemory<Mistake>>
+    ensures { Tells (spec.list_of_items deployment.now) result }
 {
-    let path = Text::new(format!(in alloc; "/{key}/{index}")?);
-    Ok(Mistake::Item { path })
+    check_items(alloc, ROOT, "classes", deployment.classes.as_slice())?;
+    check_items(alloc, ROOT, "interfaces", deployment.interfaces.as_slice())?;
+    check_items(alloc, ROOT, "qualifiers", deployment.qualifiers.as_slice())?;
+    check_items(alloc, ROOT, "bindings", deployment.bindings.as_slice())?;
+    check_items(
+        alloc,
+        ROOT,
+        "interceptors",
+        deployment.interceptors.as_slice(),
+    )?;
+    Ok(())
 }
 
-/// The key of the first list of a deployment that is too long itself.
-fn long_list_key(deployment: &Deployment) -> Option<&'static str>
-    ensures { option_map (λ key. key.now) result ≡ spec.long_list_key deployment.now }
+/// Checks all lists of a deployment.
+fn check(alloc: Global, deployment: &Deployment) -> Result<(), OrMemory<Mistake>>
+    ensures { Tells (spec.first_long_list deployment.now) result }
 {
-    if !are_types_within(deployment) {
-        return Some("classes");
-    }
-    if deployment.scripts.len() > MAX_SCRIPTS {
-        return Some("scripts");
-    }
-    if deployment.qualifiers.len() > MAX_DECLARED {
-        return Some("qualifiers");
-    }
-    if deployment.bindings.len() > MAX_DECLARED {
-        return Some("bindings");
-    }
-    if deployment.exceptions.len() > MAX_DECLARED {
-        return Some("exceptions");
-    }
-    if deployment.selected.len() > MAX_DECLARED {
-        return Some("selected");
-    }
-    if deployment.order.len() > MAX_DECLARED {
-        return Some("order");
-    }
-    None
-}
-
-fn long_list_of_class(
-    alloc: Global,
-    index: usize,
-    class: &Class,
-) -> Result<Option<Mistake>, AllocError>
-    ensures { IfOk result (λ m. m ≡ spec.long_list_of_class index class.now) }
-{
-    if is_class_within(class) {
-        return Ok(None);
-    }
-    if !are_fields_within(class.fields.len(), class.inject.len()) {
-        return Ok(Some(class_list_at(alloc, index, "fields", MAX_FIELDS)?));
-    }
-    if class.members.len() > MAX_MEMBERS {
-        return Ok(Some(class_list_at(alloc, index, "members", MAX_MEMBERS)?));
-    }
-    Ok(Some(item_at(alloc, "classes", index)?))
-}
-
-fn long_list_in_classes(alloc: Global, classes: &[Class]) -> Result<Option<Mistake>, AllocError>
-    ensures { IfOk result (λ m. m ≡ spec.long_list_in_classes 0 classes.now) }
-{
-    for (index, class) in classes.iter().enumerate() {
-        let mistake = long_list_of_class(alloc, index, class)?;
-        if mistake.is_some() {
-            return Ok(mistake);
-        }
-    }
-    Ok(None)
-}
-
-fn long_interface(interfaces: &[Interface]) -> Option<usize>
-    ensures { result ≡ spec.first_beyond is_interface_within interfaces.now }
-{
-    interfaces
-        .iter()
-        .position(|interface| !is_interface_within(interface))
-}
-
-fn long_annotation_type(annotations: &[AnnotationType]) -> Option<usize>
-    ensures { result ≡ spec.first_beyond is_annotation_type_within annotations.now }
-{
-    annotations
-        .iter()
-        .position(|annotation| !is_annotation_type_within(annotation))
-}
-
-fn long_interceptor(interceptors: &[Interceptor]) -> Option<usize>
-    ensures { result ≡ spec.first_beyond is_interceptor_within interceptors.now }
-{
-    interceptors
-        .iter()
-        .position(|interceptor| !is_interceptor_within(interceptor))
-}
-
-/// The first item of a list of a deployment, but of its classes, that has a list longer than its limit.
-fn long_item(alloc: Global, deployment: &Deployment) -> Result<Option<Mistake>, AllocError>
-    ensures { IfOk result (λ m. m ≡ spec.long_item deployment.now) }
-{
-    if let Some(index) = long_interface(deployment.interfaces.as_slice()) {
-        return Ok(Some(item_at(alloc, "interfaces", index)?));
-    }
-    if let Some(index) = long_annotation_type(deployment.qualifiers.as_slice()) {
-        return Ok(Some(item_at(alloc, "qualifiers", index)?));
-    }
-    if let Some(index) = long_annotation_type(deployment.bindings.as_slice()) {
-        return Ok(Some(item_at(alloc, "bindings", index)?));
-    }
-    if let Some(index) = long_interceptor(deployment.interceptors.as_slice()) {
-        return Ok(Some(item_at(alloc, "interceptors", index)?));
-    }
-    Ok(None)
+    check_deployment(alloc, deployment)?;
+    check_all_items(alloc, deployment)?;
+    Ok(())
 }
 
 /// The first list of a deployment that is longer than its limit, if there is one.
@@ -154,12 +89,9 @@ pub(crate) fn first_long_list(
 ) -> Result<Option<Mistake>, AllocError>
     ensures { IfOk result (λ m. m ≡ spec.first_long_list deployment.now) }
 {
-    if let Some(key) = long_list_key(deployment) {
-        return Ok(Some(list_at(alloc, key)?));
+    match check(alloc, deployment) {
+        Ok(()) => Ok(None),
+        Err(OrMemory::Fault(mistake)) => Ok(Some(mistake)),
+        Err(OrMemory::Memory) => Err(AllocError),
     }
-    let mistake = long_list_in_classes(alloc, deployment.classes.as_slice())?;
-    if mistake.is_some() {
-        return Ok(mistake);
-    }
-    long_item(alloc, deployment)
 }

@@ -2,6 +2,3 @@ use Rattle.cdi_prepare.proofs.hint.MistakeDisplay.fmt.Goals as goal
 
 pub returns-in-List-clause-writes : goal.returns-in-List-clause-writes
 returns-in-List-clause-writes g c = rw (c.in-List.is, ← c.as_str-path.ensures) c.write-in-List.ensures.writes
-
-pub returns-in-Item-clause-writes : goal.returns-in-Item-clause-writes
-returns-in-Item-clause-writes g c = rw (c.in-Item.is, ← c.as_str-path-in-Item.ensures) c.write-in-Item.ensures.writes
