@@ -40,13 +40,13 @@ abbrev pub script_details : Deployment → List ScriptNames → Option Place →
 script_details d scripts place kinds.BodyOutsideShape = scripts_text d scripts place
 script_details d scripts place _ = []
 
--- the problem as it is printed, and the rule that it breaks
-abbrev pub head : List (List ℕ) → Problem → List ℕ
-head names p = problem_text names p ++ (codes ": " ++ rule_text p.kind)
-
--- that, and what is told of the elements and of the scripts at its place
-abbrev pub problem_hint : Subject → Problem → List ℕ
-problem_hint s p =
-    head s.deployment.names p
+-- the rule that a problem breaks, and what is told of the elements and of the scripts at its place
+abbrev pub problem_message : Subject → Problem → List ℕ
+problem_message s p =
+    rule_text p.kind
     ++ (flat_map (details_at s.deployment s.tables p) (elements_of s.deployment)
     ++ script_details s.deployment s.scripts p.place p.kind)
+
+-- the same behind the problem as it is printed
+abbrev pub problem_hint : Subject → Problem → List ℕ
+problem_hint s p = problem_text s.deployment.names p ++ (codes ": " ++ problem_message s p)

@@ -1,5 +1,6 @@
 pub mod Candidates
 pub mod Hints
+pub mod Pointers
 pub mod Points
 pub mod Rule
 pub mod Scripts

@@ -12,7 +12,7 @@ use crate::rule::rule_text;
 use crate::script::add_scripts_at;
 use crate::sentence::add_sentences;
 use crate::subject::Subject;
-use cdi_base::{Names, Place, Text};
+use cdi_base::{Place, Text};
 use cdi_body_check::sites_of;
 use cdi_name_uses::unknown_names;
 use cdi_problems::{Element, Problem, ProblemKind, ProblemText, elements_of};
@@ -84,15 +84,6 @@ fn add_details_at(
     Ok(())
 }
 
-/// The problem as it is printed, and the rule that it breaks.
-fn head(alloc: Global, names: &Names, problem: &Problem) -> Result<String, AllocError>
-    ensures { IfOk result (λ text. string_bytes text ≡ spec.head names.now problem.now) }
-{
-    let rule = rule_text(problem.kind);
-    let problem = ProblemText { names, problem };
-    format!(in alloc; "{problem}: {rule}")
-}
-
 /// Adds what is told of the scripts at the place of a problem.
 fn add_script_details(
     alloc: Global,
@@ -113,11 +104,27 @@ fn add_script_details(
     }
 }
 
-/// The hint for a problem of a deployment: the problem as it is printed, the rule that it breaks, and the names that break it
-/// (Jakarta CDI 4.0, *Problems detected automatically by the container*). Of a name that isn't known the hint tells the group that
-/// it has to be of, and the known name that was probably meant, if one is near; of a point without its one bean, what it asks for, and
-/// if it is ambiguous the beans that are left, by the tables; of a script that names something that isn't there, its first step with a name that isn't declared as what it has to be, if there is
-/// one.
+/// What is told of a problem of a deployment beyond its line: the rule that it breaks, and the names that break it (Jakarta CDI 4.0,
+/// *Problems detected automatically by the container*). Of a name that isn't known it tells the group that it has to be of, and the
+/// known name that was probably meant, if one is near; of a point without its one bean, what it asks for, and if it is ambiguous the
+/// beans that are left, by the tables; of a script that names something that isn't there, its first step with a name that isn't
+/// declared as what it has to be, if there is one.
+pub fn problem_message(
+    alloc: Global,
+    subject: &Subject<'_>,
+    problem: &Problem,
+) -> Result<String, AllocError>
+    ensures { IfOk result (λ message.
+        string_bytes message ≡ spec.problem_message (subject_of subject.now) problem.now) }
+{
+    let mut message = String::from_str(alloc, rule_text(problem.kind))?;
+    let elements = elements_of(alloc, subject.deployment)?;
+    add_details_at(alloc, subject, problem, elements.as_slice(), &mut message)?;
+    add_script_details(alloc, subject, problem, &mut message)?;
+    Ok(message)
+}
+
+/// The hint for a problem of a deployment: the problem as it is printed, and what is told of it beyond that.
 pub fn problem_hint(
     alloc: Global,
     subject: &Subject<'_>,
@@ -126,10 +133,8 @@ pub fn problem_hint(
     ensures { IfOk result (λ hint.
         hint ≡ spec.problem_hint (subject_of subject.now) problem.now) }
 {
-    let deployment = subject.deployment;
-    let mut hint = head(alloc, &deployment.names, problem)?;
-    let elements = elements_of(alloc, deployment)?;
-    add_details_at(alloc, subject, problem, elements.as_slice(), &mut hint)?;
-    add_script_details(alloc, subject, problem, &mut hint)?;
-    Ok(Text::new(hint))
+    let names = &subject.deployment.names;
+    let message = problem_message(alloc, subject, problem)?;
+    let problem = ProblemText { names, problem };
+    Ok(Text::new(format!(in alloc; "{problem}: {message}")?))
 }

@@ -1,5 +1,5 @@
 use Rattle.std.proofs.Common.{◌≡◌, map, take}
-use Rattle.cdi_findings.proofs.finding.texts_json.Given as goal
+use Rattle.cdi_program.proofs.finding.texts_json.Given as goal
 use Rattle.serde_json.specs.Data.{string}
 use Rattle.serde_json.specs.View.{view}
 

@@ -1,7 +1,7 @@
 -- No finding has a float.
 use Rattle.std.proofs.Common.{◌≡◌, ℕ, List, [], ◌∷◌, map, Option, Some, None, false, refl}
-use Rattle.cdi_findings.specs.Finding.{line_data, column_data, finding_data}
-use Rattle.cdi_findings.specs.declared.finding.Finding.{Finding}
+use Rattle.cdi_program.specs.Finding.{line_data, column_data, finding_data}
+use Rattle.cdi_program.specs.declared.finding.Finding.{Finding}
 use Rattle.cdi_positions.specs.declared.position.Position.{Position}
 use Rattle.serde_json.specs.Data.{string}
 use Rattle.serde_json.specs.View.{items_of}

@@ -1,8 +1,8 @@
 -- Findings as JSON.
 use Rattle.std.specs.Prelude.{ℕ, List, codes, map, Option, Some, None}
-use Rattle.cdi_findings.specs.declared.finding.Finding.{Finding}
-use Rattle.cdi_findings.specs.declared.finding.FindingKind.{FindingKind}
-use Rattle.cdi_findings.specs.declared.finding.FindingKind.TheVariants as kinds
+use Rattle.cdi_program.specs.declared.finding.Finding.{Finding}
+use Rattle.cdi_program.specs.declared.finding.FindingKind.{FindingKind}
+use Rattle.cdi_program.specs.declared.finding.FindingKind.TheVariants as kinds
 use Rattle.cdi_positions.specs.declared.position.Position.{Position}
 use Rattle.serde_json.specs.Data.{Data, array, no_members, null, number, object, put, string, unsigned}
 use Rattle.serde_json.specs.View.{items_of}

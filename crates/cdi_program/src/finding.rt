@@ -3,7 +3,7 @@ ghost use Rattle.std.specs.Prelude.{◌≡◌, ◌∷◌, ◌++◌, [], IfOk, ma
 ghost use Rattle.serde_json.specs.Data.{string};
 ghost use Rattle.serde_json.specs.View.{view};
 ghost use Rattle.serde_json.specs.Written.{compact_text};
-ghost use Rattle.cdi_findings.specs.Finding as spec;
+ghost use Rattle.cdi_program.specs.Finding as spec;
 
 use cdi_base::Text;
 use cdi_positions::Position;

@@ -1,6 +1,6 @@
 //! The JSON Pointer to the place of a problem.
 ghost use Rattle.std.specs.Prelude.{◌≡◌, option_map, string_bytes, IfOk};
-ghost use Rattle.cdi_problem_places.specs.Pointers as spec;
+ghost use Rattle.cdi_problem_hints.specs.Pointers as spec;
 
 use crate::declared::{
     annotation_named, class_named, exception_named, field_named, injected_field_named,
