@@ -3,6 +3,7 @@
 #![tactic(auto)]
 
 mod eligible;
+pub mod laws;
 mod narrowing;
 pub mod point;
 pub mod tables;

@@ -10,13 +10,27 @@ use cdi_check::check;
 use cdi_deployment::Deployment;
 use cdi_prepare::{NamedScript, Prepared, prepare};
 use cdi_problems::Problem;
+use cdi_step_names::ScriptNames;
 use std::alloc::{AllocError, Global};
 
 /// A deployment that was read with its scripts, and its problems.
 #[derive(Drop)]
 pub struct Review {
     pub deployment: Deployment,
+    /// The names that the steps of its scripts use, script by script.
+    pub scripts: Seq<ScriptNames>,
     pub problems: Seq<Problem>,
+}
+
+/// The names that the steps of scripts use.
+fn names_of(alloc: Global, scripts: &[NamedScript]) -> Result<Seq<ScriptNames>, AllocError>
+    ensures { IfOk result (λ names. names ≡ spec.names_of scripts.now) }
+{
+    let mut names = Seq::empty(alloc);
+    for named in scripts {
+        names.push(ScriptNames::of(alloc, named.name, &named.script)?)?;
+    }
+    Ok(names)
 }
 
 /// A deployment that was read with its scripts, which are its bodies, and its problems.
@@ -28,6 +42,7 @@ pub(crate) fn review_of(alloc: Global, prepared: Prepared) -> Result<Review, All
         deployment,
         scripts,
     } = prepared;
+    let names = names_of(alloc, scripts.as_slice())?;
     let mut bodies = Bodies::new(alloc);
     for named in scripts {
         let NamedScript { name, script } = named;
@@ -51,6 +66,7 @@ pub(crate) fn review_of(alloc: Global, prepared: Prepared) -> Result<Review, All
     let problems = check(alloc, &deployment, &bodies)?;
     Ok(Review {
         deployment,
+        scripts: names,
         problems,
     })
 }

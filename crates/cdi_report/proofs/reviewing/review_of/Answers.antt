@@ -10,6 +10,7 @@ use Rattle.cdi_script.proofs.Within.{lies}
 use Rattle.cdi_prepare.specs.declared.scripts.NamedScript.{NamedScript}
 use Rattle.cdi_prepare.specs.Scripts.{added, place_under, registered}
 use Rattle.cdi_prepare.proofs.Holding.{holds_add, same_length, same_place, add_known, add_new, holds_all, not_full, same_shape}
+use Rattle.cdi_report.specs.Reviews.{names_of}
 use Rattle.cdi_report.proofs.reviewing.review_of.OwnLists.{own-1, at-1-1}
 use Rattle.cdi_report.proofs.reviewing.review_of.Goals as goal
 
@@ -58,6 +59,7 @@ returns c =
     let held = holds_all entries inv.0 rest.items scripts inv.1 inv.2 all in
     record {
       deployment = refl;
+      scripts = c.in_ok-names.ensures ∙ ap names_of c.as_slice.ensures.value;
       are = record {
         shape_of = shape_of entries;
         shapes = λ name. same_shape entries (registered scripts) name held;
