@@ -1,3 +1,4 @@
 pub mod Advised
+pub mod NoFloats
 pub mod Told
 pub mod Usage

@@ -1,5 +1,6 @@
 pub mod Advice
 pub mod Files
+pub mod Finding
 pub mod Lines
 pub mod Program
 pub mod Statuses

@@ -44,7 +44,7 @@ PassesOnSome (Some text) old new = PassesOn text old new
 
 -- The hints for the problems of the deployment that these bytes are, if they are one, are told; or that memory ran out.
 pub data Advises (file bytes : List ℕ) (old new : Output) : Type 0 where
-  advises : (advice : Option (List ℕ)) → IsAdviceFor file (readied_in bytes) advice
+  advises : (advice : Option (List ℕ)) → IsAdviceFor file bytes (readied_in bytes) advice
       → PassesOnSome advice old new → Advises file bytes old new
   starves : TellsFault faults.Memory old new → Advises file bytes old new
 

@@ -1,18 +1,24 @@
 //! The hints for the problems of a deployment, on standard error.
-ghost use Rattle.std.specs.Prelude.{◌≡◌, ◌++◌, Some, string_bytes, IfOk, OnOk};
+ghost use Rattle.std.specs.Prelude.{◌≡◌, ◌++◌, string_bytes, IfOk, IsSomeAnd, OnOk};
+ghost use Rattle.std.specs.List.{list_any};
 ghost use Rattle.cdi_prepare.specs.Ready.{readied_in};
+ghost use Rattle.cdi_problem_hints.specs.Subjects.{subject_of};
 ghost use Rattle.cdi_program.specs.Advice as spec;
 ghost use Rattle.cdi_program.specs.Lines as lines;
 ghost use Rattle.cdi_program.specs.Streams.{output_of};
 ghost use Rattle.cdi_program.specs.Telling as telling;
 
+use crate::locating::position_of_problem;
 use crate::telling::tell;
 use cdi_base::Text;
+use cdi_candidates::tables_of;
 use cdi_deployment::Deployment;
 use cdi_lines::{ServeFault, Sink};
-use cdi_problem_hints::problem_hint;
-use cdi_problems::Problem;
+use cdi_positions::Position;
+use cdi_problem_hints::{Subject, problem_hint};
+use cdi_problems::{Problem, ProblemKind};
 use cdi_report::{Review, review_bytes};
+use cdi_resolve::BeanTables;
 use std::alloc::{AllocError, Global};
 
 /// The most problems of a deployment that get a hint.
@@ -30,22 +36,36 @@ fn add_line(file: &str, hint: &str, advice: &mut String) -> Result<(), AllocErro
     advice.push_str("\n")
 }
 
-/// Adds the lines of the hints for problems, in their order.
-fn add_hints(
+/// What stands in front of a hint: the position of a text, if one is known.
+fn front_of(alloc: Global, position: Option<Position>) -> Result<String, AllocError>
+    ensures { IfOk result (λ text. string_bytes text ≡ spec.position_front position) }
+{
+    match position {
+        Some(position) => format!(in alloc; "{position}: "),
+        None => Ok(String::new(alloc)),
+    }
+}
+
+/// The lines of the hints for problems, in their order. The bytes are those from which the deployment was read.
+fn hint_lines(
     alloc: Global,
     file: &str,
-    deployment: &Deployment,
+    bytes: &[u8],
+    subject: &Subject<'_>,
     problems: &[Problem],
-    advice: &mut String,
-) -> Result<(), AllocError>
-    ensures { OnOk result (string_bytes advice.new ≡ string_bytes advice.old
-        ++ spec.hint_lines file.now deployment.now problems.now) }
+) -> Result<String, AllocError>
+    ensures { IfOk result (λ lines. spec.AreHintLines file.now bytes.now (subject_of subject.now)
+        problems.now (string_bytes lines)) }
 {
+    let mut lines = String::new(alloc);
     for problem in problems {
-        let hint = problem_hint(alloc, deployment, problem)?;
-        add_line(file, hint.as_str(), advice)?;
+        let position = position_of_problem(alloc, bytes, subject.deployment, problem)?;
+        let front = front_of(alloc, position)?;
+        let hint = problem_hint(alloc, subject, problem)?;
+        let hint = hint.as_str();
+        add_line(file, &format!(in alloc; "{front}{hint}")?, &mut lines)?;
     }
-    Ok(())
+    Ok(lines)
 }
 
 /// Adds the line that tells how many problems have no hint, if there are such.
@@ -64,36 +84,70 @@ fn add_rest(alloc: Global, file: &str, count: usize, advice: &mut String) -> Res
 fn advice_on(
     alloc: Global,
     file: &str,
-    deployment: &Deployment,
+    bytes: &[u8],
+    subject: &Subject<'_>,
     problems: &[Problem],
 ) -> Result<Text, AllocError>
-    ensures { IfOk result (λ advice.
-        advice ≡ spec.advice_text file.now deployment.now problems.now) }
+    ensures { IfOk result
+        (spec.IsAdviceText file.now bytes.now (subject_of subject.now) problems.now) }
 {
-    let mut advice = String::new(alloc);
     let hinted = problems.len().min(MAX_HINTS);
-    add_hints(alloc, file, deployment, &problems[..hinted], &mut advice)?;
+    let mut advice = hint_lines(alloc, file, bytes, subject, &problems[..hinted])?;
     add_rest(alloc, file, problems.len() - hinted, &mut advice)?;
     Ok(Text::new(advice))
 }
 
-fn some_advice(alloc: Global, file: &str, review: Review) -> Result<Option<Text>, AllocError>
-    ensures { IfOk result (λ advice.
-        advice ≡ Some (spec.advice_text file.now review.deployment review.problems)) }
+fn is_one_ambiguous(problems: &[Problem]) -> bool
+    ensures { result ≡ list_any spec.is_ambiguous problems.now }
+{
+    problems
+        .iter()
+        .any(|problem| problem.kind == ProblemKind::Ambiguous)
+}
+
+/// The tables by which the points of a deployment resolve, if one of these problems needs them.
+fn tables_for(
+    alloc: Global,
+    deployment: &Deployment,
+    problems: &[Problem],
+) -> Result<Option<BeanTables>, AllocError>
+    ensures { IfOk result (spec.AreTablesFor deployment.now problems.now) }
+{
+    if !is_one_ambiguous(problems) {
+        return Ok(None);
+    }
+    tables_of(alloc, deployment)
+}
+
+fn some_advice(
+    alloc: Global,
+    file: &str,
+    bytes: &[u8],
+    review: Review,
+) -> Result<Option<Text>, AllocError>
+    ensures { IfOk result (λ advice. IsSomeAnd advice
+        (spec.IsAdviceWith file.now bytes.now review.deployment review.scripts review.problems)) }
 {
     let Review {
         deployment,
+        scripts,
         problems,
     } = review;
-    Ok(Some(advice_on(alloc, file, &deployment, problems.as_slice())?))
+    let tables = tables_for(alloc, &deployment, problems.as_slice())?;
+    let subject = Subject {
+        deployment: &deployment,
+        scripts: scripts.as_slice(),
+        tables: tables.as_ref(),
+    };
+    Ok(Some(advice_on(alloc, file, bytes, &subject, problems.as_slice())?))
 }
 
 /// The same for bytes, if they are a deployment.
 fn advice_for(alloc: Global, file: &str, bytes: &[u8]) -> Result<Option<Text>, AllocError>
-    ensures { IfOk result (spec.IsAdviceFor file.now (readied_in bytes.now)) }
+    ensures { IfOk result (spec.IsAdviceFor file.now bytes.now (readied_in bytes.now)) }
 {
     match review_bytes(alloc, bytes) {
-        Ok(Some(review)) => some_advice(alloc, file, review),
+        Ok(Some(review)) => some_advice(alloc, file, bytes, review),
         Ok(None) => Ok(None),
         Err(error) => Err(error),
     }

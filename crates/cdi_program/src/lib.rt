@@ -4,6 +4,8 @@
 mod advising;
 mod explaining;
 pub mod files;
+mod finding;
+mod locating;
 pub mod program;
 pub mod status;
 mod telling;
