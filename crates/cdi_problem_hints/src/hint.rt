@@ -115,9 +115,9 @@ fn add_script_details(
 
 /// The hint for a problem of a deployment: the problem as it is printed, the rule that it breaks, and the names that break it
 /// (Jakarta CDI 4.0, *Problems detected automatically by the container*). Of a name that isn't known the hint tells the group that
-/// it has to be of, and the known name that was probably meant, if one is near; of a point without its one bean, what it asks for, and
-/// if it is ambiguous the beans that are left, by the tables; of a script that names something that isn't there, its first step with a name that isn't declared as what it has to be, if there is
-/// one.
+/// it has to be of, and the known name that was probably meant, if one is near. Of a point without its one bean it tells what is
+/// asked for, and if that is ambiguous and the tables are given, the beans that are left. Of a script that names something that
+/// isn't there it tells the first step with a name that isn't declared as what it has to be, if there is one.
 pub fn problem_hint(
     alloc: Global,
     subject: &Subject<'_>,
