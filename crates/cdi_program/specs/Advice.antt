@@ -1,16 +1,23 @@
 -- The hints for the problems of a deployment, as lines on standard error.
-use Rattle.std.specs.Prelude.{◌≡◌, ℕ, ◌-◌, List, [], ◌++◌, codes, decimal, length, min, take, nat_eq, Option, None, Result, Ok, Err, IsSomeAnd, if◌then◌else◌}
-use Rattle.std.specs.List.{flat_map}
+use Rattle.std.specs.Prelude.{◌≡◌, ℕ, ◌-◌, Bool, true, false, List, [], ◌++◌, codes, decimal, length, min, take, nat_eq, Option, None, Result, Ok, Err, IsSomeAnd, if◌then◌else◌}
+use Rattle.std.specs.List.{flat_map, list_any}
+use Rattle.cdi_candidates.specs.Tables.{AreTables}
 use Rattle.cdi_deployment.specs.declared.deployment.Deployment.{Deployment}
 use Rattle.cdi_prepare.specs.Ready.{Readied}
 use Rattle.cdi_prepare.specs.Scripts.{registered}
 use Rattle.cdi_problem_hints.specs.Hints.{problem_hint}
+use Rattle.cdi_problem_hints.specs.Subjects.{Subject}
 use Rattle.cdi_problems.specs.declared.problem.Problem.{Problem}
+use Rattle.cdi_problems.specs.declared.problem.ProblemKind.{ProblemKind}
+use Rattle.cdi_problems.specs.declared.problem.ProblemKind.TheVariants as kinds
 use Rattle.cdi_program.specs.Lines.{file_line}
 use Rattle.cdi_report.specs.Reports.{AreProblemsWith}
+use Rattle.cdi_report.specs.Reviews.{names_of}
+use Rattle.cdi_resolve.specs.declared.bean_tables.BeanTables.{BeanTables}
+use Rattle.cdi_step_names.specs.declared.step_name.ScriptNames.{ScriptNames}
 
-abbrev pub hint_lines : List ℕ → Deployment → List Problem → List ℕ
-hint_lines file d problems = flat_map (λ p. file_line file (problem_hint d p)) problems
+abbrev pub hint_lines : List ℕ → Subject → List Problem → List ℕ
+hint_lines file s problems = flat_map (λ p. file_line file (problem_hint s p)) problems
 
 -- so many problems more have no hint
 abbrev pub rest_line : List ℕ → ℕ → List ℕ
@@ -23,16 +30,40 @@ abbrev pub hinted : List Problem → ℕ
 hinted problems = min (length problems) 50
 
 -- a line for each of these, and how many there are more
-abbrev pub advice_text : List ℕ → Deployment → List Problem → List ℕ
-advice_text file d problems =
-    hint_lines file d (take (hinted problems) problems)
+abbrev pub advice_text : List ℕ → Subject → List Problem → List ℕ
+advice_text file s problems =
+    hint_lines file s (take (hinted problems) problems)
     ++ rest_line file (length problems - hinted problems)
+
+abbrev pub is_ambiguity : ProblemKind → Bool
+is_ambiguity kinds.Ambiguous = true
+is_ambiguity _ = false
+
+abbrev pub is_ambiguous : Problem → Bool
+is_ambiguous p = is_ambiguity p.kind
+
+abbrev pub AreTablesIf : Bool → Deployment → Option BeanTables → Type 0
+AreTablesIf true d tables = AreTables d tables
+AreTablesIf false d tables = tables ≡ None
+
+-- the tables by which the points of a deployment resolve, if one of these problems is an ambiguous point
+abbrev pub AreTablesFor : Deployment → List Problem → Option BeanTables → Type 0
+AreTablesFor d problems tables = AreTablesIf (list_any is_ambiguous problems) d tables
+
+-- that of a deployment whose scripts use these names
+pub record IsAdviceWith (file : List ℕ) (d : Deployment) (scripts : List ScriptNames)
+    (problems : List Problem) (advice : List ℕ) : Type 0 where
+  pub tables : Option BeanTables
+  pub are_tables : AreTablesFor d problems tables
+  pub is_text :
+      advice
+      ≡ advice_text file (record { deployment = d; scripts = scripts; tables = tables }) problems
 
 -- that of the problems of a deployment whose bodies are its scripts
 pub record IsAdviceOn (file : List ℕ) (r : Readied) (advice : List ℕ) : Type 0 where
   pub problems : List Problem
   pub are : AreProblemsWith (registered r.scripts) r.deployment problems
-  pub is_text : advice ≡ advice_text file r.deployment problems
+  pub is_advice : IsAdviceWith file r.deployment (names_of r.scripts) problems advice
 
 -- none for one that can't be read
 abbrev pub IsAdviceFor : List ℕ → Result Readied (List ℕ) → Option (List ℕ) → Type 0

@@ -1,6 +1,8 @@
 //! The hints for the problems of a deployment, on standard error.
-ghost use Rattle.std.specs.Prelude.{◌≡◌, ◌++◌, Some, string_bytes, IfOk, OnOk};
+ghost use Rattle.std.specs.Prelude.{◌≡◌, ◌++◌, string_bytes, IfOk, IsSomeAnd, OnOk};
+ghost use Rattle.std.specs.List.{list_any};
 ghost use Rattle.cdi_prepare.specs.Ready.{readied_in};
+ghost use Rattle.cdi_problem_hints.specs.Subjects.{subject_of};
 ghost use Rattle.cdi_program.specs.Advice as spec;
 ghost use Rattle.cdi_program.specs.Lines as lines;
 ghost use Rattle.cdi_program.specs.Streams.{output_of};
@@ -8,11 +10,13 @@ ghost use Rattle.cdi_program.specs.Telling as telling;
 
 use crate::telling::tell;
 use cdi_base::Text;
+use cdi_candidates::tables_of;
 use cdi_deployment::Deployment;
 use cdi_lines::{ServeFault, Sink};
-use cdi_problem_hints::problem_hint;
-use cdi_problems::Problem;
+use cdi_problem_hints::{Subject, problem_hint};
+use cdi_problems::{Problem, ProblemKind};
 use cdi_report::{Review, review_bytes};
+use cdi_resolve::BeanTables;
 use std::alloc::{AllocError, Global};
 
 /// The most problems of a deployment that get a hint.
@@ -34,15 +38,15 @@ fn add_line(file: &str, hint: &str, advice: &mut String) -> Result<(), AllocErro
 fn add_hints(
     alloc: Global,
     file: &str,
-    deployment: &Deployment,
+    subject: &Subject<'_>,
     problems: &[Problem],
     advice: &mut String,
 ) -> Result<(), AllocError>
     ensures { OnOk result (string_bytes advice.new ≡ string_bytes advice.old
-        ++ spec.hint_lines file.now deployment.now problems.now) }
+        ++ spec.hint_lines file.now (subject_of subject.now) problems.now) }
 {
     for problem in problems {
-        let hint = problem_hint(alloc, deployment, problem)?;
+        let hint = problem_hint(alloc, subject, problem)?;
         add_line(file, hint.as_str(), advice)?;
     }
     Ok(())
@@ -64,28 +68,58 @@ fn add_rest(alloc: Global, file: &str, count: usize, advice: &mut String) -> Res
 fn advice_on(
     alloc: Global,
     file: &str,
-    deployment: &Deployment,
+    subject: &Subject<'_>,
     problems: &[Problem],
 ) -> Result<Text, AllocError>
     ensures { IfOk result (λ advice.
-        advice ≡ spec.advice_text file.now deployment.now problems.now) }
+        advice ≡ spec.advice_text file.now (subject_of subject.now) problems.now) }
 {
     let mut advice = String::new(alloc);
     let hinted = problems.len().min(MAX_HINTS);
-    add_hints(alloc, file, deployment, &problems[..hinted], &mut advice)?;
+    add_hints(alloc, file, subject, &problems[..hinted], &mut advice)?;
     add_rest(alloc, file, problems.len() - hinted, &mut advice)?;
     Ok(Text::new(advice))
 }
 
+fn is_one_ambiguous(problems: &[Problem]) -> bool
+    ensures { result ≡ list_any spec.is_ambiguous problems.now }
+{
+    problems
+        .iter()
+        .any(|problem| problem.kind == ProblemKind::Ambiguous)
+}
+
+/// The tables by which the points of a deployment resolve, if one of these problems needs them.
+fn tables_for(
+    alloc: Global,
+    deployment: &Deployment,
+    problems: &[Problem],
+) -> Result<Option<BeanTables>, AllocError>
+    ensures { IfOk result (spec.AreTablesFor deployment.now problems.now) }
+{
+    if !is_one_ambiguous(problems) {
+        return Ok(None);
+    }
+    tables_of(alloc, deployment)
+}
+
 fn some_advice(alloc: Global, file: &str, review: Review) -> Result<Option<Text>, AllocError>
-    ensures { IfOk result (λ advice.
-        advice ≡ Some (spec.advice_text file.now review.deployment review.problems)) }
+    ensures { IfOk result (λ advice. IsSomeAnd advice
+        (spec.IsAdviceWith file.now review.deployment review.scripts review.problems)) }
 {
     let Review {
         deployment,
+        scripts,
         problems,
     } = review;
-    Ok(Some(advice_on(alloc, file, &deployment, problems.as_slice())?))
+    let made = tables_for(alloc, &deployment, problems.as_slice())?;
+    let tables = made.as_ref();
+    let subject = Subject {
+        deployment: &deployment,
+        scripts: scripts.as_slice(),
+        tables,
+    };
+    Ok(Some(advice_on(alloc, file, &subject, problems.as_slice())?))
 }
 
 /// The same for bytes, if they are a deployment.
