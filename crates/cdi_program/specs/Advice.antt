@@ -22,7 +22,7 @@ use Rattle.cdi_step_names.specs.declared.step_name.ScriptNames.{ScriptNames}
 abbrev pub position_front : Option Position → List ℕ
 position_front None = []
 position_front (Some p) =
-    codes "line " ++ (decimal p.line ++ (codes ", column " ++ (decimal p.column ++ codes ": ")))
+    (codes "line " ++ (decimal p.line ++ (codes ", column " ++ decimal p.column))) ++ codes ": "
 
 -- the line of the hint for a problem
 abbrev pub hint_line : List ℕ → Subject → Problem → Option Position → List ℕ

@@ -133,11 +133,12 @@ fn some_advice(
         scripts,
         problems,
     } = review;
-    let tables = tables_for(alloc, &deployment, problems.as_slice())?;
+    let made = tables_for(alloc, &deployment, problems.as_slice())?;
+    let tables = made.as_ref();
     let subject = Subject {
         deployment: &deployment,
         scripts: scripts.as_slice(),
-        tables: tables.as_ref(),
+        tables,
     };
     Ok(Some(advice_on(alloc, file, bytes, &subject, problems.as_slice())?))
 }
