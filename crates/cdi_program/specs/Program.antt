@@ -23,7 +23,7 @@ use Rattle.cdi_program.specs.Streams.{Ends, IsUnread, IsUntouched, Output}
 use Rattle.cdi_program.specs.Telling.{IsLeft, Passes, PassesOn, TellsEnding, TellsFault, TellsOfFile, TellsVerdict}
 use Rattle.cdi_program.specs.WordAnswers.{IsAnswerOn}
 use Rattle.cdi_program.specs.declared.explaining.WordAnswer.{WordAnswer}
-use Rattle.cdi_program.specs.declared.explaining.WordAnswer.TheVariants as answers
+use Rattle.cdi_program.specs.declared.explaining.WordAnswer.TheVariants as word_answers
 use Rattle.cdi_program.specs.declared.words.WordsError.{WordsError}
 use Rattle.cdi_program.specs.declared.words.WordsError.TheVariants as words_errors
 
@@ -122,8 +122,8 @@ pub data ServesFile (gives : List ℕ → ℕ → List ℕ → Type 0) (unreadab
 
 -- what is told of a word that is to be explained
 abbrev pub Answers : List ℕ → WordAnswer → Ends → ℕ → Type 0
-Answers word (answers.Known text) ends status = Shows (string_bytes text) ends status
-Answers word (answers.Unknown cause) ends status =
+Answers word (word_answers.Known text) ends status = Shows (string_bytes text) ends status
+Answers word (word_answers.Unknown cause) ends status =
     PassesOn (file_line word (string_bytes cause)) ends.errors ends.errors_after
     × IsUntouched ends × (status ≡ 2)
 

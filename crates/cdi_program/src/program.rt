@@ -171,7 +171,7 @@ fn serve_bytes<R: Source, W: Sink, E: Sink>(
 {
     match options.mode {
         Mode::Check => check_bytes(alloc, options.file, bytes, input, output, errors),
-        _ => run_bytes(alloc, options, bytes, input, output, errors),
+        Mode::Run | Mode::Explain => run_bytes(alloc, options, bytes, input, output, errors),
     }
 }
 
@@ -216,7 +216,7 @@ fn serve_options<F: Files, R: Source, W: Sink, E: Sink>(
 {
     match options.mode {
         Mode::Explain => explain_word(alloc, options.word, input, output, errors),
-        _ => serve_file(alloc, options, files, input, output, errors),
+        Mode::Check | Mode::Run => serve_file(alloc, options, files, input, output, errors),
     }
 }
 
