@@ -1,6 +1,7 @@
 pub mod Advice
 pub mod Files
 pub mod Finding
+pub mod Findings
 pub mod Lines
 pub mod Program
 pub mod Statuses

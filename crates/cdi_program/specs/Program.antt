@@ -1,5 +1,5 @@
 -- The program: from the words of the command line to the exit status.
-use Rattle.std.specs.Prelude.{◌≡◌, ℕ, true, false, List, codes, map, string_bytes, None, Result, Ok, Err, OnOk, IsTrue}
+use Rattle.std.specs.Prelude.{◌≡◌, ℕ, Bool, true, false, List, codes, map, string_bytes, None, Result, Ok, Err, OnOk, IsTrue}
 use Rattle.std.specs.Borrow.{Bor}
 use Rattle.clap.specs.Words.{IsAmong, Text}
 use Rattle.clap.specs.declared.error.kind.ErrorKind.{ErrorKind}
@@ -17,8 +17,10 @@ use Rattle.cdi_settings.specs.declared.settings.Settings.{Settings}
 use Rattle.cdi_shell.specs.Endings.{outcome_of, status_of as status_of_ending}
 use Rattle.cdi_shell.specs.Laws.{DrivesOnce}
 use Rattle.cdi_shell.specs.declared.ending.Ending.{Ending}
+use Rattle.cdi_prepare.specs.Ready.{readied_in}
+use Rattle.cdi_program.specs.Findings.{AreFindings}
 use Rattle.cdi_program.specs.Lines.{cause_line, file_line}
-use Rattle.cdi_program.specs.Statuses.{is_shown, status_of}
+use Rattle.cdi_program.specs.Statuses.{is_shown, status_of, status_of_findings}
 use Rattle.cdi_program.specs.Streams.{Ends, IsUnread, IsUntouched, Output}
 use Rattle.cdi_program.specs.Telling.{IsLeft, Passes, PassesOn, TellsEnding, TellsFault, TellsOfFile, TellsVerdict}
 use Rattle.cdi_program.specs.WordAnswers.{IsAnswerOn}
@@ -103,9 +105,21 @@ pub record ChecksBytes (file bytes : List ℕ) (ends : Ends) (status : ℕ) : Ty
   pub tells : TellsVerdict file bytes verdict ends.errors ends.errors_after
   pub is_status : status ≡ status_of_verdict verdict
 
+-- These bytes of a deployment are checked, and what is wrong is written as lines of JSON; or memory ran out.
+pub data ChecksAsJson (bytes : List ℕ) (ends : Ends) (status : ℕ) : Type 0 where
+  writes : (lines : List ℕ) → AreFindings bytes (readied_in bytes) lines
+      → (shown : ℕ) → Shows lines ends shown → status ≡ status_of_findings lines shown
+      → ChecksAsJson bytes ends status
+  starves : IsUntouched ends → TellsFault faults.Memory ends.errors ends.errors_after
+      → status ≡ 3 → ChecksAsJson bytes ends status
+
+abbrev pub ChecksBy : Bool → List ℕ → List ℕ → Ends → ℕ → Type 0
+ChecksBy true file bytes ends status = ChecksAsJson bytes ends status
+ChecksBy false file bytes ends status = ChecksBytes file bytes ends status
+
 -- the bytes of a deployment are checked or run
 abbrev pub ServesBytesBy : Mode → Options → List ℕ → Ends → ℕ → Type 0
-ServesBytesBy modes.Check o bytes ends status = ChecksBytes o.file.now bytes ends status
+ServesBytesBy modes.Check o bytes ends status = ChecksBy o.writes_json o.file.now bytes ends status
 ServesBytesBy _ o bytes ends status = RunsBytes o.settings o.file.now bytes ends status
 
 abbrev pub ServesBytes : Options → List ℕ → Ends → ℕ → Type 0

@@ -1,5 +1,5 @@
--- The exit status where the words ask for nothing to run.
-use Rattle.std.specs.Prelude.{ℕ, Bool, true, false}
+-- The exit statuses that are not those of a run or a report.
+use Rattle.std.specs.Prelude.{ℕ, zero, suc, Bool, true, false, List, [], ◌∷◌}
 use Rattle.clap.specs.declared.error.kind.ErrorKind.{ErrorKind}
 use Rattle.clap.specs.declared.error.kind.ErrorKind.TheVariants as kinds
 
@@ -15,3 +15,9 @@ status_of kinds.DisplayHelp = 0
 status_of kinds.DisplayVersion = 0
 status_of kinds.OutOfMemory = 3
 status_of _ = 2
+
+-- 1 if there is something wrong that was written, and else the status of writing it
+abbrev pub status_of_findings : List ℕ → ℕ → ℕ
+status_of_findings [] shown = shown
+status_of_findings (c ∷ cs) zero = 1
+status_of_findings (c ∷ cs) (suc n) = suc n

@@ -106,7 +106,7 @@ fn is_one_ambiguous(problems: &[Problem]) -> bool
 }
 
 /// The tables by which the points of a deployment resolve, if one of these problems needs them.
-fn tables_for(
+pub(crate) fn tables_for(
     alloc: Global,
     deployment: &Deployment,
     problems: &[Problem],

@@ -1,18 +1,16 @@
-//! A finding, and its line.
-ghost use Rattle.std.specs.Prelude.{◌≡◌, ◌∷◌, ◌++◌, [], IfOk, map};
+//! One thing that is wrong with a deployment, as a line of JSON.
+ghost use Rattle.std.specs.Prelude.{◌≡◌, string_bytes, IfOk};
 ghost use Rattle.serde_json.specs.Data.{string};
 ghost use Rattle.serde_json.specs.View.{view};
-ghost use Rattle.serde_json.specs.Written.{compact_text};
 ghost use Rattle.cdi_program.specs.Finding as spec;
 
-use cdi_base::Text;
 use cdi_positions::Position;
 use serde_json::{Map, Value as Json, put};
 use std::alloc::{AllocError, Global};
 
 /// What is wrong.
 #[derive(Clone, Copy, Debug, PartialEq, Eq)]
-pub enum FindingKind {
+pub(crate) enum FindingKind {
     /// The deployment can't be read, or a script of it can't.
     Fault,
     /// It is read, and not accepted (Jakarta CDI 4.0, *Problems detected automatically by the container*).
@@ -21,7 +19,7 @@ pub enum FindingKind {
 
 /// One thing that is wrong with a deployment.
 #[derive(Clone, Copy)]
-pub struct Finding<'a> {
+pub(crate) struct Finding<'a> {
     pub kind: FindingKind,
     /// The fault's word, or a problem's number and name.
     pub name: &'a str,
@@ -31,8 +29,6 @@ pub struct Finding<'a> {
     pub position: Option<Position>,
     /// What is wrong, in words.
     pub message: &'a str,
-    /// What was probably meant, or the beans among which none is preferred.
-    pub candidates: &'a [Text],
 }
 
 impl FindingKind {
@@ -50,16 +46,6 @@ fn text_json(alloc: Global, text: &str) -> Result<Json, AllocError>
     ensures { IfOk result (λ json. view json ≡ string text.now) }
 {
     Ok(Json::String(String::from_str(alloc, text)?))
-}
-
-fn texts_json(alloc: Global, texts: &[Text]) -> Result<Json, AllocError>
-    ensures { IfOk result (λ json. view json ≡ spec.texts_data texts.now) }
-{
-    let mut items = Vec::new(alloc);
-    for text in texts {
-        items.push(text_json(alloc, text.as_str())?)?;
-    }
-    Ok(Json::Array(items))
 }
 
 fn line_json(position: Option<Position>) -> Json
@@ -82,7 +68,7 @@ fn column_json(position: Option<Position>) -> Json
 
 /// A finding as a JSON object.
 fn finding_json(alloc: Global, finding: &Finding<'_>) -> Result<Json, AllocError>
-    ensures { IfOk result (λ json. view json ≡ spec.finding_data finding.now) }
+    ensures { IfOk result (λ json. view json ≡ spec.finding_data (spec.told_by finding.now)) }
 {
     let mut members = Map::new(alloc);
     put(
@@ -106,23 +92,16 @@ fn finding_json(alloc: Global, finding: &Finding<'_>) -> Result<Json, AllocError
         "message",
         text_json(alloc, finding.message)?,
     )?;
-    put(
-        &mut members,
-        alloc,
-        "candidates",
-        texts_json(alloc, finding.candidates)?,
-    )?;
     Ok(Json::Object(members))
 }
 
 /// The line of a finding: a JSON object in compact form, with a line feed. Its members are `kind` (`fault` or `problem`), `name`,
-/// `place`, `line` and `column` (from 1, or null if they aren't known), `message`, and `candidates` (a list of texts).
+/// `place`, `line` and `column` (from 1, or null if they aren't known), and `message`.
 #[tactic(auto, using(crate::proofs::NoFloats::no_float))]
-pub fn finding_line(alloc: Global, finding: &Finding<'_>) -> Result<Vec<u8>, AllocError>
-    ensures { IfOk result (λ line.
-        line.items ≡ compact_text (spec.finding_data finding.now) ++ 10 ∷ []) }
+pub(crate) fn finding_line(alloc: Global, finding: &Finding<'_>) -> Result<String, AllocError>
+    ensures { IfOk result (λ line. string_bytes line ≡ spec.finding_line (spec.told_by finding.now)) }
 {
-    let mut line = finding_json(alloc, finding)?.to_vec(alloc)?;
-    line.push(b'\n')?;
+    let mut line = finding_json(alloc, finding)?.to_string(alloc)?;
+    line.push_str("\n")?;
     Ok(line)
 }

@@ -5,6 +5,7 @@ mod advising;
 mod explaining;
 pub mod files;
 mod finding;
+mod findings;
 mod locating;
 pub mod program;
 pub mod status;

@@ -6,7 +6,8 @@ ghost use Rattle.cdi_program.specs.Streams.{ends_of, input_of, output_of};
 
 use crate::explaining::{WordAnswer, answer_on};
 use crate::files::Files;
-use crate::status::{FAULT, USAGE, is_shown, status_of};
+use crate::findings::finding_lines;
+use crate::status::{FAULT, USAGE, is_shown, status_of, status_of_findings};
 use crate::telling::{tell, tell_ending, tell_in, tell_of_file, tell_verdict};
 use crate::words::WordsError;
 use cdi_lines::{ServeFault, Sink, Source};
@@ -107,6 +108,32 @@ fn check_bytes<R: Source, W: Sink, E: Sink>(
     verdict.status()
 }
 
+/// Checks a deployment, and writes what is wrong with it as lines of JSON.
+fn check_as_json<R: Source, W: Sink, E: Sink>(
+    alloc: Global,
+    bytes: &[u8],
+    input: &R,
+    output: &mut W,
+    errors: &mut E,
+) -> u8
+    ensures { spec.ChecksAsJson bytes.now
+        (ends_of (input_of R.unread R.has_failed)
+        (output_of W.written W.has_failed W.is_passed_on)
+        (output_of E.written E.has_failed E.is_passed_on)
+        input.now input.now output.old output.new errors.old errors.new) result }
+{
+    match finding_lines(alloc, bytes) {
+        Ok(lines) => {
+            let status = show(&lines, input, output, errors);
+            status_of_findings(&lines, status)
+        }
+        Err(_) => {
+            tell(errors, ServeFault::Memory.text());
+            FAULT
+        }
+    }
+}
+
 /// Runs a deployment.
 fn run_bytes<R: Source, W: Sink, E: Sink>(
     alloc: Global,
@@ -170,6 +197,7 @@ fn serve_bytes<R: Source, W: Sink, E: Sink>(
         input.old input.new output.old output.new errors.old errors.new) result }
 {
     match options.mode {
+        Mode::Check if options.writes_json => check_as_json(alloc, bytes, input, output, errors),
         Mode::Check => check_bytes(alloc, options.file, bytes, input, output, errors),
         Mode::Run | Mode::Explain => run_bytes(alloc, options, bytes, input, output, errors),
     }
@@ -224,7 +252,8 @@ fn serve_options<F: Files, R: Source, W: Sink, E: Sink>(
 ///
 /// [`Mode::Explain`] writes what a word of the output means, with status 0, and reads nothing; a word that isn't known is status 2.
 /// The other modes name the file of a deployment, which is read up to [`MAX_READ`] bytes. [`Mode::Check`] tells
-/// its problems as [`report`] does, reads nothing, and the status is that of the verdict ([`cdi_report::Verdict::status`]).
+/// its problems as [`report`] does, reads nothing, and the status is that of the verdict ([`cdi_report::Verdict::status`]); as JSON it
+/// writes a line for each, with its place in the file, and the status is 1 if there is one.
 /// [`Mode::Run`] runs it as [`drive`] does, with what the words set for it, and the status is that of how the run ended
 /// ([`cdi_shell::Ending::status`]). Help and the version go to the output, and are passed on, with status 0. Wrong words
 /// are status 2, and a file that can't be read, and want of memory outside of a command, status 3: nothing is read or

@@ -1,8 +1,11 @@
-//! The exit status where the words of the command line ask for nothing to run.
+//! The exit statuses that are not those of a run or a report.
 ghost use Rattle.std.specs.Prelude.{◌≡◌};
 ghost use Rattle.cdi_program.specs.Statuses as spec;
 
 use clap::error::ErrorKind;
+
+/// The exit status of a deployment that is refused.
+pub const REFUSED: u8 = 1;
 
 /// The exit status where the words are wrong.
 pub const USAGE: u8 = 2;
@@ -27,4 +30,14 @@ pub fn status_of(kind: ErrorKind) -> u8
         ErrorKind::OutOfMemory => FAULT,
         _ => USAGE,
     }
+}
+
+/// The exit status of a check that wrote these lines of what is wrong, where that came to a status.
+pub(crate) fn status_of_findings(lines: &str, shown: u8) -> u8
+    ensures { result ≡ spec.status_of_findings lines.now shown }
+{
+    if shown == 0 && !lines.is_empty() {
+        return REFUSED;
+    }
+    shown
 }
