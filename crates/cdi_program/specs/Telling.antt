@@ -1,13 +1,17 @@
 -- What is told on standard error.
-use Rattle.std.specs.Prelude.{◌≡◌, ℕ, List, Option, Some, None, Result, Ok, Err, IfSome, IsTrue, OnOk}
+use Rattle.std.specs.Prelude.{◌≡◌, ℕ, List, Option, Some, None, Result, Ok, Err, option_map, IfSome, IsTrue, OnOk}
 use Rattle.std.specs.Io.KnownBytes.{Keeps}
 use Rattle.cdi_lines.specs.Ends.{Tells, WritesAll}
 use Rattle.cdi_lines.specs.Faults.{fault_text}
 use Rattle.cdi_lines.specs.declared.sink.WriteFailed.{WriteFailed}
 use Rattle.cdi_lines.specs.declared.fault.ServeFault.{ServeFault}
 use Rattle.cdi_lines.specs.declared.fault.ServeFault.TheVariants as faults
+use Rattle.cdi_positions.specs.Position.{IsPositionIn}
+use Rattle.cdi_positions.specs.RepeatedKey.{repeated_text}
+use Rattle.cdi_positions.specs.declared.repeated_keys.RepeatedKey.{RepeatedKey}
 use Rattle.cdi_prepare.specs.Hint.{IsHintFor}
 use Rattle.cdi_prepare.specs.HintText.{hint_text}
+use Rattle.cdi_prepare.specs.Warning.{lost_key}
 use Rattle.cdi_prepare.specs.declared.hint.Hint.{Hint}
 use Rattle.cdi_report.specs.declared.verdict.Verdict.{Verdict}
 use Rattle.cdi_report.specs.declared.verdict.Verdict.TheVariants as verdicts
@@ -59,17 +63,39 @@ pub data TellsRefused (file bytes : List ℕ) (old new : Output) : Type 0 where
       → TellsRefused file bytes old new
   starves : TellsFault faults.Memory old new → TellsRefused file bytes old new
 
--- A fault is told, and what is told of a deployment that is refused; otherwise nothing.
+-- what is told of a key that stands twice, at a position of the text
+abbrev pub WarnsOf : List ℕ → Option RepeatedKey → Output → Output → Type 0
+WarnsOf file None old new = new ≡ old
+WarnsOf file (Some warning) old new = TellsOfFile file (repeated_text warning) old new
+
+-- this is the warning for bytes: of the first key that stands twice in an object
+pub record IsWarningFor (bytes : List ℕ) (warning : Option RepeatedKey) : Type 0 where
+  pub key : option_map (λ r. r.key) warning ≡ lost_key bytes
+  pub position : IfSome warning (λ r. IsPositionIn bytes r.position)
+
+-- The warning for these bytes is told, if there is one; or that memory ran out.
+pub data Warns (file bytes : List ℕ) (old new : Output) : Type 0 where
+  warns : (warning : Option RepeatedKey) → IsWarningFor bytes warning → WarnsOf file warning old new
+      → Warns file bytes old new
+  starves : TellsFault faults.Memory old new → Warns file bytes old new
+
+-- the warning, and then what is told of bytes that were refused
+pub record WarnsAndTells (file bytes : List ℕ) (old new : Output) : Type 0 where
+  pub between : Output
+  pub warns : Warns file bytes old between
+  pub tells : TellsRefused file bytes between new
+
+-- A fault is told; else the warning, and what is told of a deployment that is refused.
 abbrev pub TellsEnding : List ℕ → List ℕ → Ending → Output → Output → Type 0
-TellsEnding file bytes endings.Fine old new = new ≡ old
-TellsEnding file bytes endings.Refused old new = TellsRefused file bytes old new
+TellsEnding file bytes endings.Fine old new = Warns file bytes old new
+TellsEnding file bytes endings.Refused old new = WarnsAndTells file bytes old new
 TellsEnding file bytes (endings.Fault fault halted) old new = TellsFault fault old new
-TellsEnding file bytes (endings.Halted cause) old new = new ≡ old
+TellsEnding file bytes (endings.Halted cause) old new = Warns file bytes old new
 
 -- the same for a report
 abbrev pub TellsVerdict : List ℕ → List ℕ → Verdict → Output → Output → Type 0
-TellsVerdict file bytes verdicts.Accepted old new = new ≡ old
-TellsVerdict file bytes verdicts.Refused old new = TellsRefused file bytes old new
+TellsVerdict file bytes verdicts.Accepted old new = Warns file bytes old new
+TellsVerdict file bytes verdicts.Refused old new = WarnsAndTells file bytes old new
 TellsVerdict file bytes (verdicts.Fault fault) old new = TellsFault fault old new
 
 -- an output is asked to pass all on, whether it can or not

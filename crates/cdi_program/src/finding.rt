@@ -9,7 +9,7 @@ use serde_json::{Map, Value as Json, put};
 use std::alloc::{AllocError, Global};
 
 /// What is wrong.
-#[derive(Clone, Copy, Debug, PartialEq, Eq)]
+#[derive(Clone, Copy)]
 pub(crate) enum FindingKind {
     /// The deployment can't be read, or a script of it can't.
     Fault,
@@ -18,7 +18,6 @@ pub(crate) enum FindingKind {
 }
 
 /// One thing that is wrong with a deployment.
-#[derive(Clone, Copy)]
 pub(crate) struct Finding<'a> {
     pub kind: FindingKind,
     /// The fault's word, or a problem's number and name.

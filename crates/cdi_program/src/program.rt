@@ -260,8 +260,9 @@ fn serve_options<F: Files, R: Source, W: Sink, E: Sink>(
 /// written then.
 ///
 /// With status 2 and 3 a line on `errors` names the cause, which for wrong words is a text of their own. With status 1
-/// the hint for the deployment stands there, if there is one, or those for its problems, or that memory ran out. Otherwise
-/// nothing does. As far as `errors` lets, each is written and passed on.
+/// the hint for the deployment stands there, if there is one, or those for its problems, or that memory ran out. Before that, and
+/// for a deployment that is accepted, stands a warning if a key stands twice in an object. Otherwise nothing does. As far as
+/// `errors` lets, each is written and passed on.
 pub fn run_program<S: AsStr, F: Files, R: Source, W: Sink, E: Sink>(
     alloc: Global,
     words: Result<&[S], WordsError>,

@@ -9,7 +9,7 @@ ghost use Rattle.cdi_program.specs.Telling as spec;
 
 use crate::advising::advise;
 use cdi_lines::{ServeFault, Sink, WriteFailed};
-use cdi_prepare::hint_for;
+use cdi_prepare::{hint_for, warning_for};
 use cdi_report::Verdict;
 use cdi_shell::Ending;
 use std::alloc::Global;
@@ -100,6 +100,29 @@ fn tell_hint<E: Sink>(alloc: Global, file: &str, bytes: &[u8], errors: &mut E)
     }
 }
 
+/// Warns the user of a key that stands twice in an object of a deployment, if there is one.
+fn tell_warning<E: Sink>(alloc: Global, file: &str, bytes: &[u8], errors: &mut E)
+    ensures { spec.Warns file.now bytes.now
+        (output_of E.written E.has_failed E.is_passed_on errors.old)
+        (output_of E.written E.has_failed E.is_passed_on errors.new) }
+{
+    match warning_for(alloc, bytes) {
+        Ok(Some(warning)) => tell_of_file(alloc, errors, file, &warning),
+        Ok(None) => {}
+        Err(_) => tell(errors, ServeFault::Memory.text()),
+    }
+}
+
+/// Tells the user of a refused deployment what there is to say: the warning, and then what is wrong.
+fn tell_refused<E: Sink>(alloc: Global, file: &str, bytes: &[u8], errors: &mut E)
+    ensures { spec.WarnsAndTells file.now bytes.now
+        (output_of E.written E.has_failed E.is_passed_on errors.old)
+        (output_of E.written E.has_failed E.is_passed_on errors.new) }
+{
+    tell_warning(alloc, file, bytes, errors);
+    tell_hint(alloc, file, bytes, errors);
+}
+
 /// Tells the user of a fault. What is held back still goes out if it can.
 fn tell_fault<W: Sink, E: Sink>(fault: ServeFault, output: &mut W, errors: &mut E)
     ensures flushed { spec.IsFlushed
@@ -113,7 +136,7 @@ fn tell_fault<W: Sink, E: Sink>(fault: ServeFault, output: &mut W, errors: &mut 
     tell(errors, fault.text());
 }
 
-/// Tells the user how a run ended, unless all is well or has been said.
+/// Tells the user how a run ended, unless it has been said, with the warning for its deployment, if there is one.
 pub(crate) fn tell_ending<W: Sink, E: Sink>(
     alloc: Global,
     ending: Ending,
@@ -130,8 +153,8 @@ pub(crate) fn tell_ending<W: Sink, E: Sink>(
         (output_of E.written E.has_failed E.is_passed_on errors.new) }
 {
     match ending {
-        Ending::Fine | Ending::Halted(_) => {}
-        Ending::Refused => tell_hint(alloc, file, bytes, errors),
+        Ending::Fine | Ending::Halted(_) => tell_warning(alloc, file, bytes, errors),
+        Ending::Refused => tell_refused(alloc, file, bytes, errors),
         Ending::Fault { fault, .. } => tell_fault(fault, output, errors),
     }
 }
@@ -153,8 +176,8 @@ pub(crate) fn tell_verdict<W: Sink, E: Sink>(
         (output_of E.written E.has_failed E.is_passed_on errors.new) }
 {
     match verdict {
-        Verdict::Accepted => {}
-        Verdict::Refused => tell_hint(alloc, file, bytes, errors),
+        Verdict::Accepted => tell_warning(alloc, file, bytes, errors),
+        Verdict::Refused => tell_refused(alloc, file, bytes, errors),
         Verdict::Fault(fault) => tell_fault(fault, output, errors),
     }
 }

@@ -1,4 +1,4 @@
 use Rattle.cdi_program.proofs.telling.tell_verdict.Goals as goal
 
 pub returns-in-Refused-clause-tells : goal.returns-in-Refused-clause-tells
-returns-in-Refused-clause-tells g c = rw c.in-Refused.is c.tell_hint.ensures
+returns-in-Refused-clause-tells g c = rw c.in-Refused.is c.tell_refused.ensures
