@@ -18,6 +18,7 @@ pub(crate) enum FindingKind {
 }
 
 /// One thing that is wrong with a deployment.
+#[derive(Clone, Copy)]
 pub(crate) struct Finding<'a> {
     pub kind: FindingKind,
     /// The fault's word, or a problem's number and name.
