@@ -7,3 +7,4 @@ pub mod Points
 pub mod Problems
 pub mod Producers
 pub mod Subjects
+pub mod WorkedLines

@@ -9,6 +9,7 @@ mod edge;
 mod events;
 pub mod graph;
 mod interceptors;
+pub mod laws;
 mod points;
 mod problems;
 mod producers;
