@@ -48,6 +48,9 @@ file_form name = mode_form name (codes "FILE")
 abbrev pub check_form : App
 check_form = with_rule (file_form (codes "check")) (flag_rule (codes "json"))
 
+abbrev pub graph_form : App
+graph_form = file_form (codes "graph")
+
 abbrev pub explain_form : App
 explain_form = mode_form (codes "explain") (codes "WORD")
 
@@ -69,11 +72,11 @@ bare_form =
     let app = new_app (codes "cdi") in
     record app { top = record app.top { subcommand_required = true; has_version = true } }
 
--- the words that the program takes: `cdi check FILE`, `cdi run FILE` and its options, or `cdi explain WORD`
+-- the words that the program takes: `cdi check FILE`, `cdi run FILE` and its options, `cdi graph FILE`, or `cdi explain WORD`
 abbrev pub form : App
 form =
-    with_subcommand (with_subcommand (with_subcommand bare_form check_form.top) run_form.top)
-    explain_form.top
+    with_subcommand (with_subcommand (with_subcommand (with_subcommand bare_form check_form.top)
+    run_form.top) graph_form.top) explain_form.top
 
 abbrev pub IsCommand : Command → Type 0
 IsCommand c = app_of c ≡ form
@@ -92,6 +95,7 @@ abbrev pub mode_of : Option Text → Mode
 mode_of None = modes.Run
 mode_of (Some name) =
     if bytes_eq name (codes "check") then modes.Check
+    else if bytes_eq name (codes "graph") then modes.Graph
     else if bytes_eq name (codes "explain") then modes.Explain
     else modes.Run
 

@@ -84,6 +84,12 @@ TurnSo words slice = asked_by words ≡ record {
   slice = slice;
 }
 
+-- the words are fit, and ask for this mode of the file with this name
+abbrev pub Names : List Text → Mode → Text → Type 0
+Names words mode file =
+    let asked = asked_by words in
+    (asked.faults ≡ []) × (asked.mode ≡ mode) × (asked.file ≡ file)
+
 -- the words are fit, and ask for the meaning of this word
 abbrev pub ExplainSo : List Text → Text → Type 0
 ExplainSo words word = asked_by words ≡ record {
@@ -127,6 +133,10 @@ CheckRefuses option = FailBy (codes "check" ∷ codes "a.json" ∷ option ∷ []
 pub record WorkedModes : Type 0 where
   pub plain_run : Ask (behind []) modes.Run
   pub plain_check : Ask (codes "check" ∷ codes "a.json" ∷ []) modes.Check
+  pub plain_graph : Ask (codes "graph" ∷ codes "a.json" ∷ []) modes.Graph
+  pub input_to_check : Names (codes "check" ∷ codes "-" ∷ []) modes.Check (codes "-")
+  pub input_to_graph : Names (codes "graph" ∷ codes "-" ∷ []) modes.Graph (codes "-")
+  pub dash_to_run : Names (run (codes "-" ∷ [])) modes.Run (codes "-")
   pub behind_dashes : Ask (run (codes "--" ∷ codes "a.json" ∷ [])) modes.Run
   pub dash_behind_dashes :
       file_in (codes "cdi" ∷ run (codes "--" ∷ codes "-a" ∷ [])) ≡ codes "-a"
@@ -137,6 +147,9 @@ pub record WorkedModes : Type 0 where
   pub none : FailBy [] kinds.MissingSubcommand
   pub no_file : FailBy (run []) kinds.MissingRequiredArgument
   pub no_file_to_check : FailBy (codes "check" ∷ []) kinds.MissingRequiredArgument
+  pub no_file_to_graph : FailBy (codes "graph" ∷ []) kinds.MissingRequiredArgument
+  pub no_json_of_graph :
+      FailBy (codes "graph" ∷ codes "a.json" ∷ codes "--json" ∷ []) kinds.UnknownArgument
   pub no_file_but_options :
       FailBy (run (codes "--trace" ∷ codes "--ticks" ∷ codes "5" ∷ [])) kinds.MissingRequiredArgument
   pub two_files : FailBy (behind (codes "b" ∷ [])) kinds.UnknownArgument

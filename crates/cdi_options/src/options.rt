@@ -17,6 +17,8 @@ use std::convert::AsStr;
 pub enum Mode {
     /// The problems of a deployment are told, or that there is none.
     Check,
+    /// A deployment is drawn as a graph, with its problems.
+    Graph,
     /// A deployment is run on command lines.
     Run,
     /// A word of the output is explained; there is no deployment.
@@ -31,7 +33,7 @@ pub const MAX_SLICE: u32 = 100_000;
 pub struct Options<'a> {
     /// What is done.
     pub mode: Mode,
-    /// The file of the deployment, or the empty text if there is none.
+    /// The file of the deployment, or the empty text if there is none. A check and a drawing take `-` for the standard input.
     pub file: &'a str,
     /// The word that is explained, or the empty text if none is.
     pub word: &'a str,
@@ -77,18 +79,25 @@ Examples:
     [\"did\",[\"give\",1]]
     [\"value\",1]
 
+  cdi graph counter.json > counter.dot
+
+  draws the beans of the deployment in counter.json and what is injected into them, with its problems in red
+
   cdi explain Ambiguous
 
   tells what the word Ambiguous means, and so for each fault, problem, refusal, cause and exception
 
 Exit status:
   0  the deployment is accepted, each line is answered, or the word is explained
-  1  the deployment is refused; the output says why
+  1  the deployment is refused; the output says why, and of a drawing the standard error
   2  the words of the command line are wrong, or the word isn't known
   3  a file can't be read, or reading, writing or memory failed
   4  each line is answered, but a command was cut, and the container has halted
 
 docs/FORMS.md in the repository describes deployments, command lines and replies.";
+
+/// What is told of the file of a mode that can read it from the standard input.
+const FILE_OR_INPUT: &str = "The deployment, as JSON; - stands for the standard input";
 
 /// What is told of an order that is none.
 const NO_ORDER: &str = "invalid value for '--order <first|last>': it is neither first nor last";
@@ -131,10 +140,15 @@ fn mode_command<'a>(
 }
 
 /// The words of a mode with a deployment: its name, and the file.
-fn file_command<'a>(alloc: Global, name: &'a str, about: &'a str) -> Result<Command<'a>, AllocError>
+fn file_command<'a>(
+    alloc: Global,
+    name: &'a str,
+    about: &'a str,
+    help: &'a str,
+) -> Result<Command<'a>, AllocError>
     ensures { IfOk result (spec.IsMode (spec.file_form name.now)) }
 {
-    mode_command(alloc, name, about, "FILE", "The deployment, as JSON")
+    mode_command(alloc, name, about, "FILE", help)
 }
 
 /// A flag, of which the help tells something.
@@ -158,7 +172,15 @@ fn check_command<'a>(alloc: Global) -> Result<Command<'a>, AllocError>
         "Writes what is wrong as JSON, an object in a line, with its place in the file",
     );
     let about = "Tells all problems of a deployment, or that it is accepted";
-    file_command(alloc, "check", about)?.arg(json)
+    file_command(alloc, "check", about, FILE_OR_INPUT)?.arg(json)
+}
+
+/// The words of a drawing: those of a mode.
+fn graph_command<'a>(alloc: Global) -> Result<Command<'a>, AllocError>
+    ensures { IfOk result (spec.IsMode spec.graph_form) }
+{
+    let about = "Draws the beans of a deployment and what is injected into them, as a graph in DOT";
+    file_command(alloc, "graph", about, FILE_OR_INPUT)
 }
 
 /// The words of a run: those of a mode, and the options that set something for it.
@@ -195,7 +217,7 @@ fn run_command<'a>(alloc: Global) -> Result<Command<'a>, AllocError>
         "The most entries of a turn, by which each command is carried out, from 1 to 100000 [default: 100000]",
     );
     let about = "Runs a deployment on the command lines of the standard input";
-    file_command(alloc, "run", about)?
+    file_command(alloc, "run", about, "The deployment, as JSON")?
         .arg(ticks)?
         .arg(depth)?
         .arg(order)?
@@ -209,6 +231,7 @@ fn command<'a>(alloc: Global) -> Result<Command<'a>, AllocError>
 {
     let check = check_command(alloc)?;
     let run = run_command(alloc)?;
+    let graph = graph_command(alloc)?;
     let explain = mode_command(
         alloc,
         "explain",
@@ -223,6 +246,7 @@ fn command<'a>(alloc: Global) -> Result<Command<'a>, AllocError>
         .subcommand_required(true)
         .subcommand(check)?
         .subcommand(run)?
+        .subcommand(graph)?
         .subcommand(explain)
 }
 
@@ -232,6 +256,7 @@ fn mode_in(matches: &ArgMatches<'_>) -> Mode
 {
     match matches.subcommand_name() {
         Some(name) if name == "check" => Mode::Check,
+        Some(name) if name == "graph" => Mode::Graph,
         Some(name) if name == "explain" => Mode::Explain,
         _ => Mode::Run,
     }

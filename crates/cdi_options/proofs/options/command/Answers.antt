@@ -25,5 +25,8 @@ returns c =
     c.in_ok-subcommand.ensures.shape c.in_ok-check.ensures.none_global ∙ ap₂ with_mode bare_is check_is in
     let runs_is : app_of c.in_ok-subcommand-2.field-0 ≡ with_mode (with_mode spec.bare_form spec.check_form) spec.run_form =
     c.in_ok-subcommand-2.ensures.shape c.in_ok-run.ensures.none_global ∙ ap₂ with_mode checks_is run_is in
+    let graph_is : app_of c.in_ok-graph.graph ≡ spec.graph_form = c.in_ok-graph.ensures.form in
+    let graphs_is : app_of c.in_ok-subcommand-3.field-0 ≡ with_mode (with_mode (with_mode spec.bare_form spec.check_form) spec.run_form) spec.graph_form =
+    c.in_ok-subcommand-3.ensures.shape c.in_ok-graph.ensures.none_global ∙ ap₂ with_mode runs_is graph_is in
     let explain_is : app_of c.in_ok-explain.explain ≡ spec.explain_form = c.in_ok-explain.ensures.form in
-    IfOk-weaker c.subcommand-3.result _ _ (λ app added. added.shape c.in_ok-explain.ensures.none_global ∙ ap₂ with_mode runs_is explain_is) c.subcommand-3.ensures
+    IfOk-weaker c.subcommand-4.result _ _ (λ app added. added.shape c.in_ok-explain.ensures.none_global ∙ ap₂ with_mode graphs_is explain_is) c.subcommand-4.ensures
