@@ -1,5 +1,7 @@
+pub mod Asked
 pub mod Candidates
 pub mod Hints
+pub mod Left
 pub mod Pointers
 pub mod Points
 pub mod Rule

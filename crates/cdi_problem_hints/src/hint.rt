@@ -5,34 +5,18 @@ ghost use Rattle.std.specs.Option.{option_copied};
 ghost use Rattle.cdi_problem_hints.specs.Hints as spec;
 ghost use Rattle.cdi_problem_hints.specs.Subjects.{subject_of};
 ghost use Rattle.cdi_problems.specs.Elements.{element_of, shown};
-ghost use Rattle.cdi_problems.specs.Places as places;
 
+use crate::asked::is_at;
 use crate::point::add_points;
 use crate::rule::rule_text;
 use crate::script::add_scripts_at;
 use crate::sentence::add_sentences;
 use crate::subject::Subject;
-use cdi_base::{Place, Text};
+use cdi_base::Text;
 use cdi_body_check::sites_of;
 use cdi_name_uses::unknown_names;
 use cdi_problems::{Element, Problem, ProblemKind, ProblemText, elements_of};
 use std::alloc::{AllocError, Global};
-
-fn is_same(place: &Place, other: &Place) -> bool
-    ensures { result ≡ places.same_place place.now other.now }
-{
-    *place == *other
-}
-
-/// Whether an element stands at a place.
-fn is_at(place: &Option<Place>, element: &Element<'_>) -> bool
-    ensures { result ≡ spec.is_at place.now (element_of element.now) }
-{
-    match place {
-        Some(place) => is_same(&element.place(), place),
-        None => false,
-    }
-}
 
 /// Adds what is told of an element that has a problem.
 fn add_details(
