@@ -1,5 +1,5 @@
 -- The beans that are left for the ambiguous points at the place of a problem.
-use Rattle.std.specs.Prelude.{ℕ, List, [], ◌∷◌, Option, Some, None, if◌then◌else◌}
+use Rattle.std.specs.Prelude.{List, [], ◌∷◌, Option, Some, None, if◌then◌else◌}
 use Rattle.std.specs.List.{flat_map}
 use Rattle.cdi_base.specs.declared.place.Place.{Place}
 use Rattle.cdi_bean_check.specs.Qualifiers.{full_uses}
