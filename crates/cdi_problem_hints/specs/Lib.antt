@@ -2,6 +2,7 @@ pub mod Asked
 pub mod Candidates
 pub mod Hints
 pub mod Left
+pub mod Near
 pub mod Pointers
 pub mod Points
 pub mod Rule

@@ -6,6 +6,7 @@ mod candidate;
 mod declared;
 pub mod hint;
 pub mod left;
+mod near;
 mod point;
 pub mod pointer;
 pub mod rule;

@@ -27,7 +27,12 @@ fn quals_text(alloc: Global, names: &Names, quals: &[Use]) -> Result<String, All
 
 /// What a point asks for: its type, and its qualifiers.
 #[tactic(auto, unfolding(crate::specs::Points::point_text))]
-fn point_text(alloc: Global, names: &Names, ty: Name, quals: &[Use]) -> Result<String, AllocError>
+pub(crate) fn point_text(
+    alloc: Global,
+    names: &Names,
+    ty: Name,
+    quals: &[Use],
+) -> Result<String, AllocError>
     ensures { IfOk result (λ text.
         string_bytes text ≡ spec.point_text names.now ty quals.now) }
 {
