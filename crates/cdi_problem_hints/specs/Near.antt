@@ -24,7 +24,7 @@ lacked_text names lacked = codes "without" ++ lacked_names names lacked
 abbrev pub lack_text : List (List ℕ) → Lack → List ℕ
 lack_text names (lacks.Qualifiers lacked) = lacked_text names lacked
 lack_text names lacks.NotSelected = codes "an alternative that isn't selected"
-lack_text names lacks.Specialized = codes "specialized by another bean"
+lack_text names lacks.Specialized = codes "whose class another bean specializes"
 
 abbrev pub near_sentence : List (List ℕ) → NearBean → List ℕ
 near_sentence names near =

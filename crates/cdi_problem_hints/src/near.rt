@@ -34,7 +34,7 @@ fn lack_text(alloc: Global, names: &Names, lack: &Lack) -> Result<String, AllocE
     match lack {
         Lack::Qualifiers(lacked) => lacked_text(alloc, names, lacked.as_slice()),
         Lack::NotSelected => String::from_str(alloc, "an alternative that isn't selected"),
-        Lack::Specialized => String::from_str(alloc, "specialized by another bean"),
+        Lack::Specialized => String::from_str(alloc, "whose class another bean specializes"),
     }
 }
 
