@@ -8,5 +8,5 @@ mod narrowing;
 pub mod point;
 pub mod tables;
 
-pub use point::candidates;
+pub use point::{candidates, place_of};
 pub use tables::tables_of;

@@ -12,7 +12,7 @@ use cdi_resolve::{BeanTables, EnabledBean};
 use std::alloc::{AllocError, Global};
 
 /// Where a bean is declared: at its class, or at the producer.
-fn place_of(bean: &Bean) -> Place
+pub fn place_of(bean: &Bean) -> Place
     ensures { result ≡ spec.place_of bean.now }
 {
     match bean.kind {

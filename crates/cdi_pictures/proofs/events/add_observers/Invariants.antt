@@ -1,0 +1,9 @@
+use Rattle.std.proofs.Common.{◌≡◌, ◌++◌, string_bytes, take}
+use Rattle.cdi_problems.specs.Elements.{shown}
+use Rattle.cdi_pictures.specs.Events as spec
+use Rattle.cdi_pictures.proofs.events.add_observers.Given as goal
+
+abbrev pub invariant-loop-element : goal.invariant-loop-element
+invariant-loop-element l =
+    string_bytes l.text ≡ string_bytes l.initial.text
+    ++ spec.observers_text l.names (shown (take l.element-index l.elements))
