@@ -28,7 +28,7 @@ fn full_uses(
 }
 
 /// What is required by qualifiers as they were written: if nothing is written, `Default`.
-fn required(
+pub(crate) fn required(
     alloc: Global,
     types: &QualifierTypes,
     uses: &[Use],
@@ -46,13 +46,13 @@ fn required(
     Ok(required)
 }
 
-fn has_type(bean: &Bean, ty: Name) -> bool
+pub(crate) fn has_type(bean: &Bean, ty: Name) -> bool
     ensures { result ≡ filters.has_type ty bean.now }
 {
     bean.types.iter().any(|own| *own == ty)
 }
 
-fn has_all(bean: &Bean, required: &[Qualifier]) -> bool
+pub(crate) fn has_all(bean: &Bean, required: &[Qualifier]) -> bool
     ensures { result ≡ quals.has_all bean.now.qualifiers required.now }
 {
     required

@@ -8,3 +8,5 @@ pub mod Reversal
 pub mod Steps
 pub mod Order
 pub mod Groups
+pub mod FoundCycle
+pub mod CycleLaw

@@ -5,27 +5,27 @@ use Rattle.std.proofs.lemmas.List.{get_or_past, get_or_default}
 use Rattle.std.proofs.lemmas.List.Elements.{Contains-append_left, Contains-push, Contains-push_cases, Contains-get_or}
 use Rattle.std.specs.List.{Contains}
 use Rattle.cdi_paths.specs.Graph.{targets_of, Path, ProperPath}
-use Rattle.cdi_paths.specs.Reversed.{HasSource, IsReversed}
+use Rattle.cdi_paths.specs.Reversed.{HasAlso, HasSource, IsReversed}
 
 pub no_targets : (node : ℕ) (rows : List (List ℕ)) → HasSource node [] rows rows
 no_targets node rows = record { rows = λ a b. (λ e. inl e, λ h. elim h [ inl e ↦ e | inr n ↦ absurd (omega (arith, n.0.1)) ]) }
 
-module _ (node : ℕ) (targets : List ℕ) (old rows : List (List ℕ)) (so_far : HasSource node targets old rows) (t : ℕ) (lt : t < length rows) where
+module _ (node : ℕ) (targets : List ℕ) (old rows : List (List ℕ)) (so_far : HasSource node targets old rows) (t : ℕ) (lt : t < length rows) (row : List ℕ) (also : HasAlso node (targets_of rows t) row) where
   abbrev new : List (List ℕ)
-  new = set rows t (targets_of rows t ++ node ∷ [])
+  new = set rows t row
 
-  same : targets_of new t ≡ targets_of rows t ++ node ∷ []
-  same = get_or-set_same rows t (targets_of rows t ++ node ∷ []) [] lt
+  same : targets_of new t ≡ row
+  same = get_or-set_same rows t row [] lt
 
   other : (a : ℕ) → a ≢ t → targets_of new a ≡ targets_of rows a
-  other a ne = get_or-set_other rows t a (targets_of rows t ++ node ∷ []) [] ne
+  other a ne = get_or-set_other rows t a row [] ne
 
   kept : (a b : ℕ) → Contains (targets_of rows a) b → Contains (targets_of new a) b
   kept a b e = elim (cases_eq a t) [
     | inl is ↦ (
         let P : ℕ → Type 0 = λ c. Contains (targets_of new c) b in
         let Q : ℕ → Type 0 = λ c. Contains (targets_of rows c) b in
-        subst P (sym is) (rw same (Contains-append_left (targets_of rows t) (node ∷ []) b (subst Q is e)))
+        subst P (sym is) (rw same ((also b).1 (inl (subst Q is e))))
         )
     | inr ne ↦ rw (other a ne) e
   ]
@@ -34,8 +34,8 @@ module _ (node : ℕ) (targets : List ℕ) (old rows : List (List ℕ)) (so_far 
   from_new a b e = elim (cases_eq a t) [
     | inl is ↦ (
         let P : ℕ → Type 0 = λ c. Contains (targets_of new c) b in
-        let there : Contains (targets_of rows t ++ node ∷ []) b = rw same at (subst P is e) in
-        elim (Contains-push_cases (targets_of rows t) node b there) [
+        let there : Contains row b = rw same at (subst P is e) in
+        elim ((also b).0 there) [
           | inl was ↦ (let Q : ℕ → Type 0 = λ c. Contains (targets_of rows c) b in wider a b ((so_far.rows a b).0 (subst Q (sym is) was)))
           | inr now ↦ (let Q : ℕ → Type 0 = λ c. Contains (targets ++ t ∷ []) c in inr (subst Q (sym is) (Contains-push targets t), now))
         ]
@@ -53,12 +53,11 @@ module _ (node : ℕ) (targets : List ℕ) (old rows : List (List ℕ)) (so_far 
     | inl before ↦ kept a b ((so_far.rows a b).1 (inr (before, now.1)))
     | inr is ↦ (
         let P : ℕ → Type 0 = λ c. Contains (targets_of new c) b in
-        let Q : ℕ → Type 0 = λ d. Contains (targets_of new t) d in
-        subst P is (subst Q now.1 (rw same (Contains-push (targets_of rows t) node)))
+        subst P is (rw same ((also b).1 (inr now.1)))
         )
   ]
 
-  pub target_more : HasSource node (targets ++ t ∷ []) old (set rows t (targets_of rows t ++ node ∷ []))
+  pub target_more : HasSource node (targets ++ t ∷ []) old (set rows t row)
   target_more = record { rows = λ a b. (from_new a b, into_new a b) }
 
 -- the edges from the nodes below a number

@@ -6,3 +6,4 @@ pub mod Marks
 pub mod Reversed
 pub mod FinishOrder
 pub mod Steps
+pub mod CycleThrough

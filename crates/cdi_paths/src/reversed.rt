@@ -1,7 +1,7 @@
 //! Graphs with each edge the other way round.
-ghost use Rattle.std.specs.Prelude.{◌≡◌, ◌<◌, [], length, replicate, All, OnOk, IfOk};
+ghost use Rattle.std.specs.Prelude.{◌≡◌, ◌<◌, [], length, replicate, All, Contains, IsTrue, OnOk, IfOk};
 ghost use Rattle.cdi_paths.specs.Graph.{IsGraph};
-ghost use Rattle.cdi_paths.specs.Reversed.{HasSource, IsReversed};
+ghost use Rattle.cdi_paths.specs.Reversed.{HasAlso, HasSource, IsReversed};
 
 use cdi_base::Seq;
 use std::alloc::{AllocError, Global};
@@ -17,13 +17,33 @@ fn empty_rows(alloc: Global, count: usize) -> Result<Vec<Seq<usize>>, AllocError
     Ok(rows)
 }
 
+/// Whether a row ends in a node.
+fn ends_in(row: &[usize], node: usize) -> bool
+    ensures { IsTrue result → Contains row.now node }
+{
+    match row.last() {
+        Some(last) => *last == node,
+        None => false,
+    }
+}
+
+/// Puts a node into a row, unless it stands there last: so an edge that is repeated takes no more memory.
+fn add_to_row(row: &mut Seq<usize>, node: usize) -> Result<(), AllocError>
+    ensures { OnOk result (HasAlso node row.old row.new) }
+{
+    if !ends_in(row.as_slice(), node) {
+        row.push(node)?;
+    }
+    Ok(())
+}
+
 /// Puts a node into the row of each of its targets.
 fn add_source(rows: &mut [Seq<usize>], node: usize, targets: &[usize]) -> Result<(), AllocError>
     requires { All (λ a. a < length rows.old) targets.now }
     ensures { OnOk result (HasSource node targets.now rows.old rows.new) }
 {
     for target in targets {
-        rows[*target].push(node)?;
+        add_to_row(&mut rows[*target], node)?;
     }
     Ok(())
 }

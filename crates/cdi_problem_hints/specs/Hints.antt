@@ -1,16 +1,17 @@
 -- The hint for a problem.
-use Rattle.std.specs.Prelude.{ℕ, Bool, false, List, [], ◌++◌, codes, Option, Some, None, if◌then◌else◌}
+use Rattle.std.specs.Prelude.{ℕ, List, [], ◌++◌, codes, Option, None, if◌then◌else◌}
 use Rattle.std.specs.List.{flat_map}
 use Rattle.cdi_base.specs.declared.place.Place.{Place}
 use Rattle.cdi_deployment.specs.declared.deployment.Deployment.{Deployment}
 use Rattle.cdi_name_uses.specs.Unknown.{unknown_names}
+use Rattle.cdi_problem_hints.specs.Asked.{is_at}
+use Rattle.cdi_problem_hints.specs.Near.{unsatisfied_in}
 use Rattle.cdi_problem_hints.specs.Points.{points_text}
 use Rattle.cdi_problem_hints.specs.Rule.{rule_text}
 use Rattle.cdi_problem_hints.specs.Scripts.{scripts_text}
 use Rattle.cdi_problem_hints.specs.Sentences.{sentences}
 use Rattle.cdi_problem_hints.specs.Subjects.{Subject}
-use Rattle.cdi_problems.specs.Elements.{Element, elements_of, place_of}
-use Rattle.cdi_problems.specs.Places.{same_place}
+use Rattle.cdi_problems.specs.Elements.{Element, elements_of}
 use Rattle.cdi_problems.specs.Words.{problem_text}
 use Rattle.cdi_problems.specs.declared.problem.Problem.{Problem}
 use Rattle.cdi_problems.specs.declared.problem.ProblemKind.{ProblemKind}
@@ -18,16 +19,11 @@ use Rattle.cdi_problems.specs.declared.problem.ProblemKind.TheVariants as kinds
 use Rattle.cdi_resolve.specs.declared.bean_tables.BeanTables.{BeanTables}
 use Rattle.cdi_step_names.specs.declared.step_name.ScriptNames.{ScriptNames}
 
--- the element stands at the place
-abbrev pub is_at : Option Place → Element → Bool
-is_at None e = false
-is_at (Some place) e = same_place (place_of e) place
-
 -- of an unknown name what it has to be and what was probably meant, and of a point what it asks for, and if it is ambiguous what is
--- left
+-- left, and if it isn't satisfied what is near
 abbrev pub details : Deployment → Option BeanTables → ProblemKind → Element → List ℕ
 details d tables kinds.UnknownName e = sentences d e (unknown_names d e)
-details d tables kinds.Unsatisfied e = points_text d.names None e
+details d tables kinds.Unsatisfied e = unsatisfied_in d tables e
 details d tables kinds.Ambiguous e = points_text d.names tables e
 details d tables kinds.Unproxyable e = points_text d.names None e
 details d tables _ e = []

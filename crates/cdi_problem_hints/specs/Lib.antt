@@ -1,5 +1,8 @@
+pub mod Asked
 pub mod Candidates
 pub mod Hints
+pub mod Left
+pub mod Near
 pub mod Pointers
 pub mod Points
 pub mod Rule

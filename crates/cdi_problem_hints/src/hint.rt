@@ -5,34 +5,19 @@ ghost use Rattle.std.specs.Option.{option_copied};
 ghost use Rattle.cdi_problem_hints.specs.Hints as spec;
 ghost use Rattle.cdi_problem_hints.specs.Subjects.{subject_of};
 ghost use Rattle.cdi_problems.specs.Elements.{element_of, shown};
-ghost use Rattle.cdi_problems.specs.Places as places;
 
+use crate::asked::is_at;
+use crate::near::add_unsatisfied;
 use crate::point::add_points;
 use crate::rule::rule_text;
 use crate::script::add_scripts_at;
 use crate::sentence::add_sentences;
 use crate::subject::Subject;
-use cdi_base::{Place, Text};
+use cdi_base::Text;
 use cdi_body_check::sites_of;
 use cdi_name_uses::unknown_names;
 use cdi_problems::{Element, Problem, ProblemKind, ProblemText, elements_of};
 use std::alloc::{AllocError, Global};
-
-fn is_same(place: &Place, other: &Place) -> bool
-    ensures { result ≡ places.same_place place.now other.now }
-{
-    *place == *other
-}
-
-/// Whether an element stands at a place.
-fn is_at(place: &Option<Place>, element: &Element<'_>) -> bool
-    ensures { result ≡ spec.is_at place.now (element_of element.now) }
-{
-    match place {
-        Some(place) => is_same(&element.place(), place),
-        None => false,
-    }
-}
 
 /// Adds what is told of an element that has a problem.
 fn add_details(
@@ -55,9 +40,8 @@ fn add_details(
         ProblemKind::Ambiguous => {
             add_points(alloc, &deployment.names, subject.tables, element, hint)
         }
-        ProblemKind::Unsatisfied | ProblemKind::Unproxyable => {
-            add_points(alloc, &deployment.names, None, element, hint)
-        }
+        ProblemKind::Unsatisfied => add_unsatisfied(alloc, subject, element, hint),
+        ProblemKind::Unproxyable => add_points(alloc, &deployment.names, None, element, hint),
         _ => Ok(()),
     }
 }
@@ -106,9 +90,9 @@ fn add_script_details(
 
 /// What is told of a problem of a deployment beyond its line: the rule that it breaks, and the names that break it (Jakarta CDI 4.0,
 /// *Problems detected automatically by the container*). Of a name that isn't known it tells the group that it has to be of, and the
-/// known name that was probably meant, if one is near; of a point without its one bean, what it asks for, and if it is ambiguous the
-/// beans that are left, by the tables; of a script that names something that isn't there, its first step with a name that isn't
-/// declared as what it has to be, if there is one.
+/// known name that was probably meant, if one is near; of a point without its one bean, what it asks for, and by the tables, if it is
+/// ambiguous, the beans that are left, and if it isn't satisfied, those that nearly have what it asks for; of a script that names
+/// something that isn't there, its first step with a name that isn't declared as what it has to be, if there is one.
 pub fn problem_message(
     alloc: Global,
     subject: &Subject<'_>,

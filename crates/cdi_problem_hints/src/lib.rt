@@ -1,9 +1,12 @@
 //! Hints for the problems of a deployment: where they stand, the rule that is broken, and the names that break it.
 #![tactic(auto)]
 
+mod asked;
 mod candidate;
 mod declared;
 pub mod hint;
+pub mod left;
+mod near;
 mod point;
 pub mod pointer;
 pub mod rule;
@@ -12,6 +15,7 @@ mod sentence;
 pub mod subject;
 
 pub use hint::{problem_hint, problem_message};
+pub use left::problem_candidates;
 pub use pointer::pointer_at;
 pub use rule::rule_text;
 pub use subject::Subject;

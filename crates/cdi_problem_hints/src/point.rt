@@ -1,13 +1,13 @@
-//! What the injection points of an element ask for.
+//! What is told of the injection points of an element.
 ghost use Rattle.std.specs.Prelude.{◌≡◌, ◌++◌, string_bytes, IfOk, OnOk};
 ghost use Rattle.std.specs.Option.{option_copied};
 ghost use Rattle.cdi_problem_hints.specs.Points as spec;
 ghost use Rattle.cdi_problems.specs.Elements.{element_of};
 
+use crate::asked::{Asked, asked_by};
 use crate::candidate::add_candidates;
 use cdi_base::{Name, Names, Use};
 use cdi_candidates::candidates;
-use cdi_deployment::Point;
 use cdi_problems::{Element, name_text};
 use cdi_resolve::BeanTables;
 use std::alloc::{AllocError, Global};
@@ -27,7 +27,12 @@ fn quals_text(alloc: Global, names: &Names, quals: &[Use]) -> Result<String, All
 
 /// What a point asks for: its type, and its qualifiers.
 #[tactic(auto, unfolding(crate::specs::Points::point_text))]
-fn point_text(alloc: Global, names: &Names, ty: Name, quals: &[Use]) -> Result<String, AllocError>
+pub(crate) fn point_text(
+    alloc: Global,
+    names: &Names,
+    ty: Name,
+    quals: &[Use],
+) -> Result<String, AllocError>
     ensures { IfOk result (λ text.
         string_bytes text ≡ spec.point_text names.now ty quals.now) }
 {
@@ -41,16 +46,15 @@ fn add_left(
     alloc: Global,
     names: &Names,
     tables: Option<&BeanTables>,
-    ty: Name,
-    quals: &[Use],
+    point: &Asked<'_>,
     hint: &mut String,
 ) -> Result<(), AllocError>
     ensures { OnOk result (string_bytes hint.new ≡ string_bytes hint.old
-        ++ spec.left_text names.now (option_copied tables.entry) ty quals.now) }
+        ++ spec.left_text names.now (option_copied tables.entry) point.now) }
 {
     match tables {
         Some(tables) => {
-            let places = candidates(alloc, tables, ty, quals)?;
+            let places = candidates(alloc, tables, point.ty(), point.quals())?;
             add_candidates(alloc, names, places.as_slice(), hint)
         }
         None => Ok(()),
@@ -61,36 +65,35 @@ fn add_point(
     alloc: Global,
     names: &Names,
     tables: Option<&BeanTables>,
-    ty: Name,
-    quals: &[Use],
+    point: &Asked<'_>,
     hint: &mut String,
 ) -> Result<(), AllocError>
     ensures { OnOk result (string_bytes hint.new ≡ string_bytes hint.old
-        ++ spec.asked_text names.now (option_copied tables.entry) ty quals.now) }
+        ++ spec.asked_text names.now (option_copied tables.entry) point.now) }
 {
-    let point = point_text(alloc, names, ty, quals)?;
-    hint.push_str(&point)?;
-    add_left(alloc, names, tables, ty, quals, hint)
+    let text = point_text(alloc, names, point.ty(), point.quals())?;
+    hint.push_str(&text)?;
+    add_left(alloc, names, tables, point, hint)
 }
 
-fn add_params(
+fn add_each(
     alloc: Global,
     names: &Names,
     tables: Option<&BeanTables>,
-    params: &[Point],
+    points: &[Asked<'_>],
     hint: &mut String,
 ) -> Result<(), AllocError>
     ensures { OnOk result (string_bytes hint.new ≡ string_bytes hint.old
-        ++ spec.params_text names.now (option_copied tables.entry) params.now) }
+        ++ spec.asked_texts names.now (option_copied tables.entry) points.now) }
 {
-    for point in params {
-        add_point(alloc, names, tables, point.ty, point.quals.as_slice(), hint)?;
+    for point in points {
+        add_point(alloc, names, tables, point, hint)?;
     }
     Ok(())
 }
 
-/// Adds what the injection points of an element ask for (Jakarta CDI 4.0, *Injection points*): an injected field is one, and so is
-/// each injected parameter. With the tables of the deployment come the beans that are left for each, if they are several.
+/// Adds what the injection points of an element ask for (Jakarta CDI 4.0, *Injection points*). With the tables of the deployment come
+/// the beans that are left for each, if they are several.
 pub(crate) fn add_points(
     alloc: Global,
     names: &Names,
@@ -101,17 +104,6 @@ pub(crate) fn add_points(
     ensures { OnOk result (string_bytes hint.new ≡ string_bytes hint.old
         ++ spec.points_text names.now (option_copied tables.entry) (element_of element.now)) }
 {
-    match element {
-        Element::InjectedField { field, .. } => {
-            add_point(alloc, names, tables, field.ty, field.quals.as_slice(), hint)
-        }
-        Element::InterceptorInjectedField { field, .. } => {
-            add_point(alloc, names, tables, field.ty, field.quals.as_slice(), hint)
-        }
-        Element::Constructor { constructor, .. } => {
-            add_params(alloc, names, tables, constructor.params.as_slice(), hint)
-        }
-        Element::Member { member, .. } => add_params(alloc, names, tables, member.params(), hint),
-        _ => Ok(()),
-    }
+    let points = asked_by(alloc, element)?;
+    add_each(alloc, names, tables, points.as_slice(), hint)
 }

@@ -53,20 +53,22 @@ pub record IsAdviceText (file bytes : List ℕ) (s : Subject) (problems : List P
   pub are_lines : AreHintLines file bytes s (take (hinted problems) problems) lines
   pub is : advice ≡ lines ++ rest_line file (length problems - hinted problems)
 
-abbrev pub is_ambiguity : ProblemKind → Bool
-is_ambiguity kinds.Ambiguous = true
-is_ambiguity _ = false
+-- the tables tell something of a problem of a kind
+abbrev pub kind_needs_tables : ProblemKind → Bool
+kind_needs_tables kinds.Unsatisfied = true
+kind_needs_tables kinds.Ambiguous = true
+kind_needs_tables _ = false
 
-abbrev pub is_ambiguous : Problem → Bool
-is_ambiguous p = is_ambiguity p.kind
+abbrev pub needs_tables : Problem → Bool
+needs_tables p = kind_needs_tables p.kind
 
 abbrev pub AreTablesIf : Bool → Deployment → Option BeanTables → Type 0
 AreTablesIf true d tables = AreTables d tables
 AreTablesIf false d tables = tables ≡ None
 
--- the tables by which the points of a deployment resolve, if one of these problems is an ambiguous point
+-- the tables by which the points of a deployment resolve, if one of these problems needs them
 abbrev pub AreTablesFor : Deployment → List Problem → Option BeanTables → Type 0
-AreTablesFor d problems tables = AreTablesIf (list_any is_ambiguous problems) d tables
+AreTablesFor d problems tables = AreTablesIf (list_any needs_tables problems) d tables
 
 -- that of a deployment whose scripts use these names
 pub record IsAdviceWith (file bytes : List ℕ) (d : Deployment) (scripts : List ScriptNames)

@@ -91,12 +91,20 @@ fn advice_on(
     Ok(Text::new(advice))
 }
 
-fn is_one_ambiguous(problems: &[Problem]) -> bool
-    ensures { result ≡ list_any spec.is_ambiguous problems.now }
+/// Whether the tables tell something of a problem of a kind.
+fn needs_tables(kind: ProblemKind) -> bool
+    ensures { result ≡ spec.kind_needs_tables kind }
 {
-    problems
-        .iter()
-        .any(|problem| problem.kind == ProblemKind::Ambiguous)
+    match kind {
+        ProblemKind::Unsatisfied | ProblemKind::Ambiguous => true,
+        _ => false,
+    }
+}
+
+fn is_one_needing_tables(problems: &[Problem]) -> bool
+    ensures { result ≡ list_any spec.needs_tables problems.now }
+{
+    problems.iter().any(|problem| needs_tables(problem.kind))
 }
 
 /// The tables by which the points of a deployment resolve, if one of these problems needs them.
@@ -107,7 +115,7 @@ pub(crate) fn tables_for(
 ) -> Result<Option<BeanTables>, AllocError>
     ensures { IfOk result (spec.AreTablesFor deployment.now problems.now) }
 {
-    if !is_one_ambiguous(problems) {
+    if !is_one_needing_tables(problems) {
         return Ok(None);
     }
     tables_of(alloc, deployment)

@@ -1,6 +1,5 @@
-use Rattle.std.proofs.Common.{◌≡◌, ◌<◌, ◌+◌, ◌∙◌, ◌++◌, ◌∷◌, [], ap, get_or, length, take, arith}
+use Rattle.std.proofs.Common.{◌≡◌, ◌<◌, ◌+◌, ◌++◌, ◌∷◌, [], get_or, length, take, arith}
 use Rattle.std.proofs.lemmas.List.{take_more, take_all, get_or_default}
-use Rattle.cdi_paths.specs.Graph.{targets_of}
 use Rattle.cdi_paths.proofs.Reversal.{target_more}
 use Rattle.cdi_paths.proofs.reversed.add_source.Goals as goal
 
@@ -12,8 +11,8 @@ loop-target-preserved c =
     let lt : i.target-index < length targets = omega arith in
     let grown : take (i.target-index + 1) targets ≡ take i.target-index targets ++ target ∷ [] = take_more targets i.target-index 0 lt in
     let within : target < length i.rows = omega (arith, c.requires i.target-index 0 lt, i.auto.rows) in
-    let row : c.push.new.self ≡ targets_of i.rows target ++ c.args.node ∷ [] = c.in_ok-push.ensures.ok ∙ ap (λ r. r ++ c.args.node ∷ []) (get_or_default i.rows target c.index-rows-target.result [] within) in
-    record { so_far = rw (grown, row) (target_more c.args.node (take i.target-index targets) c.args.rows.now i.rows i.invariant.so_far target within) }
+    let also = rw (get_or_default i.rows target c.index-rows-target.result [] within) at c.in_ok-add_to_row.ensures in
+    record { so_far = rw grown (target_more c.args.node (take i.target-index targets) c.args.rows.now i.rows i.invariant.so_far target within c.add_to_row.new.row also) }
 
 pub returns : goal.returns
 returns c =
