@@ -81,7 +81,7 @@ Examples:
 
   cdi graph counter.json > counter.dot
 
-  draws the beans of the deployment in counter.json and what is injected into them, with its problems in red
+  writes a graph of the deployment in counter.json, in the language of Graphviz, with its problems in red
 
   cdi explain Ambiguous
 
@@ -179,7 +179,7 @@ fn check_command<'a>(alloc: Global) -> Result<Command<'a>, AllocError>
 fn graph_command<'a>(alloc: Global) -> Result<Command<'a>, AllocError>
     ensures { IfOk result (spec.IsMode spec.graph_form) }
 {
-    let about = "Draws the beans of a deployment and what is injected into them, as a graph in DOT";
+    let about = "Draws a deployment as a graph, in the language of Graphviz";
     file_command(alloc, "graph", about, FILE_OR_INPUT)
 }
 

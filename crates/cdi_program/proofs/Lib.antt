@@ -1,4 +1,6 @@
 pub mod Advised
 pub mod NoFloats
+pub mod ShownChars
+pub mod Taking
 pub mod Told
 pub mod Usage

@@ -1,5 +1,5 @@
 -- The hints for the problems of a deployment, as lines on standard error.
-use Rattle.std.specs.Prelude.{◌≡◌, ℕ, ◌-◌, Bool, true, false, List, [], ◌∷◌, ◌++◌, codes, decimal, length, min, take, nat_eq, Option, Some, None, Result, Ok, Err, IfSome, IsSomeAnd, if◌then◌else◌}
+use Rattle.std.specs.Prelude.{◌≡◌, ℕ, ◌-◌, Bool, true, false, List, [], ◌∷◌, ◌++◌, codes, decimal, length, min, take, nat_eq, Option, Some, None, Result, Ok, Err, IfSome, if◌then◌else◌}
 use Rattle.std.specs.List.{list_any}
 use Rattle.cdi_candidates.specs.Tables.{AreTables}
 use Rattle.cdi_deployment.specs.declared.deployment.Deployment.{Deployment}
@@ -12,6 +12,7 @@ use Rattle.cdi_problem_hints.specs.Subjects.{Subject}
 use Rattle.cdi_problems.specs.declared.problem.Problem.{Problem}
 use Rattle.cdi_problems.specs.declared.problem.ProblemKind.{ProblemKind}
 use Rattle.cdi_problems.specs.declared.problem.ProblemKind.TheVariants as kinds
+use Rattle.cdi_program.specs.Faults.{fault_name, unhinted_text}
 use Rattle.cdi_program.specs.Lines.{file_line}
 use Rattle.cdi_report.specs.Reports.{AreProblemsWith}
 use Rattle.cdi_report.specs.Reviews.{names_of}
@@ -84,7 +85,11 @@ pub record IsAdviceOn (file bytes : List ℕ) (r : Readied) (advice : List ℕ) 
   pub are : AreProblemsWith (registered r.scripts) r.deployment problems
   pub is_advice : IsAdviceWith file bytes r.deployment (names_of r.scripts) problems advice
 
--- none for one that can't be read
-abbrev pub IsAdviceFor : List ℕ → List ℕ → Result Readied (List ℕ) → Option (List ℕ) → Type 0
-IsAdviceFor file bytes (Err fault) advice = advice ≡ None
-IsAdviceFor file bytes (Ok r) advice = IsSomeAnd advice (IsAdviceOn file bytes r)
+-- that of a fault for which there is no hint
+abbrev pub fault_advice : List ℕ → Result Readied (List ℕ) → List ℕ
+fault_advice file read = file_line file (unhinted_text (fault_name read))
+
+-- that of bytes, by what they are read as
+abbrev pub IsAdviceFor : List ℕ → List ℕ → Result Readied (List ℕ) → List ℕ → Type 0
+IsAdviceFor file bytes (Err fault) advice = advice ≡ fault_advice file (Err fault)
+IsAdviceFor file bytes (Ok r) advice = IsAdviceOn file bytes r advice

@@ -1,10 +1,14 @@
 pub mod Advice
+pub mod Drawings
+pub mod Faults
 pub mod Files
 pub mod Finding
 pub mod Findings
 pub mod Lines
 pub mod Program
+pub mod Shown
 pub mod Statuses
 pub mod Streams
+pub mod Taken
 pub mod Telling
 pub mod WordAnswers

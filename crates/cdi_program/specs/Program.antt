@@ -1,9 +1,11 @@
 -- The program: from the words of the command line to the exit status.
-use Rattle.std.specs.Prelude.{◌≡◌, ℕ, Bool, true, false, List, codes, map, string_bytes, None, Result, Ok, Err, OnOk, IsTrue}
+use Rattle.std.specs.Prelude.{◌≡◌, ℕ, Bool, true, false, List, bytes_eq, codes, map, string_bytes, Option, Some, None, Result, Ok, Err, OnOk, IsTrue}
 use Rattle.std.specs.Borrow.{Bor}
+use Rattle.std.specs.Io.KnownBytes.{Keeps}
 use Rattle.clap.specs.Words.{IsAmong, Text}
 use Rattle.clap.specs.declared.error.kind.ErrorKind.{ErrorKind}
 use Rattle.cdi_lines.specs.declared.sink.WriteFailed.{WriteFailed}
+use Rattle.cdi_lines.specs.declared.fault.ServeFault.{ServeFault}
 use Rattle.cdi_lines.specs.declared.fault.ServeFault.TheVariants as faults
 use Rattle.cdi_lines.specs.Served.{Blames}
 use Rattle.cdi_options.specs.Options.{AsksFor, faults_in}
@@ -18,12 +20,15 @@ use Rattle.cdi_shell.specs.Endings.{outcome_of, status_of as status_of_ending}
 use Rattle.cdi_shell.specs.Laws.{DrivesOnce}
 use Rattle.cdi_shell.specs.declared.ending.Ending.{Ending}
 use Rattle.cdi_prepare.specs.Ready.{readied_in}
-use Rattle.cdi_program.specs.Findings.{AreFindings}
-use Rattle.cdi_program.specs.Lines.{cause_line, file_line}
+use Rattle.cdi_program.specs.Drawings.{IsDrawing}
+use Rattle.cdi_program.specs.Findings.{AreFindings, Found}
+use Rattle.cdi_program.specs.Lines.{cause_line}
 use Rattle.cdi_program.specs.Statuses.{is_shown, status_of, status_of_findings}
-use Rattle.cdi_program.specs.Streams.{Ends, IsUnread, IsUntouched, Output}
-use Rattle.cdi_program.specs.Telling.{IsLeft, Passes, PassesOn, TellsEnding, TellsFault, TellsOfFile, TellsVerdict}
+use Rattle.cdi_program.specs.Streams.{Ends, Input, IsUnread, IsUntouched, Output}
+use Rattle.cdi_program.specs.Taken.{Takes}
+use Rattle.cdi_program.specs.Telling.{IsLeft, Passes, PassesOn, TellsEnding, TellsFault, TellsOfFile, TellsVerdict, Warns, WarnsAndTells}
 use Rattle.cdi_program.specs.WordAnswers.{IsAnswerOn}
+use Rattle.cdi_program.specs.declared.drawing.Drawing.{Drawing}
 use Rattle.cdi_program.specs.declared.explaining.WordAnswer.{WordAnswer}
 use Rattle.cdi_program.specs.declared.explaining.WordAnswer.TheVariants as word_answers
 use Rattle.cdi_program.specs.declared.words.WordsError.{WordsError}
@@ -107,9 +112,9 @@ pub record ChecksBytes (file bytes : List ℕ) (ends : Ends) (status : ℕ) : Ty
 
 -- These bytes of a deployment are checked, and what is wrong is written as lines of JSON; or memory ran out.
 pub data ChecksAsJson (bytes : List ℕ) (ends : Ends) (status : ℕ) : Type 0 where
-  writes : (lines : List ℕ) → AreFindings bytes (readied_in bytes) lines
-      → (shown : ℕ) → Shows lines ends shown → status ≡ status_of_findings lines shown
-      → ChecksAsJson bytes ends status
+  writes : (found : Found) → AreFindings bytes (readied_in bytes) found
+      → (shown : ℕ) → Shows found.lines ends shown
+      → status ≡ status_of_findings found.is_refused shown → ChecksAsJson bytes ends status
   starves : IsUntouched ends → TellsFault faults.Memory ends.errors ends.errors_after
       → status ≡ 3 → ChecksAsJson bytes ends status
 
@@ -117,15 +122,43 @@ abbrev pub ChecksBy : Bool → List ℕ → List ℕ → Ends → ℕ → Type 0
 ChecksBy true file bytes ends status = ChecksAsJson bytes ends status
 ChecksBy false file bytes ends status = ChecksBytes file bytes ends status
 
--- the bytes of a deployment are checked or run
+-- of a deployment that was drawn the warning is told, and what is wrong with it if it is refused
+abbrev pub TellsDrawn : Bool → List ℕ → List ℕ → Output → Output → Type 0
+TellsDrawn true file bytes old new = WarnsAndTells file bytes old new
+TellsDrawn false file bytes old new = Warns file bytes old new
+
+-- The drawing of a deployment is written, or it is told that it could not be; and then what there is to say. Nothing is read.
+pub record DrawsOne (file bytes : List ℕ) (drawing : Drawing) (ends : Ends) (status : ℕ)
+    : Type 0 where
+  pub shown : ℕ
+  pub between : Output
+  pub shows : Shows (string_bytes drawing.text) (record ends { errors_after = between }) shown
+  pub tells : TellsDrawn drawing.is_refused file bytes between ends.errors_after
+  pub is_status : status ≡ status_of_findings drawing.is_refused shown
+
+-- nothing is written of bytes that can't be read
+abbrev pub Draws : List ℕ → List ℕ → Option Drawing → Ends → ℕ → Type 0
+Draws file bytes None ends status =
+    WarnsAndTells file bytes ends.errors ends.errors_after × IsUntouched ends × (status ≡ 1)
+Draws file bytes (Some drawing) ends status = DrawsOne file bytes drawing ends status
+
+-- The deployment that these bytes are is drawn; or memory ran out.
+pub data DrawsBytes (file bytes : List ℕ) (ends : Ends) (status : ℕ) : Type 0 where
+  draws : (drawing : Option Drawing) → IsDrawing (readied_in bytes) drawing
+      → Draws file bytes drawing ends status → DrawsBytes file bytes ends status
+  starves : IsUntouched ends → TellsFault faults.Memory ends.errors ends.errors_after
+      → status ≡ 3 → DrawsBytes file bytes ends status
+
+-- the bytes of a deployment are checked, drawn or run
 abbrev pub ServesBytesBy : Mode → Options → List ℕ → Ends → ℕ → Type 0
 ServesBytesBy modes.Check o bytes ends status = ChecksBy o.writes_json o.file.now bytes ends status
+ServesBytesBy modes.Graph o bytes ends status = DrawsBytes o.file.now bytes ends status
 ServesBytesBy _ o bytes ends status = RunsBytes o.settings o.file.now bytes ends status
 
 abbrev pub ServesBytes : Options → List ℕ → Ends → ℕ → Type 0
 ServesBytes o bytes ends status = ServesBytesBy o.mode o bytes ends status
 
--- A file is checked or run: the deployment is in the bytes that come of its first 1,048,577, or it can't be read.
+-- A file is checked, drawn or run: the deployment is in the bytes that come of its first 1,048,577, or it can't be read.
 pub data ServesFile (gives : List ℕ → ℕ → List ℕ → Type 0) (unreadable : List ℕ → Type 0)
     (o : Options) (ends : Ends) (status : ℕ) : Type 0 where
   reads : (bytes : List ℕ) → gives o.file.now 1048577 bytes
@@ -134,11 +167,50 @@ pub data ServesFile (gives : List ℕ → ℕ → List ℕ → Type 0) (unreadab
       → TellsOfFile o.file.now None ends.errors ends.errors_after → status ≡ 3
       → ServesFile gives unreadable o ends status
 
+-- `-` names the input in the place of a file, but not for a run
+abbrev pub is_input_by : Mode → List ℕ → Bool
+is_input_by modes.Check file = bytes_eq file (codes "-")
+is_input_by modes.Graph file = bytes_eq file (codes "-")
+is_input_by _ file = false
+
+abbrev pub is_input : Options → Bool
+is_input o = is_input_by o.mode o.file.now
+
+-- Taking the front of the input, up to 1,048,577 bytes, came to this. The output keeps what was written, and is asked to pass it on.
+pub record TakesInput (result : Result (List ℕ) ServeFault) (input input_after : Input)
+    (output output_after : Output) : Type 0 where
+  pub takes : Takes 1048577 result input.unread input_after.unread
+  pub kept : Keeps output.held output_after.held
+  pub blames : Blames result input.has_failed input_after.has_failed
+      output.has_failed output_after.has_failed
+  pub passed_on : OnOk result (IsTrue output_after.is_passed_on)
+
+-- The input is checked or drawn: the deployment is the front of what stood unread in it; or what failed in taking it is told.
+pub data ServesInput (o : Options) (ends : Ends) (status : ℕ) : Type 0 where
+  reads : (bytes : List ℕ) (input : Input) (output : Output)
+      → TakesInput (Ok bytes) ends.input input ends.output output
+      → ServesBytes o bytes (record ends { input = input; output = output }) status
+      → ServesInput o ends status
+  fails : (fault : ServeFault)
+      → TakesInput (Err fault) ends.input ends.input_after ends.output ends.output_after
+      → TellsFault fault ends.errors ends.errors_after → status ≡ 3 → ServesInput o ends status
+
+abbrev pub ServesFrom : Bool → (List ℕ → ℕ → List ℕ → Type 0) → (List ℕ → Type 0) → Options → Ends
+    → ℕ → Type 0
+ServesFrom true gives unreadable o ends status = ServesInput o ends status
+ServesFrom false gives unreadable o ends status = ServesFile gives unreadable o ends status
+
+-- the deployment in the input or in a file is checked, drawn or run
+abbrev pub ServesDeployment : (List ℕ → ℕ → List ℕ → Type 0) → (List ℕ → Type 0) → Options → Ends
+    → ℕ → Type 0
+ServesDeployment gives unreadable o ends status =
+    ServesFrom (is_input o) gives unreadable o ends status
+
 -- what is told of a word that is to be explained
 abbrev pub Answers : List ℕ → WordAnswer → Ends → ℕ → Type 0
 Answers word (word_answers.Known text) ends status = Shows (string_bytes text) ends status
-Answers word (word_answers.Unknown cause) ends status =
-    PassesOn (file_line word (string_bytes cause)) ends.errors ends.errors_after
+Answers word (word_answers.Unknown line) ends status =
+    PassesOn (string_bytes line) ends.errors ends.errors_after
     × IsUntouched ends × (status ≡ 2)
 
 -- A word is explained, or it is told that it is none of the output; or memory ran out.
@@ -151,7 +223,7 @@ pub data Explains (word : List ℕ) (ends : Ends) (status : ℕ) : Type 0 where
 abbrev pub ServesBy : (List ℕ → ℕ → List ℕ → Type 0) → (List ℕ → Type 0) → Mode → Options → Ends
     → ℕ → Type 0
 ServesBy gives unreadable modes.Explain o ends status = Explains o.word.now ends status
-ServesBy gives unreadable _ o ends status = ServesFile gives unreadable o ends status
+ServesBy gives unreadable _ o ends status = ServesDeployment gives unreadable o ends status
 
 -- what the words ask for is done
 abbrev pub Serves : (List ℕ → ℕ → List ℕ → Type 0) → (List ℕ → Type 0) → Options → Ends → ℕ

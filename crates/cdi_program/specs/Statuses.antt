@@ -1,5 +1,5 @@
 -- The exit statuses that are not those of a run or a report.
-use Rattle.std.specs.Prelude.{ℕ, zero, suc, Bool, true, false, List, [], ◌∷◌}
+use Rattle.std.specs.Prelude.{ℕ, zero, suc, Bool, true, false}
 use Rattle.clap.specs.declared.error.kind.ErrorKind.{ErrorKind}
 use Rattle.clap.specs.declared.error.kind.ErrorKind.TheVariants as kinds
 
@@ -16,8 +16,8 @@ status_of kinds.DisplayVersion = 0
 status_of kinds.OutOfMemory = 3
 status_of _ = 2
 
--- 1 if there is something wrong that was written, and else the status of writing it
-abbrev pub status_of_findings : List ℕ → ℕ → ℕ
-status_of_findings [] shown = shown
-status_of_findings (c ∷ cs) zero = 1
-status_of_findings (c ∷ cs) (suc n) = suc n
+-- 1 if the deployment is refused and what was found is written, and else the status of writing it
+abbrev pub status_of_findings : Bool → ℕ → ℕ
+status_of_findings false shown = shown
+status_of_findings true zero = 1
+status_of_findings true (suc n) = suc n

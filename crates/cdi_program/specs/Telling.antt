@@ -19,7 +19,7 @@ use Rattle.cdi_shell.specs.declared.ending.Ending.{Ending}
 use Rattle.cdi_shell.specs.declared.ending.Ending.TheVariants as endings
 use Rattle.cdi_prepare.specs.Ready.{readied_in}
 use Rattle.cdi_program.specs.Advice.{IsAdviceFor}
-use Rattle.cdi_program.specs.Lines.{cause_line, file_line}
+use Rattle.cdi_program.specs.Lines.{IsFileLine, cause_line}
 use Rattle.cdi_program.specs.Streams.{Output}
 
 -- Writing a text and passing it on came to this. Where it failed, a front part of the text is written, and the output has
@@ -38,18 +38,14 @@ TellsFault fault old new = PassesOn (cause_line (fault_text fault)) old new
 
 -- A cause that lies in a file is told, which is written so if it is known how; or that memory ran out.
 pub data TellsOfFile (file : List ℕ) (cause : Option (List ℕ)) (old new : Output) : Type 0 where
-  tells : (words : List ℕ) → IfSome cause (λ bytes. words ≡ bytes)
-      → PassesOn (file_line file words) old new → TellsOfFile file cause old new
+  tells : (line : List ℕ) → IsFileLine file cause line → PassesOn line old new
+      → TellsOfFile file cause old new
   starves : TellsFault faults.Memory old new → TellsOfFile file cause old new
 
-abbrev pub PassesOnSome : Option (List ℕ) → Output → Output → Type 0
-PassesOnSome None old new = new ≡ old
-PassesOnSome (Some text) old new = PassesOn text old new
-
--- The hints for the problems of the deployment that these bytes are, if they are one, are told; or that memory ran out.
+-- The hints for the problems of the deployment that these bytes are, or why they are none, are told; or that memory ran out.
 pub data Advises (file bytes : List ℕ) (old new : Output) : Type 0 where
-  advises : (advice : Option (List ℕ)) → IsAdviceFor file bytes (readied_in bytes) advice
-      → PassesOnSome advice old new → Advises file bytes old new
+  advises : (advice : List ℕ) → IsAdviceFor file bytes (readied_in bytes) advice
+      → PassesOn advice old new → Advises file bytes old new
   starves : TellsFault faults.Memory old new → Advises file bytes old new
 
 -- the hint for a deployment that can't be read, or else those for its problems

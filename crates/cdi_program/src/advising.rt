@@ -1,15 +1,16 @@
 //! The hints for the problems of a deployment, on standard error.
-ghost use Rattle.std.specs.Prelude.{◌≡◌, ◌++◌, string_bytes, IfOk, IsSomeAnd, OnOk};
+ghost use Rattle.std.specs.Prelude.{◌≡◌, ◌++◌, string_bytes, IfOk, OnOk};
 ghost use Rattle.std.specs.List.{list_any};
 ghost use Rattle.cdi_prepare.specs.Ready.{readied_in};
 ghost use Rattle.cdi_problem_hints.specs.Subjects.{subject_of};
 ghost use Rattle.cdi_program.specs.Advice as spec;
-ghost use Rattle.cdi_program.specs.Lines as lines;
 ghost use Rattle.cdi_program.specs.Streams.{output_of};
 ghost use Rattle.cdi_program.specs.Telling as telling;
 
+use crate::faults::{fault_name, unhinted_text};
+use crate::lines::{add_line, file_line};
 use crate::locating::position_of_problem;
-use crate::telling::tell;
+use crate::telling::{tell, tell_text};
 use cdi_base::Text;
 use cdi_candidates::tables_of;
 use cdi_deployment::Deployment;
@@ -23,18 +24,6 @@ use std::alloc::{AllocError, Global};
 
 /// The most problems of a deployment that get a hint.
 const MAX_HINTS: usize = 50;
-
-/// Adds the line of a hint.
-fn add_line(file: &str, hint: &str, advice: &mut String) -> Result<(), AllocError>
-    ensures { OnOk result (string_bytes advice.new
-        ≡ string_bytes advice.old ++ lines.file_line file.now hint.now) }
-{
-    advice.push_str("cdi: ")?;
-    advice.push_str(file)?;
-    advice.push_str(": ")?;
-    advice.push_str(hint)?;
-    advice.push_str("\n")
-}
 
 /// What stands in front of a hint: the position of a text, if one is known.
 fn front_of(alloc: Global, position: Option<Position>) -> Result<String, AllocError>
@@ -63,7 +52,12 @@ fn hint_lines(
         let front = front_of(alloc, position)?;
         let hint = problem_hint(alloc, subject, problem)?;
         let hint = hint.as_str();
-        add_line(file, &format!(in alloc; "{front}{hint}")?, &mut lines)?;
+        add_line(
+            alloc,
+            file,
+            &format!(in alloc; "{front}{hint}")?,
+            &mut lines,
+        )?;
     }
     Ok(lines)
 }
@@ -77,7 +71,7 @@ fn add_rest(alloc: Global, file: &str, count: usize, advice: &mut String) -> Res
         return Ok(());
     }
     let rest = format!(in alloc; "and {count} more problems")?;
-    add_line(file, &rest, advice)
+    add_line(alloc, file, &rest, advice)
 }
 
 /// The lines of the hints for the first [`MAX_HINTS`] problems, and one that tells how many more there are.
@@ -127,14 +121,14 @@ pub(crate) fn tables_for(
     tables_of(alloc, deployment)
 }
 
-fn some_advice(
+fn review_advice(
     alloc: Global,
     file: &str,
     bytes: &[u8],
     review: Review,
-) -> Result<Option<Text>, AllocError>
-    ensures { IfOk result (λ advice. IsSomeAnd advice
-        (spec.IsAdviceWith file.now bytes.now review.deployment review.scripts review.problems)) }
+) -> Result<Text, AllocError>
+    ensures { IfOk result
+        (spec.IsAdviceWith file.now bytes.now review.deployment review.scripts review.problems) }
 {
     let Review {
         deployment,
@@ -148,33 +142,39 @@ fn some_advice(
         scripts: scripts.as_slice(),
         tables,
     };
-    Ok(Some(advice_on(alloc, file, bytes, &subject, problems.as_slice())?))
+    advice_on(alloc, file, bytes, &subject, problems.as_slice())
 }
 
-/// The same for bytes, if they are a deployment.
-fn advice_for(alloc: Global, file: &str, bytes: &[u8]) -> Result<Option<Text>, AllocError>
+/// The line that tells of a fault for which there is no hint.
+fn fault_advice(alloc: Global, file: &str, bytes: &[u8]) -> Result<Text, AllocError>
+    ensures { IfOk result
+        (λ advice. advice ≡ spec.fault_advice file.now (readied_in bytes.now)) }
+{
+    let name = fault_name(alloc, bytes)?;
+    Ok(Text::new(file_line(alloc, file, unhinted_text(&name))?))
+}
+
+/// The hints for the problems of the deployment that bytes are, or that for their fault.
+fn advice_for(alloc: Global, file: &str, bytes: &[u8]) -> Result<Text, AllocError>
     ensures { IfOk result (spec.IsAdviceFor file.now bytes.now (readied_in bytes.now)) }
 {
     match review_bytes(alloc, bytes) {
-        Ok(Some(review)) => some_advice(alloc, file, bytes, review),
-        Ok(None) => Ok(None),
+        Ok(Some(review)) => review_advice(alloc, file, bytes, review),
+        Ok(None) => fault_advice(alloc, file, bytes),
         Err(error) => Err(error),
     }
 }
 
 /// Tells the user of the problems of a deployment more than their lines do, by a hint for each (see
 /// [`problem_hint`]). Of more than [`MAX_HINTS`] problems the first get one, and a line tells how many more there
-/// are. Nothing is told if the deployment can't be read.
+/// are. Of a deployment that can't be read it tells why in a few words.
 pub(crate) fn advise<E: Sink>(alloc: Global, file: &str, bytes: &[u8], errors: &mut E)
     ensures { telling.Advises file.now bytes.now
         (output_of E.written E.has_failed E.is_passed_on errors.old)
         (output_of E.written E.has_failed E.is_passed_on errors.new) }
 {
     match advice_for(alloc, file, bytes) {
-        Ok(Some(advice)) => {
-            let _ = errors.write_through(advice.as_str().as_bytes());
-        }
-        Ok(None) => {}
+        Ok(advice) => tell_text(errors, advice.as_str()),
         Err(_) => tell(errors, ServeFault::Memory.text()),
     }
 }

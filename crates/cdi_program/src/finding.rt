@@ -1,5 +1,5 @@
 //! One thing that is wrong with a deployment, as a line of JSON.
-ghost use Rattle.std.specs.Prelude.{◌≡◌, string_bytes, IfOk};
+ghost use Rattle.std.specs.Prelude.{◌≡◌, map, string_bytes, IfOk};
 ghost use Rattle.serde_json.specs.Data.{string};
 ghost use Rattle.serde_json.specs.View.{view};
 ghost use Rattle.cdi_program.specs.Finding as spec;
@@ -15,13 +15,15 @@ pub(crate) enum FindingKind {
     Fault,
     /// It is read, and not accepted (Jakarta CDI 4.0, *Problems detected automatically by the container*).
     Problem,
+    /// Something in it is passed over, whether it is accepted or not.
+    Warning,
 }
 
 /// One thing that is wrong with a deployment.
 #[derive(Clone, Copy)]
 pub(crate) struct Finding<'a> {
     pub kind: FindingKind,
-    /// The fault's word, or a problem's number and name.
+    /// The line of the fault, or a problem's number and name, or the warning's word.
     pub name: &'a str,
     /// Where it is, as the lines on standard output tell it.
     pub place: &'a str,
@@ -29,6 +31,8 @@ pub(crate) struct Finding<'a> {
     pub position: Option<Position>,
     /// What is wrong, in words.
     pub message: &'a str,
+    /// The beans among which the deployment doesn't decide, as they are printed.
+    pub candidates: &'a [String],
 }
 
 impl FindingKind {
@@ -38,6 +42,7 @@ impl FindingKind {
         match self {
             FindingKind::Fault => "fault",
             FindingKind::Problem => "problem",
+            FindingKind::Warning => "warning",
         }
     }
 }
@@ -46,6 +51,16 @@ fn text_json(alloc: Global, text: &str) -> Result<Json, AllocError>
     ensures { IfOk result (λ json. view json ≡ string text.now) }
 {
     Ok(Json::String(String::from_str(alloc, text)?))
+}
+
+fn texts_json(alloc: Global, texts: &[String]) -> Result<Json, AllocError>
+    ensures { IfOk result (λ json. view json ≡ spec.texts_data (map string_bytes texts.now)) }
+{
+    let mut items = Vec::new(alloc);
+    for text in texts {
+        items.push(text_json(alloc, text)?)?;
+    }
+    Ok(Json::Array(items))
 }
 
 fn line_json(position: Option<Position>) -> Json
@@ -92,12 +107,17 @@ fn finding_json(alloc: Global, finding: &Finding<'_>) -> Result<Json, AllocError
         "message",
         text_json(alloc, finding.message)?,
     )?;
+    put(
+        &mut members,
+        alloc,
+        "candidates",
+        texts_json(alloc, finding.candidates)?,
+    )?;
     Ok(Json::Object(members))
 }
 
-/// The line of a finding: a JSON object in compact form, with a line feed. Its members are `kind` (`fault` or `problem`), `name`,
-/// `place`, `line` and `column` (from 1, or null if they aren't known), and `message`.
-#[tactic(auto, using(crate::proofs::NoFloats::no_float))]
+/// The line of a finding: a JSON object in compact form, with a line feed. Its members are `kind` (`fault`, `problem`
+/// or `warning`), `name`, `place`, `line` and `column` (from 1, or null if they aren't known), `message` and `candidates`.
 pub(crate) fn finding_line(alloc: Global, finding: &Finding<'_>) -> Result<String, AllocError>
     ensures { IfOk result (λ line. string_bytes line ≡ spec.finding_line (spec.told_by finding.now)) }
 {

@@ -2,12 +2,17 @@
 #![tactic(auto)]
 
 mod advising;
+mod drawing;
 mod explaining;
+mod faults;
 pub mod files;
 mod finding;
 mod findings;
+mod input;
+mod lines;
 mod locating;
 pub mod program;
+mod shown;
 pub mod status;
 mod telling;
 pub mod words;

@@ -4,11 +4,15 @@ ghost use Rattle.clap.specs.Words.{kind_of};
 ghost use Rattle.cdi_program.specs.Program as spec;
 ghost use Rattle.cdi_program.specs.Streams.{ends_of, input_of, output_of};
 
+use crate::drawing::{Drawing, drawing_in};
 use crate::explaining::{WordAnswer, answer_on};
 use crate::files::Files;
-use crate::findings::finding_lines;
-use crate::status::{FAULT, USAGE, is_shown, status_of, status_of_findings};
-use crate::telling::{tell, tell_ending, tell_in, tell_of_file, tell_verdict};
+use crate::findings::findings_in;
+use crate::input::take_front;
+use crate::status::{FAULT, REFUSED, USAGE, is_shown, status_of, status_of_findings};
+use crate::telling::{
+    tell, tell_ending, tell_of_file, tell_refused, tell_text, tell_verdict, tell_warning,
+};
 use crate::words::WordsError;
 use cdi_lines::{ServeFault, Sink, Source};
 use cdi_options::{Mode, Options};
@@ -18,6 +22,9 @@ use clap::Error;
 use clap::error::ErrorKind;
 use std::alloc::Global;
 use std::convert::AsStr;
+
+/// What stands for the standard input in the place of a file.
+const INPUT: &str = "-";
 
 /// The most bytes that are read of a file: one more than a deployment has at most, so that a longer one is told as that.
 pub const MAX_READ: usize = 1_048_577;
@@ -122,10 +129,72 @@ fn check_as_json<R: Source, W: Sink, E: Sink>(
         (output_of E.written E.has_failed E.is_passed_on)
         input.now input.now output.old output.new errors.old errors.new) result }
 {
-    match finding_lines(alloc, bytes) {
-        Ok(lines) => {
-            let status = show(&lines, input, output, errors);
-            status_of_findings(&lines, status)
+    match findings_in(alloc, bytes) {
+        Ok(found) => {
+            let status = show(&found.lines, input, output, errors);
+            status_of_findings(found.is_refused, status)
+        }
+        Err(_) => {
+            tell(errors, ServeFault::Memory.text());
+            FAULT
+        }
+    }
+}
+
+/// Tells the user of a deployment that was drawn what there is to say.
+fn tell_drawn<E: Sink>(alloc: Global, is_refused: bool, file: &str, bytes: &[u8], errors: &mut E)
+    ensures { spec.TellsDrawn is_refused file.now bytes.now
+        (output_of E.written E.has_failed E.is_passed_on errors.old)
+        (output_of E.written E.has_failed E.is_passed_on errors.new) }
+{
+    if is_refused {
+        tell_refused(alloc, file, bytes, errors);
+    } else {
+        tell_warning(alloc, file, bytes, errors);
+    }
+}
+
+/// Writes the drawing of a deployment, and tells what is wrong with it.
+fn draw_one<R: Source, W: Sink, E: Sink>(
+    alloc: Global,
+    file: &str,
+    bytes: &[u8],
+    drawing: &Drawing,
+    input: &R,
+    output: &mut W,
+    errors: &mut E,
+) -> u8
+    ensures { spec.DrawsOne file.now bytes.now drawing.now
+        (ends_of (input_of R.unread R.has_failed)
+        (output_of W.written W.has_failed W.is_passed_on)
+        (output_of E.written E.has_failed E.is_passed_on)
+        input.now input.now output.old output.new errors.old errors.new) result }
+{
+    let status = show(&drawing.text, input, output, errors);
+    tell_drawn(alloc, drawing.is_refused, file, bytes, errors);
+    status_of_findings(drawing.is_refused, status)
+}
+
+/// Draws a deployment.
+fn draw_bytes<R: Source, W: Sink, E: Sink>(
+    alloc: Global,
+    file: &str,
+    bytes: &[u8],
+    input: &R,
+    output: &mut W,
+    errors: &mut E,
+) -> u8
+    ensures { spec.DrawsBytes file.now bytes.now
+        (ends_of (input_of R.unread R.has_failed)
+        (output_of W.written W.has_failed W.is_passed_on)
+        (output_of E.written E.has_failed E.is_passed_on)
+        input.now input.now output.old output.new errors.old errors.new) result }
+{
+    match drawing_in(alloc, bytes) {
+        Ok(Some(drawing)) => draw_one(alloc, file, bytes, &drawing, input, output, errors),
+        Ok(None) => {
+            tell_refused(alloc, file, bytes, errors);
+            REFUSED
         }
         Err(_) => {
             tell(errors, ServeFault::Memory.text());
@@ -170,8 +239,8 @@ fn explain_word<R: Source, W: Sink, E: Sink>(
 {
     match answer_on(alloc, word) {
         Ok(WordAnswer::Known(text)) => show(&text, input, output, errors),
-        Ok(WordAnswer::Unknown(cause)) => {
-            tell_in(errors, word, &cause);
+        Ok(WordAnswer::Unknown(line)) => {
+            tell_text(errors, &line);
             USAGE
         }
         Err(_) => {
@@ -181,7 +250,7 @@ fn explain_word<R: Source, W: Sink, E: Sink>(
     }
 }
 
-/// Does what the words ask for with the bytes of a deployment: checks it, or else runs it.
+/// Does what the words ask for with the bytes of a deployment: checks it, draws it, or else runs it.
 fn serve_bytes<R: Source, W: Sink, E: Sink>(
     alloc: Global,
     options: &Options<'_>,
@@ -199,11 +268,45 @@ fn serve_bytes<R: Source, W: Sink, E: Sink>(
     match options.mode {
         Mode::Check if options.writes_json => check_as_json(alloc, bytes, input, output, errors),
         Mode::Check => check_bytes(alloc, options.file, bytes, input, output, errors),
+        Mode::Graph => draw_bytes(alloc, options.file, bytes, input, output, errors),
         Mode::Run | Mode::Explain => run_bytes(alloc, options, bytes, input, output, errors),
     }
 }
 
-/// Checks or runs the deployment in a file.
+/// Whether the words name the standard input in the place of a file. A run reads its commands there, and takes no deployment from it.
+fn is_input(options: &Options<'_>) -> bool
+    ensures { result ≡ spec.is_input options.now }
+{
+    match options.mode {
+        Mode::Check | Mode::Graph => options.file == INPUT,
+        Mode::Run | Mode::Explain => false,
+    }
+}
+
+/// Checks or draws the deployment in the input.
+fn serve_input<R: Source, W: Sink, E: Sink>(
+    alloc: Global,
+    options: &Options<'_>,
+    input: &mut R,
+    output: &mut W,
+    errors: &mut E,
+) -> u8
+    ensures { spec.ServesInput options.now
+        (ends_of (input_of R.unread R.has_failed)
+        (output_of W.written W.has_failed W.is_passed_on)
+        (output_of E.written E.has_failed E.is_passed_on)
+        input.old input.new output.old output.new errors.old errors.new) result }
+{
+    match take_front(alloc, MAX_READ, input, output) {
+        Ok(bytes) => serve_bytes(alloc, options, &bytes, input, output, errors),
+        Err(fault) => {
+            tell(errors, fault.text());
+            FAULT
+        }
+    }
+}
+
+/// Checks, draws or runs the deployment in a file.
 fn serve_file<F: Files, R: Source, W: Sink, E: Sink>(
     alloc: Global,
     options: &Options<'_>,
@@ -227,6 +330,27 @@ fn serve_file<F: Files, R: Source, W: Sink, E: Sink>(
     }
 }
 
+/// Checks, draws or runs the deployment in a file or in the input.
+fn serve_deployment<F: Files, R: Source, W: Sink, E: Sink>(
+    alloc: Global,
+    options: &Options<'_>,
+    files: &F,
+    input: &mut R,
+    output: &mut W,
+    errors: &mut E,
+) -> u8
+    ensures { spec.ServesDeployment (F.gives files.now) (F.refuses files.now) options.now
+        (ends_of (input_of R.unread R.has_failed)
+        (output_of W.written W.has_failed W.is_passed_on)
+        (output_of E.written E.has_failed E.is_passed_on)
+        input.old input.new output.old output.new errors.old errors.new) result }
+{
+    if is_input(options) {
+        return serve_input(alloc, options, input, output, errors);
+    }
+    serve_file(alloc, options, files, input, output, errors)
+}
+
 /// Does what the words ask for.
 fn serve_options<F: Files, R: Source, W: Sink, E: Sink>(
     alloc: Global,
@@ -244,23 +368,27 @@ fn serve_options<F: Files, R: Source, W: Sink, E: Sink>(
 {
     match options.mode {
         Mode::Explain => explain_word(alloc, options.word, input, output, errors),
-        Mode::Check | Mode::Run => serve_file(alloc, options, files, input, output, errors),
+        Mode::Check | Mode::Run | Mode::Graph => serve_deployment(
+            alloc, options, files, input, output, errors,
+        ),
     }
 }
 
 /// Runs the program, from what came of asking for its words to the exit status.
 ///
 /// [`Mode::Explain`] writes what a word of the output means, with status 0, and reads nothing; a word that isn't known is status 2.
-/// The other modes name the file of a deployment, which is read up to [`MAX_READ`] bytes. [`Mode::Check`] tells
-/// its problems as [`report`] does, reads nothing, and the status is that of the verdict ([`cdi_report::Verdict::status`]); as JSON it
-/// writes a line for each, with its place in the file, and the status is 1 if there is one.
+/// The other modes name the file of a deployment, which is read up to [`MAX_READ`] bytes; for [`Mode::Check`] and [`Mode::Graph`]
+/// `-` stands for the input, which is read so far. [`Mode::Check`] tells
+/// its problems as [`report`] does, reads nothing more, and the status is that of the verdict ([`cdi_report::Verdict::status`]); as
+/// JSON it writes a line for each, with its place in the file, behind one for the warning, and the status is 1 if there is one.
+/// [`Mode::Graph`] writes its picture ([`cdi_pictures::picture`]) if it can be read, and the status is 1 if it has a problem or can't.
 /// [`Mode::Run`] runs it as [`drive`] does, with what the words set for it, and the status is that of how the run ended
 /// ([`cdi_shell::Ending::status`]). Help and the version go to the output, and are passed on, with status 0. Wrong words
-/// are status 2, and a file that can't be read, and want of memory outside of a command, status 3: nothing is read or
+/// are status 2, and a file or an input that can't be read, and want of memory outside of a command, status 3: nothing is
 /// written then.
 ///
 /// With status 2 and 3 a line on `errors` names the cause, which for wrong words is a text of their own. With status 1
-/// the hint for the deployment stands there, if there is one, or those for its problems, or that memory ran out. Before that, and
+/// the hint for the deployment stands there, or those for its problems, or that memory ran out. Before that, and
 /// for a deployment that is accepted, stands a warning if a key stands twice in an object. Otherwise nothing does. As far as
 /// `errors` lets, each is written and passed on.
 pub fn run_program<S: AsStr, F: Files, R: Source, W: Sink, E: Sink>(

@@ -32,11 +32,11 @@ pub fn status_of(kind: ErrorKind) -> u8
     }
 }
 
-/// The exit status of a check that wrote these lines of what is wrong, where that came to a status.
-pub(crate) fn status_of_findings(lines: &str, shown: u8) -> u8
-    ensures { result ≡ spec.status_of_findings lines.now shown }
+/// The exit status where writing what was found came to a status.
+pub(crate) fn status_of_findings(is_refused: bool, shown: u8) -> u8
+    ensures { result ≡ spec.status_of_findings is_refused shown }
 {
-    if shown == 0 && !lines.is_empty() {
+    if shown == 0 && is_refused {
         return REFUSED;
     }
     shown

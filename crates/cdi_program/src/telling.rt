@@ -8,6 +8,7 @@ ghost use Rattle.cdi_program.specs.Streams.{output_of};
 ghost use Rattle.cdi_program.specs.Telling as spec;
 
 use crate::advising::advise;
+use crate::lines::file_line_of;
 use cdi_lines::{ServeFault, Sink, WriteFailed};
 use cdi_prepare::{hint_for, warning_for};
 use cdi_report::Verdict;
@@ -37,19 +38,6 @@ fn write_cause<E: Sink>(errors: &mut E, cause: &str) -> Result<(), WriteFailed>
     end_line(errors, cause)
 }
 
-/// Writes the line that names a cause that lies in a file.
-fn write_of_file<E: Sink>(errors: &mut E, file: &str, cause: &str) -> Result<(), WriteFailed>
-    ensures bytes { WritesAll (E.written errors.old) (E.written errors.new) result
-        (lines.file_line file.now cause.now) }
-    ensures failed { Tells result (E.has_failed errors.old) (E.has_failed errors.new) }
-    ensures passed_on { OnOk result (IsTrue (E.is_passed_on errors.new)) }
-{
-    errors.write(b"cdi: ")?;
-    errors.write(file.as_bytes())?;
-    errors.write(b": ")?;
-    end_line(errors, cause)
-}
-
 /// Tells the user of a cause. Where that fails nobody can be told, and the exit status has to say all.
 pub(crate) fn tell<E: Sink>(errors: &mut E, cause: &str)
     ensures { spec.PassesOn (lines.cause_line cause.now)
@@ -59,13 +47,13 @@ pub(crate) fn tell<E: Sink>(errors: &mut E, cause: &str)
     let _ = write_cause(errors, cause);
 }
 
-/// Tells the user of a cause that lies in a file, or in a word.
-pub(crate) fn tell_in<E: Sink>(errors: &mut E, subject: &str, cause: &str)
-    ensures { spec.PassesOn (lines.file_line subject.now cause.now)
+/// Tells the user what stands in a text, as far as it can be told.
+pub(crate) fn tell_text<E: Sink>(errors: &mut E, text: &str)
+    ensures { spec.PassesOn text.now
         (output_of E.written E.has_failed E.is_passed_on errors.old)
         (output_of E.written E.has_failed E.is_passed_on errors.new) }
 {
-    let _ = write_of_file(errors, subject, cause);
+    let _ = errors.write_through(text.as_bytes());
 }
 
 /// Tells the user what is wrong with a file.
@@ -79,15 +67,13 @@ pub(crate) fn tell_of_file<E: Sink, C: Display>(
         (output_of E.written E.has_failed E.is_passed_on errors.old)
         (output_of E.written E.has_failed E.is_passed_on errors.new) }
 {
-    match cause.to_string(alloc) {
-        Ok(cause) => {
-            let _ = write_of_file(errors, file, &cause);
-        }
+    match file_line_of(alloc, file, cause) {
+        Ok(line) => tell_text(errors, &line),
         Err(_) => tell(errors, ServeFault::Memory.text()),
     }
 }
 
-/// Tells the user what is wrong with a refused deployment beyond what its line says, if there is more to say.
+/// Tells the user what is wrong with a refused deployment beyond what its line says.
 fn tell_hint<E: Sink>(alloc: Global, file: &str, bytes: &[u8], errors: &mut E)
     ensures { spec.TellsRefused file.now bytes.now
         (output_of E.written E.has_failed E.is_passed_on errors.old)
@@ -101,7 +87,7 @@ fn tell_hint<E: Sink>(alloc: Global, file: &str, bytes: &[u8], errors: &mut E)
 }
 
 /// Warns the user of a key that stands twice in an object of a deployment, if there is one.
-fn tell_warning<E: Sink>(alloc: Global, file: &str, bytes: &[u8], errors: &mut E)
+pub(crate) fn tell_warning<E: Sink>(alloc: Global, file: &str, bytes: &[u8], errors: &mut E)
     ensures { spec.Warns file.now bytes.now
         (output_of E.written E.has_failed E.is_passed_on errors.old)
         (output_of E.written E.has_failed E.is_passed_on errors.new) }
@@ -114,7 +100,7 @@ fn tell_warning<E: Sink>(alloc: Global, file: &str, bytes: &[u8], errors: &mut E
 }
 
 /// Tells the user of a refused deployment what there is to say: the warning, and then what is wrong.
-fn tell_refused<E: Sink>(alloc: Global, file: &str, bytes: &[u8], errors: &mut E)
+pub(crate) fn tell_refused<E: Sink>(alloc: Global, file: &str, bytes: &[u8], errors: &mut E)
     ensures { spec.WarnsAndTells file.now bytes.now
         (output_of E.written E.has_failed E.is_passed_on errors.old)
         (output_of E.written E.has_failed E.is_passed_on errors.new) }

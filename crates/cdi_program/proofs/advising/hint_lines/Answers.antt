@@ -19,9 +19,9 @@ loop-problem-preserved c =
     let before = take i.problem-index c.args.problems.now in
     let Lines : List Problem → List ℕ → Type 0 = λ problems lines. spec.AreHintLines c.args.file.now c.args.bytes.now s problems lines in
     let hint_is : string_bytes c.in_ok-format.field-0 ≡ spec.position_front c.in_ok-position.position ++ problem_hint s p = search rules in
-    let told : string_bytes c.add_line.new.advice ≡ string_bytes i.lines ++ spec.hint_line c.args.file.now s p c.in_ok-position.position = search rules in
+    let told : string_bytes c.add_line.new.lines ≡ string_bytes i.lines ++ spec.hint_line c.args.file.now s p c.in_ok-position.position = search rules in
     let next : take (i.problem-index + 1) c.args.problems.now ≡ before ++ p ∷ [] =
     take_more c.args.problems.now i.problem-index p c.loop-problem-test.true ∙ ap (λ (x : Problem). before ++ x ∷ []) (sym c.problem-item.is) in
     let more : Lines (before ++ p ∷ []) (string_bytes i.lines ++ spec.hint_line c.args.file.now s p c.in_ok-position.position) =
     spec.AreHintLines.more before (string_bytes i.lines) p c.in_ok-position.position c.in_ok-position.ensures i.invariant in
-    subst (λ (problems : List Problem). Lines problems (string_bytes c.add_line.new.advice)) (sym next) (subst (Lines (before ++ p ∷ [])) (sym told) more)
+    subst (λ (problems : List Problem). Lines problems (string_bytes c.add_line.new.lines)) (sym next) (subst (Lines (before ++ p ∷ [])) (sym told) more)

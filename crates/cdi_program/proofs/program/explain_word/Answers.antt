@@ -9,8 +9,8 @@ returns-in-Ok-Known g c =
 
 pub returns-in-Ok-Unknown : goal.returns-in-Ok-Unknown
 returns-in-Ok-Unknown g c =
-    let same : c.deref-in-Ok-Unknown.result.now ≡ string_bytes c.in-Ok-Unknown.cause = search rules in
-    answers_word c.in-Ok-Unknown.field-0 c.in-Ok-Unknown.ensures (rw c.in-Ok-Unknown.field-0-is (rw same at c.tell_in.ensures, record { input = refl; output = refl }, refl))
+    let same : c.deref-in-Ok-Unknown.result.now ≡ string_bytes c.in-Ok-Unknown.line = search rules in
+    answers_word c.in-Ok-Unknown.field-0 c.in-Ok-Unknown.ensures (rw c.in-Ok-Unknown.field-0-is (rw same at c.tell_text.ensures, record { input = refl; output = refl }, refl))
 
 pub returns-in-Err : goal.returns-in-Err
 returns-in-Err g c = starves (record { input = refl; output = refl }) (rw c.text.ensures at c.tell.ensures) refl
