@@ -1,16 +1,14 @@
 //! The cycle that a type stands on which is its own supertype.
-ghost use Rattle.std.specs.Prelude.{◌≡◌, ◌++◌, option_to_list, string_bytes, IfOk, OnOk};
-ghost use Rattle.std.specs.List.{filter_map};
+ghost use Rattle.std.specs.Prelude.{◌≡◌, ◌++◌, string_bytes, IfOk, OnOk};
 ghost use Rattle.cdi_problem_hints.specs.Hierarchy as spec;
 ghost use Rattle.cdi_problems.specs.Elements.{element_of};
 ghost use Rattle.cdi_types.specs.Nodes as nodes;
-ghost use Rattle.cdi_types.specs.Subtype.{direct_supertypes, supertypes_of};
 
 use cdi_base::{Name, Names, Seq};
 use cdi_deployment::Deployment;
 use cdi_paths::cycle_through;
 use cdi_problems::{Element, name_text};
-use cdi_types::{TypeDeclaration, declarations_of};
+use cdi_types::{TypeDeclaration, declarations_of, supertype_graph};
 use std::alloc::{AllocError, Global};
 
 /// The place of the first declaration of a name, if it is declared.
@@ -20,60 +18,6 @@ fn place_of(types: &[TypeDeclaration], name: Name) -> Option<usize>
     types.iter().position(|declared| declared.name == name)
 }
 
-/// Adds the edge to a name, if it is declared.
-fn add_edge(types: &[TypeDeclaration], name: Name, row: &mut Seq<usize>) -> Result<(), AllocError>
-    ensures { OnOk result
-        (row.new ≡ row.old ++ option_to_list (nodes.place_of types.now name)) }
-{
-    if let Some(place) = place_of(types, name) {
-        row.push(place)?;
-    }
-    Ok(())
-}
-
-/// Adds the edges to what a declaration names directly above it.
-fn add_edges(
-    types: &[TypeDeclaration],
-    declared: &TypeDeclaration,
-    row: &mut Seq<usize>,
-) -> Result<(), AllocError>
-    ensures { OnOk result (row.new ≡ row.old
-        ++ filter_map (nodes.place_of types.now) (direct_supertypes declared.now)) }
-{
-    if let Some(name) = declared.superclass {
-        add_edge(types, name, row)?;
-    }
-    for name in declared.interfaces.as_slice() {
-        add_edge(types, *name, row)?;
-    }
-    Ok(())
-}
-
-/// The edges of a name: to what all its declarations name directly above it.
-fn edges_of(alloc: Global, types: &[TypeDeclaration], name: Name) -> Result<Seq<usize>, AllocError>
-    ensures { IfOk result (λ row.
-        row ≡ filter_map (nodes.place_of types.now) (supertypes_of types.now name)) }
-{
-    let mut row = Seq::empty(alloc);
-    for declared in types {
-        if declared.name == name {
-            add_edges(types, declared, &mut row)?;
-        }
-    }
-    Ok(row)
-}
-
-/// The graph of the types, each declaration under its index. An edge leads to the first declaration of a name.
-fn rows_of(alloc: Global, types: &[TypeDeclaration]) -> Result<Seq<Seq<usize>>, AllocError>
-    ensures { IfOk result (λ rows. rows ≡ spec.rows_of types.now) }
-{
-    let mut rows = Seq::empty(alloc);
-    for declared in types {
-        rows.push(edges_of(alloc, types, declared.name)?)?;
-    }
-    Ok(rows)
-}
-
 /// The places of the types on a cycle through one, if it stands on one.
 fn cycle_of(alloc: Global, types: &[TypeDeclaration], name: Name) -> Result<Seq<usize>, AllocError>
     ensures { IfOk result (λ places. places ≡ spec.cycle_of types.now name) }
@@ -81,7 +25,7 @@ fn cycle_of(alloc: Global, types: &[TypeDeclaration], name: Name) -> Result<Seq<
     let Some(place) = place_of(types, name) else {
         return Ok(Seq::empty(alloc));
     };
-    let rows = rows_of(alloc, types)?;
+    let rows = supertype_graph(alloc, types)?;
     match cycle_through(alloc, rows.as_slice(), place)? {
         Some(places) => Ok(places),
         None => Ok(Seq::empty(alloc)),
