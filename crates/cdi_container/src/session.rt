@@ -6,7 +6,7 @@ use crate::container::Container;
 use cdi_base::{OrMemory, Refusal, Reply};
 use cdi_lines::{MAX_INPUT, Responder, ServeFault, Sink, Source, serve_lines};
 use cdi_machine::Driver;
-use cdi_text::{read_command, write_reply, write_trace};
+use cdi_text::{JsonReader, read_command, write_reply, write_trace};
 use std::alloc::{AllocError, Global};
 use std::marker::Model;
 
@@ -18,7 +18,13 @@ impl<D: Driver> Container<D> {
 
     /// The reply to a line, whose command is carried out by turns of so many entries. If memory runs out for reading it, nothing
     /// changes.
-    fn reply_to(&mut self, alloc: Global, line: &[u8], slice: u64) -> Result<Reply, AllocError>
+    fn reply_to(
+        &mut self,
+        alloc: Global,
+        reader: &mut JsonReader,
+        line: &[u8],
+        slice: u64,
+    ) -> Result<Reply, AllocError>
         ensures answers { IfOk result (λ reply.
             AnswersRead (names_of self.old) (tables_of self.old)
             (D.legal self.old.runtime.driver) (Unit {0})
@@ -27,7 +33,7 @@ impl<D: Driver> Container<D> {
             (D.legal self.old.runtime.driver) (D.legal self.new.runtime.driver) self.old self.new }
         ensures err { OnErr result (self.new ≡ self.old) }
     {
-        match read_command(alloc, line) {
+        match read_command(alloc, reader, line) {
             Ok(command) => Ok(self.command_by_turns(&command, slice)),
             Err(OrMemory::Fault(_)) => Ok(self.refuse(Refusal::BadLine)),
             Err(OrMemory::Memory) => Err(AllocError),
@@ -38,6 +44,8 @@ impl<D: Driver> Container<D> {
 /// A container that answers the lines of an input, with the trace of what each did or without.
 pub struct Session<D: Driver> {
     container: Container<D>,
+    /// What reads the lines.
+    reader: JsonReader,
     shows_trace: bool,
     /// By turns of so many entries each command is carried out.
     slice: u64,
@@ -48,6 +56,7 @@ impl<D: Driver + Drop> Drop for Session<D> {
     fn drop(self) {
         let Self {
             container: _container,
+            reader: _reader,
             shows_trace: _shows_trace,
             slice: _slice,
         } = self;
@@ -77,7 +86,8 @@ impl<D: Driver> Responder for Session<D> {
         (D.legal s.container.runtime.driver) (D.legal t.container.runtime.driver) s line text t };
 
     fn answer(&mut self, alloc: Global, line: &[u8]) -> Result<Vec<u8>, AllocError> {
-        let reply = self.container.reply_to(alloc, line, self.slice)?;
+        let reader = &mut self.reader;
+        let reply = self.container.reply_to(alloc, reader, line, self.slice)?;
         self.text_of(alloc, &reply)
     }
 }
@@ -89,13 +99,19 @@ impl<D: Driver> Session<D> {
 
     /// A container whose replies stand alone, or behind the entries of their commands, which are carried out by turns of so many
     /// entries, of which 0 counts as 1. No reply depends on their number.
-    pub fn new(container: Container<D>, shows_trace: bool, slice: u64) -> Session<D>
+    pub fn new(
+        alloc: Global,
+        container: Container<D>,
+        shows_trace: bool,
+        slice: u64,
+    ) -> Session<D>
         ensures container { result.container ≡ container }
         ensures shows { result.shows_trace ≡ shows_trace }
         ensures slice { result.slice ≡ slice }
     {
         Session {
             container,
+            reader: JsonReader::new(alloc),
             shows_trace,
             slice,
         }

@@ -84,7 +84,7 @@ left_text a ty label (p ∷ q ∷ ps) =
 abbrev pub left : BeanTables → ℕ → List Use → List Place
 left t ty quals = candidates ty (full_uses t.declared.qualifiers quals) (enabled_of t.resolver)
 
-abbrev pub asked_text : Asker → ℕ → List Use → List ℕ
+unfoldable pub asked_text : Asker → ℕ → List Use → List ℕ
 asked_text a ty quals =
     left_text a ty (label_text a.drawing.names ty quals) (left a.drawing.tables ty quals)
 

@@ -107,6 +107,7 @@ fn add_left(
     }
 }
 
+#[tactic(auto, unfolding(crate::specs::Points::asked_text))]
 fn add_point(
     alloc: Global,
     asker: &Asker<'_>,

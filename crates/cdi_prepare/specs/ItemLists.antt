@@ -30,7 +30,7 @@ long_list place key length limit =
     if nat_le length limit then None
     else Some (mistakes.List (place ++ (codes "/" ++ key)) length limit)
 
--- a list of names that has no limit of its own
+-- a list of names: at most 64, the common limit
 abbrev pub long_names : List ℕ → List ℕ → List ℕ → Option Mistake
 long_names place key names = long_list place key (length names) 64
 

@@ -48,7 +48,8 @@ fn value_in(alloc: Global, bytes: &[u8]) -> Result<Json, OrMemory<Hint>>
             Err(OrMemory::Fault(Hint {
                 position: Some(Position {
                     line: error.line(),
-                    column: error.column(),
+                    // The library tells 0 if it read nothing of the line.
+                    column: error.column().max(1),
                 }),
                 mistake: syntax_mistake(bytes, true),
             }))

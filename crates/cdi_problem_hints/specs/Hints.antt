@@ -5,6 +5,7 @@ use Rattle.cdi_base.specs.declared.place.Place.{Place}
 use Rattle.cdi_deployment.specs.declared.deployment.Deployment.{Deployment}
 use Rattle.cdi_name_uses.specs.Unknown.{unknown_names}
 use Rattle.cdi_problem_hints.specs.Asked.{is_at}
+use Rattle.cdi_problem_hints.specs.Hierarchy.{hierarchy_text}
 use Rattle.cdi_problem_hints.specs.Near.{unsatisfied_in}
 use Rattle.cdi_problem_hints.specs.Points.{points_text}
 use Rattle.cdi_problem_hints.specs.Rule.{rule_text}
@@ -19,10 +20,11 @@ use Rattle.cdi_problems.specs.declared.problem.ProblemKind.TheVariants as kinds
 use Rattle.cdi_resolve.specs.declared.bean_tables.BeanTables.{BeanTables}
 use Rattle.cdi_step_names.specs.declared.step_name.ScriptNames.{ScriptNames}
 
--- of an unknown name what it has to be and what was probably meant, and of a point what it asks for, and if it is ambiguous what is
--- left, and if it isn't satisfied what is near
+-- of an unknown name what it has to be and what was probably meant, of a type that is its own supertype a cycle, and of a point what
+-- it asks for, and if it is ambiguous what is left, and if it isn't satisfied what is near
 abbrev pub details : Deployment → Option BeanTables → ProblemKind → Element → List ℕ
 details d tables kinds.UnknownName e = sentences d e (unknown_names d e)
+details d tables kinds.CyclicHierarchy e = hierarchy_text d e
 details d tables kinds.Unsatisfied e = unsatisfied_in d tables e
 details d tables kinds.Ambiguous e = points_text d.names tables e
 details d tables kinds.Unproxyable e = points_text d.names None e

@@ -1,5 +1,6 @@
 pub mod Asked
 pub mod Candidates
+pub mod Hierarchy
 pub mod Hints
 pub mod Left
 pub mod Near

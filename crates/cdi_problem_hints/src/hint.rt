@@ -7,6 +7,7 @@ ghost use Rattle.cdi_problem_hints.specs.Subjects.{subject_of};
 ghost use Rattle.cdi_problems.specs.Elements.{element_of, shown};
 
 use crate::asked::is_at;
+use crate::hierarchy::add_hierarchy;
 use crate::near::add_unsatisfied;
 use crate::point::add_points;
 use crate::rule::rule_text;
@@ -37,6 +38,7 @@ fn add_details(
             let unknown = unknown_names(alloc, deployment, element)?;
             add_sentences(alloc, deployment, element, unknown.as_slice(), hint)
         }
+        ProblemKind::CyclicHierarchy => add_hierarchy(alloc, deployment, element, hint),
         ProblemKind::Ambiguous => {
             add_points(alloc, &deployment.names, subject.tables, element, hint)
         }
@@ -90,9 +92,10 @@ fn add_script_details(
 
 /// What is told of a problem of a deployment beyond its line: the rule that it breaks, and the names that break it (Jakarta CDI 4.0,
 /// *Problems detected automatically by the container*). Of a name that isn't known it tells the group that it has to be of, and the
-/// known name that was probably meant, if one is near; of a point without its one bean, what it asks for, and by the tables, if it is
-/// ambiguous, the beans that are left, and if it isn't satisfied, those that nearly have what it asks for; of a script that names
-/// something that isn't there, its first step with a name that isn't declared as what it has to be, if there is one.
+/// known name that was probably meant, if one is near; of a type that is its own supertype, the types of a cycle; of a point without
+/// its one bean, what it asks for, and by the tables, if it is ambiguous, the beans that are left, and if it isn't satisfied, those
+/// that nearly have what it asks for; of a script that names something that isn't there, its first step with a name that isn't
+/// declared as what it has to be, if there is one.
 pub fn problem_message(
     alloc: Global,
     subject: &Subject<'_>,

@@ -4,6 +4,7 @@
 mod asked;
 mod candidate;
 mod declared;
+mod hierarchy;
 pub mod hint;
 pub mod left;
 mod near;

@@ -119,7 +119,7 @@ fn live<R: Source, W: Sink, D: Driver + Drop>(
         (W.has_failed output.old) (W.has_failed output.new) }
 {
     let container = Container::start(alloc, tables, driver, settings.limits);
-    let mut session = Session::new(container, settings.shows_trace, u64::from(slice));
+    let mut session = Session::new(alloc, container, settings.shows_trace, u64::from(slice));
     let served = session.serve(alloc, input, output);
     after_serving(served, session.container().halted())
 }

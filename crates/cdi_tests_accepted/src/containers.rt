@@ -11,7 +11,7 @@ use cdi_container::{Container, Turned, Turns, Unaccepted, accept};
 use cdi_deploy::read;
 use cdi_machine::{Driver, Registered};
 use cdi_run_tables::RunTables;
-use cdi_text::{read_command, write_reply};
+use cdi_text::{JsonReader, read_command, write_reply};
 use std::alloc::{AllocError, Global};
 use std::process::Abort;
 
@@ -58,7 +58,7 @@ const ASKED: &[Asked] = &[
 
 /// The command that a line is.
 fn command_of(alloc: Global, line: &[u8]) -> Result<Command, AllocError> {
-    match read_command(alloc, line) {
+    match read_command(alloc, &mut JsonReader::new(alloc), line) {
         Ok(command) => Ok(command),
         Err(_) => Err(AllocError),
     }

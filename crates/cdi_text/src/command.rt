@@ -7,8 +7,9 @@ ghost use Rattle.cdi_base.specs.Uses.{has_names};
 ghost use Rattle.serde_json.specs.View.{view, items_view};
 ghost use Rattle.cdi_text.specs.Command as spec;
 
+use crate::json_reader::JsonReader;
 use cdi_base::{Command, OrMemory, Seq, Text, Value, WrittenUse, is_name};
-use cdi_form::{Form, is_word, list_of, read_json};
+use cdi_form::{Form, is_word, list_of};
 use serde_json::Value as Json;
 use std::alloc::Global;
 use thiserror::Error;
@@ -287,13 +288,17 @@ fn command_of(alloc: Global, value: &Json) -> Result<Command, OrMemory<BadLine>>
 /// is an `i64`, or a text.
 ///
 /// Every other line is a [`BadLine`]. An error is [`OrMemory::Memory`] where a growth was refused, which can be only
-/// where the line is UTF-8.
+/// where the line is UTF-8. The reader keeps its room for the next line, and no answer depends on it.
 #[tactic(auto, unfolding(crate::specs::Command::command_in))]
-pub fn read_command(alloc: Global, line: &[u8]) -> Result<Command, OrMemory<BadLine>>
+pub fn read_command(
+    alloc: Global,
+    reader: &mut JsonReader,
+    line: &[u8],
+) -> Result<Command, OrMemory<BadLine>>
     ensures gives { Gives (λ c. c) result (spec.command_in line.now) }
     ensures no_text { is_utf8 line.now ≡ false → IsFault result (record {}) }
 {
-    let Some(value) = read_json(alloc, line)? else {
+    let Some(value) = reader.read(alloc, line)? else {
         return bad();
     };
     command_of(alloc, &value)

@@ -11,3 +11,4 @@ pub mod Places
 pub mod Refined
 pub mod Steps
 pub mod Supertypes
+pub mod SameGraph

@@ -71,3 +71,15 @@ pub(crate) fn graph_of(
     }
     Ok(graph)
 }
+
+/// The graph of some types: each declaration under its index, with an edge to the first declaration of each name that stands directly
+/// above its own.
+pub fn supertype_graph(
+    alloc: Global,
+    types: &[TypeDeclaration],
+) -> Result<Seq<Seq<usize>>, AllocError>
+    ensures { IfOk result (λ graph. graph ≡ spec.graph_of (spec.place_of types.now) types.now) }
+{
+    let index = TypeIndex::build(alloc, types)?;
+    graph_of(alloc, &index, types)
+}

@@ -4,7 +4,7 @@
 
 pub mod class_index;
 pub mod declaration;
-mod edges;
+pub mod edges;
 pub mod fault;
 pub mod graph;
 mod index;
@@ -20,6 +20,7 @@ pub mod table;
 
 pub use class_index::ClassIndex;
 pub use declaration::{TypeDeclaration, declarations_of};
+pub use edges::supertype_graph;
 pub use fault::TypesFault;
 pub use graph::TypeGraph;
 pub use kind::MemberKind;
