@@ -1,5 +1,4 @@
 pub mod Advised
-pub mod NoFloats
 pub mod ShownChars
 pub mod Taking
 pub mod Told

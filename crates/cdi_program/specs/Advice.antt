@@ -1,7 +1,5 @@
 -- The hints for the problems of a deployment, as lines on standard error.
-use Rattle.std.specs.Prelude.{◌≡◌, ℕ, ◌-◌, Bool, true, false, List, [], ◌∷◌, ◌++◌, codes, decimal, length, min, take, nat_eq, Option, Some, None, Result, Ok, Err, IfSome, if◌then◌else◌}
-use Rattle.std.specs.List.{list_any}
-use Rattle.cdi_candidates.specs.Tables.{AreTables}
+use Rattle.std.specs.Prelude.{◌≡◌, ℕ, ◌-◌, List, [], ◌∷◌, ◌++◌, codes, decimal, length, min, take, nat_eq, Option, Some, None, Result, Ok, Err, IfSome, if◌then◌else◌}
 use Rattle.cdi_deployment.specs.declared.deployment.Deployment.{Deployment}
 use Rattle.cdi_positions.specs.Position.{IsPositionIn}
 use Rattle.cdi_positions.specs.declared.position.Position.{Position}
@@ -10,9 +8,8 @@ use Rattle.cdi_prepare.specs.Scripts.{registered}
 use Rattle.cdi_problem_hints.specs.Hints.{problem_hint}
 use Rattle.cdi_problem_hints.specs.Subjects.{Subject}
 use Rattle.cdi_problems.specs.declared.problem.Problem.{Problem}
-use Rattle.cdi_problems.specs.declared.problem.ProblemKind.{ProblemKind}
-use Rattle.cdi_problems.specs.declared.problem.ProblemKind.TheVariants as kinds
-use Rattle.cdi_program.specs.Faults.{fault_name, unhinted_text}
+use Rattle.cdi_findings.specs.Faults.{fault_name, unhinted_text}
+use Rattle.cdi_findings.specs.Tables.{AreTablesFor}
 use Rattle.cdi_program.specs.Lines.{file_line}
 use Rattle.cdi_report.specs.Reports.{AreProblemsWith}
 use Rattle.cdi_report.specs.Reviews.{names_of}
@@ -52,23 +49,6 @@ pub record IsAdviceText (file bytes : List ℕ) (s : Subject) (problems : List P
   pub lines : List ℕ
   pub are_lines : AreHintLines file bytes s (take (hinted problems) problems) lines
   pub is : advice ≡ lines ++ rest_line file (length problems - hinted problems)
-
--- the tables tell something of a problem of a kind
-abbrev pub kind_needs_tables : ProblemKind → Bool
-kind_needs_tables kinds.Unsatisfied = true
-kind_needs_tables kinds.Ambiguous = true
-kind_needs_tables _ = false
-
-abbrev pub needs_tables : Problem → Bool
-needs_tables p = kind_needs_tables p.kind
-
-abbrev pub AreTablesIf : Bool → Deployment → Option BeanTables → Type 0
-AreTablesIf true d tables = AreTables d tables
-AreTablesIf false d tables = tables ≡ None
-
--- the tables by which the points of a deployment resolve, if one of these problems needs them
-abbrev pub AreTablesFor : Deployment → List Problem → Option BeanTables → Type 0
-AreTablesFor d problems tables = AreTablesIf (list_any needs_tables problems) d tables
 
 -- that of a deployment whose scripts use these names
 pub record IsAdviceWith (file bytes : List ℕ) (d : Deployment) (scripts : List ScriptNames)

@@ -1,9 +1,6 @@
 pub mod Advice
 pub mod Drawings
-pub mod Faults
 pub mod Files
-pub mod Finding
-pub mod Findings
 pub mod Lines
 pub mod Program
 pub mod Shown

@@ -21,7 +21,7 @@ use Rattle.cdi_shell.specs.Laws.{DrivesOnce}
 use Rattle.cdi_shell.specs.declared.ending.Ending.{Ending}
 use Rattle.cdi_prepare.specs.Ready.{readied_in}
 use Rattle.cdi_program.specs.Drawings.{IsDrawing}
-use Rattle.cdi_program.specs.Findings.{AreFindings, Found}
+use Rattle.cdi_findings.specs.Findings.{AreFindings, Found}
 use Rattle.cdi_program.specs.Lines.{cause_line}
 use Rattle.cdi_program.specs.Statuses.{is_shown, status_of, status_of_findings}
 use Rattle.cdi_program.specs.Streams.{Ends, Input, IsUnread, IsUntouched, Output}

@@ -1,23 +1,22 @@
 -- What is told on standard error.
-use Rattle.std.specs.Prelude.{◌≡◌, ℕ, List, Option, Some, None, Result, Ok, Err, option_map, IfSome, IsTrue, OnOk}
+use Rattle.std.specs.Prelude.{◌≡◌, ℕ, List, Option, Some, None, Result, Ok, Err, IsTrue, OnOk}
 use Rattle.std.specs.Io.KnownBytes.{Keeps}
 use Rattle.cdi_lines.specs.Ends.{Tells, WritesAll}
 use Rattle.cdi_lines.specs.Faults.{fault_text}
 use Rattle.cdi_lines.specs.declared.sink.WriteFailed.{WriteFailed}
 use Rattle.cdi_lines.specs.declared.fault.ServeFault.{ServeFault}
 use Rattle.cdi_lines.specs.declared.fault.ServeFault.TheVariants as faults
-use Rattle.cdi_positions.specs.Position.{IsPositionIn}
 use Rattle.cdi_positions.specs.RepeatedKey.{repeated_text}
 use Rattle.cdi_positions.specs.declared.repeated_keys.RepeatedKey.{RepeatedKey}
 use Rattle.cdi_prepare.specs.Hint.{IsHintFor}
 use Rattle.cdi_prepare.specs.HintText.{hint_text}
-use Rattle.cdi_prepare.specs.Warning.{lost_key}
 use Rattle.cdi_prepare.specs.declared.hint.Hint.{Hint}
 use Rattle.cdi_report.specs.declared.verdict.Verdict.{Verdict}
 use Rattle.cdi_report.specs.declared.verdict.Verdict.TheVariants as verdicts
 use Rattle.cdi_shell.specs.declared.ending.Ending.{Ending}
 use Rattle.cdi_shell.specs.declared.ending.Ending.TheVariants as endings
 use Rattle.cdi_prepare.specs.Ready.{readied_in}
+use Rattle.cdi_findings.specs.Warnings.{IsWarningFor}
 use Rattle.cdi_program.specs.Advice.{IsAdviceFor}
 use Rattle.cdi_program.specs.Lines.{IsFileLine, cause_line}
 use Rattle.cdi_program.specs.Streams.{Output}
@@ -63,11 +62,6 @@ pub data TellsRefused (file bytes : List ℕ) (old new : Output) : Type 0 where
 abbrev pub WarnsOf : List ℕ → Option RepeatedKey → Output → Output → Type 0
 WarnsOf file None old new = new ≡ old
 WarnsOf file (Some warning) old new = TellsOfFile file (repeated_text warning) old new
-
--- this is the warning for bytes: of the first key that stands twice in an object
-pub record IsWarningFor (bytes : List ℕ) (warning : Option RepeatedKey) : Type 0 where
-  pub key : option_map (λ r. r.key) warning ≡ lost_key bytes
-  pub position : IfSome warning (λ r. IsPositionIn bytes r.position)
 
 -- The warning for these bytes is told, if there is one; or that memory ran out.
 pub data Warns (file bytes : List ℕ) (old new : Output) : Type 0 where

@@ -1,25 +1,20 @@
 //! The hints for the problems of a deployment, on standard error.
 ghost use Rattle.std.specs.Prelude.{◌≡◌, ◌++◌, string_bytes, IfOk, OnOk};
-ghost use Rattle.std.specs.List.{list_any};
 ghost use Rattle.cdi_prepare.specs.Ready.{readied_in};
 ghost use Rattle.cdi_problem_hints.specs.Subjects.{subject_of};
 ghost use Rattle.cdi_program.specs.Advice as spec;
 ghost use Rattle.cdi_program.specs.Streams.{output_of};
 ghost use Rattle.cdi_program.specs.Telling as telling;
 
-use crate::faults::{fault_name, unhinted_text};
 use crate::lines::{add_line, file_line};
-use crate::locating::position_of_problem;
 use crate::telling::{tell, tell_text};
 use cdi_base::Text;
-use cdi_candidates::tables_of;
-use cdi_deployment::Deployment;
+use cdi_findings::{fault_name, position_of_problem, tables_for, unhinted_text};
 use cdi_lines::{ServeFault, Sink};
 use cdi_positions::Position;
 use cdi_problem_hints::{Subject, problem_hint};
-use cdi_problems::{Problem, ProblemKind};
+use cdi_problems::Problem;
 use cdi_report::{Review, review_bytes};
-use cdi_resolve::BeanTables;
 use std::alloc::{AllocError, Global};
 
 /// The most problems of a deployment that get a hint.
@@ -89,36 +84,6 @@ fn advice_on(
     let mut advice = hint_lines(alloc, file, bytes, subject, &problems[..hinted])?;
     add_rest(alloc, file, problems.len() - hinted, &mut advice)?;
     Ok(Text::new(advice))
-}
-
-/// Whether the tables tell something of a problem of a kind.
-fn needs_tables(kind: ProblemKind) -> bool
-    ensures { result ≡ spec.kind_needs_tables kind }
-{
-    match kind {
-        ProblemKind::Unsatisfied | ProblemKind::Ambiguous => true,
-        _ => false,
-    }
-}
-
-fn is_one_needing_tables(problems: &[Problem]) -> bool
-    ensures { result ≡ list_any spec.needs_tables problems.now }
-{
-    problems.iter().any(|problem| needs_tables(problem.kind))
-}
-
-/// The tables by which the points of a deployment resolve, if one of these problems needs them.
-pub(crate) fn tables_for(
-    alloc: Global,
-    deployment: &Deployment,
-    problems: &[Problem],
-) -> Result<Option<BeanTables>, AllocError>
-    ensures { IfOk result (spec.AreTablesFor deployment.now problems.now) }
-{
-    if !is_one_needing_tables(problems) {
-        return Ok(None);
-    }
-    tables_of(alloc, deployment)
 }
 
 fn review_advice(

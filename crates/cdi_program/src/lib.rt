@@ -4,13 +4,9 @@
 mod advising;
 mod drawing;
 mod explaining;
-mod faults;
 pub mod files;
-mod finding;
-mod findings;
 mod input;
 mod lines;
-mod locating;
 pub mod program;
 mod shown;
 pub mod status;

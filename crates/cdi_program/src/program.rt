@@ -7,13 +7,13 @@ ghost use Rattle.cdi_program.specs.Streams.{ends_of, input_of, output_of};
 use crate::drawing::{Drawing, drawing_in};
 use crate::explaining::{WordAnswer, answer_on};
 use crate::files::Files;
-use crate::findings::findings_in;
 use crate::input::take_front;
 use crate::status::{FAULT, REFUSED, USAGE, is_shown, status_of, status_of_findings};
 use crate::telling::{
     tell, tell_ending, tell_of_file, tell_refused, tell_text, tell_verdict, tell_warning,
 };
 use crate::words::WordsError;
+use cdi_findings::findings_in;
 use cdi_lines::{ServeFault, Sink, Source};
 use cdi_options::{Mode, Options};
 use cdi_report::report;

@@ -1,5 +1,5 @@
 use Rattle.std.proofs.Common.{rules, ◌≡◌, refl, string_bytes}
-use Rattle.cdi_program.specs.Findings.{found_by}
+use Rattle.cdi_findings.specs.Findings.{found_by}
 use Rattle.cdi_program.specs.Program.ChecksAsJson.{writes, starves}
 use Rattle.cdi_program.proofs.program.check_as_json.Goals as goal
 

@@ -1,0 +1,5 @@
+pub mod Faults
+pub mod Finding
+pub mod Findings
+pub mod Tables
+pub mod Warnings

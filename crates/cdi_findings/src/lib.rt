@@ -1,0 +1,13 @@
+//! What is wrong with a deployment, and what is warned of, as lines of JSON; and where problems stand in its text.
+#![tactic(auto)]
+
+pub mod faults;
+mod finding;
+pub mod findings;
+pub mod locating;
+pub mod tables;
+
+pub use faults::{fault_name, unhinted_text};
+pub use findings::{Findings, findings_in};
+pub use locating::position_of_problem;
+pub use tables::tables_for;
