@@ -1,4 +1,4 @@
-use Rattle.std.proofs.Common.{rules, ◌≡◌, refl, string_bytes, []}
+use Rattle.std.proofs.Common.{rules, ◌≡◌, ◌∙◌, refl, string_bytes, []}
 use Rattle.std.proofs.lemmas.Result.{IfOk-weaker}
 use Rattle.cdi_prepare.specs.Ready.{readied_in}
 use Rattle.cdi_findings.specs.Faults.{fault_name}
@@ -7,8 +7,10 @@ use Rattle.cdi_findings.proofs.findings.fault_line.Goals as goal
 
 pub returns : goal.returns
 returns c =
-    let given : c.deref.result.now ≡ fault_name (readied_in c.args.bytes.now) = search rules in
-    let name_is : c.deref-2.result.now ≡ fault_name (readied_in c.args.bytes.now) = search rules in
+    let lent : c.deref.result.now ≡ string_bytes c.in_ok-name.name = search rules in
+    let lent_again : c.deref-2.result.now ≡ string_bytes c.in_ok-name.name = search rules in
+    let given : c.deref.result.now ≡ fault_name (readied_in c.args.bytes.now) = lent ∙ c.in_ok-name.ensures in
+    let name_is : c.deref-2.result.now ≡ fault_name (readied_in c.args.bytes.now) = lent_again ∙ c.in_ok-name.ensures in
     let message_is : c.deref-3.result.now ≡ string_bytes c.in_ok-message.message = search rules in
     IfOk-weaker c.finding_line.result _ _ (λ line is. record {
       hint = c.in_ok-hint.hint;
