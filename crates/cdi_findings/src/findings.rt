@@ -1,5 +1,5 @@
 //! What is wrong with a deployment, as lines of JSON.
-ghost use Rattle.std.specs.Prelude.{◌≡◌, map, string_bytes, IfOk, IfSome};
+ghost use Rattle.std.specs.Prelude.{◌≡◌, ◌++◌, map, string_bytes, IfOk, IfSome, OnOk};
 ghost use Rattle.cdi_prepare.specs.Ready.{readied_in};
 ghost use Rattle.cdi_problem_hints.specs.Subjects.{subject_of};
 ghost use Rattle.cdi_problems.specs.Places.{place_text};
@@ -12,10 +12,13 @@ use crate::tables::tables_for;
 use cdi_base::{Names, Place};
 use cdi_positions::{Position, RepeatedKey};
 use cdi_prepare::{Hint, hint_for, warning_for};
-use cdi_problem_hints::{Subject, problem_candidates, problem_message};
+use cdi_problem_hints::{Subject, problem_candidates, problem_message, rule_text};
 use cdi_problems::{PlaceText, Problem};
 use cdi_report::{Review, review_bytes};
 use std::alloc::{AllocError, Global};
+
+/// The most problems of a deployment that are told with their details.
+const MAX_DETAILED: usize = 50;
 
 /// What is found in the bytes of a deployment.
 #[derive(Drop)]
@@ -92,6 +95,58 @@ fn problem_lines(
     Ok(lines)
 }
 
+/// The line of a problem for which no details are looked up.
+#[tactic(auto, unfolding(crate::specs::Findings::brief_line))]
+fn brief_line(alloc: Global, names: &Names, problem: &Problem) -> Result<String, AllocError>
+    ensures { IfOk result (λ line. string_bytes line ≡ spec.brief_line names.now problem.now) }
+{
+    let place = place_words(alloc, names, &problem.place)?;
+    let finding = Finding {
+        kind: FindingKind::Problem,
+        name: problem.kind.text(),
+        place: &place,
+        position: None,
+        message: rule_text(problem.kind),
+        candidates: &[],
+    };
+    finding_line(alloc, &finding)
+}
+
+/// Adds the lines of problems for which no details are looked up.
+fn add_brief_lines(
+    alloc: Global,
+    names: &Names,
+    problems: &[Problem],
+    lines: &mut String,
+) -> Result<(), AllocError>
+    ensures { OnOk result (string_bytes lines.new
+        ≡ string_bytes lines.old ++ spec.brief_lines names.now problems.now) }
+{
+    for problem in problems {
+        let line = brief_line(alloc, names, problem)?;
+        lines.push_str(&line)?;
+    }
+    Ok(())
+}
+
+/// The lines of all problems, in their order. To look up where one stands takes as long as the text is, so only the first
+/// [`MAX_DETAILED`] have details.
+fn lines_of(
+    alloc: Global,
+    bytes: &[u8],
+    subject: &Subject<'_>,
+    problems: &[Problem],
+) -> Result<String, AllocError>
+    ensures { IfOk result (λ lines. spec.AreLinesOf bytes.now (subject_of subject.now)
+        problems.now (string_bytes lines)) }
+{
+    let detailed = problems.len().min(MAX_DETAILED);
+    let mut lines = problem_lines(alloc, bytes, subject, &problems[..detailed])?;
+    let names = &subject.deployment.names;
+    add_brief_lines(alloc, names, &problems[detailed..], &mut lines)?;
+    Ok(lines)
+}
+
 /// What is wrong with a deployment that was read.
 fn review_findings(alloc: Global, bytes: &[u8], review: Review) -> Result<Findings, AllocError>
     ensures { IfOk result (λ found. spec.AreReviewFindings bytes.now
@@ -110,7 +165,7 @@ fn review_findings(alloc: Global, bytes: &[u8], review: Review) -> Result<Findin
         tables,
     };
     Ok(Findings {
-        lines: problem_lines(alloc, bytes, &subject, problems.as_slice())?,
+        lines: lines_of(alloc, bytes, &subject, problems.as_slice())?,
         is_refused: !problems.is_empty(),
     })
 }
@@ -210,7 +265,7 @@ fn warning_line(alloc: Global, bytes: &[u8]) -> Result<String, AllocError>
 /// What is found in the bytes of a deployment, each a line with a JSON object: the warning, if there is one, and then its fault if it
 /// can't be read, or else its problems (Jakarta CDI 4.0, *Problems detected automatically by the container*). Its members are `kind`
 /// (`fault`, `problem` or `warning`), `name`, `place`, `line` and `column` (from 1, or null if they aren't known), `message` and
-/// `candidates`. The one error is [`AllocError`], if a growth was refused.
+/// `candidates`. Of problems behind the first 50 the rule is the message, and no position and no candidates are told. The one error is [`AllocError`], if a growth was refused.
 pub fn findings_in(alloc: Global, bytes: &[u8]) -> Result<Findings, AllocError>
     ensures { IfOk result (λ found.
         spec.AreFindings bytes.now (readied_in bytes.now) (spec.found_by found)) }
