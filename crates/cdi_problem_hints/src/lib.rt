@@ -3,11 +3,13 @@
 
 mod asked;
 mod candidate;
+mod cycle;
 mod declared;
 mod hierarchy;
 pub mod hint;
 pub mod left;
 mod near;
+mod needs;
 mod point;
 pub mod pointer;
 pub mod rule;
