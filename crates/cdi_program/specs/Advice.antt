@@ -57,6 +57,7 @@ pub record IsAdviceText (file bytes : List ℕ) (s : Subject) (problems : List P
 abbrev pub kind_needs_tables : ProblemKind → Bool
 kind_needs_tables kinds.Unsatisfied = true
 kind_needs_tables kinds.Ambiguous = true
+kind_needs_tables kinds.DependentCycle = true
 kind_needs_tables _ = false
 
 abbrev pub needs_tables : Problem → Bool

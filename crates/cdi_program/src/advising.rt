@@ -96,7 +96,7 @@ fn needs_tables(kind: ProblemKind) -> bool
     ensures { result ≡ spec.kind_needs_tables kind }
 {
     match kind {
-        ProblemKind::Unsatisfied | ProblemKind::Ambiguous => true,
+        ProblemKind::Unsatisfied | ProblemKind::Ambiguous | ProblemKind::DependentCycle => true,
         _ => false,
     }
 }
