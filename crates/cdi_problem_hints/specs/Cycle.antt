@@ -14,13 +14,13 @@ use Rattle.cdi_resolve.specs.declared.bean_tables.BeanTables.{BeanTables}
 abbrev pub bean_at : List Bean → Place → Option ℕ
 bean_at beans place = position (λ b. same_place (place_of b) place) beans
 
-abbrev pub cycle_at : Deployment → BeanTables → Option ℕ → List ℕ
-cycle_at d t None = []
-cycle_at d t (Some bean) = unwrap_or (cycle_through (needs_of d t) bean) []
+abbrev pub cycle_at : List (List ℕ) → Option ℕ → List ℕ
+cycle_at needs None = []
+cycle_at needs (Some bean) = unwrap_or (cycle_through needs bean) []
 
--- the beans on a cycle through one, by their indices, if it stands on one
-abbrev pub cycle_of : Deployment → BeanTables → Place → List ℕ
-cycle_of d t place = cycle_at d t (bean_at t.resolver.beans place)
+-- the beans on a cycle through the one at a place, by their indices, if it stands on one
+abbrev pub cycle_of : List (List ℕ) → List Bean → Place → List ℕ
+cycle_of needs beans place = cycle_at needs (bean_at beans place)
 
 abbrev pub text_of : List (List ℕ) → Option Bean → List ℕ
 text_of names None = []
@@ -44,11 +44,12 @@ beans_text names beans [] = []
 beans_text names beans (first ∷ others) =
     first_text names beans first ++ others_text names beans others
 
-abbrev pub cycle_text : Deployment → BeanTables → Place → List ℕ
-cycle_text d t place = beans_text d.names t.resolver.beans (cycle_of d t place)
+abbrev pub cycle_text : List (List ℕ) → List Bean → List (List ℕ) → Place → List ℕ
+cycle_text names beans needs place = beans_text names beans (cycle_of needs beans place)
 
 -- the places of the beans on a cycle through the one at a place, by the tables of the deployment, if there are any
 abbrev pub dependent_cycle_text : Deployment → Option BeanTables → Option Place → List ℕ
 dependent_cycle_text d None place = []
 dependent_cycle_text d (Some t) None = []
-dependent_cycle_text d (Some t) (Some place) = cycle_text d t place
+dependent_cycle_text d (Some t) (Some place) =
+    cycle_text d.names t.resolver.beans (needs_of d t) place

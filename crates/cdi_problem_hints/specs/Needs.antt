@@ -1,6 +1,7 @@
 -- The graph of what dependent beans need: under the index of each bean the beans that its own points resolve to.
-use Rattle.std.specs.Prelude.{ℕ, ◌==◌, List, [], ◌∷◌, ◌++◌, map, find, Option, Some, None, if◌then◌else◌}
+use Rattle.std.specs.Prelude.{ℕ, ◌≡◌, ◌==◌, List, [], ◌∷◌, ◌++◌, map, find, Option, Some, None, if◌then◌else◌}
 use Rattle.std.specs.List.{flat_map}
+use Rattle.std.specs.Option.{ForSome}
 use Rattle.cdi_base.specs.declared.uses.Use.{Use}
 use Rattle.cdi_bean_check.specs.ManagedBeans.{is_dependent}
 use Rattle.cdi_bean_check.specs.Qualifiers.{full_uses}
@@ -96,3 +97,7 @@ bean_needs d t b = if is_dependent b.scope then own_needs d t b else []
 -- those of all beans. A cycle is one of enabled dependent beans: others aren't resolved to, or need none.
 abbrev pub needs_of : Deployment → BeanTables → List (List ℕ)
 needs_of d t = map (bean_needs d t) t.resolver.beans
+
+-- if there are tables and needs, the needs are those of the deployment by the tables
+abbrev pub AreNeedsOf : Deployment → Option BeanTables → Option (List (List ℕ)) → Type 0
+AreNeedsOf d tables needs = ForSome tables (λ t. ForSome needs (λ rows. rows ≡ needs_of d t))

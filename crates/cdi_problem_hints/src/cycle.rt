@@ -5,14 +5,13 @@ ghost use Rattle.cdi_candidates.specs.Candidates as candidates;
 ghost use Rattle.cdi_problem_hints.specs.Cycle as spec;
 ghost use Rattle.cdi_problems.specs.Places.{same_place};
 
-use crate::needs::needs_of;
+use crate::needs::{Needs, needs_of};
+use crate::subject::Subject;
 use cdi_base::{Names, Place, Seq};
 use cdi_beans::Bean;
 use cdi_candidates::place_of;
-use cdi_deployment::Deployment;
 use cdi_paths::cycle_through;
 use cdi_problems::PlaceText;
-use cdi_resolve::BeanTables;
 use std::alloc::{AllocError, Global};
 
 fn is_at(bean: &Bean, place: &Place) -> bool
@@ -31,19 +30,18 @@ fn bean_at(beans: &[Bean], place: &Place) -> Option<usize>
 /// The beans on a cycle through the one at a place, by their indices, if it stands on one.
 fn cycle_of(
     alloc: Global,
-    deployment: &Deployment,
-    tables: &BeanTables,
+    needs: &Needs,
+    beans: &[Bean],
     place: &Place,
 ) -> Result<Seq<usize>, AllocError>
-    ensures { IfOk result (λ beans.
-        beans ≡ spec.cycle_of deployment.now tables.now place.now) }
+    ensures { IfOk result (λ cycle.
+        cycle ≡ spec.cycle_of needs.now beans.now place.now) }
 {
-    let Some(bean) = bean_at(tables.resolver.beans(), place) else {
+    let Some(bean) = bean_at(beans, place) else {
         return Ok(Seq::empty(alloc));
     };
-    let rows = needs_of(alloc, deployment, tables)?;
-    match cycle_through(alloc, rows.as_slice(), bean)? {
-        Some(beans) => Ok(beans),
+    match cycle_through(alloc, needs.rows(), bean)? {
+        Some(cycle) => Ok(cycle),
         None => Ok(Seq::empty(alloc)),
     }
 }
@@ -131,17 +129,17 @@ fn add_beans(
 /// Adds the beans on a cycle through the one at a place, if it stands on one.
 fn add_cycle_at(
     alloc: Global,
-    deployment: &Deployment,
-    tables: &BeanTables,
+    names: &Names,
+    beans: &[Bean],
+    needs: &Needs,
     place: &Place,
     hint: &mut String,
 ) -> Result<(), AllocError>
     ensures { OnOk result (string_bytes hint.new ≡ string_bytes hint.old
-        ++ spec.cycle_text deployment.now tables.now place.now) }
+        ++ spec.cycle_text names.now beans.now needs.now place.now) }
 {
-    let beans = tables.resolver.beans();
-    let cycle = cycle_of(alloc, deployment, tables, place)?;
-    add_beans(alloc, &deployment.names, beans, cycle.as_slice(), hint)
+    let cycle = cycle_of(alloc, needs, beans, place)?;
+    add_beans(alloc, names, beans, cycle.as_slice(), hint)
 }
 
 /// Adds the beans on a cycle of dependent beans that need each other, from the one at a place back to it (Jakarta CDI 4.0, *Dependent
@@ -149,19 +147,27 @@ fn add_cycle_at(
 /// disposers and for the bean that declares a producer, aren't looked at: of a cycle that goes by one of these nothing is told.
 pub(crate) fn add_dependent_cycle(
     alloc: Global,
-    deployment: &Deployment,
-    tables: Option<&BeanTables>,
+    subject: &Subject<'_>,
     place: &Option<Place>,
     hint: &mut String,
 ) -> Result<(), AllocError>
     ensures { OnOk result (string_bytes hint.new ≡ string_bytes hint.old
-        ++ spec.dependent_cycle_text deployment.now (option_copied tables.entry) place.now) }
+        ++ spec.dependent_cycle_text subject.now.deployment.now
+        (option_copied subject.now.tables) place.now) }
 {
-    let Some(tables) = tables else {
+    let Some(tables) = subject.tables else {
         return Ok(());
     };
-    match place {
-        Some(place) => add_cycle_at(alloc, deployment, tables, place, hint),
-        None => Ok(()),
+    let Some(place) = place else {
+        return Ok(());
+    };
+    let names = &subject.deployment.names;
+    let beans = tables.resolver.beans();
+    match subject.needs {
+        Some(needs) => add_cycle_at(alloc, names, beans, needs, place, hint),
+        None => {
+            let needs = needs_of(alloc, subject.deployment, tables)?;
+            add_cycle_at(alloc, names, beans, &needs, place, hint)
+        }
     }
 }

@@ -103,10 +103,7 @@ fn add_bean_details(
         problem.now.place problem.now.kind) }
 {
     match problem.kind {
-        ProblemKind::DependentCycle => {
-            let place = &problem.place;
-            add_dependent_cycle(alloc, subject.deployment, subject.tables, place, hint)
-        }
+        ProblemKind::DependentCycle => add_dependent_cycle(alloc, subject, &problem.place, hint),
         _ => Ok(()),
     }
 }

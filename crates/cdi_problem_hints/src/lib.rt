@@ -9,7 +9,7 @@ mod hierarchy;
 pub mod hint;
 pub mod left;
 mod near;
-mod needs;
+pub mod needs;
 mod point;
 pub mod pointer;
 pub mod rule;
@@ -19,6 +19,7 @@ pub mod subject;
 
 pub use hint::{problem_hint, problem_message};
 pub use left::problem_candidates;
+pub use needs::{Needs, needs_of};
 pub use pointer::pointer_at;
 pub use rule::rule_text;
 pub use subject::Subject;

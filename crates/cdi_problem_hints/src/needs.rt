@@ -9,6 +9,7 @@ use cdi_beans::{Bean, BeanKind};
 use cdi_deployment::{Class, Constructor, Deployment, InjectedField, Member, Point};
 use cdi_resolve::{BeanTables, Resolution};
 use std::alloc::{AllocError, Global};
+use std::marker::Model;
 
 /// Adds what a type and qualifiers resolve to, if that is one bean.
 fn add_needed(
@@ -184,10 +185,7 @@ fn bean_needs(
     }
 }
 
-/// The graph of what dependent beans need (Jakarta CDI 4.0, *Dependent pseudo-scope*), each bean under its index: the beans that its
-/// own points resolve to. Those of a managed bean are the injected fields and the parameters of the constructor and the initializers
-/// of its class, without what it inherits; those of a product are the parameters of its producer.
-pub(crate) fn needs_of(
+fn rows_of(
     alloc: Global,
     deployment: &Deployment,
     tables: &BeanTables,
@@ -199,4 +197,41 @@ pub(crate) fn needs_of(
         rows.push(bean_needs(alloc, deployment, tables, bean)?)?;
     }
     Ok(rows)
+}
+
+/// What the dependent beans of a deployment need. Contracts see the row of each bean of its list, which has the indices of others.
+#[derive(Drop)]
+pub struct Needs {
+    rows: Seq<Seq<usize>>,
+}
+
+impl Model for Needs {
+    ghost use Rattle.std.specs.Prelude.{ℕ, List};
+
+    ghost Value = { List (List ℕ) };
+
+    ghost view = { λ n. n.rows };
+}
+
+impl Needs {
+    /// The row of each bean.
+    pub(crate) fn rows(&self) -> &[Seq<usize>]
+        ensures { result.now ≡ self.now }
+    {
+        self.rows.as_slice()
+    }
+}
+
+/// What the dependent beans of a deployment need by its tables (Jakarta CDI 4.0, *Dependent pseudo-scope*): the beans that their own
+/// points resolve to. Those of a managed bean are the injected fields and the parameters of the constructor and the initializers of
+/// its class, without what it inherits; those of a product are the parameters of its producer.
+pub fn needs_of(
+    alloc: Global,
+    deployment: &Deployment,
+    tables: &BeanTables,
+) -> Result<Needs, AllocError>
+    ensures { IfOk result (λ needs. needs ≡ spec.needs_of deployment.now tables.now) }
+{
+    let rows = rows_of(alloc, deployment, tables)?;
+    Ok(Needs { rows })
 }

@@ -1,6 +1,6 @@
 use Rattle.std.proofs.Common.{◌≡◌, ◌++◌, map, drop}
 use Rattle.cdi_problem_hints.specs.Needs as spec
-use Rattle.cdi_problem_hints.proofs.needs.needs_of.Given as goal
+use Rattle.cdi_problem_hints.proofs.needs.rows_of.Given as goal
 
 abbrev pub invariant-loop-bean : goal.invariant-loop-bean
 invariant-loop-bean l =
