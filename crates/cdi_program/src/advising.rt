@@ -1,7 +1,9 @@
 //! The hints for the problems of a deployment, on standard error.
 ghost use Rattle.std.specs.Prelude.{◌≡◌, ◌++◌, string_bytes, IfOk, OnOk};
 ghost use Rattle.std.specs.List.{list_any};
+ghost use Rattle.std.specs.Option.{option_copied};
 ghost use Rattle.cdi_prepare.specs.Ready.{readied_in};
+ghost use Rattle.cdi_problem_hints.specs.Needs.{AreNeedsOf};
 ghost use Rattle.cdi_problem_hints.specs.Subjects.{subject_of};
 ghost use Rattle.cdi_program.specs.Advice as spec;
 ghost use Rattle.cdi_program.specs.Streams.{output_of};
@@ -16,7 +18,7 @@ use cdi_candidates::tables_of;
 use cdi_deployment::Deployment;
 use cdi_lines::{ServeFault, Sink};
 use cdi_positions::Position;
-use cdi_problem_hints::{Subject, problem_hint};
+use cdi_problem_hints::{Needs, Subject, needs_of, problem_hint};
 use cdi_problems::{Problem, ProblemKind};
 use cdi_report::{Review, review_bytes};
 use cdi_resolve::BeanTables;
@@ -121,6 +123,31 @@ pub(crate) fn tables_for(
     tables_of(alloc, deployment)
 }
 
+fn is_one_dependent_cycle(problems: &[Problem]) -> bool
+    ensures { result ≡ list_any spec.is_dependent_cycle problems.now }
+{
+    problems
+        .iter()
+        .any(|problem| problem.kind == ProblemKind::DependentCycle)
+}
+
+/// What the dependent beans of a deployment need by these tables, if it is told of one of these problems: once for all hints.
+pub(crate) fn needs_for(
+    alloc: Global,
+    deployment: &Deployment,
+    tables: Option<&BeanTables>,
+    problems: &[Problem],
+) -> Result<Option<Needs>, AllocError>
+    ensures { IfOk result (AreNeedsOf deployment.now (option_copied tables.entry)) }
+{
+    match tables {
+        Some(tables) if is_one_dependent_cycle(problems) => {
+            Ok(Some(needs_of(alloc, deployment, tables)?))
+        }
+        _ => Ok(None),
+    }
+}
+
 fn review_advice(
     alloc: Global,
     file: &str,
@@ -137,10 +164,13 @@ fn review_advice(
     } = review;
     let made = tables_for(alloc, &deployment, problems.as_slice())?;
     let tables = made.as_ref();
+    let graph = needs_for(alloc, &deployment, tables, problems.as_slice())?;
+    let needs = graph.as_ref();
     let subject = Subject {
         deployment: &deployment,
         scripts: scripts.as_slice(),
         tables,
+        needs,
     };
     advice_on(alloc, file, bytes, &subject, problems.as_slice())
 }

@@ -5,7 +5,7 @@ ghost use Rattle.cdi_problem_hints.specs.Subjects.{subject_of};
 ghost use Rattle.cdi_problems.specs.Places.{place_text};
 ghost use Rattle.cdi_program.specs.Findings as spec;
 
-use crate::advising::tables_for;
+use crate::advising::{needs_for, tables_for};
 use crate::faults::{fault_name, unhinted_text};
 use crate::finding::{Finding, FindingKind, finding_line};
 use crate::locating::position_of_problem;
@@ -104,10 +104,13 @@ fn review_findings(alloc: Global, bytes: &[u8], review: Review) -> Result<Findin
     } = review;
     let made = tables_for(alloc, &deployment, problems.as_slice())?;
     let tables = made.as_ref();
+    let graph = needs_for(alloc, &deployment, tables, problems.as_slice())?;
+    let needs = graph.as_ref();
     let subject = Subject {
         deployment: &deployment,
         scripts: scripts.as_slice(),
         tables,
+        needs,
     };
     Ok(Findings {
         lines: problem_lines(alloc, bytes, &subject, problems.as_slice())?,
