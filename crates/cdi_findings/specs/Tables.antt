@@ -12,10 +12,19 @@ use Rattle.cdi_resolve.specs.declared.bean_tables.BeanTables.{BeanTables}
 abbrev pub kind_needs_tables : ProblemKind → Bool
 kind_needs_tables kinds.Unsatisfied = true
 kind_needs_tables kinds.Ambiguous = true
+kind_needs_tables kinds.DependentCycle = true
 kind_needs_tables _ = false
 
 abbrev pub needs_tables : Problem → Bool
 needs_tables p = kind_needs_tables p.kind
+
+-- it is that dependent beans need each other
+abbrev pub is_dependent_cycle_kind : ProblemKind → Bool
+is_dependent_cycle_kind kinds.DependentCycle = true
+is_dependent_cycle_kind _ = false
+
+abbrev pub is_dependent_cycle : Problem → Bool
+is_dependent_cycle p = is_dependent_cycle_kind p.kind
 
 abbrev pub AreTablesIf : Bool → Deployment → Option BeanTables → Type 0
 AreTablesIf true d tables = AreTables d tables

@@ -8,7 +8,7 @@ ghost use Rattle.cdi_findings.specs.Findings as spec;
 use crate::faults::{fault_name, unhinted_text};
 use crate::finding::{Finding, FindingKind, finding_line};
 use crate::locating::position_of_problem;
-use crate::tables::tables_for;
+use crate::tables::{needs_for, tables_for};
 use cdi_base::{Names, Place};
 use cdi_positions::{Position, RepeatedKey};
 use cdi_prepare::{Hint, hint_for, warning_for};
@@ -159,10 +159,13 @@ fn review_findings(alloc: Global, bytes: &[u8], review: Review) -> Result<Findin
     } = review;
     let made = tables_for(alloc, &deployment, problems.as_slice())?;
     let tables = made.as_ref();
+    let graph = needs_for(alloc, &deployment, tables, problems.as_slice())?;
+    let needs = graph.as_ref();
     let subject = Subject {
         deployment: &deployment,
         scripts: scripts.as_slice(),
         tables,
+        needs,
     };
     Ok(Findings {
         lines: lines_of(alloc, bytes, &subject, problems.as_slice())?,

@@ -10,4 +10,4 @@ pub mod tables;
 pub use faults::{fault_name, unhinted_text};
 pub use findings::{Findings, findings_in};
 pub use locating::position_of_problem;
-pub use tables::tables_for;
+pub use tables::{needs_for, tables_for};

@@ -5,6 +5,7 @@ use Rattle.cdi_base.specs.declared.place.Place.{Place}
 use Rattle.cdi_deployment.specs.declared.deployment.Deployment.{Deployment}
 use Rattle.cdi_name_uses.specs.Unknown.{unknown_names}
 use Rattle.cdi_problem_hints.specs.Asked.{is_at}
+use Rattle.cdi_problem_hints.specs.Cycle.{dependent_cycle_text}
 use Rattle.cdi_problem_hints.specs.Hierarchy.{hierarchy_text}
 use Rattle.cdi_problem_hints.specs.Near.{unsatisfied_in}
 use Rattle.cdi_problem_hints.specs.Points.{points_text}
@@ -38,12 +39,18 @@ abbrev pub script_details : Deployment → List ScriptNames → Option Place →
 script_details d scripts place kinds.BodyOutsideShape = scripts_text d scripts place
 script_details d scripts place _ = []
 
--- the rule that a problem breaks, and what is told of the elements and of the scripts at its place
+-- of a dependent bean that needs itself, a cycle
+abbrev pub bean_details : Deployment → Option BeanTables → Option Place → ProblemKind → List ℕ
+bean_details d tables place kinds.DependentCycle = dependent_cycle_text d tables place
+bean_details d tables place _ = []
+
+-- the rule that a problem breaks, and what is told of the elements, of the scripts and of the bean at its place
 abbrev pub problem_message : Subject → Problem → List ℕ
 problem_message s p =
     rule_text p.kind
     ++ (flat_map (details_at s.deployment s.tables p) (elements_of s.deployment)
-    ++ script_details s.deployment s.scripts p.place p.kind)
+    ++ (script_details s.deployment s.scripts p.place p.kind
+    ++ bean_details s.deployment s.tables p.place p.kind))
 
 -- the same behind the problem as it is printed
 abbrev pub problem_hint : Subject → Problem → List ℕ

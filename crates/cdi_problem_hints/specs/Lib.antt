@@ -1,9 +1,11 @@
 pub mod Asked
 pub mod Candidates
+pub mod Cycle
 pub mod Hierarchy
 pub mod Hints
 pub mod Left
 pub mod Near
+pub mod Needs
 pub mod Pointers
 pub mod Points
 pub mod Rule

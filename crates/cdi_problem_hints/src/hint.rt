@@ -7,6 +7,7 @@ ghost use Rattle.cdi_problem_hints.specs.Subjects.{subject_of};
 ghost use Rattle.cdi_problems.specs.Elements.{element_of, shown};
 
 use crate::asked::is_at;
+use crate::cycle::add_dependent_cycle;
 use crate::hierarchy::add_hierarchy;
 use crate::near::add_unsatisfied;
 use crate::point::add_points;
@@ -90,12 +91,30 @@ fn add_script_details(
     }
 }
 
+/// Adds what is told of the bean at the place of a problem.
+fn add_bean_details(
+    alloc: Global,
+    subject: &Subject<'_>,
+    problem: &Problem,
+    hint: &mut String,
+) -> Result<(), AllocError>
+    ensures { OnOk result (string_bytes hint.new ≡ string_bytes hint.old
+        ++ spec.bean_details subject.now.deployment.now (option_copied subject.now.tables)
+        problem.now.place problem.now.kind) }
+{
+    match problem.kind {
+        ProblemKind::DependentCycle => add_dependent_cycle(alloc, subject, &problem.place, hint),
+        _ => Ok(()),
+    }
+}
+
 /// What is told of a problem of a deployment beyond its line: the rule that it breaks, and the names that break it (Jakarta CDI 4.0,
 /// *Problems detected automatically by the container*). Of a name that isn't known it tells the group that it has to be of, and the
 /// known name that was probably meant, if one is near; of a type that is its own supertype, the types of a cycle; of a point without
 /// its one bean, what it asks for, and by the tables, if it is ambiguous, the beans that are left, and if it isn't satisfied, those
 /// that nearly have what it asks for; of a script that names something that isn't there, its first step with a name that isn't
-/// declared as what it has to be, if there is one.
+/// declared as what it has to be, if there is one; of a dependent bean that needs itself, by the tables, the beans of a cycle, if the
+/// points that these declare themselves make one.
 pub fn problem_message(
     alloc: Global,
     subject: &Subject<'_>,
@@ -108,6 +127,7 @@ pub fn problem_message(
     let elements = elements_of(alloc, subject.deployment)?;
     add_details_at(alloc, subject, problem, elements.as_slice(), &mut message)?;
     add_script_details(alloc, subject, problem, &mut message)?;
+    add_bean_details(alloc, subject, problem, &mut message)?;
     Ok(message)
 }
 

@@ -3,11 +3,13 @@
 
 mod asked;
 mod candidate;
+mod cycle;
 mod declared;
 mod hierarchy;
 pub mod hint;
 pub mod left;
 mod near;
+pub mod needs;
 mod point;
 pub mod pointer;
 pub mod rule;
@@ -17,6 +19,7 @@ pub mod subject;
 
 pub use hint::{problem_hint, problem_message};
 pub use left::problem_candidates;
+pub use needs::{Needs, needs_of};
 pub use pointer::pointer_at;
 pub use rule::rule_text;
 pub use subject::Subject;

@@ -1,4 +1,8 @@
 //! What hints are about.
+ghost use Rattle.std.specs.Option.{option_copied};
+ghost use Rattle.cdi_problem_hints.specs.Needs.{AreNeedsOf};
+
+use crate::needs::Needs;
 use cdi_deployment::Deployment;
 use cdi_resolve::BeanTables;
 use cdi_step_names::ScriptNames;
@@ -11,4 +15,7 @@ pub struct Subject<'a> {
     pub scripts: &'a [ScriptNames],
     /// The tables by which its points resolve. Without them no candidates are told.
     pub tables: Option<&'a BeanTables>,
+    /// What its dependent beans need by these tables. Without it, each hint that tells of it looks for it anew.
+    pub needs: Option<&'a Needs>,
+    pub ghost are_needs: { AreNeedsOf deployment.now (option_copied tables) (option_copied needs) },
 }

@@ -9,7 +9,7 @@ ghost use Rattle.cdi_program.specs.Telling as telling;
 use crate::lines::{add_line, file_line};
 use crate::telling::{tell, tell_text};
 use cdi_base::Text;
-use cdi_findings::{fault_name, position_of_problem, tables_for, unhinted_text};
+use cdi_findings::{fault_name, needs_for, position_of_problem, tables_for, unhinted_text};
 use cdi_lines::{ServeFault, Sink};
 use cdi_positions::Position;
 use cdi_problem_hints::{Subject, problem_hint};
@@ -102,10 +102,13 @@ fn review_advice(
     } = review;
     let made = tables_for(alloc, &deployment, problems.as_slice())?;
     let tables = made.as_ref();
+    let graph = needs_for(alloc, &deployment, tables, problems.as_slice())?;
+    let needs = graph.as_ref();
     let subject = Subject {
         deployment: &deployment,
         scripts: scripts.as_slice(),
         tables,
+        needs,
     };
     advice_on(alloc, file, bytes, &subject, problems.as_slice())
 }

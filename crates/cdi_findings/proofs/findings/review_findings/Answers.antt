@@ -9,3 +9,8 @@ returns c = record {
   are_lines = search rules;
   is_refused = grind (arith, common_steps);
 }
+
+pub invariant_of-subject : goal.invariant_of-subject
+invariant_of-subject c = record {
+  are_needs = rw c.as_ref-needs.ensures.value c.in_ok-graph.ensures;
+}
