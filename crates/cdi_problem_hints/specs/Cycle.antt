@@ -1,12 +1,12 @@
 -- The cycle of dependent beans that need each other on which a bean stands, in words.
-use Rattle.std.specs.Prelude.{ℕ, List, [], ◌∷◌, ◌++◌, codes, position, slice_get, unwrap_or, Option, Some, None}
+use Rattle.std.specs.Prelude.{ℕ, List, [], ◌∷◌, ◌++◌, codes, position, slice_get, Option, Some, None}
 use Rattle.std.specs.List.{flat_map}
 use Rattle.cdi_base.specs.declared.place.Place.{Place}
 use Rattle.cdi_beans.specs.declared.bean.Bean.{Bean}
 use Rattle.cdi_candidates.specs.Candidates.{place_of}
 use Rattle.cdi_deployment.specs.declared.deployment.Deployment.{Deployment}
-use Rattle.cdi_paths.specs.CycleThrough.{cycle_through}
 use Rattle.cdi_problem_hints.specs.Needs.{needs_of}
+use Rattle.cdi_problem_hints.specs.ToldCycle.{told_cycle}
 use Rattle.cdi_problems.specs.Places.{place_text, same_place}
 use Rattle.cdi_resolve.specs.declared.bean_tables.BeanTables.{BeanTables}
 
@@ -16,7 +16,7 @@ bean_at beans place = position (λ b. same_place (place_of b) place) beans
 
 abbrev pub cycle_at : List (List ℕ) → Option ℕ → List ℕ
 cycle_at needs None = []
-cycle_at needs (Some bean) = unwrap_or (cycle_through needs bean) []
+cycle_at needs (Some bean) = told_cycle needs bean
 
 -- the beans on a cycle through the one at a place, by their indices, if it stands on one
 abbrev pub cycle_of : List (List ℕ) → List Bean → Place → List ℕ

@@ -1,8 +1,8 @@
 -- The cycle that a type stands on which is its own supertype, in words.
-use Rattle.std.specs.Prelude.{ℕ, List, [], ◌∷◌, ◌++◌, codes, slice_get, unwrap_or, Option, Some, None}
+use Rattle.std.specs.Prelude.{ℕ, List, [], ◌∷◌, ◌++◌, codes, slice_get, Option, Some, None}
 use Rattle.std.specs.List.{flat_map}
 use Rattle.cdi_deployment.specs.declared.deployment.Deployment.{Deployment}
-use Rattle.cdi_paths.specs.CycleThrough.{cycle_through}
+use Rattle.cdi_problem_hints.specs.ToldCycle.{told_cycle}
 use Rattle.cdi_problems.specs.Elements.{Element}
 use Rattle.cdi_problems.specs.Places.{name_text}
 use Rattle.cdi_types.specs.Declarations.{declarations_of}
@@ -15,7 +15,7 @@ rows_of types = graph_of (place_of types) types
 
 abbrev pub cycle_at : List TypeDeclaration → Option ℕ → List ℕ
 cycle_at types None = []
-cycle_at types (Some place) = unwrap_or (cycle_through (rows_of types) place) []
+cycle_at types (Some place) = told_cycle (rows_of types) place
 
 -- the places of the types on a cycle through one, if it stands on one
 abbrev pub cycle_of : List TypeDeclaration → ℕ → List ℕ

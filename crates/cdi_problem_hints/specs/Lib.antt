@@ -12,3 +12,4 @@ pub mod Rule
 pub mod Scripts
 pub mod Sentences
 pub mod Subjects
+pub mod ToldCycle

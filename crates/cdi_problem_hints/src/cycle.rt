@@ -7,10 +7,10 @@ ghost use Rattle.cdi_problems.specs.Places.{same_place};
 
 use crate::needs::{Needs, needs_of};
 use crate::subject::Subject;
+use crate::told_cycle::told_cycle;
 use cdi_base::{Names, Place, Seq};
 use cdi_beans::Bean;
 use cdi_candidates::place_of;
-use cdi_paths::cycle_through;
 use cdi_problems::PlaceText;
 use std::alloc::{AllocError, Global};
 
@@ -40,10 +40,7 @@ fn cycle_of(
     let Some(bean) = bean_at(beans, place) else {
         return Ok(Seq::empty(alloc));
     };
-    match cycle_through(alloc, needs.rows(), bean)? {
-        Some(cycle) => Ok(cycle),
-        None => Ok(Seq::empty(alloc)),
-    }
+    told_cycle(alloc, needs.rows(), bean)
 }
 
 /// The place of the bean with an index.

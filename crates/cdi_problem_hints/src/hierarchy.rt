@@ -4,9 +4,9 @@ ghost use Rattle.cdi_problem_hints.specs.Hierarchy as spec;
 ghost use Rattle.cdi_problems.specs.Elements.{element_of};
 ghost use Rattle.cdi_types.specs.Nodes as nodes;
 
+use crate::told_cycle::told_cycle;
 use cdi_base::{Name, Names, Seq};
 use cdi_deployment::Deployment;
-use cdi_paths::cycle_through;
 use cdi_problems::{Element, name_text};
 use cdi_types::{TypeDeclaration, declarations_of, supertype_graph};
 use std::alloc::{AllocError, Global};
@@ -26,10 +26,7 @@ fn cycle_of(alloc: Global, types: &[TypeDeclaration], name: Name) -> Result<Seq<
         return Ok(Seq::empty(alloc));
     };
     let rows = supertype_graph(alloc, types)?;
-    match cycle_through(alloc, rows.as_slice(), place)? {
-        Some(places) => Ok(places),
-        None => Ok(Seq::empty(alloc)),
-    }
+    told_cycle(alloc, rows.as_slice(), place)
 }
 
 /// The text of the name that is declared at a place.

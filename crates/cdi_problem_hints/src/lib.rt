@@ -16,6 +16,7 @@ pub mod rule;
 mod script;
 mod sentence;
 pub mod subject;
+mod told_cycle;
 
 pub use hint::{problem_hint, problem_message};
 pub use left::problem_candidates;
