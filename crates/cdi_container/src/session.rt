@@ -99,12 +99,7 @@ impl<D: Driver> Session<D> {
 
     /// A container whose replies stand alone, or behind the entries of their commands, which are carried out by turns of so many
     /// entries, of which 0 counts as 1. No reply depends on their number.
-    pub fn new(
-        alloc: Global,
-        container: Container<D>,
-        shows_trace: bool,
-        slice: u64,
-    ) -> Session<D>
+    pub fn new(alloc: Global, container: Container<D>, shows_trace: bool, slice: u64) -> Session<D>
         ensures container { result.container ≡ container }
         ensures shows { result.shows_trace ≡ shows_trace }
         ensures slice { result.slice ≡ slice }
