@@ -1,5 +1,5 @@
 //! What is wrong with a deployment, as lines of JSON.
-ghost use Rattle.std.specs.Prelude.{◌≡◌, ◌++◌, map, string_bytes, IfOk, IfSome, OnOk};
+ghost use Rattle.std.specs.Prelude.{◌≡◌, ◌++◌, length, map, nat_lt, string_bytes, IfOk, IfSome, OnOk};
 ghost use Rattle.cdi_prepare.specs.Ready.{readied_in};
 ghost use Rattle.cdi_problem_hints.specs.Subjects.{subject_of};
 ghost use Rattle.cdi_problems.specs.Places.{place_text};
@@ -147,6 +147,12 @@ fn lines_of(
     Ok(lines)
 }
 
+fn is_one(problems: &[Problem]) -> bool
+    ensures { result ≡ nat_lt 0 (length problems.now) }
+{
+    !problems.is_empty()
+}
+
 /// What is wrong with a deployment that was read.
 fn review_findings(alloc: Global, bytes: &[u8], review: Review) -> Result<Findings, AllocError>
     ensures { IfOk result (λ found. spec.AreReviewFindings bytes.now
@@ -169,7 +175,7 @@ fn review_findings(alloc: Global, bytes: &[u8], review: Review) -> Result<Findin
     };
     Ok(Findings {
         lines: lines_of(alloc, bytes, &subject, problems.as_slice())?,
-        is_refused: !problems.is_empty(),
+        is_refused: is_one(problems.as_slice()),
     })
 }
 

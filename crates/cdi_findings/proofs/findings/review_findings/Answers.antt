@@ -1,5 +1,4 @@
-use Rattle.std.proofs.Common.{rules, arith}
-use Rattle.std.proofs.lemmas.Grind.{common_steps}
+use Rattle.std.proofs.Common.{rules}
 use Rattle.cdi_findings.proofs.findings.review_findings.Goals as goal
 
 pub returns : goal.returns
@@ -7,7 +6,7 @@ returns c = record {
   tables = c.in_ok-made.made;
   are_tables = search rules;
   are_lines = search rules;
-  is_refused = grind (arith, common_steps);
+  is_refused = search rules;
 }
 
 pub invariant_of-subject : goal.invariant_of-subject
