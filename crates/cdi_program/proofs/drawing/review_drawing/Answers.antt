@@ -1,6 +1,5 @@
-use Rattle.std.proofs.Common.{rules, ◌≡◌, ◌∙◌, List, Option, ap₂, arith}
+use Rattle.std.proofs.Common.{rules, ◌≡◌, ◌∙◌, List, Option, ap₂}
 use Rattle.std.specs.Option.{option_copied}
-use Rattle.std.proofs.lemmas.Grind.{common_steps}
 use Rattle.cdi_pictures.specs.Pictures.{picture}
 use Rattle.cdi_problems.specs.declared.problem.Problem.{Problem}
 use Rattle.cdi_resolve.specs.declared.bean_tables.BeanTables.{BeanTables}
@@ -16,5 +15,5 @@ returns c =
       are_tables = search rules;
       text = c.in_ok-picture.ensures
           ∙ ap₂ (λ (tables : Option BeanTables) (problems : List Problem). picture (record { deployment = d; tables = tables; problems = problems })) tables_are problems_are;
-      is_refused = grind (arith, common_steps);
+      is_refused = search rules;
     }
