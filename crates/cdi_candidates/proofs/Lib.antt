@@ -1,2 +1,3 @@
 pub mod Greatest
+pub mod One
 pub mod Sole

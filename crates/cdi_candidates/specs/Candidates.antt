@@ -1,6 +1,6 @@
 -- The beans that typesafe resolution leaves (Jakarta CDI 4.0, Typesafe resolution, Unsatisfied and ambiguous dependencies), among the
 -- enabled beans, each with its index.
-use Rattle.std.specs.Prelude.{ℕ, List, map, if◌then◌else◌}
+use Rattle.std.specs.Prelude.{ℕ, List, [], ◌∷◌, map, Option, Some, None, if◌then◌else◌}
 use Rattle.std.specs.List.{list_any}
 use Rattle.cdi_base.specs.declared.place.Place.{Place}
 use Rattle.cdi_base.specs.declared.place.Place.TheVariants as places
@@ -34,3 +34,7 @@ place_of b = place_in b.class b.kind
 
 abbrev pub candidates : ℕ → List Qualifier → List (ℕ × Bean) → List Place
 candidates type qualifiers beans = map (λ b. place_of b.1) (left type qualifiers beans)
+
+abbrev pub place_if : Option Bean → List Place
+place_if None = []
+place_if (Some b) = place_of b ∷ []
