@@ -1,10 +1,11 @@
 -- The worked lines, by computing them.
 use Rattle.std.proofs.Common.{refl}
 use Rattle.std.specs.Fmt.{digits}
+use Rattle.cdi_pictures.specs.Points.{others_line}
 use Rattle.cdi_pictures.specs.WorkedLines.{WorkedLines}
 
 pub worked_lines : WorkedLines
-unfolding digits
+unfolding digits others_line
 worked_lines =
     record {
       nodes = record { product = refl; interceptor = refl };

@@ -1,6 +1,6 @@
 -- The injection points of a picture (Jakarta CDI 4.0, Injection points), with the beans that are left for each. No bean is built in,
 -- so what a point asks for has to be declared.
-use Rattle.std.specs.Prelude.{ℕ, Bool, true, false, ◌&&◌, List, [], ◌∷◌, ◌++◌, codes, Option, Some, None, if◌then◌else◌}
+use Rattle.std.specs.Prelude.{ℕ, ◌-◌, ◌==◌, Bool, true, false, ◌&&◌, List, [], ◌∷◌, ◌++◌, codes, decimal, length, min, take, Option, Some, None, if◌then◌else◌}
 use Rattle.std.specs.List.{flat_map, list_any}
 use Rattle.cdi_base.specs.declared.place.Place.{Place}
 use Rattle.cdi_base.specs.declared.uses.Use.{Use}
@@ -74,12 +74,27 @@ bean_edge a label look place =
 abbrev pub bean_edges : Asker → List ℕ → Look → List Place → List ℕ
 bean_edges a label look places = flat_map (bean_edge a label look) places
 
+-- to a node that tells how many beans aren't drawn, if there are some
+unfoldable pub others_line : Asker → List ℕ → ℕ → List ℕ
+others_line a label count =
+    if count == 0 then []
+    else edge_line (name_text a.drawing.names a.owner) (decimal count ++ codes " more") label
+    (look_at a.drawing.problems a.place)
+
+-- of several beans 16 at most are drawn
+abbrev pub drawn : List Place → ℕ
+drawn places = min (length places) 16
+
+abbrev pub several_text : Asker → List ℕ → List Place → List ℕ
+several_text a label places =
+    bean_edges a label (look_at a.drawing.problems a.place) (take (drawn places) places)
+    ++ others_line a label (length places - drawn places)
+
 -- to each bean that is left
 abbrev pub left_text : Asker → ℕ → List ℕ → List Place → List ℕ
 left_text a ty label [] = unknown_line a ty label
 left_text a ty label (p ∷ []) = bean_edge a label looks.Plain p
-left_text a ty label (p ∷ q ∷ ps) =
-    bean_edges a label (look_at a.drawing.problems a.place) (p ∷ q ∷ ps)
+left_text a ty label (p ∷ q ∷ ps) = several_text a label (p ∷ q ∷ ps)
 
 abbrev pub left : BeanTables → ℕ → List Use → List Place
 left t ty quals = candidates ty (full_uses t.declared.qualifiers quals) (enabled_of t.resolver)

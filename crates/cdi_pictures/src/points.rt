@@ -11,6 +11,9 @@ use cdi_deployment::Point;
 use cdi_problems::{Element, PlaceText, name_text};
 use std::alloc::{AllocError, Global};
 
+/// How many of the beans that are left for a point are drawn.
+const MOST_DRAWN: usize = 16;
+
 /// What a point asks for: its type, and its qualifiers.
 fn label_text(alloc: Global, names: &Names, ty: Name, quals: &[Use]) -> Result<String, AllocError>
     ensures { IfOk result (λ text.
@@ -88,6 +91,47 @@ fn add_bean_edges(
     Ok(())
 }
 
+/// Adds the edge to a node that tells how many beans aren't drawn, if there are some.
+#[tactic(auto, unfolding(crate::specs::Points::others_line))]
+fn add_others(
+    alloc: Global,
+    asker: &Asker<'_>,
+    label: &str,
+    count: usize,
+    text: &mut String,
+) -> Result<(), AllocError>
+    ensures { OnOk result (string_bytes text.new ≡ string_bytes text.old
+        ++ spec.others_line (spec.asker_of asker.now) label.now count) }
+{
+    if count == 0 {
+        return Ok(());
+    }
+    let target = format!(in alloc; "{count} more")?;
+    let edge = Edge {
+        source: name_text(asker.drawing.names, asker.owner),
+        target: &target,
+        label,
+        look: asker.look(),
+    };
+    add_edge(alloc, &edge, text)
+}
+
+/// Adds an edge to each of several beans, of which the first [`MOST_DRAWN`] are drawn.
+fn add_several(
+    alloc: Global,
+    asker: &Asker<'_>,
+    label: &str,
+    places: &[Place],
+    text: &mut String,
+) -> Result<(), AllocError>
+    ensures { OnOk result (string_bytes text.new ≡ string_bytes text.old
+        ++ spec.several_text (spec.asker_of asker.now) label.now places.now) }
+{
+    let drawn = places.len().min(MOST_DRAWN);
+    add_bean_edges(alloc, asker, label, asker.look(), &places[..drawn], text)?;
+    add_others(alloc, asker, label, places.len() - drawn, text)
+}
+
 /// Adds an edge to each bean that is left for a point.
 fn add_left(
     alloc: Global,
@@ -103,7 +147,7 @@ fn add_left(
     match places {
         [] => add_unknown(alloc, asker, ty, label, text),
         [place] => add_bean_edge(alloc, asker, label, Look::Plain, place, text),
-        several => add_bean_edges(alloc, asker, label, asker.look(), several, text),
+        several => add_several(alloc, asker, label, several, text),
     }
 }
 
@@ -177,7 +221,7 @@ fn add_element(
 }
 
 /// Adds what is left for each injection point (Jakarta CDI 4.0, *Injection points*, *Typesafe resolution*): an edge from the class or
-/// the interceptor that has the point to the bean, or to each of several; if none is left, to a node for the type.
+/// the interceptor that has the point to the bean, or to each of several, of which 16 are drawn; if none is left, to a node for the type.
 pub(crate) fn add_points(
     alloc: Global,
     drawing: &Drawing<'_>,
