@@ -1,7 +1,6 @@
 -- What is wrong with a deployment, as lines of JSON.
 use Rattle.std.specs.Fmt.{◌++?◌, debug_str}
-use Rattle.std.specs.Prelude.{◌≡◌, ℕ, Bool, true, List, [], ◌∷◌, ◌++◌, codes, drop, length, map, min, nat_lt, string_bytes, take, Option, Some, None, Result, Ok, Err, IfSome}
-use Rattle.std.specs.List.{flat_map}
+use Rattle.std.specs.Prelude.{◌≡◌, ℕ, Bool, true, List, [], ◌∷◌, ◌++◌, codes, length, map, nat_lt, string_bytes, Option, Some, None, Result, Ok, Err, IfSome}
 use Rattle.cdi_base.specs.declared.place.Place.{Place}
 use Rattle.cdi_deployment.specs.declared.deployment.Deployment.{Deployment}
 use Rattle.cdi_positions.specs.Position.{IsPositionIn}
@@ -14,7 +13,6 @@ use Rattle.cdi_prepare.specs.Scripts.{registered}
 use Rattle.cdi_prepare.specs.declared.hint.Hint.{Hint}
 use Rattle.cdi_problem_hints.specs.Hints.{problem_message}
 use Rattle.cdi_problem_hints.specs.Left.{problem_candidates}
-use Rattle.cdi_problem_hints.specs.Rule.{rule_text}
 use Rattle.cdi_problem_hints.specs.Subjects.{Subject}
 use Rattle.cdi_problems.specs.Places.{place_text}
 use Rattle.cdi_problems.specs.Words.{kind_text}
@@ -43,16 +41,23 @@ abbrev pub place_words : List (List ℕ) → Option Place → List ℕ
 place_words names None = []
 place_words names (Some place) = place_text names place
 
--- the line that tells this problem, with a position of the text if one is known
-pub record IsProblemLine (bytes : List ℕ) (s : Subject) (p : Problem) (line : List ℕ) : Type 0 where
+-- the line that tells this problem, with this position
+pub record IsLineOf (position : Option Position) (s : Subject) (p : Problem) (line : List ℕ)
+    : Type 0 where
   pub told : Told
   pub kind : told.kind ≡ finding_kinds.Problem
   pub name : told.name ≡ kind_text p.kind
   pub place : told.place ≡ place_words s.deployment.names p.place
-  pub position : IfSome told.position (IsPositionIn bytes)
+  pub position : told.position ≡ position
   pub message : told.message ≡ problem_message s p
   pub candidates : told.candidates ≡ map (place_text s.deployment.names) (problem_candidates s p)
   pub is : line ≡ finding_line told
+
+-- it tells a position of the text if one is known
+pub record IsProblemLine (bytes : List ℕ) (s : Subject) (p : Problem) (line : List ℕ) : Type 0 where
+  pub position : Option Position
+  pub is_in : IfSome position (IsPositionIn bytes)
+  pub is_line : IsLineOf position s p line
 
 -- the lines of problems, in their order
 pub data AreProblemLines (bytes : List ℕ) (s : Subject) : List Problem → List ℕ → Type 0 where
@@ -61,43 +66,13 @@ pub data AreProblemLines (bytes : List ℕ) (s : Subject) : List Problem → Lis
       → AreProblemLines bytes s problems lines → IsProblemLine bytes s p line
       → AreProblemLines bytes s (problems ++ p ∷ []) (lines ++ line)
 
--- what is told of a problem for which no details are looked up
-abbrev pub brief : List (List ℕ) → Problem → Told
-brief names p =
-    record {
-      kind = finding_kinds.Problem;
-      name = kind_text p.kind;
-      place = place_words names p.place;
-      position = None;
-      message = rule_text p.kind;
-      candidates = [];
-    }
-
-unfoldable pub brief_line : List (List ℕ) → Problem → List ℕ
-brief_line names p = finding_line (brief names p)
-
-abbrev pub brief_lines : List (List ℕ) → List Problem → List ℕ
-brief_lines names problems = flat_map (brief_line names) problems
-
--- how many problems are told with their details: 50 at most
-abbrev pub detailed : List Problem → ℕ
-detailed problems = min (length problems) 50
-
--- the lines of all problems, of which the first have details
-pub record AreLinesOf (bytes : List ℕ) (s : Subject) (problems : List Problem) (lines : List ℕ)
-    : Type 0 where
-  pub first : List ℕ
-  pub are_first : AreProblemLines bytes s (take (detailed problems) problems) first
-  pub are : lines ≡ first
-      ++ brief_lines s.deployment.names (drop (detailed problems) problems)
-
 -- those of a deployment whose scripts use these names, which is refused if there is one
 pub record AreReviewFindings (bytes : List ℕ) (d : Deployment) (scripts : List ScriptNames)
     (problems : List Problem) (found : Found) : Type 0 where
   pub tables : Option BeanTables
   pub are_tables : AreTablesFor d problems tables
   pub are_lines :
-      AreLinesOf bytes (record { deployment = d; scripts = scripts; tables = tables })
+      AreProblemLines bytes (record { deployment = d; scripts = scripts; tables = tables })
       problems found.lines
   pub is_refused : found.is_refused ≡ nat_lt 0 (length problems)
 

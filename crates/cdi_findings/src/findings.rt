@@ -1,5 +1,6 @@
 //! What is wrong with a deployment, as lines of JSON.
-ghost use Rattle.std.specs.Prelude.{◌≡◌, ◌++◌, length, map, nat_lt, string_bytes, IfOk, IfSome, OnOk};
+ghost use Rattle.std.specs.Prelude.{◌≡◌, length, map, nat_lt, string_bytes, IfOk, IfSome};
+ghost use Rattle.cdi_positions.specs.Position.{IsPositionIn};
 ghost use Rattle.cdi_prepare.specs.Ready.{readied_in};
 ghost use Rattle.cdi_problem_hints.specs.Subjects.{subject_of};
 ghost use Rattle.cdi_problems.specs.Places.{place_text};
@@ -8,17 +9,21 @@ ghost use Rattle.cdi_findings.specs.Findings as spec;
 use crate::faults::{fault_name, unhinted_text};
 use crate::finding::{Finding, FindingKind, finding_line};
 use crate::locating::position_of_problem;
-use crate::tables::{needs_for, tables_for};
+use crate::hint_tables::HintTables;
 use cdi_base::{Names, Place};
+use cdi_deployment::Deployment;
 use cdi_positions::{Position, RepeatedKey};
 use cdi_prepare::{Hint, hint_for, warning_for};
-use cdi_problem_hints::{Subject, problem_candidates, problem_message, rule_text};
+use cdi_problem_hints::{Subject, problem_candidates, problem_message};
 use cdi_problems::{PlaceText, Problem};
 use cdi_report::{Review, review_bytes};
 use std::alloc::{AllocError, Global};
 
-/// The most problems of a deployment that are told with their details.
-const MAX_DETAILED: usize = 50;
+/// How many bytes are looked through for the positions of problems, but for the first [`MIN_LOCATED`].
+const MAX_WALKED: usize = 67_108_864;
+
+/// How many problems are told with their positions, however long the text is.
+const MIN_LOCATED: usize = 50;
 
 /// What is found in the bytes of a deployment.
 #[derive(Drop)]
@@ -51,18 +56,39 @@ fn place_texts(alloc: Global, names: &Names, places: &[Place]) -> Result<Vec<Str
     Ok(texts)
 }
 
-/// The line of a problem.
-fn problem_line(
+/// How many problems are told with their positions. To look up one takes as long as the text is.
+fn located_count(bytes: &[u8]) -> usize {
+    let length = bytes.len().max(1);
+    (MAX_WALKED / length).max(MIN_LOCATED)
+}
+
+/// The position of the problem with an index, if it is one of those that are told with their positions.
+fn told_position(
     alloc: Global,
     bytes: &[u8],
+    deployment: &Deployment,
+    index: usize,
+    problem: &Problem,
+) -> Result<Option<Position>, AllocError>
+    ensures { IfOk result (λ position. IfSome position (IsPositionIn bytes.now)) }
+{
+    if index >= located_count(bytes) {
+        return Ok(None);
+    }
+    position_of_problem(alloc, bytes, deployment, problem)
+}
+
+/// The line of a problem that stands there.
+fn problem_line(
+    alloc: Global,
     subject: &Subject<'_>,
     problem: &Problem,
+    position: Option<Position>,
 ) -> Result<String, AllocError>
-    ensures { IfOk result (λ line. spec.IsProblemLine bytes.now (subject_of subject.now)
-        problem.now (string_bytes line)) }
+    ensures { IfOk result (λ line. spec.IsLineOf position (subject_of subject.now) problem.now
+        (string_bytes line)) }
 {
     let place = place_words(alloc, &subject.deployment.names, &problem.place)?;
-    let position = position_of_problem(alloc, bytes, subject.deployment, problem)?;
     let message = problem_message(alloc, subject, problem)?;
     let beans = problem_candidates(alloc, subject, problem)?;
     let candidates = place_texts(alloc, &subject.deployment.names, beans.as_slice())?;
@@ -88,66 +114,16 @@ fn problem_lines(
         problems.now (string_bytes lines)) }
 {
     let mut lines = String::new(alloc);
-    for problem in problems {
-        let line = problem_line(alloc, bytes, subject, problem)?;
+    for (index, problem) in problems.iter().enumerate() {
+        let position = told_position(alloc, bytes, subject.deployment, index, problem)?;
+        let line = problem_line(alloc, subject, problem, position)?;
         lines.push_str(&line)?;
     }
     Ok(lines)
 }
 
-/// The line of a problem for which no details are looked up.
-#[tactic(auto, unfolding(crate::specs::Findings::brief_line))]
-fn brief_line(alloc: Global, names: &Names, problem: &Problem) -> Result<String, AllocError>
-    ensures { IfOk result (λ line. string_bytes line ≡ spec.brief_line names.now problem.now) }
-{
-    let place = place_words(alloc, names, &problem.place)?;
-    let finding = Finding {
-        kind: FindingKind::Problem,
-        name: problem.kind.text(),
-        place: &place,
-        position: None,
-        message: rule_text(problem.kind),
-        candidates: &[],
-    };
-    finding_line(alloc, &finding)
-}
-
-/// Adds the lines of problems for which no details are looked up.
-fn add_brief_lines(
-    alloc: Global,
-    names: &Names,
-    problems: &[Problem],
-    lines: &mut String,
-) -> Result<(), AllocError>
-    ensures { OnOk result (string_bytes lines.new
-        ≡ string_bytes lines.old ++ spec.brief_lines names.now problems.now) }
-{
-    for problem in problems {
-        let line = brief_line(alloc, names, problem)?;
-        lines.push_str(&line)?;
-    }
-    Ok(())
-}
-
-/// The lines of all problems, in their order. To look up where one stands takes as long as the text is, so only the first
-/// [`MAX_DETAILED`] have details.
-fn lines_of(
-    alloc: Global,
-    bytes: &[u8],
-    subject: &Subject<'_>,
-    problems: &[Problem],
-) -> Result<String, AllocError>
-    ensures { IfOk result (λ lines. spec.AreLinesOf bytes.now (subject_of subject.now)
-        problems.now (string_bytes lines)) }
-{
-    let detailed = problems.len().min(MAX_DETAILED);
-    let mut lines = problem_lines(alloc, bytes, subject, &problems[..detailed])?;
-    let names = &subject.deployment.names;
-    add_brief_lines(alloc, names, &problems[detailed..], &mut lines)?;
-    Ok(lines)
-}
-
-fn is_one(problems: &[Problem]) -> bool
+/// Whether there is a problem, so that a deployment is refused.
+pub fn has_problem(problems: &[Problem]) -> bool
     ensures { result ≡ nat_lt 0 (length problems.now) }
 {
     !problems.is_empty()
@@ -163,19 +139,11 @@ fn review_findings(alloc: Global, bytes: &[u8], review: Review) -> Result<Findin
         scripts,
         problems,
     } = review;
-    let made = tables_for(alloc, &deployment, problems.as_slice())?;
-    let tables = made.as_ref();
-    let graph = needs_for(alloc, &deployment, tables, problems.as_slice())?;
-    let needs = graph.as_ref();
-    let subject = Subject {
-        deployment: &deployment,
-        scripts: scripts.as_slice(),
-        tables,
-        needs,
-    };
+    let tables = HintTables::build(alloc, &deployment, problems.as_slice())?;
+    let subject = tables.subject(scripts.as_slice());
     Ok(Findings {
-        lines: lines_of(alloc, bytes, &subject, problems.as_slice())?,
-        is_refused: is_one(problems.as_slice()),
+        lines: problem_lines(alloc, bytes, &subject, problems.as_slice())?,
+        is_refused: has_problem(problems.as_slice()),
     })
 }
 
@@ -274,7 +242,8 @@ fn warning_line(alloc: Global, bytes: &[u8]) -> Result<String, AllocError>
 /// What is found in the bytes of a deployment, each a line with a JSON object: the warning, if there is one, and then its fault if it
 /// can't be read, or else its problems (Jakarta CDI 4.0, *Problems detected automatically by the container*). Its members are `kind`
 /// (`fault`, `problem` or `warning`), `name`, `place`, `line` and `column` (from 1, or null if they aren't known), `message` and
-/// `candidates`. Of problems behind the first 50 the rule is the message, and no position and no candidates are told. The one error is [`AllocError`], if a growth was refused.
+/// `candidates`. Positions are looked up for the first 50 problems at least, and for more if the text is short. The one error is
+/// [`AllocError`], if a growth was refused.
 pub fn findings_in(alloc: Global, bytes: &[u8]) -> Result<Findings, AllocError>
     ensures { IfOk result (λ found.
         spec.AreFindings bytes.now (readied_in bytes.now) (spec.found_by found)) }

@@ -1,23 +1,31 @@
-//! The tables by which the points of a deployment resolve, and what its dependent beans need, for what is told of its problems.
+//! What is looked up of a deployment for what is told of its problems, made once.
 ghost use Rattle.std.specs.Prelude.{◌≡◌, IfOk};
 ghost use Rattle.std.specs.List.{list_any};
 ghost use Rattle.std.specs.Option.{option_copied};
 ghost use Rattle.cdi_findings.specs.Tables as spec;
-ghost use Rattle.cdi_problem_hints.specs.Needs.{AreNeedsOf};
+ghost use Rattle.cdi_problem_hints.specs.Subjects.{subject_of};
+ghost use Rattle.cdi_cycle_hints.specs.Needs.{AreNeedsOf};
 
 use cdi_candidates::tables_of;
+use cdi_cycle_hints::{Needs, needs_of};
 use cdi_deployment::Deployment;
-use cdi_problem_hints::{Needs, needs_of};
+use cdi_place_index::PlaceIndex;
+use cdi_problem_hints::Subject;
 use cdi_problems::{Problem, ProblemKind};
 use cdi_resolve::BeanTables;
+use cdi_step_names::ScriptNames;
 use std::alloc::{AllocError, Global};
+use std::marker::Model;
 
 /// Whether the tables tell something of a problem of a kind.
 fn needs_tables(kind: ProblemKind) -> bool
     ensures { result ≡ spec.kind_needs_tables kind }
 {
     match kind {
-        ProblemKind::Unsatisfied | ProblemKind::Ambiguous | ProblemKind::DependentCycle => true,
+        ProblemKind::Unsatisfied
+        | ProblemKind::Ambiguous
+        | ProblemKind::InconsistentSpecialization
+        | ProblemKind::DependentCycle => true,
         _ => false,
     }
 }
@@ -28,9 +36,8 @@ fn is_one_needing_tables(problems: &[Problem]) -> bool
     problems.iter().any(|problem| needs_tables(problem.kind))
 }
 
-/// The tables by which the points of a deployment resolve, if one of these problems needs them. The one error is [`AllocError`], if a
-/// growth was refused.
-pub fn tables_for(
+/// The tables by which the points of a deployment resolve, if one of these problems needs them.
+fn tables_for(
     alloc: Global,
     deployment: &Deployment,
     problems: &[Problem],
@@ -51,9 +58,8 @@ fn is_one_dependent_cycle(problems: &[Problem]) -> bool
         .any(|problem| problem.kind == ProblemKind::DependentCycle)
 }
 
-/// What the dependent beans of a deployment need by these tables, if it is told of one of these problems: once for all that is told.
-/// The one error is [`AllocError`], if a growth was refused.
-pub fn needs_for(
+/// What the dependent beans of a deployment need by these tables, if it is told of one of these problems.
+fn needs_for(
     alloc: Global,
     deployment: &Deployment,
     tables: Option<&BeanTables>,
@@ -66,5 +72,66 @@ pub fn needs_for(
             Ok(Some(needs_of(alloc, deployment, tables)?))
         }
         _ => Ok(None),
+    }
+}
+
+/// What is looked up of a deployment for what is told of its problems. Contracts see the deployment, and the tables by which its points
+/// resolve.
+#[derive(Drop)]
+pub struct HintTables<'a> {
+    deployment: &'a Deployment,
+    tables: Option<BeanTables>,
+    needs: Option<Needs>,
+    index: PlaceIndex<'a>,
+}
+
+impl<'a> Model for HintTables<'a> {
+    ghost use Rattle.cdi_findings.specs.Tables.{Looked, IsLookedUp};
+
+    ghost Value = { Looked };
+
+    ghost view = { λ t. record { deployment = t.deployment.now; tables = t.tables } };
+
+    ghost invariant = { λ t. IsLookedUp t.deployment.now t.tables t.needs t.index.deployment.now };
+}
+
+impl<'a> HintTables<'a> {
+    /// What these problems of a deployment need: the tables if one of them tells what a point is left with, and what dependent beans
+    /// need if it is told of one of them. The one error is [`AllocError`], if a growth was refused.
+    pub fn build(
+        alloc: Global,
+        deployment: &'a Deployment,
+        problems: &[Problem],
+    ) -> Result<HintTables<'a>, AllocError>
+        ensures deployment { IfOk result (λ t. t.deployment ≡ deployment.now) }
+        ensures tables { IfOk result
+            (λ t. spec.AreTablesFor deployment.now problems.now t.tables) }
+    {
+        let tables = tables_for(alloc, deployment, problems)?;
+        let needs = needs_for(alloc, deployment, tables.as_ref(), problems)?;
+        let index = PlaceIndex::of(alloc, deployment)?;
+        Ok(HintTables {
+            deployment,
+            tables,
+            needs,
+            index,
+        })
+    }
+
+    /// What hints are about, with the names that the scripts of the deployment use.
+    pub fn subject<'b>(&'b self, scripts: &'b [ScriptNames]) -> Subject<'b>
+        ensures { subject_of result ≡ record {
+          deployment = self.now.deployment;
+          scripts = scripts.now;
+          tables = self.now.tables;
+        } }
+    {
+        Subject {
+            deployment: self.deployment,
+            scripts,
+            tables: self.tables.as_ref(),
+            needs: self.needs.as_ref(),
+            index: &self.index,
+        }
     }
 }

@@ -4,10 +4,10 @@
 pub mod faults;
 mod finding;
 pub mod findings;
+pub mod hint_tables;
 pub mod locating;
-pub mod tables;
 
 pub use faults::{fault_name, unhinted_text};
-pub use findings::{Findings, findings_in};
+pub use findings::{Findings, findings_in, has_problem};
+pub use hint_tables::HintTables;
 pub use locating::position_of_problem;
-pub use tables::{needs_for, tables_for};

@@ -61,7 +61,7 @@ Examples:
   cdi check counter.json
 
   tells in a line that the deployment in counter.json is accepted, or in a line each what is wrong with it:
-    P17 Ambiguous U#i
+    P12 UnknownBody K#up
 
   cdi run counter.json < commands
 

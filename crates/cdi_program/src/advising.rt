@@ -9,7 +9,7 @@ ghost use Rattle.cdi_program.specs.Telling as telling;
 use crate::lines::{add_line, file_line};
 use crate::telling::{tell, tell_text};
 use cdi_base::Text;
-use cdi_findings::{fault_name, needs_for, position_of_problem, tables_for, unhinted_text};
+use cdi_findings::{HintTables, fault_name, position_of_problem, unhinted_text};
 use cdi_lines::{ServeFault, Sink};
 use cdi_positions::Position;
 use cdi_problem_hints::{Subject, problem_hint};
@@ -100,16 +100,8 @@ fn review_advice(
         scripts,
         problems,
     } = review;
-    let made = tables_for(alloc, &deployment, problems.as_slice())?;
-    let tables = made.as_ref();
-    let graph = needs_for(alloc, &deployment, tables, problems.as_slice())?;
-    let needs = graph.as_ref();
-    let subject = Subject {
-        deployment: &deployment,
-        scripts: scripts.as_slice(),
-        tables,
-        needs,
-    };
+    let tables = HintTables::build(alloc, &deployment, problems.as_slice())?;
+    let subject = tables.subject(scripts.as_slice());
     advice_on(alloc, file, bytes, &subject, problems.as_slice())
 }
 

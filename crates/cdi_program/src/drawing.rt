@@ -1,11 +1,11 @@
 //! The drawing of a deployment.
-ghost use Rattle.std.specs.Prelude.{◌≡◌, length, nat_lt, IfOk, IsSomeAnd};
+ghost use Rattle.std.specs.Prelude.{IfOk, IsSomeAnd};
 ghost use Rattle.cdi_prepare.specs.Ready.{readied_in};
 ghost use Rattle.cdi_program.specs.Drawings as spec;
 
 use cdi_candidates::tables_of;
+use cdi_findings::has_problem;
 use cdi_pictures::{Pictured, picture};
-use cdi_problems::Problem;
 use cdi_report::{Review, review_bytes};
 use std::alloc::{AllocError, Global};
 
@@ -16,12 +16,6 @@ pub(crate) struct Drawing {
     pub text: String,
     /// Whether it has a problem.
     pub is_refused: bool,
-}
-
-fn is_one(problems: &[Problem]) -> bool
-    ensures { result ≡ nat_lt 0 (length problems.now) }
-{
-    !problems.is_empty()
 }
 
 fn review_drawing(alloc: Global, review: Review) -> Result<Option<Drawing>, AllocError>
@@ -42,7 +36,7 @@ fn review_drawing(alloc: Global, review: Review) -> Result<Option<Drawing>, Allo
     };
     Ok(Some(Drawing {
         text: picture(alloc, &subject)?,
-        is_refused: is_one(problems.as_slice()),
+        is_refused: has_problem(problems.as_slice()),
     }))
 }
 

@@ -16,11 +16,11 @@ returns c =
     let candidates_are : map string_bytes c.as_slice-2.result.now ≡ map (place_text s.deployment.names) (problem_candidates s c.args.problem.now) =
     ap (map string_bytes) texts_are ∙ c.in_ok-candidates.ensures ∙ ap (map (place_text s.deployment.names)) (beans_are ∙ c.in_ok-beans.ensures) in
     IfOk-weaker c.finding_line.result _ _ (λ line is. record {
-      told = record { kind = finding_kinds.Problem; name = c.text.result.now; place = c.deref.result.now; position = c.in_ok-position.position; message = c.deref-2.result.now; candidates = map string_bytes c.as_slice-2.result.now };
+      told = record { kind = finding_kinds.Problem; name = c.text.result.now; place = c.deref.result.now; position = c.args.position; message = c.deref-2.result.now; candidates = map string_bytes c.as_slice-2.result.now };
       kind = refl;
       name = c.text.ensures;
       place = place_is ∙ c.in_ok-place.ensures;
-      position = c.in_ok-position.ensures;
+      position = refl;
       message = message_is ∙ c.in_ok-message.ensures;
       candidates = candidates_are;
       is = is;
