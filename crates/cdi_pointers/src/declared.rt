@@ -1,6 +1,6 @@
 //! Where the items of a deployment's lists stand, by their names.
 ghost use Rattle.std.specs.Prelude.{◌≡◌};
-ghost use Rattle.cdi_problem_hints.specs.Pointers as spec;
+ghost use Rattle.cdi_pointers.specs.Pointers as spec;
 
 use cdi_base::Name;
 use cdi_deployment::{

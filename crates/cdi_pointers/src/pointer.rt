@@ -1,6 +1,6 @@
 //! The JSON Pointer to the place of a problem.
 ghost use Rattle.std.specs.Prelude.{◌≡◌, option_map, string_bytes, IfOk};
-ghost use Rattle.cdi_problem_hints.specs.Pointers as spec;
+ghost use Rattle.cdi_pointers.specs.Pointers as spec;
 
 use crate::declared::{
     annotation_named, class_named, exception_named, field_named, injected_field_named,
@@ -205,7 +205,8 @@ fn interceptor_part_pointer(
 }
 
 /// The JSON Pointer (RFC 6901) to what a deployment has at a place, in the text that the deployment was read from. If several things
-/// have the name it is the first, in the order of places. There is none if nothing is there.
+/// have the name it is the first, in the order of places. There is none if nothing is there. The one error is [`AllocError`], if a
+/// growth was refused.
 pub fn pointer_at(
     alloc: Global,
     deployment: &Deployment,
