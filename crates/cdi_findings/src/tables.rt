@@ -3,7 +3,7 @@ ghost use Rattle.std.specs.Prelude.{◌≡◌, IfOk};
 ghost use Rattle.std.specs.List.{list_any};
 ghost use Rattle.std.specs.Option.{option_copied};
 ghost use Rattle.cdi_findings.specs.Tables as spec;
-ghost use Rattle.cdi_problem_hints.specs.Needs.{AreNeedsOf};
+ghost use Rattle.cdi_cycle_hints.specs.Needs.{AreNeedsOf};
 
 use cdi_candidates::tables_of;
 use cdi_deployment::Deployment;
