@@ -37,13 +37,13 @@ abbrev pub details_at : Deployment → Option BeanTables → Problem → Element
 details_at d tables p e = if is_at p.place e then details d tables p.kind e else []
 
 -- of a body that isn't a script, the name; of a script that names something that isn't there, which step does
-abbrev pub script_details : Deployment → List ScriptNames → Option Place → ProblemKind → List ℕ
+unfoldable pub script_details : Deployment → List ScriptNames → Option Place → ProblemKind → List ℕ
 script_details d scripts place kinds.UnknownBody = unknown_bodies_text d scripts place
 script_details d scripts place kinds.BodyOutsideShape = scripts_text d scripts place
 script_details d scripts place _ = []
 
 -- of a bean that two enabled ones specialize, these; of a dependent bean that needs itself, a cycle
-abbrev pub bean_details : Deployment → Option BeanTables → Option Place → ProblemKind → List ℕ
+unfoldable pub bean_details : Deployment → Option BeanTables → Option Place → ProblemKind → List ℕ
 bean_details d tables place kinds.InconsistentSpecialization = specializers_text d tables place
 bean_details d tables place kinds.DependentCycle = dependent_cycle_text d tables place
 bean_details d tables place _ = []

@@ -86,6 +86,7 @@ fn add_element_details(
 }
 
 /// Adds what is told of the scripts at the place of a problem.
+#[tactic(auto, unfolding(crate::specs::Hints::script_details))]
 fn add_script_details(
     alloc: Global,
     subject: &Subject<'_>,
@@ -104,6 +105,7 @@ fn add_script_details(
 }
 
 /// Adds what is told of the bean at the place of a problem.
+#[tactic(auto, unfolding(crate::specs::Hints::bean_details))]
 fn add_bean_details(
     alloc: Global,
     subject: &Subject<'_>,
