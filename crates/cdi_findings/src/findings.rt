@@ -8,8 +8,8 @@ ghost use Rattle.cdi_findings.specs.Findings as spec;
 
 use crate::faults::{fault_name, unhinted_text};
 use crate::finding::{Finding, FindingKind, finding_line};
-use crate::locating::position_of_problem;
 use crate::hint_tables::HintTables;
+use crate::locating::position_of_problem;
 use cdi_base::{Names, Place};
 use cdi_deployment::Deployment;
 use cdi_positions::{Position, RepeatedKey};

@@ -2,16 +2,18 @@
 use Rattle.std.specs.Prelude.{ℕ, List, [], ◌++◌, codes, Option, None, if◌then◌else◌}
 use Rattle.std.specs.List.{flat_map}
 use Rattle.cdi_base.specs.declared.place.Place.{Place}
+use Rattle.cdi_cycle_hints.specs.Hierarchy.{hierarchy_text}
 use Rattle.cdi_deployment.specs.declared.deployment.Deployment.{Deployment}
 use Rattle.cdi_name_uses.specs.Unknown.{unknown_names}
 use Rattle.cdi_problem_hints.specs.Asked.{is_at}
+use Rattle.cdi_problem_hints.specs.Bodies.{unknown_bodies_text}
 use Rattle.cdi_problem_hints.specs.Cycle.{dependent_cycle_text}
-use Rattle.cdi_problem_hints.specs.Hierarchy.{hierarchy_text}
 use Rattle.cdi_problem_hints.specs.Near.{unsatisfied_in}
 use Rattle.cdi_problem_hints.specs.Points.{points_text}
 use Rattle.cdi_problem_hints.specs.Rule.{rule_text}
 use Rattle.cdi_problem_hints.specs.Scripts.{scripts_text}
 use Rattle.cdi_problem_hints.specs.Sentences.{sentences}
+use Rattle.cdi_problem_hints.specs.Specializers.{specializers_text}
 use Rattle.cdi_problem_hints.specs.Subjects.{Subject}
 use Rattle.cdi_problems.specs.Elements.{Element, elements_of}
 use Rattle.cdi_problems.specs.Words.{problem_text}
@@ -34,13 +36,15 @@ details d tables _ e = []
 abbrev pub details_at : Deployment → Option BeanTables → Problem → Element → List ℕ
 details_at d tables p e = if is_at p.place e then details d tables p.kind e else []
 
--- of a script that names something that isn't there, which step does
-abbrev pub script_details : Deployment → List ScriptNames → Option Place → ProblemKind → List ℕ
+-- of a body that isn't a script, the name; of a script that names something that isn't there, which step does
+unfoldable pub script_details : Deployment → List ScriptNames → Option Place → ProblemKind → List ℕ
+script_details d scripts place kinds.UnknownBody = unknown_bodies_text d scripts place
 script_details d scripts place kinds.BodyOutsideShape = scripts_text d scripts place
 script_details d scripts place _ = []
 
--- of a dependent bean that needs itself, a cycle
-abbrev pub bean_details : Deployment → Option BeanTables → Option Place → ProblemKind → List ℕ
+-- of a bean that two enabled ones specialize, these; of a dependent bean that needs itself, a cycle
+unfoldable pub bean_details : Deployment → Option BeanTables → Option Place → ProblemKind → List ℕ
+bean_details d tables place kinds.InconsistentSpecialization = specializers_text d tables place
 bean_details d tables place kinds.DependentCycle = dependent_cycle_text d tables place
 bean_details d tables place _ = []
 

@@ -7,6 +7,7 @@ use Rattle.cdi_candidates.specs.Candidates.{candidates}
 use Rattle.cdi_deployment.specs.declared.deployment.Deployment.{Deployment}
 use Rattle.cdi_deployment.specs.declared.deployment.Point.{Point}
 use Rattle.cdi_problem_hints.specs.Asked.{is_at, points_of}
+use Rattle.cdi_problem_hints.specs.Specializers.{specializers_at}
 use Rattle.cdi_problem_hints.specs.Subjects.{Subject}
 use Rattle.cdi_problems.specs.Elements.{Element, elements_of}
 use Rattle.cdi_problems.specs.declared.problem.Problem.{Problem}
@@ -30,9 +31,13 @@ several (a ∷ b ∷ places) = a ∷ b ∷ places
 abbrev pub several_left : BeanTables → List Point → List Place
 several_left t points = flat_map (λ p. several (left_for t p)) points
 
--- for the points of an element, if it stands at the place
+-- for the points of an element
+abbrev pub left_in : BeanTables → Element → List Place
+left_in t e = several_left t (points_of e)
+
+-- for those of an element, if it stands at the place
 abbrev pub left_at : BeanTables → Option Place → Element → List Place
-left_at t place e = if is_at place e then several_left t (points_of e) else []
+left_at t place e = if is_at place e then left_in t e else []
 
 -- without tables none
 abbrev pub places_left : Deployment → Option BeanTables → Option Place → List Place
@@ -41,9 +46,10 @@ places_left d (Some t) place = flat_map (left_at t place) (elements_of d)
 
 abbrev pub left_of : Subject → ProblemKind → Option Place → List Place
 left_of s kinds.Ambiguous place = places_left s.deployment s.tables place
+left_of s kinds.InconsistentSpecialization place = specializers_at s.deployment s.tables place
 left_of s _ place = []
 
--- the places of the beans that are left for each ambiguous point of the elements at the place of a problem, in order; none of other
--- problems
+-- the places of the beans that are left for each ambiguous point of the elements at the place of a problem, in order, or of those that
+-- specialize the bean there; none of other problems
 abbrev pub problem_candidates : Subject → Problem → List Place
 problem_candidates s p = left_of s p.kind p.place

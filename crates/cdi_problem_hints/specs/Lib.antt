@@ -1,15 +1,13 @@
 pub mod Asked
+pub mod Bodies
 pub mod Candidates
 pub mod Cycle
-pub mod Hierarchy
 pub mod Hints
 pub mod Left
 pub mod Near
-pub mod Needs
-pub mod Pointers
 pub mod Points
 pub mod Rule
 pub mod Scripts
 pub mod Sentences
+pub mod Specializers
 pub mod Subjects
-pub mod ToldCycle

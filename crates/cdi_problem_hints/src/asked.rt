@@ -2,29 +2,12 @@
 ghost use Rattle.std.specs.Prelude.{◌≡◌, IfOk};
 ghost use Rattle.cdi_problem_hints.specs.Asked as spec;
 ghost use Rattle.cdi_problems.specs.Elements.{element_of};
-ghost use Rattle.cdi_problems.specs.Places as places;
 
-use cdi_base::{Name, Place, Seq, Use};
+use cdi_base::{Name, Seq, Use};
 use cdi_deployment::Point;
 use cdi_problems::Element;
 use std::alloc::{AllocError, Global};
 use std::marker::Model;
-
-fn is_same(place: &Place, other: &Place) -> bool
-    ensures { result ≡ places.same_place place.now other.now }
-{
-    *place == *other
-}
-
-/// Whether an element stands at a place.
-pub(crate) fn is_at(place: &Option<Place>, element: &Element<'_>) -> bool
-    ensures { result ≡ spec.is_at place.now (element_of element.now) }
-{
-    match place {
-        Some(place) => is_same(&element.place(), place),
-        None => false,
-    }
-}
 
 /// What an injection point asks for (Jakarta CDI 4.0, *Injection points*). Contracts see it as a parameter that asks for it.
 #[derive(Drop)]

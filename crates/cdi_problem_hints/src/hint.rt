@@ -4,21 +4,22 @@ ghost use Rattle.std.specs.List.{flat_map};
 ghost use Rattle.std.specs.Option.{option_copied};
 ghost use Rattle.cdi_problem_hints.specs.Hints as spec;
 ghost use Rattle.cdi_problem_hints.specs.Subjects.{subject_of};
-ghost use Rattle.cdi_problems.specs.Elements.{element_of, shown};
+ghost use Rattle.cdi_problems.specs.Elements.{element_of, elements_of, shown};
 
-use crate::asked::is_at;
+use crate::at::elements_at;
+use crate::body::add_unknown_bodies;
 use crate::cycle::add_dependent_cycle;
-use crate::hierarchy::add_hierarchy;
 use crate::near::add_unsatisfied;
 use crate::point::add_points;
 use crate::rule::rule_text;
-use crate::script::add_scripts_at;
+use crate::script::add_scripts;
 use crate::sentence::add_sentences;
+use crate::specializer::add_specializers;
 use crate::subject::Subject;
 use cdi_base::Text;
-use cdi_body_check::sites_of;
+use cdi_cycle_hints::add_hierarchy;
 use cdi_name_uses::unknown_names;
-use cdi_problems::{Element, Problem, ProblemKind, ProblemText, elements_of};
+use cdi_problems::{Element, Problem, ProblemKind, ProblemText};
 use std::alloc::{AllocError, Global};
 
 /// Adds what is told of an element that has a problem.
@@ -49,29 +50,43 @@ fn add_details(
     }
 }
 
+fn add_each(
+    alloc: Global,
+    subject: &Subject<'_>,
+    kind: ProblemKind,
+    elements: &[Element<'_>],
+    hint: &mut String,
+) -> Result<(), AllocError>
+    ensures { OnOk result (string_bytes hint.new ≡ string_bytes hint.old
+        ++ flat_map
+        (spec.details subject.now.deployment.now (option_copied subject.now.tables) kind)
+        (shown elements.now)) }
+{
+    for element in elements {
+        add_details(alloc, subject, kind, element, hint)?;
+    }
+    Ok(())
+}
+
 /// Adds what is told of the elements at the place of a problem.
-fn add_details_at(
+fn add_element_details(
     alloc: Global,
     subject: &Subject<'_>,
     problem: &Problem,
-    elements: &[Element<'_>],
     hint: &mut String,
 ) -> Result<(), AllocError>
     ensures { OnOk result (string_bytes hint.new ≡ string_bytes hint.old
         ++ flat_map
         (spec.details_at subject.now.deployment.now (option_copied subject.now.tables)
         problem.now)
-        (shown elements.now)) }
+        (elements_of subject.now.deployment.now)) }
 {
-    for element in elements {
-        if is_at(&problem.place, element) {
-            add_details(alloc, subject, problem.kind, element, hint)?;
-        }
-    }
-    Ok(())
+    let elements = elements_at(subject, &problem.place);
+    add_each(alloc, subject, problem.kind, elements, hint)
 }
 
 /// Adds what is told of the scripts at the place of a problem.
+#[tactic(auto, unfolding(crate::specs::Hints::script_details))]
 fn add_script_details(
     alloc: Global,
     subject: &Subject<'_>,
@@ -83,15 +98,14 @@ fn add_script_details(
         problem.now.place problem.now.kind) }
 {
     match problem.kind {
-        ProblemKind::BodyOutsideShape => {
-            let sites = sites_of(alloc, subject.deployment)?;
-            add_scripts_at(alloc, subject, &problem.place, sites.as_slice(), hint)
-        }
+        ProblemKind::UnknownBody => add_unknown_bodies(alloc, subject, &problem.place, hint),
+        ProblemKind::BodyOutsideShape => add_scripts(alloc, subject, &problem.place, hint),
         _ => Ok(()),
     }
 }
 
 /// Adds what is told of the bean at the place of a problem.
+#[tactic(auto, unfolding(crate::specs::Hints::bean_details))]
 fn add_bean_details(
     alloc: Global,
     subject: &Subject<'_>,
@@ -103,6 +117,9 @@ fn add_bean_details(
         problem.now.place problem.now.kind) }
 {
     match problem.kind {
+        ProblemKind::InconsistentSpecialization => {
+            add_specializers(alloc, subject, &problem.place, hint)
+        }
         ProblemKind::DependentCycle => add_dependent_cycle(alloc, subject, &problem.place, hint),
         _ => Ok(()),
     }
@@ -112,9 +129,11 @@ fn add_bean_details(
 /// *Problems detected automatically by the container*). Of a name that isn't known it tells the group that it has to be of, and the
 /// known name that was probably meant, if one is near; of a type that is its own supertype, the types of a cycle; of a point without
 /// its one bean, what it asks for, and by the tables, if it is ambiguous, the beans that are left, and if it isn't satisfied, those
-/// that nearly have what it asks for; of a script that names something that isn't there, its first step with a name that isn't
-/// declared as what it has to be, if there is one; of a dependent bean that needs itself, by the tables, the beans of a cycle, if the
-/// points that these declare themselves make one.
+/// that nearly have what it asks for; of a body that is no script, its name, and the script that was probably meant, if one is near;
+/// of a script that names something that isn't there, its first step with a name that isn't declared as what it has to be, if there
+/// is one; of a bean that several enabled ones specialize, by the tables, these; of a dependent bean that needs itself, by the
+/// tables, the beans of a cycle, if the points that these declare themselves make one. The one error is [`AllocError`], if
+/// a growth was refused.
 pub fn problem_message(
     alloc: Global,
     subject: &Subject<'_>,
@@ -124,14 +143,14 @@ pub fn problem_message(
         string_bytes message ≡ spec.problem_message (subject_of subject.now) problem.now) }
 {
     let mut message = String::from_str(alloc, rule_text(problem.kind))?;
-    let elements = elements_of(alloc, subject.deployment)?;
-    add_details_at(alloc, subject, problem, elements.as_slice(), &mut message)?;
+    add_element_details(alloc, subject, problem, &mut message)?;
     add_script_details(alloc, subject, problem, &mut message)?;
     add_bean_details(alloc, subject, problem, &mut message)?;
     Ok(message)
 }
 
-/// The hint for a problem of a deployment: the problem as it is printed, and what is told of it beyond that.
+/// The hint for a problem of a deployment: the problem as it is printed, and what is told of it beyond that. The one error is
+/// [`AllocError`], if a growth was refused.
 pub fn problem_hint(
     alloc: Global,
     subject: &Subject<'_>,

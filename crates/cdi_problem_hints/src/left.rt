@@ -5,11 +5,13 @@ ghost use Rattle.cdi_problem_hints.specs.Left as spec;
 ghost use Rattle.cdi_problem_hints.specs.Subjects.{subject_of};
 ghost use Rattle.cdi_problems.specs.Elements.{element_of, shown};
 
-use crate::asked::{Asked, asked_by, is_at};
+use crate::asked::{Asked, asked_by};
+use crate::at::elements_at;
+use crate::specializer::specializers_at;
 use crate::subject::Subject;
 use cdi_base::{Place, Seq};
 use cdi_candidates::candidates;
-use cdi_problems::{Element, Problem, ProblemKind, elements_of};
+use cdi_problems::{Element, Problem, ProblemKind};
 use cdi_resolve::BeanTables;
 use std::alloc::{AllocError, Global};
 
@@ -48,20 +50,16 @@ fn add_left(
     Ok(())
 }
 
-/// Adds those of the points of an element, if it stands at a place.
-fn add_left_at(
+/// Adds those of the points of an element.
+fn add_left_in(
     alloc: Global,
     tables: &BeanTables,
-    place: &Option<Place>,
     element: &Element<'_>,
     places: &mut Seq<Place>,
 ) -> Result<(), AllocError>
     ensures { OnOk result (places.new
-        ≡ places.old ++ spec.left_at tables.now place.now (element_of element.now)) }
+        ≡ places.old ++ spec.left_in tables.now (element_of element.now)) }
 {
-    if !is_at(place, element) {
-        return Ok(());
-    }
     let points = asked_by(alloc, element)?;
     add_left(alloc, tables, points.as_slice(), places)
 }
@@ -69,15 +67,14 @@ fn add_left_at(
 fn left_in(
     alloc: Global,
     tables: &BeanTables,
-    place: &Option<Place>,
     elements: &[Element<'_>],
 ) -> Result<Seq<Place>, AllocError>
     ensures { IfOk result (λ places. places
-        ≡ flat_map (spec.left_at tables.now place.now) (shown elements.now)) }
+        ≡ flat_map (spec.left_in tables.now) (shown elements.now)) }
 {
     let mut places = Seq::empty(alloc);
     for element in elements {
-        add_left_at(alloc, tables, place, element, &mut places)?;
+        add_left_in(alloc, tables, element, &mut places)?;
     }
     Ok(places)
 }
@@ -92,16 +89,18 @@ fn places_left(
 {
     match subject.tables {
         Some(tables) => {
-            let elements = elements_of(alloc, subject.deployment)?;
-            left_in(alloc, tables, place, elements.as_slice())
+            let elements = elements_at(subject, place);
+            left_in(alloc, tables, elements)
         }
         None => Ok(Seq::empty(alloc)),
     }
 }
 
 /// The places of the beans that are left for each ambiguous point of the elements at the place of a problem, in order, by the tables
-/// of the deployment (Jakarta CDI 4.0, *Unsatisfied and ambiguous dependencies*). There are none without tables, and none of a problem
-/// that isn't `Ambiguous`.
+/// of the deployment (Jakarta CDI 4.0, *Unsatisfied and ambiguous dependencies*), if the problem is `Ambiguous`; and if it is
+/// `InconsistentSpecialization`, those of the enabled beans that specialize the one at its place (Jakarta CDI 4.0, *Inconsistent
+/// specialization*). There are none without tables, and none of other problems. The one error is [`AllocError`], if a growth was
+/// refused.
 pub fn problem_candidates(
     alloc: Global,
     subject: &Subject<'_>,
@@ -112,6 +111,9 @@ pub fn problem_candidates(
 {
     match problem.kind {
         ProblemKind::Ambiguous => places_left(alloc, subject, &problem.place),
+        ProblemKind::InconsistentSpecialization => {
+            specializers_at(alloc, subject, &problem.place)
+        }
         _ => Ok(Seq::empty(alloc)),
     }
 }

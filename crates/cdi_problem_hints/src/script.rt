@@ -2,10 +2,10 @@
 ghost use Rattle.std.specs.Prelude.{◌≡◌, ◌++◌, string_bytes, IfOk, OnOk};
 ghost use Rattle.std.specs.List.{flat_map};
 ghost use Rattle.std.specs.Option.{option_copied};
-ghost use Rattle.cdi_body_check.specs.Sites.{site_of, shown};
+ghost use Rattle.cdi_body_check.specs.Sites.{body_of, shown};
 ghost use Rattle.cdi_problem_hints.specs.Scripts as spec;
-ghost use Rattle.cdi_problems.specs.Places.{same_place};
 
+use crate::at::sites_at;
 use crate::sentence::suggestion;
 use crate::subject::Subject;
 use cdi_base::{Name, Place};
@@ -100,39 +100,33 @@ fn add_script(
     hint.push_str(&sentence)
 }
 
-fn is_same(place: &Place, other: &Place) -> bool
-    ensures { result ≡ same_place place.now other.now }
-{
-    *place == *other
-}
-
-/// Whether what has a body stands at a place.
-fn is_at(place: &Option<Place>, site: &BodySite<'_>) -> bool
-    ensures { result ≡ spec.is_at place.now (site_of site.now) }
-{
-    match place {
-        Some(place) => is_same(&site.place(), place),
-        None => false,
-    }
-}
-
-/// Adds what is told of the scripts that are the bodies at a place.
-pub(crate) fn add_scripts_at(
+fn add_each(
     alloc: Global,
     subject: &Subject<'_>,
-    place: &Option<Place>,
     sites: &[BodySite<'_>],
     hint: &mut String,
 ) -> Result<(), AllocError>
     ensures { OnOk result (string_bytes hint.new ≡ string_bytes hint.old
         ++ flat_map
-        (spec.script_text_at subject.now.deployment.now subject.now.scripts.now place.now)
+        (λ s. spec.script_text subject.now.deployment.now subject.now.scripts.now (body_of s))
         (shown sites.now)) }
 {
     for site in sites {
-        if is_at(place, site) {
-            add_script(alloc, subject, site.body(), hint)?;
-        }
+        add_script(alloc, subject, site.body(), hint)?;
     }
     Ok(())
+}
+
+/// Adds what is told of the scripts that are the bodies at a place.
+pub(crate) fn add_scripts(
+    alloc: Global,
+    subject: &Subject<'_>,
+    place: &Option<Place>,
+    hint: &mut String,
+) -> Result<(), AllocError>
+    ensures { OnOk result (string_bytes hint.new ≡ string_bytes hint.old
+        ++ spec.scripts_text subject.now.deployment.now subject.now.scripts.now place.now) }
+{
+    let sites = sites_at(subject, place);
+    add_each(alloc, subject, sites, hint)
 }

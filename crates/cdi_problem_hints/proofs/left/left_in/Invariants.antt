@@ -6,4 +6,4 @@ use Rattle.cdi_problem_hints.proofs.left.left_in.Given as goal
 
 abbrev pub invariant-loop-element : goal.invariant-loop-element
 invariant-loop-element l =
-    l.places ≡ flat_map (spec.left_at l.tables l.place) (shown (take l.element-index l.elements))
+    l.places ≡ flat_map (spec.left_in l.tables) (shown (take l.element-index l.elements))

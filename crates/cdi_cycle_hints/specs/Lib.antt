@@ -1,0 +1,4 @@
+pub mod Cycle
+pub mod Hierarchy
+pub mod Needs
+pub mod ToldCycle

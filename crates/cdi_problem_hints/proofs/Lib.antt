@@ -1,0 +1,2 @@
+pub mod Upward
+pub mod Where
