@@ -42,13 +42,13 @@ place_words names None = []
 place_words names (Some place) = place_text names place
 
 -- the line that tells this problem, with this position
-pub record IsLineOf (position : Option Position) (s : Subject) (p : Problem) (line : List ℕ)
+pub record IsLineOf (at : Option Position) (s : Subject) (p : Problem) (line : List ℕ)
     : Type 0 where
   pub told : Told
   pub kind : told.kind ≡ finding_kinds.Problem
   pub name : told.name ≡ kind_text p.kind
   pub place : told.place ≡ place_words s.deployment.names p.place
-  pub position : told.position ≡ position
+  pub position : told.position ≡ at
   pub message : told.message ≡ problem_message s p
   pub candidates : told.candidates ≡ map (place_text s.deployment.names) (problem_candidates s p)
   pub is : line ≡ finding_line told

@@ -1,8 +1,7 @@
 -- The tables by which the points of a deployment resolve, for what is told of its problems.
-use Rattle.std.specs.Prelude.{ℕ, ◌≡◌, Bool, true, false, List, Option, None}
+use Rattle.std.specs.Prelude.{◌≡◌, Bool, true, false, List, Option, None}
 use Rattle.std.specs.List.{list_any}
 use Rattle.cdi_candidates.specs.Tables.{AreTables}
-use Rattle.cdi_cycle_hints.specs.Needs.{AreNeedsOf}
 use Rattle.cdi_deployment.specs.declared.deployment.Deployment.{Deployment}
 use Rattle.cdi_problems.specs.declared.problem.Problem.{Problem}
 use Rattle.cdi_problems.specs.declared.problem.ProblemKind.{ProblemKind}
@@ -35,14 +34,3 @@ AreTablesIf false d tables = tables ≡ None
 -- the tables by which the points of a deployment resolve, if one of these problems needs them
 abbrev pub AreTablesFor : Deployment → List Problem → Option BeanTables → Type 0
 AreTablesFor d problems tables = AreTablesIf (list_any needs_tables problems) d tables
-
--- what is looked up for what is told of problems: the deployment, and the tables by which its points resolve
-pub record Looked : Type 0 where
-  pub deployment : Deployment
-  pub tables : Option BeanTables
-
--- what is kept beside them is of that deployment: what its dependent beans need, if that is known, and an index
-pub record IsLookedUp (d : Deployment) (tables : Option BeanTables)
-    (needs : Option (List (List ℕ))) (index : Deployment) : Type 0 where
-  pub are_needs : AreNeedsOf d tables needs
-  pub is_index : index ≡ d

@@ -15,7 +15,6 @@ use cdi_problems::{Problem, ProblemKind};
 use cdi_resolve::BeanTables;
 use cdi_step_names::ScriptNames;
 use std::alloc::{AllocError, Global};
-use std::marker::Model;
 
 /// Whether the tables tell something of a problem of a kind.
 fn needs_tables(kind: ProblemKind) -> bool
@@ -75,24 +74,16 @@ fn needs_for(
     }
 }
 
-/// What is looked up of a deployment for what is told of its problems. Contracts see the deployment, and the tables by which its points
-/// resolve.
+/// What is looked up of a deployment for what is told of its problems.
 #[derive(Drop)]
 pub struct HintTables<'a> {
-    deployment: &'a Deployment,
-    tables: Option<BeanTables>,
+    pub deployment: &'a Deployment,
+    /// The tables by which its points resolve, if one of the problems needs them.
+    pub tables: Option<BeanTables>,
     needs: Option<Needs>,
     index: PlaceIndex<'a>,
-}
-
-impl<'a> Model for HintTables<'a> {
-    ghost use Rattle.cdi_findings.specs.Tables.{Looked, IsLookedUp};
-
-    ghost Value = { Looked };
-
-    ghost view = { λ t. record { deployment = t.deployment.now; tables = t.tables } };
-
-    ghost invariant = { λ t. IsLookedUp t.deployment.now t.tables t.needs t.index.deployment.now };
+    ghost are_needs: { AreNeedsOf deployment.now tables needs },
+    ghost is_index: { index.deployment.now ≡ deployment.now },
 }
 
 impl<'a> HintTables<'a> {
@@ -103,7 +94,7 @@ impl<'a> HintTables<'a> {
         deployment: &'a Deployment,
         problems: &[Problem],
     ) -> Result<HintTables<'a>, AllocError>
-        ensures deployment { IfOk result (λ t. t.deployment ≡ deployment.now) }
+        ensures deployment { IfOk result (λ t. t.deployment.now ≡ deployment.now) }
         ensures tables { IfOk result
             (λ t. spec.AreTablesFor deployment.now problems.now t.tables) }
     {
@@ -121,7 +112,7 @@ impl<'a> HintTables<'a> {
     /// What hints are about, with the names that the scripts of the deployment use.
     pub fn subject<'b>(&'b self, scripts: &'b [ScriptNames]) -> Subject<'b>
         ensures { subject_of result ≡ record {
-          deployment = self.now.deployment;
+          deployment = self.now.deployment.now;
           scripts = scripts.now;
           tables = self.now.tables;
         } }
