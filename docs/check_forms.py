@@ -5,9 +5,9 @@
                                         explained in crates/cdi_explanations/src/table.rt
   docs/check_forms.py                   reads both as text alone, and runs nothing
 
-The words are the faults of deployments and scripts, the problems with their numbers, the refusals, the causes of a cut and the
-built-in exceptions. Each word that isn't explained, and each that is explained and that FORMS.md lacks, has a line. The last line is
-'N words, M missing'; the status is 0 if M is 0, and else 1.
+The words are the faults of deployments and scripts, the problems with their numbers, the refusals, the causes of a cut, the
+built-in exceptions, and the words with which replies and entries begin. Each word that isn't explained, and each that is explained
+and that FORMS.md lacks, has a line. The last line is 'N words, M missing'; the status is 0 if M is 0, and else 1.
 """
 import argparse
 import os
@@ -20,6 +20,8 @@ FORMS = f"{TOP}/docs/FORMS.md"
 TABLE = f"{TOP}/crates/cdi_explanations/src/table.rt"
 # The head of each table whose cells have such words, and the column of these.
 TABLES = {"| Fault | Holds if |": 0, "| Problem | Holds if | Place |": 0, "| Order | Refusal | Holds if |": 1}
+# The heads of the tables of lines, whose first cells have lists that begin with such words.
+LINES = ["| Reply | Meaning |", "| Entry | Meaning |"]
 # What stands around the words that are in no such table.
 PASSAGES = [
     r"The faults, of which the first that holds is reported:(.*?)\n\n",
@@ -48,6 +50,8 @@ def words_of_forms(text):
     for head, column in TABLES.items():
         for name in [name for cell in cells(text, head, column) for name in quoted(cell)]:
             found += [word for word in name.split() if word != "PATH"]
+    for head in LINES:
+        found += [word for cell in cells(text, head, 0) for word in re.findall(r'`\["(\w+)"', cell)]
     for passage in PASSAGES:
         found += [word for word in quoted(re.search(passage, text, re.S)[1]) if word != "cdi"]
     return list(dict.fromkeys(found))

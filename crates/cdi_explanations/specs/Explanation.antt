@@ -12,6 +12,8 @@ subject_text subjects.Problem = codes "a problem of a deployment"
 subject_text subjects.Refusal = codes "a command is refused"
 subject_text subjects.Cause = codes "a command is cut"
 subject_text subjects.Exception = codes "an exception"
+subject_text subjects.Reply = codes "a reply"
+subject_text subjects.Entry = codes "an entry of a trace"
 
 -- this is its word, or its number if it has one
 abbrev pub is_of : List ℕ → Explanation → Bool
@@ -56,5 +58,5 @@ suggestion (Some near) = codes " (did you mean " ++ (near ++ codes "?)")
 -- what is told of a word that isn't explained
 abbrev pub unknown_text : List ℕ → List Explanation → List ℕ
 unknown_text word explanations =
-    codes "no such fault, problem, refusal, cause or exception"
+    codes "no such fault, problem, refusal, cause, exception, reply or entry"
     ++ suggestion (meant word explanations)

@@ -1,5 +1,5 @@
 -- The words that are explained: those that the program writes.
-use Rattle.std.specs.Prelude.{ℕ, List, [], ◌∷◌, ◌++◌, codes, map}
+use Rattle.std.specs.Prelude.{ℕ, ◌≡◌, List, [], ◌∷◌, ◌++◌, codes, map}
 use Rattle.std.specs.List.{Contains}
 use Rattle.cdi_base.specs.BuiltIn.{text_of}
 use Rattle.cdi_base.specs.Words.{refusal_word, cause_word}
@@ -7,11 +7,16 @@ use Rattle.cdi_base.specs.declared.built_in.BuiltIn.{BuiltIn}
 use Rattle.cdi_base.specs.declared.built_in.BuiltIn.TheVariants as names
 use Rattle.cdi_base.specs.declared.reply.Cause.{Cause}
 use Rattle.cdi_base.specs.declared.reply.Cause.TheVariants as causes
+use Rattle.cdi_base.specs.declared.entry.Entry.{Entry}
 use Rattle.cdi_base.specs.declared.reply.Refusal.{Refusal}
 use Rattle.cdi_base.specs.declared.reply.Refusal.TheVariants as refusals
+use Rattle.cdi_base.specs.declared.reply.Reply.{Reply}
 use Rattle.cdi_problems.specs.Words.{kind_text}
 use Rattle.cdi_problems.specs.declared.problem.ProblemKind.{ProblemKind}
 use Rattle.cdi_problems.specs.declared.problem.ProblemKind.TheVariants as kinds
+use Rattle.cdi_text.specs.EntryText.{entry_data, worded}
+use Rattle.cdi_text.specs.ReplyText.{reply_data}
+use Rattle.serde_json.specs.Data.{Data}
 
 -- of deployments and scripts that can't be read
 abbrev pub fault_words : List (List ℕ)
@@ -60,11 +65,36 @@ all_exceptions =
 abbrev pub exception_words : List (List ℕ)
 exception_words = map text_of all_exceptions
 
-abbrev pub words : List (List ℕ)
-words = fault_words ++ (problem_words ++ (refusal_words ++ (cause_words ++ exception_words)))
+-- with which the replies to commands begin
+abbrev pub reply_words : List (List ℕ)
+reply_words =
+    codes "value" ∷ codes "threw" ∷ codes "done" ∷ codes "live" ∷ codes "refused" ∷ codes "halted"
+    ∷ []
 
--- each problem, each refusal and each cause of a cut is among those that are explained
+-- with which the entries of a trace begin
+abbrev pub entry_words : List (List ℕ)
+entry_words =
+    codes "new" ∷ codes "ready" ∷ codes "drop" ∷ codes "run" ∷ codes "did" ∷ codes "pick"
+    ∷ codes "event" ∷ codes "end" ∷ codes "gone" ∷ []
+
+abbrev pub words : List (List ℕ)
+words =
+    fault_words ++ (problem_words ++ (refusal_words ++ (cause_words ++ (exception_words
+    ++ (reply_words ++ entry_words)))))
+
+-- what is written is a list that begins with one of these words
+pub record BeginsWithOne (words : List (List ℕ)) (written : Data) : Type 0 where
+  pub word : List ℕ
+  pub others : List Data
+  pub is_one : Contains words word
+  pub begins : written ≡ worded word others
+
+-- each problem, each refusal, each cause of a cut, and the first word of each reply and entry, is among those that are explained
 pub record AreComplete : Type 0 where
   pub problems : (kind : ProblemKind) → Contains all_problems kind
   pub refusals : (refusal : Refusal) → Contains all_refusals refusal
   pub causes : (cause : Cause) → Contains all_causes cause
+  pub replies : (names : List (List ℕ)) (reply : Reply)
+      → BeginsWithOne reply_words (reply_data names reply)
+  pub entries : (names : List (List ℕ)) (entry : Entry)
+      → BeginsWithOne entry_words (entry_data names entry)

@@ -106,5 +106,7 @@ pub fn unknown_text(
 {
     let near = meant(alloc, explanations, word)?;
     let suggestion = suggestion(alloc, near)?;
-    format!(in alloc; "no such fault, problem, refusal, cause or exception{suggestion}")
+    format!(in alloc;
+        "no such fault, problem, refusal, cause, exception, reply or entry{suggestion}"
+    )
 }

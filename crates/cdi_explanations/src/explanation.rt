@@ -17,6 +17,10 @@ pub enum Subject {
     Cause,
     /// An exception that a body or a caller gets.
     Exception,
+    /// What a command is answered.
+    Reply,
+    /// What a command did.
+    Entry,
 }
 
 /// What a word means.
@@ -42,6 +46,8 @@ impl Subject {
             Subject::Refusal => "a command is refused",
             Subject::Cause => "a command is cut",
             Subject::Exception => "an exception",
+            Subject::Reply => "a reply",
+            Subject::Entry => "an entry of a trace",
         }
     }
 }

@@ -453,6 +453,121 @@ const EXCEPTIONS: &[Explanation] = &[
     ),
 ];
 
+const REPLIES: &[Explanation] = &[
+    explanation!(
+        Reply,
+        "",
+        "value",
+        "A call or a read is answered by this value: null, a whole number or a text.",
+        "[\"value\",1]"
+    ),
+    explanation!(
+        Reply,
+        "",
+        "threw",
+        "A call, a read or an event ended with this exception.",
+        "[\"threw\",\"NullPointerException\"]"
+    ),
+    explanation!(
+        Reply,
+        "",
+        "done",
+        "The start, a begin, an end, an invalidate, an event or a shutdown was carried out.",
+        "[\"done\"] to [\"begin\",\"r1\"]"
+    ),
+    explanation!(
+        Reply,
+        "",
+        "live",
+        "These are the numbers of the instances that live, in ascending order.",
+        "[\"live\",[1,2]] to [\"live\"]"
+    ),
+    explanation!(
+        Reply,
+        "",
+        "refused",
+        "The command isn't carried out, for the reason that is told. Nothing changes but the \
+         trace, which is empty then.",
+        "[\"refused\",\"NoMethod\"]"
+    ),
+    explanation!(
+        Reply,
+        "",
+        "halted",
+        "The command was cut, for the cause that is told. The container carries out nothing \
+         more.",
+        "[\"halted\",\"ticks\"]"
+    ),
+];
+
+const ENTRIES: &[Explanation] = &[
+    explanation!(
+        Entry,
+        "",
+        "new",
+        "An instance is begun: its number, and the bean or the interceptor that it is of.",
+        "[\"new\",1,\"K\"]"
+    ),
+    explanation!(
+        Entry,
+        "",
+        "ready",
+        "The instance with this number is made.",
+        "[\"ready\",1]"
+    ),
+    explanation!(
+        Entry,
+        "",
+        "drop",
+        "The instance with this number will not be: its creation failed, or a producer of the \
+         scope Dependent gave null.",
+        "[\"drop\",1] behind [\"did\",[\"throw\",\"E\"]] of a constructor"
+    ),
+    explanation!(
+        Entry,
+        "",
+        "run",
+        "A body starts: the number of its instance, and the member that it is of.",
+        "[\"run\",1,\"K#up\"]"
+    ),
+    explanation!(
+        Entry,
+        "",
+        "did",
+        "The running body gave this act, which is written as a step of a script.",
+        "[\"did\",[\"set\",\"n\",1]]"
+    ),
+    explanation!(
+        Entry,
+        "",
+        "pick",
+        "One of several was chosen that go in any order, observers or dependents: how many \
+         they were, and which it is, from 0.",
+        "[\"pick\",2,0]"
+    ),
+    explanation!(
+        Entry,
+        "",
+        "event",
+        "An event of this class, with these qualifiers, is delivered to its observers.",
+        "[\"event\",\"Sale\",[]]"
+    ),
+    explanation!(
+        Entry,
+        "",
+        "end",
+        "The destruction of the instance with this number begins.",
+        "[\"end\",1]"
+    ),
+    explanation!(
+        Entry,
+        "",
+        "gone",
+        "The destruction of the instance with this number is over.",
+        "[\"gone\",1]"
+    ),
+];
+
 /// Of the faults of a deployment and of its scripts.
 pub fn faults() -> &'static [Explanation]
     ensures { map heading result.now ≡ spec.fault_words }
@@ -488,6 +603,20 @@ pub fn exceptions() -> &'static [Explanation]
     EXCEPTIONS
 }
 
+/// Of the replies to commands.
+pub fn replies() -> &'static [Explanation]
+    ensures { map heading result.now ≡ spec.reply_words }
+{
+    REPLIES
+}
+
+/// Of the entries of a trace.
+pub fn entries() -> &'static [Explanation]
+    ensures { map heading result.now ≡ spec.entry_words }
+{
+    ENTRIES
+}
+
 /// All of them. Two words stand twice, since they have two meanings.
 pub fn explanations(alloc: Global) -> Result<Vec<Explanation>, AllocError>
     ensures { IfOk result (λ all. map heading all.items ≡ spec.words) }
@@ -497,5 +626,7 @@ pub fn explanations(alloc: Global) -> Result<Vec<Explanation>, AllocError>
     all.extend_from_slice(refusals())?;
     all.extend_from_slice(causes())?;
     all.extend_from_slice(exceptions())?;
+    all.extend_from_slice(replies())?;
+    all.extend_from_slice(entries())?;
     Ok(all)
 }

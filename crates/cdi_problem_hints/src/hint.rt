@@ -132,8 +132,9 @@ fn add_bean_details(
 /// that nearly have what it asks for; of a body that is no script, its name, and the script that was probably meant, if one is near;
 /// of a script that names something that isn't there, its first step with a name that isn't declared as what it has to be, if there
 /// is one; of a bean that several enabled ones specialize, by the tables, these; of a dependent bean that needs itself, by the
-/// tables, the beans of a cycle, if the points that these declare themselves make one. The one error is [`AllocError`], if
-/// a growth was refused.
+/// tables, the beans of a cycle, if the points that these declare themselves make one. Of beans that are left or specialize one it
+/// tells the first 16, of those that are near the first 5, and how many more there are. The one error is [`AllocError`], if a growth
+/// was refused.
 pub fn problem_message(
     alloc: Global,
     subject: &Subject<'_>,
