@@ -19,3 +19,7 @@ pub mod Findings
 pub mod Tables
 pub mod Plans
 pub mod Verdicts
+pub use Rattle.cdi_check.proofs as of_check
+pub use Rattle.cdi_run_tables.proofs.of_enable as of_enable
+pub use Rattle.cdi_run_tables.proofs.of_event_tables as of_event_tables
+pub use Rattle.cdi_run_tables.proofs.of_plans as of_plans

@@ -2,3 +2,7 @@
 #![tactic(auto)]
 
 pub mod uniqueness_laws;
+
+// What callers name of the libraries below.
+pub use cdi_check;
+pub use cdi_run_tables::{cdi_beans, cdi_resolve};

@@ -6,6 +6,9 @@ pub mod lookup;
 mod value;
 pub mod written;
 
+// What callers name of the libraries below.
 pub use answer::Answer;
+pub use cdi_resolve;
+pub use cdi_resolve::{cdi_bean_check, cdi_beans, cdi_chains, cdi_enable};
 pub use lookup::Lookup;
 pub use written::WrittenQuestion;

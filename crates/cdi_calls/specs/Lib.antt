@@ -1,0 +1,3 @@
+pub use Rattle.cdi_steps.specs.of_host as of_host
+pub use Rattle.cdi_steps.specs.of_stacks as of_stacks
+pub use Rattle.cdi_steps.specs as of_steps

@@ -1,13 +1,13 @@
 //! The enabled beans that have a type and qualifiers.
 ghost use Rattle.std.specs.Prelude.{◌≡◌, ◌&&◌, filter, IfOk};
-ghost use Rattle.cdi_bean_check.specs.Qualifiers as written;
+ghost use Rattle.cdi_resolve.specs.of_bean_check.Qualifiers as written;
 ghost use Rattle.cdi_quals.specs.Qualifiers as quals;
 ghost use Rattle.cdi_resolve.specs.Filters as filters;
 ghost use Rattle.cdi_resolve.specs.Resolution as spec;
 
 use cdi_base::{BuiltIn, Name, Seq, Use};
-use cdi_beans::Bean;
 use cdi_quals::{Qualifier, QualifierTypes};
+use cdi_resolve::cdi_beans::Bean;
 use cdi_resolve::enabled_bean::enabled_of;
 use cdi_resolve::{BeanTables, EnabledBean};
 use std::alloc::{AllocError, Global};

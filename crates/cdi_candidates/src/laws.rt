@@ -1,6 +1,6 @@
 //! Laws of the beans that are left, over the definitions alone.
 ghost use Rattle.std.specs.Prelude.{◌≡◌, ℕ, List};
-ghost use Rattle.cdi_beans.specs.declared.bean.Bean.{Bean};
+ghost use Rattle.cdi_resolve.specs.of_beans.declared.bean.Bean.{Bean};
 ghost use Rattle.cdi_candidates.specs.Candidates.{left};
 ghost use Rattle.cdi_quals.specs.declared.qualifier.Qualifier.{Qualifier};
 ghost use Rattle.cdi_resolve.specs.Resolution.{resolution, sole};

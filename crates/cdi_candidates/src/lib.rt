@@ -9,6 +9,9 @@ pub mod near;
 pub mod point;
 pub mod tables;
 
+// What callers name of the libraries below.
+pub use cdi_resolve;
+pub use cdi_resolve::cdi_beans;
 pub use near::{Lack, NearBean, near_beans};
 pub use point::{candidates, place_of};
 pub use tables::tables_of;

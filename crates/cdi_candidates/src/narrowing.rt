@@ -5,8 +5,8 @@ ghost use Rattle.cdi_candidates.specs.Candidates as spec;
 ghost use Rattle.cdi_resolve.specs.Filters.{has_priority as has_priority_of};
 ghost use Rattle.cdi_resolve.specs.Resolution as resolution;
 
-use cdi_beans::Bean;
 use cdi_resolve::EnabledBean;
+use cdi_resolve::cdi_beans::Bean;
 
 fn is_one_alternative(beans: &[EnabledBean<'_>]) -> bool
     ensures { result ≡ list_any (λ b. b.1.alternative) beans.now }

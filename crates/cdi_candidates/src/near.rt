@@ -1,16 +1,16 @@
 //! The beans that nearly have what a point asks for.
 ghost use Rattle.std.specs.Prelude.{◌≡◌, ◌++◌, IfOk, OnOk};
-ghost use Rattle.cdi_bean_check.specs.Qualifiers.{full_uses};
+ghost use Rattle.cdi_resolve.specs.of_bean_check.Qualifiers.{full_uses};
 ghost use Rattle.cdi_candidates.specs.Near as spec;
-ghost use Rattle.cdi_enable.specs.Enablement as enablement;
+ghost use Rattle.cdi_resolve.specs.of_enable.Enablement as enablement;
 ghost use Rattle.cdi_resolve.specs.Filters as filters;
 
 use crate::eligible::{eligible, has_all, has_type, required};
 use crate::point::place_of;
 use cdi_base::{Name, Place, Seq, Use};
-use cdi_beans::Bean;
 use cdi_quals::Qualifier;
 use cdi_resolve::BeanTables;
+use cdi_resolve::cdi_beans::Bean;
 use std::alloc::{AllocError, Global};
 
 /// What keeps a bean from being what a point asks for.

@@ -1,14 +1,14 @@
 //! What is left for what a point asks for.
 ghost use Rattle.std.specs.Prelude.{◌≡◌, map, IfOk};
 ghost use Rattle.cdi_base.specs.Maps.{at};
-ghost use Rattle.cdi_bean_check.specs.Qualifiers.{full_uses};
+ghost use Rattle.cdi_resolve.specs.of_bean_check.Qualifiers.{full_uses};
 ghost use Rattle.cdi_candidates.specs.Candidates as spec;
 ghost use Rattle.cdi_resolve.specs.Filters.{enabled_of};
 
 use crate::eligible::eligible;
 use crate::narrowing::narrow;
 use cdi_base::{Name, Place, Seq, Use};
-use cdi_beans::{Bean, BeanKind};
+use cdi_resolve::cdi_beans::{Bean, BeanKind};
 use cdi_resolve::{BeanTables, EnabledBean, Resolution, Resolver};
 use std::alloc::{AllocError, Global};
 

@@ -1,14 +1,14 @@
 //! The tables of a deployment by which its points resolve.
 ghost use Rattle.std.specs.Prelude.{IfOk, IsSomeAnd};
-ghost use Rattle.cdi_beans.specs.Declarations.{AreDeclaredBy};
-ghost use Rattle.cdi_beans.specs.Problems.{IsMadeOf};
+ghost use Rattle.cdi_resolve.specs.of_beans.Declarations.{AreDeclaredBy};
+ghost use Rattle.cdi_resolve.specs.of_beans.Problems.{IsMadeOf};
 ghost use Rattle.cdi_candidates.specs.Tables as spec;
 ghost use Rattle.cdi_resolve.specs.BeanTables.{AreTablesOf};
 
 use cdi_base::OrMemory;
-use cdi_beans::ListedBeans;
 use cdi_deployment::Deployment;
 use cdi_resolve::BeanTables;
+use cdi_resolve::cdi_beans::ListedBeans;
 use std::alloc::{AllocError, Global};
 
 fn some_tables(

@@ -1,3 +1,4 @@
 pub mod Bound
 pub mod Places
 pub mod Some
+pub use Rattle.cdi_beans.proofs as of_beans

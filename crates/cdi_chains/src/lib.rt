@@ -8,6 +8,9 @@ pub mod chain;
 pub mod chains;
 pub mod laws;
 
+// What callers name of the libraries below.
 pub use bindings::{ClassBindings, MemberBindings};
+pub use cdi_beans;
+pub use cdi_beans::cdi_bean_rules;
 pub use chain::Chain;
 pub use chains::Chains;

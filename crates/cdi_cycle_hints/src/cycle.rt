@@ -7,7 +7,7 @@ ghost use Rattle.cdi_problems.specs.Places.{same_place};
 use crate::needs::Needs;
 use crate::told_cycle::told_cycle;
 use cdi_base::{Names, Place, Seq};
-use cdi_beans::Bean;
+use cdi_candidates::cdi_beans::Bean;
 use cdi_candidates::place_of;
 use cdi_problems::PlaceText;
 use std::alloc::{AllocError, Global};

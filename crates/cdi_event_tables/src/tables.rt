@@ -10,7 +10,7 @@ use crate::observer_groups::{ObserverGroup, observer_groups};
 use cdi_base::{Name, Seq};
 use cdi_deployment::Deployment;
 use cdi_plans::Planner;
-use cdi_resolve::BeanTables;
+use cdi_shape_check::cdi_resolve::BeanTables;
 use std::alloc::{AllocError, Global};
 use std::collections::HashSet;
 

@@ -18,9 +18,9 @@ use Rattle.cdi_ledger.proofs.Settled.{tidy_story, sane_story, begin_tidy, not_ha
 use Rattle.cdi_ledger.proofs.Births.{born_command, known_begin, known_story}
 use Rattle.cdi_ledger.proofs.Callbacks.{nobody}
 use Rattle.cdi_ledger.proofs.Firsts.{begins_only_at_mark, begins_only_if_short}
-use Rattle.cdi_worlds_fit.specs.Fits.{Fits}
-use Rattle.cdi_worlds_fit.proofs.Terms.{Pre, Post}
-use Rattle.cdi_worlds_fit.proofs.Quiet.{moves}
+use Rattle.cdi_whole.specs.of_worlds_fit.Fits.{Fits}
+use Rattle.cdi_whole.proofs.of_worlds_fit.Terms.{Pre, Post}
+use Rattle.cdi_whole.proofs.of_worlds_fit.Quiet.{moves}
 use Rattle.cdi_whole.proofs.Safe.{misses_none}
 use Rattle.cdi_whole.proofs.Tasks.{task_safe}
 use Rattle.cdi_whole.proofs.Commands.{Completes, command_safe}

@@ -14,7 +14,7 @@ use Rattle.cdi_ledger.specs.Stories.{Story}
 use Rattle.cdi_ledger.proofs.Ledgered as ledgered
 use Rattle.cdi_ledger.proofs.Settled.{tidy_story, sane_story, begin_tidy, not_halted}
 use Rattle.cdi_ledger.proofs.Births.{born_command, known_begin, known_story, one_in_a_context, one_if_short}
-use Rattle.cdi_worlds_fit.specs.Fits.{Fits}
+use Rattle.cdi_whole.specs.of_worlds_fit.Fits.{Fits}
 use Rattle.cdi_whole.specs.Missing.{NothingMissing}
 use Rattle.cdi_whole.proofs.Presence.{misses_nothing}
 use Rattle.cdi_farewells.specs.Beginnings.{BeginsAtMark, BeginsAtMarkIfShort, DestructionsBeginOnce, DestructionsBeginOnceIfShort}

@@ -36,7 +36,7 @@ use Rattle.cdi_contexts.specs.Refusals.{is_new}
 use Rattle.cdi_machine.specs.Words.{Name, Fields, Asked}
 use Rattle.cdi_bodies.specs.declared.view.View.{View}
 use Rattle.cdi_machine.specs.Runs.{Legal}
-use Rattle.cdi_worlds_fit.specs.Fits.{class_site, FitsBody, FitsStep, FitsSteps, ready_after, FitsKind}
+use Rattle.cdi_whole.specs.of_worlds_fit.Fits.{class_site, FitsBody, FitsStep, FitsSteps, ready_after, FitsKind}
 use Rattle.cdi_base.specs.declared.place.Place.{Place}
 use Rattle.cdi_store.specs.declared.instance.Instance.{Instance}
 use Rattle.cdi_machine.specs.Tables.{Tables, Code, Member, Lifecycle, Step, Source, Managed, Product, Kind, Bean, Interceptor, Observer, Resolution, One, Nothing, Many}

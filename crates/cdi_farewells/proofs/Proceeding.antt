@@ -43,10 +43,10 @@ use Rattle.cdi_ledger.proofs.Owed.{Ok, Pre, post_rel, IsEndOf, behind_first, Sta
 use Rattle.cdi_ledger.proofs.Nesting.{BothPost, ending_leaving}
 use Rattle.cdi_ledger.proofs.Births.{KG, all_born}
 use Rattle.cdi_ledger.proofs.Callbacks.{IsOneOf, AllOneOf, later, later_birth, one_change, past_ending}
-use Rattle.cdi_worlds_fit.specs.Fits.{Site, class_site, Fits, FitsBean}
-use Rattle.cdi_worlds_fit.proofs.Terms.{Home, Stood, CanRun, CanRest}
-use Rattle.cdi_worlds_fit.proofs.Terms as fit
-use Rattle.cdi_worlds_fit.proofs.Quiet.{moves}
+use Rattle.cdi_whole.specs.of_worlds_fit.Fits.{Site, class_site, Fits, FitsBean}
+use Rattle.cdi_whole.proofs.of_worlds_fit.Terms.{Home, Stood, CanRun, CanRest}
+use Rattle.cdi_whole.proofs.of_worlds_fit.Terms as fit
+use Rattle.cdi_whole.proofs.of_worlds_fit.Quiet.{moves}
 use Rattle.cdi_whole.proofs.Safe.{Safe}
 use Rattle.cdi_whole.proofs.Tasks.{task_safe}
 use Rattle.cdi_farewells.proofs.Without.{Tells}
@@ -720,11 +720,11 @@ module _ (tables : Tables) (legal : Legal) (fits : Fits tables legal) (apart : P
           walks (λ b. ⊥) (targets w.invocations) (codes w.invocations) h (λ b x. absurd x) (λ k. IsProceed k → ⊥) (λ k n. n) 0 0 (handle (begin_creation x.place (components.Bean b) owner (first_fields x.kind)) (λ m. create_by m (make m x x.kind)) throw) w h (BothPost tables (Task.Create b owner) w h) (fit.Post tables legal (Task.Create b owner) w)
           (idle.l_created legal (λ b. ⊥) tables b owner x (kind q.0.1.1)) d s g.1.0 g.1.1 q.1 (refl, refl) (λ x i. i)
         where
-          kind : FitsBean tables legal b → Rattle.cdi_worlds_fit.specs.Fits.FitsKind tables legal x.kind
+          kind : FitsBean tables legal b → Rattle.cdi_whole.specs.of_worlds_fit.Fits.FitsKind tables legal x.kind
           kind served =
               let y : Some served.bean ≡ Some x = sym served.known ∙ e in
               let z : served.bean ≡ x = cc in
-              subst (λ (u : Bean). Rattle.cdi_worlds_fit.specs.Fits.FitsKind tables legal u.kind) z served.kind
+              subst (λ (u : Bean). Rattle.cdi_whole.specs.of_worlds_fit.Fits.FitsKind tables legal u.kind) z served.kind
 
   -- ---- all tasks
 

@@ -15,10 +15,10 @@ use Rattle.cdi_store.specs.declared.instance.Context.{Context}
 use Rattle.cdi_store.specs.declared.instance.Context.TheVariants.{Application, Session, Request}
 use Rattle.cdi_contexts.specs.Contexts.{context_at, at_boot}
 use Rattle.cdi_ownership.proofs.Holdings.{AllHeld}
-use Rattle.cdi_worlds_fit.proofs.Whole.{HeldBy}
-use Rattle.cdi_worlds_fit.specs.Fits.{HasMethod, AnswersCalls, Fits}
-use Rattle.cdi_worlds_fit.proofs.Terms.{Pre, Post}
-use Rattle.cdi_worlds_fit.proofs.Moves.{Moves}
+use Rattle.cdi_whole.proofs.of_worlds_fit.Whole.{HeldBy}
+use Rattle.cdi_whole.specs.of_worlds_fit.Fits.{HasMethod, AnswersCalls, Fits}
+use Rattle.cdi_whole.proofs.of_worlds_fit.Terms.{Pre, Post}
+use Rattle.cdi_whole.proofs.of_worlds_fit.Moves.{Moves}
 use Rattle.cdi_whole.proofs.Safe.{misses_none, UnlessCut}
 use Rattle.cdi_whole.proofs.Tasks.{task_safe}
 use Rattle.cdi_whole.proofs.Commands.{IsAdmitted, IsResting, Completes, command_safe}
@@ -97,7 +97,7 @@ module _ (t : Tables) (legal : Legal) (fits : Fits t legal) (moves : Moves t leg
       holds (Request name) = tt
       holds (Session name) = tt
 
-      by : (s : ℕ) → Rattle.cdi_worlds_fit.proofs.Whole.OnStack [] [] s → Rattle.cdi_worlds_fit.proofs.Whole.IsThere [] s
+      by : (s : ℕ) → Rattle.cdi_whole.proofs.of_worlds_fit.Whole.OnStack [] [] s → Rattle.cdi_whole.proofs.of_worlds_fit.Whole.IsThere [] s
       by s (Rattle.std.proofs.Common.inl h) = absurd h
       by s (Rattle.std.proofs.Common.inr h) = absurd h
 

@@ -7,7 +7,7 @@ use Rattle.cdi_bodies.specs.declared.view.View.{View}
 use Rattle.cdi_machine.specs.Tables.{Code, Step, Managed, Kind, Bean}
 use Rattle.cdi_ownership.specs.Whose.{IsIn}
 use Rattle.cdi_ledger.specs.Callbacks.{IsOrdinary, codes_in, PlacesOfBodiesAreApart, FirstsStandOnce}
-use Rattle.cdi_worlds_fit.specs.Fits.{Site, class_site, interceptor_site, FitsAct, FitsBean, FitsClass, Fits}
+use Rattle.cdi_whole.specs.of_worlds_fit.Fits.{Site, class_site, interceptor_site, FitsAct, FitsBean, FitsClass, Fits}
 use Rattle.cdi_whole.specs.Worked.{GiveOnly, ProceedToo}
 use Rattle.cdi_farewells.specs.Worked.{code, class, bean, interceptor, tables, legal, SomeBeginOnce}
 

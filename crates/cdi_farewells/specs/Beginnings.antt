@@ -17,7 +17,7 @@ use Rattle.cdi_ledger.specs.Ledger.{Item, Wrote, Between, Born, items_of}
 use Rattle.cdi_ledger.specs.Stories.{Story}
 use Rattle.cdi_ledger.specs.Ends.{Each, IsOfClass, marks}
 use Rattle.cdi_ledger.specs.Callbacks.{IsMark, IsFirstOf, Holds, StartsFarewell, PlacesOfBodiesAreApart, FirstsStandOnce, IsInDestruction}
-use Rattle.cdi_worlds_fit.specs.Fits.{Fits}
+use Rattle.cdi_whole.specs.of_worlds_fit.Fits.{Fits}
 
 -- The first body of a pre-destroy chain, and of the callbacks at its end, starts: that of the first interceptor, on the
 -- instance's own instance of it; or that of the first callback, on the instance. If there is neither, any item will do.

@@ -7,7 +7,7 @@ use Rattle.cdi_base.specs.declared.scope.Scope.TheVariants as scopes
 use Rattle.cdi_machine.specs.Tables.{Tables, Code, Step, Managed, Kind, Bean, Interceptor, One}
 use Rattle.cdi_machine.specs.Runs.{Legal}
 use Rattle.cdi_ledger.specs.Callbacks.{PlacesOfBodiesAreApart, FirstsStandOnce}
-use Rattle.cdi_worlds_fit.specs.Fits.{Fits}
+use Rattle.cdi_whole.specs.of_worlds_fit.Fits.{Fits}
 use Rattle.cdi_whole.specs.Worked.{GiveOnly, ProceedToo}
 
 abbrev pub code : Code

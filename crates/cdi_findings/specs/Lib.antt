@@ -3,3 +3,4 @@ pub mod Finding
 pub mod Findings
 pub mod Tables
 pub mod Warnings
+pub use Rattle.cdi_problem_hints.specs as of_problem_hints

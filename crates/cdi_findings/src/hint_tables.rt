@@ -4,15 +4,15 @@ ghost use Rattle.std.specs.List.{list_any};
 ghost use Rattle.std.specs.Option.{option_copied};
 ghost use Rattle.cdi_findings.specs.Tables as spec;
 ghost use Rattle.cdi_problem_hints.specs.Subjects.{subject_of};
-ghost use Rattle.cdi_cycle_hints.specs.Needs.{AreNeedsOf};
+ghost use Rattle.cdi_problem_hints.specs.of_cycle_hints.Needs.{AreNeedsOf};
 
-use cdi_candidates::tables_of;
-use cdi_cycle_hints::{Needs, needs_of};
 use cdi_deployment::Deployment;
-use cdi_place_index::PlaceIndex;
 use cdi_problem_hints::Subject;
+use cdi_problem_hints::cdi_candidates::tables_of;
+use cdi_problem_hints::cdi_cycle_hints::{Needs, needs_of};
+use cdi_problem_hints::cdi_place_index::PlaceIndex;
+use cdi_problem_hints::cdi_resolve::BeanTables;
 use cdi_problems::{Problem, ProblemKind};
-use cdi_resolve::BeanTables;
 use cdi_step_names::ScriptNames;
 use std::alloc::{AllocError, Global};
 

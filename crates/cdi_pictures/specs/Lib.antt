@@ -8,3 +8,5 @@ pub mod Problems
 pub mod Producers
 pub mod Subjects
 pub mod WorkedLines
+pub use Rattle.cdi_candidates.specs as of_candidates
+pub use Rattle.cdi_candidates.specs.of_resolve as of_resolve

@@ -4,7 +4,7 @@ ghost use Rattle.cdi_pictures.specs.Interceptors as spec;
 
 use crate::edge::{Edge, Look, add_edge};
 use cdi_base::{Name, Names};
-use cdi_beans::EnabledInterceptor;
+use cdi_candidates::cdi_beans::EnabledInterceptor;
 use cdi_problems::name_text;
 use std::alloc::{AllocError, Global};
 

@@ -15,5 +15,7 @@ mod problems;
 mod producers;
 pub mod subject;
 
+// What callers name of the libraries below.
+pub use cdi_candidates;
 pub use graph::picture;
 pub use subject::Pictured;

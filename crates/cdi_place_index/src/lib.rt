@@ -4,5 +4,8 @@
 pub mod index;
 pub mod rows;
 
+// What callers name of the libraries below.
+pub use cdi_body_check;
+pub use cdi_body_check::{cdi_bean_check, cdi_resolve};
 pub use index::PlaceIndex;
 pub use rows::PlaceRows;

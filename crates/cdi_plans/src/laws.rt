@@ -1,8 +1,8 @@
 //! Laws of plans, over the definitions alone.
 ghost use Rattle.std.specs.Prelude.{IsSome};
 ghost use Rattle.std.specs.List.{All};
-ghost use Rattle.cdi_beans.specs.Problems.{IsMadeOf};
-ghost use Rattle.cdi_beans.specs.declared.bean.BeanList.{BeanList};
+ghost use Rattle.cdi_chains.specs.of_beans.Problems.{IsMadeOf};
+ghost use Rattle.cdi_chains.specs.of_beans.declared.bean.BeanList.{BeanList};
 ghost use Rattle.cdi_deployment.specs.declared.deployment.Deployment.{Deployment};
 ghost use Rattle.cdi_plans.specs.Observers.{observer_of};
 ghost use Rattle.cdi_plans.specs.Plans.{IsDeclared};

@@ -12,6 +12,9 @@ pub mod planner;
 mod product;
 mod steps;
 
+// What callers name of the libraries below.
+pub use cdi_chains;
+pub use cdi_chains::cdi_beans;
 pub use plan::{
     BusinessMethod, Code, InjectedMethod, Lifecycle, ManagedPlan, Plan, ProductPlan, Source, Step,
 };

@@ -5,7 +5,7 @@ ghost use Rattle.cdi_types.specs.Line.{class_named};
 ghost use Rattle.cdi_plans.specs.Observers as observers;
 ghost use Rattle.cdi_plans.specs.Plans as spec;
 ghost use Rattle.cdi_plans.specs.Products.{producer_of, IsPlanBy, IsProductPlan};
-ghost use Rattle.cdi_bean_rules.specs.Limits.{is_producer};
+ghost use Rattle.cdi_chains.specs.of_bean_rules.Limits.{is_producer};
 
 use crate::codes::injected_method;
 use crate::managed::managed_plan;
@@ -13,8 +13,8 @@ use crate::observer::observer_in;
 use crate::plan::{InjectedMethod, ManagedPlan, Plan, ProductPlan};
 use crate::product::{disposers_of, producer_in, source_of};
 use cdi_base::Name;
-use cdi_beans::{Bean, BeanKind, ObserverMethod};
 use cdi_chains::Chains;
+use cdi_chains::cdi_beans::{Bean, BeanKind, ObserverMethod};
 use cdi_deployment::{Class, Constructor, Deployment, Member, Observer};
 use cdi_quals::QualifierTypes;
 use cdi_types::{ClassIndex, ClassPart, TypeTable};

@@ -16,6 +16,11 @@ mod sentence;
 mod specializer;
 pub mod subject;
 
+// What callers name of the libraries below.
+pub use cdi_cycle_hints;
+pub use cdi_cycle_hints::cdi_candidates;
+pub use cdi_place_index;
+pub use cdi_place_index::cdi_resolve;
 pub use hint::{problem_hint, problem_message};
 pub use left::problem_candidates;
 pub use rule::rule_text;

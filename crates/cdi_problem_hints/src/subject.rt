@@ -6,7 +6,7 @@ ghost use Rattle.cdi_cycle_hints.specs.Needs.{AreNeedsOf};
 use cdi_cycle_hints::Needs;
 use cdi_deployment::Deployment;
 use cdi_place_index::PlaceIndex;
-use cdi_resolve::BeanTables;
+use cdi_place_index::cdi_resolve::BeanTables;
 use cdi_step_names::ScriptNames;
 
 /// A deployment whose problems get hints.

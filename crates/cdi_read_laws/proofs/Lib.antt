@@ -21,3 +21,4 @@ pub mod KnownMore
 pub mod Facts
 pub mod WellFormed
 pub mod BadScripts
+pub use Rattle.cdi_prepare.proofs as of_prepare

@@ -2,3 +2,7 @@
 #![tactic(auto)]
 
 pub mod laws;
+
+// What callers name of the libraries below.
+pub use cdi_prepare;
+pub use cdi_run_tables;

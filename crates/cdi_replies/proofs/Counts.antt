@@ -5,7 +5,7 @@ use Rattle.cdi_base.specs.declared.act.Act.TheVariants as acts
 use Rattle.cdi_bodies.specs.declared.view.View.{View}
 use Rattle.cdi_machine.specs.Tables.{Bean}
 use Rattle.cdi_whole.specs.Worked.{bean, class, legal_by, of_type, tables}
-use Rattle.cdi_worlds_fit.specs.Fits.{Fits, FitsBody, FitsClass, FitsKind, class_site}
+use Rattle.cdi_whole.specs.of_worlds_fit.Fits.{Fits, FitsBody, FitsClass, FitsKind, class_site}
 use Rattle.cdi_replies.specs.Replies.{CallWithNone, RefusesWrongCounts}
 
 -- if all fits, so does whatever a callback gives

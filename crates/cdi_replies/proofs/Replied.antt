@@ -9,7 +9,7 @@ use Rattle.cdi_machine.specs.Runs.{Legal, Outcome, Ends, Cut, Runs}
 use Rattle.cdi_machine.specs.Tables.{Tables}
 use Rattle.cdi_machine.specs.World.{World, at_begin}
 use Rattle.cdi_whole.proofs.Presence.{throws_with_text}
-use Rattle.cdi_worlds_fit.specs.Fits.{Fits, HasText}
+use Rattle.cdi_whole.specs.of_worlds_fit.Fits.{Fits, HasText}
 use Rattle.cdi_replies.specs.Replies.{AnswersWithText}
 
 -- what was given is no exception

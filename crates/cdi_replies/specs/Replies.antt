@@ -9,7 +9,7 @@ use Rattle.cdi_machine.specs.Runs.{Legal}
 use Rattle.cdi_machine.specs.Tables.{Bean, Kind, One, Product, Tables}
 use Rattle.cdi_machine.specs.Words.{Asked, Name}
 use Rattle.cdi_whole.specs.Worked.{legal_by, tables as worked_tables}
-use Rattle.cdi_worlds_fit.specs.Fits.{Fits, HasText}
+use Rattle.cdi_whole.specs.of_worlds_fit.Fits.{Fits, HasText}
 
 -- a read that isn't refused, of what resolves to a bean of the tables, is one of a product
 abbrev pub ReadsProducts : Tables → Type 0

@@ -8,3 +8,6 @@ pub mod ToldPlaces
 pub mod EarlyProblems
 pub mod LateProblems
 pub mod PlaceNames
+pub use Rattle.cdi_accepted.proofs as of_accepted
+pub use Rattle.cdi_read_laws.proofs.of_prepare as of_prepare
+pub use Rattle.cdi_read_laws.proofs as of_read_laws

@@ -7,6 +7,9 @@ pub mod reporting;
 pub mod reviewing;
 pub mod verdict;
 
+// What callers name of the libraries below.
+pub use cdi_read_laws;
+pub use cdi_read_laws::cdi_prepare;
 pub use reporting::report;
 pub use reviewing::{Review, review_bytes};
 pub use verdict::Verdict;

@@ -1,15 +1,15 @@
 //! The problems of a deployment, from its bytes.
 ghost use Rattle.std.specs.Prelude.{◌≡◌, ◌≤◌, length, IfOk, IsSomeAnd};
-ghost use Rattle.cdi_prepare.specs.Ready.{readied_in, ready_of};
+ghost use Rattle.cdi_read_laws.specs.of_prepare.Ready.{readied_in, ready_of};
 ghost use Rattle.cdi_report.specs.Reviews as spec;
 ghost use Rattle.cdi_script.specs.Next.{next_of};
 
+use cdi_accepted::cdi_check::check;
 use cdi_base::{Act, Fields, OrMemory, Seq};
 use cdi_bodies::{AddError, Bodies, Body, MAX_BODIES, View};
-use cdi_check::check;
 use cdi_deployment::Deployment;
-use cdi_prepare::{NamedScript, Prepared, prepare};
 use cdi_problems::Problem;
+use cdi_read_laws::cdi_prepare::{NamedScript, Prepared, prepare};
 use cdi_step_names::ScriptNames;
 use std::alloc::{AllocError, Global};
 

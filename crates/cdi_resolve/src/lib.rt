@@ -13,7 +13,11 @@ pub mod resolver;
 pub mod resolving;
 mod type_index;
 
+// What callers name of the libraries below.
 pub use bean_tables::BeanTables;
+pub use cdi_chains;
+pub use cdi_enable;
+pub use cdi_enable::{cdi_bean_check, cdi_beans};
 pub use enabled_bean::EnabledBean;
 pub use resolution::Resolution;
 pub use resolver::Resolver;

@@ -20,6 +20,8 @@ mod sizes;
 pub mod tables;
 mod well_formed;
 
-pub use cdi_event_tables::{ObserverGroup, PlannedObserver};
+// What callers name of the libraries below.
+pub use cdi_numbered_plans::cdi_event_tables::{ObserverGroup, PlannedObserver};
+pub use cdi_numbered_plans::{cdi_beans, cdi_chains, cdi_plans, cdi_resolve};
 pub use planned::PlannedBean;
 pub use tables::RunTables;

@@ -6,3 +6,9 @@ pub mod OwnTables
 pub mod References
 pub mod Targets
 pub mod WrittenNames
+pub use Rattle.cdi_body_check.specs.of_beans as of_beans
+pub use Rattle.cdi_body_check.specs as of_body_check
+pub use Rattle.cdi_body_check.specs.of_chains as of_chains
+pub use Rattle.cdi_body_check.specs.of_enable as of_enable
+pub use Rattle.cdi_body_check.specs.of_live as of_live
+pub use Rattle.cdi_body_check.specs.of_resolve as of_resolve

@@ -2,17 +2,17 @@
 use Rattle.std.proofs.Common.{◌≡◌, List, [], true, sym, subst}
 use Rattle.cdi_bodies.specs.Gives.{lookups_of}
 use Rattle.cdi_bodies.specs.declared.entry.Entry.{Entry}
-use Rattle.cdi_body_check.specs.Shapes.{shape_of}
-use Rattle.cdi_check.specs.Late.{AreProblemsIn}
-use Rattle.cdi_check.specs.Tables.{setting_by}
+use Rattle.cdi_container.specs.of_body_check.Shapes.{shape_of}
+use Rattle.cdi_container.specs.of_check.Late.{AreProblemsIn}
+use Rattle.cdi_container.specs.of_check.Tables.{setting_by}
 use Rattle.cdi_deployment.specs.declared.deployment.Deployment.{Deployment}
 use Rattle.cdi_problems.specs.declared.problem.Problem.{Problem}
-use Rattle.cdi_resolve.specs.declared.bean_tables.BeanTables.{BeanTables}
-use Rattle.cdi_run_tables.specs.Machine.{AreIdsOf}
-use Rattle.cdi_run_tables.specs.Planned.{IsTabled}
-use Rattle.cdi_run_tables.specs.Texts.{has_texts}
-use Rattle.cdi_run_tables.specs.declared.tables.RunTables.{RunTables}
-use Rattle.cdi_site_fit.specs.Accepted.{IsFaultless}
+use Rattle.cdi_container.specs.of_resolve.declared.bean_tables.BeanTables.{BeanTables}
+use Rattle.cdi_read_laws.specs.of_run_tables.Machine.{AreIdsOf}
+use Rattle.cdi_read_laws.specs.of_run_tables.Planned.{IsTabled}
+use Rattle.cdi_read_laws.specs.of_run_tables.Texts.{has_texts}
+use Rattle.cdi_read_laws.specs.of_run_tables.declared.tables.RunTables.{RunTables}
+use Rattle.cdi_container.specs.of_site_fit.Accepted.{IsFaultless}
 
 module _ {X : Type 0} {F : X → Type 0} {g : _} (entries : List (Entry X F g)) (d : Deployment) (listed : BeanTables) (t : RunTables) (is_deployment : t.deployment ≡ d) (are_tables : t.tables ≡ listed) where
   abbrev Finds : Deployment → BeanTables → List Problem → Type 0

@@ -1,16 +1,16 @@
 //! A container in the hands of who embeds it: what lives in it behind each command.
 ghost use Rattle.std.specs.Prelude.{◌≡◌, ◌<◌, true, IfOk};
 ghost use Rattle.cdi_bodies.specs.Shape.{in_shape, no_acts};
-ghost use Rattle.cdi_run_tables.specs.Machine.{machine_tables};
-ghost use Rattle.cdi_runtime.specs.Standing.{IsServable};
-ghost use Rattle.cdi_steps.specs.Driving.{Drives};
+ghost use Rattle.cdi_read_laws.specs.of_run_tables.Machine.{machine_tables};
+ghost use Rattle.cdi_container.specs.of_runtime.Standing.{IsServable};
+ghost use Rattle.cdi_container.specs.of_steps.Driving.{Drives};
 
 use cdi_base::{Act, Cause, Command, Fields, Limits, OrMemory, Refusal, Reply, Value};
 use cdi_bodies::{Bodies, Body, Choice, Chooser, Shape, View};
 use cdi_container::{Container, Turned, Turns, Unaccepted, accept};
 use cdi_deploy::read;
 use cdi_machine::{Driver, Registered};
-use cdi_run_tables::RunTables;
+use cdi_read_laws::cdi_run_tables::RunTables;
 use cdi_text::{JsonReader, read_command, write_reply};
 use std::alloc::{AllocError, Global};
 use std::process::Abort;

@@ -1,14 +1,14 @@
 //! Deployments with their scripts, from their bytes.
 ghost use Rattle.std.specs.Prelude.{◌≡◌, true, IfOk, IfSome};
-ghost use Rattle.cdi_run_tables.specs.Texts.{has_texts};
+ghost use Rattle.cdi_read_laws.specs.of_run_tables.Texts.{has_texts};
 ghost use Rattle.cdi_script.specs.Next.{next_of};
 
 use crate::faultless::faultless_tables;
 use cdi_base::{Act, Fields, OrMemory};
 use cdi_bodies::{Bodies, Body, View};
-use cdi_prepare::{NamedScript, Prepared, prepare};
+use cdi_read_laws::cdi_prepare::{NamedScript, Prepared, prepare};
+use cdi_read_laws::cdi_run_tables::RunTables;
 use cdi_read_laws::laws::law_reads_texts;
-use cdi_run_tables::RunTables;
 use std::alloc::{AllocError, Global};
 
 /// The tables of a deployment whose scripts are its bodies, unless it has problems. A body is made in the function that registers it,

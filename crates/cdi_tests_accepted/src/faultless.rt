@@ -1,22 +1,22 @@
 //! The tables of deployments without problems.
 ghost use Rattle.std.specs.Prelude.{◌≡◌, true, IfOk};
 ghost use Rattle.cdi_bodies.specs.Table.{entries_of};
-ghost use Rattle.cdi_ledger.specs.Callbacks.{PlacesOfBodiesAreApart};
+ghost use Rattle.cdi_container.specs.of_ledger.Callbacks.{PlacesOfBodiesAreApart};
 ghost use Rattle.cdi_machine.specs.Registered.{legal_of};
-ghost use Rattle.cdi_run_tables.specs.Machine.{machine_tables};
-ghost use Rattle.cdi_run_tables.specs.Texts.{has_texts};
-ghost use Rattle.cdi_site_fit.specs.Accepted.{IsFaultless};
-ghost use Rattle.cdi_worlds_fit.specs.Fits.{Fits};
+ghost use Rattle.cdi_read_laws.specs.of_run_tables.Machine.{machine_tables};
+ghost use Rattle.cdi_read_laws.specs.of_run_tables.Texts.{has_texts};
+ghost use Rattle.cdi_container.specs.of_site_fit.Accepted.{IsFaultless};
+ghost use Rattle.cdi_container.specs.of_worlds_fit.Fits.{Fits};
 
 use cdi_base::{OrMemory, Seq};
-use cdi_beans::ListedBeans;
 use cdi_bodies::Bodies;
-use cdi_check::late_problems;
+use cdi_container::cdi_beans::ListedBeans;
+use cdi_container::cdi_check::late_problems;
+use cdi_container::cdi_resolve::BeanTables;
+use cdi_container::cdi_site_fit::laws::{law_farewells_begin_once, law_whole_fits};
 use cdi_deployment::Deployment;
 use cdi_problems::Problem;
-use cdi_resolve::BeanTables;
-use cdi_run_tables::RunTables;
-use cdi_site_fit::laws::{law_farewells_begin_once, law_whole_fits};
+use cdi_read_laws::cdi_run_tables::RunTables;
 use std::alloc::Global;
 
 /// The tables of a deployment with these bodies, unless it has problems.

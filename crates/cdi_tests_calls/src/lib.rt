@@ -13,4 +13,6 @@ mod jobs;
 mod report;
 mod runtimes;
 
+// What callers name of the libraries below.
 pub use calls::Calls;
+pub use cdi_prepare;

@@ -4,9 +4,9 @@
 use crate::listed::PROBLEMS;
 use crate::words::{push_declared, push_name, push_word};
 use cdi_base::{InterceptorMethod, Name, Names, OrMemory, Seq};
-use cdi_beans::{Bean, BeanKind, BeanMember, ListedBeans};
-use cdi_chains::{Chain, Chains};
 use cdi_deployment::Deployment;
+use cdi_observers::cdi_beans::{Bean, BeanKind, BeanMember, ListedBeans};
+use cdi_run_tables::cdi_chains::{Chain, Chains};
 use std::alloc::{AllocError, Global};
 use std::mem;
 

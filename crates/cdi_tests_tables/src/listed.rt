@@ -1,9 +1,9 @@
 //! The bean list of a deployment with the enabled ones of its beans.
 use cdi_base::OrMemory;
-use cdi_beans::{BeanList, ListedBeans};
 use cdi_deployment::Deployment;
-use cdi_enable::laws::law_forest;
-use cdi_enable::{EnabledSet, enabled};
+use cdi_observers::cdi_beans::{BeanList, ListedBeans};
+use cdi_observers::cdi_enable::laws::law_forest;
+use cdi_observers::cdi_enable::{EnabledSet, enabled};
 use std::alloc::{AllocError, Global};
 
 /// A bean list with the enabled ones of its beans.

@@ -16,7 +16,7 @@ use crate::tables::tables_of;
 use crate::texts::{add_name, add_scope};
 use cdi_base::{Names, OrMemory};
 use cdi_deployment::{Deployment, Field, Point};
-use cdi_plans::{
+use cdi_run_tables::cdi_plans::{
     BusinessMethod, Code, InjectedMethod, Lifecycle, ManagedPlan, Plan, ProductPlan, Source, Step,
 };
 use cdi_run_tables::{PlannedBean, RunTables};

@@ -3,16 +3,16 @@ ghost use Rattle.std.specs.Prelude.{◌≡◌, IfOk};
 ghost use Rattle.cdi_base.specs.declared.act.Act.TheVariants.{Give};
 ghost use Rattle.cdi_base.specs.declared.value.Value.TheVariants.{Null};
 ghost use Rattle.cdi_name_check.specs.NameSets.{HasDeclared};
-ghost use Rattle.cdi_resolve.specs.BeanTables.{AreTablesOf};
+ghost use Rattle.cdi_run_tables.specs.of_resolve.BeanTables.{AreTablesOf};
 
 use cdi_base::{Act, Fields, Names, OrMemory, Seq, Use, Value};
-use cdi_beans::ListedBeans;
 use cdi_bodies::{Bodies, Body, Lookup, Shape, View};
 use cdi_deployment::Deployment;
 use cdi_name_check::NameSets;
+use cdi_observers::cdi_beans::ListedBeans;
 use cdi_problems::Problem;
-use cdi_resolve::BeanTables;
 use cdi_run_tables::RunTables;
+use cdi_run_tables::cdi_resolve::BeanTables;
 use std::alloc::{AllocError, Global};
 
 /// The shape of a body that may look up `S`, and `T` with the qualifier `A`.

@@ -11,3 +11,4 @@ pub mod Tasks
 pub mod Commands
 pub mod Presence
 mod Worked
+pub use Rattle.cdi_worlds_fit.proofs as of_worlds_fit

@@ -6,7 +6,7 @@ use crate::named::{begin_in, close_in, finish_in, last_in, mark_in};
 use cdi_base::{Entry, Fields, Name, Scope, Seq, Text, Value};
 use cdi_contexts::{Held, Status};
 use cdi_host::Contents;
-use cdi_stacks::{Invocation, Stack};
+use cdi_host::cdi_stacks::{Invocation, Stack};
 use cdi_store::numbered::{free_in, hold_in, instance_in, make_in, refer_in, set_in};
 use cdi_store::{Component, Context, Instance, Owner, Reference};
 use std::alloc::{AllocError, Global};
