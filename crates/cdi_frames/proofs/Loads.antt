@@ -354,5 +354,5 @@ grown_on most first d w u v f g h s = by d h s
     by (pendings.Writes e x) h s = let a = h (omega arith) in on 1 (omega (arith, a, f)) s
 
 -- a turn that is spent has written just as many
-pub spent_stops : (most first : ℕ) (a : Stack) (w u : World) → first ≡ length w.trace → AddsAtMost most w u → IsSpent first most a u → StopsAt most w a u
+pub spent_stops : (most first : ℕ) (a : Stack) (w u : World) → first ≡ length w.trace → AddsAtMost most w u → IsSpent first most a.pending u → StopsAt most w a u
 spent_stops most first a w u f g h = let c = h.count in let d = g.high in record { count = omega (arith, f, c, d); due = h.due }

@@ -23,6 +23,8 @@ use Rattle.cdi_calls.specs.of_steps.declared.task.Next.{Next}
 use Rattle.cdi_calls.specs.of_steps.declared.task.Next.TheVariants as nexts
 use Rattle.cdi_frames.specs.declared.stack.Pending.{Pending}
 use Rattle.cdi_frames.specs.declared.stack.Pending.TheVariants as pendings
+use Rattle.cdi_frames.specs.declared.stack.Progress.{Progress}
+use Rattle.cdi_frames.specs.declared.stack.Progress.TheVariants as progress
 use Rattle.cdi_frames.specs.declared.stack.Stack.{Stack}
 use Rattle.cdi_frames.specs.declared.stack.Turn.{Turn}
 use Rattle.cdi_frames.specs.declared.stack.Turn.TheVariants as turns
@@ -54,6 +56,19 @@ pending_for (nexts.Finished o) = pendings.Gives o
 pending_for (nexts.Goes p) = pendings.Does p
 pending_for (nexts.Needs p k) = pendings.Does p
 pending_for (nexts.Writes e a) = pendings.Writes e a
+
+-- a stack of these frames, at which this is next
+abbrev pub stack_at : List Frame → Pending → Stack
+stack_at ks d = record { frames = ks; pending = d }
+
+-- what a turn of one step comes to, which leaves these frames
+abbrev pub turn_at : List Frame → Progress → Turn
+turn_at ks (progress.Goes d) = turns.Running (stack_at ks d)
+turn_at ks (progress.Over o) = turns.Finished o
+
+abbrev pub turns_at : List Frame → Either Progress Failure → Either Turn Failure
+turns_at ks (Ok p) = Ok (turn_at ks p)
+turns_at ks (Err failure) = Err failure
 
 -- So many steps, each of what is next, of what waits for it, or of an entry that is due, lead from the one stack and world to the
 -- other.
@@ -123,8 +138,8 @@ pub record AddsAtMost (most : ℕ) (w v : World) : Type 0 where
 abbrev pub HasRoomFor : ℕ → ℕ → ℕ → World → Type 0
 HasRoomFor more first most w = (0 < more) → length w.trace < first + most
 
-pub record IsSpent (first most : ℕ) (a : Stack) (w : World) : Type 0 where
-  pub due : IsDue a.pending
+pub record IsSpent (first most : ℕ) (d : Pending) (w : World) : Type 0 where
+  pub due : IsDue d
   pub count : first + most ≤ length w.trace
 
 -- and just so many if it goes on: then one more is due

@@ -4,17 +4,18 @@ ghost use Rattle.cdi_calls.specs.of_steps.Meanings.{first};
 ghost use Rattle.cdi_calls.specs.of_steps.Leads.{Ran};
 ghost use Rattle.cdi_calls.specs.of_steps.Known.{AllInvoked, Known};
 ghost use Rattle.cdi_calls.specs.of_steps.Driving.{Drives, HasFailed, Narrows};
-ghost use Rattle.cdi_frames.specs.Stacks.{program_of, KeepsMeaning, TurnsTo, AddsAtMost, KeepsCount, HasRoomFor, IsSpent, entries_due, KnownStack, KnownTurn};
+ghost use Rattle.cdi_frames.specs.Stacks.{program_of, stack_at, turn_at, turns_at, KeepsMeaning, TurnsTo, AddsAtMost, KeepsCount, HasRoomFor, IsSpent, entries_due, KnownStack, KnownTurn};
 ghost use Rattle.cdi_frames.specs.Hearing.{Noted, ToldIf, HearsTurn, HearsOutcome, HasFailedAt};
 ghost use Rattle.cdi_frames.specs.Loads.{IsCheaper};
 
 use crate::resume::resume;
-use crate::stack::{Pending, Stack, Turn, after_step};
+use crate::stack::{Pending, Progress, Stack, Turn, after_step};
 use crate::step::step;
 use cdi_base::{Cause, Entry};
 use cdi_calls::cdi_host::{Contents, Tables};
+use cdi_calls::cdi_stacks::Stack as Waiting;
 use cdi_calls::cdi_steps::Outcome;
-use cdi_calls::cdi_steps::task::Task;
+use cdi_calls::cdi_steps::task::{Frame, Task};
 use cdi_machine::{Driver, Failure};
 
 /// Writes an entry of which the driver is told, if the command may have one more. An error comes from the driver, or memory is
@@ -45,65 +46,66 @@ fn write<D: Driver, W: Contents>(
 }
 
 /// Does one step: that of what is next, or that of the innermost frame, which gets the outcome that it waits for, or writes the
-/// entry that is due.
+/// entry that is due. The frames stay where they are, since a stack that is handed on in each step costs more than most steps.
 #[inline(always)]
 fn advance<T: Tables, D: Driver, W: Contents>(
     tables: &T,
     driver: &mut D,
     world: &mut W,
-    stack: Stack,
-) -> Result<Turn, Failure>
+    frames: &mut Waiting<Frame>,
+    pending: Pending,
+) -> Result<Progress, Failure>
     requires drives { Drives (T.tables tables.now) (D.knows driver.old) }
-    requires known { KnownStack (T.tables tables.now) (W.world world.old) stack }
-    ensures turned { TurnsTo (T.tables tables.now) (D.legal driver.old) stack
-        (W.world world.old) result (W.world world.new) }
-    ensures cheaper { IfOk result (λ turn. IsCheaper stack
-        (W.world world.old) turn (W.world world.new)) }
-    ensures grown { AddsAtMost (entries_due stack.pending) (W.world world.old) (W.world world.new) }
-    ensures known { IfOk result (KnownTurn (T.tables tables.now) (W.world world.new)) }
+    requires known { KnownStack (T.tables tables.now) (W.world world.old)
+        (stack_at frames.old pending) }
+    ensures turned { TurnsTo (T.tables tables.now) (D.legal driver.old)
+        (stack_at frames.old pending) (W.world world.old)
+        (turns_at frames.new result) (W.world world.new) }
+    ensures cheaper { IfOk result (λ progress. IsCheaper (stack_at frames.old pending)
+        (W.world world.old) (turn_at frames.new progress) (W.world world.new)) }
+    ensures grown { AddsAtMost (entries_due pending) (W.world world.old) (W.world world.new) }
+    ensures known { IfOk result (λ progress. KnownTurn (T.tables tables.now) (W.world world.new)
+        (turn_at frames.new progress)) }
     ensures invoked { AllInvoked (T.tables tables.now) (W.world world.new) }
-    ensures hears { IfOk result (λ turn. HearsTurn (D.heard driver.old) stack (W.world world.old)
-        turn (D.heard driver.new) (W.world world.new)) }
+    ensures hears { IfOk result (λ progress. HearsTurn (D.heard driver.old)
+        (stack_at frames.old pending) (W.world world.old)
+        (turn_at frames.new progress) (D.heard driver.new) (W.world world.new)) }
     ensures failed { IfErr result (HasFailedAt (D.may_end driver.old)
-        (D.heard driver.old) stack.pending (W.world world.old)
+        (D.heard driver.old) pending (W.world world.old)
         (D.heard driver.new) (D.ended driver.new) (W.world world.new)) }
     ensures narrows { Narrows (D.legal driver.old) (D.legal driver.new)
         (D.may_end driver.old) (D.may_end driver.new) (D.knows driver.old) (D.knows driver.new) }
 {
-    let Stack { frames, pending } = stack;
-    let mut frames = frames;
     match pending {
         Pending::Does(task) => {
             let next = step(tables, driver, world, task)?;
-            Ok(Turn::Running(after_step(frames, next)?))
+            Ok(Progress::Goes(after_step(frames, next)?))
         }
         Pending::Gives(outcome) => match frames.take() {
-            None => Ok(Turn::Finished(outcome)),
+            None => Ok(Progress::Over(outcome)),
             Some(frame) => {
                 let next = resume(tables, world, frame, outcome)?;
-                Ok(Turn::Running(after_step(frames, next)?))
+                Ok(Progress::Goes(after_step(frames, next)?))
             }
         },
         Pending::Writes(entry, continuation) => {
             if !write(driver, world, entry)? {
-                let pending = Pending::Gives(Outcome::Cut(Cause::Ticks));
-                return Ok(Turn::Running(Stack { frames, pending }));
+                return Ok(Progress::Goes(Pending::Gives(Outcome::Cut(Cause::Ticks))));
             }
-            let pending = Pending::Does(Task::Continue(continuation));
-            Ok(Turn::Running(Stack { frames, pending }))
+            Ok(Progress::Goes(Pending::Does(Task::Continue(continuation))))
         }
     }
 }
 
 /// Whether a turn that began behind so many entries may do one step more: no entry is due, or it is among the most that the turn may
 /// write.
-fn may_go_on<W: Contents>(world: &W, stack: &Stack, first: u64, most: u64) -> bool
+fn may_go_on<W: Contents>(world: &W, pending: &Pending, first: u64, most: u64) -> bool
     requires low { first ≤ length (W.world world.now).trace }
     ensures goes_on { IsTrue result →
-        HasRoomFor (entries_due stack.now.pending) first most (W.world world.now) }
-    ensures stops { result ≡ false → IsSpent first most stack.now (W.world world.now) }
+        HasRoomFor (entries_due pending.now) first most (W.world world.now) }
+    ensures stops { result ≡ false → IsSpent first most pending.now (W.world world.now) }
 {
-    !stack.is_due() || world.entries() - first < most
+    !pending.is_due() || world.entries() - first < most
 }
 
 /// Goes on until one entry more than so many is due, or the run is over; a turn of 0 goes on to the first entry. If it is running,
@@ -135,14 +137,16 @@ pub fn turn<T: Tables, D: Driver, W: Contents>(
         (D.may_end driver.old) (D.may_end driver.new) (D.knows driver.old) (D.knows driver.new) }
 {
     let first = world.entries();
-    let mut stack = stack;
+    let Stack { frames, pending } = stack;
+    let mut frames = frames;
+    let mut pending = pending;
     'steps: loop {
-        if !may_go_on(world, &stack, first, most) {
-            return Ok(Turn::Running(stack));
+        if !may_go_on(world, &pending, first, most) {
+            return Ok(Turn::Running(Stack { frames, pending }));
         }
-        match advance(tables, driver, world, stack)? {
-            Turn::Finished(outcome) => return Ok(Turn::Finished(outcome)),
-            Turn::Running(then) => stack = then,
+        match advance(tables, driver, world, &mut frames, pending)? {
+            Progress::Over(outcome) => return Ok(Turn::Finished(outcome)),
+            Progress::Goes(then) => pending = then,
         }
     }
 }
@@ -167,11 +171,13 @@ fn finish<T: Tables, D: Driver, W: Contents>(
     ensures narrows { Narrows (D.legal driver.old) (D.legal driver.new)
         (D.may_end driver.old) (D.may_end driver.new) (D.knows driver.old) (D.knows driver.new) }
 {
-    let mut stack = stack;
+    let Stack { frames, pending } = stack;
+    let mut frames = frames;
+    let mut pending = pending;
     'steps: loop {
-        match advance(tables, driver, world, stack)? {
-            Turn::Finished(outcome) => return Ok(outcome),
-            Turn::Running(then) => stack = then,
+        match advance(tables, driver, world, &mut frames, pending)? {
+            Progress::Over(outcome) => return Ok(outcome),
+            Progress::Goes(then) => pending = then,
         }
     }
 }

@@ -1,5 +1,5 @@
 //! The engine's stack: what is next, and what waits for its outcome.
-ghost use Rattle.std.specs.Prelude.{◌≡◌, ◌↔◌, [], IfOk, IsTrue};
+ghost use Rattle.std.specs.Prelude.{◌≡◌, ◌↔◌, [], IfOk, IsTrue, OnOk};
 ghost use Rattle.cdi_frames.specs.Stacks.{frames_with, pending_for, IsDue};
 
 use cdi_base::Entry;
@@ -18,11 +18,29 @@ pub enum Pending {
     Writes(Entry, Continuation),
 }
 
+impl Pending {
+    /// Whether an entry is due.
+    pub fn is_due(&self) -> bool
+        ensures { IsTrue result ↔ IsDue self.now }
+    {
+        matches!(self, Pending::Writes(..))
+    }
+}
+
 /// A run between two of its steps: what is next, and what waits, the innermost first.
 #[derive(Drop)]
 pub struct Stack {
     pub frames: Waiting<Frame>,
     pub pending: Pending,
+}
+
+/// What a step comes to, beside the frames that wait then.
+#[derive(Drop)]
+pub(crate) enum Progress {
+    /// This is next.
+    Goes(Pending),
+    /// The run is over.
+    Over(Outcome),
 }
 
 /// What a turn comes to.
@@ -45,30 +63,21 @@ impl Stack {
             pending: Pending::Does(task),
         }
     }
-
-    /// Whether an entry is due.
-    pub fn is_due(&self) -> bool
-        ensures { IsTrue result ↔ IsDue self.now.pending }
-    {
-        matches!(self.pending, Pending::Writes(..))
-    }
 }
 
-/// The stack after a step.
+/// What is next after a step, if the frames are those that wait then.
 #[inline(always)]
-pub(crate) fn after_step(frames: Waiting<Frame>, next: Next) -> Result<Stack, AllocError>
-    ensures frames { IfOk result (λ stack. stack.frames ≡ frames_with frames next) }
-    ensures pending { IfOk result (λ stack. stack.pending ≡ pending_for next) }
+pub(crate) fn after_step(frames: &mut Waiting<Frame>, next: Next) -> Result<Pending, AllocError>
+    ensures frames { OnOk result (frames.new ≡ frames_with frames.old next) }
+    ensures pending { IfOk result (λ pending. pending ≡ pending_for next) }
 {
-    let mut frames = frames;
-    let pending = match next {
-        Next::Finished(outcome) => Pending::Gives(outcome),
-        Next::Writes(entry, continuation) => Pending::Writes(entry, continuation),
-        Next::Goes(task) => Pending::Does(task),
+    match next {
+        Next::Finished(outcome) => Ok(Pending::Gives(outcome)),
+        Next::Writes(entry, continuation) => Ok(Pending::Writes(entry, continuation)),
+        Next::Goes(task) => Ok(Pending::Does(task)),
         Next::Needs(task, frame) => {
             frames.push(frame)?;
-            Pending::Does(task)
+            Ok(Pending::Does(task))
         }
-    };
-    Ok(Stack { frames, pending })
+    }
 }
