@@ -5,7 +5,7 @@
                                         explained in crates/cdi_explanations/src/table.rt
   docs/check_forms.py                   reads both as text alone, and runs nothing
 
-The words are the faults of deployments and scripts, the problems with their numbers, the refusals, the causes of a cut, the
+The words are the faults of deployments and scripts, the warnings, the problems with their numbers, the refusals, the causes of a cut, the
 built-in exceptions, and the words with which replies and entries begin. Each word that isn't explained, and each that is explained
 and that FORMS.md lacks, has a line. The last line is 'N words, M missing'; the status is 0 if M is 0, and else 1.
 """
@@ -25,6 +25,7 @@ LINES = ["| Reply | Meaning |", "| Entry | Meaning |"]
 # What stands around the words that are in no such table.
 PASSAGES = [
     r"The faults, of which the first that holds is reported:(.*?)\n\n",
+    r"\(`P17 Ambiguous`,(.*?), or the line of the fault\)",
     r"the cause is (.*?)\|",
     r"\| unchecked exceptions \|(.*?)\|",
 ]

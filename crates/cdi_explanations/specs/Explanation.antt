@@ -8,6 +8,7 @@ use Rattle.cdi_explanations.specs.declared.explanation.Subject.TheVariants as su
 
 abbrev pub subject_text : Subject → List ℕ
 subject_text subjects.Fault = codes "a deployment or a script can't be read"
+subject_text subjects.Warning = codes "a warning about a deployment"
 subject_text subjects.Problem = codes "a problem of a deployment"
 subject_text subjects.Refusal = codes "a command is refused"
 subject_text subjects.Cause = codes "a command is cut"
@@ -58,5 +59,5 @@ suggestion (Some near) = codes " (did you mean " ++ (near ++ codes "?)")
 -- what is told of a word that isn't explained
 abbrev pub unknown_text : List ℕ → List Explanation → List ℕ
 unknown_text word explanations =
-    codes "no such fault, problem, refusal, cause, exception, reply or entry"
+    codes "no such fault, warning, problem, refusal, cause, exception, reply or entry"
     ++ suggestion (meant word explanations)

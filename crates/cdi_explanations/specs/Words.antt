@@ -24,6 +24,10 @@ fault_words =
     codes "TooLong" ∷ codes "NotJson" ∷ codes "BadNumber" ∷ codes "Shape" ∷ codes "BadName"
     ∷ codes "TooMany" ∷ codes "BadStep" ∷ codes "Full" ∷ []
 
+-- of deployments that can be read, but probably say something else than was meant
+abbrev pub warning_words : List (List ℕ)
+warning_words = codes "RepeatedKey" ∷ []
+
 abbrev pub all_problems : List ProblemKind
 all_problems =
     kinds.DuplicateName ∷ kinds.UnknownName ∷ kinds.CyclicHierarchy ∷ kinds.AbstractBean
@@ -79,8 +83,8 @@ entry_words =
 
 abbrev pub words : List (List ℕ)
 words =
-    fault_words ++ (problem_words ++ (refusal_words ++ (cause_words ++ (exception_words
-    ++ (reply_words ++ entry_words)))))
+    fault_words ++ (warning_words ++ (problem_words ++ (refusal_words ++ (cause_words
+    ++ (exception_words ++ (reply_words ++ entry_words))))))
 
 -- what is written is a list that begins with one of these words
 pub record BeginsWithOne (words : List (List ℕ)) (written : Data) : Type 0 where

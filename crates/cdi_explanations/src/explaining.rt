@@ -107,6 +107,6 @@ pub fn unknown_text(
     let near = meant(alloc, explanations, word)?;
     let suggestion = suggestion(alloc, near)?;
     format!(in alloc;
-        "no such fault, problem, refusal, cause, exception, reply or entry{suggestion}"
+        "no such fault, warning, problem, refusal, cause, exception, reply or entry{suggestion}"
     )
 }

@@ -9,6 +9,8 @@ use std::fmt;
 pub enum Subject {
     /// A deployment, or a script of it, that can't be read.
     Fault,
+    /// A deployment that is read, but probably says something else than was meant.
+    Warning,
     /// A deployment that is read and not accepted (Jakarta CDI 4.0, *Problems detected automatically by the container*).
     Problem,
     /// A command that isn't carried out.
@@ -42,6 +44,7 @@ impl Subject {
     {
         match self {
             Subject::Fault => "a deployment or a script can't be read",
+            Subject::Warning => "a warning about a deployment",
             Subject::Problem => "a problem of a deployment",
             Subject::Refusal => "a command is refused",
             Subject::Cause => "a command is cut",

@@ -1,5 +1,5 @@
-//! What the words mean that the program writes: faults, problems, refusals, causes of a cut, built-in exceptions, replies and
-//! the entries of a trace.
+//! What the words mean that the program writes: faults, warnings, problems, refusals, causes of a cut, built-in exceptions, replies
+//! and the entries of a trace.
 #![tactic(auto)]
 
 pub mod explaining;

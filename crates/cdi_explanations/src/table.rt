@@ -83,6 +83,15 @@ const FAULTS: &[Explanation] = &[
     ),
 ];
 
+const WARNINGS: &[Explanation] = &[explanation!(
+    Warning,
+    "",
+    "RepeatedKey",
+    "A key stands twice in one object, and only its last value counts. The deployment is checked \
+     and run all the same.",
+    "{\"form\":1,\"form\":1}"
+)];
+
 const PROBLEMS: &[Explanation] = &[
     explanation!(
         Problem,
@@ -575,6 +584,13 @@ pub fn faults() -> &'static [Explanation]
     FAULTS
 }
 
+/// Of the warnings about a deployment.
+pub fn warnings() -> &'static [Explanation]
+    ensures { map heading result.now ≡ spec.warning_words }
+{
+    WARNINGS
+}
+
 /// Of the problems of a deployment, by their numbers (Jakarta CDI 4.0, *Problems detected automatically by the container*).
 pub fn problems() -> &'static [Explanation]
     ensures { map heading result.now ≡ spec.problem_words }
@@ -622,6 +638,7 @@ pub fn explanations(alloc: Global) -> Result<Vec<Explanation>, AllocError>
     ensures { IfOk result (λ all. map heading all.items ≡ spec.words) }
 {
     let mut all = Vec::from_slice(alloc, faults())?;
+    all.extend_from_slice(warnings())?;
     all.extend_from_slice(problems())?;
     all.extend_from_slice(refusals())?;
     all.extend_from_slice(causes())?;

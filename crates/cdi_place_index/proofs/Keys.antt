@@ -5,9 +5,9 @@ use Rattle.std.specs.Option.{unwrap_or, IsSome}
 use Rattle.cdi_base.specs.declared.place.InterceptorMethod.TheVariants as methods
 use Rattle.cdi_base.specs.declared.place.Place.{Place}
 use Rattle.cdi_base.specs.declared.place.Place.TheVariants as places
-use Rattle.cdi_place_index.specs.PlaceRows.{key_of, same_key}
-use Rattle.cdi_place_index.specs.declared.rows.PlaceKey.{PlaceKey}
-use Rattle.cdi_place_index.specs.declared.rows.PlaceKey.TheVariants as keys
+use Rattle.cdi_problems.specs.PlaceKeys.{key_of, same_key}
+use Rattle.cdi_problems.specs.declared.place_key.PlaceKey.{PlaceKey}
+use Rattle.cdi_problems.specs.declared.place_key.PlaceKey.TheVariants as keys
 use Rattle.cdi_problems.specs.Places.{same_place}
 
 -- ---- rows

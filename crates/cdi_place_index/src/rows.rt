@@ -4,49 +4,10 @@ ghost use Rattle.cdi_base.specs.declared.place.Place.{Place};
 ghost use Rattle.cdi_place_index.specs.PlaceRows as spec;
 ghost use Rattle.cdi_problems.specs.Places.{same_place};
 
-use cdi_base::{InterceptorMethod, Name, Place, Seq};
+use cdi_base::{Place, Seq};
+use cdi_problems::{PlaceKey, key_of};
 use std::alloc::{AllocError, Global};
 use std::collections::HashMap;
-
-/// A place, as its row is found.
-#[derive(Clone, Copy, Debug, PartialEq, Eq, Hash)]
-pub(crate) enum PlaceKey {
-    Class(Name),
-    Member { class: Name, member: Name },
-    Constructor(Name),
-    AroundInvoke(Name),
-    AroundConstruct(Name),
-    PostConstruct(Name),
-    PreDestroy(Name),
-}
-
-fn method_key(interceptor: Name, method: InterceptorMethod) -> PlaceKey
-    ensures { result ≡ spec.method_key interceptor method }
-{
-    match method {
-        InterceptorMethod::AroundInvoke => PlaceKey::AroundInvoke(interceptor),
-        InterceptorMethod::AroundConstruct => PlaceKey::AroundConstruct(interceptor),
-        InterceptorMethod::PostConstruct => PlaceKey::PostConstruct(interceptor),
-        InterceptorMethod::PreDestroy => PlaceKey::PreDestroy(interceptor),
-    }
-}
-
-fn key_of(place: &Place) -> PlaceKey
-    ensures { result ≡ spec.key_of place.now }
-{
-    match place {
-        Place::Class(name) => PlaceKey::Class(*name),
-        Place::Member { class, member } => PlaceKey::Member {
-            class: *class,
-            member: *member,
-        },
-        Place::Constructor(class) => PlaceKey::Constructor(*class),
-        Place::Interceptor {
-            interceptor,
-            method,
-        } => method_key(*interceptor, *method),
-    }
-}
 
 /// Items by places, those at one place in the order in which they were added. An item is found, and one is added, in constant time.
 #[derive(Drop)]

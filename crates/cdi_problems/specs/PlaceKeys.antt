@@ -1,4 +1,4 @@
--- Sets of places, by their keys.
+-- The keys of places, and sets of these.
 use Rattle.std.specs.Prelude.{ℕ, ◌≡◌, Bool, List}
 use Rattle.std.specs.HashSet.{HashSet, contains}
 use Rattle.std.specs.List.{list_any}
@@ -6,9 +6,9 @@ use Rattle.cdi_base.specs.declared.place.InterceptorMethod.{InterceptorMethod}
 use Rattle.cdi_base.specs.declared.place.InterceptorMethod.TheVariants as methods
 use Rattle.cdi_base.specs.declared.place.Place.{Place}
 use Rattle.cdi_base.specs.declared.place.Place.TheVariants as places
-use Rattle.cdi_problems.specs.contracts.distinct.PlaceKeyPartialEq.TheImpl as key_eq
-use Rattle.cdi_problems.specs.declared.distinct.PlaceKey.{PlaceKey}
-use Rattle.cdi_problems.specs.declared.distinct.PlaceKey.TheVariants as keys
+use Rattle.cdi_problems.specs.contracts.place_key.PlaceKeyPartialEq.TheImpl as key_eq
+use Rattle.cdi_problems.specs.declared.place_key.PlaceKey.{PlaceKey}
+use Rattle.cdi_problems.specs.declared.place_key.PlaceKey.TheVariants as keys
 use Rattle.cdi_problems.specs.Places.{same_place}
 
 abbrev pub method_key : ℕ → InterceptorMethod → PlaceKey
@@ -17,7 +17,7 @@ method_key interceptor methods.AroundConstruct = keys.AroundConstruct intercepto
 method_key interceptor methods.PostConstruct = keys.PostConstruct interceptor
 method_key interceptor methods.PreDestroy = keys.PreDestroy interceptor
 
--- what a set keeps of a place
+-- what a set or a map has for a place
 abbrev pub key_of : Place → PlaceKey
 key_of (places.Class name) = keys.Class name
 key_of (places.Member class member) = keys.Member class member

@@ -3,49 +3,10 @@ ghost use Rattle.std.specs.Prelude.{◌≡◌, IfOk, OnOk};
 ghost use Rattle.cdi_problems.specs.PlaceKeys as spec;
 ghost use Rattle.cdi_problems.specs.Places.{with_place, once as each_once};
 
-use cdi_base::{InterceptorMethod, Name, Place, Seq};
+use crate::place_key::{PlaceKey, key_of};
+use cdi_base::{Place, Seq};
 use std::alloc::{AllocError, Global};
 use std::collections::HashSet;
-
-/// A place, as a set of places keeps it.
-#[derive(Clone, Copy, Debug, PartialEq, Eq, Hash)]
-pub(crate) enum PlaceKey {
-    Class(Name),
-    Member { class: Name, member: Name },
-    Constructor(Name),
-    AroundInvoke(Name),
-    AroundConstruct(Name),
-    PostConstruct(Name),
-    PreDestroy(Name),
-}
-
-fn method_key(interceptor: Name, method: InterceptorMethod) -> PlaceKey
-    ensures { result ≡ spec.method_key interceptor method }
-{
-    match method {
-        InterceptorMethod::AroundInvoke => PlaceKey::AroundInvoke(interceptor),
-        InterceptorMethod::AroundConstruct => PlaceKey::AroundConstruct(interceptor),
-        InterceptorMethod::PostConstruct => PlaceKey::PostConstruct(interceptor),
-        InterceptorMethod::PreDestroy => PlaceKey::PreDestroy(interceptor),
-    }
-}
-
-fn key_of(place: &Place) -> PlaceKey
-    ensures { result ≡ spec.key_of place.now }
-{
-    match place {
-        Place::Class(name) => PlaceKey::Class(*name),
-        Place::Member { class, member } => PlaceKey::Member {
-            class: *class,
-            member: *member,
-        },
-        Place::Constructor(class) => PlaceKey::Constructor(*class),
-        Place::Interceptor {
-            interceptor,
-            method,
-        } => method_key(*interceptor, *method),
-    }
-}
 
 /// Adds a place, if it doesn't stand there already.
 fn add_once(

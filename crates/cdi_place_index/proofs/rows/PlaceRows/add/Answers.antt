@@ -1,7 +1,8 @@
 use Rattle.std.proofs.Common.{◌≡◌, ◌∙◌, Bool, ◌++◌, ◌∷◌, [], ap, sym, Some, None, cond}
 use Rattle.std.specs.HashMap.{get}
 use Rattle.cdi_place_index.proofs.Keys.{row_after, row_more, is_some, same_key-true, same_keys}
-use Rattle.cdi_place_index.specs.PlaceRows.{key_of, same_key, row_at}
+use Rattle.cdi_place_index.specs.PlaceRows.{row_at}
+use Rattle.cdi_problems.specs.PlaceKeys.{key_of, same_key}
 use Rattle.cdi_problems.specs.Places.{same_place}
 use Rattle.cdi_place_index.proofs.rows.PlaceRows.add.Goals as goal
 
