@@ -1,18 +1,13 @@
 -- How the steps of contexts begin and go on.
-use Rattle.std.specs.Prelude.{ℕ, ◌≡◌, List, Option, Some, None, option_map}
+use Rattle.std.specs.Prelude.{ℕ, ◌≡◌, List, Option, Some, None}
 use Rattle.std.specs.Global.{Box}
 use Rattle.cdi_base.specs.BuiltIn.{number_of}
 use Rattle.cdi_base.specs.declared.built_in.BuiltIn.TheVariants as built_in
 use Rattle.cdi_store.specs.declared.instance.Context.{Context}
 use Rattle.cdi_store.specs.declared.instance.Context.TheVariants.{Request, Session}
 use Rattle.cdi_store.specs.declared.instance.Owner.TheVariants as owners
-use Rattle.cdi_contexts.specs.declared.context.Held.TheVariants.{Is}
-use Rattle.cdi_machine.specs.Tables.{Tables}
-use Rattle.cdi_machine.specs.World.{World}
 use Rattle.cdi_machine.specs.Programs.{Given, Completion, Prog, complete, ◌>>=◌, ◌>>◌}
 use Rattle.cdi_machine.specs.Commands.{stand_in, stand_alone_in}
-use Rattle.cdi_host.specs.Asked.{head_of, held_in}
-use Rattle.cdi_host.specs.declared.beans.BeanHead.{BeanHead}
 use Rattle.cdi_steps.specs.Words.{scope_of}
 use Rattle.cdi_steps.specs.Meanings.{finish_context, close_context, after_close, close_then}
 use Rattle.cdi_steps.specs.declared.task.AfterClose.{AfterClose}
@@ -31,12 +26,6 @@ abbrev pub created_in : Option Context → ℕ → Next
 created_in None b =
     nexts.Finished (outcomes.Ends (completions.Threw (number_of built_in.ContextNotActiveException)))
 created_in (Some c) b = nexts.Goes (tasks.Start (calls.Create b (owners.Context c)))
-
--- the active context of its scope has this instance for a bean
-pub record HasInstance (t : Tables) (w : World) (b n : ℕ) : Type 0 where
-  pub head : BeanHead
-  pub is_head : option_map head_of (t.bean b) ≡ Some head
-  pub held : held_in w head.scope b ≡ Some (Is n)
 
 -- it is told that the context is about to be destroyed
 pub record BeginsToClose (context : Context) (after : AfterClose) (next : Next) : Type 0 where

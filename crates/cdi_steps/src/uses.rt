@@ -11,7 +11,7 @@ use std::alloc::AllocError;
 
 /// Calls a business method of an instance (Jakarta CDI 4.0, *Container invocations and interception*), or reads or changes what a
 /// product holds.
-pub(crate) fn use_instance<T: Tables, W: Contents>(
+pub fn use_instance<T: Tables, W: Contents>(
     tables: &T,
     world: &mut W,
     number: u32,

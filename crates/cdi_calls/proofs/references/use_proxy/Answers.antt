@@ -1,8 +1,8 @@
 use Rattle.std.proofs.Common.{refl, arith}
-use Rattle.cdi_steps.proofs.ObtainingSteps.{proxy_asks, proxy_held}
+use Rattle.cdi_calls.proofs.ReferenceSteps.{proxy_asks, proxy_held}
 use Rattle.cdi_steps.proofs.Results.{map_ok}
 use Rattle.cdi_steps.proofs.Made.{leaves_alone}
-use Rattle.cdi_steps.proofs.obtaining.use_proxy.Goals as goal
+use Rattle.cdi_calls.proofs.references.use_proxy.Goals as goal
 
 pub returns-in-Some-clause-step : goal.returns-in-Some-clause-step
 returns-in-Some-clause-step g c =
