@@ -24,21 +24,21 @@ use Rattle.cdi_machine.specs.Programs.{Given, Result, Prog, ret, nested, require
 use Rattle.cdi_machine.specs.Contexts.{reach_instance}
 use Rattle.cdi_machine.specs.Bodies.{perform, reference_at, value_at, with_answer}
 use Rattle.cdi_calls.specs.of_host.Asked.{top_of}
-use Rattle.cdi_calls.specs.of_steps.Meanings.{node, go_on_with, use_instance, use_reference, around, waits}
-use Rattle.cdi_calls.specs.of_steps.Leads.{next_stop, after_steps, Comes}
-use Rattle.cdi_calls.proofs.of_steps.Ways.{ComesTo, MovesTo, StopsAs}
-use Rattle.cdi_calls.specs.of_steps.declared.task.Call.TheVariants as calls
-use Rattle.cdi_calls.specs.of_steps.declared.task.Completion.TheVariants as completions
-use Rattle.cdi_calls.specs.of_steps.declared.task.Continuation.TheVariants as continuations
-use Rattle.cdi_calls.specs.of_steps.declared.task.Event.{Event}
-use Rattle.cdi_calls.specs.of_steps.declared.task.Given.TheVariants as givens
-use Rattle.cdi_calls.specs.of_steps.declared.task.Outcome.TheVariants as outcomes
-use Rattle.cdi_calls.specs.of_steps.declared.task.Purpose.{Purpose}
-use Rattle.cdi_calls.specs.of_steps.declared.task.Purpose.TheVariants as purposes
-use Rattle.cdi_calls.specs.of_steps.declared.task.ReferenceUse.{ReferenceUse}
-use Rattle.cdi_calls.specs.of_steps.declared.task.Task.TheVariants as tasks
-use Rattle.cdi_calls.specs.of_steps.declared.task.Frame.TheVariants as frames
-use Rattle.cdi_calls.specs.of_steps.declared.task.Next.TheVariants as nexts
+use Rattle.cdi_steps.specs.Meanings.{node, go_on_with, use_instance, use_reference, around, waits}
+use Rattle.cdi_steps.specs.Leads.{next_stop, after_steps, Comes}
+use Rattle.cdi_steps.proofs.Ways.{ComesTo, MovesTo, StopsAs}
+use Rattle.cdi_steps.specs.declared.task.Call.TheVariants as calls
+use Rattle.cdi_steps.specs.declared.task.Completion.TheVariants as completions
+use Rattle.cdi_steps.specs.declared.task.Continuation.TheVariants as continuations
+use Rattle.cdi_steps.specs.declared.task.Event.{Event}
+use Rattle.cdi_steps.specs.declared.task.Given.TheVariants as givens
+use Rattle.cdi_steps.specs.declared.task.Outcome.TheVariants as outcomes
+use Rattle.cdi_steps.specs.declared.task.Purpose.{Purpose}
+use Rattle.cdi_steps.specs.declared.task.Purpose.TheVariants as purposes
+use Rattle.cdi_steps.specs.declared.task.ReferenceUse.{ReferenceUse}
+use Rattle.cdi_steps.specs.declared.task.Task.TheVariants as tasks
+use Rattle.cdi_steps.specs.declared.task.Frame.TheVariants as frames
+use Rattle.cdi_steps.specs.declared.task.Next.TheVariants as nexts
 use Rattle.cdi_frames.specs.Acts.{reference_via, use_act}
 use Rattle.cdi_frames.proofs.BodySteps.{answering, answers_with, attempt_then}
 

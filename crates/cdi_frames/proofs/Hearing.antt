@@ -8,15 +8,15 @@ use Rattle.cdi_machine.specs.declared.driver.Failure.TheVariants.{Memory}
 use Rattle.cdi_machine.specs.World.{World}
 use Rattle.cdi_machine.specs.Hearing.{Hearing, Ending, IsTold, with_asking, with_told, answers_of, after}
 use Rattle.cdi_machine.proofs.Hearings.{told_once, answered_once}
-use Rattle.cdi_calls.specs.of_steps.Driving.{IsAskedFor, HasFailed, with_asked, heard_for}
-use Rattle.cdi_calls.specs.of_steps.Steps.{IsQuiet}
-use Rattle.cdi_calls.specs.of_steps.declared.task.Continuation.{Continuation}
-use Rattle.cdi_calls.specs.of_steps.declared.task.Outcome.{Outcome}
-use Rattle.cdi_calls.specs.of_steps.declared.task.Outcome.TheVariants as outcomes
-use Rattle.cdi_calls.specs.of_steps.declared.task.Task.{Task}
-use Rattle.cdi_calls.specs.of_steps.declared.task.Task.TheVariants as tasks
-use Rattle.cdi_calls.specs.of_steps.declared.task.Next.{Next}
-use Rattle.cdi_calls.specs.of_steps.declared.task.Next.TheVariants as nexts
+use Rattle.cdi_steps.specs.Driving.{IsAskedFor, HasFailed, with_asked, heard_for}
+use Rattle.cdi_steps.specs.Steps.{IsQuiet}
+use Rattle.cdi_steps.specs.declared.task.Continuation.{Continuation}
+use Rattle.cdi_steps.specs.declared.task.Outcome.{Outcome}
+use Rattle.cdi_steps.specs.declared.task.Outcome.TheVariants as outcomes
+use Rattle.cdi_steps.specs.declared.task.Task.{Task}
+use Rattle.cdi_steps.specs.declared.task.Task.TheVariants as tasks
+use Rattle.cdi_steps.specs.declared.task.Next.{Next}
+use Rattle.cdi_steps.specs.declared.task.Next.TheVariants as nexts
 use Rattle.cdi_frames.specs.Stacks.{pending_for}
 use Rattle.cdi_frames.specs.Hearing.{IsCut, HasHeardUntil, HasHeardAt, HearsTurn, HearsOutcome, PassesCut, HasFailedAt, Written, Spent}
 use Rattle.cdi_frames.specs.declared.stack.Pending.{Pending}

@@ -14,10 +14,10 @@ use Rattle.cdi_machine.specs.Runs as runs
 use Rattle.cdi_machine.specs.Runs.{Legal, Runs}
 use Rattle.cdi_machine.specs.Laws.{Goes}
 use Rattle.cdi_machine.proofs.Order.{Still, changed_still, goes, longer}
-use Rattle.cdi_calls.specs.of_steps.Words.{class_of, qualifiers_of, task_of}
-use Rattle.cdi_calls.specs.of_steps.Leads.{next_stop, after_steps, Comes}
-use Rattle.cdi_calls.specs.of_steps.declared.task.Call.TheVariants as calls
-use Rattle.cdi_calls.specs.of_steps.declared.task.ContainerEvent.{ContainerEvent}
+use Rattle.cdi_steps.specs.Words.{class_of, qualifiers_of, task_of}
+use Rattle.cdi_steps.specs.Leads.{next_stop, after_steps, Comes}
+use Rattle.cdi_steps.specs.declared.task.Call.TheVariants as calls
+use Rattle.cdi_steps.specs.declared.task.ContainerEvent.{ContainerEvent}
 use Rattle.cdi_frames.specs.Stacks.{entries_left}
 
 still_self : (w : World) → Still w w

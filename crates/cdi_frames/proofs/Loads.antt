@@ -4,28 +4,28 @@ use Rattle.std.proofs.Math.Nat.{mul-le-mul_right, suc-mul}
 use Rattle.cdi_machine.specs.Tables.{Tables}
 use Rattle.cdi_machine.specs.World.{World, with_entry}
 use Rattle.cdi_machine.specs.Runs.{Legal, Runs}
-use Rattle.cdi_calls.specs.of_steps.Words.{outcome_of}
-use Rattle.cdi_calls.specs.of_steps.Meanings.{first, node}
-use Rattle.cdi_calls.specs.of_steps.Leads.{Comes}
-use Rattle.cdi_calls.specs.of_steps.Ranks.{rank, continuation_rank, frame_rank, thrown_rank, awaited_rank, gave_rank, back_rank, weight}
-use Rattle.cdi_calls.proofs.of_steps.Ranks.{rank_below, frame_below, thrown_below, thrown_above}
+use Rattle.cdi_steps.specs.Words.{outcome_of}
+use Rattle.cdi_steps.specs.Meanings.{first, node}
+use Rattle.cdi_steps.specs.Leads.{Comes}
+use Rattle.cdi_steps.specs.Ranks.{rank, continuation_rank, frame_rank, thrown_rank, awaited_rank, gave_rank, back_rank, weight}
+use Rattle.cdi_steps.proofs.Ranks.{rank_below, frame_below, thrown_below, thrown_above}
 use Rattle.cdi_machine.proofs.Order.{Still, longer}
 use Rattle.cdi_frames.proofs.Kept.{comes_still, still_left, body_left, destroy_left, fire_left}
 use Rattle.cdi_frames.specs.Hearing.{Written, Spent}
 use Rattle.cdi_base.specs.declared.entry.Entry.{Entry}
 use Rattle.cdi_base.specs.declared.reply.Cause.TheVariants as causes
-use Rattle.cdi_calls.specs.of_steps.declared.task.Continuation.{Continuation}
-use Rattle.cdi_calls.specs.of_steps.declared.task.Continuation.TheVariants as continuations
-use Rattle.cdi_calls.specs.of_steps.declared.task.Call.{Call}
-use Rattle.cdi_calls.specs.of_steps.declared.task.Call.TheVariants as calls
-use Rattle.cdi_calls.specs.of_steps.declared.task.Completion.TheVariants as completions
-use Rattle.cdi_calls.specs.of_steps.declared.task.Outcome.{Outcome}
-use Rattle.cdi_calls.specs.of_steps.declared.task.Outcome.TheVariants as outcomes
-use Rattle.cdi_calls.specs.of_steps.declared.task.Task.{Task}
-use Rattle.cdi_calls.specs.of_steps.declared.task.Task.TheVariants as tasks
-use Rattle.cdi_calls.specs.of_steps.declared.task.Frame.{Frame}
-use Rattle.cdi_calls.specs.of_steps.declared.task.Next.{Next}
-use Rattle.cdi_calls.specs.of_steps.declared.task.Next.TheVariants as nexts
+use Rattle.cdi_steps.specs.declared.task.Continuation.{Continuation}
+use Rattle.cdi_steps.specs.declared.task.Continuation.TheVariants as continuations
+use Rattle.cdi_steps.specs.declared.task.Call.{Call}
+use Rattle.cdi_steps.specs.declared.task.Call.TheVariants as calls
+use Rattle.cdi_steps.specs.declared.task.Completion.TheVariants as completions
+use Rattle.cdi_steps.specs.declared.task.Outcome.{Outcome}
+use Rattle.cdi_steps.specs.declared.task.Outcome.TheVariants as outcomes
+use Rattle.cdi_steps.specs.declared.task.Task.{Task}
+use Rattle.cdi_steps.specs.declared.task.Task.TheVariants as tasks
+use Rattle.cdi_steps.specs.declared.task.Frame.{Frame}
+use Rattle.cdi_steps.specs.declared.task.Next.{Next}
+use Rattle.cdi_steps.specs.declared.task.Next.TheVariants as nexts
 use Rattle.cdi_frames.specs.declared.stack.Pending.{Pending}
 use Rattle.cdi_frames.specs.declared.stack.Pending.TheVariants as pendings
 use Rattle.cdi_frames.specs.declared.stack.Stack.{Stack}

@@ -24,14 +24,14 @@ use Rattle.cdi_machine.specs.DestroyAct.{destroy_by, destroy_idle, is_idle}
 use Rattle.cdi_calls.specs.of_stacks.Running.{with_local}
 use Rattle.cdi_calls.specs.of_host.Asked.{head_of}
 use Rattle.cdi_calls.specs.of_host.declared.beans.BeanHead.{BeanHead}
-use Rattle.cdi_calls.specs.of_steps.Meanings.{go_on_with}
-use Rattle.cdi_calls.specs.of_steps.Leads.{next_stop}
-use Rattle.cdi_calls.proofs.of_steps.Heads.{IsThere, is_absent}
-use Rattle.cdi_calls.proofs.of_steps.Ways.{StopsAs}
-use Rattle.cdi_calls.specs.of_steps.declared.task.Call.TheVariants as calls
-use Rattle.cdi_calls.specs.of_steps.declared.task.Task.TheVariants as tasks
-use Rattle.cdi_calls.specs.of_steps.declared.task.Frame.TheVariants as frames
-use Rattle.cdi_calls.specs.of_steps.declared.task.Next.TheVariants as nexts
+use Rattle.cdi_steps.specs.Meanings.{go_on_with}
+use Rattle.cdi_steps.specs.Leads.{next_stop}
+use Rattle.cdi_steps.proofs.Heads.{IsThere, is_absent}
+use Rattle.cdi_steps.proofs.Ways.{StopsAs}
+use Rattle.cdi_steps.specs.declared.task.Call.TheVariants as calls
+use Rattle.cdi_steps.specs.declared.task.Task.TheVariants as tasks
+use Rattle.cdi_steps.specs.declared.task.Frame.TheVariants as frames
+use Rattle.cdi_steps.specs.declared.task.Next.TheVariants as nexts
 use Rattle.cdi_frames.specs.Acts.{bean_looked_up, bean_or_exception, destroy_found, StopsAlike}
 use Rattle.cdi_frames.proofs.BodySteps.{attempt_then, answers_with}
 

@@ -15,14 +15,14 @@ use Rattle.cdi_machine.specs.Programs as machine
 use Rattle.cdi_machine.specs.Programs.{Given, Completion, Gave, Threw, Prog, nested, handle, attempt, require, top, complete, call, ◌>>=◌, ◌>>◌}
 use Rattle.cdi_machine.specs.Bodies.{perform, fits, repeats, replace_parameters}
 use Rattle.cdi_calls.specs.of_host.Asked.{top_of}
-use Rattle.cdi_calls.specs.of_steps.Known.{AllInvoked, HasKnownBodies}
-use Rattle.cdi_calls.specs.of_steps.Meanings.{go_on_with}
-use Rattle.cdi_calls.specs.of_steps.Leads.{next_stop}
-use Rattle.cdi_calls.proofs.of_steps.Ways.{StopsAs}
-use Rattle.cdi_calls.specs.of_steps.declared.task.Call.TheVariants as calls
-use Rattle.cdi_calls.specs.of_steps.declared.task.Task.TheVariants as tasks
-use Rattle.cdi_calls.specs.of_steps.declared.task.Frame.TheVariants as frames
-use Rattle.cdi_calls.specs.of_steps.declared.task.Next.TheVariants as nexts
+use Rattle.cdi_steps.specs.Known.{AllInvoked, HasKnownBodies}
+use Rattle.cdi_steps.specs.Meanings.{go_on_with}
+use Rattle.cdi_steps.specs.Leads.{next_stop}
+use Rattle.cdi_steps.proofs.Ways.{StopsAs}
+use Rattle.cdi_steps.specs.declared.task.Call.TheVariants as calls
+use Rattle.cdi_steps.specs.declared.task.Task.TheVariants as tasks
+use Rattle.cdi_steps.specs.declared.task.Frame.TheVariants as frames
+use Rattle.cdi_steps.specs.declared.task.Next.TheVariants as nexts
 use Rattle.cdi_frames.specs.Proceeding.{having_tried, refusal_for, refusal_in, with_replaced}
 
 module _ (t : Tables) (r : machine.Running) (args : Option (List Value)) where

@@ -11,25 +11,25 @@ use Rattle.cdi_machine.specs.Words.{Name}
 use Rattle.cdi_machine.specs.Tables.{Tables}
 use Rattle.cdi_machine.specs.Programs as machine
 use Rattle.cdi_machine.specs.World.{World, Change, after_change}
-use Rattle.cdi_calls.specs.of_steps.Words.{given_at_end}
-use Rattle.cdi_calls.specs.of_steps.Meanings.{after}
-use Rattle.cdi_calls.specs.of_steps.Leads.{Comes}
-use Rattle.cdi_calls.proofs.of_steps.Ways.{ComesTo, WaitsTo}
-use Rattle.cdi_calls.specs.of_steps.declared.task.AfterClose.{AfterClose}
-use Rattle.cdi_calls.specs.of_steps.declared.task.Call.TheVariants as calls
-use Rattle.cdi_calls.specs.of_steps.declared.task.Closing.{Closing}
-use Rattle.cdi_calls.specs.of_steps.declared.task.Completion.{Completion}
-use Rattle.cdi_calls.specs.of_steps.declared.task.Completion.TheVariants as completions
-use Rattle.cdi_calls.specs.of_steps.declared.task.Disposal.{Disposal}
-use Rattle.cdi_calls.specs.of_steps.declared.task.Given.{Given}
-use Rattle.cdi_calls.specs.of_steps.declared.task.Notification.{Notification}
-use Rattle.cdi_calls.specs.of_steps.declared.task.Given.TheVariants as givens
-use Rattle.cdi_calls.specs.of_steps.declared.task.Parameters.{Parameters}
-use Rattle.cdi_calls.specs.of_steps.declared.task.Outcome.TheVariants as outcomes
-use Rattle.cdi_calls.specs.of_steps.declared.task.Task.TheVariants as tasks
-use Rattle.cdi_calls.specs.of_steps.declared.task.Frame.{Frame}
-use Rattle.cdi_calls.specs.of_steps.declared.task.Frame.TheVariants as frames
-use Rattle.cdi_calls.specs.of_steps.declared.task.Next.TheVariants as nexts
+use Rattle.cdi_steps.specs.Words.{given_at_end}
+use Rattle.cdi_steps.specs.Meanings.{after}
+use Rattle.cdi_steps.specs.Leads.{Comes}
+use Rattle.cdi_steps.proofs.Ways.{ComesTo, WaitsTo}
+use Rattle.cdi_steps.specs.declared.task.AfterClose.{AfterClose}
+use Rattle.cdi_steps.specs.declared.task.Call.TheVariants as calls
+use Rattle.cdi_steps.specs.declared.task.Closing.{Closing}
+use Rattle.cdi_steps.specs.declared.task.Completion.{Completion}
+use Rattle.cdi_steps.specs.declared.task.Completion.TheVariants as completions
+use Rattle.cdi_steps.specs.declared.task.Disposal.{Disposal}
+use Rattle.cdi_steps.specs.declared.task.Given.{Given}
+use Rattle.cdi_steps.specs.declared.task.Notification.{Notification}
+use Rattle.cdi_steps.specs.declared.task.Given.TheVariants as givens
+use Rattle.cdi_steps.specs.declared.task.Parameters.{Parameters}
+use Rattle.cdi_steps.specs.declared.task.Outcome.TheVariants as outcomes
+use Rattle.cdi_steps.specs.declared.task.Task.TheVariants as tasks
+use Rattle.cdi_steps.specs.declared.task.Frame.{Frame}
+use Rattle.cdi_steps.specs.declared.task.Frame.TheVariants as frames
+use Rattle.cdi_steps.specs.declared.task.Next.TheVariants as nexts
 
 -- a frame that goes on by itself after a throw is none of these
 pub record EndsWithThrow (k : Frame) : Type 0 where

@@ -9,21 +9,21 @@ use Rattle.cdi_machine.specs.World.{World, with_entry}
 use Rattle.cdi_machine.specs.Programs.{Given, Completion, Gave, Threw, Prog, ret, throw, cut, miss, see, change, tick, mark, act, choose, nested}
 use Rattle.cdi_machine.specs.Runs as runs
 use Rattle.cdi_machine.specs.Runs.{Legal, Runs, rest_after}
-use Rattle.cdi_calls.specs.of_steps.Words.{outcome_of}
-use Rattle.cdi_calls.specs.of_steps.Meanings.{over, around, node, first, continuation, waits, after}
-use Rattle.cdi_calls.specs.of_steps.Leads.{Comes}
-use Rattle.cdi_calls.proofs.of_steps.Ways.{wider_comes}
+use Rattle.cdi_steps.specs.Words.{outcome_of}
+use Rattle.cdi_steps.specs.Meanings.{over, around, node, first, continuation, waits, after}
+use Rattle.cdi_steps.specs.Leads.{Comes}
+use Rattle.cdi_steps.proofs.Ways.{wider_comes}
 use Rattle.cdi_machine.specs.Laws.{IsWithin}
 use Rattle.cdi_base.specs.declared.entry.Entry.{Entry}
-use Rattle.cdi_calls.specs.of_steps.declared.task.Continuation.{Continuation}
-use Rattle.cdi_calls.specs.of_steps.declared.task.Task.TheVariants as tasks
+use Rattle.cdi_steps.specs.declared.task.Continuation.{Continuation}
+use Rattle.cdi_steps.specs.declared.task.Task.TheVariants as tasks
 use Rattle.cdi_frames.specs.Hearing.{Written, Spent}
-use Rattle.cdi_calls.specs.of_steps.declared.task.Outcome.{Outcome}
-use Rattle.cdi_calls.specs.of_steps.declared.task.Outcome.TheVariants as outcomes
-use Rattle.cdi_calls.specs.of_steps.declared.task.Task.{Task}
-use Rattle.cdi_calls.specs.of_steps.declared.task.Frame.{Frame}
-use Rattle.cdi_calls.specs.of_steps.declared.task.Next.{Next}
-use Rattle.cdi_calls.specs.of_steps.declared.task.Next.TheVariants as nexts
+use Rattle.cdi_steps.specs.declared.task.Outcome.{Outcome}
+use Rattle.cdi_steps.specs.declared.task.Outcome.TheVariants as outcomes
+use Rattle.cdi_steps.specs.declared.task.Task.{Task}
+use Rattle.cdi_steps.specs.declared.task.Frame.{Frame}
+use Rattle.cdi_steps.specs.declared.task.Next.{Next}
+use Rattle.cdi_steps.specs.declared.task.Next.TheVariants as nexts
 use Rattle.cdi_frames.specs.declared.stack.Pending.{Pending}
 use Rattle.cdi_frames.specs.declared.stack.Pending.TheVariants as pendings
 use Rattle.cdi_frames.specs.declared.stack.Stack.{Stack}

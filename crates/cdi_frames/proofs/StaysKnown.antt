@@ -3,14 +3,14 @@ use Rattle.std.proofs.Common.{◌≡◌, List}
 use Rattle.cdi_base.specs.declared.entry.Entry.{Entry}
 use Rattle.cdi_machine.specs.Tables.{Tables}
 use Rattle.cdi_machine.specs.World.{World, with_entry}
-use Rattle.cdi_calls.specs.of_steps.Known.{AllInvoked, KnownContinuation, KnownNext}
-use Rattle.cdi_calls.specs.of_steps.declared.task.Continuation.{Continuation}
-use Rattle.cdi_calls.specs.of_steps.declared.task.Continuation.TheVariants as continuations
-use Rattle.cdi_calls.specs.of_steps.declared.task.Task.TheVariants as tasks
-use Rattle.cdi_calls.specs.of_steps.declared.task.Outcome.{Outcome}
-use Rattle.cdi_calls.specs.of_steps.declared.task.Frame.{Frame}
-use Rattle.cdi_calls.specs.of_steps.declared.task.Next.{Next}
-use Rattle.cdi_calls.specs.of_steps.declared.task.Next.TheVariants as nexts
+use Rattle.cdi_steps.specs.Known.{AllInvoked, KnownContinuation, KnownNext}
+use Rattle.cdi_steps.specs.declared.task.Continuation.{Continuation}
+use Rattle.cdi_steps.specs.declared.task.Continuation.TheVariants as continuations
+use Rattle.cdi_steps.specs.declared.task.Task.TheVariants as tasks
+use Rattle.cdi_steps.specs.declared.task.Outcome.{Outcome}
+use Rattle.cdi_steps.specs.declared.task.Frame.{Frame}
+use Rattle.cdi_steps.specs.declared.task.Next.{Next}
+use Rattle.cdi_steps.specs.declared.task.Next.TheVariants as nexts
 use Rattle.cdi_frames.specs.declared.stack.Pending.TheVariants as pendings
 use Rattle.cdi_frames.specs.declared.stack.Stack.{Stack}
 use Rattle.cdi_frames.specs.Stacks.{frames_with, pending_for, KnownFrames, KnownStack}

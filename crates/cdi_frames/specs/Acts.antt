@@ -16,9 +16,9 @@ use Rattle.cdi_machine.specs.Programs.{Running, Given, Prog, finish, raise}
 use Rattle.cdi_machine.specs.Bodies.{reference_at}
 use Rattle.cdi_machine.specs.DestroyAct.{destroy_idle}
 use Rattle.cdi_calls.specs.of_host.Asked.{reference_in}
-use Rattle.cdi_calls.specs.of_steps.Leads.{next_stop}
-use Rattle.cdi_calls.specs.of_steps.declared.task.Purpose.{Purpose}
-use Rattle.cdi_calls.specs.of_steps.declared.task.Purpose.TheVariants as purposes
+use Rattle.cdi_steps.specs.Leads.{next_stop}
+use Rattle.cdi_steps.specs.declared.task.Purpose.{Purpose}
+use Rattle.cdi_steps.specs.declared.task.Purpose.TheVariants as purposes
 
 -- the reference by which a body on an instance, if that is there, reaches another one
 abbrev pub reference_via : Option Instance → Running → Via → Option Reference

@@ -6,11 +6,11 @@ use Rattle.cdi_machine.specs.declared.driver.Failure.{Failure}
 use Rattle.cdi_machine.specs.declared.driver.Failure.TheVariants.{Memory, Exhausted}
 use Rattle.cdi_machine.specs.World.{World, with_entry}
 use Rattle.cdi_machine.specs.Hearing.{Hearing, Ending, IsTold, with_asking, after}
-use Rattle.cdi_calls.specs.of_steps.Driving.{with_asked}
-use Rattle.cdi_calls.specs.of_steps.declared.task.Outcome.{Outcome}
-use Rattle.cdi_calls.specs.of_steps.declared.task.Outcome.TheVariants as outcomes
-use Rattle.cdi_calls.specs.of_steps.declared.task.Next.{Next}
-use Rattle.cdi_calls.specs.of_steps.declared.task.Next.TheVariants as nexts
+use Rattle.cdi_steps.specs.Driving.{with_asked}
+use Rattle.cdi_steps.specs.declared.task.Outcome.{Outcome}
+use Rattle.cdi_steps.specs.declared.task.Outcome.TheVariants as outcomes
+use Rattle.cdi_steps.specs.declared.task.Next.{Next}
+use Rattle.cdi_steps.specs.declared.task.Next.TheVariants as nexts
 use Rattle.cdi_frames.specs.declared.stack.Pending.{Pending}
 use Rattle.cdi_frames.specs.declared.stack.Pending.TheVariants as pendings
 use Rattle.cdi_frames.specs.declared.stack.Stack.{Stack}

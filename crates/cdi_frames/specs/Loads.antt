@@ -1,9 +1,9 @@
 -- What each step of a stack lowers: the entries that are left, and then what waits and what is next, by ranks.
 use Rattle.std.specs.Prelude.{ℕ, zero, suc, ◌+◌, ◌*◌, ◌^◌, ◌<◌, List, [], ◌∷◌}
 use Rattle.cdi_machine.specs.World.{World}
-use Rattle.cdi_calls.specs.of_steps.Ranks.{rank, frame_rank, awaited_rank, back_rank}
+use Rattle.cdi_steps.specs.Ranks.{rank, frame_rank, awaited_rank, back_rank}
 use Rattle.cdi_frames.specs.Stacks.{entries_left}
-use Rattle.cdi_calls.specs.of_steps.declared.task.Frame.{Frame}
+use Rattle.cdi_steps.specs.declared.task.Frame.{Frame}
 use Rattle.cdi_frames.specs.declared.stack.Pending.{Pending}
 use Rattle.cdi_frames.specs.declared.stack.Pending.TheVariants as pendings
 use Rattle.cdi_frames.specs.declared.stack.Stack.{Stack}

@@ -9,18 +9,18 @@ use Rattle.cdi_machine.specs.World.{World, with_entry}
 use Rattle.cdi_machine.specs.Programs.{Given, Prog, tick}
 use Rattle.cdi_machine.specs.Runs as runs
 use Rattle.cdi_machine.specs.Runs.{Legal, Runs}
-use Rattle.cdi_calls.specs.of_steps.Words.{outcome_of}
-use Rattle.cdi_calls.specs.of_steps.Meanings.{over, around, node, first, continuation, waits, after}
-use Rattle.cdi_calls.specs.of_steps.Leads.{Comes}
-use Rattle.cdi_calls.specs.of_steps.Known.{AllInvoked, Known, KnownContinuation, KnownFrame}
-use Rattle.cdi_calls.specs.of_steps.declared.task.Continuation.{Continuation}
-use Rattle.cdi_calls.specs.of_steps.declared.task.Outcome.TheVariants as outcomes
-use Rattle.cdi_calls.specs.of_steps.declared.task.Task.TheVariants as tasks
-use Rattle.cdi_calls.specs.of_steps.declared.task.Outcome.{Outcome}
-use Rattle.cdi_calls.specs.of_steps.declared.task.Task.{Task}
-use Rattle.cdi_calls.specs.of_steps.declared.task.Frame.{Frame}
-use Rattle.cdi_calls.specs.of_steps.declared.task.Next.{Next}
-use Rattle.cdi_calls.specs.of_steps.declared.task.Next.TheVariants as nexts
+use Rattle.cdi_steps.specs.Words.{outcome_of}
+use Rattle.cdi_steps.specs.Meanings.{over, around, node, first, continuation, waits, after}
+use Rattle.cdi_steps.specs.Leads.{Comes}
+use Rattle.cdi_steps.specs.Known.{AllInvoked, Known, KnownContinuation, KnownFrame}
+use Rattle.cdi_steps.specs.declared.task.Continuation.{Continuation}
+use Rattle.cdi_steps.specs.declared.task.Outcome.TheVariants as outcomes
+use Rattle.cdi_steps.specs.declared.task.Task.TheVariants as tasks
+use Rattle.cdi_steps.specs.declared.task.Outcome.{Outcome}
+use Rattle.cdi_steps.specs.declared.task.Task.{Task}
+use Rattle.cdi_steps.specs.declared.task.Frame.{Frame}
+use Rattle.cdi_steps.specs.declared.task.Next.{Next}
+use Rattle.cdi_steps.specs.declared.task.Next.TheVariants as nexts
 use Rattle.cdi_frames.specs.declared.stack.Pending.{Pending}
 use Rattle.cdi_frames.specs.declared.stack.Pending.TheVariants as pendings
 use Rattle.cdi_frames.specs.declared.stack.Progress.{Progress}

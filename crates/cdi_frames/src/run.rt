@@ -1,9 +1,9 @@
 //! The engine: a loop over its steps, which alone writes entries, and can stop before each of them.
 ghost use Rattle.std.specs.Prelude.{◌≡◌, ◌≤◌, length, false, IfOk, IfErr, OnErr, IsTrue};
-ghost use Rattle.cdi_calls.specs.of_steps.Meanings.{first};
-ghost use Rattle.cdi_calls.specs.of_steps.Leads.{Ran};
-ghost use Rattle.cdi_calls.specs.of_steps.Known.{AllInvoked, Known};
-ghost use Rattle.cdi_calls.specs.of_steps.Driving.{Drives, HasFailed, Narrows};
+ghost use Rattle.cdi_steps.specs.Meanings.{first};
+ghost use Rattle.cdi_steps.specs.Leads.{Ran};
+ghost use Rattle.cdi_steps.specs.Known.{AllInvoked, Known};
+ghost use Rattle.cdi_steps.specs.Driving.{Drives, HasFailed, Narrows};
 ghost use Rattle.cdi_frames.specs.Stacks.{program_of, stack_at, turn_at, turns_at, KeepsMeaning, TurnsTo, AddsAtMost, KeepsCount, HasRoomFor, IsSpent, entries_due, KnownStack, KnownTurn};
 ghost use Rattle.cdi_frames.specs.Hearing.{Noted, ToldIf, HearsTurn, HearsOutcome, HasFailedAt};
 ghost use Rattle.cdi_frames.specs.Loads.{IsCheaper};
@@ -14,13 +14,13 @@ use crate::step::step;
 use cdi_base::{Cause, Entry};
 use cdi_calls::cdi_host::{Contents, Tables};
 use cdi_calls::cdi_stacks::Stack as Waiting;
-use cdi_calls::cdi_steps::Outcome;
-use cdi_calls::cdi_steps::task::{Frame, Task};
 use cdi_machine::{Driver, Failure};
+use cdi_steps::Outcome;
+use cdi_steps::task::{Frame, Task};
 
 /// Writes an entry of which the driver is told, if the command may have one more. An error comes from the driver, or memory is
 /// wanting; on an error the world is the same.
-#[tactic(auto, using(cdi_calls::proofs::of_steps::Driving::driving))]
+#[tactic(auto, using(cdi_steps::proofs::Driving::driving))]
 fn write<D: Driver, W: Contents>(
     driver: &mut D,
     world: &mut W,

@@ -4,7 +4,7 @@ ghost use Rattle.cdi_frames.specs.Stacks.{frames_with, pending_for, IsDue};
 
 use cdi_base::Entry;
 use cdi_calls::cdi_stacks::Stack as Waiting;
-use cdi_calls::cdi_steps::task::{Continuation, Frame, Next, Outcome, Task};
+use cdi_steps::task::{Continuation, Frame, Next, Outcome, Task};
 use std::alloc::{AllocError, Global};
 
 /// What is next.

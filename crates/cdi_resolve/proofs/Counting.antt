@@ -7,7 +7,7 @@ use Rattle.std.specs.Prelude.{ℤ, slice_index}
 use Rattle.cdi_resolve.specs.Narrowing.{left_at, left_in}
 use Rattle.cdi_resolve.specs.declared.filter.Left.{Left}
 use Rattle.cdi_resolve.specs.declared.question.Question.{Question}
-use Rattle.cdi_enable.specs.of_beans.declared.bean.Bean.{Bean}
+use Rattle.cdi_beans.specs.declared.bean.Bean.{Bean}
 use Rattle.cdi_resolve.specs.Resolution.{sole, greater, all_have_priority}
 use Rattle.cdi_resolve.specs.declared.resolution.Resolution.{Resolution}
 use Rattle.cdi_resolve.specs.declared.resolution.Resolution.TheVariants.{Nothing, One, Many}

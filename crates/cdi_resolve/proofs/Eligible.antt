@@ -1,7 +1,7 @@
 -- What resolves to one bean is eligible.
 use Rattle.std.proofs.Common.{◌≡◌, ◌∙◌, ℕ, zero, suc, Bool, true, false, List, [], ◌∷◌, filter, cond, Option, Some, None, refl, sym, ap, arith}
 use Rattle.std.specs.Prelude.{ℤ, Contains}
-use Rattle.cdi_enable.specs.of_beans.declared.bean.Bean.{Bean}
+use Rattle.cdi_beans.specs.declared.bean.Bean.{Bean}
 use Rattle.cdi_quals.specs.declared.qualifier.Qualifier.{Qualifier}
 use Rattle.cdi_resolve.specs.Filters.{fits}
 use Rattle.cdi_resolve.specs.Resolution.{eligible, alternatives, all_have_priority, greatest_priority, with_greatest, highest, just_one, by_priority, among_alternatives, among_eligible, resolution, IsEligible}

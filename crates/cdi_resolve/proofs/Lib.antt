@@ -5,5 +5,5 @@ pub mod Filtering
 pub mod Narrowing
 pub mod Pushing
 pub mod Rows
-pub use Rattle.cdi_enable.proofs.of_beans as of_beans
+pub use Rattle.cdi_beans.proofs as of_beans
 pub use Rattle.cdi_enable.proofs as of_enable

@@ -2,7 +2,7 @@
 use Rattle.std.proofs.Common.{◌≡◌, ◌∙◌, ℕ, ◌&&◌, Bool, true, false, cond, List, [], ◌∷◌, Option, Some, None, filter, refl, sym, ap}
 use Rattle.std.specs.Prelude.{ℤ, slice_get, option_map, option_and_then}
 use Rattle.std.specs.List.{cons_option}
-use Rattle.cdi_enable.specs.of_beans.declared.bean.Bean.{Bean}
+use Rattle.cdi_beans.specs.declared.bean.Bean.{Bean}
 use Rattle.cdi_quals.specs.declared.qualifier.Qualifier.{Qualifier}
 use Rattle.cdi_resolve.specs.Filters.{required_of, has_type, has_required, has_priority, having_type}
 use Rattle.cdi_resolve.specs.Narrowing.{passes, if_passing, left_in, left_of, eligible_of}

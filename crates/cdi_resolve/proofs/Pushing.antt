@@ -1,6 +1,6 @@
 -- A list that is made by pushes.
 use Rattle.std.proofs.Common.{◌≡◌, ◌∙◌, ℕ, List, [], ◌∷◌, ◌++◌, fold, refl, append_assoc, append-nil, sym}
-use Rattle.cdi_enable.specs.of_beans.declared.bean.Bean.{Bean}
+use Rattle.cdi_beans.specs.declared.bean.Bean.{Bean}
 
 abbrev pub pushed : List (ℕ × Bean) → ℕ × Bean → List (ℕ × Bean)
 pushed xs x = xs ++ x ∷ []

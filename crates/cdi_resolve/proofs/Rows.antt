@@ -7,7 +7,7 @@ use Rattle.std.proofs.lemmas.List.Folds.{list_any-append}
 use Rattle.std.proofs.lemmas.Option.{slice_get_read}
 use Rattle.std.specs.List.{enumerate_from, cons_option, list_any}
 use Rattle.std.specs.Option.{option_map, unwrap_or}
-use Rattle.cdi_enable.specs.of_beans.declared.bean.Bean.{Bean}
+use Rattle.cdi_beans.specs.declared.bean.Bean.{Bean}
 use Rattle.cdi_resolve.specs.Filters.{is_enabled, has_type, having_type}
 use Rattle.cdi_resolve.specs.TypeIndex.{is_bean, ends_in, with_last, listed}
 

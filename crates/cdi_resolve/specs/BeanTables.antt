@@ -1,9 +1,9 @@
 -- What is made from a deployment and its bean list.
 use Rattle.std.specs.Prelude.{◌≡◌, Bool, List, map}
-use Rattle.cdi_enable.specs.of_beans.Declarations.{AreDeclaredBy}
-use Rattle.cdi_enable.specs.of_beans.Problems.{IsMadeOf}
-use Rattle.cdi_enable.specs.of_beans.declared.bean.BeanList.{BeanList}
-use Rattle.cdi_enable.specs.of_beans.declared.declared.DeclaredTables.{DeclaredTables}
+use Rattle.cdi_beans.specs.Declarations.{AreDeclaredBy}
+use Rattle.cdi_beans.specs.Problems.{IsMadeOf}
+use Rattle.cdi_beans.specs.declared.bean.BeanList.{BeanList}
+use Rattle.cdi_beans.specs.declared.declared.DeclaredTables.{DeclaredTables}
 use Rattle.cdi_chains.specs.Bindings.{class_bindings}
 use Rattle.cdi_deployment.specs.declared.deployment.Deployment.{Deployment}
 use Rattle.cdi_enable.specs.Enablement.{AreFlags, Enablement, enablement_of}

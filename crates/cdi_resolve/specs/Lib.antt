@@ -4,6 +4,6 @@ pub mod Narrowing
 pub mod Resolution
 pub mod TypeIndex
 pub use Rattle.cdi_enable.specs.of_bean_check as of_bean_check
-pub use Rattle.cdi_enable.specs.of_beans as of_beans
+pub use Rattle.cdi_beans.specs as of_beans
 pub use Rattle.cdi_chains.specs as of_chains
 pub use Rattle.cdi_enable.specs as of_enable

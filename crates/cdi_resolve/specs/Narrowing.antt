@@ -1,7 +1,7 @@
 -- Which of the beans that have a type are left at a step of resolution.
 use Rattle.std.specs.Prelude.{ℕ, ◌&&◌, Bool, List, Option, Some, None, option_map, option_and_then, slice_get, filter, if◌then◌else◌}
 use Rattle.std.specs.List.{filter_map}
-use Rattle.cdi_enable.specs.of_beans.declared.bean.Bean.{Bean}
+use Rattle.cdi_beans.specs.declared.bean.Bean.{Bean}
 use Rattle.cdi_quals.specs.declared.qualifier.Qualifier.{Qualifier}
 use Rattle.cdi_resolve.specs.Filters.{has_required, has_priority, required_of}
 use Rattle.cdi_resolve.specs.TypeIndex.{listed}

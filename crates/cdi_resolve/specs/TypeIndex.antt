@@ -2,7 +2,7 @@
 use Rattle.std.specs.Prelude.{ℕ, ◌-◌, ◌≡◌, ◌==◌, ◌++◌, Bool, false, List, [], ◌∷◌, length, Option, Some, None, option_map, unwrap_or, nat_eq, slice_get, if◌then◌else◌}
 use Rattle.std.specs.HashMap.{get}
 use Rattle.std.specs.List.{list_any, filter_map}
-use Rattle.cdi_enable.specs.of_beans.declared.bean.Bean.{Bean}
+use Rattle.cdi_beans.specs.declared.bean.Bean.{Bean}
 use Rattle.cdi_resolve.specs.Filters.{enabled_beans, having_type}
 use Rattle.cdi_resolve.specs.declared.type_index.TypeIndex.{TypeIndex}
 

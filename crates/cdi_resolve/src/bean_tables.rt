@@ -1,15 +1,15 @@
 //! The tables that a bean list gives.
 ghost use Rattle.std.specs.Prelude.{◌≡◌, [], IfOk};
-ghost use Rattle.cdi_enable.specs.of_beans.Declarations.{AreDeclaredBy};
-ghost use Rattle.cdi_enable.specs.of_beans.Problems.{IsMadeOf};
+ghost use Rattle.cdi_beans.specs.Declarations.{AreDeclaredBy};
+ghost use Rattle.cdi_beans.specs.Problems.{IsMadeOf};
 ghost use Rattle.cdi_enable.specs.Enablement.{AreFlags, enablement_of};
 ghost use Rattle.cdi_resolve.specs.BeanTables as spec;
 
 use crate::resolver::Resolver;
 use cdi_base::Seq;
+use cdi_beans::{BeanList, DeclaredTables, DisposerMethod, ObserverMethod};
 use cdi_chains::Chains;
 use cdi_deployment::Deployment;
-use cdi_enable::cdi_beans::{BeanList, DeclaredTables, DisposerMethod, ObserverMethod};
 use cdi_enable::laws::law_forest;
 use cdi_enable::{EnabledSet, enabled};
 use std::alloc::{AllocError, Global};

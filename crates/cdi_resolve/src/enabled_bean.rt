@@ -1,10 +1,10 @@
 //! The enabled ones of a list of beans.
 ghost use Rattle.std.specs.Prelude.{◌≡◌, IfOk};
-ghost use Rattle.cdi_enable.specs.of_beans.Kinds.{is_managed as kind_is_managed};
+ghost use Rattle.cdi_beans.specs.Kinds.{is_managed as kind_is_managed};
 ghost use Rattle.cdi_resolve.specs.Filters.{enabled_beans, is_bean_of, is_enabled};
 
 use cdi_base::{Name, Seq};
-use cdi_enable::cdi_beans::{Bean, BeanKind, BeanMember};
+use cdi_beans::{Bean, BeanKind, BeanMember};
 use std::alloc::{AllocError, Global};
 use std::marker::Model;
 
@@ -17,7 +17,7 @@ pub struct EnabledBean<'a> {
 
 impl<'a> Model for EnabledBean<'a> {
     ghost use Rattle.std.specs.Prelude.{ℕ};
-    ghost use Rattle.cdi_enable.specs.of_beans.declared.bean.Bean.{Bean};
+    ghost use Rattle.cdi_beans.specs.declared.bean.Bean.{Bean};
 
     ghost Value = { ℕ × Bean };
 

@@ -4,7 +4,7 @@ ghost use Rattle.cdi_resolve.specs.Filters as filters;
 ghost use Rattle.cdi_resolve.specs.Narrowing as spec;
 
 use crate::required::Required;
-use cdi_enable::cdi_beans::Bean;
+use cdi_beans::Bean;
 use cdi_quals::Qualifier;
 
 /// What beans are left, of those that have a type and required qualifiers.

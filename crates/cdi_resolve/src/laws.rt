@@ -1,6 +1,6 @@
 //! Laws of resolution, over the definitions alone.
 ghost use Rattle.std.specs.Prelude.{◌≡◌, ℕ, List};
-ghost use Rattle.cdi_enable.specs.of_beans.declared.bean.Bean.{Bean};
+ghost use Rattle.cdi_beans.specs.declared.bean.Bean.{Bean};
 ghost use Rattle.cdi_quals.specs.declared.qualifier.Qualifier.{Qualifier};
 ghost use Rattle.cdi_resolve.specs.Resolution.{resolution, IsEligible};
 ghost use Rattle.cdi_resolve.specs.declared.resolution.Resolution.TheVariants.{One};

@@ -7,7 +7,7 @@ ghost use Rattle.cdi_resolve.specs.Resolution as spec;
 use crate::filter::{Left, passes};
 use crate::required::Required;
 use crate::resolution::Resolution;
-use cdi_enable::cdi_beans::Bean;
+use cdi_beans::Bean;
 use cdi_quals::Qualifier;
 
 /// What is asked for, among the enabled beans that have the type.

@@ -7,7 +7,7 @@ ghost use Rattle.cdi_enable.specs.of_bean_check.Qualifiers.{full_uses};
 ghost use Rattle.cdi_resolve.specs.Filters as spec;
 
 use cdi_base::{MemberValue, Name, Seq, Use, Value};
-use cdi_enable::cdi_beans::BeanQualifiers;
+use cdi_beans::BeanQualifiers;
 use cdi_quals::order::compare_values;
 use cdi_quals::{MemberType, QualSet, Qualifier, QualifierMember, QualifierTypes};
 use std::rc::Rc;
@@ -92,7 +92,7 @@ fn has_written_in(parts: &[Rc<Seq<Qualifier>>], types: &QualifierTypes, written:
 }
 
 /// Whether a bean has a qualifier that is given as it was written.
-#[tactic(auto, using(cdi_enable::proofs::of_beans::InParts::any_of))]
+#[tactic(auto, using(cdi_beans::proofs::InParts::any_of))]
 fn bean_has_written(own: &BeanQualifiers, types: &QualifierTypes, written: &Use) -> bool
     ensures { result ≡ quals.has own.now (quals.full_use types.now written.now) }
 {

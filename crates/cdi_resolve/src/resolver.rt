@@ -12,7 +12,7 @@ use crate::required::Required;
 use crate::resolution::Resolution;
 use crate::type_index::{TypeIndex, has_flag};
 use cdi_base::{BuiltIn, Name, Seq, Use};
-use cdi_enable::cdi_beans::Bean;
+use cdi_beans::Bean;
 use cdi_quals::{QualSet, Qualifier, QualifierTypes};
 use std::alloc::{AllocError, Global};
 use std::marker::Model;

@@ -7,7 +7,7 @@ use cdi_quals::QualSet;
 /// What tells what a type and qualifiers resolve to among the enabled beans of a list.
 pub trait Resolving {
     ghost use Rattle.std.specs.Prelude.{◌≡◌, ℕ, List};
-    ghost use Rattle.cdi_enable.specs.of_beans.declared.bean.Bean.{Bean};
+    ghost use Rattle.cdi_beans.specs.declared.bean.Bean.{Bean};
     ghost use Rattle.cdi_resolve.specs.Resolution.{resolution};
 
     /// The enabled beans, each with its index in the list.

@@ -5,7 +5,7 @@ ghost use Rattle.cdi_resolve.specs.Filters.{enabled_beans, having_type, is_enabl
 ghost use Rattle.cdi_resolve.specs.TypeIndex as spec;
 
 use cdi_base::{Name, Seq};
-use cdi_enable::cdi_beans::Bean;
+use cdi_beans::Bean;
 use std::alloc::{AllocError, Global};
 use std::collections::HashMap;
 

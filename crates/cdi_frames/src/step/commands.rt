@@ -2,17 +2,17 @@
 ghost use Rattle.std.specs.Prelude.{◌≡◌, IfOk, OnErr};
 ghost use Rattle.cdi_machine.specs.World.{after_change};
 ghost use Rattle.cdi_machine.specs.World.Change.{Return};
-ghost use Rattle.cdi_calls.specs.of_steps.Known.{KnownJob};
-ghost use Rattle.cdi_calls.specs.of_steps.Steps.{Moves, GoesOn};
-ghost use Rattle.cdi_calls.specs.of_steps.declared.task.Outcome.{Outcome};
+ghost use Rattle.cdi_steps.specs.Known.{KnownJob};
+ghost use Rattle.cdi_steps.specs.Steps.{Moves, GoesOn};
+ghost use Rattle.cdi_steps.specs.declared.task.Outcome.{Outcome};
 
 use cdi_base::{Scope, Text};
 use cdi_calls::cdi_host::{Contents, Tables};
-use cdi_calls::cdi_steps::ends::{ended, null};
-use cdi_calls::cdi_steps::task::{
+use cdi_events::contexts;
+use cdi_steps::ends::{ended, null};
+use cdi_steps::task::{
     AfterClose, BeanUse, Call, Completion, ContainerEvent, Event, Frame, Job, Next, Task,
 };
-use cdi_events::contexts;
 use cdi_store::Context;
 use std::alloc::{AllocError, Global};
 

@@ -1,13 +1,13 @@
 //! What comes after an entry.
 ghost use Rattle.std.specs.Prelude.{◌≡◌, IfOk, OnErr};
-ghost use Rattle.cdi_calls.specs.of_steps.Known.{KnownContinuation};
-ghost use Rattle.cdi_calls.specs.of_steps.Steps.{Follows};
+ghost use Rattle.cdi_steps.specs.Known.{KnownContinuation};
+ghost use Rattle.cdi_steps.specs.Steps.{Follows};
 
 use super::bodies;
 use cdi_calls::cdi_host::{Contents, Tables};
-use cdi_calls::cdi_steps::task::{Continuation, Next};
-use cdi_calls::cdi_steps::{creation, destruction, products};
 use cdi_events::observers;
+use cdi_steps::task::{Continuation, Next};
+use cdi_steps::{creation, destruction, products};
 use std::alloc::AllocError;
 
 /// What comes after an entry, up to what it needs or writes. Memory can be wanting; on an error nothing changes.

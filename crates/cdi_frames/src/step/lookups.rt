@@ -6,8 +6,8 @@ ghost use Rattle.cdi_machine.specs.World.{instance_at};
 ghost use Rattle.cdi_machine.specs.Programs.{Gave};
 ghost use Rattle.cdi_machine.specs.Bodies.{answer_find, perform};
 ghost use Rattle.cdi_machine.specs.DestroyAct.{destroy_by, is_made};
-ghost use Rattle.cdi_calls.specs.of_steps.Known.{IsKnownBody};
-ghost use Rattle.cdi_calls.specs.of_steps.Steps.{GoesOn, Settles};
+ghost use Rattle.cdi_steps.specs.Known.{IsKnownBody};
+ghost use Rattle.cdi_steps.specs.Steps.{GoesOn, Settles};
 ghost use Rattle.cdi_frames.specs.Acts.{bean_looked_up, destroy_found, StopsAlike};
 
 use super::bodies::{answer, missed, threw, with_answer};
@@ -15,10 +15,10 @@ use cdi_base::{Answer, BuiltIn, Value};
 use cdi_bodies::BodyId;
 use cdi_calls::cdi_host::{Contents, Resolution, Tables};
 use cdi_calls::cdi_stacks::Running;
-use cdi_calls::cdi_steps::creation::reference_to;
-use cdi_calls::cdi_steps::obtaining::is_normal;
-use cdi_calls::cdi_steps::task::{Call, Completion, Frame, Given, Next, Task};
 use cdi_contexts::Held;
+use cdi_steps::creation::reference_to;
+use cdi_steps::obtaining::is_normal;
+use cdi_steps::task::{Call, Completion, Frame, Given, Next, Task};
 use cdi_store::{Owner, Phase, Reference};
 use std::alloc::AllocError;
 

@@ -2,8 +2,8 @@
 ghost use Rattle.std.specs.Prelude.{◌≡◌, IfOk, OnErr};
 ghost use Rattle.cdi_base.specs.declared.act.Act.TheVariants.{Proceed};
 ghost use Rattle.cdi_machine.specs.Bodies.{fits, perform, repeats};
-ghost use Rattle.cdi_calls.specs.of_steps.Known.{IsKnownBody};
-ghost use Rattle.cdi_calls.specs.of_steps.Steps.{Settles};
+ghost use Rattle.cdi_steps.specs.Known.{IsKnownBody};
+ghost use Rattle.cdi_steps.specs.Steps.{Settles};
 ghost use Rattle.cdi_frames.specs.Proceeding.{having_tried, refusal_in, with_replaced};
 ghost use Rattle.cdi_calls.specs.of_host.Asked.{top_of};
 
@@ -11,7 +11,7 @@ use super::bodies::answer;
 use cdi_base::{BuiltIn, InterceptorMethod, Seq, Value};
 use cdi_calls::cdi_host::{Contents, Tables};
 use cdi_calls::cdi_stacks::{Chain, Running};
-use cdi_calls::cdi_steps::task::{Call, Completion, Frame, Next, Task};
+use cdi_steps::task::{Call, Completion, Frame, Next, Task};
 use std::alloc::AllocError;
 
 /// Goes on with the rest of a body's chain, with the parameters as they are or with others (Jakarta Interceptors 2.1,

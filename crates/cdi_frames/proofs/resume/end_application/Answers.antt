@@ -1,6 +1,6 @@
 use Rattle.std.proofs.Common.{refl}
 use Rattle.cdi_events.proofs.ContextSteps.{begins}
-use Rattle.cdi_calls.proofs.of_steps.Results.{map_ok}
+use Rattle.cdi_steps.proofs.Results.{map_ok}
 use Rattle.cdi_frames.proofs.resume.end_application.Goals as goal
 
 pub returns : goal.returns

@@ -1,11 +1,11 @@
 use Rattle.std.proofs.Common.{refl, arith}
-use Rattle.cdi_calls.specs.of_steps.declared.task.Completion.TheVariants as completions
-use Rattle.cdi_calls.proofs.of_steps.Changes.{exit_invoked, reach_invoked}
-use Rattle.cdi_calls.proofs.of_steps.DestructionSteps.{released_leads}
-use Rattle.cdi_calls.proofs.of_steps.InjectionSteps.{discarded_leads, stepped_leads}
-use Rattle.cdi_calls.proofs.of_steps.ProductSteps.{dropped_leads}
-use Rattle.cdi_calls.proofs.of_steps.Made.{ends, leaves_alone, settled}
-use Rattle.cdi_calls.proofs.of_steps.Results.{map_ok}
+use Rattle.cdi_steps.specs.declared.task.Completion.TheVariants as completions
+use Rattle.cdi_steps.proofs.Changes.{exit_invoked, reach_invoked}
+use Rattle.cdi_steps.proofs.DestructionSteps.{released_leads}
+use Rattle.cdi_steps.proofs.InjectionSteps.{discarded_leads, stepped_leads}
+use Rattle.cdi_steps.proofs.ProductSteps.{dropped_leads}
+use Rattle.cdi_steps.proofs.Made.{ends, leaves_alone, settled}
+use Rattle.cdi_steps.proofs.Results.{map_ok}
 use Rattle.cdi_frames.proofs.CommandSteps.{starting_leads, opened_leads}
 use Rattle.cdi_frames.proofs.ResumeSteps.{reached_leads, intercepted_leads, stopped_leads, exited_leads, cleaned_up_leads, freeing_leads, dismissing_leads, clearing_leads, returned_leads, told_leads}
 use Rattle.cdi_frames.proofs.resume.go_on.Goals as goal

@@ -1,12 +1,12 @@
 use Rattle.std.proofs.Common.{refl, arith}
-use Rattle.cdi_calls.specs.of_steps.declared.task.Completion.TheVariants as completions
-use Rattle.cdi_calls.proofs.of_steps.Changes.{exit_invoked}
-use Rattle.cdi_calls.proofs.of_steps.DisposerSteps.{disposed_threw}
-use Rattle.cdi_calls.proofs.of_steps.InjectionSteps.{injected_threw, stepped_threw}
-use Rattle.cdi_calls.proofs.of_steps.ProductSteps.{produced_threw}
-use Rattle.cdi_calls.proofs.of_steps.Made.{ends, leaves_alone, settled}
-use Rattle.cdi_calls.proofs.of_steps.Ranks.{thrown_above}
-use Rattle.cdi_calls.proofs.of_steps.Results.{map_ok}
+use Rattle.cdi_steps.specs.declared.task.Completion.TheVariants as completions
+use Rattle.cdi_steps.proofs.Changes.{exit_invoked}
+use Rattle.cdi_steps.proofs.DisposerSteps.{disposed_threw}
+use Rattle.cdi_steps.proofs.InjectionSteps.{injected_threw, stepped_threw}
+use Rattle.cdi_steps.proofs.ProductSteps.{produced_threw}
+use Rattle.cdi_steps.proofs.Made.{ends, leaves_alone, settled}
+use Rattle.cdi_steps.proofs.Ranks.{thrown_above}
+use Rattle.cdi_steps.proofs.Results.{map_ok}
 use Rattle.cdi_frames.proofs.CommandSteps.{starting_leads, opened_leads}
 use Rattle.cdi_frames.proofs.ResumeSteps.{stopped_leads, exited_leads, cleaned_up_leads, threw_at_return, told_leads, threw_leads}
 use Rattle.cdi_frames.proofs.resume.go_on_after.Goals as goal

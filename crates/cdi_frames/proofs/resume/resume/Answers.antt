@@ -1,5 +1,5 @@
 use Rattle.std.proofs.Common.{refl, arith}
-use Rattle.cdi_calls.proofs.of_steps.Made.{ends}
+use Rattle.cdi_steps.proofs.Made.{ends}
 use Rattle.cdi_frames.proofs.ResumeSteps.{cut_leads}
 use Rattle.cdi_frames.proofs.resume.resume.Goals as goal
 

@@ -1,6 +1,6 @@
 use Rattle.std.proofs.Common.{rules, refl}
-use Rattle.cdi_calls.proofs.of_steps.Driving.{passed_on, starves_alone}
-use Rattle.cdi_calls.proofs.of_steps.Made.{driven}
+use Rattle.cdi_steps.proofs.Driving.{passed_on, starves_alone}
+use Rattle.cdi_steps.proofs.Made.{driven}
 use Rattle.cdi_frames.proofs.StaysKnown.{known_after}
 use Rattle.cdi_frames.proofs.Stacks.{does_step, gives_step, ends_step, writes_step, fills_step, turned_err, starves_here, starves_moved, starves_went}
 use Rattle.cdi_frames.proofs.Kept.{comes_still}

@@ -1,4 +1,4 @@
-use Rattle.cdi_calls.specs.of_steps.Driving.{Narrows}
+use Rattle.cdi_steps.specs.Driving.{Narrows}
 use Rattle.cdi_frames.specs.Hearing.{HearsTurn}
 use Rattle.cdi_frames.specs.declared.stack.Turn.TheVariants as turned
 use Rattle.cdi_frames.specs.Loads.{load_of}

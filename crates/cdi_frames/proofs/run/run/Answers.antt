@@ -1,4 +1,4 @@
-use Rattle.cdi_calls.proofs.of_steps.Results.{map_ok}
+use Rattle.cdi_steps.proofs.Results.{map_ok}
 use Rattle.cdi_frames.proofs.Hearing.{run_hears}
 use Rattle.cdi_frames.proofs.run.run.Goals as goal
 

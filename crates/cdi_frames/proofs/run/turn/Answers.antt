@@ -1,6 +1,6 @@
 use Rattle.std.proofs.Common.{rules, refl}
 use Rattle.std.specs.Prelude.{Ok, Err}
-use Rattle.cdi_calls.proofs.of_steps.Driving.{narrows_self, narrows_trans, still_drives, passed_on}
+use Rattle.cdi_steps.proofs.Driving.{narrows_self, narrows_trans, still_drives, passed_on}
 use Rattle.cdi_frames.specs.Stacks.{Steps, stack_at}
 use Rattle.cdi_frames.specs.declared.stack.Turn.TheVariants as turned
 use Rattle.cdi_frames.proofs.Stacks.{turned_after, turned_err}

@@ -1,5 +1,5 @@
 use Rattle.cdi_machine.specs.Hearing.Ending.{Due}
-use Rattle.cdi_calls.proofs.of_steps.Driving.{fails_for, passed_on, starves_told}
+use Rattle.cdi_steps.proofs.Driving.{fails_for, passed_on, starves_told}
 use Rattle.cdi_frames.proofs.run.write.Goals as goal
 
 pub returns-in_err-tell-clause-failed : goal.returns-in_err-tell-clause-failed

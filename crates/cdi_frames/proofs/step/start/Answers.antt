@@ -1,5 +1,5 @@
-use Rattle.cdi_calls.proofs.of_steps.Driving.{passed_on, starves_alone}
-use Rattle.cdi_calls.proofs.of_steps.Made.{driven}
+use Rattle.cdi_steps.proofs.Driving.{passed_on, starves_alone}
+use Rattle.cdi_steps.proofs.Made.{driven}
 use Rattle.cdi_frames.proofs.step.start.Goals as goal
 
 pub returns-in_err-rest-in-Rest-clause-failed : goal.returns-in_err-rest-in-Rest-clause-failed

@@ -1,5 +1,5 @@
 use Rattle.std.proofs.Common.{◌∙◌, ℕ, Bool, sym}
-use Rattle.cdi_enable.specs.of_beans.declared.bean.Bean.{Bean}
+use Rattle.cdi_beans.specs.declared.bean.Bean.{Bean}
 use Rattle.cdi_resolve.specs.Filters.{is_enabled, enabled_beans}
 use Rattle.cdi_resolve.proofs.Counting.{counted, passed_over, at_end}
 use Rattle.cdi_resolve.proofs.Pushing.{pushed, all_pushed}

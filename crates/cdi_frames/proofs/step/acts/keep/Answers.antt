@@ -1,5 +1,5 @@
 use Rattle.std.proofs.Common.{arith}
-use Rattle.cdi_calls.proofs.of_steps.Changes.{keep_invoked}
+use Rattle.cdi_steps.proofs.Changes.{keep_invoked}
 use Rattle.cdi_frames.proofs.ActSteps.{keep_leads}
 use Rattle.cdi_frames.proofs.step.acts.keep.Goals as goal
 

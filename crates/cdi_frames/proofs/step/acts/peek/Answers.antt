@@ -1,6 +1,6 @@
 use Rattle.std.proofs.Common.{arith}
-use Rattle.cdi_calls.proofs.of_steps.Results.{map_ok}
-use Rattle.cdi_calls.proofs.of_steps.Made.{settles_as, settles_less}
+use Rattle.cdi_steps.proofs.Results.{map_ok}
+use Rattle.cdi_steps.proofs.Made.{settles_as, settles_less}
 use Rattle.cdi_frames.proofs.ActSteps.{peek_missing, peek_leads}
 use Rattle.cdi_frames.proofs.step.acts.peek.Goals as goal
 

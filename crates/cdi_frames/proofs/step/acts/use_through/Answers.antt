@@ -1,6 +1,6 @@
 use Rattle.std.proofs.Common.{refl, arith}
-use Rattle.cdi_calls.proofs.of_steps.Results.{map_ok}
-use Rattle.cdi_calls.proofs.of_steps.Made.{leaves_alone, settled}
+use Rattle.cdi_steps.proofs.Results.{map_ok}
+use Rattle.cdi_steps.proofs.Made.{leaves_alone, settled}
 use Rattle.cdi_frames.proofs.ActSteps.{via_missing, via_leads}
 use Rattle.cdi_frames.proofs.step.acts.use_through.Goals as goal
 

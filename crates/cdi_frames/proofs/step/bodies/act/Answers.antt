@@ -2,8 +2,8 @@ use Rattle.std.proofs.Common.{refl, sym, ◌∙◌, ap, subst, arith}
 use Rattle.cdi_machine.specs.Hearing.Ending.{ActAsked}
 use Rattle.cdi_machine.specs.Programs.{Running}
 use Rattle.cdi_frames.proofs.BodySteps.{acts_missing, acts_leads}
-use Rattle.cdi_calls.proofs.of_steps.Driving.{fails_for, passed_on, starves_asked}
-use Rattle.cdi_calls.proofs.of_steps.Made.{driven, ends}
+use Rattle.cdi_steps.proofs.Driving.{fails_for, passed_on, starves_asked}
+use Rattle.cdi_steps.proofs.Made.{driven, ends}
 use Rattle.cdi_frames.proofs.step.bodies.act.Goals as goal
 
 pub act-requires : goal.act-requires

@@ -1,6 +1,6 @@
 use Rattle.std.proofs.Common.{refl, arith, rules}
 use Rattle.cdi_frames.proofs.BodySteps.{body_too_deep, body_missing, body_leads}
-use Rattle.cdi_calls.proofs.of_steps.Made.{ends, leaves_alone}
+use Rattle.cdi_steps.proofs.Made.{ends, leaves_alone}
 use Rattle.cdi_frames.proofs.step.bodies.begin.Goals as goal
 
 pub returns-then-not-may_go_deeper : goal.returns-then-not-may_go_deeper

@@ -1,9 +1,9 @@
 use Rattle.std.proofs.Common.{◌∙◌, length, sym, arith, rules}
-use Rattle.cdi_calls.specs.of_steps.Known.{of_method}
+use Rattle.cdi_steps.specs.Known.{of_method}
 use Rattle.std.proofs.lemmas.Bool.{eq-eqb}
 use Rattle.cdi_frames.proofs.BodySteps.{own_missing, own_miscounted, own_first}
-use Rattle.cdi_calls.proofs.of_steps.Results.{map_ok}
-use Rattle.cdi_calls.proofs.of_steps.Made.{settles_as, settles_less}
+use Rattle.cdi_steps.proofs.Results.{map_ok}
+use Rattle.cdi_steps.proofs.Made.{settles_as, settles_less}
 use Rattle.cdi_frames.proofs.step.bodies.call_own.Goals as goal
 
 pub returns-in_default : goal.returns-in_default

@@ -1,7 +1,7 @@
 use Rattle.std.proofs.Common.{refl, arith}
 use Rattle.cdi_frames.proofs.BodySteps.{give_leads, throw_leads}
-use Rattle.cdi_calls.proofs.of_steps.Results.{map_ok}
-use Rattle.cdi_calls.proofs.of_steps.Made.{ends, settled}
+use Rattle.cdi_steps.proofs.Results.{map_ok}
+use Rattle.cdi_steps.proofs.Made.{ends, settled}
 use Rattle.cdi_frames.proofs.step.bodies.perform.Goals as goal
 
 pub returns-in-Give-clause-step : goal.returns-in-Give-clause-step

@@ -1,7 +1,7 @@
 use Rattle.std.proofs.Common.{arith}
 use Rattle.cdi_frames.proofs.BodySteps.{set_missing, set_leads}
-use Rattle.cdi_calls.proofs.of_steps.Results.{map_ok}
-use Rattle.cdi_calls.proofs.of_steps.Made.{settles_as, settles_less}
+use Rattle.cdi_steps.proofs.Results.{map_ok}
+use Rattle.cdi_steps.proofs.Made.{settles_as, settles_less}
 use Rattle.cdi_frames.proofs.step.bodies.set_field.Goals as goal
 
 pub returns-then-not-has_field-clause-step : goal.returns-then-not-has_field-clause-step

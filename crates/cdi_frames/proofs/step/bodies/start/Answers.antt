@@ -1,6 +1,6 @@
 use Rattle.std.proofs.Common.{refl, arith}
 use Rattle.cdi_frames.proofs.BodySteps.{start_leads}
-use Rattle.cdi_calls.proofs.of_steps.Made.{leaves_alone}
+use Rattle.cdi_steps.proofs.Made.{leaves_alone}
 use Rattle.cdi_frames.proofs.step.bodies.start.Goals as goal
 
 pub returns-clause-step : goal.returns-clause-step

@@ -1,7 +1,7 @@
 use Rattle.std.proofs.Common.{refl, arith}
 use Rattle.cdi_frames.proofs.CommandSteps.{boot_leads, live_leads}
-use Rattle.cdi_calls.proofs.of_steps.Made.{ends, leaves_alone, settled}
-use Rattle.cdi_calls.proofs.of_steps.Results.{map_ok}
+use Rattle.cdi_steps.proofs.Made.{ends, leaves_alone, settled}
+use Rattle.cdi_steps.proofs.Results.{map_ok}
 use Rattle.cdi_frames.proofs.step.commands.begin.Goals as goal
 
 pub returns-in-Boot-clause-step : goal.returns-in-Boot-clause-step

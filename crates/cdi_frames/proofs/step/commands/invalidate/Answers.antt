@@ -2,7 +2,7 @@ use Rattle.std.proofs.Common.{refl, sym, arith}
 use Rattle.cdi_machine.specs.Commands.{invalidate}
 use Rattle.cdi_frames.proofs.CommandSteps.{invalidate_used, invalidate_unused}
 use Rattle.cdi_events.proofs.ContextSteps.{begins_alone}
-use Rattle.cdi_calls.proofs.of_steps.Made.{ends, settled}
+use Rattle.cdi_steps.proofs.Made.{ends, settled}
 use Rattle.cdi_frames.proofs.step.commands.invalidate.Goals as goal
 
 pub returns-then-is_used-clause-step : goal.returns-then-is_used-clause-step

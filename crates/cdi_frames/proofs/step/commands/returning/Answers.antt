@@ -1,6 +1,6 @@
 use Rattle.std.proofs.Common.{refl, arith}
 use Rattle.cdi_frames.proofs.CommandSteps.{returning_empty, returning_leads}
-use Rattle.cdi_calls.proofs.of_steps.Made.{ends, leaves_alone}
+use Rattle.cdi_steps.proofs.Made.{ends, leaves_alone}
 use Rattle.cdi_frames.proofs.step.commands.returning.Goals as goal
 
 pub returns-in-Some-None-clause-step : goal.returns-in-Some-None-clause-step

@@ -1,8 +1,8 @@
 use Rattle.std.proofs.Common.{◌∙◌, sym, ap, arith}
-use Rattle.cdi_calls.specs.of_steps.Leads.{next_stop}
-use Rattle.cdi_calls.specs.of_steps.Meanings.{shut_requests}
-use Rattle.cdi_calls.proofs.of_steps.Made.{settled}
-use Rattle.cdi_calls.proofs.of_steps.Results.{map_ok}
+use Rattle.cdi_steps.specs.Leads.{next_stop}
+use Rattle.cdi_steps.specs.Meanings.{shut_requests}
+use Rattle.cdi_steps.proofs.Made.{settled}
+use Rattle.cdi_steps.proofs.Results.{map_ok}
 use Rattle.cdi_frames.proofs.step.commands.shut_down.Goals as goal
 
 pub returns-clause-step : goal.returns-clause-step

@@ -1,6 +1,6 @@
 use Rattle.std.proofs.Common.{refl, arith}
 use Rattle.cdi_frames.proofs.CommandSteps.{use_leads}
-use Rattle.cdi_calls.proofs.of_steps.Made.{leaves_alone}
+use Rattle.cdi_steps.proofs.Made.{leaves_alone}
 use Rattle.cdi_frames.proofs.step.commands.use_bean.Goals as goal
 
 pub returns-in-Ok-clause-step : goal.returns-in-Ok-clause-step

@@ -1,7 +1,7 @@
 use Rattle.std.proofs.Common.{refl, arith}
-use Rattle.cdi_calls.specs.of_steps.Leads.{Comes}
-use Rattle.cdi_calls.proofs.of_steps.Made.{leaves_alone}
-use Rattle.cdi_calls.proofs.of_steps.Results.{map_ok}
+use Rattle.cdi_steps.specs.Leads.{Comes}
+use Rattle.cdi_steps.proofs.Made.{leaves_alone}
+use Rattle.cdi_steps.proofs.Results.{map_ok}
 use Rattle.cdi_frames.proofs.step.entries.go_on.Goals as goal
 
 pub returns-in-Making-clause-step : goal.returns-in-Making-clause-step

@@ -1,6 +1,6 @@
 use Rattle.std.proofs.Common.{sym, arith}
-use Rattle.cdi_calls.proofs.of_steps.Results.{map_ok}
-use Rattle.cdi_calls.proofs.of_steps.Made.{settles_as, settles_less}
+use Rattle.cdi_steps.proofs.Results.{map_ok}
+use Rattle.cdi_steps.proofs.Made.{settles_as, settles_less}
 use Rattle.cdi_frames.proofs.LookupSteps.{destroy_refused, destroy_nothing, destroy_busy, destroy_leads}
 use Rattle.cdi_frames.proofs.step.lookups.destroy.Goals as goal
 

@@ -1,7 +1,7 @@
 use Rattle.std.proofs.Common.{arith}
-use Rattle.cdi_calls.proofs.of_steps.Heads.{is_there}
-use Rattle.cdi_calls.proofs.of_steps.Results.{map_ok}
-use Rattle.cdi_calls.proofs.of_steps.Made.{settles_as, settles_less}
+use Rattle.cdi_steps.proofs.Heads.{is_there}
+use Rattle.cdi_steps.proofs.Results.{map_ok}
+use Rattle.cdi_steps.proofs.Made.{settles_as, settles_less}
 use Rattle.cdi_frames.proofs.LookupSteps.{find_refused, find_missing, find_proxy}
 use Rattle.cdi_frames.proofs.step.lookups.find.Goals as goal
 

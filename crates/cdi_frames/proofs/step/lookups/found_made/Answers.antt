@@ -1,6 +1,6 @@
 use Rattle.std.proofs.Common.{refl, arith}
-use Rattle.cdi_calls.proofs.of_steps.Results.{map_ok}
-use Rattle.cdi_calls.proofs.of_steps.Made.{settled}
+use Rattle.cdi_steps.proofs.Results.{map_ok}
+use Rattle.cdi_steps.proofs.Made.{settled}
 use Rattle.cdi_frames.proofs.step.lookups.found_made.Goals as goal
 
 pub returns : goal.returns

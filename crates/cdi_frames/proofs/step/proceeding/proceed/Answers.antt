@@ -1,7 +1,7 @@
 use Rattle.std.proofs.Common.{arith}
 use Rattle.cdi_frames.proofs.ProceedSteps.{proceed_refused, proceed_leads, replaced_invoked}
-use Rattle.cdi_calls.proofs.of_steps.Made.{settles_as, settles_less}
-use Rattle.cdi_calls.proofs.of_steps.Results.{map_ok}
+use Rattle.cdi_steps.proofs.Made.{settles_as, settles_less}
+use Rattle.cdi_steps.proofs.Results.{map_ok}
 use Rattle.cdi_frames.proofs.step.proceeding.proceed.Goals as goal
 
 pub returns-in-Some-clause-step : goal.returns-in-Some-clause-step
