@@ -26,10 +26,11 @@ use Rattle.cdi_steps.specs.declared.task.Next.{Next}
 use Rattle.cdi_steps.specs.declared.task.Next.TheVariants as nexts
 use Rattle.cdi_frames.specs.declared.stack.Pending.{Pending}
 use Rattle.cdi_frames.specs.declared.stack.Pending.TheVariants as pendings
+use Rattle.cdi_frames.specs.declared.stack.Progress.{Progress}
 use Rattle.cdi_frames.specs.declared.stack.Stack.{Stack}
 use Rattle.cdi_frames.specs.declared.stack.Turn.{Turn}
 use Rattle.cdi_frames.specs.declared.stack.Turn.TheVariants as turns
-use Rattle.cdi_frames.specs.Stacks.{program_ahead, program_within, program_of, frames_with, pending_for, Steps, StepsTo, TurnsTo}
+use Rattle.cdi_frames.specs.Stacks.{program_ahead, program_within, program_of, frames_with, pending_for, turns_at, Steps, StepsTo, TurnsTo}
 use Rattle.cdi_frames.proofs.Sound.{from_comes, full_in, around_runs, needed_runs, rest_runs, over_runs, wider}
 
 -- a run of what is inside, and one of what is around it
@@ -207,6 +208,11 @@ module _ (t : Tables) (legal : Legal) where
   pub turned_err : (a : Stack) (w v : World) (x : Either Turn Failure) → IsErr x → Starves a w v → TurnsTo t legal a w x v
   turned_err a w v (Ok o) h r = absurd (true≢false (sym h))
   turned_err a w v (Err e) h r = r
+
+  -- the same of one step
+  pub progress_err : (a : Stack) (ks : List Frame) (w v : World) (x : Either Progress Failure) → IsErr x → Starves a w v → TurnsTo t legal a w (turns_at ks x) v
+  progress_err a ks w v (Ok p) h r = absurd (true≢false (sym h))
+  progress_err a ks w v (Err e) h r = r
 
   -- nothing has changed
   pub starves_here : (a : Stack) (w v : World) → v ≡ w → Starves a w v
