@@ -4,7 +4,6 @@ use Rattle.std.proofs.Math.Path.{fun_ext}
 use Rattle.std.specs.Prelude.{slice_get}
 use Rattle.std.specs.Global.{Box}
 use Rattle.cdi_base.specs.declared.uses.Use.{Use}
-use Rattle.cdi_base.specs.declared.entry.Entry.TheVariants as entries
 use Rattle.cdi_base.specs.declared.value.Value.{Value}
 use Rattle.cdi_base.specs.declared.value.Value.TheVariants as values
 use Rattle.cdi_base.specs.declared.act.Act.TheVariants as acts
@@ -26,13 +25,9 @@ use Rattle.cdi_machine.specs.Bodies.{perform, reference_at, value_at, with_answe
 use Rattle.cdi_calls.specs.of_host.Asked.{top_of}
 use Rattle.cdi_steps.specs.Meanings.{node, go_on_with, use_instance, use_reference, around, waits}
 use Rattle.cdi_steps.specs.Leads.{next_stop, after_steps, Comes}
-use Rattle.cdi_steps.proofs.Ways.{ComesTo, MovesTo, StopsAs}
+use Rattle.cdi_steps.proofs.Ways.{ComesTo, StopsAs}
 use Rattle.cdi_steps.specs.declared.task.Call.TheVariants as calls
-use Rattle.cdi_steps.specs.declared.task.Completion.TheVariants as completions
-use Rattle.cdi_steps.specs.declared.task.Continuation.TheVariants as continuations
 use Rattle.cdi_steps.specs.declared.task.Event.{Event}
-use Rattle.cdi_steps.specs.declared.task.Given.TheVariants as givens
-use Rattle.cdi_steps.specs.declared.task.Outcome.TheVariants as outcomes
 use Rattle.cdi_steps.specs.declared.task.Purpose.{Purpose}
 use Rattle.cdi_steps.specs.declared.task.Purpose.TheVariants as purposes
 use Rattle.cdi_steps.specs.declared.task.ReferenceUse.{ReferenceUse}

@@ -49,6 +49,13 @@ with_none h e none = let a : h.asked + answers_of e ≡ h.asked = omega (arith, 
 with_one : (h : Hearing) (e : Entry) → answers_of e ≡ 1 → with_asked e h ≡ with_asking h
 with_one h e one = rw one refl
 
+-- what is due was asked for nothing
+pub asks_nothing : {heard : Hearing → Type 0} (next : Next) → IsQuiet next → IsAskedFor next heard heard
+asks_nothing (nexts.Finished o) q = record { heard = λ h x. x }
+asks_nothing (nexts.Goes p) q = record { heard = λ h x. x }
+asks_nothing (nexts.Needs p k) q = record { heard = λ h x. x }
+asks_nothing {heard} (nexts.Writes e a) q = record { heard = λ h x. subst heard (sym (with_none h e q)) x }
+
 -- it is told, and written
 told_due : (h : Hearing) (es : List Entry) (e : Entry) → with_told e (with_asked e (after h es)) ≡ after h (es ++ e ∷ [])
 told_due h es e = by (asked e)

@@ -7,7 +7,7 @@ use Rattle.cdi_machine.specs.Runs.{Legal, Runs}
 use Rattle.cdi_steps.specs.Words.{outcome_of}
 use Rattle.cdi_steps.specs.Meanings.{first, node}
 use Rattle.cdi_steps.specs.Leads.{Comes}
-use Rattle.cdi_steps.specs.Ranks.{rank, continuation_rank, frame_rank, thrown_rank, awaited_rank, gave_rank, back_rank, weight}
+use Rattle.cdi_steps.specs.Ranks.{rank, continuation_rank, frame_rank, thrown_rank, awaited_rank, back_rank, weight}
 use Rattle.cdi_steps.proofs.Ranks.{rank_below, frame_below, thrown_below, thrown_above}
 use Rattle.cdi_machine.proofs.Order.{Still, longer}
 use Rattle.cdi_frames.proofs.Kept.{comes_still, still_left, body_left, destroy_left, fire_left}
@@ -29,7 +29,7 @@ use Rattle.cdi_steps.specs.declared.task.Next.TheVariants as nexts
 use Rattle.cdi_frames.specs.declared.stack.Pending.{Pending}
 use Rattle.cdi_frames.specs.declared.stack.Pending.TheVariants as pendings
 use Rattle.cdi_frames.specs.declared.stack.Stack.{Stack}
-use Rattle.cdi_frames.specs.Stacks.{frames_with, pending_for, entries_left, entries_due, AddsAtMost, HasRoomFor, IsSpent, StopsAt}
+use Rattle.cdi_frames.specs.Stacks.{frames_with, pending_for, entries_left, AddsAtMost, StopsAt, IsDue}
 use Rattle.cdi_frames.specs.Loads.{mass, greatest_mass, top_rank, behind_load, frames_load, own_load, load_of}
 use Rattle.cdi_frames.proofs.Sound.{from_comes, over_runs}
 
@@ -340,19 +340,25 @@ grown_one e w v k =
     let r = k.room in
     rw k.world (record { low = omega (arith, l); high = omega (arith, l); budget = omega (arith, l, r) })
 
-pub grown_on : (most first : ℕ) (d : Pending) (w u v : World) → first ≡ length w.trace → AddsAtMost most w u → HasRoomFor (entries_due d) first most u → AddsAtMost (entries_due d) u v → AddsAtMost most w v
-grown_on most first d w u v f g h s = by d h s
-  where
-    on : (n : ℕ) → length u.trace + n ≤ length w.trace + most → AddsAtMost n u v → AddsAtMost most w v
-    on n h s =
-        let a = g.low in let b = g.budget in let c = s.low in let d = s.high in let e = s.budget in
-        record { low = omega (arith, a, c); high = omega (arith, h, d); budget = omega (arith, b, e) }
+module _ {most : ℕ} {w u v : World} (g : AddsAtMost most w u) where
+  -- after a step that wrote nothing
+  pub grown_still : Still u v → AddsAtMost most w v
+  grown_still s =
+      let t : length v.trace ≡ length u.trace = ap length s.trace in let k = s.ticks in
+      let a = g.low in let b = g.high in let c = g.budget in
+      record { low = omega (arith, t, a); high = omega (arith, t, b); budget = omega (arith, t, k, c) }
 
-    by : (d : Pending) → HasRoomFor (entries_due d) first most u → AddsAtMost (entries_due d) u v → AddsAtMost most w v
-    by (pendings.Does p) h s = let a = g.high in on 0 (omega (arith, a)) s
-    by (pendings.Gives o) h s = let a = g.high in on 0 (omega (arith, a)) s
-    by (pendings.Writes e x) h s = let a = h (omega arith) in on 1 (omega (arith, a, f)) s
+  -- after an entry for which the turn had room
+  pub grown_written : (first : ℕ) (e : Entry) → first ≡ length w.trace → length u.trace < first + most → Written e u v → AddsAtMost most w v
+  grown_written first e f r k =
+      let s = grown_one e u v k in
+      let a = g.low in let c = g.budget in let d = s.low in let i = s.high in let j = s.budget in
+      record { low = omega (arith, a, d); high = omega (arith, f, r, i); budget = omega (arith, c, j) }
 
 -- a turn that is spent has written just as many
-pub spent_stops : (most first : ℕ) (a : Stack) (w u : World) → first ≡ length w.trace → AddsAtMost most w u → IsSpent first most a.pending u → StopsAt most w a u
-spent_stops most first a w u f g h = let c = h.count in let d = g.high in record { count = omega (arith, f, c, d); due = h.due }
+pub spent_stops : (most first : ℕ) (a : Stack) (w u : World) → first ≡ length w.trace → AddsAtMost most w u → first + most ≤ length u.trace → IsDue a.pending → StopsAt most w a u
+spent_stops most first a w u f g h due = let d = g.high in record { count = omega (arith, f, h, d); due = due }
+
+-- and has fewer entries left, if it might write one
+pub spent_less : {most : ℕ} {b : Stack} {w v : World} → 0 < most → AddsAtMost most w v → StopsAt most w b v → entries_left v < entries_left w
+spent_less h g s = let a = g.budget in let b = s.count in omega (arith, h, a, b)

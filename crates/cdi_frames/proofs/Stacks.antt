@@ -26,11 +26,10 @@ use Rattle.cdi_steps.specs.declared.task.Next.{Next}
 use Rattle.cdi_steps.specs.declared.task.Next.TheVariants as nexts
 use Rattle.cdi_frames.specs.declared.stack.Pending.{Pending}
 use Rattle.cdi_frames.specs.declared.stack.Pending.TheVariants as pendings
-use Rattle.cdi_frames.specs.declared.stack.Progress.{Progress}
 use Rattle.cdi_frames.specs.declared.stack.Stack.{Stack}
 use Rattle.cdi_frames.specs.declared.stack.Turn.{Turn}
 use Rattle.cdi_frames.specs.declared.stack.Turn.TheVariants as turns
-use Rattle.cdi_frames.specs.Stacks.{program_ahead, program_within, program_of, frames_with, pending_for, turns_at, Steps, StepsTo, TurnsTo}
+use Rattle.cdi_frames.specs.Stacks.{program_ahead, program_within, program_of, frames_with, pending_for, Steps, StepsTo, TurnsTo}
 use Rattle.cdi_frames.proofs.Sound.{from_comes, full_in, around_runs, needed_runs, rest_runs, over_runs, wider}
 
 -- a run of what is inside, and one of what is around it
@@ -209,24 +208,6 @@ module _ (t : Tables) (legal : Legal) where
   turned_err a w v (Ok o) h r = absurd (true≢false (sym h))
   turned_err a w v (Err e) h r = r
 
-  -- the same of one step
-  pub progress_err : (a : Stack) (ks : List Frame) (w v : World) (x : Either Progress Failure) → IsErr x → Starves a w v → TurnsTo t legal a w (turns_at ks x) v
-  progress_err a ks w v (Ok p) h r = absurd (true≢false (sym h))
-  progress_err a ks w v (Err e) h r = r
-
   -- nothing has changed
   pub starves_here : (a : Stack) (w v : World) → v ≡ w → Starves a w v
   starves_here a w v e = rw e (Runs.starves tt)
-
-  -- after a step that had no memory for what waits
-  pub starves_moved : (a : Stack) (p : Task) (next : Next) (w v : World) → a.pending ≡ pendings.Does p → Comes t legal (first p) w (node next) v → Starves a w v
-  starves_moved a p next w v e m =
-      to_within t legal (Unit {0}) a.frames (program_ahead a.pending) w (runs.Cut causes.Memory) v
-      (rw e (left_map t legal (Unit {0}) a.frames (first p) (node next) w v (λ o x y. from_comes t legal (Unit {0}) m y) (runs.Cut causes.Memory) v (starved t legal (Unit {0}) tt a.frames (node next) v)))
-
-  pub starves_went : (a : Stack) (k : Frame) (ks : List Frame) (o : Outcome) (next : Next) (w v : World) → a.frames ≡ k ∷ ks → a.pending ≡ pendings.Gives o
-      → Comes t legal (after k o) w (node next) v → Starves a w v
-  starves_went a k ks o next w v c e m =
-      to_within t legal (Unit {0}) a.frames (program_ahead a.pending) w (runs.Cut causes.Memory) v
-      (rw (c, e) (popped t legal (Unit {0}) ks k o w (runs.Cut causes.Memory) v
-      (left_map t legal (Unit {0}) ks (after k o) (node next) w v (λ b x y. from_comes t legal (Unit {0}) m y) (runs.Cut causes.Memory) v (starved t legal (Unit {0}) tt ks (node next) v))))

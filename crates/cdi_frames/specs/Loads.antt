@@ -1,5 +1,5 @@
 -- What each step of a stack lowers: the entries that are left, and then what waits and what is next, by ranks.
-use Rattle.std.specs.Prelude.{ℕ, zero, suc, ◌+◌, ◌*◌, ◌^◌, ◌<◌, List, [], ◌∷◌}
+use Rattle.std.specs.Prelude.{ℕ, zero, suc, ◌+◌, ◌*◌, ◌^◌, List, [], ◌∷◌}
 use Rattle.cdi_machine.specs.World.{World}
 use Rattle.cdi_steps.specs.Ranks.{rank, frame_rank, awaited_rank, back_rank}
 use Rattle.cdi_frames.specs.Stacks.{entries_left}
@@ -7,8 +7,6 @@ use Rattle.cdi_steps.specs.declared.task.Frame.{Frame}
 use Rattle.cdi_frames.specs.declared.stack.Pending.{Pending}
 use Rattle.cdi_frames.specs.declared.stack.Pending.TheVariants as pendings
 use Rattle.cdi_frames.specs.declared.stack.Stack.{Stack}
-use Rattle.cdi_frames.specs.declared.stack.Turn.{Turn}
-use Rattle.cdi_frames.specs.declared.stack.Turn.TheVariants as turns
 
 -- A rank outweighs any two lower ones. It stays folded: at the greatest rank it is no number that can be written.
 unfoldable pub mass : ℕ → ℕ
@@ -43,7 +41,3 @@ load ks d w = entries_left w * (4 * greatest_mass) + (frames_load d ks + own_loa
 
 abbrev pub load_of : Stack → World → ℕ
 load_of a w = load a.frames a.pending w
-
-abbrev pub IsCheaper : Stack → World → Turn → World → Type 0
-IsCheaper a w (turns.Running b) v = load_of b v < load_of a w
-IsCheaper a w (turns.Finished o) v = Unit {0}

@@ -23,8 +23,6 @@ use Rattle.cdi_steps.specs.declared.task.Next.{Next}
 use Rattle.cdi_steps.specs.declared.task.Next.TheVariants as nexts
 use Rattle.cdi_frames.specs.declared.stack.Pending.{Pending}
 use Rattle.cdi_frames.specs.declared.stack.Pending.TheVariants as pendings
-use Rattle.cdi_frames.specs.declared.stack.Progress.{Progress}
-use Rattle.cdi_frames.specs.declared.stack.Progress.TheVariants as progress
 use Rattle.cdi_frames.specs.declared.stack.Stack.{Stack}
 use Rattle.cdi_frames.specs.declared.stack.Turn.{Turn}
 use Rattle.cdi_frames.specs.declared.stack.Turn.TheVariants as turns
@@ -61,14 +59,9 @@ pending_for (nexts.Writes e a) = pendings.Writes e a
 abbrev pub stack_at : List Frame → Pending → Stack
 stack_at ks d = record { frames = ks; pending = d }
 
--- what a turn of one step comes to, which leaves these frames
-abbrev pub turn_at : List Frame → Progress → Turn
-turn_at ks (progress.Goes d) = turns.Running (stack_at ks d)
-turn_at ks (progress.Over o) = turns.Finished o
-
-abbrev pub turns_at : List Frame → Either Progress Failure → Either Turn Failure
-turns_at ks (Ok p) = Ok (turn_at ks p)
-turns_at ks (Err failure) = Err failure
+-- the stack at which a step that leaves these frames comes to this
+abbrev pub stack_after : List Frame → Next → Stack
+stack_after ks next = stack_at (frames_with ks next) (pending_for next)
 
 -- So many steps, each of what is next, of what waits for it, or of an entry that is due, lead from the one stack and world to the
 -- other.
@@ -123,24 +116,11 @@ abbrev pub IsDue : Pending → Type 0
 IsDue (pendings.Writes e a) = Unit {0}
 IsDue _ = ⊥
 
--- how many entries the next step may write
-abbrev pub entries_due : Pending → ℕ
-entries_due (pendings.Writes e a) = 1
-entries_due _ = 0
-
 -- no more than so many entries were written, and they are taken from the budget
 pub record AddsAtMost (most : ℕ) (w v : World) : Type 0 where
   pub low : length w.trace ≤ length v.trace
   pub high : length v.trace ≤ length w.trace + most
   pub budget : entries_left v + length v.trace ≡ entries_left w + length w.trace
-
--- of a turn that began behind so many entries: so many more have room in it, and none has, though one is due
-abbrev pub HasRoomFor : ℕ → ℕ → ℕ → World → Type 0
-HasRoomFor more first most w = (0 < more) → length w.trace < first + most
-
-pub record IsSpent (first most : ℕ) (d : Pending) (w : World) : Type 0 where
-  pub due : IsDue d
-  pub count : first + most ≤ length w.trace
 
 -- and just so many if it goes on: then one more is due
 pub record StopsAt (most : ℕ) (w : World) (b : Stack) (v : World) : Type 0 where

@@ -1,22 +1,24 @@
 //! The engine: a loop over its steps, which alone writes entries, and can stop before each of them.
-ghost use Rattle.std.specs.Prelude.{◌≡◌, ◌≤◌, length, false, IfOk, IfErr, OnErr, IsTrue};
+ghost use Rattle.std.specs.Prelude.{◌≡◌, ◌≤◌, ◌<◌, ◌+◌, ◌∷◌, length, false, IfOk, IfErr, OnErr, OnOk, IsTrue};
 ghost use Rattle.cdi_steps.specs.Meanings.{first};
 ghost use Rattle.cdi_steps.specs.Leads.{Ran};
 ghost use Rattle.cdi_steps.specs.Known.{AllInvoked, Known};
 ghost use Rattle.cdi_steps.specs.Driving.{Drives, HasFailed, Narrows};
-ghost use Rattle.cdi_frames.specs.Stacks.{program_of, stack_at, turn_at, turns_at, KeepsMeaning, TurnsTo, AddsAtMost, KeepsCount, HasRoomFor, IsSpent, entries_due, KnownStack, KnownTurn};
+ghost use Rattle.cdi_frames.specs.Stacks.{program_of, KeepsMeaning, TurnsTo, AddsAtMost, KeepsCount, KnownStack, KnownTurn};
+ghost use Rattle.cdi_frames.specs.declared.stack.Pending.{Pending};
 ghost use Rattle.cdi_frames.specs.Hearing.{Noted, ToldIf, HearsTurn, HearsOutcome, HasFailedAt};
-ghost use Rattle.cdi_frames.specs.Loads.{IsCheaper};
 
 use crate::resume::resume;
-use crate::stack::{Pending, Progress, Stack, Turn, after_step};
-use crate::step::step;
+use crate::stack::{Stack, Turn};
+use crate::step::{entries, step};
 use cdi_base::{Cause, Entry};
 use cdi_calls::cdi_host::{Contents, Tables};
 use cdi_calls::cdi_stacks::Stack as Waiting;
 use cdi_machine::{Driver, Failure};
 use cdi_steps::Outcome;
-use cdi_steps::task::{Frame, Task};
+use cdi_steps::ends::cut;
+use cdi_steps::task::{Continuation, Frame, Next, Task};
+use std::alloc::AllocError;
 
 /// Writes an entry of which the driver is told, if the command may have one more. An error comes from the driver, or memory is
 /// wanting; on an error the world is the same.
@@ -45,73 +47,37 @@ fn write<D: Driver, W: Contents>(
     Ok(true)
 }
 
-/// Does one step: that of what is next, or that of the innermost frame, which gets the outcome that it waits for, or writes the
-/// entry that is due. The frames stay where they are, since a stack that is handed on in each step costs more than most steps.
-#[inline(always)]
-fn advance<T: Tables, D: Driver, W: Contents>(
-    tables: &T,
-    driver: &mut D,
-    world: &mut W,
-    frames: &mut Waiting<Frame>,
-    pending: Pending,
-) -> Result<Progress, Failure>
-    requires drives { Drives (T.tables tables.now) (D.knows driver.old) }
-    requires known { KnownStack (T.tables tables.now) (W.world world.old)
-        (stack_at frames.old pending) }
-    ensures turned { TurnsTo (T.tables tables.now) (D.legal driver.old)
-        (stack_at frames.old pending) (W.world world.old)
-        (turns_at frames.new result) (W.world world.new) }
-    ensures cheaper { IfOk result (λ progress. IsCheaper (stack_at frames.old pending)
-        (W.world world.old) (turn_at frames.new progress) (W.world world.new)) }
-    ensures grown { AddsAtMost (entries_due pending) (W.world world.old) (W.world world.new) }
-    ensures known { IfOk result (λ progress. KnownTurn (T.tables tables.now) (W.world world.new)
-        (turn_at frames.new progress)) }
-    ensures invoked { AllInvoked (T.tables tables.now) (W.world world.new) }
-    ensures hears { IfOk result (λ progress. HearsTurn (D.heard driver.old)
-        (stack_at frames.old pending) (W.world world.old)
-        (turn_at frames.new progress) (D.heard driver.new) (W.world world.new)) }
-    ensures failed { IfErr result (HasFailedAt (D.may_end driver.old)
-        (D.heard driver.old) pending (W.world world.old)
-        (D.heard driver.new) (D.ended driver.new) (W.world world.new)) }
-    ensures narrows { Narrows (D.legal driver.old) (D.legal driver.new)
-        (D.may_end driver.old) (D.may_end driver.new) (D.knows driver.old) (D.knows driver.new) }
+/// The run is cut before this, since the entry in front of it had no room.
+fn cut_before(_continuation: Continuation) -> Next
+    ensures { result ≡ Next.Finished (Outcome.Cut Cause.Ticks) }
 {
-    match pending {
-        Pending::Does(task) => {
-            let next = step(tables, driver, world, task)?;
-            Ok(Progress::Goes(after_step(frames, next)?))
-        }
-        Pending::Gives(outcome) => match frames.take() {
-            None => Ok(Progress::Over(outcome)),
-            Some(frame) => {
-                let next = resume(tables, world, frame, outcome)?;
-                Ok(Progress::Goes(after_step(frames, next)?))
-            }
-        },
-        Pending::Writes(entry, continuation) => {
-            if !write(driver, world, entry)? {
-                return Ok(Progress::Goes(Pending::Gives(Outcome::Cut(Cause::Ticks))));
-            }
-            Ok(Progress::Goes(Pending::Does(Task::Continue(continuation))))
-        }
-    }
+    cut(Cause::Ticks)
 }
 
-/// Whether a turn that began behind so many entries may do one step more: no entry is due, or it is among the most that the turn may
-/// write.
-fn may_go_on<W: Contents>(world: &W, pending: &Pending, first: u64, most: u64) -> bool
-    requires low { first ≤ length (W.world world.now).trace }
-    ensures goes_on { IsTrue result →
-        HasRoomFor (entries_due pending.now) first most (W.world world.now) }
-    ensures stops { result ≡ false → IsSpent first most pending.now (W.world world.now) }
+/// Adds a frame that waits from now on. On an error nothing changes.
+fn wait(frames: &mut Waiting<Frame>, frame: Frame) -> Result<(), AllocError>
+    ensures ok { OnOk result (frames.new ≡ frame ∷ frames.old) }
+    ensures err { OnErr result (frames.new ≡ frames.old) }
 {
-    !pending.is_due() || world.entries() - first < most
+    frames.push(frame)?;
+    Ok(())
+}
+
+/// Whether a turn that began behind so many entries may write one more.
+fn has_room<W: Contents>(world: &W, first: u64, most: u64) -> bool
+    requires low { first ≤ length (W.world world.now).trace }
+    ensures room { IsTrue result → length (W.world world.now).trace < first + most }
+    ensures spent { result ≡ false → first + most ≤ length (W.world world.now).trace }
+{
+    world.entries() - first < most
 }
 
 /// Goes on until one entry more than so many is due, or the run is over; a turn of 0 goes on to the first entry. If it is running,
 /// exactly so many were written, and the steps from the one stack to the other are those of the machine; if it is finished, what the
 /// stack meant has run to this outcome. On an error, memory ran out or the driver gave nothing, and what was written is what
 /// such a run writes first. No turn writes more.
+///
+/// What a step comes to stays where it is until the next one takes it: a stack that is handed on costs more than most steps.
 pub fn turn<T: Tables, D: Driver, W: Contents>(
     tables: &T,
     driver: &mut D,
@@ -139,14 +105,28 @@ pub fn turn<T: Tables, D: Driver, W: Contents>(
     let first = world.entries();
     let Stack { frames, pending } = stack;
     let mut frames = frames;
-    let mut pending = pending;
+    let mut next = pending.ahead();
     'steps: loop {
-        if !may_go_on(world, &pending, first, most) {
-            return Ok(Turn::Running(Stack { frames, pending }));
-        }
-        match advance(tables, driver, world, &mut frames, pending)? {
-            Progress::Over(outcome) => return Ok(Turn::Finished(outcome)),
-            Progress::Goes(then) => pending = then,
+        match next {
+            Next::Goes(task) => next = step(tables, driver, world, task)?,
+            Next::Needs(task, frame) => {
+                wait(&mut frames, frame)?;
+                next = step(tables, driver, world, task)?;
+            }
+            Next::Finished(outcome) => match frames.take() {
+                Some(frame) => next = resume(tables, world, frame, outcome)?,
+                None => return Ok(Turn::Finished(outcome)),
+            },
+            Next::Writes(entry, continuation) => {
+                if !has_room(world, first, most) {
+                    return Ok(Turn::Running(Stack::due(frames, entry, continuation)));
+                }
+                if write(driver, world, entry)? {
+                    next = entries::go_on(tables, world, continuation)?;
+                } else {
+                    next = cut_before(continuation);
+                }
+            }
         }
     }
 }
@@ -171,13 +151,11 @@ fn finish<T: Tables, D: Driver, W: Contents>(
     ensures narrows { Narrows (D.legal driver.old) (D.legal driver.new)
         (D.may_end driver.old) (D.may_end driver.new) (D.knows driver.old) (D.knows driver.new) }
 {
-    let Stack { frames, pending } = stack;
-    let mut frames = frames;
-    let mut pending = pending;
-    'steps: loop {
-        match advance(tables, driver, world, &mut frames, pending)? {
-            Progress::Over(outcome) => return Ok(outcome),
-            Progress::Goes(then) => pending = then,
+    let mut left = stack;
+    'turns: loop {
+        match turn(tables, driver, world, left, u64::MAX)? {
+            Turn::Finished(outcome) => return Ok(outcome),
+            Turn::Running(stack) => left = stack,
         }
     }
 }

@@ -1,11 +1,11 @@
 //! The engine's stack: what is next, and what waits for its outcome.
-ghost use Rattle.std.specs.Prelude.{◌≡◌, ◌↔◌, [], IfOk, IsTrue, OnOk};
-ghost use Rattle.cdi_frames.specs.Stacks.{frames_with, pending_for, IsDue};
+ghost use Rattle.std.specs.Prelude.{◌≡◌, List, []};
+ghost use Rattle.cdi_frames.specs.Stacks.{stack_after, stack_at};
 
 use cdi_base::Entry;
 use cdi_calls::cdi_stacks::Stack as Waiting;
 use cdi_steps::task::{Continuation, Frame, Next, Outcome, Task};
-use std::alloc::{AllocError, Global};
+use std::alloc::Global;
 
 /// What is next.
 #[derive(Drop)]
@@ -19,11 +19,15 @@ pub enum Pending {
 }
 
 impl Pending {
-    /// Whether an entry is due.
-    pub fn is_due(&self) -> bool
-        ensures { IsTrue result ↔ IsDue self.now }
+    /// The same, as what a step comes to.
+    pub(crate) fn ahead(self) -> Next
+        ensures { (ks : List Frame) → stack_after ks result ≡ stack_at ks self }
     {
-        matches!(self, Pending::Writes(..))
+        match self {
+            Pending::Does(task) => Next::Goes(task),
+            Pending::Gives(outcome) => Next::Finished(outcome),
+            Pending::Writes(entry, continuation) => Next::Writes(entry, continuation),
+        }
     }
 }
 
@@ -32,15 +36,6 @@ impl Pending {
 pub struct Stack {
     pub frames: Waiting<Frame>,
     pub pending: Pending,
-}
-
-/// What a step comes to, beside the frames that wait then.
-#[derive(Drop)]
-pub(crate) enum Progress {
-    /// This is next.
-    Goes(Pending),
-    /// The run is over.
-    Over(Outcome),
 }
 
 /// What a turn comes to.
@@ -63,21 +58,14 @@ impl Stack {
             pending: Pending::Does(task),
         }
     }
-}
 
-/// What is next after a step, if the frames are those that wait then.
-#[inline(always)]
-pub(crate) fn after_step(frames: &mut Waiting<Frame>, next: Next) -> Result<Pending, AllocError>
-    ensures frames { OnOk result (frames.new ≡ frames_with frames.old next) }
-    ensures pending { IfOk result (λ pending. pending ≡ pending_for next) }
-{
-    match next {
-        Next::Finished(outcome) => Ok(Pending::Gives(outcome)),
-        Next::Writes(entry, continuation) => Ok(Pending::Writes(entry, continuation)),
-        Next::Goes(task) => Ok(Pending::Does(task)),
-        Next::Needs(task, frame) => {
-            frames.push(frame)?;
-            Ok(Pending::Does(task))
+    /// An entry is due at these frames.
+    pub(crate) fn due(frames: Waiting<Frame>, entry: Entry, continuation: Continuation) -> Stack
+        ensures { result ≡ stack_after frames (Next.Writes entry continuation) }
+    {
+        Stack {
+            frames,
+            pending: Pending::Writes(entry, continuation),
         }
     }
 }

@@ -11,7 +11,7 @@ use cdi_steps::{creation, destruction, products};
 use std::alloc::AllocError;
 
 /// What comes after an entry, up to what it needs or writes. Memory can be wanting; on an error nothing changes.
-pub(super) fn go_on<T: Tables, W: Contents>(
+pub(crate) fn go_on<T: Tables, W: Contents>(
     tables: &T,
     world: &mut W,
     continuation: Continuation,
