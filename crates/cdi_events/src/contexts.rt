@@ -46,6 +46,7 @@ fn boxed(alloc: Global, closing: Closing) -> Result<Box<Closing>, AllocError>
 // ---- the end of a context
 
 /// Begins the end of a context: it is told that it is about to be destroyed.
+#[inline(never)]
 pub fn close(alloc: Global, context: Context, after: AfterClose) -> Result<Next, AllocError>
     ensures { IfOk result (BeginsToClose context after) }
 {
@@ -55,6 +56,7 @@ pub fn close(alloc: Global, context: Context, after: AfterClose) -> Result<Next,
 }
 
 /// No more instances are made in the context, and those that it has are destroyed.
+#[inline(never)]
 pub fn finishing<T: Tables, W: Contents>(
     _tables: &T,
     world: &mut W,
@@ -70,6 +72,7 @@ pub fn finishing<T: Tables, W: Contents>(
 }
 
 /// The instances of the context are gone, and then the context is.
+#[inline(never)]
 pub fn emptied<T: Tables, W: Contents>(
     _tables: &T,
     world: &mut W,
@@ -87,6 +90,7 @@ pub fn emptied<T: Tables, W: Contents>(
 }
 
 /// The context is gone: what comes after that. Memory can be wanting; on an error nothing changes.
+#[inline(never)]
 pub fn closed<T: Tables, W: Contents>(
     tables: &T,
     world: &mut W,

@@ -18,6 +18,7 @@ use std::alloc::{AllocError, Global};
 
 /// Begins what a command asks for: for the boot, the event of the application's begin (Jakarta CDI 4.0, *Context
 /// management for built-in scopes*). On an error nothing changes.
+#[inline(never)]
 pub(super) fn begin<T: Tables, W: Contents>(
     tables: &T,
     world: &mut W,
@@ -173,6 +174,7 @@ fn written<T: Tables>(
 }
 
 /// The use of the bean has ended: what was borrowed is destroyed and given back, at once if nothing was.
+#[inline(never)]
 pub(crate) fn returning<T: Tables, W: Contents>(
     _tables: &T,
     world: &mut W,
