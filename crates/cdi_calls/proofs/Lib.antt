@@ -1,2 +1,3 @@
 pub mod CallSteps
 pub mod ReferenceSteps
+pub use Rattle.cdi_steps.proofs as of_steps

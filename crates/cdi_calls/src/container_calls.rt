@@ -148,7 +148,6 @@ fn invoke<T: Tables, W: Contents>(
 
 /// Begins a call: what is borrowed from here on lasts as long as it (Jakarta CDI 4.0, *Destruction of objects with scope
 /// @Dependent*).
-#[inline(never)]
 pub fn begin<T: Tables, W: Contents>(
     _tables: &T,
     world: &mut W,
@@ -165,7 +164,6 @@ pub fn begin<T: Tables, W: Contents>(
 
 /// Needs the instance on which a call is made: the contextual instance of the bean that declares what is called, or a new one
 /// if that is a dependent bean (Jakarta CDI 4.0, *Producer methods*, *Observer methods*).
-#[inline(never)]
 pub fn receive<T: Tables, W: Contents>(tables: &T, _world: &W, call: Box<ContainerCall>) -> Next
     requires { KnownCallee (T.tables tables.now) call.value.callee }
     ensures { Moves (T.tables tables.now) (Task.Receiving call)
@@ -185,7 +183,6 @@ pub fn receive<T: Tables, W: Contents>(tables: &T, _world: &W, call: Box<Contain
 }
 
 /// The contextual instance has been obtained.
-#[inline(never)]
 pub fn received<T: Tables, W: Contents>(
     tables: &T,
     world: &mut W,
@@ -205,7 +202,6 @@ pub fn received<T: Tables, W: Contents>(
 }
 
 /// An instance has been made for the call, whose destruction must not have begun.
-#[inline(never)]
 pub fn lent<T: Tables, W: Contents>(
     tables: &T,
     world: &mut W,
@@ -233,7 +229,6 @@ pub fn lent<T: Tables, W: Contents>(
 
 /// Provides the next parameter of a call with its reference, or runs its chain with the references of all (Jakarta CDI 4.0, *Producer
 /// methods*, *Disposer methods*, *Observer methods*).
-#[inline(never)]
 pub fn supply<T: Tables, W: Contents>(
     tables: &T,
     world: &mut W,
@@ -332,7 +327,6 @@ fn with_reference(
 }
 
 /// What a parameter is to have has been made (Jakarta CDI 4.0, *Dependent objects*).
-#[inline(never)]
 pub fn supplied<T: Tables, W: Contents>(
     _tables: &T,
     _world: &W,

@@ -7,4 +7,5 @@ pub mod parameters;
 pub mod references;
 
 // What callers name of the libraries below.
+pub use cdi_steps;
 pub use cdi_steps::{cdi_host, cdi_stacks};

@@ -93,7 +93,6 @@ fn point_at(points: &[Point], at: usize) -> Option<&Point>
 
 /// Provides the next parameter with its reference, or runs what takes the references of all (Jakarta CDI 4.0, *Bean constructors* and
 /// *Initializer methods*).
-#[inline(never)]
 pub fn provide<T: Tables, W: Contents>(
     tables: &T,
     world: &mut W,
@@ -180,7 +179,6 @@ fn behind_next(parameters: Box<Parameters>) -> Box<Parameters>
 }
 
 /// What a parameter is to have has been made (Jakarta CDI 4.0, *Dependent objects*).
-#[inline(never)]
 pub fn provided<T: Tables, W: Contents>(
     _tables: &T,
     _world: &W,
@@ -284,7 +282,6 @@ fn initialize(alloc: Global, parameters: Box<Parameters>, code: Code) -> Result<
 // ---- the construct chain
 
 /// The construct chain has ended: it has to have got through the constructor.
-#[inline(never)]
 pub fn constructed<T: Tables, W: Contents>(
     _tables: &T,
     world: &mut W,
@@ -316,7 +313,6 @@ pub fn constructed<T: Tables, W: Contents>(
 }
 
 /// The construct chain threw: the creation has failed.
-#[inline(never)]
 pub fn constructed_with<T: Tables, W: Contents>(
     _tables: &T,
     world: &mut W,
@@ -348,7 +344,6 @@ fn fail<W: Contents>(world: &mut W, number: u32, step: &Step, exception: Name) -
 }
 
 /// What a parameter is to have couldn't be made.
-#[inline(never)]
 pub fn provided_with<T: Tables, W: Contents>(
     tables: &T,
     world: &mut W,

@@ -46,7 +46,6 @@ fn boxed(alloc: Global, closing: Closing) -> Result<Box<Closing>, AllocError>
 // ---- the end of a context
 
 /// Begins the end of a context: it is told that it is about to be destroyed.
-#[inline(never)]
 pub fn close(alloc: Global, context: Context, after: AfterClose) -> Result<Next, AllocError>
     ensures { IfOk result (BeginsToClose context after) }
 {
@@ -56,7 +55,6 @@ pub fn close(alloc: Global, context: Context, after: AfterClose) -> Result<Next,
 }
 
 /// No more instances are made in the context, and those that it has are destroyed.
-#[inline(never)]
 pub fn finishing<T: Tables, W: Contents>(
     _tables: &T,
     world: &mut W,
@@ -72,7 +70,6 @@ pub fn finishing<T: Tables, W: Contents>(
 }
 
 /// The instances of the context are gone, and then the context is.
-#[inline(never)]
 pub fn emptied<T: Tables, W: Contents>(
     _tables: &T,
     world: &mut W,
@@ -90,7 +87,6 @@ pub fn emptied<T: Tables, W: Contents>(
 }
 
 /// The context is gone: what comes after that. Memory can be wanting; on an error nothing changes.
-#[inline(never)]
 pub fn closed<T: Tables, W: Contents>(
     tables: &T,
     world: &mut W,

@@ -11,7 +11,6 @@ use std::alloc::{AllocError, Global};
 
 /// Fires an event of the container itself (Jakarta CDI 4.0, *Context management for built-in scopes*, *Startup event* and *Shutdown
 /// event*). Memory can be wanting.
-#[inline(never)]
 pub fn fire<T: Tables, W: Contents>(
     tables: &T,
     world: &W,
@@ -25,7 +24,6 @@ pub fn fire<T: Tables, W: Contents>(
 }
 
 /// Fires an event of a body (Jakarta CDI 4.0, *Firing events*): its entry is due, and then it is delivered. Memory can be wanting.
-#[inline(never)]
 pub fn publish<T: Tables, W: Contents>(
     _tables: &T,
     _world: &W,

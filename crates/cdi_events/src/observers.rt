@@ -28,7 +28,6 @@ use std::alloc::{AllocError, Global};
 
 /// Delivers an event to the observers that hear it, in groups by priority (Jakarta CDI 4.0, *Observer ordering*). Memory can be
 /// wanting.
-#[inline(never)]
 pub fn deliver<T: Tables, W: Contents>(
     tables: &T,
     world: &W,
@@ -49,7 +48,6 @@ pub fn deliver<T: Tables, W: Contents>(
 }
 
 /// The observers of a group have been notified: goes on with the next one. Memory can be wanting.
-#[inline(never)]
 pub fn grouped<T: Tables, W: Contents>(
     tables: &T,
     world: &W,
@@ -107,7 +105,6 @@ fn boxed(alloc: Global, notification: Notification) -> Result<Box<Notification>,
 /// Chooses the observer of a group that is notified next (Jakarta CDI 4.0, *Observer ordering*): the driver picks one if several
 /// are left. An error comes from the driver, or memory is wanting.
 #[tactic(auto, using(cdi_steps::proofs::Driving::driving))]
-#[inline(never)]
 pub fn notify<T: Tables, D: Driver, W: Contents>(
     tables: &T,
     driver: &mut D,
@@ -209,7 +206,6 @@ fn delivery_to(
 
 /// Notifies an observer, unless it is skipped, and then the others of its group (Jakarta CDI 4.0, *Observer notification*). Memory
 /// can be wanting.
-#[inline(never)]
 pub fn deliver_to<T: Tables, W: Contents>(
     tables: &T,
     world: &W,
@@ -267,7 +263,6 @@ fn observer_call(
 }
 
 /// An observer has been notified: goes on with the others of its group.
-#[inline(never)]
 pub fn observed<T: Tables, W: Contents>(
     _tables: &T,
     _world: &W,
@@ -283,7 +278,6 @@ pub fn observed<T: Tables, W: Contents>(
 
 /// An observer threw: the delivery ends, with another exception in place of a checked one (Jakarta CDI 4.0, *Observer
 /// notification*).
-#[inline(never)]
 pub fn observed_with<T: Tables, W: Contents>(
     tables: &T,
     _world: &W,

@@ -20,7 +20,6 @@ use std::alloc::{AllocError, Global};
 
 /// Runs the rest of the innermost invocation's chain: the method of its first interceptor, or what stands at its end (Jakarta
 /// Interceptors 2.1, *InvocationContext*).
-#[inline(never)]
 pub fn rest<T: Tables, W: Contents>(
     tables: &T,
     world: &mut W,

@@ -88,7 +88,6 @@ fn call_next(alloc: Global, declaring: u32, disposal: Disposal) -> Result<Next, 
 }
 
 /// A disposer has disposed of the product: the next one does.
-#[inline(never)]
 pub fn disposed<T: Tables, W: Contents>(
     tables: &T,
     world: &W,

@@ -80,7 +80,6 @@ fn producer_call(
 }
 
 /// The producer has given the product: the instance holds it. Null is a product of no scope but @Dependent.
-#[inline(never)]
 pub fn produced<T: Tables, W: Contents>(
     tables: &T,
     world: &mut W,
@@ -143,7 +142,6 @@ pub fn dropped(number: u32) -> Next
 }
 
 /// The instance whose product was null is gone.
-#[inline(never)]
 pub fn drop_null<T: Tables, W: Contents>(_tables: &T, world: &mut W, number: u32) -> Next
     ensures { Follows (T.tables _tables.now) (Continuation.Dropping number)
         (W.world world.old) result (W.world world.new) }

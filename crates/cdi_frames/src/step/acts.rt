@@ -22,7 +22,6 @@ use std::alloc::AllocError;
 
 /// Uses a reference of a body: an injected field of its own instance, an injected parameter, or what a lookup has found (Jakarta
 /// CDI 4.0, *Contextual reference for a bean*).
-#[inline(never)]
 pub(super) fn use_through<T: Tables, W: Contents>(
     tables: &T,
     world: &W,
@@ -70,7 +69,6 @@ fn reference_of<W: Contents>(world: &W, number: u32, field: Name) -> Option<Refe
 // ---- context data
 
 /// Keeps a value in the context data of the innermost invocation (Jakarta Interceptors 2.1, *InvocationContext*).
-#[inline(never)]
 pub(super) fn keep<T: Tables, W: Contents>(
     _tables: &T,
     world: &mut W,
@@ -89,7 +87,6 @@ pub(super) fn keep<T: Tables, W: Contents>(
 }
 
 /// Reads a value of the context data of the innermost invocation (Jakarta Interceptors 2.1, *InvocationContext*).
-#[inline(never)]
 pub(super) fn peek<T: Tables, W: Contents>(
     tables: &T,
     world: &W,
@@ -121,7 +118,6 @@ fn kept_at(invocation: &Invocation, key: Name) -> Result<Value, AllocError>
 // ---- events
 
 /// Fires an event (Jakarta CDI 4.0, *Firing events*).
-#[inline(never)]
 pub(super) fn fire<T: Tables, W: Contents>(
     _tables: &T,
     world: &W,

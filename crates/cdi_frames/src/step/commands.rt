@@ -18,7 +18,6 @@ use std::alloc::{AllocError, Global};
 
 /// Begins what a command asks for: for the boot, the event of the application's begin (Jakarta CDI 4.0, *Context
 /// management for built-in scopes*). On an error nothing changes.
-#[inline(never)]
 pub(super) fn begin<T: Tables, W: Contents>(
     tables: &T,
     world: &mut W,
@@ -174,7 +173,6 @@ fn written<T: Tables>(
 }
 
 /// The use of the bean has ended: what was borrowed is destroyed and given back, at once if nothing was.
-#[inline(never)]
 pub(crate) fn returning<T: Tables, W: Contents>(
     _tables: &T,
     world: &mut W,

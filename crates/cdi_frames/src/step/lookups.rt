@@ -26,7 +26,6 @@ use std::alloc::AllocError;
 
 /// Looks a bean up: what it finds is a client proxy, or a new instance of a dependent bean, which belongs to the body's own
 /// instance.
-#[inline(never)]
 pub(super) fn find<T: Tables, W: Contents>(
     tables: &T,
     world: &W,
@@ -84,7 +83,6 @@ fn found<T: Tables, W: Contents>(
 }
 
 /// A body goes on with what was made for a lookup.
-#[inline(never)]
 pub(crate) fn found_made<T: Tables, W: Contents>(
     tables: &T,
     world: &W,
@@ -102,7 +100,6 @@ pub(crate) fn found_made<T: Tables, W: Contents>(
 // ---- destroy
 
 /// Destroys what a lookup has found (`Instance.destroy`), unless it is in use.
-#[inline(never)]
 pub(super) fn destroy<T: Tables, W: Contents>(
     tables: &T,
     world: &W,

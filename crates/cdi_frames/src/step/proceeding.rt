@@ -16,7 +16,6 @@ use std::alloc::AllocError;
 
 /// Goes on with the rest of a body's chain, with the parameters as they are or with others (Jakarta Interceptors 2.1,
 /// *InvocationContext*). On an error nothing changes.
-#[inline(never)]
 pub(super) fn proceed<T: Tables, W: Contents>(
     tables: &T,
     world: &mut W,
