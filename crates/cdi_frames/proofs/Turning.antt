@@ -156,9 +156,6 @@ module _ {t : Tables} {legal : Legal} {before heard : Hearing → Type 0} {most 
   pub fails_failed : {A B : Type 0} {later : Hearing → Type 0} {ended : Ending → Hearing → Type 0} {f : Failure} → HasFailed B heard later ended f → (B → A) → HasFailedAt A before a.pending w later ended v f
   fails_failed g m = failed_turn h.hears (failed_at b.pending u v q g) m
 
-  pub fails_grown : AddsAtMost most w v
-  fails_grown = rw q h.grown
-
 -- ---- loads
 
 module _ {t : Tables} {legal : Legal} {u v : World} where

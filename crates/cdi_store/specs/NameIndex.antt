@@ -1,6 +1,6 @@
 -- The slots of requests or sessions by their names.
 use Rattle.std.specs.Prelude.{◌≡◌, ℕ, List, Option, None, bytes_eq, if◌then◌else◌}
-use Rattle.std.specs.BTreeMap.{get_by_text}
+use Rattle.std.specs.HashMap.{get_by_text}
 use Rattle.cdi_store.specs.declared.name_index.NameIndex.{NameIndex}
 
 -- the slot of a name, if it has one

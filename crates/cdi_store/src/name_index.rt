@@ -3,13 +3,13 @@ ghost use Rattle.std.specs.Prelude.{◌≡◌, None, Some, OnOk, OnErr, string_b
 ghost use Rattle.cdi_store.specs.NameIndex.{slot_of, Points, PointsAlike, PointsNowhere};
 
 use std::alloc::{AllocError, Global};
-use std::collections::BTreeMap;
+use std::collections::HashMap;
 
-/// The slots of requests or sessions by their names, in a tree, so that a name is found without a
+/// The slots of requests or sessions by their names, in a map, so that a name is found without a
 /// look at all of them.
 #[derive(Drop)]
 pub struct NameIndex {
-    slots: BTreeMap<String, usize>,
+    slots: HashMap<String, usize>,
 }
 
 impl NameIndex {
@@ -18,7 +18,7 @@ impl NameIndex {
         ensures { PointsNowhere result }
     {
         NameIndex {
-            slots: BTreeMap::new(alloc),
+            slots: HashMap::new(alloc),
         }
     }
 
