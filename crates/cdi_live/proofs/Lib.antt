@@ -1,4 +1,5 @@
 pub mod Growing
+pub mod Initializers
 pub mod Members
 pub mod Needy
 pub mod NeedyProducts

@@ -16,7 +16,7 @@ use cdi_base::{Name, Scope, Seq};
 use cdi_cache::cdi_beans::{Bean, BeanKind, DisposerMethod};
 use cdi_cache::cdi_resolve::EnabledBean;
 use cdi_deployment::{Class, InjectedField, Member, Point};
-use cdi_types::ClassLine;
+use cdi_types::{ClassLine, MemberKind};
 use std::alloc::{AllocError, Global};
 
 /// The parameters of the constructor of a class, if it has one.
@@ -102,8 +102,8 @@ impl DeploymentTables<'_> {
     {
         let fields = line.injected_fields(alloc)?;
         add_injected(self, fields.as_slice(), needs)?;
-        let members = line.members(alloc)?;
-        add_initializers(self, members.as_slice(), needs)?;
+        let initializers = line.members_of_kind(alloc, MemberKind::Initializer)?;
+        add_initializers(self, initializers.as_slice(), needs)?;
         Ok(())
     }
 

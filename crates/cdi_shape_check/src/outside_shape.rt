@@ -99,9 +99,12 @@ fn add_of_class(
         (shape_of (entries_of tables.now.bodies.now))) (class_sites class.now)
         found.old found.new) }
 {
-    let own = OwnTables::of_class(alloc, tables.application, class)?;
     let mut sites = Vec::new(alloc);
     add_class_sites(class, &mut sites)?;
+    if sites.is_empty() {
+        return Ok(());
+    }
+    let own = OwnTables::of_class(alloc, tables.application, class)?;
     let findings = findings_of(alloc, tables, &own, sites.as_slice())?;
     let rule = OutsideShape {
         tables,
@@ -172,8 +175,8 @@ fn add_of_interceptors(
 /// Where the shape of a live site's body names something that isn't there, in the order of places, each place once: a field to set, or
 /// a method to call on the own instance, that the class that declares the body and its superclasses lack; a reference that isn't
 /// there; a call that the one bean behind its reference has no method for, or a value that it doesn't hold; an event, a lookup or an
-/// exception with an unknown name. What doesn't resolve to one bean isn't looked at further. It goes over each class and all its
-/// superclasses.
+/// exception with an unknown name. What doesn't resolve to one bean isn't looked at further. It goes over each class that has
+/// bodies, and all its superclasses.
 pub fn bodies_outside_shape(
     alloc: Global,
     tables: &BodyTables<'_>,
