@@ -2,7 +2,7 @@
 """Compares the words that FORMS.md lists with those that `cdi explain` explains.
 
   docs/check_forms.py --cmd PROGRAM     asks PROGRAM, a built `cdi`, for each word of FORMS.md, and reads the words that are
-                                        explained in crates/cdi_explanations/src/table.rt
+                                        explained in crates/cdi_findings/src/table.rt
   docs/check_forms.py                   reads both as text alone, and runs nothing
 
 The words are the faults of deployments and scripts, the warnings, the problems with their numbers, the refusals, the causes of a cut, the
@@ -17,7 +17,7 @@ import sys
 
 TOP = os.path.dirname(os.path.dirname(os.path.realpath(__file__)))
 FORMS = f"{TOP}/docs/FORMS.md"
-TABLE = f"{TOP}/crates/cdi_explanations/src/table.rt"
+TABLE = f"{TOP}/crates/cdi_findings/src/table.rt"
 # The head of each table whose cells have such words, and the column of these.
 TABLES = {"| Fault | Holds if |": 0, "| Problem | Holds if | Place |": 0, "| Order | Refusal | Holds if |": 1}
 # The heads of the tables of lines, whose first cells have lists that begin with such words.
