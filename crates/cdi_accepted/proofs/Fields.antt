@@ -6,7 +6,7 @@ use Rattle.cdi_base.specs.Fields.{has, put}
 use Rattle.cdi_base.specs.declared.value.Value.{Value}
 use Rattle.cdi_run_tables.specs.of_bean_check.Repeated.{has_field as has_field_of}
 use Rattle.cdi_run_tables.specs.of_beans.declared.bean.Bean.{Bean}
-use Rattle.cdi_run_tables.specs.of_chains.Chains.{ChainTables, interceptors_of}
+use Rattle.cdi_run_tables.specs.of_plans.Chains.{ChainTables, interceptors_of}
 use Rattle.cdi_deployment.specs.declared.deployment.Class.{Class}
 use Rattle.cdi_deployment.specs.declared.deployment.Constructor.{Constructor}
 use Rattle.cdi_deployment.specs.declared.deployment.Field.{Field}
@@ -24,8 +24,8 @@ use Rattle.cdi_run_tables.specs.of_plans.Steps.{class_steps, construction, initi
 use Rattle.cdi_run_tables.specs.of_plans.declared.plan.Step.{Step}
 use Rattle.cdi_run_tables.specs.of_plans.declared.plan.Step.TheVariants as steps
 use Rattle.cdi_run_tables.specs.Machine.{asked_by, does_something, first_values, machine_step, machine_steps}
-use Rattle.cdi_check.specs.of_shape_check.OwnParts.{has_field}
-use Rattle.cdi_check.specs.of_shape_check.References.{point_of_field}
+use Rattle.cdi_check.specs.OwnParts.{has_field}
+use Rattle.cdi_accepted.specs.of_body_check.WrittenPoints.{point_of_field}
 use Rattle.cdi_accepted.proofs.Duplicates.{IsNamedApart}
 use Rattle.cdi_accepted.proofs.Lines.{ArePairs}
 use Rattle.cdi_accepted.proofs.Lists.{Among, among_flat_map, among_map, among_parts, any_passes, given, mapped, of_filter, passing}

@@ -5,7 +5,7 @@ use Rattle.std.proofs.lemmas.List.Elements.{All-head, All-tail}
 use Rattle.std.proofs.lemmas.Option.{same_Some}
 use Rattle.std.specs.List.{All, Contains, cons_option, enumerate_from, filter_map, find, flat_map, list_all, list_any, slice_get}
 pub use Rattle.cdi_run_tables.proofs.of_event_tables.Among.{Among, among_contains, among_filter, contains_among, of_filter}
-use Rattle.cdi_ownership.specs.Whose.{IsIn}
+use Rattle.cdi_ledger.specs.Whose.{IsIn}
 use Rattle.cdi_types.specs.ListsThose.{ListsThose}
 
 pub of_is_in : {X : Type 0} (x : X) (xs : List X) → IsIn x xs → Among x xs

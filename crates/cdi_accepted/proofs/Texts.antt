@@ -11,7 +11,7 @@ use Rattle.cdi_deployment.specs.declared.deployment.Deployment.{Deployment}
 use Rattle.cdi_deployment.specs.declared.deployment.Exception.{Exception}
 use Rattle.cdi_name_check.specs.UnknownName.{is_built_in}
 use Rattle.cdi_run_tables.specs.Texts.{has_text, has_texts}
-use Rattle.cdi_check.specs.of_shape_check.WrittenNames.{is_built_in_exception, is_exception}
+use Rattle.cdi_accepted.specs.of_body_check.WrittenNames.{is_built_in_exception, is_exception}
 use Rattle.cdi_accepted.proofs.Lists.{all_pass, passing}
 
 abbrev pub HasTextIn : List (List ℕ) → ℕ → Type 0

@@ -1,8 +1,12 @@
-//! Laws of deployments: each has one bean list, one set of tables, one plan of each bean, and one list of problems.
+//! Laws of deployments: each has one bean list, one set of tables, one plan of each bean, and one list of problems; what the tables of
+//! an accepted one have for the body of each site of the check; and that what they compute of events is what `cdi_observers` has.
 #![tactic(auto)]
 
+pub mod laws;
 pub mod uniqueness_laws;
 
 // What callers name of the libraries below.
 pub use cdi_check;
 pub use cdi_run_tables::{cdi_beans, cdi_resolve};
+pub use cdi_whole;
+pub use cdi_whole::cdi_ledger;

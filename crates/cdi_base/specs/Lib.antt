@@ -7,3 +7,5 @@ pub mod Limits
 pub mod Plain
 pub mod Maps
 pub mod Uses
+pub mod Near
+pub mod Chosen

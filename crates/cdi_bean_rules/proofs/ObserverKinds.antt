@@ -29,5 +29,5 @@ others (c, members.ProducerField p) e = refl
 others (c, members.Disposer x) e = refl
 others (c, members.Observer o) e = absurd cc
 
-pub conditional-of_observers : (has : List (Class × Member)) → conditional_places (of_kind kinds.Observer has) ≡ conditional_places has
-conditional-of_observers has = filter_map-of_kind kinds.Observer conditional_place others has
+pub conditional-of_accepted : (has : List (Class × Member)) → conditional_places (of_kind kinds.Observer has) ≡ conditional_places has
+conditional-of_accepted has = filter_map-of_kind kinds.Observer conditional_place others has

@@ -9,6 +9,6 @@ pub mod written;
 // What callers name of the libraries below.
 pub use answer::Answer;
 pub use cdi_resolve;
-pub use cdi_resolve::{cdi_bean_check, cdi_beans, cdi_chains, cdi_enable};
+pub use cdi_resolve::{cdi_bean_check, cdi_beans, cdi_enable, cdi_plans};
 pub use lookup::Lookup;
 pub use written::WrittenQuestion;

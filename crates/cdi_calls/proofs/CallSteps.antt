@@ -27,11 +27,11 @@ use Rattle.cdi_machine.specs.Contexts.{direct_reference, is_normal, reach_instan
 use Rattle.cdi_steps.specs.of_host.Asked.{head_of, machine_resolution}
 use Rattle.cdi_steps.specs.of_host.declared.beans.BeanHead.{BeanHead}
 use Rattle.cdi_steps.specs.of_host.Asked.{product_of}
-use Rattle.cdi_life.specs.Resolved.{IsResolvedMember}
-use Rattle.cdi_life.specs.Told.{member_told, point_told, product_told}
-use Rattle.cdi_life.specs.declared.member.Member.{Member as CodeMember}
-use Rattle.cdi_life.specs.declared.member.Product.{Product as CodeProduct}
-use Rattle.cdi_life.specs.declared.point.Point.{Point as CodePoint}
+use Rattle.cdi_machine.specs.Resolved.{IsResolvedMember}
+use Rattle.cdi_machine.specs.Told.{member_told, point_told, product_told}
+use Rattle.cdi_machine.specs.declared.member.Member.{Member as CodeMember}
+use Rattle.cdi_machine.specs.declared.member.Product.{Product as CodeProduct}
+use Rattle.cdi_machine.specs.declared.point.Point.{Point as CodePoint}
 use Rattle.cdi_steps.specs.Known.{IsKnownBody, KnownCallee, of_disposer}
 use Rattle.cdi_steps.specs.Ranks.{supply_rank}
 use Rattle.cdi_steps.specs.ContainerCalls.{disposers_of, source_of, member_in, member_of, field_in, field_of, owner_of, read_field, call_source, call_on, run_with, supply, supply_behind, supply_made, IsNextCallPoint, HasNextResolution}

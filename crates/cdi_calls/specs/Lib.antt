@@ -1,4 +1,3 @@
 pub mod References
 pub use Rattle.cdi_steps.specs.of_host as of_host
-pub use Rattle.cdi_steps.specs.of_stacks as of_stacks
 pub use Rattle.cdi_steps.specs as of_steps

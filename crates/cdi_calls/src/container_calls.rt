@@ -1,8 +1,8 @@
 //! The steps of calls by the container itself: producers, disposers and observers, on an instance of the bean that declares them.
 ghost use Rattle.std.specs.Prelude.{◌≡◌, ◌<◌, ◌^◌, ◌++◌, ◌∷◌, [], length, option_map, IfOk, IfSome, IsSome, OnErr};
 ghost use Rattle.cdi_steps.specs.of_host.Asked.{machine_resolution};
-ghost use Rattle.cdi_life.specs.Resolved.{IsResolvedMember};
-ghost use Rattle.cdi_life.specs.Told.{member_told};
+ghost use Rattle.cdi_machine.specs.Resolved.{IsResolvedMember};
+ghost use Rattle.cdi_machine.specs.Told.{member_told};
 ghost use Rattle.cdi_machine.specs.World.{after_change};
 ghost use Rattle.cdi_machine.specs.World.Change.{Provide};
 ghost use Rattle.cdi_steps.specs.ContainerCalls as spec;
@@ -11,8 +11,7 @@ ghost use Rattle.cdi_steps.specs.Ranks.{called_rank};
 ghost use Rattle.cdi_steps.specs.Steps.{GoesOn, Moves, Steps};
 
 use cdi_base::{BuiltIn, InterceptorMethod, Name, Seq, Value};
-use cdi_steps::cdi_host::{Code, Contents, Member, Resolution, Source, Tables};
-use cdi_steps::cdi_stacks::{Chain, Invocation};
+use cdi_steps::cdi_host::{Chain, Code, Contents, Invocation, Member, Resolution, Source, Tables};
 use cdi_steps::creation::reference_to;
 use cdi_steps::ends::{given, missing, raised};
 use cdi_steps::obtaining::{is_normal, stays};

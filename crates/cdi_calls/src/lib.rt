@@ -8,4 +8,4 @@ pub mod references;
 
 // What callers name of the libraries below.
 pub use cdi_steps;
-pub use cdi_steps::{cdi_host, cdi_stacks};
+pub use cdi_steps::cdi_host;

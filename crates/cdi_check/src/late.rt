@@ -1,24 +1,24 @@
 //! The last tier of problems.
 ghost use Rattle.std.specs.Prelude.{◌≡◌, ◌++◌, IfOk, OnOk};
 ghost use Rattle.cdi_bodies.specs.Table.{entries_of};
-ghost use Rattle.cdi_shape_check.specs.of_body_check.Shapes.{shape_of};
-ghost use Rattle.cdi_shape_check.specs.of_body_check.Sites.{sites_of, shown as shown_sites};
-ghost use Rattle.cdi_shape_check.specs.of_live.PointProblems.{HasPointProblem};
+ghost use Rattle.cdi_check.specs.of_body_check.Shapes.{shape_of};
+ghost use Rattle.cdi_check.specs.of_body_check.Sites.{sites_of, shown as shown_sites};
+ghost use Rattle.cdi_check.specs.of_live.PointProblems.{HasPointProblem};
 ghost use Rattle.cdi_problems.specs.Elements.{elements_of, shown};
 ghost use Rattle.cdi_problems.specs.Findings.{ArePlacesOf};
 ghost use Rattle.cdi_problems.specs.Words.{problems_at};
 ghost use Rattle.cdi_check.specs.Late as spec;
-ghost use Rattle.cdi_shape_check.specs.of_live.Settings.{setting_of};
+ghost use Rattle.cdi_check.specs.of_live.Settings.{setting_of};
 
 use crate::bean_rules::{FinalIntercepted, InconsistentSpecialization};
+use crate::bodies_outside_shape;
 use cdi_base::{Place, Seq};
-use cdi_problems::{Element, Problem, ProblemKind, add_problems_at, places_where};
-use cdi_shape_check::bodies_outside_shape;
-use cdi_shape_check::cdi_body_check::{
+use cdi_body_check::cdi_live::{DeploymentTables, PointProblem, PointRule, dependent_cycles};
+use cdi_body_check::{
     BodySite, BodyTables, checked_lifecycles, proceeds_not_allowed, sites_of as all_sites,
     unknown_bodies,
 };
-use cdi_shape_check::cdi_live::{DeploymentTables, PointProblem, PointRule, dependent_cycles};
+use cdi_problems::{Element, Problem, ProblemKind, add_problems_at, places_where};
 use std::alloc::{AllocError, Global};
 
 /// Where the shape of a live body names something that isn't there.

@@ -16,5 +16,5 @@ mod Answering
 pub mod TurnCounts
 pub mod Turning
 pub use Rattle.cdi_runtime.proofs.of_run_tables as of_run_tables
-pub use Rattle.cdi_site_fit.proofs as of_site_fit
+pub use Rattle.cdi_accepted.proofs as of_accepted
 pub use Rattle.cdi_runtime.proofs.of_steps as of_steps

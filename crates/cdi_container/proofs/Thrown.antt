@@ -3,7 +3,7 @@ use Rattle.std.proofs.Common.{ℕ, ◌≡◌, ◌∙◌, List, [], Option, Some,
 use Rattle.std.specs.Prelude.{unwrap_or}
 use Rattle.cdi_base.specs.declared.reply.Reply.{Reply}
 use Rattle.cdi_base.specs.declared.reply.Reply.TheVariants as replies
-use Rattle.cdi_site_fit.specs.of_ledger.Ledger.{Item}
+use Rattle.cdi_accepted.specs.of_ledger.Ledger.{Item}
 use Rattle.cdi_machine.specs.Commands.{Command, task}
 use Rattle.cdi_machine.specs.Container.{given_to, refusal, reply_to}
 use Rattle.cdi_machine.specs.Programs.{Given, Gave, Threw}
@@ -12,8 +12,8 @@ use Rattle.cdi_machine.specs.Tables.{Tables}
 use Rattle.cdi_machine.specs.World.{World, at_begin}
 use Rattle.cdi_runtime.specs.of_run_tables.Machine.{machine_tables}
 use Rattle.cdi_runtime.specs.of_run_tables.declared.tables.RunTables.{RunTables}
-use Rattle.cdi_site_fit.specs.of_whole.Thrown.{ThrowsWithText}
-use Rattle.cdi_site_fit.specs.of_worlds_fit.Fits.{HasText, Fits}
+use Rattle.cdi_accepted.specs.of_whole.Thrown.{ThrowsWithText}
+use Rattle.cdi_accepted.specs.of_whole.Fits.{HasText, Fits}
 use Rattle.cdi_container.specs.History.{History}
 use Rattle.cdi_container.specs.States.{ContainerState, AnswersCommand, CarriesOut}
 use Rattle.cdi_container.specs.Thrown.{TellsName, NamesThrown}

@@ -1,6 +1,6 @@
 -- What is true of every run of a container of an accepted deployment.
 use Rattle.std.specs.Prelude.{List}
-use Rattle.cdi_site_fit.specs.of_ledger.Ledger.{Item}
+use Rattle.cdi_accepted.specs.of_ledger.Ledger.{Item}
 use Rattle.cdi_machine.specs.Runs.{Legal}
 use Rattle.cdi_runtime.specs.of_run_tables.Machine.{machine_tables}
 use Rattle.cdi_runtime.specs.of_run_tables.declared.tables.RunTables.{RunTables}

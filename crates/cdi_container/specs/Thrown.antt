@@ -2,7 +2,7 @@
 use Rattle.std.specs.Prelude.{ℕ, ◌≡◌, List, Some, slice_get}
 use Rattle.cdi_base.specs.declared.reply.Reply.{Reply}
 use Rattle.cdi_base.specs.declared.reply.Reply.TheVariants as replies
-use Rattle.cdi_site_fit.specs.of_ledger.Ledger.{Item}
+use Rattle.cdi_accepted.specs.of_ledger.Ledger.{Item}
 use Rattle.cdi_machine.specs.Commands.{Command}
 use Rattle.cdi_machine.specs.Runs.{Legal}
 use Rattle.cdi_problems.specs.Places.{name_text}

@@ -5,7 +5,7 @@ ghost use Rattle.cdi_machine.specs.Registered.{in_shapes, legal_of};
 ghost use Rattle.cdi_machine.specs.Tables.{Tables};
 ghost use Rattle.cdi_runtime.specs.of_run_tables.Machine.{machine_tables};
 ghost use Rattle.cdi_runtime.specs.of_run_tables.declared.tables.RunTables.{RunTables};
-ghost use Rattle.cdi_site_fit.specs.of_worlds_fit.Fits.{Fits};
+ghost use Rattle.cdi_accepted.specs.of_whole.Fits.{Fits};
 ghost use Rattle.cdi_container.specs.Accepted.{IsAccepted};
 ghost use Rattle.cdi_container.specs.History.{KeepsOrder};
 ghost use Rattle.cdi_container.specs.Missing.{NoneMissed};
@@ -17,11 +17,11 @@ ghost use Rattle.cdi_container.specs.Traces.{TraceTells};
 ghost use Rattle.cdi_container.specs.Turns.{AnswersByTurns, EndsByTurns};
 ghost use Rattle.cdi_machine.specs.Laws.{IsWithin};
 
+use cdi_accepted::cdi_ledger::laws as ledger;
+use cdi_accepted::cdi_whole::laws as whole;
+use cdi_accepted::laws as sites;
 use cdi_bodies::Bodies;
 use cdi_machine::{Driver, laws as machine};
-use cdi_site_fit::cdi_ledger::laws as ledger;
-use cdi_site_fit::cdi_whole::laws as whole;
-use cdi_site_fit::laws as sites;
 
 /// In a container whose tables and bodies fit one another, as those of every deployment that is [accepted](crate::accept)
 /// do, no look-up fails: a command that isn't refused, whichever it is, never comes to a point at which something that the

@@ -2,4 +2,4 @@ pub mod Cycle
 pub mod Hierarchy
 pub mod Needs
 pub mod ToldCycle
-pub use Rattle.cdi_candidates.specs as of_candidates
+pub use Rattle.cdi_resolve.specs as of_resolve

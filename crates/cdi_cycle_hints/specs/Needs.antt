@@ -3,11 +3,11 @@ use Rattle.std.specs.Prelude.{ℕ, ◌≡◌, ◌==◌, List, [], ◌∷◌, ◌
 use Rattle.std.specs.List.{flat_map}
 use Rattle.std.specs.Option.{ForSome}
 use Rattle.cdi_base.specs.declared.uses.Use.{Use}
-use Rattle.cdi_candidates.specs.of_bean_check.ManagedBeans.{is_dependent}
-use Rattle.cdi_candidates.specs.of_bean_check.Qualifiers.{full_uses}
-use Rattle.cdi_candidates.specs.of_beans.declared.bean.Bean.{Bean}
-use Rattle.cdi_candidates.specs.of_beans.declared.bean.BeanKind.{BeanKind}
-use Rattle.cdi_candidates.specs.of_beans.declared.bean.BeanKind.TheVariants as kinds
+use Rattle.cdi_resolve.specs.of_bean_check.ManagedBeans.{is_dependent}
+use Rattle.cdi_resolve.specs.of_bean_check.Qualifiers.{full_uses}
+use Rattle.cdi_resolve.specs.of_beans.declared.bean.Bean.{Bean}
+use Rattle.cdi_resolve.specs.of_beans.declared.bean.BeanKind.{BeanKind}
+use Rattle.cdi_resolve.specs.of_beans.declared.bean.BeanKind.TheVariants as kinds
 use Rattle.cdi_deployment.specs.Member.{member_name, member_params}
 use Rattle.cdi_deployment.specs.declared.deployment.Class.{Class}
 use Rattle.cdi_deployment.specs.declared.deployment.Constructor.{Constructor}
@@ -16,11 +16,11 @@ use Rattle.cdi_deployment.specs.declared.deployment.InjectedField.{InjectedField
 use Rattle.cdi_deployment.specs.declared.deployment.Member.{Member}
 use Rattle.cdi_deployment.specs.declared.deployment.Member.TheVariants as members
 use Rattle.cdi_deployment.specs.declared.deployment.Point.{Point}
-use Rattle.cdi_candidates.specs.of_resolve.Filters.{enabled_of}
-use Rattle.cdi_candidates.specs.of_resolve.Resolution.{resolution}
-use Rattle.cdi_candidates.specs.of_resolve.declared.bean_tables.BeanTables.{BeanTables}
-use Rattle.cdi_candidates.specs.of_resolve.declared.resolution.Resolution.{Resolution}
-use Rattle.cdi_candidates.specs.of_resolve.declared.resolution.Resolution.TheVariants as resolutions
+use Rattle.cdi_resolve.specs.Filters.{enabled_of}
+use Rattle.cdi_resolve.specs.Resolution.{resolution}
+use Rattle.cdi_resolve.specs.declared.bean_tables.BeanTables.{BeanTables}
+use Rattle.cdi_resolve.specs.declared.resolution.Resolution.{Resolution}
+use Rattle.cdi_resolve.specs.declared.resolution.Resolution.TheVariants as resolutions
 
 -- ---- what points need, by the indices of beans
 

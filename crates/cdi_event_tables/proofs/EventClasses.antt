@@ -4,7 +4,7 @@ use Rattle.std.specs.List.{list_any}
 use Rattle.std.proofs.lemmas.Bool.{eqb-true}
 use Rattle.cdi_deployment.specs.declared.deployment.Class.{Class}
 use Rattle.cdi_event_tables.specs.Events.{is_event_class}
-use Rattle.cdi_shape_check.specs.WrittenNames.{is_concrete}
+use Rattle.cdi_body_check.specs.WrittenNames.{is_concrete}
 use Rattle.cdi_types.specs.Line.{class_named}
 
 -- one of these classes has the name, and that is one of a class of events

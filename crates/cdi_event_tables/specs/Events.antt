@@ -16,8 +16,8 @@ use Rattle.cdi_quals.specs.Qualifiers.{full_use, has_all}
 use Rattle.cdi_quals.specs.declared.qualifier.Qualifier.{Qualifier}
 use Rattle.cdi_quals.specs.declared.qualifier.QualifierMember.{QualifierMember}
 use Rattle.cdi_quals.specs.declared.types.QualifierType.{QualifierType}
-use Rattle.cdi_shape_check.specs.of_resolve.Filters.{default}
-use Rattle.cdi_shape_check.specs.WrittenNames.{is_concrete}
+use Rattle.cdi_body_check.specs.of_resolve.Filters.{default}
+use Rattle.cdi_body_check.specs.WrittenNames.{is_concrete}
 use Rattle.cdi_types.specs.Line.{class_named}
 use Rattle.cdi_types.specs.Subtype.{object, supertypes_of}
 use Rattle.cdi_types.specs.declared.declaration.TypeDeclaration.{TypeDeclaration}

@@ -4,7 +4,7 @@ use Rattle.std.specs.HashMap.{get}
 use Rattle.std.specs.List.{list_any}
 use Rattle.cdi_bodies.specs.Gives.{place_of}
 use Rattle.cdi_bodies.specs.declared.entry.Entry.{Entry}
-use Rattle.cdi_shape_check.specs.of_body_check.Sites.{Site, sites_of, body_of}
+use Rattle.cdi_body_check.specs.Sites.{Site, sites_of, body_of}
 use Rattle.cdi_deployment.specs.declared.deployment.Deployment.{Deployment}
 use Rattle.cdi_event_tables.specs.declared.ids.BodyIds.{BodyIds}
 

@@ -5,10 +5,8 @@ pub mod Tables
 pub use Rattle.cdi_plans.specs.of_bean_check as of_bean_check
 pub use Rattle.cdi_plans.specs.of_bean_rules as of_bean_rules
 pub use Rattle.cdi_plans.specs.of_beans as of_beans
-pub use Rattle.cdi_shape_check.specs.of_body_check as of_body_check
-pub use Rattle.cdi_plans.specs.of_chains as of_chains
-pub use Rattle.cdi_shape_check.specs.of_enable as of_enable
-pub use Rattle.cdi_shape_check.specs.of_live as of_live
+pub use Rattle.cdi_body_check.specs as of_body_check
 pub use Rattle.cdi_plans.specs as of_plans
-pub use Rattle.cdi_shape_check.specs.of_resolve as of_resolve
-pub use Rattle.cdi_shape_check.specs as of_shape_check
+pub use Rattle.cdi_body_check.specs.of_enable as of_enable
+pub use Rattle.cdi_body_check.specs.of_live as of_live
+pub use Rattle.cdi_body_check.specs.of_resolve as of_resolve

@@ -11,7 +11,7 @@ use Rattle.cdi_plans.specs.Observers.{observer_of, observer_method}
 use Rattle.cdi_plans.specs.Tables.{PlanTables}
 use Rattle.cdi_plans.specs.declared.plan.InjectedMethod.{InjectedMethod}
 use Rattle.cdi_quals.specs.Qualifiers.{has_all}
-use Rattle.cdi_shape_check.specs.of_resolve.Filters.{Candidates, is_enabled}
+use Rattle.cdi_body_check.specs.of_resolve.Filters.{Candidates, is_enabled}
 use Rattle.cdi_event_tables.specs.Events.{any_qualifier, is_subtype}
 use Rattle.cdi_event_tables.specs.Ids.{id_in}
 use Rattle.cdi_event_tables.specs.declared.ids.BodyIds.{BodyIds}

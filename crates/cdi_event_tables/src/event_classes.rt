@@ -3,7 +3,7 @@ ghost use Rattle.std.specs.Prelude.{◌≡◌, IfOk};
 ghost use Rattle.std.specs.Option.{option_copied};
 ghost use Rattle.cdi_event_tables.specs.Events.{is_event_class};
 ghost use Rattle.cdi_name_check.specs.NameSets.{HasNames};
-ghost use Rattle.cdi_shape_check.specs.WrittenNames as written;
+ghost use Rattle.cdi_body_check.specs.WrittenNames as written;
 
 use cdi_base::Name;
 use cdi_deployment::Class;

@@ -3,13 +3,13 @@ ghost use Rattle.std.specs.Prelude.{◌≡◌, ◌==◌, ℕ, Some, None, nat_eq
 ghost use Rattle.std.specs.HashMap.{get};
 ghost use Rattle.cdi_bodies.specs.Gives.{place_of};
 ghost use Rattle.cdi_bodies.specs.Table.{entries_of};
-ghost use Rattle.cdi_shape_check.specs.of_body_check.Sites.{shown};
+ghost use Rattle.cdi_body_check.specs.Sites.{shown};
 ghost use Rattle.cdi_event_tables.specs.Ids as spec;
 
 use cdi_base::Name;
 use cdi_bodies::{Bodies, BodyId};
+use cdi_body_check::{BodySite, sites_of};
 use cdi_deployment::Deployment;
-use cdi_shape_check::cdi_body_check::{BodySite, sites_of};
 use std::alloc::{AllocError, Global};
 use std::collections::HashMap;
 

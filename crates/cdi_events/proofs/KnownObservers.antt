@@ -4,9 +4,9 @@ use Rattle.std.specs.Prelude.{map, option_map, remove, slice_get}
 use Rattle.std.specs.List.{All, AllByRecursion}
 use Rattle.std.proofs.lemmas.Option.{get_or_from_slice_get, slice_get-map, slice_get_within, same_Some}
 use Rattle.cdi_base.specs.declared.uses.Use.{Use}
-use Rattle.cdi_life.specs.Resolved.{IsResolvedObserver}
-use Rattle.cdi_life.specs.Told.{observer_told}
-use Rattle.cdi_life.specs.declared.member.Observer.{Observer}
+use Rattle.cdi_machine.specs.Resolved.{IsResolvedObserver}
+use Rattle.cdi_machine.specs.Told.{observer_told}
+use Rattle.cdi_machine.specs.declared.member.Observer.{Observer}
 use Rattle.cdi_machine.specs.Words.{Name}
 use Rattle.cdi_machine.specs.Tables.{Tables}
 use Rattle.cdi_steps.specs.Known.{AreKnownObservers, IsKnownObserver, KnownDelivery}

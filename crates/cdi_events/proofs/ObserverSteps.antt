@@ -11,8 +11,8 @@ use Rattle.cdi_base.specs.declared.built_in.BuiltIn.TheVariants as built_in
 use Rattle.cdi_base.specs.declared.entry.Entry.TheVariants as entries
 use Rattle.cdi_base.specs.declared.value.Value.{Value}
 use Rattle.cdi_base.specs.declared.value.Value.TheVariants as values
-use Rattle.cdi_life.specs.Told.{observer_told}
-use Rattle.cdi_life.specs.declared.member.Observer.{Observer as CodeObserver}
+use Rattle.cdi_machine.specs.Told.{observer_told}
+use Rattle.cdi_machine.specs.declared.member.Observer.{Observer as CodeObserver}
 use Rattle.cdi_machine.specs.Events.{deliver, is_skipped, notify, observe}
 use Rattle.cdi_machine.specs.Programs as machine
 use Rattle.cdi_machine.specs.Programs.{Completion, Gave, Given, Prog, Threw, call, complete, each, finish, handle, nested, raise, rethrow, require_present, ret, see, throw, tick, ◌>>=◌, ◌>>◌}

@@ -4,7 +4,7 @@ use Rattle.cdi_base.specs.declared.scope.Scope.{Scope}
 use Rattle.cdi_base.specs.declared.value.Value.{Value}
 use Rattle.cdi_base.specs.declared.value.Value.TheVariants as values
 use Rattle.cdi_contexts.specs.Contexts.{active_context}
-use Rattle.cdi_life.specs.declared.member.Observer.{Observer as CodeObserver}
+use Rattle.cdi_machine.specs.declared.member.Observer.{Observer as CodeObserver}
 use Rattle.cdi_machine.specs.Contexts.{is_normal}
 use Rattle.cdi_machine.specs.Events.{is_out}
 use Rattle.cdi_machine.specs.Tables.{Observer}

@@ -1,7 +1,7 @@
 //! The steps by which events are delivered (Jakarta CDI 4.0, *Observer notification*).
 ghost use Rattle.std.specs.Prelude.{◌≡◌, ◌<◌, ◌^◌, ◌∷◌, [], length, remove, slice_get, IfOk, IfErr, MatchOption, Some};
 ghost use Rattle.std.specs.List.{AllByRecursion};
-ghost use Rattle.cdi_life.specs.Told.{observer_told};
+ghost use Rattle.cdi_machine.specs.Told.{observer_told};
 ghost use Rattle.cdi_steps.specs.Known.{AreKnownObservers, KnownDelivery};
 ghost use Rattle.cdi_steps.specs.Meanings.{first};
 ghost use Rattle.cdi_steps.specs.Observing.{notify_groups};
@@ -14,8 +14,7 @@ ghost use Rattle.cdi_events.specs.Events.{is_passed_over, observer_call};
 use cdi_base::{BuiltIn, Entry, Name, Scope, Seq, Value};
 use cdi_contexts::{Held, Status};
 use cdi_machine::{Driver, Failure};
-use cdi_steps::cdi_host::{Contents, Observer, Tables};
-use cdi_steps::cdi_stacks::Stack;
+use cdi_steps::cdi_host::{Contents, Observer, Stack, Tables};
 use cdi_steps::ends::{ended, missing, null, raised};
 use cdi_steps::obtaining::is_normal;
 use cdi_steps::task::{

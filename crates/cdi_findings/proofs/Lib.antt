@@ -1,1 +1,2 @@
 pub mod NoFloats
+pub mod Complete

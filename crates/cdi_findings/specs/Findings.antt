@@ -26,7 +26,7 @@ use Rattle.cdi_findings.specs.declared.findings.Findings.{Findings}
 use Rattle.cdi_report.specs.Reports.{AreProblemsWith}
 use Rattle.cdi_report.specs.Reviews.{names_of}
 use Rattle.cdi_problem_hints.specs.of_resolve.declared.bean_tables.BeanTables.{BeanTables}
-use Rattle.cdi_step_names.specs.declared.step_name.ScriptNames.{ScriptNames}
+use Rattle.cdi_name_uses.specs.declared.step_name.ScriptNames.{ScriptNames}
 
 -- a line for each finding, and whether there is more among them than a warning
 pub record Found : Type 0 where

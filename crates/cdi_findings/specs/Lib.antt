@@ -3,4 +3,6 @@ pub mod Finding
 pub mod Findings
 pub mod Tables
 pub mod Warnings
+pub mod Explanation
+pub mod Words
 pub use Rattle.cdi_problem_hints.specs as of_problem_hints

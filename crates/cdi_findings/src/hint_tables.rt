@@ -7,13 +7,11 @@ ghost use Rattle.cdi_problem_hints.specs.Subjects.{subject_of};
 ghost use Rattle.cdi_problem_hints.specs.of_cycle_hints.Needs.{AreNeedsOf};
 
 use cdi_deployment::Deployment;
-use cdi_problem_hints::Subject;
-use cdi_problem_hints::cdi_candidates::tables_of;
+use cdi_name_uses::ScriptNames;
 use cdi_problem_hints::cdi_cycle_hints::{Needs, needs_of};
-use cdi_problem_hints::cdi_place_index::PlaceIndex;
-use cdi_problem_hints::cdi_resolve::BeanTables;
+use cdi_problem_hints::cdi_resolve::{BeanTables, tables_of};
+use cdi_problem_hints::{PlaceIndex, Subject};
 use cdi_problems::{Problem, ProblemKind};
-use cdi_step_names::ScriptNames;
 use std::alloc::{AllocError, Global};
 
 /// Whether the tables tell something of a problem of a kind.

@@ -4,8 +4,7 @@ ghost use Rattle.cdi_positions.specs.Position.{IsPositionIn};
 
 use cdi_base::Place;
 use cdi_deployment::Deployment;
-use cdi_pointers::pointer_at;
-use cdi_positions::{Position, position_of};
+use cdi_positions::{Position, pointer_at, position_of};
 use cdi_problems::Problem;
 use std::alloc::{AllocError, Global};
 

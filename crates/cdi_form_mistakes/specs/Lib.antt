@@ -4,3 +4,5 @@ pub mod Mistake
 pub mod FormMistake
 pub mod NumberMistake
 pub mod NameMistake
+pub mod StepMistake
+pub mod Steps

@@ -2,7 +2,7 @@
 use Rattle.std.specs.Prelude.{ℕ, List, ◌++◌, codes, Option, Some, None, option_map}
 use Rattle.std.specs.List.{join_by}
 use Rattle.std.specs.Fmt.{debug_str}
-use Rattle.cdi_near.specs.Near.{nearest}
+use Rattle.cdi_base.specs.Near.{nearest}
 use Rattle.cdi_form_mistakes.specs.declared.words.UnknownWord.{UnknownWord}
 
 -- the words, with commas between them

@@ -1,11 +1,10 @@
 //! A word that isn't known, with those that are.
 ghost use Rattle.std.specs.Prelude.{◌≡◌, IfOk, map};
-ghost use Rattle.cdi_near.specs.Near.{nearest};
+ghost use Rattle.cdi_base.specs.Near.{nearest};
 ghost use Rattle.cdi_form_mistakes.specs.UnknownWord as spec;
 ghost use Rattle.cdi_form_mistakes.specs.UnknownWord.{unknown_text};
 
-use cdi_base::Text;
-use cdi_near::nearest;
+use cdi_base::{Text, nearest};
 use std::alloc::{AllocError, Global};
 use std::fmt;
 

@@ -22,8 +22,8 @@ use Rattle.cdi_machine.specs.World.{World}
 use Rattle.cdi_machine.specs.Bodies.{reference_at}
 use Rattle.cdi_machine.specs.Destruction.{latest}
 use Rattle.cdi_host.specs.declared.beans.BeanHead.{BeanHead}
-use Rattle.cdi_life.specs.Told.{resolution_told}
-use Rattle.cdi_life.specs.declared.point.Resolution.{Resolution}
+use Rattle.cdi_machine.specs.Told.{resolution_told}
+use Rattle.cdi_machine.specs.declared.point.Resolution.{Resolution}
 
 -- ---- the deployment
 

@@ -1,3 +1,5 @@
 pub mod Asked
 pub mod Standing
-pub use Rattle.cdi_stacks.specs as of_stacks
+pub mod Stack
+pub mod Invocation
+pub mod Running

@@ -1,7 +1,7 @@
 //! What a container holds, as the engine asks and changes it.
+use crate::{Invocation, Stack};
 use cdi_base::{Entry, Fields, Name, Scope, Seq, Text, Value};
 use cdi_contexts::{Held, Status};
-use cdi_stacks::{Invocation, Stack};
 use cdi_store::{Component, Context, Instance, Owner, Reference};
 use std::alloc::{AllocError, Global};
 

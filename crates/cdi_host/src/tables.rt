@@ -12,9 +12,9 @@ pub trait Tables {
     ghost use Rattle.cdi_machine.specs.Tables.{Tables as MachineTables};
     ghost use Rattle.cdi_host.specs.Asked.{asked_for, machine_resolution, head_of, fields_at, plan_at, method_at};
     ghost use Rattle.cdi_host.specs.Asked.{interceptor_code, pre_destroy_of, product_of};
-    ghost use Rattle.cdi_life.specs.Resolved.{IsResolvedObserver, IsResolvedProduct, IsResolvedStep};
-    ghost use Rattle.cdi_life.specs.Told.{lifecycle_told, method_told, observer_told, product_told};
-    ghost use Rattle.cdi_life.specs.Told.{step_told};
+    ghost use Rattle.cdi_machine.specs.Resolved.{IsResolvedObserver, IsResolvedProduct, IsResolvedStep};
+    ghost use Rattle.cdi_machine.specs.Told.{lifecycle_told, method_told, observer_told, product_told};
+    ghost use Rattle.cdi_machine.specs.Told.{step_told};
 
     /// What the definition asks.
     ghost tables: { Self → MachineTables };

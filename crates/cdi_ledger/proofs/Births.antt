@@ -40,16 +40,16 @@ use Rattle.cdi_machine.proofs.Walk.{Plain, PlainChange, PlainEntry, plain_of}
 use Rattle.cdi_machine.proofs.Levels.{Height}
 use Rattle.cdi_ledger.specs.Ledger.{Item, Wrote, Between, Born, with_birth, Fate, Unborn, Made, Readied, Ended, Left, Lost, Wrong, fate, if_is, by_new, items_of}
 use Rattle.cdi_ledger.specs.Stories.{Story}
-use Rattle.cdi_ownership.specs.Whose.{IsIn}
+use Rattle.cdi_ledger.specs.Whose.{IsIn}
 use Rattle.cdi_ledger.specs.Ends.{Each, IsOver, IsNamed, IsBornAsWritten, IsBirth, IsBirthBehindNew, IsNoNew, OneAtATime, Suits, SuitsItsScope, OneInAContext, OneInAContextIfShort, PlacesAreApart, OnceByPlace, OneOfTheApplication}
 use Rattle.cdi_ledger.proofs.Judge.{Does, sound, guard_map, note_map}
 use Rattle.cdi_ledger.proofs.Phases.{phase_at, phase_of}
 use Rattle.cdi_ledger.proofs.Plain.{Sane, Kept, standing, stands}
 use Rattle.cdi_ledger.proofs.Ledgered as ledgered
-use Rattle.cdi_ownership.proofs.Holdings.{IsFree, free_none, free_apart}
-use Rattle.cdi_ownership.proofs.Cores.{Core, core_of, core_at, with_phase, when, core_same, core_ready, core_leaving, core_gone, core_left}
-use Rattle.cdi_ownership.proofs.Homes.{Inv}
-use Rattle.cdi_ownership.proofs.Spans.{CanBegin, Begun, begins}
+use Rattle.cdi_ledger.proofs.Holdings.{IsFree, free_none, free_apart}
+use Rattle.cdi_ledger.proofs.Cores.{Core, core_of, core_at, with_phase, when, core_same, core_ready, core_leaving, core_gone, core_left}
+use Rattle.cdi_ledger.proofs.Homes.{Inv}
+use Rattle.cdi_ledger.proofs.Spans.{CanBegin, Begun, begins}
 use Rattle.cdi_ledger.proofs.Owed.{Ok, Pre, CanOwn}
 use Rattle.cdi_ledger.proofs.Fine as fine
 use Rattle.cdi_ledger.proofs.Tops.{Tidy, LeftTidy, command_does}

@@ -13,8 +13,8 @@ use Rattle.cdi_machine.specs.Runs.{Legal, Outcome, Ends, Cut, Runs}
 use Rattle.cdi_ledger.specs.Ledger.{Item, Wrote, Between, with_birth, items_of}
 use Rattle.cdi_ledger.specs.BodyReferences.{OfBody, AtBodies, LooksUpItsOwn, LocalsAreOwn, IsReceivers, ReceivesItsOwn, ParametersAreOwn}
 use Rattle.cdi_ledger.proofs.Judge.{Does, sound, guard_of, note_of}
-use Rattle.cdi_ownership.proofs.Cores.{Core, core_of, core_at}
-use Rattle.cdi_ownership.proofs.Homes.{MayOwn}
+use Rattle.cdi_ledger.proofs.Cores.{Core, core_of, core_at}
+use Rattle.cdi_ledger.proofs.Homes.{MayOwn}
 use Rattle.cdi_ledger.proofs.Owed.{Ok, Pre, Post}
 use Rattle.cdi_ledger.proofs.Fine as fine
 use Rattle.cdi_ledger.proofs.Tops.{LeftTidy, command_does}

@@ -25,7 +25,7 @@ use Rattle.cdi_machine.specs.Runs.{Legal, Outcome, Runs}
 use Rattle.cdi_machine.specs.Container.{State}
 use Rattle.cdi_ledger.specs.Ledger.{Item, Wrote, Between, Born, with_birth, fate, items_of}
 use Rattle.cdi_ledger.specs.Stories.{Story}
-use Rattle.cdi_ownership.specs.Whose.{IsIn}
+use Rattle.cdi_ledger.specs.Whose.{IsIn}
 use Rattle.cdi_ledger.specs.Ends.{Each, IsEnding, IsOfClass}
 use Rattle.cdi_ledger.specs.Callbacks.{IsOrdinary, PlacesOfBodiesAreApart, IsFarewellOf, IsInDestruction, FarewellsInDestruction, FarewellsInDestructionIfShort}
 use Rattle.cdi_ledger.proofs.Judge.{Does, sound, Guard, guard_map, Note, note_map}
@@ -33,8 +33,8 @@ use Rattle.cdi_ledger.proofs.Phases.{phase_of}
 use Rattle.cdi_ledger.proofs.Plain.{Sane, stands}
 use Rattle.cdi_ledger.proofs.Ledgered as ledgered
 use Rattle.cdi_ledger.proofs.Fronts.{anything, also_short}
-use Rattle.cdi_ownership.proofs.Cores.{core_of}
-use Rattle.cdi_ownership.proofs.Homes.{targets}
+use Rattle.cdi_ledger.proofs.Cores.{core_of}
+use Rattle.cdi_ledger.proofs.Homes.{targets}
 use Rattle.cdi_ledger.proofs.Owed.{Ok, Pre, AreOrdinary, IsAttendant, IsKnown, IsThere, IsAttending, MayEnter, EntersSo, AtMember, IsMemberAt}
 use Rattle.cdi_ledger.proofs.Tops.{Tidy}
 use Rattle.cdi_ledger.proofs.Settled.{tidy_story, sane_story, begin_tidy, not_halted}

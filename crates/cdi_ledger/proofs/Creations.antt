@@ -19,10 +19,10 @@ use Rattle.cdi_machine.specs.Bodies.{run_rest, carry_on}
 use Rattle.cdi_machine.specs.Creation.{inject, make}
 use Rattle.cdi_machine.specs.Events.{fire, notify}
 use Rattle.cdi_ledger.specs.Ledger.{Born, Item, Wrote}
-use Rattle.cdi_ownership.specs.Whose.{IsIn}
-use Rattle.cdi_ownership.proofs.Cores.{Core, core_at, deps_at}
-use Rattle.cdi_ownership.proofs.Homes.{IsNewAt, IsReferred, referred_below, provisions, Inv, Rel, Grown, Placed, HeldIn, OnStack, Busy, IsFixed, targets, rel_self, rel_then, was_busy}
-use Rattle.cdi_ownership.proofs.Spans.{Still, inv_still, rel_still}
+use Rattle.cdi_ledger.specs.Whose.{IsIn}
+use Rattle.cdi_ledger.proofs.Cores.{Core, core_at, deps_at}
+use Rattle.cdi_ledger.proofs.Homes.{IsNewAt, IsReferred, referred_below, provisions, Inv, Rel, Grown, Placed, HeldIn, OnStack, Busy, IsFixed, targets, rel_self, rel_then, was_busy}
+use Rattle.cdi_ledger.proofs.Spans.{Still, inv_still, rel_still}
 use Rattle.cdi_ledger.proofs.Owed.{Ok, IsMadeFor, AreMadeFor, Pre, Post, IsGiven, IsNumbered, AreNumbered, Anchored, CanOwn, anchored_then}
 use Rattle.cdi_ledger.proofs.Judge.{bind}
 use Rattle.cdi_ledger.proofs.Fine as fine
@@ -34,10 +34,10 @@ use Rattle.cdi_machine.specs.Words.{Fields}
 use Rattle.cdi_machine.specs.Programs.{give_number}
 use Rattle.cdi_machine.specs.Bodies.{run_body}
 use Rattle.cdi_machine.specs.Creation.{create, intercept, create_by, end_creation, discard, make_ready, begin_creation, first_fields}
-use Rattle.cdi_ownership.proofs.Cores.{with_phase}
-use Rattle.cdi_ownership.proofs.Homes.{Chain, IsStaying, chain_map, IsReadyOf}
-use Rattle.cdi_ownership.proofs.Makings.{CanStand, settles, drops}
-use Rattle.cdi_ownership.proofs.Spans.{CanBegin, MakingIn, Begun, begins, rel_created, rel_destroyed}
+use Rattle.cdi_ledger.proofs.Cores.{with_phase}
+use Rattle.cdi_ledger.proofs.Homes.{Chain, IsStaying, chain_map, IsReadyOf}
+use Rattle.cdi_ledger.proofs.Makings.{CanStand, settles, drops}
+use Rattle.cdi_ledger.proofs.Spans.{CanBegin, MakingIn, Begun, begins, rel_created, rel_destroyed}
 use Rattle.cdi_ledger.proofs.Owed.{IsFreeBelow}
 use Rattle.std.specs.Prelude.{◌^◌}
 use Rattle.cdi_ledger.proofs.Standing.{CanHave, have_then, top_then, own_of, below_then, live_below, inside_still, invocation_still, f_bean, f_interceptor, f_instance, f_resolved, f_picked, f_reference, f_injected, f_use, f_destroy_by}
@@ -173,7 +173,7 @@ module _ (t : Tables) where
   -- an owner that is anchored is so when the instance has begun
   anchored_begun : (place : Rattle.cdi_base.specs.declared.place.Place.Place) (component : Component) (owner : Owner) (fields : Fields) (w : World) (g : Inv w) (m : ℕ) → Begun (with_entry (entries.New w.next place) w) (after_change (Change.Make component owner fields) (with_entry (entries.New w.next place) w)) component owner
       → Anchored w m → Anchored (after_change (Change.Make component owner fields) (with_entry (entries.New w.next place) w)) m
-  anchored_begun place component owner fields w g m b a = (a.0, b.moves.other m apart ∙ a.1, Rattle.cdi_ownership.proofs.Spans.fixed_across w0 w1 w.next m a.0 b.moves idle a.2)
+  anchored_begun place component owner fields w g m b a = (a.0, b.moves.other m apart ∙ a.1, Rattle.cdi_ledger.proofs.Spans.fixed_across w0 w1 w.next m a.0 b.moves idle a.2)
     where
       w0 : World
       w0 = with_entry (entries.New w.next place) w
@@ -185,7 +185,7 @@ module _ (t : Tables) where
       apart e = let l = g.below m a.0 a.1 in omega (arith, e)
 
       idle : Busy (with_entry (entries.New w.next place) w) w.next → ⊥
-      idle q = let l = Rattle.cdi_ownership.proofs.Homes.chain_small w.instances q.0 w.next (λ d k c e o. g.smaller d k c e o) q.2 in let s = g.stack q.0 q.1 in omega arith
+      idle q = let l = Rattle.cdi_ledger.proofs.Homes.chain_small w.instances q.0 w.next (λ d k c e o. g.smaller d k c e o) q.2 in let s = g.stack q.0 q.1 in omega arith
 
   anchored_below : (w : World) (g : Inv w) (m : ℕ) → Anchored w m → m < w.next
   anchored_below w g m a = g.below m a.0 a.1

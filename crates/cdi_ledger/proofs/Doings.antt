@@ -18,7 +18,7 @@ use Rattle.cdi_base.specs.declared.built_in.BuiltIn.TheVariants as built_in
 use Rattle.cdi_base.specs.declared.uses.Use.{Use}
 use Rattle.cdi_base.specs.BuiltIn.{number_of}
 use Rattle.cdi_base.specs.Maps.{at, put}
-use Rattle.cdi_ownership.proofs.Maps.{put_at}
+use Rattle.cdi_ledger.proofs.Maps.{put_at}
 use Rattle.cdi_store.specs.declared.references.Reference.TheVariants.{Direct}
 use Rattle.cdi_store.specs.declared.instance.Context.{Context}
 use Rattle.cdi_store.specs.declared.instance.Component.{Component}
@@ -45,11 +45,11 @@ use Rattle.cdi_ledger.proofs.Past.{Past}
 use Rattle.cdi_ledger.proofs.Phases.{eq_true}
 use Rattle.cdi_ledger.specs.Callbacks.{IsOrdinary, codes_in, IsMark}
 use Rattle.cdi_store.specs.Live.{Instances}
-use Rattle.cdi_ownership.specs.Whose.{IsIn}
-use Rattle.cdi_ownership.proofs.Lists.{HasTop, TopEmpty, among_below, below_among, in_got}
-use Rattle.cdi_ownership.proofs.Cores.{Core, core_of, core_at, deps_at}
-use Rattle.cdi_ownership.proofs.Homes.{IsNewAt, MayOwn, Inside, new_then, no_parameters, parameters_same, provisions, codes, Inv, Rel, Grown, Placed, HeldIn, OnStack, Busy, IsFixed, targets, rel_self, rel_then, was_busy}
-use Rattle.cdi_ownership.proofs.Spans.{Still, inv_still, rel_still}
+use Rattle.cdi_ledger.specs.Whose.{IsIn}
+use Rattle.cdi_ledger.proofs.Lists.{HasTop, TopEmpty, among_below, below_among, in_got}
+use Rattle.cdi_ledger.proofs.Cores.{Core, core_of, core_at, deps_at}
+use Rattle.cdi_ledger.proofs.Homes.{IsNewAt, MayOwn, Inside, new_then, no_parameters, parameters_same, provisions, codes, Inv, Rel, Grown, Placed, HeldIn, OnStack, Busy, IsFixed, targets, rel_self, rel_then, was_busy}
+use Rattle.cdi_ledger.proofs.Spans.{Still, inv_still, rel_still}
 use Rattle.cdi_ledger.proofs.Owed.{IsOwned, IsLeft, OwnLocals, IsSet, set_then, within_none, within_first, CanStart, StartsSo, LeftSo, AtMember, IsMemberAt, none_start, in_farewell, farewell_map, farewell_then, usable_same, one_class, Ok, EntersSo, IsKnown, IsAttending, one_ordinary, AllReferTo, IsUsable, MayEnter, MayRun, IsMember, usable_enters, usable_runs, new_usable, RefersTo, Pre, Post, IsTop, IsGiven, Anchored, anchored_then}
 use Rattle.cdi_ledger.proofs.Judge.{bind}
 use Rattle.cdi_ledger.proofs.Fine as fine
@@ -91,7 +91,7 @@ have_up w u (owners.Instance m) i t f h = (h.0, subst (λ z. core_at m z ≡ Som
     fixed : IsFixed w m h.0 → IsFixed u m h.0
     fixed (inl e) = inl e
     fixed (inr (inl e)) = inr (inl e)
-    fixed (inr (inr b)) = inr (inr (b.0, f b.0 b.1, subst (λ z. Rattle.cdi_ownership.proofs.Homes.Chain z b.0 m) (sym i) b.2))
+    fixed (inr (inr b)) = inr (inr (b.0, f b.0 b.1, subst (λ z. Rattle.cdi_ledger.proofs.Homes.Chain z b.0 m) (sym i) b.2))
 have_up w u owners.Borrower i t f h = subst HasTop (sym t) h
 
 may_up : (w u : World) (n : ℕ) (owner : Owner) → u.instances ≡ w.instances → MayOwn n owner w → MayOwn n owner u
@@ -101,7 +101,7 @@ may_up w u n owner i (inr (inr e)) = inr (inr e)
 
 -- the target of the innermost invocation stays there
 usable_inside : (u w : World) (n : ℕ) → Inside u w → (ts : List ℕ) → targets u.invocations ≡ n ∷ ts → IsUsable n u → IsUsable n w
-usable_inside u w n r ts e l = (l.0, r.stay n l.0 l.1 (inr (inr (n, inr (subst (IsIn n) (sym e) (inl refl)), Rattle.cdi_ownership.proofs.Homes.Chain.here))), l.2)
+usable_inside u w n r ts e l = (l.0, r.stay n l.0 l.1 (inr (inr (n, inr (subst (IsIn n) (sym e) (inl refl)), Rattle.cdi_ledger.proofs.Homes.Chain.here))), l.2)
 
 top_in : (v : Invocation) (us : List Invocation) → IsTopOf v us → IsIn (v.target, v.references) (provisions us)
 top_in v [] e = absurd e
@@ -113,7 +113,7 @@ Any a w = Unit {0}
 listed_there : (m : ℕ) (live : Instances) (n : ℕ) → IsIn n (deps_at m live) → (c : Core) × (core_at m live ≡ Some c)
 listed_there m live n h = by (at live m) refl h
   where
-    by : (o : Option Instance) → at live m ≡ o → IsIn n (Rattle.cdi_ownership.proofs.Cores.list_of o) → (c : Core) × (core_at m live ≡ Some c)
+    by : (o : Option Instance) → at live m ≡ o → IsIn n (Rattle.cdi_ledger.proofs.Cores.list_of o) → (c : Core) × (core_at m live ≡ Some c)
     by None e h = absurd h
     by (Some o) e h = (core_of o, ap (option_map core_of) e)
 
@@ -374,7 +374,7 @@ module _ (t : Tables) where
 
       of_target : (v : Invocation) (vs : List Invocation) → w.invocations ≡ v ∷ vs → (x : Interceptor) → t.interceptor i ≡ Some x → (b : ℕ) (o : Option Instance) → instance_at w v.target ≡ o → Goes w (handle (handle (require_present o) (λ o. see (λ t w. first_of w i o.dependents)) throw) (λ n. behind v x b n) throw) w h Any
       of_target v vs e x f b None y = (g, (rel_self w g, tt))
-      of_target v vs e x f b (Some o) y = among v vs e x f b o.dependents (λ k z. subst (IsIn k) (sym (ap Rattle.cdi_ownership.proofs.Cores.list_of y)) z)
+      of_target v vs e x f b (Some o) y = among v vs e x f b o.dependents (λ k z. subst (IsIn k) (sym (ap Rattle.cdi_ledger.proofs.Cores.list_of y)) z)
 
       coded : (v : Invocation) (vs : List Invocation) → w.invocations ≡ v ∷ vs → (x : Interceptor) → t.interceptor i ≡ Some x → (b : Option ℕ) → Goes w (handle (require_present b) (λ b. handle (interceptor_of v.target i) (λ n. behind v x b n) throw) throw) w h Any
       coded v vs e x f None = (g, (rel_self w g, tt))

@@ -22,15 +22,15 @@ use Rattle.cdi_machine.specs.Runs.{Legal, Outcome, Runs}
 use Rattle.cdi_machine.specs.Container.{State}
 use Rattle.cdi_ledger.specs.Ledger.{Item, Wrote, Between, Born, with_birth, items_of, Fate, Unborn, Made, Readied, Ended, Left, Lost, Wrong, fate, if_is, by_run, InOrder}
 use Rattle.cdi_ledger.specs.Stories.{Story}
-use Rattle.cdi_ownership.specs.Whose.{IsIn}
+use Rattle.cdi_ledger.specs.Whose.{IsIn}
 use Rattle.cdi_ledger.specs.Ends.{Each, IsEnding, IsOfClass, IsFarewell, BodiesAreFarewells, BodiesAreFarewellsIfShort, IsAlive, IsOnLiving}
 use Rattle.cdi_ledger.proofs.Judge.{Does, sound, Guard, guard_map, Note, note_map}
 use Rattle.cdi_ledger.proofs.Phases.{phase_at, eq_true, eq_same}
 use Rattle.cdi_ledger.proofs.Plain.{Sane}
 use Rattle.cdi_ledger.proofs.Ledgered as ledgered
-use Rattle.cdi_ownership.proofs.Maps.{at_added, at_before}
-use Rattle.cdi_ownership.proofs.Cores.{Core, core_of, core_at, with_phase, when, core_same, core_ready, core_leaving, core_gone, core_left}
-use Rattle.cdi_ownership.proofs.Homes.{targets}
+use Rattle.cdi_ledger.proofs.Maps.{at_added, at_before}
+use Rattle.cdi_ledger.proofs.Cores.{Core, core_of, core_at, with_phase, when, core_same, core_ready, core_leaving, core_gone, core_left}
+use Rattle.cdi_ledger.proofs.Homes.{targets}
 use Rattle.cdi_ledger.proofs.Owed.{Ok, AreParting, IsMember, MayRun, Pre}
 use Rattle.cdi_ledger.proofs.Tops.{Tidy}
 use Rattle.cdi_ledger.proofs.Settled.{tidy_story, sane_story, begin_tidy, not_halted}

@@ -15,12 +15,12 @@ use Rattle.cdi_machine.specs.World.{World, Change, Invocation, after_change, wit
 use Rattle.cdi_machine.specs.Programs.{Task, Given, Completion, Gave, Threw, Prog, ret, throw, cut, miss, see, handle, require_present, expect, require, raise, alter, call, complete, quietly, each, do_nothing, rethrow, top}
 use Rattle.cdi_machine.specs.Bodies.{invoke_by, invocation_at_start}
 use Rattle.cdi_ledger.specs.Ledger.{Item, Wrote, Between, with_birth}
-use Rattle.cdi_ownership.specs.Whose.{IsIn}
-use Rattle.cdi_ownership.proofs.Holdings.{IsMaking}
-use Rattle.cdi_ownership.proofs.Cores.{Core, core_at, deps_at}
+use Rattle.cdi_ledger.specs.Whose.{IsIn}
+use Rattle.cdi_ledger.proofs.Holdings.{IsMaking}
+use Rattle.cdi_ledger.proofs.Cores.{Core, core_at, deps_at}
 use Rattle.cdi_store.specs.declared.references.Reference.{Reference}
-use Rattle.cdi_ownership.proofs.Homes.{Along, AreParameters, Inside, along_then, rel_inside, parameters_same, no_parameters, provisions, lower_provisions, codes, Inv, Rel, Grown, Placed, HeldIn, IsReadyOf, OnStack, Busy, IsFixed, targets, rel_self, rel_then, was_busy}
-use Rattle.cdi_ownership.proofs.Spans.{Still, inv_still, rel_still}
+use Rattle.cdi_ledger.proofs.Homes.{Along, AreParameters, Inside, along_then, rel_inside, parameters_same, no_parameters, provisions, lower_provisions, codes, Inv, Rel, Grown, Placed, HeldIn, IsReadyOf, OnStack, Busy, IsFixed, targets, rel_self, rel_then, was_busy}
+use Rattle.cdi_ledger.proofs.Spans.{Still, inv_still, rel_still}
 use Rattle.cdi_ledger.proofs.Judge.{Does, bind, guard_map, guard_none, note_map, NoGuard}
 use Rattle.cdi_ledger.proofs.Owed.{Ok, MayEnter, EntersSo, Pre, Post, post_rel}
 
@@ -254,7 +254,7 @@ module _ (tables : Tables) where
       fixed : (k : ℕ) (d : Core) → IsFixed w k d → IsFixed u k d
       fixed k d (inl e) = inl e
       fixed k d (inr (inl e)) = inr (inl e)
-      fixed k d (inr (inr b)) = inr (inr (b.0, f b.0 b.1, subst (λ z. Rattle.cdi_ownership.proofs.Homes.Chain z b.0 k) (sym i) b.2))
+      fixed k d (inr (inr b)) = inr (inr (b.0, f b.0 b.1, subst (λ z. Rattle.cdi_ledger.proofs.Homes.Chain z b.0 k) (sym i) b.2))
 
   -- what goes on inside an invocation, where it is told by a later world of it
   pub inside_then : (u w : World) (p : Prog Given) (h : List Item) → Inside u w → Doing p w h (Left w Any) → Doing p w h (Bracketed u)

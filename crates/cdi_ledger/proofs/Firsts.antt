@@ -21,7 +21,7 @@ use Rattle.cdi_machine.specs.Runs.{Legal, Outcome, Runs}
 use Rattle.cdi_machine.specs.Container.{State}
 use Rattle.cdi_ledger.specs.Ledger.{Item, Wrote, Between, Born, with_birth, fate, items_of}
 use Rattle.cdi_ledger.specs.Stories.{Story}
-use Rattle.cdi_ownership.specs.Whose.{IsIn}
+use Rattle.cdi_ledger.specs.Whose.{IsIn}
 use Rattle.cdi_ledger.specs.Ends.{Each, IsOfClass}
 use Rattle.cdi_ledger.specs.Callbacks.{IsOrdinary, PlacesOfBodiesAreApart, FirstsStandOnce, IsMark, IsFirstOf, IsBegun, IsBegunOnly, BeginsOnlyAtMark, BeginsOnlyAtMarkIfShort}
 use Rattle.cdi_ledger.proofs.Judge.{Does, sound, Note, guard_map, note_map}
@@ -30,7 +30,7 @@ use Rattle.cdi_ledger.proofs.Plain.{Sane, stands}
 use Rattle.cdi_ledger.proofs.Ledgered as ledgered
 use Rattle.cdi_ledger.proofs.Past.{Past}
 use Rattle.cdi_ledger.proofs.Fronts.{anything, also_short}
-use Rattle.cdi_ownership.proofs.Cores.{Core, core_of, core_at}
+use Rattle.cdi_ledger.proofs.Cores.{Core, core_of, core_at}
 use Rattle.cdi_ledger.proofs.Owed.{Ok, Pre, AreParting, IsClassOf, InFarewell, StartsSo, IsEndOf, behind_first, CanStart, AtMember, IsMemberAt, IsAttendant, IsAttending, IsKnown, IsThere}
 use Rattle.cdi_ledger.proofs.Tops.{Tidy}
 use Rattle.cdi_ledger.proofs.Settled.{tidy_story, sane_story, begin_tidy, not_halted}

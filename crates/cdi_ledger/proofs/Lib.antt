@@ -24,3 +24,13 @@ pub mod Traces
 pub mod Orders
 pub mod BodyReferences
 pub mod Counts
+pub mod Maps
+pub mod Lists
+pub mod Holdings
+pub mod Cores
+pub mod Places
+pub mod Homes
+pub mod Idle
+pub mod Changes
+pub mod Makings
+pub mod Spans

@@ -6,7 +6,7 @@ use Rattle.cdi_machine.specs.Tables.{Tables}
 use Rattle.cdi_machine.specs.World.{World, at_begin}
 use Rattle.cdi_machine.specs.Commands.{task}
 use Rattle.cdi_machine.specs.Runs.{Legal, Outcome, Runs}
-use Rattle.cdi_ownership.specs.Whose.{IsIn}
+use Rattle.cdi_ledger.specs.Whose.{IsIn}
 use Rattle.cdi_ledger.specs.Ledger.{Item, Wrote, Between, Born, Fate, Unborn, Made, Readied, Ended, Left, Lost, Wrong, fate, if_is, by_new, by_ready, by_drop, by_run, by_end, by_between, by_gone, InOrder, items_of}
 use Rattle.cdi_ledger.specs.Ends.{marks, one_more_if, MarksOnce, MarksOnceIfShort}
 use Rattle.cdi_ledger.proofs.Phases.{eq_same}

@@ -42,8 +42,8 @@ use Rattle.cdi_ledger.proofs.Past.{Past, past_step, past_end, past_begun}
 use Rattle.cdi_ledger.proofs.Plain as plain
 use Rattle.cdi_ledger.proofs.Plain.{Sane, Kept, standing, stands, plain_change}
 use Rattle.cdi_ledger.proofs.Ledgered as ledgered
-use Rattle.cdi_ownership.proofs.Cores.{Core, core_of, core_at}
-use Rattle.cdi_ownership.proofs.Homes.{Inv, Rel, lt_or}
+use Rattle.cdi_ledger.proofs.Cores.{Core, core_of, core_at}
+use Rattle.cdi_ledger.proofs.Homes.{Inv, Rel, lt_or}
 use Rattle.cdi_ledger.proofs.Owed.{Ok, Pre, Post, post_rel, IsIdle}
 use Rattle.cdi_ledger.proofs.Fine as fine
 use Rattle.cdi_ledger.proofs.Creations
@@ -403,12 +403,12 @@ module _ (tables : Tables) where
 
       same : (c : Core) → core_at n w.instances ≡ Some c → c.phase ≡ phases.Ready → (m : ℕ) → (m ≡ n → ⊥) → phase_at m (after_change (Change.Leave n) (with_entry (entries.End n) w)).instances ≡ phase_at m w.instances
       same c e r m d =
-          let lv = Rattle.cdi_ownership.proofs.Changes.leaves (with_entry (entries.End n) w) n (fine.inv_entry (entries.End n) w g.0.0) c e r in
+          let lv = Rattle.cdi_ledger.proofs.Changes.leaves (with_entry (entries.End n) w) n (fine.inv_entry (entries.End n) w g.0.0) c e r in
           phase_core m (after_change (Change.Leave n) (with_entry (entries.End n) w)).instances ∙ (ap (option_map (λ c. c.phase)) (lv.1.other m d) ∙ sym (phase_core m w.instances))
 
       own : (c : Core) → core_at n w.instances ≡ Some c → c.phase ≡ phases.Ready → IsLeaving n (after_change (Change.Leave n) (with_entry (entries.End n) w))
       own c e r =
-          let lv = Rattle.cdi_ownership.proofs.Changes.leaves (with_entry (entries.End n) w) n (fine.inv_entry (entries.End n) w g.0.0) c e r in
+          let lv = Rattle.cdi_ledger.proofs.Changes.leaves (with_entry (entries.End n) w) n (fine.inv_entry (entries.End n) w g.0.0) c e r in
           core_leaving n (after_change (Change.Leave n) (with_entry (entries.End n) w)) _ lv.1.own refl
 
       rest : Instance → Prog Given

@@ -19,13 +19,13 @@ use Rattle.cdi_ledger.proofs.Judge.{Changing, Running, Asked}
 use Rattle.cdi_machine.specs.Programs.{Running as Body, Task, Given, Completion, Gave, Threw}
 use Rattle.cdi_ledger.specs.Ledger.{Item, fate}
 use Rattle.cdi_ledger.proofs.Past.{Past}
-use Rattle.cdi_ownership.specs.Whose.{IsIn}
+use Rattle.cdi_ledger.specs.Whose.{IsIn}
 use Rattle.cdi_ledger.specs.Ends.{Suits, IsOwn}
 use Rattle.cdi_ledger.specs.Callbacks.{IsOrdinary, IsMark, IsProceed}
-use Rattle.cdi_ownership.proofs.Lists.{HasTop, TopEmpty}
-use Rattle.cdi_ownership.proofs.Holdings.{IsFree, NoneHeld}
-use Rattle.cdi_ownership.proofs.Cores.{Core, core_at, deps_at}
-use Rattle.cdi_ownership.proofs.Homes.{AreParameters, IsNewAt, Along, parameters_then, Rel, Busy, IsFixed, IsStaying, OnStack, fixed_then, targets, lt_or, Chain}
+use Rattle.cdi_ledger.proofs.Lists.{HasTop, TopEmpty}
+use Rattle.cdi_ledger.proofs.Holdings.{IsFree, NoneHeld}
+use Rattle.cdi_ledger.proofs.Cores.{Core, core_at, deps_at}
+use Rattle.cdi_ledger.proofs.Homes.{AreParameters, IsNewAt, Along, parameters_then, Rel, Busy, IsFixed, IsStaying, OnStack, fixed_then, targets, lt_or, Chain}
 
 -- it is there, and no task ends it
 abbrev pub Anchored : World → ℕ → Type 0

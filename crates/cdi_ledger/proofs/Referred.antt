@@ -25,8 +25,8 @@ use Rattle.cdi_ledger.specs.Ends.{RefersOwn}
 use Rattle.cdi_ledger.proofs.Judge.{Does, sound, Guard, guard_map, note_map}
 use Rattle.cdi_ledger.proofs.Plain.{Sane, Kept, standing}
 use Rattle.cdi_ledger.proofs.Ledgered as ledgered
-use Rattle.cdi_ownership.proofs.Maps.{at_adjusted, at_gone, at_left, at_added, at_before, put_at}
-use Rattle.cdi_ownership.proofs.Cores.{core_of, core_same, core_before}
+use Rattle.cdi_ledger.proofs.Maps.{at_adjusted, at_gone, at_left, at_added, at_before, put_at}
+use Rattle.cdi_ledger.proofs.Cores.{core_of, core_same, core_before}
 use Rattle.cdi_ledger.proofs.Owed.{Ok, RefersTo, IsOwned, Pre}
 use Rattle.cdi_ledger.proofs.Tops.{Tidy, LeftTidy, command_does}
 use Rattle.cdi_ledger.proofs.Settled.{tidy_story, sane_story, begin_tidy, not_halted}

@@ -24,17 +24,17 @@ use Rattle.cdi_machine.specs.Container.{State, refusal, state_after}
 use Rattle.cdi_machine.proofs.Refused.{refused}
 use Rattle.cdi_ledger.specs.Ledger.{Item, items_of, Unborn, Lost, fate}
 use Rattle.cdi_ledger.specs.Stories.{Story}
-use Rattle.cdi_ownership.specs.Whose.{IsIn, IsHeld, DependsOn, StandsAtHome, IsTidy}
+use Rattle.cdi_ledger.specs.Whose.{IsIn, IsHeld, DependsOn, StandsAtHome, IsTidy}
 use Rattle.cdi_ledger.specs.Ends.{OwnersAreSmaller, IsUnderWay, LeavesTidy, LeavesNothing}
 use Rattle.cdi_ledger.proofs.Phases.{phase_at, phase_of}
 use Rattle.cdi_ledger.proofs.Plain.{Sane, stands}
 use Rattle.cdi_ledger.proofs.Ledgered.{before, at_rest, command_keeps}
 use Rattle.cdi_ledger.proofs.Judge.{sound}
-use Rattle.cdi_ownership.proofs.Lists.{IsAmong}
-use Rattle.cdi_ownership.proofs.Holdings.{AllHeld}
-use Rattle.cdi_ownership.proofs.Cores.{Core, core_of, core_at, deps_at, list_of}
-use Rattle.cdi_ownership.proofs.Homes.{Inv, HeldIn, Placed}
-use Rattle.cdi_ownership.proofs.Spans.{Still, inv_still, rel_still}
+use Rattle.cdi_ledger.proofs.Lists.{IsAmong}
+use Rattle.cdi_ledger.proofs.Holdings.{AllHeld}
+use Rattle.cdi_ledger.proofs.Cores.{Core, core_of, core_at, deps_at, list_of}
+use Rattle.cdi_ledger.proofs.Homes.{Inv, HeldIn, Placed}
+use Rattle.cdi_ledger.proofs.Spans.{Still, inv_still, rel_still}
 use Rattle.cdi_ledger.proofs.Owed.{Ok, Pre, Post}
 use Rattle.cdi_ledger.proofs.Fine as fine
 use Rattle.cdi_ledger.proofs.Creations.{task_does}
@@ -145,7 +145,7 @@ module _ (tables : Tables) (legal : Legal) where
   unlisted m live n d = subst (λ z. IsIn n (list_of z)) (sym d.1) d.2
 
   owner_of : (w : World) (n : ℕ) (c : Core) → core_at n w.instances ≡ Some c → (o : Instance) × (instance_at w n ≡ Some o) × (core_of o ≡ c)
-  owner_of w n c e = Rattle.cdi_ownership.proofs.Cores.is_there n w.instances c e
+  owner_of w n c e = Rattle.cdi_ledger.proofs.Cores.is_there n w.instances c e
 
   tidy_is : (w : World) → Tidy w → IsTidy w
   tidy_is w g = record {
@@ -161,7 +161,7 @@ module _ (tables : Tables) (legal : Legal) where
       home n component owners.Borrower h f = subst (IsAmong n) g.temporaries h
 
       held_at : (c : Context) (a : Active) (b n : ℕ) → context_at w.contexts c ≡ Some a → at a.holds b ≡ Some (Is n) → HeldIn w c b n
-      held_at c a b n e f = Rattle.cdi_ownership.proofs.Maps.all_at _ a.holds b (Is n) (subst (AllHeld (HeldIn w c)) e (g.inv.held c)) f
+      held_at c a b n e f = Rattle.cdi_ledger.proofs.Maps.all_at _ a.holds b (Is n) (subst (AllHeld (HeldIn w c)) e (g.inv.held c)) f
 
   pub leaves_tidy : LeavesTidy tables legal
   leaves_tidy s h l e = let g = tidy_story l e in ((λ n u. not_under_way n s.world h (sane_story n l) g u), tidy_is s.world g)

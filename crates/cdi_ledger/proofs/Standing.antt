@@ -30,16 +30,16 @@ use Rattle.cdi_machine.specs.Contexts.{find_or_create, obtain, is_normal, direct
 use Rattle.cdi_machine.specs.DestroyAct.{is_idle, is_made, destroy_idle, destroy_held, destroy_by}
 use Rattle.cdi_machine.specs.Bodies.{provide, is_of, first_of, interceptor_of}
 use Rattle.cdi_ledger.specs.Ledger.{Item}
-use Rattle.cdi_ownership.specs.Whose.{IsIn}
-use Rattle.cdi_ownership.proofs.Lists.{HasTop}
-use Rattle.cdi_ownership.proofs.Holdings.{IsFree, AllHeld}
-use Rattle.cdi_ownership.proofs.Cores.{Core, core_of, core_at, deps_at, core_same, deps_same}
-use Rattle.cdi_ownership.proofs.Homes.{AreParameters, MayOwn, may_then, Inside, along_then, rel_inside, rel_self, grown_self, provisions, lower_provisions, OnStack, codes, IsStaying, Inv, Rel, Grown, HeldIn, targets, rel_then}
-use Rattle.cdi_ownership.proofs.Spans.{Still}
+use Rattle.cdi_ledger.specs.Whose.{IsIn}
+use Rattle.cdi_ledger.proofs.Lists.{HasTop}
+use Rattle.cdi_ledger.proofs.Holdings.{IsFree, AllHeld}
+use Rattle.cdi_ledger.proofs.Cores.{Core, core_of, core_at, deps_at, core_same, deps_same}
+use Rattle.cdi_ledger.proofs.Homes.{AreParameters, MayOwn, may_then, Inside, along_then, rel_inside, rel_self, grown_self, provisions, lower_provisions, OnStack, codes, IsStaying, Inv, Rel, Grown, HeldIn, targets, rel_then}
+use Rattle.cdi_ledger.proofs.Spans.{Still}
 use Rattle.cdi_ledger.proofs.Judge.{bind}
 use Rattle.cdi_ledger.proofs.Fine.{stacked_inv}
 use Rattle.cdi_ledger.proofs.Owed.{Ok, Pre, Post, AllReferTo, owned_then, IsUsable, RefersTo, IsOwned, IsMadeFor, AreMadeFor, IsSuited, IsNumbered, AreNumbered, Anchored, CanOwn, anchored_then}
-use Rattle.cdi_ownership.proofs.Idle.{idle_is}
+use Rattle.cdi_ledger.proofs.Idle.{idle_is}
 use Rattle.cdi_ledger.proofs.Fine as fine
 
 -- an owner that isn't a context
@@ -147,7 +147,7 @@ module _ (t : Tables) where
     -- ---- contexts
 
     held_at : (w : World) (g : Inv w) (x : Context) (a : Active) (b n : ℕ) → context_at w.contexts x ≡ Some a → at a.holds b ≡ Some (Is n) → HeldIn w x b n
-    held_at w g x a b n e f = Rattle.cdi_ownership.proofs.Maps.all_at _ a.holds b (Is n) (subst (AllHeld (HeldIn w x)) e (g.held x)) f
+    held_at w g x a b n e f = Rattle.cdi_ledger.proofs.Maps.all_at _ a.holds b (Is n) (subst (AllHeld (HeldIn w x)) e (g.held x)) f
 
     -- the bean is that of the tables
     pub f_known : (b : ℕ) → Fine (bean_at b) (λ x w. t.bean b ≡ Some x)
@@ -302,7 +302,7 @@ module _ (t : Tables) where
       where
         by : (o : Option Instance) → instance_at w n ≡ o → Goes (handle (require_present o) (λ o. see (λ t w. first_of w i o.dependents)) throw) w h (λ n u. IsUsable n u)
         by None e = (g, (r, tt))
-        by (Some o) e = first_of_usable i w h g r o.dependents (λ k z. (let q = g.depends n k (subst (IsIn k) (sym (ap Rattle.cdi_ownership.proofs.Cores.list_of e)) z) in (_, q.1, tt)))
+        by (Some o) e = first_of_usable i w h g r o.dependents (λ k z. (let q = g.depends n k (subst (IsIn k) (sym (ap Rattle.cdi_ledger.proofs.Cores.list_of e)) z) in (_, q.1, tt)))
 
   -- ---- parameters
 

@@ -17,11 +17,11 @@ use Rattle.cdi_machine.specs.World.{World, Change, instance_at, after_change, wi
 use Rattle.cdi_machine.specs.Programs.{Task, Given, Completion, Running, Prog, ret, throw, handle, quietly, require_present, call, complete, finish, alter, note, top, instance}
 use Rattle.cdi_machine.specs.Destruction.{clean_up}
 use Rattle.cdi_ledger.specs.Ledger.{Item, Wrote}
-use Rattle.cdi_ownership.specs.Whose.{IsIn}
-use Rattle.cdi_ownership.proofs.Lists.{IsAmong, HasTop, TopEmpty}
-use Rattle.cdi_ownership.proofs.Holdings.{IsFree, AllHeld}
-use Rattle.cdi_ownership.proofs.Cores.{Core, core_of, core_at, deps_at, core_same, deps_same}
-use Rattle.cdi_ownership.proofs.Homes.{Inv, Rel, Grown, HeldIn, OnStack, Busy, IsFixed, targets, rel_self, rel_then, was_busy}
+use Rattle.cdi_ledger.specs.Whose.{IsIn}
+use Rattle.cdi_ledger.proofs.Lists.{IsAmong, HasTop, TopEmpty}
+use Rattle.cdi_ledger.proofs.Holdings.{IsFree, AllHeld}
+use Rattle.cdi_ledger.proofs.Cores.{Core, core_of, core_at, deps_at, core_same, deps_same}
+use Rattle.cdi_ledger.proofs.Homes.{Inv, Rel, Grown, HeldIn, OnStack, Busy, IsFixed, targets, rel_self, rel_then, was_busy}
 use Rattle.cdi_ledger.proofs.Owed.{Ok, MayRun, IsKnown, IsLeft, LeftSo, farewell_same, Pre, Post, IsTop, IsGiven, IsIdle}
 use Rattle.cdi_ledger.proofs.Judge.{bind}
 use Rattle.cdi_ledger.proofs.Past.{past_begun}
@@ -32,12 +32,12 @@ use Rattle.cdi_machine.specs.Programs.{require_depth, finally}
 use Rattle.cdi_machine.specs.Bodies.{run_body}
 use Rattle.cdi_machine.specs.Destruction.{destroy, destroy_ready, only_ready, release, release_from, dismiss, dismiss_latest, latest, clear, clear_from, greatest_in}
 use Rattle.cdi_ledger.specs.Ledger.{Between}
-use Rattle.cdi_ownership.proofs.Lists.{in_got, got}
-use Rattle.cdi_ownership.proofs.Holdings.{NoneHeld, IsMaking}
-use Rattle.cdi_ownership.proofs.Cores.{with_phase}
-use Rattle.cdi_ownership.proofs.Homes.{Chain, IsStaying, chain_map, IsReadyOf}
-use Rattle.cdi_ownership.proofs.Changes.{Moves, leaves, removes}
-use Rattle.cdi_ownership.proofs.Spans.{rel_destroyed}
+use Rattle.cdi_ledger.proofs.Lists.{in_got, got}
+use Rattle.cdi_ledger.proofs.Holdings.{NoneHeld, IsMaking}
+use Rattle.cdi_ledger.proofs.Cores.{with_phase}
+use Rattle.cdi_ledger.proofs.Homes.{Chain, IsStaying, chain_map, IsReadyOf}
+use Rattle.cdi_ledger.proofs.Changes.{Moves, leaves, removes}
+use Rattle.cdi_ledger.proofs.Spans.{rel_destroyed}
 use Rattle.cdi_ledger.proofs.Owed.{IsFreeBelow}
 use Rattle.std.specs.Prelude.{max, cond}
 use Rattle.std.specs.List.{AllByRecursion}
@@ -277,7 +277,7 @@ module _ (t : Tables) where
       where
         by : (x : Option Instance) → instance_at w n ≡ x → Does (handle (require_present x) (λ o. release_from n o.dependents) throw) w h (Released w n)
         by None p = absurd (let z : ◌≡◌ {A = Option Core} None (Some pre.0) = sym (ap (option_map core_of) p) ∙ pre.1 in cc)
-        by (Some o) p = release_by w h g pre o.dependents (ap Rattle.cdi_ownership.proofs.Cores.list_of p)
+        by (Some o) p = release_by w h g pre o.dependents (ap Rattle.cdi_ledger.proofs.Cores.list_of p)
 
   -- ---- temporaries
 
@@ -344,13 +344,13 @@ module _ (t : Tables) where
         P : ℕ → Type 0
         P n = (c : Core) × (core_at n w.instances ≡ Some c) × (c.phase ≡ phases.Ready)
 
-        each_one : (p : ℕ × Held) → Rattle.cdi_ownership.proofs.Holdings.EachHeld (HeldIn w x) p.0 p.1 → (m : ℕ) → p.1 ≡ Is m → (c : Core) × (core_at m w.instances ≡ Some c) × (c.phase ≡ phases.Ready)
-        each_one p h m e = let q : HeldIn w x p.0 m = subst (Rattle.cdi_ownership.proofs.Holdings.EachHeld (HeldIn w x) p.0) e h in (_, q, refl)
+        each_one : (p : ℕ × Held) → Rattle.cdi_ledger.proofs.Holdings.EachHeld (HeldIn w x) p.0 p.1 → (m : ℕ) → p.1 ≡ Is m → (c : Core) × (core_at m w.instances ≡ Some c) × (c.phase ≡ phases.Ready)
+        each_one p h m e = let q : HeldIn w x p.0 m = subst (Rattle.cdi_ledger.proofs.Holdings.EachHeld (HeldIn w x) p.0) e h in (_, q, refl)
 
         by : (a : Option Active) → AllHeld (HeldIn w x) a → greatest_in a ≡ Some n → (c : Core) × (core_at n w.instances ≡ Some c) × (c.phase ≡ phases.Ready)
         by None h e = absurd (cc)
         by (Some a) h e = greatest_is (λ m. (c : Core) × (core_at m w.instances ≡ Some c) × (c.phase ≡ phases.Ready)) None a.holds n (λ m q. absurd (cc))
-            (Rattle.cdi_ownership.proofs.Maps.all_weaker (λ p. Rattle.cdi_ownership.proofs.Holdings.EachHeld (HeldIn w x) p.0 p.1) (λ p. (m : ℕ) → p.1 ≡ Is m → (c : Core) × (core_at m w.instances ≡ Some c) × (c.phase ≡ phases.Ready)) a.holds each_one h) e
+            (Rattle.cdi_ledger.proofs.Maps.all_weaker (λ p. Rattle.cdi_ledger.proofs.Holdings.EachHeld (HeldIn w x) p.0 p.1) (λ p. (m : ℕ) → p.1 ≡ Is m → (c : Core) × (core_at m w.instances ≡ Some c) × (c.phase ≡ phases.Ready)) a.holds each_one h) e
 
     pub clear_does : (w : World) (h : List Item) → Inv w → Pre t (Task.Clear x) w h → Does (clear x) w h (Cleared w)
     clear_does w h g pre = by (greatest_in (context_at w.contexts x)) refl

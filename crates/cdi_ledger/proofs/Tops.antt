@@ -23,13 +23,13 @@ use Rattle.cdi_base.specs.BuiltIn.{number_of}
 use Rattle.cdi_base.specs.declared.value.Value.TheVariants as values
 use Rattle.cdi_machine.specs.Commands.{Command, task, close, begin, begin_session, end, end_session, invalidate, end_alone, shut_down, boot, use_bean, stand_alone_in, requests_of, sessions_of, is_used}
 use Rattle.cdi_ledger.specs.Ledger.{Item}
-use Rattle.cdi_ownership.specs.Whose.{IsIn, IsHeld}
-use Rattle.cdi_ownership.proofs.Lists.{IsAmong}
-use Rattle.cdi_ownership.proofs.Holdings.{AllHeld, NoneHeld, all_held_map, all_held_ending, held_ending}
-use Rattle.cdi_ownership.proofs.Cores.{Core, core_at, deps_at}
-use Rattle.cdi_ownership.proofs.Places.{Opens, context_or, context_own, context_other, closed_own, closed_other, named_or, request_comes, session_comes, marked_same}
-use Rattle.cdi_ownership.proofs.Homes.{provisions, being, Inv, Rel, Grown, Placed, HeldIn, IsReadyOf, OnStack, targets, rel_self, lt_or}
-use Rattle.cdi_ownership.proofs.Spans.{Still, inv_still, rel_still}
+use Rattle.cdi_ledger.specs.Whose.{IsIn, IsHeld}
+use Rattle.cdi_ledger.proofs.Lists.{IsAmong}
+use Rattle.cdi_ledger.proofs.Holdings.{AllHeld, NoneHeld, all_held_map, all_held_ending, held_ending}
+use Rattle.cdi_ledger.proofs.Cores.{Core, core_at, deps_at}
+use Rattle.cdi_ledger.proofs.Places.{Opens, context_or, context_own, context_other, closed_own, closed_other, named_or, request_comes, session_comes, marked_same}
+use Rattle.cdi_ledger.proofs.Homes.{provisions, being, Inv, Rel, Grown, Placed, HeldIn, IsReadyOf, OnStack, targets, rel_self, lt_or}
+use Rattle.cdi_ledger.proofs.Spans.{Still, inv_still, rel_still}
 use Rattle.cdi_ledger.proofs.Judge.{bind}
 use Rattle.cdi_ledger.proofs.Owed.{Ok, IsUsable, Pre, Post, IsGiven}
 use Rattle.cdi_ledger.proofs.Fine as fine

@@ -22,7 +22,7 @@ use Rattle.cdi_machine.specs.Runs.{Legal, Outcome, Ends, Runs}
 use Rattle.cdi_machine.specs.Container.{State, refusal}
 use Rattle.cdi_ledger.specs.Ledger.{Item, Wrote, Between, Born, items_of, Fate, Unborn, Made, Readied, Ended, Left, Lost, Wrong, fate, InSequence}
 use Rattle.cdi_ledger.specs.Stories.{Story}
-use Rattle.cdi_ownership.specs.Whose.{IsIn, IsTidy, RefersToItsOwn}
+use Rattle.cdi_ledger.specs.Whose.{IsIn, IsTidy, RefersToItsOwn}
 
 -- ---- what is under way
 

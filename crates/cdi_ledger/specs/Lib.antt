@@ -3,3 +3,4 @@ pub mod Stories
 pub mod Ends
 pub mod Callbacks
 pub mod BodyReferences
+pub mod Whose

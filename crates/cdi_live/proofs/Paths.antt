@@ -7,7 +7,7 @@ use Rattle.std.proofs.lemmas.List.{get_or_past, get_or_default}
 use Rattle.std.proofs.lemmas.Option.{slice_get_past}
 use Rattle.cdi_base.specs.Maps.{at}
 use Rattle.cdi_cache.specs.of_beans.declared.bean.Bean.{Bean}
-use Rattle.cdi_cache.specs.of_chains.Chains.{interceptors_of, intercepts}
+use Rattle.cdi_cache.specs.of_plans.Chains.{interceptors_of, intercepts}
 use Rattle.cdi_deployment.specs.declared.deployment.Point.{Point}
 use Rattle.cdi_cache.specs.of_resolve.Filters.{is_bean_of}
 use Rattle.cdi_cache.specs.of_bean_check.ManagedBeans.{is_dependent}

@@ -7,7 +7,7 @@ use Rattle.std.proofs.lemmas.List.FromFn.{length-enumerate_from, get_or-enumerat
 use Rattle.cdi_base.specs.Maps.{at}
 use Rattle.cdi_cache.specs.of_beans.declared.bean.Bean.{Bean}
 use Rattle.cdi_cache.specs.of_beans.declared.bean.EnabledInterceptor.{EnabledInterceptor}
-use Rattle.cdi_cache.specs.of_chains.Chains.{places_from}
+use Rattle.cdi_cache.specs.of_plans.Chains.{places_from}
 use Rattle.cdi_cache.proofs.of_resolve.Enabled.{enabled_at, disabled_at}
 use Rattle.cdi_cache.proofs.of_resolve.Eligible.{kept}
 use Rattle.cdi_cache.specs.of_resolve.Filters.{is_enabled, enabled_beans}

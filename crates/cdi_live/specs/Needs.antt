@@ -5,7 +5,7 @@ use Rattle.cdi_base.specs.Maps.{at}
 use Rattle.cdi_cache.specs.of_bean_check.ManagedBeans.{is_dependent}
 use Rattle.cdi_cache.specs.of_beans.declared.bean.Bean.{Bean}
 use Rattle.cdi_cache.specs.of_beans.declared.bean.BeanKind.TheVariants as kinds
-use Rattle.cdi_cache.specs.of_chains.Chains.{interceptors_of}
+use Rattle.cdi_cache.specs.of_plans.Chains.{interceptors_of}
 use Rattle.cdi_deployment.specs.declared.deployment.Point.{Point}
 use Rattle.cdi_live.specs.Enabled.{Enabled}
 use Rattle.cdi_cache.specs.of_resolve.Filters.{is_bean_of}

@@ -5,7 +5,7 @@ use Rattle.cdi_cache.specs.of_beans.declared.bean.Bean.{Bean}
 use Rattle.cdi_cache.specs.of_beans.declared.bean.BeanKind.{BeanKind}
 use Rattle.cdi_cache.specs.of_beans.declared.bean.BeanKind.TheVariants as kinds
 use Rattle.cdi_cache.specs.of_beans.declared.bean.DisposerMethod.{DisposerMethod}
-use Rattle.cdi_cache.specs.of_chains.Chains.{ChainTables}
+use Rattle.cdi_cache.specs.of_plans.Chains.{ChainTables}
 use Rattle.cdi_deployment.specs.declared.deployment.Class.{Class}
 use Rattle.cdi_deployment.specs.declared.deployment.Constructor.{Constructor}
 use Rattle.cdi_deployment.specs.declared.deployment.InjectedField.{InjectedField}

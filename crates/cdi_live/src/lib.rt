@@ -18,7 +18,7 @@ mod sets;
 
 // What callers name of the libraries below.
 pub use cdi_cache;
-pub use cdi_cache::{cdi_bean_check, cdi_beans, cdi_chains, cdi_enable, cdi_resolve};
+pub use cdi_cache::{cdi_bean_check, cdi_beans, cdi_enable, cdi_plans, cdi_resolve};
 pub use cycle_rule::dependent_cycles;
 pub use deployment_tables::DeploymentTables;
 pub use live_tables::LiveTables;

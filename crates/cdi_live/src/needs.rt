@@ -3,7 +3,7 @@ ghost use Rattle.std.specs.Prelude.{◌≡◌, ◌==◌, ◌++◌, ◌∷◌, []
 ghost use Rattle.std.specs.List.{filter_map, flat_map, list_any};
 ghost use Rattle.std.specs.Option.{option_copied};
 ghost use Rattle.cdi_base.specs.Maps.{at};
-ghost use Rattle.cdi_cache.specs.of_chains.Chains.{interceptors_of};
+ghost use Rattle.cdi_cache.specs.of_plans.Chains.{interceptors_of};
 ghost use Rattle.cdi_live.specs.Points.{field_point};
 ghost use Rattle.cdi_live.specs.Needs as spec;
 ghost use Rattle.cdi_live.specs.OwnPoints as own;

@@ -20,3 +20,5 @@ pub mod Scripts
 pub mod Deployments
 pub mod Worked
 pub mod Laws
+pub mod Resolved
+pub mod Told

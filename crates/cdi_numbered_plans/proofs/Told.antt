@@ -9,12 +9,12 @@ use Rattle.cdi_deployment.specs.declared.deployment.InjectedField.{InjectedField
 use Rattle.cdi_deployment.specs.declared.deployment.Point.{Point}
 use Rattle.cdi_event_tables.specs.Observers.{managed_bean}
 use Rattle.cdi_event_tables.specs.declared.observers.PlannedObserver.{PlannedObserver}
-use Rattle.cdi_life.specs.Resolved.{AreResolved, IsResolved, IsResolvedMember, IsResolvedObserver, IsResolvedSource, IsResolvedStep}
-use Rattle.cdi_life.specs.Told.{lifecycle_told, member_told, observer_told, point_told, product_told, resolution_told, source_told, step_told}
+use Rattle.cdi_machine.specs.Resolved.{AreResolved, IsResolved, IsResolvedMember, IsResolvedObserver, IsResolvedSource, IsResolvedStep}
+use Rattle.cdi_machine.specs.Told.{lifecycle_told, member_told, observer_told, point_told, product_told, resolution_told, source_told, step_told}
 use Rattle.cdi_machine.specs.Tables as machine
 use Rattle.cdi_machine.specs.Words.{Asked}
-use Rattle.cdi_life.specs.declared.member.Observer.{Observer}
-use Rattle.cdi_life.specs.declared.step.Step.{Step as LifeStep}
+use Rattle.cdi_machine.specs.declared.member.Observer.{Observer}
+use Rattle.cdi_machine.specs.declared.step.Step.{Step as LifeStep}
 use Rattle.cdi_numbered_plans.specs.Machine.{asked_by, does_something, machine_code, machine_injection, machine_kind, machine_lifecycle, machine_member, machine_observer, machine_resolution, machine_source, machine_step, machine_steps, product_with}
 use Rattle.cdi_numbered_plans.specs.Numbered.{bodies_by, can_number, can_number_observers, has_few_beans, injection_by, lifecycle_by, member_by, numbered_resolution, observer_by, plan_by, point_by, product_by, source_by, step_by, steps_by}
 use Rattle.cdi_numbered_plans.specs.Plans.{AreInjectionsBy, AreObserversBy, IsNumberedPlan, IsResolvedIfAny, TellsOf, resolve_by}

@@ -1,7 +1,7 @@
 -- The business methods of a plan by their names, in the words of an instance's life.
 use Rattle.std.specs.Prelude.{ℕ, ◌≡◌, true, Option, nat_eq, option_map}
 use Rattle.std.specs.HashMap.{HashMap, get}
-use Rattle.cdi_life.specs.declared.member.Method.{Method}
+use Rattle.cdi_machine.specs.declared.member.Method.{Method}
 use Rattle.cdi_machine.specs.Tables as machine
 use Rattle.cdi_machine.specs.Words.{Name}
 use Rattle.cdi_numbered_plans.specs.Machine.{method_in}

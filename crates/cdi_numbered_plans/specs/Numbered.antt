@@ -7,17 +7,17 @@ use Rattle.cdi_deployment.specs.declared.deployment.Point.{Point}
 use Rattle.cdi_event_tables.specs.Ids.{id_in}
 use Rattle.cdi_event_tables.specs.Observers.{managed_bean}
 use Rattle.cdi_event_tables.specs.declared.observers.PlannedObserver.{PlannedObserver}
-use Rattle.cdi_life.specs.declared.member.Member.{Member}
-use Rattle.cdi_life.specs.declared.member.Observer.{Observer}
-use Rattle.cdi_life.specs.declared.member.Product.{Product}
-use Rattle.cdi_life.specs.declared.member.Source.{Source as LifeSource}
-use Rattle.cdi_life.specs.declared.member.Source.TheVariants as life_sources
-use Rattle.cdi_life.specs.declared.point.Point.{Point as LifePoint}
-use Rattle.cdi_life.specs.declared.point.Resolution.{Resolution as LifeResolution}
-use Rattle.cdi_life.specs.declared.point.Resolution.TheVariants as life_resolutions
-use Rattle.cdi_life.specs.declared.step.Lifecycle.{Lifecycle as LifeCycle}
-use Rattle.cdi_life.specs.declared.step.Step.{Step as LifeStep}
-use Rattle.cdi_life.specs.declared.step.Step.TheVariants as life_steps
+use Rattle.cdi_machine.specs.declared.member.Member.{Member}
+use Rattle.cdi_machine.specs.declared.member.Observer.{Observer}
+use Rattle.cdi_machine.specs.declared.member.Product.{Product}
+use Rattle.cdi_machine.specs.declared.member.Source.{Source as LifeSource}
+use Rattle.cdi_machine.specs.declared.member.Source.TheVariants as life_sources
+use Rattle.cdi_machine.specs.declared.point.Point.{Point as LifePoint}
+use Rattle.cdi_machine.specs.declared.point.Resolution.{Resolution as LifeResolution}
+use Rattle.cdi_machine.specs.declared.point.Resolution.TheVariants as life_resolutions
+use Rattle.cdi_machine.specs.declared.step.Lifecycle.{Lifecycle as LifeCycle}
+use Rattle.cdi_machine.specs.declared.step.Step.{Step as LifeStep}
+use Rattle.cdi_machine.specs.declared.step.Step.TheVariants as life_steps
 use Rattle.cdi_numbered_plans.specs.Machine.{does_something, machine_code}
 use Rattle.cdi_numbered_plans.specs.Numbers.{has_numbers, numbers_observers}
 use Rattle.cdi_numbered_plans.specs.declared.numbering.Numbering.{Numbering}

@@ -3,12 +3,12 @@ use Rattle.std.specs.Prelude.{◌≡◌, true, false, List, [], map, Option, Som
 use Rattle.std.specs.List.{All}
 use Rattle.cdi_deployment.specs.declared.deployment.InjectedField.{InjectedField}
 use Rattle.cdi_event_tables.specs.declared.observers.PlannedObserver.{PlannedObserver}
-use Rattle.cdi_life.specs.Resolved.{IsResolvedObserver, IsResolvedProduct, IsResolvedStep}
-use Rattle.cdi_life.specs.Told.{lifecycle_told, observer_told, product_told, step_told}
-use Rattle.cdi_life.specs.declared.member.Observer.{Observer}
-use Rattle.cdi_life.specs.declared.member.Product.{Product}
-use Rattle.cdi_life.specs.declared.step.Lifecycle.{Lifecycle}
-use Rattle.cdi_life.specs.declared.step.Step.{Step}
+use Rattle.cdi_machine.specs.Resolved.{IsResolvedObserver, IsResolvedProduct, IsResolvedStep}
+use Rattle.cdi_machine.specs.Told.{lifecycle_told, observer_told, product_told, step_told}
+use Rattle.cdi_machine.specs.declared.member.Observer.{Observer}
+use Rattle.cdi_machine.specs.declared.member.Product.{Product}
+use Rattle.cdi_machine.specs.declared.step.Lifecycle.{Lifecycle}
+use Rattle.cdi_machine.specs.declared.step.Step.{Step}
 use Rattle.cdi_machine.specs.Tables as machine
 use Rattle.cdi_machine.specs.Words.{Asked}
 use Rattle.cdi_numbered_plans.specs.Machine.{machine_injection, machine_kind, machine_observer, machine_resolution}

@@ -9,7 +9,7 @@ use cdi_base::Seq;
 use cdi_bodies::BodyId;
 use cdi_event_tables::BodyIds;
 use cdi_event_tables::cdi_plans::{Code as NamedCode, Lifecycle as NamedLifecycle};
-use cdi_life::{Code, Lifecycle};
+use cdi_machine::{Code, Lifecycle};
 use std::alloc::{AllocError, Global};
 
 /// A body, by its number.

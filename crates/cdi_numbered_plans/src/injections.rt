@@ -9,7 +9,7 @@ use cdi_base::Seq;
 use cdi_deployment::InjectedField;
 use cdi_event_tables::cdi_cache::Lookup;
 use cdi_event_tables::cdi_resolve::Resolver;
-use cdi_life::{Point, Step};
+use cdi_machine::{Point, Step};
 use std::alloc::{AllocError, Global};
 
 /// The step of an injected field.

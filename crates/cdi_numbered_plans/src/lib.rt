@@ -17,7 +17,7 @@ pub mod steps;
 
 // What callers name of the libraries below.
 pub use cdi_event_tables;
-pub use cdi_event_tables::{cdi_beans, cdi_cache, cdi_chains, cdi_plans, cdi_resolve};
+pub use cdi_event_tables::{cdi_beans, cdi_cache, cdi_plans, cdi_resolve};
 pub use fields::first_values;
 pub use injections::injections_by;
 pub use methods::methods_by;

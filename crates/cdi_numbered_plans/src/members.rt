@@ -12,7 +12,7 @@ use cdi_base::Seq;
 use cdi_event_tables::cdi_cache::Lookup;
 use cdi_event_tables::cdi_plans::{InjectedMethod, Source as NamedSource};
 use cdi_event_tables::cdi_resolve::Resolver;
-use cdi_life::{Member, Source};
+use cdi_machine::{Member, Source};
 use std::alloc::{AllocError, Global};
 
 /// A producer method, a disposer, or what runs where an observer is notified.

@@ -14,7 +14,7 @@ use cdi_base::Name;
 use cdi_bodies::BodyId;
 use cdi_event_tables::BodyIds;
 use cdi_event_tables::cdi_plans::{BusinessMethod, Plan};
-use cdi_life::{Code, Method};
+use cdi_machine::{Code, Method};
 use std::alloc::{AllocError, Global};
 use std::collections::HashMap;
 

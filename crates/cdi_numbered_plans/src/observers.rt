@@ -10,7 +10,7 @@ use cdi_base::Seq;
 use cdi_event_tables::PlannedObserver;
 use cdi_event_tables::cdi_cache::Lookup;
 use cdi_event_tables::cdi_resolve::Resolver;
-use cdi_life::Observer;
+use cdi_machine::Observer;
 use std::alloc::{AllocError, Global};
 
 /// An observer.

@@ -10,7 +10,7 @@ use cdi_base::{Name, Names, Seq, Use};
 use cdi_deployment::{InjectedField, Point as DeclaredPoint};
 use cdi_event_tables::cdi_cache::Lookup;
 use cdi_event_tables::cdi_resolve::{Resolution as Resolved, Resolver};
-use cdi_life::{Point, Resolution};
+use cdi_machine::{Point, Resolution};
 use cdi_quals::{QualSet, QualifierTypes};
 use std::alloc::{AllocError, Global};
 

@@ -12,7 +12,7 @@ use cdi_base::Seq;
 use cdi_event_tables::cdi_cache::Lookup;
 use cdi_event_tables::cdi_plans::{Lifecycle as NamedLifecycle, Step as NamedStep};
 use cdi_event_tables::cdi_resolve::Resolver;
-use cdi_life::Step;
+use cdi_machine::Step;
 use std::alloc::{AllocError, Global};
 
 /// Whether there is no item.

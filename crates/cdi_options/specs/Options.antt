@@ -11,9 +11,9 @@ use Rattle.clap.specs.declared.builder.command.Command.{Command}
 use Rattle.clap.specs.declared.builder.command.Command.TheViews.{out-Command as fields_of}
 use Rattle.clap.specs.declared.builder.value_parser.ValueParser.TheVariants.{Unsigned}
 use Rattle.clap.specs.declared.error.kind.ErrorKind.TheVariants as kinds
-use Rattle.cdi_settings.specs.declared.settings.Order.{Order}
-use Rattle.cdi_settings.specs.declared.settings.Order.TheVariants as orders
-use Rattle.cdi_settings.specs.declared.settings.Settings.{Settings}
+use Rattle.cdi_base.specs.declared.settings.Order.{Order}
+use Rattle.cdi_base.specs.declared.settings.Order.TheVariants as orders
+use Rattle.cdi_base.specs.declared.settings.Settings.{Settings}
 use Rattle.cdi_options.specs.declared.options.Mode.{Mode}
 use Rattle.cdi_options.specs.declared.options.Mode.TheVariants as modes
 use Rattle.cdi_options.specs.declared.options.Options.{Options}

@@ -3,8 +3,8 @@ use Rattle.std.specs.Prelude.{◌≡◌, ℕ, Bool, true, false, List, [], ◌�
 use Rattle.clap.specs.Words.{Kinds, Text}
 use Rattle.clap.specs.declared.error.kind.ErrorKind.{ErrorKind}
 use Rattle.clap.specs.declared.error.kind.ErrorKind.TheVariants as kinds
-use Rattle.cdi_settings.specs.declared.settings.Order.{Order}
-use Rattle.cdi_settings.specs.declared.settings.Order.TheVariants as orders
+use Rattle.cdi_base.specs.declared.settings.Order.{Order}
+use Rattle.cdi_base.specs.declared.settings.Order.TheVariants as orders
 use Rattle.cdi_options.specs.Options.{depth_in, faults_in, file_in, json_in, mode_in, order_in, slice_in, ticks_in, trace_in, word_in}
 use Rattle.cdi_options.specs.declared.options.Mode.{Mode}
 use Rattle.cdi_options.specs.declared.options.Mode.TheVariants as modes

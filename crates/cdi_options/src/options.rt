@@ -3,9 +3,8 @@ ghost use Rattle.std.specs.Prelude.{◌≡◌, false, map, option_map, IfOk, IfE
 ghost use Rattle.clap.specs.Words.{HasKind, first_of, rule_of, subcommand_name_of, subcommand_rows_of};
 ghost use Rattle.cdi_options.specs.Options as spec;
 
-use cdi_base::Limits;
 use cdi_base::limits::{MAX_DEPTH, MAX_TICKS};
-use cdi_settings::{Order, Settings};
+use cdi_base::{Limits, Order, Settings};
 use clap::builder::ValueParser;
 use clap::error::ErrorKind;
 use clap::{Arg, ArgAction, ArgMatches, Command, Error};

@@ -8,5 +8,4 @@ pub mod Problems
 pub mod Producers
 pub mod Subjects
 pub mod WorkedLines
-pub use Rattle.cdi_candidates.specs as of_candidates
-pub use Rattle.cdi_candidates.specs.of_resolve as of_resolve
+pub use Rattle.cdi_resolve.specs as of_resolve

@@ -9,8 +9,8 @@ use Rattle.cdi_pictures.specs.Producers.{producers_text}
 use Rattle.cdi_pictures.specs.Subjects.{Pictured}
 use Rattle.cdi_problems.specs.Elements.{Element, elements_of}
 use Rattle.cdi_problems.specs.declared.problem.Problem.{Problem}
-use Rattle.cdi_candidates.specs.of_resolve.Filters.{enabled_of}
-use Rattle.cdi_candidates.specs.of_resolve.declared.bean_tables.BeanTables.{BeanTables}
+use Rattle.cdi_resolve.specs.Filters.{enabled_of}
+use Rattle.cdi_resolve.specs.declared.bean_tables.BeanTables.{BeanTables}
 
 -- what has a line of its own is solid; what is only the end of an edge is dashed and gray
 abbrev pub head : List ℕ

@@ -4,8 +4,8 @@ use Rattle.std.specs.Prelude.{ℕ, ◌-◌, ◌==◌, Bool, true, false, ◌&&�
 use Rattle.std.specs.List.{flat_map, list_any}
 use Rattle.cdi_base.specs.declared.place.Place.{Place}
 use Rattle.cdi_base.specs.declared.uses.Use.{Use}
-use Rattle.cdi_candidates.specs.of_bean_check.Qualifiers.{full_uses}
-use Rattle.cdi_candidates.specs.Candidates.{candidates}
+use Rattle.cdi_resolve.specs.of_bean_check.Qualifiers.{full_uses}
+use Rattle.cdi_resolve.specs.Candidates.{candidates}
 use Rattle.cdi_deployment.specs.Member.{member_params}
 use Rattle.cdi_deployment.specs.declared.deployment.Point.{Point}
 use Rattle.cdi_pictures.specs.Edges.{edge_line}
@@ -18,8 +18,8 @@ use Rattle.cdi_problems.specs.Places.{name_text, place_text, same_place}
 use Rattle.cdi_problems.specs.declared.problem.Problem.{Problem}
 use Rattle.cdi_problems.specs.declared.problem.ProblemKind.{ProblemKind}
 use Rattle.cdi_problems.specs.declared.problem.ProblemKind.TheVariants as kinds
-use Rattle.cdi_candidates.specs.of_resolve.Filters.{enabled_of}
-use Rattle.cdi_candidates.specs.of_resolve.declared.bean_tables.BeanTables.{BeanTables}
+use Rattle.cdi_resolve.specs.Filters.{enabled_of}
+use Rattle.cdi_resolve.specs.declared.bean_tables.BeanTables.{BeanTables}
 
 -- by what the points of a deployment are drawn
 pub record Drawing : Type 0 where

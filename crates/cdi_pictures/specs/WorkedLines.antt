@@ -14,7 +14,7 @@ use Rattle.cdi_problems.specs.Places.{place_text}
 use Rattle.cdi_problems.specs.declared.problem.Problem.{Problem}
 use Rattle.cdi_problems.specs.declared.problem.ProblemKind.{ProblemKind}
 use Rattle.cdi_problems.specs.declared.problem.ProblemKind.TheVariants as kinds
-use Rattle.cdi_candidates.specs.of_resolve.declared.bean_tables.BeanTables.{BeanTables}
+use Rattle.cdi_resolve.specs.declared.bean_tables.BeanTables.{BeanTables}
 
 -- names at 0 to 8
 abbrev pub names : List (List ℕ)

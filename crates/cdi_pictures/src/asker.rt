@@ -6,8 +6,8 @@ ghost use Rattle.cdi_problems.specs.Places.{same_place};
 
 use crate::edge::Look;
 use cdi_base::{Name, Names, Place};
-use cdi_candidates::cdi_resolve::BeanTables;
 use cdi_problems::{Element, Problem, ProblemKind};
+use cdi_resolve::BeanTables;
 
 /// By what the points of a deployment are drawn.
 #[derive(Clone, Copy)]

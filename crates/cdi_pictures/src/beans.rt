@@ -1,14 +1,13 @@
 //! The beans of a picture.
 ghost use Rattle.std.specs.Prelude.{◌≡◌, ◌++◌, string_bytes, IfOk, OnOk};
 ghost use Rattle.cdi_pictures.specs.Beans as spec;
-ghost use Rattle.cdi_candidates.specs.of_resolve.Filters as filters;
+ghost use Rattle.cdi_resolve.specs.Filters as filters;
 
 use cdi_base::{Names, Scope};
-use cdi_candidates::cdi_beans::Bean;
-use cdi_candidates::cdi_resolve::enabled_bean::enabled_of;
-use cdi_candidates::cdi_resolve::{EnabledBean, Resolver};
-use cdi_candidates::place_of;
 use cdi_problems::PlaceText;
+use cdi_resolve::cdi_beans::Bean;
+use cdi_resolve::enabled_bean::enabled_of;
+use cdi_resolve::{EnabledBean, Resolver, place_of};
 use std::alloc::{AllocError, Global};
 
 fn scope_text(scope: Scope) -> &'static str

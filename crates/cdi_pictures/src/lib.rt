@@ -16,6 +16,6 @@ mod producers;
 pub mod subject;
 
 // What callers name of the libraries below.
-pub use cdi_candidates;
+pub use cdi_resolve;
 pub use graph::picture;
 pub use subject::Pictured;

@@ -1,7 +1,7 @@
 //! What a picture shows.
-use cdi_candidates::cdi_resolve::BeanTables;
 use cdi_deployment::Deployment;
 use cdi_problems::Problem;
+use cdi_resolve::BeanTables;
 
 /// A deployment of which a picture is made.
 #[derive(Clone, Copy)]

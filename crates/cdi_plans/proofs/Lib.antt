@@ -5,4 +5,7 @@ pub mod Lineages
 pub mod Observing
 pub mod Producers
 pub mod Serving
-pub use Rattle.cdi_chains.proofs.of_beans as of_beans
+pub mod Bound
+pub mod Places
+pub mod Some
+pub use Rattle.cdi_beans.proofs as of_beans

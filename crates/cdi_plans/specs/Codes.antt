@@ -5,7 +5,7 @@ use Rattle.std.specs.List.{filter_map}
 use Rattle.cdi_base.specs.declared.place.InterceptorMethod.{InterceptorMethod}
 use Rattle.cdi_base.specs.declared.place.InterceptorMethod.TheVariants as methods
 use Rattle.cdi_base.specs.declared.place.Place.TheVariants as places
-use Rattle.cdi_chains.specs.Chains.{ChainTables, invoke_chain, life_chain}
+use Rattle.cdi_plans.specs.Chains.{ChainTables, invoke_chain, life_chain}
 use Rattle.cdi_deployment.specs.declared.deployment.Class.{Class}
 use Rattle.cdi_deployment.specs.declared.deployment.Member.{Member}
 use Rattle.cdi_deployment.specs.declared.deployment.Member.TheVariants as members

@@ -4,11 +4,11 @@ ghost use Rattle.std.specs.List.{filter_map};
 ghost use Rattle.cdi_base.specs.declared.place.Place.TheVariants as places;
 ghost use Rattle.cdi_plans.specs.Codes as spec;
 
+use crate::Chains;
 use crate::copies::copy_points;
 use crate::plan::{BusinessMethod, Code, InjectedMethod, Lifecycle};
 use cdi_base::{InterceptorMethod, Name, Place, Seq};
-use cdi_chains::Chains;
-use cdi_chains::cdi_beans::BeanMember;
+use cdi_beans::BeanMember;
 use cdi_deployment::{Class, Member, Point};
 use cdi_types::ClassPart;
 use std::alloc::{AllocError, Global};

@@ -1,8 +1,13 @@
-//! Laws of plans, over the definitions alone.
-ghost use Rattle.std.specs.Prelude.{IsSome};
+//! Laws of chains and plans, over the definitions alone.
+ghost use Rattle.std.specs.Prelude.{◌≡◌, ℕ, List, IsSome};
 ghost use Rattle.std.specs.List.{All};
-ghost use Rattle.cdi_chains.specs.of_beans.Problems.{IsMadeOf};
-ghost use Rattle.cdi_chains.specs.of_beans.declared.bean.BeanList.{BeanList};
+ghost use Rattle.std.specs.List.Sorted.{IsStrictlyIncreasing};
+ghost use Rattle.cdi_base.specs.declared.place.InterceptorMethod.{InterceptorMethod};
+ghost use Rattle.cdi_beans.specs.declared.bean.EnabledInterceptor.{EnabledInterceptor};
+ghost use Rattle.cdi_quals.specs.declared.qualifier.Qualifier.{Qualifier};
+ghost use Rattle.cdi_plans.specs.Chains.{chain_of};
+ghost use Rattle.cdi_plans.specs.of_beans.Problems.{IsMadeOf};
+ghost use Rattle.cdi_plans.specs.of_beans.declared.bean.BeanList.{BeanList};
 ghost use Rattle.cdi_deployment.specs.declared.deployment.Deployment.{Deployment};
 ghost use Rattle.cdi_plans.specs.Observers.{observer_of};
 ghost use Rattle.cdi_plans.specs.Plans.{IsDeclared};
@@ -17,4 +22,11 @@ pub fn law_beans_are_declared()
 pub fn law_observers_are_declared()
     ensures { (d : Deployment) (list : BeanList) → IsMadeOf d list
         → All (λ o. IsSome (observer_of d.classes o)) list.observers }
+{}
+
+/// A chain lists interceptors in their order, and none twice.
+pub fn law_in_order()
+    ensures { (method : InterceptorMethod) (had : List Qualifier)
+        → (interceptors : List EnabledInterceptor)
+        → IsStrictlyIncreasing (chain_of method had interceptors) }
 {}

@@ -4,13 +4,13 @@ ghost use Rattle.std.specs.Option.{option_copied};
 ghost use Rattle.cdi_plans.specs.Apart.{AreNamedApart};
 ghost use Rattle.cdi_plans.specs.Plans as spec;
 
+use crate::Chains;
 use crate::codes::{business_methods, destruction};
 use crate::copies::copy_fields;
 use crate::plan::ManagedPlan;
 use crate::steps::steps_of;
 use cdi_base::Seq;
-use cdi_chains::Chains;
-use cdi_chains::cdi_beans::Bean;
+use cdi_beans::Bean;
 use cdi_deployment::{Constructor, Field};
 use cdi_types::ClassLine;
 use std::alloc::{AllocError, Global};

@@ -8,12 +8,12 @@ ghost use Rattle.cdi_plans.specs.Codes.{constructor_body as body_of};
 ghost use Rattle.cdi_plans.specs.Steps as spec;
 ghost use Rattle.cdi_plans.specs.declared.plan.Step.TheVariants as steps_are;
 
+use crate::Chains;
 use crate::codes::{completion, lifecycle, member_code};
 use crate::copies::{copy_points, point_of};
 use crate::plan::{Code, Step};
 use cdi_base::{InterceptorMethod, Name, Place, Seq};
-use cdi_chains::Chains;
-use cdi_chains::cdi_beans::Bean;
+use cdi_beans::Bean;
 use cdi_deployment::{Class, Constructor, InjectedField, Member};
 use cdi_types::{ClassLine, ClassPart};
 use std::alloc::{AllocError, Global};

@@ -1,2 +1,3 @@
 pub mod Position
 pub mod RepeatedKey
+pub mod Pointers

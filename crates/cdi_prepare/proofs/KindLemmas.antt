@@ -27,7 +27,7 @@ use Rattle.cdi_form_mistakes.specs.NumberMistake.{number_mistake}
 use Rattle.cdi_form_mistakes.proofs.FormPlaces.{form-place}
 use Rattle.cdi_form_mistakes.proofs.NamesFound.{name-found}
 use Rattle.cdi_form_mistakes.proofs.NumbersFound.{number-found}
-use Rattle.cdi_step_mistakes.specs.Steps.{step_mistake}
+use Rattle.cdi_form_mistakes.specs.Steps.{step_mistake}
 use Rattle.cdi_prepare.specs.BadStep.{bad_step, mistake_at, mistake_in, script_mistake, step_path}
 use Rattle.cdi_prepare.specs.Hint.{IsHintBy, IsHintFor, bad_form, bad_name, bad_number, mistake_by, mistake_of}
 use Rattle.cdi_prepare.specs.Kinds.{FitsReading, IsForm, IsFormAt, IsList, IsName, IsNoName, IsStep, IsSyntax, lists_in}

@@ -7,7 +7,7 @@ use Rattle.cdi_deployment.specs.declared.deployment.Deployment.{Deployment}
 use Rattle.cdi_deployment.specs.declared.deployment.Script.{Script}
 use Rattle.cdi_script.specs.Form.{is_script, is_step}
 use Rattle.cdi_problems.specs.Places.{name_text}
-use Rattle.cdi_step_mistakes.specs.Steps.{step_mistake}
+use Rattle.cdi_form_mistakes.specs.Steps.{step_mistake}
 use Rattle.cdi_prepare.specs.declared.hint.Mistake.{Mistake}
 use Rattle.cdi_prepare.specs.declared.hint.Mistake.TheVariants as mistakes
 

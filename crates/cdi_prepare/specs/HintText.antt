@@ -4,7 +4,7 @@ use Rattle.std.specs.Fmt.{◌++?◌}
 use Rattle.cdi_positions.specs.declared.position.Position.{Position}
 use Rattle.cdi_positions.specs.Position.{position_text}
 use Rattle.cdi_form_mistakes.specs.Mistake.{placed_text}
-use Rattle.cdi_step_mistakes.specs.Mistake.{mistake_text as step_text}
+use Rattle.cdi_form_mistakes.specs.StepMistake.{mistake_text as step_text}
 use Rattle.cdi_prepare.specs.declared.hint.Hint.{Hint}
 use Rattle.cdi_prepare.specs.declared.hint.Mistake.{Mistake}
 use Rattle.cdi_prepare.specs.declared.hint.Mistake.TheVariants as mistakes

@@ -8,9 +8,9 @@ ghost use Rattle.cdi_prepare.specs.BadStep as spec;
 use crate::hint::Mistake;
 use cdi_base::Text;
 use cdi_deployment::{Deployment, Script};
+use cdi_form_mistakes::step_mistake;
 use cdi_problems::name_text;
 use cdi_script::{MAX_STEPS, are_steps, is_step};
-use cdi_step_mistakes::step_mistake;
 use serde_json::Value as Json;
 use std::alloc::{AllocError, Global};
 

@@ -2,9 +2,8 @@
 ghost use Rattle.cdi_prepare.specs.HintText.{hint_text, mistake_text};
 
 use cdi_base::Text;
-use cdi_form_mistakes::PlacedMistake;
+use cdi_form_mistakes::{PlacedMistake, StepMistake};
 use cdi_positions::Position;
-use cdi_step_mistakes::StepMistake;
 use std::fmt;
 
 /// What is wrong with a deployment that is refused, beyond the line that tells its fault.

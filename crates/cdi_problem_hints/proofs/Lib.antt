@@ -1,2 +1,4 @@
 pub mod Upward
 pub mod Where
+pub mod Keys
+pub mod Steps

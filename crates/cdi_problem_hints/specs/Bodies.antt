@@ -2,12 +2,12 @@
 use Rattle.std.specs.Prelude.{ℕ, ◌==◌, Bool, List, [], ◌++◌, codes, map, Option, if◌then◌else◌}
 use Rattle.std.specs.List.{flat_map, list_any}
 use Rattle.cdi_base.specs.declared.place.Place.{Place}
-use Rattle.cdi_place_index.specs.of_body_check.Sites.{Site, body_of, sites_of}
+use Rattle.cdi_problem_hints.specs.of_body_check.Sites.{Site, body_of, sites_of}
 use Rattle.cdi_deployment.specs.declared.deployment.Deployment.{Deployment}
 use Rattle.cdi_problem_hints.specs.Scripts.{is_at}
 use Rattle.cdi_problem_hints.specs.Sentences.{meant, suggestion}
 use Rattle.cdi_problems.specs.Places.{name_text}
-use Rattle.cdi_step_names.specs.declared.step_name.ScriptNames.{ScriptNames}
+use Rattle.cdi_name_uses.specs.declared.step_name.ScriptNames.{ScriptNames}
 
 abbrev pub script_names : List ScriptNames → List ℕ
 script_names scripts = map (λ s. s.script) scripts

@@ -2,16 +2,16 @@
 use Rattle.std.specs.Prelude.{ℕ, ◌==◌, Bool, false, List, [], ◌++◌, codes, decimal, find, Option, Some, None, if◌then◌else◌}
 use Rattle.std.specs.List.{flat_map}
 use Rattle.cdi_base.specs.declared.place.Place.{Place}
-use Rattle.cdi_place_index.specs.of_body_check.Sites.{Site, body_of, place_of, sites_of}
+use Rattle.cdi_problem_hints.specs.of_body_check.Sites.{Site, body_of, place_of, sites_of}
 use Rattle.cdi_deployment.specs.declared.deployment.Deployment.{Deployment}
 use Rattle.cdi_problem_hints.specs.Sentences.{meant, suggestion}
 use Rattle.cdi_problems.specs.Places.{name_text, same_place}
-use Rattle.cdi_step_names.specs.Known.{known_names}
-use Rattle.cdi_step_names.specs.Unknown.{first_unknown}
-use Rattle.cdi_step_names.specs.declared.step_name.ScriptNames.{ScriptNames}
-use Rattle.cdi_step_names.specs.declared.step_name.StepGroup.{StepGroup}
-use Rattle.cdi_step_names.specs.declared.step_name.StepGroup.TheVariants as groups
-use Rattle.cdi_step_names.specs.declared.step_name.StepName.{StepName}
+use Rattle.cdi_name_uses.specs.Known.{known_names}
+use Rattle.cdi_name_uses.specs.UnknownStepName.{first_unknown}
+use Rattle.cdi_name_uses.specs.declared.step_name.ScriptNames.{ScriptNames}
+use Rattle.cdi_name_uses.specs.declared.step_name.StepGroup.{StepGroup}
+use Rattle.cdi_name_uses.specs.declared.step_name.StepGroup.TheVariants as groups
+use Rattle.cdi_name_uses.specs.declared.step_name.StepName.{StepName}
 
 abbrev pub group_word : StepGroup → List ℕ
 group_word groups.Field = codes "field"

@@ -10,7 +10,7 @@ use Rattle.cdi_name_uses.specs.declared.group.Annotation.TheVariants as annotati
 use Rattle.cdi_name_uses.specs.declared.group.Group.{Group}
 use Rattle.cdi_name_uses.specs.declared.group.Group.TheVariants as groups
 use Rattle.cdi_name_uses.specs.declared.name_use.NameUse.{NameUse}
-use Rattle.cdi_near.specs.Near.{nearest}
+use Rattle.cdi_base.specs.Near.{nearest}
 use Rattle.cdi_problems.specs.Elements.{Element}
 use Rattle.cdi_problems.specs.Places.{name_text}
 

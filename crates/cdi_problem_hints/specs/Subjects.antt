@@ -3,8 +3,8 @@ use Rattle.std.specs.Prelude.{List, Option}
 use Rattle.std.specs.Option.{option_copied}
 use Rattle.cdi_deployment.specs.declared.deployment.Deployment.{Deployment}
 use Rattle.cdi_problem_hints.specs.declared.subject.Subject.{Subject as Lent}
-use Rattle.cdi_place_index.specs.of_resolve.declared.bean_tables.BeanTables.{BeanTables}
-use Rattle.cdi_step_names.specs.declared.step_name.ScriptNames.{ScriptNames}
+use Rattle.cdi_problem_hints.specs.of_resolve.declared.bean_tables.BeanTables.{BeanTables}
+use Rattle.cdi_name_uses.specs.declared.step_name.ScriptNames.{ScriptNames}
 
 -- a deployment, the names that its scripts use, and the tables by which its points resolve, if they are given
 pub record Subject : Type 0 where

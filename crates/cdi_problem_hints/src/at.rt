@@ -1,13 +1,13 @@
 //! What stands at the place of a problem.
 ghost use Rattle.std.specs.Prelude.{◌≡◌, filter};
-ghost use Rattle.cdi_place_index.specs.of_body_check.Sites as sites;
+ghost use Rattle.cdi_problem_hints.specs.of_body_check.Sites as sites;
 ghost use Rattle.cdi_problem_hints.specs.Asked.{is_at};
 ghost use Rattle.cdi_problem_hints.specs.Scripts.{is_at as is_site_at};
 ghost use Rattle.cdi_problems.specs.Elements as elements;
 
 use crate::subject::Subject;
 use cdi_base::Place;
-use cdi_place_index::cdi_body_check::BodySite;
+use cdi_body_check::BodySite;
 use cdi_problems::Element;
 
 /// The elements at a place, in their order.

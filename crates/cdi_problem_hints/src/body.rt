@@ -1,16 +1,16 @@
 //! What is told of a body that isn't the name of a script.
 ghost use Rattle.std.specs.Prelude.{◌≡◌, ◌++◌, string_bytes, IfOk, OnOk};
 ghost use Rattle.std.specs.List.{flat_map};
-ghost use Rattle.cdi_place_index.specs.of_body_check.Sites.{body_of, shown};
+ghost use Rattle.cdi_problem_hints.specs.of_body_check.Sites.{body_of, shown};
 ghost use Rattle.cdi_problem_hints.specs.Bodies as spec;
 
 use crate::at::sites_at;
 use crate::sentence::suggestion;
 use crate::subject::Subject;
 use cdi_base::{Name, Place, Seq};
-use cdi_place_index::cdi_body_check::BodySite;
+use cdi_body_check::BodySite;
+use cdi_name_uses::ScriptNames;
 use cdi_problems::name_text;
-use cdi_step_names::ScriptNames;
 use std::alloc::{AllocError, Global};
 
 fn script_names(alloc: Global, scripts: &[ScriptNames]) -> Result<Seq<Name>, AllocError>

@@ -10,8 +10,8 @@ use crate::at::elements_at;
 use crate::specializer::specializers_at;
 use crate::subject::Subject;
 use cdi_base::{Place, Seq};
-use cdi_cycle_hints::cdi_candidates::candidates;
-use cdi_place_index::cdi_resolve::BeanTables;
+use cdi_body_check::cdi_resolve::BeanTables;
+use cdi_cycle_hints::cdi_resolve::candidates;
 use cdi_problems::{Element, Problem, ProblemKind};
 use std::alloc::{AllocError, Global};
 

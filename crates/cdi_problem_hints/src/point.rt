@@ -7,8 +7,8 @@ ghost use Rattle.cdi_problems.specs.Elements.{element_of};
 use crate::asked::{Asked, asked_by};
 use crate::candidate::add_candidates;
 use cdi_base::{Name, Names, Use};
-use cdi_cycle_hints::cdi_candidates::candidates;
-use cdi_place_index::cdi_resolve::BeanTables;
+use cdi_body_check::cdi_resolve::BeanTables;
+use cdi_cycle_hints::cdi_resolve::candidates;
 use cdi_problems::{Element, name_text};
 use std::alloc::{AllocError, Global};
 

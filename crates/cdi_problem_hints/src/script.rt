@@ -2,17 +2,17 @@
 ghost use Rattle.std.specs.Prelude.{◌≡◌, ◌++◌, string_bytes, IfOk, OnOk};
 ghost use Rattle.std.specs.List.{flat_map};
 ghost use Rattle.std.specs.Option.{option_copied};
-ghost use Rattle.cdi_place_index.specs.of_body_check.Sites.{body_of, shown};
+ghost use Rattle.cdi_problem_hints.specs.of_body_check.Sites.{body_of, shown};
 ghost use Rattle.cdi_problem_hints.specs.Scripts as spec;
 
 use crate::at::sites_at;
 use crate::sentence::suggestion;
 use crate::subject::Subject;
 use cdi_base::{Name, Place};
+use cdi_body_check::BodySite;
 use cdi_deployment::Deployment;
-use cdi_place_index::cdi_body_check::BodySite;
+use cdi_name_uses::{ScriptNames, StepGroup, StepName, first_unknown, known_names};
 use cdi_problems::name_text;
-use cdi_step_names::{ScriptNames, StepGroup, StepName, first_unknown, known_names};
 use std::alloc::{AllocError, Global};
 
 fn group_word(group: StepGroup) -> &'static str

@@ -1,15 +1,14 @@
 //! What is told of a name that isn't known.
 ghost use Rattle.std.specs.Prelude.{◌≡◌, ◌++◌, map, option_map, string_bytes, IfOk, OnOk};
 ghost use Rattle.cdi_deployment.specs.Lists.{is_declared_class as is_class_in};
-ghost use Rattle.cdi_near.specs.Near.{nearest};
+ghost use Rattle.cdi_base.specs.Near.{nearest};
 ghost use Rattle.cdi_problem_hints.specs.Sentences as spec;
 ghost use Rattle.cdi_problems.specs.Elements.{element_of};
 ghost use Rattle.cdi_problems.specs.Places.{name_text as text_in};
 
-use cdi_base::{BuiltIn, Name, Names};
+use cdi_base::{BuiltIn, Name, Names, nearest};
 use cdi_deployment::{Class, Deployment};
 use cdi_name_uses::{Annotation, Group, NameUse, group_names};
-use cdi_near::nearest;
 use cdi_problems::{Element, name_text};
 use std::alloc::{AllocError, Global};
 

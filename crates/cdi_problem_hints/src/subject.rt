@@ -3,11 +3,11 @@ ghost use Rattle.std.specs.Prelude.{◌≡◌};
 ghost use Rattle.std.specs.Option.{option_copied};
 ghost use Rattle.cdi_cycle_hints.specs.Needs.{AreNeedsOf};
 
+use crate::PlaceIndex;
+use cdi_body_check::cdi_resolve::BeanTables;
 use cdi_cycle_hints::Needs;
 use cdi_deployment::Deployment;
-use cdi_place_index::PlaceIndex;
-use cdi_place_index::cdi_resolve::BeanTables;
-use cdi_step_names::ScriptNames;
+use cdi_name_uses::ScriptNames;
 
 /// A deployment whose problems get hints.
 #[derive(Clone, Copy)]

@@ -14,7 +14,7 @@ use Rattle.cdi_program.specs.Lines.{file_line}
 use Rattle.cdi_shell.specs.of_report.Reports.{AreProblemsWith}
 use Rattle.cdi_shell.specs.of_report.Reviews.{names_of}
 use Rattle.cdi_pictures.specs.of_resolve.declared.bean_tables.BeanTables.{BeanTables}
-use Rattle.cdi_step_names.specs.declared.step_name.ScriptNames.{ScriptNames}
+use Rattle.cdi_name_uses.specs.declared.step_name.ScriptNames.{ScriptNames}
 
 -- what stands in front of a hint: the position of a text, if one is known
 abbrev pub position_front : Option Position → List ℕ

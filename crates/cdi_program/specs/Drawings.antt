@@ -1,6 +1,6 @@
 -- The drawing of the deployment that bytes are.
 use Rattle.std.specs.Prelude.{◌≡◌, ℕ, List, length, nat_lt, string_bytes, Option, None, Result, Ok, Err, IsSomeAnd}
-use Rattle.cdi_pictures.specs.of_candidates.Tables.{AreTables}
+use Rattle.cdi_pictures.specs.of_resolve.Tables.{AreTables}
 use Rattle.cdi_deployment.specs.declared.deployment.Deployment.{Deployment}
 use Rattle.cdi_pictures.specs.Pictures.{picture}
 use Rattle.cdi_shell.specs.of_prepare.Ready.{Readied}

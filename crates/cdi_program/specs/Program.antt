@@ -15,7 +15,7 @@ use Rattle.cdi_options.specs.declared.options.Options.{Options}
 use Rattle.cdi_shell.specs.of_report.Reports.{ReportsOn}
 use Rattle.cdi_shell.specs.of_report.Verdicts.{outcome_of as outcome_of_verdict, status_of as status_of_verdict}
 use Rattle.cdi_shell.specs.of_report.declared.verdict.Verdict.{Verdict}
-use Rattle.cdi_settings.specs.declared.settings.Settings.{Settings}
+use Rattle.cdi_base.specs.declared.settings.Settings.{Settings}
 use Rattle.cdi_shell.specs.Endings.{outcome_of, status_of as status_of_ending}
 use Rattle.cdi_shell.specs.Laws.{DrivesOnce}
 use Rattle.cdi_shell.specs.declared.ending.Ending.{Ending}

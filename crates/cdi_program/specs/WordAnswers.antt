@@ -1,8 +1,8 @@
 -- What is answered to a word that is to be explained.
 use Rattle.std.specs.Prelude.{◌≡◌, ℕ, List, map, string_bytes, Some, None}
-use Rattle.cdi_explanations.specs.Explanation.{explained, heading, unknown_text}
-use Rattle.cdi_explanations.specs.Words.{words}
-use Rattle.cdi_explanations.specs.declared.explanation.Explanation.{Explanation}
+use Rattle.cdi_findings.specs.Explanation.{explained, heading, unknown_text}
+use Rattle.cdi_findings.specs.Words.{words}
+use Rattle.cdi_findings.specs.declared.explanation.Explanation.{Explanation}
 use Rattle.cdi_program.specs.Lines.{file_line}
 use Rattle.cdi_program.specs.declared.explaining.WordAnswer.{WordAnswer}
 use Rattle.cdi_program.specs.declared.explaining.WordAnswer.TheVariants as answers

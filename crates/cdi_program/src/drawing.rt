@@ -4,7 +4,7 @@ ghost use Rattle.cdi_shell.specs.of_prepare.Ready.{readied_in};
 ghost use Rattle.cdi_program.specs.Drawings as spec;
 
 use cdi_findings::has_problem;
-use cdi_pictures::cdi_candidates::tables_of;
+use cdi_pictures::cdi_resolve::tables_of;
 use cdi_pictures::{Pictured, picture};
 use cdi_shell::cdi_report::{Review, review_bytes};
 use std::alloc::{AllocError, Global};

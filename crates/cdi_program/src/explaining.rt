@@ -1,11 +1,11 @@
 //! What is answered to a word that is to be explained.
 ghost use Rattle.std.specs.Prelude.{◌≡◌, string_bytes, IfOk};
-ghost use Rattle.cdi_explanations.specs.Explanation.{unknown_text};
+ghost use Rattle.cdi_findings.specs.Explanation.{unknown_text};
 ghost use Rattle.cdi_program.specs.Lines.{file_line};
 ghost use Rattle.cdi_program.specs.WordAnswers as spec;
 
 use crate::lines::file_line;
-use cdi_explanations::{Explanation, explain, explanations, unknown_text};
+use cdi_findings::{Explanation, explain, explanations, unknown_text};
 use std::alloc::{AllocError, Global};
 
 /// What is answered to a word that is to be explained.

@@ -9,7 +9,7 @@ use Rattle.cdi_problems.specs.declared.problem.ProblemKind.TheVariants as kinds
 use Rattle.cdi_quals.specs.declared.types.QualifierType.{QualifierType}
 use Rattle.cdi_report.proofs.Having.{Having, ◌and◌}
 use Rattle.cdi_report.proofs.ToldPlaces.{AreTold, IsTold, at_elements, at_placed}
-use Rattle.cdi_read_laws.specs.Facts.{HasFacts}
+use Rattle.cdi_report.specs.Facts.{HasFacts}
 
 module _ (d : Deployment) (facts : HasFacts d) where
   names-told : (problems : List Problem) → AreNameProblems d problems → AreTold d problems

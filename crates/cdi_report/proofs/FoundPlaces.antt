@@ -10,7 +10,7 @@ use Rattle.cdi_problems.specs.declared.problem.Problem.{Problem}
 use Rattle.cdi_problems.specs.declared.problem.ProblemKind.{ProblemKind}
 use Rattle.cdi_types.specs.ListsThose.{ListsThose}
 use Rattle.cdi_report.proofs.Having.{Having, each_made}
-use Rattle.cdi_read_laws.proofs.Each.{each_append}
+use Rattle.cdi_report.proofs.Each.{each_append}
 
 -- ---- of all items those that are listed
 

@@ -2,7 +2,7 @@
 use Rattle.std.proofs.Common.{ℕ, ◌+◌, All, List, [], ◌∷◌, ◌++◌, map, Option, Some, None, IfSome, filter_map, flat_map, option_map, option_to_list}
 use Rattle.std.proofs.lemmas.List.Elements.{recursion_from_All}
 use Rattle.std.specs.List.{AllByRecursion, cons_option, enumerate_from}
-use Rattle.cdi_read_laws.proofs.Each.{each_append, each_part}
+use Rattle.cdi_report.proofs.Each.{each_append, each_part}
 
 -- a list of items that all have it
 pub record Having {X : Type 0} (P : X → Type 0) : Type 0 where

@@ -8,8 +8,8 @@ use Rattle.cdi_deployment.specs.declared.deployment.Member.{Member}
 use Rattle.cdi_deployment.specs.declared.deployment.Member.TheVariants as members
 use Rattle.cdi_deployment.specs.Member.{member_name}
 use Rattle.cdi_report.specs.PlaceNames.{HasName}
-use Rattle.cdi_read_laws.proofs.TrueNames.{name-at}
-use Rattle.cdi_read_laws.specs.Facts.{HasFacts}
+use Rattle.cdi_report.proofs.TrueNames.{name-at}
+use Rattle.cdi_report.specs.Facts.{HasFacts}
 
 pub known-named : (d : Deployment) → HasFacts d → (name : ℕ) → IsKnown (length d.names) name → HasName d.names name
 known-named d facts name below =

@@ -11,8 +11,8 @@ use Rattle.cdi_problems.specs.declared.problem.ProblemKind.TheVariants as kinds
 use Rattle.cdi_report.proofs.EarlyProblems.{early-told}
 use Rattle.cdi_report.proofs.Having.{◌and◌}
 use Rattle.cdi_report.proofs.ToldPlaces.{AreTold, IsTold, at_elements, at_sites}
-use Rattle.cdi_read_laws.proofs.Each.{each_append}
-use Rattle.cdi_read_laws.specs.Facts.{HasFacts}
+use Rattle.cdi_report.proofs.Each.{each_append}
+use Rattle.cdi_report.specs.Facts.{HasFacts}
 
 module _ (d : Deployment) (facts : HasFacts d) (shape_of : ℕ → Option Shape) where
   bodies-told : {s : Inventory} (problems : List Problem) → AreBodyProblems d shape_of s problems → AreTold d problems

@@ -8,6 +8,28 @@ pub mod ToldPlaces
 pub mod EarlyProblems
 pub mod LateProblems
 pub mod PlaceNames
+pub mod KeptTexts
+pub mod Each
+pub mod Lineages
+pub mod Lines
+pub mod Within
+pub mod BeanCounts
+pub mod Injections
+pub mod SmallTables
+pub mod Lengths
+pub mod EnabledCounts
+pub mod Places
+pub mod PlanLengths
+pub mod NumberedPlans
+pub mod NumberedObservers
+pub mod NumberedTables
+pub mod Readied
+pub mod ReadTables
+pub mod TrueNames
+pub mod ScriptNames
+pub mod KnownMore
+pub mod Facts
+pub mod WellFormed
+pub mod BadScripts
 pub use Rattle.cdi_accepted.proofs as of_accepted
-pub use Rattle.cdi_read_laws.proofs.of_prepare as of_prepare
-pub use Rattle.cdi_read_laws.proofs as of_read_laws
+pub use Rattle.cdi_prepare.proofs as of_prepare

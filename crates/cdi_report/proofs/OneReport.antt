@@ -7,9 +7,9 @@ use Rattle.cdi_accepted.specs.of_check.Problems.{AreProblemsOf}
 use Rattle.cdi_deployment.specs.declared.deployment.Deployment.{Deployment}
 use Rattle.cdi_lines.specs.Ends.{WritesAll}
 use Rattle.cdi_lines.specs.declared.sink.WriteFailed.{WriteFailed}
-use Rattle.cdi_read_laws.specs.of_prepare.Ready.{Readied}
-use Rattle.cdi_read_laws.specs.of_prepare.Scripts.{registered}
-use Rattle.cdi_read_laws.specs.of_prepare.declared.scripts.NamedScript.{NamedScript}
+use Rattle.cdi_report.specs.of_prepare.Ready.{Readied}
+use Rattle.cdi_report.specs.of_prepare.Scripts.{registered}
+use Rattle.cdi_report.specs.of_prepare.declared.scripts.NamedScript.{NamedScript}
 use Rattle.cdi_problems.specs.declared.problem.Problem.{Problem}
 use Rattle.cdi_report.specs.OneReport.{IsSettled, OneReport, SameReport}
 use Rattle.cdi_report.specs.Reports.{AreFindings, AreProblemsWith, ReportsOn, TellsProblems, Told, Writes, verdict_of}

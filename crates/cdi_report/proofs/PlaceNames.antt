@@ -2,14 +2,14 @@
 use Rattle.std.proofs.Common.{ℕ, List, All, IfOk}
 use Rattle.std.proofs.lemmas.List.Elements.{All-from_recursion}
 use Rattle.std.proofs.lemmas.Result.{IfOk-weaker}
-use Rattle.cdi_read_laws.specs.of_prepare.Ready.{Readied, readied_in}
-use Rattle.cdi_read_laws.specs.of_prepare.Scripts.{registered}
+use Rattle.cdi_report.specs.of_prepare.Ready.{Readied, readied_in}
+use Rattle.cdi_report.specs.of_prepare.Scripts.{registered}
 use Rattle.cdi_problems.specs.declared.problem.Problem.{Problem}
 use Rattle.cdi_report.specs.PlaceNames.{PlacesHaveNames}
 use Rattle.cdi_report.specs.Reports.{AreProblemsWith}
 use Rattle.cdi_report.proofs.LateProblems.{problems-told}
 use Rattle.cdi_report.proofs.ToldPlaces.{IsTold}
-use Rattle.cdi_read_laws.specs.Facts.{HasFacts}
+use Rattle.cdi_report.specs.Facts.{HasFacts}
 
 -- the problems of a deployment with its scripts
 abbrev TellsAll : Readied → Type 0

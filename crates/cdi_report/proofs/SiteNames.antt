@@ -14,7 +14,7 @@ use Rattle.cdi_deployment.specs.Member.{member_name}
 use Rattle.cdi_report.specs.PlaceNames.{HasName, HasNames}
 use Rattle.cdi_report.proofs.Having.{Having, ◌and◌, given, if_mapped, one_if, parted}
 use Rattle.cdi_report.proofs.KnownNames.{known-named, member-known}
-use Rattle.cdi_read_laws.specs.Facts.{HasFacts}
+use Rattle.cdi_report.specs.Facts.{HasFacts}
 
 module _ (d : Deployment) (facts : HasFacts d) where
   abbrev count : ℕ

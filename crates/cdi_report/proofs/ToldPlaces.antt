@@ -14,7 +14,7 @@ use Rattle.cdi_report.proofs.ElementNames.{elements-tell}
 use Rattle.cdi_report.proofs.FoundPlaces.{IsAt, each_placed, problems_found}
 use Rattle.cdi_report.proofs.Having.{Having}
 use Rattle.cdi_report.proofs.SiteNames.{sites-tell}
-use Rattle.cdi_read_laws.specs.Facts.{HasFacts}
+use Rattle.cdi_report.specs.Facts.{HasFacts}
 
 -- its place is told by names, if it has one
 abbrev pub IsTold : Deployment → Problem → Type 0

@@ -3,5 +3,8 @@ pub mod PlaceNames
 pub mod Reports
 pub mod Reviews
 pub mod Verdicts
-pub use Rattle.cdi_read_laws.specs.of_prepare as of_prepare
-pub use Rattle.cdi_read_laws.specs as of_read_laws
+pub mod Facts
+pub mod WellFormed
+pub mod BadScripts
+pub use Rattle.cdi_prepare.specs as of_prepare
+pub use Rattle.cdi_run_tables.specs as of_run_tables

@@ -7,10 +7,10 @@ use Rattle.cdi_deployment.specs.declared.deployment.Deployment.{Deployment}
 use Rattle.cdi_lines.specs.declared.fault.ServeFault.TheVariants as faults
 use Rattle.cdi_lines.specs.declared.sink.WriteFailed.{WriteFailed}
 use Rattle.cdi_lines.specs.Ends.{WritesAll}
-use Rattle.cdi_read_laws.specs.of_prepare.declared.scripts.NamedScript.{NamedScript}
-use Rattle.cdi_read_laws.specs.of_prepare.FaultText.{line}
-use Rattle.cdi_read_laws.specs.of_prepare.Ready.{Readied, readied_in}
-use Rattle.cdi_read_laws.specs.of_prepare.Scripts.{registered, shape_under}
+use Rattle.cdi_report.specs.of_prepare.declared.scripts.NamedScript.{NamedScript}
+use Rattle.cdi_report.specs.of_prepare.FaultText.{line}
+use Rattle.cdi_report.specs.of_prepare.Ready.{Readied, readied_in}
+use Rattle.cdi_report.specs.of_prepare.Scripts.{registered, shape_under}
 use Rattle.cdi_problems.specs.declared.problem.Problem.{Problem}
 use Rattle.cdi_problems.specs.Words.{problem_text}
 use Rattle.cdi_report.specs.declared.verdict.Verdict.{Verdict}

@@ -1,12 +1,12 @@
 -- The problems of the deployment that bytes are.
 use Rattle.std.specs.Prelude.{◌≡◌, ℕ, List, map, Option, None, Result, Ok, Err, IsSomeAnd}
-use Rattle.cdi_read_laws.specs.of_prepare.Ready.{Readied}
-use Rattle.cdi_read_laws.specs.of_prepare.Scripts.{registered}
-use Rattle.cdi_read_laws.specs.of_prepare.declared.scripts.NamedScript.{NamedScript}
+use Rattle.cdi_report.specs.of_prepare.Ready.{Readied}
+use Rattle.cdi_report.specs.of_prepare.Scripts.{registered}
+use Rattle.cdi_report.specs.of_prepare.declared.scripts.NamedScript.{NamedScript}
 use Rattle.cdi_report.specs.Reports.{AreProblemsWith}
 use Rattle.cdi_report.specs.declared.reviewing.Review.{Review}
-use Rattle.cdi_step_names.specs.StepNames.{script_names}
-use Rattle.cdi_step_names.specs.declared.step_name.ScriptNames.{ScriptNames}
+use Rattle.cdi_name_uses.specs.StepNames.{script_names}
+use Rattle.cdi_name_uses.specs.declared.step_name.ScriptNames.{ScriptNames}
 
 -- the names that the steps of scripts use, script by script
 abbrev pub names_of : List NamedScript → List ScriptNames

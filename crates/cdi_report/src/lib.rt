@@ -1,4 +1,4 @@
-//! Tells all problems of a deployment, or that it is accepted, without running it.
+//! Tells all problems of a deployment, or that it is accepted, without running it; and what holds of every deployment that was read.
 #![tactic(auto)]
 
 pub mod laws;
@@ -7,9 +7,9 @@ pub mod reporting;
 pub mod reviewing;
 pub mod verdict;
 
-// What callers name of the libraries below.
-pub use cdi_read_laws;
-pub use cdi_read_laws::cdi_prepare;
 pub use reporting::report;
 pub use reviewing::{Review, review_bytes};
 pub use verdict::Verdict;
+// What callers name of the libraries below.
+pub use cdi_prepare;
+pub use cdi_run_tables;

@@ -1,7 +1,7 @@
 //! A report on a deployment, from its bytes to the bytes of the output.
 ghost use Rattle.std.specs.Prelude.{◌≡◌, ◌≤◌, length, Bool, IfOk, OnOk, IsTrue};
 ghost use Rattle.cdi_lines.specs.Served.{Blames};
-ghost use Rattle.cdi_read_laws.specs.of_prepare.Ready.{ready_of};
+ghost use Rattle.cdi_report.specs.of_prepare.Ready.{ready_of};
 ghost use Rattle.cdi_report.specs.Reports as spec;
 ghost use Rattle.cdi_report.specs.Verdicts.{outcome_of};
 
@@ -11,8 +11,8 @@ use crate::verdict::Verdict;
 use cdi_base::{Names, OrMemory};
 use cdi_bodies::MAX_BODIES;
 use cdi_lines::{ServeFault, Sink};
+use cdi_prepare::{Prepared, prepare};
 use cdi_problems::Problem;
-use cdi_read_laws::cdi_prepare::{Prepared, prepare};
 use std::alloc::{AllocError, Global};
 
 /// What is told of a deployment, and whether it is accepted.

@@ -4,7 +4,7 @@ use Rattle.cdi_beans.specs.Declarations.{AreDeclaredBy}
 use Rattle.cdi_beans.specs.Problems.{IsMadeOf}
 use Rattle.cdi_beans.specs.declared.bean.BeanList.{BeanList}
 use Rattle.cdi_beans.specs.declared.declared.DeclaredTables.{DeclaredTables}
-use Rattle.cdi_chains.specs.Bindings.{class_bindings}
+use Rattle.cdi_plans.specs.Bindings.{class_bindings}
 use Rattle.cdi_deployment.specs.declared.deployment.Deployment.{Deployment}
 use Rattle.cdi_enable.specs.Enablement.{AreFlags, Enablement, enablement_of}
 use Rattle.cdi_resolve.specs.declared.bean_tables.BeanTables.{BeanTables}

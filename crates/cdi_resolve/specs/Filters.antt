@@ -33,7 +33,7 @@ fits type qualifiers b = has_type type b && has_required qualifiers b
 -- the required qualifiers of a question, however they are given
 abbrev pub required_of : Required → List Qualifier
 required_of (given.Set set) = set.now
-required_of (given.Written types uses) = full_uses types.now uses.now
+required_of (given.Written written) = full_uses written.types.now written.uses.now
 
 abbrev pub is_enabled : List Bool → ℕ → Bool
 is_enabled enabled index = slice_index_or enabled index false

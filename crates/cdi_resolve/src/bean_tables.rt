@@ -8,10 +8,10 @@ ghost use Rattle.cdi_resolve.specs.BeanTables as spec;
 use crate::resolver::Resolver;
 use cdi_base::Seq;
 use cdi_beans::{BeanList, DeclaredTables, DisposerMethod, ObserverMethod};
-use cdi_chains::Chains;
 use cdi_deployment::Deployment;
 use cdi_enable::laws::law_forest;
 use cdi_enable::{EnabledSet, enabled};
+use cdi_plans::Chains;
 use std::alloc::{AllocError, Global};
 use std::mem;
 

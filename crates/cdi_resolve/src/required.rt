@@ -5,7 +5,9 @@ ghost use Rattle.std.specs.Option.{option_copied};
 ghost use Rattle.cdi_quals.specs.Qualifiers as quals;
 ghost use Rattle.cdi_enable.specs.of_bean_check.Qualifiers.{full_uses};
 ghost use Rattle.cdi_resolve.specs.Filters as spec;
+ghost use Rattle.cdi_resolve.specs.WrittenUses.{use_with};
 
+use crate::written_uses::WrittenUses;
 use cdi_base::{MemberValue, Name, Seq, Use, Value};
 use cdi_beans::BeanQualifiers;
 use cdi_quals::order::compare_values;
@@ -16,11 +18,7 @@ use std::rc::Rc;
 #[derive(Clone, Copy)]
 pub(crate) enum Required<'a> {
     Set(&'a QualSet),
-    /// As they were written. The types say which members each has; those that it doesn't give are null.
-    Written {
-        types: &'a QualifierTypes,
-        uses: &'a [Use],
-    },
+    Written(WrittenUses<'a>),
 }
 
 /// The value that a use gives to a member, if it gives one.
@@ -67,11 +65,10 @@ fn meets(own: &Qualifier, name: Name, members: &[MemberType], given: &[MemberVal
     name == own.name && agree(members, given, own.members.as_slice())
 }
 
-/// Whether one of some qualifiers is one that is given as it was written.
-fn has_written(qualifiers: &[Qualifier], types: &QualifierTypes, written: &Use) -> bool
-    ensures { result ≡ quals.has qualifiers.now (quals.full_use types.now written.now) }
+/// Whether one of some qualifiers is what a use of a type with these members requires.
+fn has_use(qualifiers: &[Qualifier], members: &[MemberType], written: &Use) -> bool
+    ensures { result ≡ quals.has qualifiers.now (use_with members.now written.now) }
 {
-    let members = types.members_of(written.name);
     let given = written.members.as_slice();
     for own in qualifiers {
         if meets(own, written.name, members, given) {
@@ -81,23 +78,30 @@ fn has_written(qualifiers: &[Qualifier], types: &QualifierTypes, written: &Use) 
     false
 }
 
-/// Whether one of the qualifiers in some parts is one that is given as it was written.
-fn has_written_in(parts: &[Rc<Seq<Qualifier>>], types: &QualifierTypes, written: &Use) -> bool
+/// Whether one of the qualifiers in some parts is what a use of a type with these members requires.
+fn has_use_in(parts: &[Rc<Seq<Qualifier>>], members: &[MemberType], written: &Use) -> bool
     ensures { result ≡ list_any
-        (λ part. quals.has part.value (quals.full_use types.now written.now)) parts.now }
+        (λ part. quals.has part.value (use_with members.now written.now)) parts.now }
 {
     parts
         .iter()
-        .any(|part| has_written(part.as_slice(), types, written))
+        .any(|part| has_use(part.as_slice(), members, written))
+}
+
+/// Whether a bean has what a use of a type with these members requires.
+#[tactic(auto, using(cdi_beans::proofs::InParts::any_of))]
+fn bean_has_use(own: &BeanQualifiers, members: &[MemberType], written: &Use) -> bool
+    ensures { result ≡ quals.has own.now (use_with members.now written.now) }
+{
+    let parts = own.parts();
+    has_use(parts.own, members, written) || has_use_in(parts.specialized, members, written)
 }
 
 /// Whether a bean has a qualifier that is given as it was written.
-#[tactic(auto, using(cdi_beans::proofs::InParts::any_of))]
 fn bean_has_written(own: &BeanQualifiers, types: &QualifierTypes, written: &Use) -> bool
     ensures { result ≡ quals.has own.now (quals.full_use types.now written.now) }
 {
-    let parts = own.parts();
-    has_written(parts.own, types, written) || has_written_in(parts.specialized, types, written)
+    bean_has_use(own, types.members_of(written.name), written)
 }
 
 /// Whether a bean has each of the qualifiers that are given as they were written.
@@ -124,13 +128,16 @@ fn has_set(own: &BeanQualifiers, set: &QualSet, default: &Qualifier) -> bool
 }
 
 /// Whether a bean has what is required as it was written; if nothing is written, that is `Default`.
-fn has_uses(own: &BeanQualifiers, types: &QualifierTypes, uses: &[Use], default: &Qualifier) -> bool
+fn has_uses(own: &BeanQualifiers, written: &WrittenUses<'_>, default: &Qualifier) -> bool
     requires { default.now ≡ spec.default }
-    ensures { result ≡ quals.has_all own.now (spec.required (full_uses types.now uses.now)) }
+    ensures { result ≡ quals.has_all own.now
+        (spec.required (full_uses written.now.types.now written.now.uses.now)) }
 {
-    match uses {
+    match written.uses {
         [] => own.has(default),
-        _ => has_each_written(own, types, uses),
+        [first, others @ ..] => {
+            bean_has_use(own, written.first, first) && has_each_written(own, written.types, others)
+        }
     }
 }
 
@@ -142,7 +149,7 @@ impl Required<'_> {
     {
         match self {
             Required::Set(set) => has_set(own, set, default),
-            Required::Written { types, uses } => has_uses(own, types, uses, default),
+            Required::Written(written) => has_uses(own, written, default),
         }
     }
 }

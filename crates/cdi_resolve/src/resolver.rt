@@ -11,6 +11,7 @@ use crate::question::Question;
 use crate::required::Required;
 use crate::resolution::Resolution;
 use crate::type_index::{TypeIndex, has_flag};
+use crate::written_uses::WrittenUses;
 use cdi_base::{BuiltIn, Name, Seq, Use};
 use cdi_beans::Bean;
 use cdi_quals::{QualSet, Qualifier, QualifierTypes};
@@ -120,7 +121,7 @@ impl Resolver {
         ensures { result
             ≡ spec.resolution ty (full_uses types.now uses.now) (enabled_of self.now) }
     {
-        self.question(ty, &Required::Written { types, uses })
-            .resolution()
+        let written = WrittenUses::new(types, uses);
+        self.question(ty, &Required::Written(written)).resolution()
     }
 }

@@ -11,9 +11,9 @@ use Rattle.cdi_numbered_plans.specs.of_beans.declared.bean.EnabledInterceptor.{E
 use Rattle.cdi_deployment.specs.declared.deployment.InjectedField.{InjectedField}
 use Rattle.cdi_deployment.specs.declared.deployment.Interceptor.{Interceptor}
 use Rattle.cdi_numbered_plans.specs.of_event_tables.Ids.{id_in}
-use Rattle.cdi_life.specs.Resolved.{IsResolvedStep}
-use Rattle.cdi_life.specs.Told.{step_told}
-use Rattle.cdi_life.specs.declared.step.Step.{Step}
+use Rattle.cdi_machine.specs.Resolved.{IsResolvedStep}
+use Rattle.cdi_machine.specs.Told.{step_told}
+use Rattle.cdi_machine.specs.declared.step.Step.{Step}
 use Rattle.cdi_numbered_plans.specs.Machine.{machine_injection}
 use Rattle.cdi_numbered_plans.specs.Plans.{AreInjectionsBy}
 use Rattle.cdi_numbered_plans.specs.declared.numbering.Numbering.{Numbering}

@@ -7,7 +7,7 @@ use Rattle.std.proofs.lemmas.List.{length-take-le, take_more}
 use Rattle.std.proofs.lemmas.List.Elements.{All-cons, All-nil}
 use Rattle.cdi_numbered_plans.specs.of_event_tables.declared.observer_groups.ObserverGroup.{ObserverGroup}
 use Rattle.cdi_numbered_plans.specs.of_event_tables.declared.observers.PlannedObserver.{PlannedObserver}
-use Rattle.cdi_life.specs.declared.member.Observer.{Observer}
+use Rattle.cdi_machine.specs.declared.member.Observer.{Observer}
 use Rattle.cdi_machine.specs.Tables as machine
 use Rattle.cdi_run_tables.specs.Machine.{has_none}
 use Rattle.cdi_run_tables.specs.Observers.{heard_among, heard_at, heard_groups, heard_in, heard_of_group, if_any, if_heard, is_heard_at, told_beside}

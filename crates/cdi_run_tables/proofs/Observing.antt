@@ -10,9 +10,9 @@ use Rattle.cdi_numbered_plans.specs.of_event_tables.Ids.{id_in}
 use Rattle.cdi_numbered_plans.specs.of_event_tables.declared.ids.BodyIds.{BodyIds}
 use Rattle.cdi_numbered_plans.specs.of_event_tables.declared.observer_groups.ObserverGroup.{ObserverGroup}
 use Rattle.cdi_numbered_plans.specs.of_event_tables.declared.tables.EventTables.{EventTables}
-use Rattle.cdi_life.specs.Resolved.{IsResolvedObserver}
-use Rattle.cdi_life.specs.Told.{observer_told}
-use Rattle.cdi_life.specs.declared.member.Observer.{Observer}
+use Rattle.cdi_machine.specs.Resolved.{IsResolvedObserver}
+use Rattle.cdi_machine.specs.Told.{observer_told}
+use Rattle.cdi_machine.specs.declared.member.Observer.{Observer}
 use Rattle.cdi_machine.specs.Words.{Name}
 use Rattle.cdi_numbered_plans.specs.Machine.{machine_observer}
 use Rattle.cdi_numbered_plans.specs.Numbers.{numbers_observers}

@@ -10,7 +10,7 @@ use Rattle.cdi_numbered_plans.specs.of_bean_check.Qualifiers.{full_uses}
 use Rattle.cdi_numbered_plans.specs.of_event_tables.Ids.{id_in}
 use Rattle.cdi_numbered_plans.specs.of_event_tables.Observers.{managed_bean}
 use Rattle.cdi_numbered_plans.specs.of_event_tables.declared.ids.BodyIds.{BodyIds}
-use Rattle.cdi_life.specs.Told.{lifecycle_told, method_told, product_told, step_told}
+use Rattle.cdi_machine.specs.Told.{lifecycle_told, method_told, product_told, step_told}
 use Rattle.cdi_machine.specs.Tables as machine
 use Rattle.cdi_numbered_plans.specs.Methods.{method_by}
 use Rattle.cdi_numbered_plans.specs.Numbers.{has_numbers}

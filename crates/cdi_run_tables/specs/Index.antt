@@ -8,10 +8,10 @@ use Rattle.cdi_numbered_plans.specs.of_event_tables.Ids.{id_in}
 use Rattle.cdi_numbered_plans.specs.of_event_tables.Tables.{AreEventTables}
 use Rattle.cdi_numbered_plans.specs.of_event_tables.declared.observer_groups.ObserverGroup.{ObserverGroup}
 use Rattle.cdi_numbered_plans.specs.of_event_tables.declared.tables.EventTables.{EventTables}
-use Rattle.cdi_life.specs.Resolved.{IsResolvedObserver, IsResolvedStep}
-use Rattle.cdi_life.specs.Told.{observer_told, step_told}
-use Rattle.cdi_life.specs.declared.member.Observer.{Observer}
-use Rattle.cdi_life.specs.declared.step.Step.{Step as LifeStep}
+use Rattle.cdi_machine.specs.Resolved.{IsResolvedObserver, IsResolvedStep}
+use Rattle.cdi_machine.specs.Told.{observer_told, step_told}
+use Rattle.cdi_machine.specs.declared.member.Observer.{Observer}
+use Rattle.cdi_machine.specs.declared.step.Step.{Step as LifeStep}
 use Rattle.cdi_name_check.specs.NameSets.{HasDeclared, HasNames}
 use Rattle.cdi_numbered_plans.specs.Machine.{machine_observer}
 use Rattle.cdi_numbered_plans.specs.Methods.{AreMethodsBy}

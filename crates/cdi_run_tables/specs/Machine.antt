@@ -28,8 +28,8 @@ use Rattle.cdi_numbered_plans.specs.of_event_tables.Ids.{id_in, AreIdsIn}
 use Rattle.cdi_numbered_plans.specs.of_event_tables.Observers.{managed_bean}
 use Rattle.cdi_run_tables.specs.declared.planned.PlannedBean.{PlannedBean}
 use Rattle.cdi_run_tables.specs.declared.tables.RunTables.{RunTables}
-use Rattle.cdi_numbered_plans.specs.of_shape_check.References.{point_of_field, point_of_lookup}
-use Rattle.cdi_numbered_plans.specs.of_shape_check.WrittenNames.{is_event}
+use Rattle.cdi_numbered_plans.specs.of_body_check.WrittenPoints.{point_of_field, point_of_lookup}
+use Rattle.cdi_numbered_plans.specs.of_body_check.WrittenNames.{is_event}
 
 -- ---- beans
 

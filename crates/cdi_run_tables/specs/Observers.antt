@@ -4,7 +4,7 @@ use Rattle.std.specs.List.{cons_option, list_all}
 use Rattle.cdi_numbered_plans.specs.of_event_tables.Observers.{observer_groups}
 use Rattle.cdi_numbered_plans.specs.of_event_tables.declared.observer_groups.ObserverGroup.{ObserverGroup}
 use Rattle.cdi_numbered_plans.specs.of_event_tables.declared.observers.PlannedObserver.{PlannedObserver}
-use Rattle.cdi_life.specs.declared.member.Observer.{Observer}
+use Rattle.cdi_machine.specs.declared.member.Observer.{Observer}
 use Rattle.cdi_numbered_plans.specs.Numbers.{observers_have_numbers}
 use Rattle.cdi_run_tables.specs.Machine.{has_none}
 use Rattle.cdi_run_tables.specs.Planned.{plan_tables}

@@ -11,7 +11,7 @@ use crate::observers::observers_of;
 use crate::parts::RunParts;
 use crate::planned::PlannedBean;
 use cdi_base::{Name, Seq};
-use cdi_life::{Method, Observer, Step};
+use cdi_machine::{Method, Observer, Step};
 use cdi_name_check::NameSets;
 use cdi_numbered_plans::cdi_cache::Lookup;
 use cdi_numbered_plans::cdi_event_tables::EventTables;

@@ -1,8 +1,8 @@
 //! The steps by which instances of the enabled interceptors are created (Jakarta Interceptors 2.1, *Interceptor Life Cycle*).
 ghost use Rattle.std.specs.Prelude.{◌≡◌, length, map, option_map, slice_get, IfOk, IfSome, IsTrue};
 ghost use Rattle.std.specs.List.{All, AllZip};
-ghost use Rattle.cdi_life.specs.Resolved.{IsResolvedStep};
-ghost use Rattle.cdi_life.specs.Told.{step_told};
+ghost use Rattle.cdi_machine.specs.Resolved.{IsResolvedStep};
+ghost use Rattle.cdi_machine.specs.Told.{step_told};
 ghost use Rattle.cdi_run_tables.specs.Index as index;
 ghost use Rattle.cdi_run_tables.specs.Interceptors as spec;
 ghost use Rattle.cdi_run_tables.specs.Machine.{interceptor_at, machine_tables};
@@ -11,7 +11,7 @@ ghost use Rattle.cdi_run_tables.specs.Numbered.{is_numbered};
 use crate::parts::RunParts;
 use crate::tables::RunTables;
 use cdi_base::Seq;
-use cdi_life::Step;
+use cdi_machine::Step;
 use cdi_numbered_plans::cdi_beans::EnabledInterceptor;
 use cdi_numbered_plans::cdi_cache::Lookup;
 use cdi_numbered_plans::cdi_resolve::Resolver;

@@ -9,7 +9,7 @@ use crate::tables::RunTables;
 use cdi_base::{Fields, InterceptorMethod, Name, Place};
 use cdi_bodies::BodyId;
 use cdi_deployment::Interceptor;
-use cdi_life::Code;
+use cdi_machine::Code;
 use cdi_numbered_plans::first_values;
 use std::alloc::{AllocError, Global};
 

@@ -1,8 +1,8 @@
 //! What is asked of a bean in the words of an instance's life.
 ghost use Rattle.std.specs.Prelude.{◌≡◌, length, option_map, slice_get, IfSome, IsTrue};
 ghost use Rattle.std.specs.Option.{option_copied};
-ghost use Rattle.cdi_life.specs.Resolved.{IsResolvedProduct, IsResolvedStep};
-ghost use Rattle.cdi_life.specs.Told.{lifecycle_told, method_told, product_told, step_told};
+ghost use Rattle.cdi_machine.specs.Resolved.{IsResolvedProduct, IsResolvedStep};
+ghost use Rattle.cdi_machine.specs.Told.{lifecycle_told, method_told, product_told, step_told};
 ghost use Rattle.std.specs.List.{list_all};
 ghost use Rattle.cdi_numbered_plans.specs.Numbers as numbers;
 ghost use Rattle.cdi_numbered_plans.specs.Plans.{IsResolvedIfAny, TellsOf};
@@ -14,7 +14,7 @@ use crate::planned::PlannedBean;
 use crate::sizes::have_few_fields;
 use crate::tables::RunTables;
 use cdi_base::Name;
-use cdi_life::{Lifecycle, Method, Product, Step};
+use cdi_machine::{Lifecycle, Method, Product, Step};
 use cdi_numbered_plans::{NumberedPlan, has_numbers};
 
 fn have_numbers(beans: &[PlannedBean]) -> bool

@@ -8,7 +8,7 @@ ghost use Rattle.cdi_run_tables.specs.Observers as spec;
 use crate::parts::RunParts;
 use crate::tables::RunTables;
 use cdi_base::Seq;
-use cdi_life::Observer;
+use cdi_machine::Observer;
 use cdi_numbered_plans::cdi_cache::Lookup;
 use cdi_numbered_plans::cdi_event_tables::{EventTables, ObserverGroup};
 use cdi_numbered_plans::cdi_resolve::Resolver;

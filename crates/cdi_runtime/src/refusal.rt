@@ -6,7 +6,7 @@ ghost use Rattle.cdi_machine.specs.Container as machine;
 ghost use Rattle.cdi_run_tables.specs.Machine.{machine_resolution, machine_tables};
 ghost use Rattle.cdi_steps.specs.Known.{KnownJob};
 ghost use Rattle.cdi_steps.specs.Words.{command_of};
-ghost use Rattle.cdi_life.specs.Told.{method_told};
+ghost use Rattle.cdi_machine.specs.Told.{method_told};
 ghost use Rattle.cdi_runtime.specs.Standing.{HasNumber, IsServable};
 ghost use Rattle.cdi_runtime.specs.Refusals.{bean_refusal, contexts_refusal, event_refusal, method_refusal};
 ghost use Rattle.cdi_runtime.specs.Refusals.{resolved_refusal, use_refusal};

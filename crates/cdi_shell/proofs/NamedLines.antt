@@ -19,8 +19,8 @@ use Rattle.cdi_container.specs.States.{ContainerState, AnswersCommand, before_st
 use Rattle.cdi_report.specs.of_prepare.Ready.{Readied, readied_in}
 use Rattle.cdi_report.specs.of_prepare.Scripts.{registered}
 use Rattle.cdi_report.specs.Reports.{AreProblemsWith}
-use Rattle.cdi_report.specs.of_read_laws.Facts.{HasFacts}
-use Rattle.cdi_settings.specs.declared.settings.Settings.{Settings}
+use Rattle.cdi_report.specs.Facts.{HasFacts}
+use Rattle.cdi_base.specs.declared.settings.Settings.{Settings}
 use Rattle.cdi_shell.specs.declared.ending.Ending.{Ending}
 use Rattle.cdi_shell.specs.Drive.{AreTablesWith, Lives, Streams, legal_by}
 use Rattle.cdi_shell.specs.Thrown.{AnswersByName, LinesTellTrueNames, LivesByNames, TellsThem, TellsTrueName}

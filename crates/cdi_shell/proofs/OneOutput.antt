@@ -20,8 +20,8 @@ use Rattle.cdi_machine.specs.Runs.{Legal}
 use Rattle.cdi_container.specs.Sessions.{AnswersLine, Served, reply_in}
 use Rattle.cdi_container.specs.States.{ContainerState, Boots, before_start}
 use Rattle.cdi_script.specs.Next.{next_of}
-use Rattle.cdi_settings.specs.declared.settings.Order.{Order}
-use Rattle.cdi_settings.specs.declared.settings.Settings.{Settings}
+use Rattle.cdi_base.specs.declared.settings.Order.{Order}
+use Rattle.cdi_base.specs.declared.settings.Settings.{Settings}
 use Rattle.cdi_shell.specs.declared.ending.Ending.{Ending}
 use Rattle.cdi_shell.specs.declared.ending.Ending.TheVariants as endings
 use Rattle.cdi_lines.specs.declared.fault.ServeFault.{ServeFault}

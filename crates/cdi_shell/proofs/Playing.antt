@@ -11,7 +11,7 @@ use Rattle.cdi_container.specs.Sessions.{AnswersLine, AnswersSo, Served, ServedB
 use Rattle.cdi_container.specs.Standing.{IsStarted, names_of, tables_of, state_of}
 use Rattle.cdi_container.specs.States.{ContainerState}
 use Rattle.cdi_lines.specs.declared.fault.ServeFault.{ServeFault}
-use Rattle.cdi_settings.specs.declared.settings.Settings.{Settings}
+use Rattle.cdi_base.specs.declared.settings.Settings.{Settings}
 use Rattle.cdi_shell.specs.declared.ending.Ending.{Ending}
 use Rattle.cdi_shell.specs.Drive.{Streams, Lives}
 use Rattle.cdi_shell.specs.Endings.{after_serving, outcome_of}

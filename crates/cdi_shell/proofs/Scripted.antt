@@ -28,8 +28,8 @@ use Rattle.cdi_report.specs.of_prepare.declared.scripts.NamedScript.{NamedScript
 use Rattle.cdi_report.specs.of_prepare.Scripts.{place_under, shape_under}
 use Rattle.cdi_report.proofs.of_prepare.Holding.{AreBodiesOf, same_place, same_shape}
 use Rattle.cdi_report.specs.Reports.{AreProblemsWith, problem_lines}
-use Rattle.cdi_settings.specs.Chosen.{chosen}
-use Rattle.cdi_settings.specs.declared.settings.Settings.{Settings}
+use Rattle.cdi_base.specs.Chosen.{chosen}
+use Rattle.cdi_base.specs.declared.settings.Settings.{Settings}
 use Rattle.cdi_shell.specs.declared.ending.Ending.{Ending}
 use Rattle.cdi_shell.specs.Drive.{Streams, AreTablesWith, IsRefusable, IsWellFormedWith, Lives, PlaysScripts, Refuses, RefusesOr, RefusesUnaccepted, legal_by}
 use Rattle.cdi_shell.proofs.Attended.{attended}

@@ -2,8 +2,8 @@
 use Rattle.std.proofs.Common.{ℕ, ◌≡◌, List, Ok, Result, IfOk, subst}
 use Rattle.cdi_report.specs.of_prepare.Ready.{Readied, readied_in}
 use Rattle.cdi_report.specs.of_prepare.Scripts.{registered}
-use Rattle.cdi_report.proofs.of_read_laws.WellFormed.{reads_well_formed}
-use Rattle.cdi_report.specs.of_read_laws.WellFormed.{IsWellFormed}
+use Rattle.cdi_report.proofs.WellFormed.{reads_well_formed}
+use Rattle.cdi_report.specs.WellFormed.{IsWellFormed}
 use Rattle.cdi_shell.specs.Drive.{IsWellFormedWith}
 
 pub formed_with : (bytes : List ℕ) (r : Readied) → readied_in bytes ≡ Ok r → IsWellFormedWith (registered r.scripts) r.deployment

@@ -15,9 +15,9 @@ use Rattle.cdi_container.specs.of_event_tables.Ids.{is_named, told_of}
 use Rattle.cdi_container.specs.of_run_tables.Machine.{AreIdsOf, machine_tables}
 use Rattle.cdi_container.proofs.of_run_tables.WellFormed.{parts_of}
 use Rattle.cdi_container.specs.of_run_tables.declared.tables.RunTables.{RunTables}
-use Rattle.cdi_container.proofs.of_site_fit.Farewells.{farewells_apart}
-use Rattle.cdi_container.proofs.of_site_fit.Whole.{whole_fits}
-use Rattle.cdi_container.specs.of_site_fit.Accepted.{IsFaultless}
+use Rattle.cdi_container.proofs.of_accepted.Farewells.{farewells_apart}
+use Rattle.cdi_container.proofs.of_accepted.Whole.{whole_fits}
+use Rattle.cdi_container.specs.of_accepted.Accepted.{IsFaultless}
 use Rattle.cdi_container.proofs.Faultless.{none_in}
 use Rattle.cdi_container.proofs.Sound.{sound}
 use Rattle.cdi_container.specs.Sound.{IsSound}
@@ -25,7 +25,7 @@ use Rattle.cdi_report.specs.of_prepare.declared.scripts.NamedScript.{NamedScript
 use Rattle.cdi_report.specs.of_prepare.Scripts.{place_under, shape_under}
 use Rattle.cdi_report.proofs.of_prepare.Holding.{same_place, same_shape}
 use Rattle.cdi_report.specs.Reports.{AreProblemsWith}
-use Rattle.cdi_settings.specs.declared.settings.Order.{Order}
+use Rattle.cdi_base.specs.declared.settings.Order.{Order}
 use Rattle.cdi_shell.specs.Drive.{AreTablesWith, IsWellFormedWith, legal_by}
 use Rattle.cdi_shell.proofs.LessLegal.{fits_less}
 use Rattle.cdi_shell.proofs.Lookups.{same_lookups}

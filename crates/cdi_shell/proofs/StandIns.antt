@@ -16,7 +16,7 @@ use Rattle.cdi_script.specs.declared.step.Step.{Step}
 use Rattle.cdi_script.specs.Listed.{shape_of}
 use Rattle.cdi_script.specs.Next.{next_of}
 use Rattle.cdi_script.proofs.Within.{next_of-in_shape}
-use Rattle.cdi_settings.specs.declared.settings.Order.{Order}
+use Rattle.cdi_base.specs.declared.settings.Order.{Order}
 use Rattle.cdi_shell.specs.Drive.{legal_by}
 use denote.Param.Members.{Shared, fn_of}
 use denote.RawPtr.{null_ptr}

@@ -20,7 +20,7 @@ use Rattle.cdi_container.specs.of_run_tables.Planned.{IsPlanned, plan_tables}
 use Rattle.cdi_container.specs.of_run_tables.declared.tables.RunTables.{RunTables}
 use Rattle.cdi_container.specs.of_resolve.BeanTables.{AreTablesOf}
 use Rattle.cdi_container.specs.of_resolve.declared.bean_tables.BeanTables.{BeanTables}
-use Rattle.cdi_container.specs.of_shape_check.WrittenNames.{is_event}
+use Rattle.cdi_container.specs.of_body_check.WrittenNames.{is_event}
 use Rattle.cdi_report.specs.of_prepare.declared.scripts.NamedScript.{NamedScript}
 use Rattle.cdi_report.proofs.of_accepted.Plans.{one_plan_list}
 use Rattle.cdi_report.proofs.of_accepted.Tables.{one_tables}

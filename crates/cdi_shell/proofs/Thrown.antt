@@ -9,8 +9,8 @@ use Rattle.cdi_deployment.specs.declared.deployment.Deployment.{Deployment}
 use Rattle.cdi_machine.specs.Registered.{legal_of}
 use Rattle.cdi_report.specs.of_prepare.Ready.{Readied, readied_in}
 use Rattle.cdi_container.specs.of_run_tables.declared.tables.RunTables.{RunTables}
-use Rattle.cdi_report.proofs.of_read_laws.TrueNames.{name-at}
-use Rattle.cdi_report.specs.of_read_laws.Facts.{HasFacts}
+use Rattle.cdi_report.proofs.TrueNames.{name-at}
+use Rattle.cdi_report.specs.Facts.{HasFacts}
 use Rattle.cdi_problems.specs.Places.{name_text}
 use Rattle.cdi_container.specs.Accepted.{IsAccepted}
 use Rattle.cdi_container.specs.Sound.{IsSound}

@@ -4,9 +4,9 @@ use Rattle.std.specs.HashMap.{get}
 use Rattle.cdi_base.specs.declared.or_memory.OrMemory.{OrMemory}
 use Rattle.cdi_base.specs.declared.or_memory.OrMemory.TheVariants as errors
 use Rattle.cdi_base.specs.declared.reply.Reply.{Reply}
-use Rattle.cdi_settings.specs.Chosen.{chosen}
-use Rattle.cdi_settings.specs.declared.settings.Order.{Order}
-use Rattle.cdi_settings.specs.declared.settings.Settings.{Settings}
+use Rattle.cdi_base.specs.Chosen.{chosen}
+use Rattle.cdi_base.specs.declared.settings.Order.{Order}
+use Rattle.cdi_base.specs.declared.settings.Settings.{Settings}
 use Rattle.cdi_bodies.specs.declared.shape.Lookup.{Lookup}
 use Rattle.cdi_container.specs.of_body_check.Sites.{sites_of}
 use Rattle.cdi_deployment.specs.declared.deployment.Deployment.{Deployment}

@@ -15,7 +15,7 @@ use Rattle.cdi_container.specs.of_run_tables.Machine.{machine_tables}
 use Rattle.cdi_container.specs.of_run_tables.declared.tables.RunTables.{RunTables}
 use Rattle.cdi_text.specs.Command.{command_in}
 use Rattle.cdi_problems.specs.Places.{name_text}
-use Rattle.cdi_settings.specs.declared.settings.Settings.{Settings}
+use Rattle.cdi_base.specs.declared.settings.Settings.{Settings}
 use Rattle.cdi_container.specs.Accepted.{IsAccepted}
 use Rattle.cdi_container.specs.History.{History}
 use Rattle.cdi_container.specs.Sessions.{AnswersRead, Served, reply_in}

@@ -6,14 +6,14 @@ ghost use Rattle.cdi_container.specs.of_run_tables.Machine.{machine_tables};
 ghost use Rattle.cdi_container.specs.of_runtime.Standing.{IsServable};
 ghost use Rattle.cdi_container.specs.of_steps.Driving.{Drives as Runs};
 ghost use Rattle.cdi_script.specs.Next.{next_of};
-ghost use Rattle.cdi_settings.specs.Chosen.{chosen};
+ghost use Rattle.cdi_base.specs.Chosen.{chosen};
 ghost use Rattle.cdi_shell.specs.Drive as spec;
 ghost use Rattle.cdi_lines.specs.Served.{Blames};
 ghost use Rattle.cdi_shell.specs.Endings.{outcome_of};
 ghost use Rattle.cdi_shell.specs.Laws.{DrivesOnce};
 
 use crate::ending::{Ending, after_serving};
-use cdi_base::{Act, Fields, Names, OrMemory};
+use cdi_base::{Act, Fields, Names, OrMemory, Settings};
 use cdi_bodies::{AddError, Bodies, Body, Choice, Chooser, MAX_BODIES, View};
 use cdi_container::cdi_run_tables::RunTables;
 use cdi_container::{Container, Session, Unaccepted, accept};
@@ -22,7 +22,6 @@ use cdi_machine::{Driver, Registered};
 use cdi_problems::Problem;
 use cdi_report::cdi_prepare::{NamedScript, Prepared, prepare};
 use cdi_report::problem_lines::write_problems;
-use cdi_settings::Settings;
 use std::alloc::{AllocError, Global};
 
 /// Memory ran out where no container was served.

@@ -6,7 +6,7 @@ ghost use Rattle.cdi_shell.specs.WorkedLines.{WorkedLines};
 
 use cdi_bodies::Bodies;
 use cdi_container::laws as container;
-use cdi_report::cdi_read_laws::laws as read_laws;
+use cdi_report::laws as read_laws;
 
 /// Where no read or write fails and memory does not run out, what the program writes is a function of its settings, of the
 /// bytes of the deployment and of the bytes of the input, and so is how it ends. That holds of an input that is too long,

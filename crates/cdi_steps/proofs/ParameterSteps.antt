@@ -23,12 +23,12 @@ use Rattle.cdi_machine.specs.Contexts.{is_normal, direct_reference, resolve_poin
 use Rattle.cdi_machine.specs.Creation.{create_by, take_step}
 use Rattle.cdi_host.specs.Asked.{head_of, last_of, machine_resolution, plan_at, top_of}
 use Rattle.cdi_host.specs.declared.beans.BeanHead.{BeanHead}
-use Rattle.cdi_life.specs.Resolved.{AreResolved, IsResolved, IsResolvedStep}
-use Rattle.cdi_life.specs.Told.{point_told, step_told}
-use Rattle.cdi_life.specs.declared.point.Point.{Point as CodePoint}
-use Rattle.cdi_life.specs.declared.point.Resolution.TheVariants as resolutions
-use Rattle.cdi_life.specs.declared.step.Step.{Step as CodeStep}
-use Rattle.cdi_life.specs.declared.step.Step.TheVariants as code_steps
+use Rattle.cdi_machine.specs.Resolved.{AreResolved, IsResolved, IsResolvedStep}
+use Rattle.cdi_machine.specs.Told.{point_told, step_told}
+use Rattle.cdi_machine.specs.declared.point.Point.{Point as CodePoint}
+use Rattle.cdi_machine.specs.declared.point.Resolution.TheVariants as resolutions
+use Rattle.cdi_machine.specs.declared.step.Step.{Step as CodeStep}
+use Rattle.cdi_machine.specs.declared.step.Step.TheVariants as code_steps
 use Rattle.cdi_steps.specs.Words.{given_of}
 use Rattle.cdi_steps.specs.Meanings.{node, create_on}
 use Rattle.cdi_steps.specs.Parameters.{create_from, parameters_of, step_before, points_in, constructs, take, take_in, end_construction, provide_behind, provide_remaining, provide_made, run_construction, after_step, IsStepOf, IsNextPoint, RunsInitializer}

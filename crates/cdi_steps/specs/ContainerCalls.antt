@@ -16,7 +16,7 @@ use Rattle.cdi_machine.specs.Contexts.{direct_reference, reach_instance, resolve
 use Rattle.cdi_machine.specs.Creation.{accept, create_by}
 use Rattle.cdi_machine.specs.Destruction.{borrow_for, dispose, obtain_receiver}
 use Rattle.cdi_host.specs.Asked.{product_of}
-use Rattle.cdi_life.specs.Told.{member_told}
+use Rattle.cdi_machine.specs.Told.{member_told}
 use Rattle.cdi_steps.specs.declared.task.Callee.{Callee}
 use Rattle.cdi_steps.specs.declared.task.Callee.TheVariants as callees
 use Rattle.cdi_steps.specs.declared.task.CallParameters.{CallParameters}

@@ -6,8 +6,8 @@ use Rattle.cdi_machine.specs.Tables.{Observer}
 use Rattle.cdi_machine.specs.Programs as machine
 use Rattle.cdi_machine.specs.Programs.{Given, Prog, handle, complete, call, finish, each, groups_of, rethrow, ◌>>=◌, ◌>>◌}
 use Rattle.cdi_machine.specs.Events.{deliver}
-use Rattle.cdi_life.specs.Told.{observer_told}
-use Rattle.cdi_life.specs.declared.member.Observer.{Observer as CodeObserver}
+use Rattle.cdi_machine.specs.Told.{observer_told}
+use Rattle.cdi_machine.specs.declared.member.Observer.{Observer as CodeObserver}
 use Rattle.cdi_steps.specs.declared.task.Delivery.{Delivery}
 use Rattle.cdi_steps.specs.declared.task.Event.{Event}
 use Rattle.cdi_steps.specs.declared.task.Groups.{Groups}

@@ -14,9 +14,9 @@ use Rattle.cdi_machine.specs.Contexts.{direct_reference, resolve_points}
 use Rattle.cdi_machine.specs.Creation.{create_by, take_step}
 use Rattle.cdi_machine.specs.Bodies.{body_at_start}
 use Rattle.cdi_host.specs.Asked.{last_of, plan_at, top_of}
-use Rattle.cdi_life.specs.declared.point.Point.{Point as CodePoint}
-use Rattle.cdi_life.specs.declared.step.Step.{Step as CodeStep}
-use Rattle.cdi_life.specs.declared.step.Step.TheVariants as code_steps
+use Rattle.cdi_machine.specs.declared.point.Point.{Point as CodePoint}
+use Rattle.cdi_machine.specs.declared.step.Step.{Step as CodeStep}
+use Rattle.cdi_machine.specs.declared.step.Step.TheVariants as code_steps
 use Rattle.cdi_steps.specs.declared.task.Parameters.{Parameters}
 use Rattle.cdi_steps.specs.declared.task.Call.TheVariants as calls
 use Rattle.cdi_steps.specs.declared.task.Frame.TheVariants as frames

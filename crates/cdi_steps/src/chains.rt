@@ -13,8 +13,7 @@ use crate::ends::{given, missing, null};
 use crate::invocations::run_end;
 use crate::task::{Call, Frame, Given, Next, Task};
 use cdi_base::{InterceptorMethod, Seq, Value};
-use cdi_host::cdi_stacks::{Chain, Code, Running};
-use cdi_host::{Contents, Tables};
+use cdi_host::{Chain, Code, Contents, Running, Tables};
 use cdi_store::Component;
 use std::alloc::{AllocError, Global};
 

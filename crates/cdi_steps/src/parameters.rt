@@ -1,7 +1,7 @@
 //! How steps of a creation with injected parameters begin: constructors and initializers.
 ghost use Rattle.std.specs.Prelude.{◌≡◌, ◌+◌, ◌<◌, [], length, map, IfOk, OnErr};
 ghost use Rattle.cdi_machine.specs.Tables.{Step as MachineStep};
-ghost use Rattle.cdi_life.specs.Told.{lifecycle_told, point_told};
+ghost use Rattle.cdi_machine.specs.Told.{lifecycle_told, point_told};
 ghost use Rattle.cdi_host.specs.Asked.{plan_at};
 ghost use Rattle.cdi_steps.specs.Known.{AreCallbacks, IsNextStep};
 ghost use Rattle.cdi_steps.specs.Steps.{Moves};

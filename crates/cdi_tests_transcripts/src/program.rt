@@ -1,9 +1,9 @@
 //! Running the program over one file.
+use cdi_base::Settings;
 use cdi_lines::{Input, Output};
 use cdi_options::MAX_SLICE;
 use cdi_program::cdi_shell::drive::drive;
 use cdi_program::{Files, WordsError, run_program};
-use cdi_settings::Settings;
 use cdi_tests_player::Played;
 use cdi_tests_player::limits::limits_of;
 use std::alloc::Global;

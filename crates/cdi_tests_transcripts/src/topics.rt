@@ -3,15 +3,13 @@
 //!
 //! | Word | What is played | Where the words behind it are told |
 //! |---|---|---|
-//! | `tables` | chains, plans and observers | `cdi_tests_tables`: `asked` |
 //! | `ledger` | stories of instances, and what they break | `cdi_tests_player`: `stories` |
 //! | `jobs` | the engine, with bodies that no run of the program has | `cdi_tests_calls`: `report` |
-//! | `store`, `contexts`, `choices`, `invocations` | calls that no run of the program makes | `cdi_tests_stores`: `calls` |
+//! | `store`, `contexts`, `choices`, `observers` | calls that no run of the program makes | `cdi_tests_stores`: `calls` |
 use crate::words::Program;
 use cdi_tests_calls::Calls;
 use cdi_tests_player::{Played, Player, Scene, Stories};
 use cdi_tests_stores::StoreCalls;
-use cdi_tests_tables::Tables;
 use std::alloc::{AllocError, Global};
 
 /// All that transcripts are of.
@@ -23,10 +21,9 @@ pub(crate) struct Topics<'a> {
 impl Player for Topics<'_> {
     fn play(&self, alloc: Global, words: &[&str], scene: &Scene) -> Result<Played, AllocError> {
         match words {
-            ["tables", words @ ..] => Tables.play(alloc, words, scene),
             ["ledger"] => Stories.play(alloc, words, scene),
             ["jobs", ..] => Calls.play(alloc, words, scene),
-            ["store" | "contexts" | "choices" | "invocations", ..] => StoreCalls.play(
+            ["store" | "contexts" | "choices" | "observers", ..] => StoreCalls.play(
                 alloc, words, scene,
             ),
             _ => self.program.play(alloc, words, scene),

@@ -34,26 +34,26 @@ use Rattle.cdi_machine.specs.Programs.{Task, Given, Completion, Gave, Threw, Run
 use Rattle.cdi_machine.specs.Contexts.{reach_instance}
 use Rattle.cdi_machine.specs.Bodies.{body_at_start, reference_at, find_reference, bean_of, method_in, method_of, invoke_method, fits as takes_as_many, replace_parameters, repeats, proceed, carry_out, find, answer_of, with_answer, after_act, answer_find, perform, carry_on}
 use Rattle.cdi_machine.specs.Runs.{Legal}
-use Rattle.cdi_ownership.specs.Whose.{IsIn}
-use Rattle.cdi_worlds_fit.specs.Fits.{Site, class_site, interceptor_site, intercepted_by, HasMethod, IsClassOf, LeadsTo, AnswersCalls, FitsAct, FitsManaged, FitsKind, FitsBean, Fits}
-use Rattle.cdi_ownership.proofs.Maps.{all_last, put_at}
-use Rattle.cdi_worlds_fit.proofs.Whole.{Lives, Serves, Refers, IsFor, Good}
-use Rattle.cdi_worlds_fit.proofs.Remains.{Any, Each, After, after_self, after_trans}
-use Rattle.cdi_worlds_fit.proofs.Terms.{Home, CanRest, CanRun, IsAnswered, Told, Answered}
+use Rattle.cdi_ledger.specs.Whose.{IsIn}
+use Rattle.cdi_whole.specs.Fits.{Site, class_site, interceptor_site, intercepted_by, HasMethod, IsClassOf, LeadsTo, AnswersCalls, FitsAct, FitsManaged, FitsKind, FitsBean, Fits}
+use Rattle.cdi_ledger.proofs.Maps.{all_last, put_at}
+use Rattle.cdi_whole.proofs.Whole.{Lives, Serves, Refers, IsFor, Good}
+use Rattle.cdi_whole.proofs.Remains.{Any, Each, After, after_self, after_trans}
+use Rattle.cdi_whole.proofs.Terms.{Home, CanRest, CanRun, IsAnswered, Told, Answered}
 use Rattle.cdi_whole.proofs.Statements.{Goes, then, loosen, found, found_two, found_last, expected, topped, called}
-use Rattle.cdi_worlds_fit.proofs.Moves.{Moves}
+use Rattle.cdi_whole.proofs.Moves.{Moves}
 use Rattle.cdi_whole.proofs.References.{Referred, Reaches, resolving, refer_safe, reach_safe}
 use Rattle.cdi_whole.proofs.Invocations.{call_safe}
 use Rattle.cdi_whole.proofs.Creation.{has_at, ready_attended}
 use Rattle.cdi_whole.proofs.Bodies.{site_fields, site_injected, site_there, got_for, touched, run_then, rest_then, thrown_text}
 use Rattle.cdi_machine.specs.DestroyAct.{is_idle, destroy_idle, is_made, destroy_held, destroy_by}
-use Rattle.cdi_worlds_fit.proofs.Busy.{idle_by}
-use Rattle.cdi_worlds_fit.proofs.Remains.{But, AfterAt}
-use Rattle.cdi_worlds_fit.proofs.Terms.{Gives}
-use Rattle.cdi_ownership.proofs.Holdings.{AllHeld, EachHeld}
-use Rattle.cdi_worlds_fit.proofs.Contexts.{held_at}
-use Rattle.cdi_ownership.proofs.Maps.{all_at}
-use Rattle.cdi_worlds_fit.proofs.Whole.{HeldBy, IsFree}
+use Rattle.cdi_whole.proofs.Busy.{idle_by}
+use Rattle.cdi_whole.proofs.Remains.{But, AfterAt}
+use Rattle.cdi_whole.proofs.Terms.{Gives}
+use Rattle.cdi_ledger.proofs.Holdings.{AllHeld, EachHeld}
+use Rattle.cdi_whole.proofs.Contexts.{held_at}
+use Rattle.cdi_ledger.proofs.Maps.{all_at}
+use Rattle.cdi_whole.proofs.Whole.{HeldBy, IsFree}
 use Rattle.cdi_contexts.specs.Contexts.{Active, context_of, context_at}
 use Rattle.cdi_contexts.specs.declared.context.Held.{Held}
 use Rattle.cdi_contexts.specs.declared.context.Held.TheVariants.{Making, Is}

@@ -22,15 +22,15 @@ use Rattle.cdi_machine.specs.World.{World, Change, Invocation, after_change, wit
 use Rattle.cdi_machine.specs.Programs.{Task, Given, Completion, Gave, Threw, Running, Prog, ret, throw, see, handle, attempt, alter, call, each, finally, finish, invocation, raise, require}
 use Rattle.cdi_machine.specs.Bodies.{body_at_start, given_by, is_of, first_of, interceptor_of, run_rest, run_body}
 use Rattle.cdi_machine.specs.Runs.{Legal}
-use Rattle.cdi_ownership.specs.Whose.{IsIn}
-use Rattle.cdi_worlds_fit.specs.Fits.{Site, interceptor_site, HasText, FitsRole, Fits}
-use Rattle.cdi_ownership.proofs.Maps.{all_weaker, all_last, put_at}
-use Rattle.cdi_worlds_fit.proofs.Whole.{by_interceptor, fields_in, injected_in, IsThere, Lives, Serves, Refers, IsFor, AreFor, IsAttended, Attends, OnStack, Busy, Whole, Good}
-use Rattle.cdi_worlds_fit.proofs.Remains.{Any, Each, Same, Alike, AfterOf, After, alike_self, levels_self, after_self, after_trans, lives_then, attends_then, for_then, are_then, stack_then}
-use Rattle.cdi_worlds_fit.proofs.Busy.{on_top as busy_top, started, stopped}
-use Rattle.cdi_worlds_fit.proofs.Terms.{Home, Stood, CanRest, CanRun, AreFound, IsAnswered, Told, IsValue, Answered}
+use Rattle.cdi_ledger.specs.Whose.{IsIn}
+use Rattle.cdi_whole.specs.Fits.{Site, interceptor_site, HasText, FitsRole, Fits}
+use Rattle.cdi_ledger.proofs.Maps.{all_weaker, all_last, put_at}
+use Rattle.cdi_whole.proofs.Whole.{by_interceptor, fields_in, injected_in, IsThere, Lives, Serves, Refers, IsFor, AreFor, IsAttended, Attends, OnStack, Busy, Whole, Good}
+use Rattle.cdi_whole.proofs.Remains.{Any, Each, Same, Alike, AfterOf, After, alike_self, levels_self, after_self, after_trans, lives_then, attends_then, for_then, are_then, stack_then}
+use Rattle.cdi_whole.proofs.Busy.{on_top as busy_top, started, stopped}
+use Rattle.cdi_whole.proofs.Terms.{Home, Stood, CanRest, CanRun, AreFound, IsAnswered, Told, IsValue, Answered}
 use Rattle.cdi_whole.proofs.Statements.{Goes, then, found, found_two, deeper, topped, called, calling}
-use Rattle.cdi_worlds_fit.proofs.Moves.{Moves}
+use Rattle.cdi_whole.proofs.Moves.{Moves}
 use Rattle.cdi_whole.proofs.Creation.{class_fields, class_injected}
 
 -- ---- what stays of bodies
@@ -51,7 +51,7 @@ module _ {t : Tables} {legal : Legal} {i0 i1 : Instances} {n0 n1 : ℕ} {t0 t1 :
   roles_then n role h [] s = tt
   roles_then n role h (i ∷ chain) s = ((s.0.0, attends_then a n i tt (λ d. tt) h s.0.1), roles_then n role h chain s.1)
 
-  rest_by : (us vs : List Invocation) (chain : List ℕ) → ((s : ℕ) → Rattle.cdi_worlds_fit.proofs.Whole.Targets s us → Rattle.cdi_worlds_fit.proofs.Whole.Targets s v0) → Alike us vs → CanRest t legal i0 n0 us chain → CanRest t legal i1 n1 vs chain
+  rest_by : (us vs : List Invocation) (chain : List ℕ) → ((s : ℕ) → Rattle.cdi_whole.proofs.Whole.Targets s us → Rattle.cdi_whole.proofs.Whole.Targets s v0) → Alike us vs → CanRest t legal i0 n0 us chain → CanRest t legal i1 n1 vs chain
   rest_by [] vs chain f s h = absurd h
   rest_by (x ∷ us) [] chain f s h = absurd s
   rest_by (x ∷ us) (y ∷ vs) chain f s h = (
@@ -91,7 +91,7 @@ thrown_text t x view h e = by (Rattle.cdi_bodies.specs.Shape.last_answer view) r
     by None q s = absurd (cc)
     by (Some (answers.Done v)) q s = absurd (cc)
     by (Some (answers.Found k)) q s = absurd (cc)
-    by (Some (answers.Threw thrown text)) q s = same thrown s (Rattle.cdi_ownership.proofs.Maps.all_get (IsAnswered t) view.answers _ (answers.Threw thrown text) h q)
+    by (Some (answers.Threw thrown text)) q s = same thrown s (Rattle.cdi_ledger.proofs.Maps.all_get (IsAnswered t) view.answers _ (answers.Threw thrown text) h q)
 
 -- ---- sites
 
@@ -205,7 +205,7 @@ module _ (t : Tables) (legal : Legal) (fits : Fits t legal) (moves : Moves t leg
   each_safe v (m ∷ []) start w a b h = called t legal fits (Task.Body (body_at_start v.target m.place m.body v.parameters v.references [])) w _ (a.good, able_member w v m h.0) (λ c u p. (after_trans a p.0, p.1))
   each_safe v (m ∷ k ∷ ms) start w a b h =
       calling t legal fits (Task.Body (body_at_start v.target m.place m.body v.parameters v.references [])) _ throw w _ (a.good, able_member w v m h.0)
-      (λ g u p. each_safe v (k ∷ ms) start u (after_trans a p.0) (Rattle.cdi_worlds_fit.proofs.Remains.busy_then p.0 v.target b) (members_then p.0 v.target v.references b (k ∷ ms) h.1))
+      (λ g u p. each_safe v (k ∷ ms) start u (after_trans a p.0) (Rattle.cdi_whole.proofs.Remains.busy_then p.0 v.target b) (members_then p.0 v.target v.references b (k ∷ ms) h.1))
       (λ x u p. (after_trans a p.0, p.1))
 
   given_value : (role : InterceptorMethod) (a : Given) → IsValue (Gave a) → IsValue (Gave (given_by role a))

@@ -19,14 +19,14 @@ use Rattle.cdi_machine.specs.Bodies.{invoke_method}
 use Rattle.cdi_machine.specs.Events.{qualifier, fire_context_event, fire_container_event}
 use Rattle.cdi_machine.specs.Commands.{Command, task, environment_of, close, use_bean, requests_of, sessions_of, is_used, begin_session, begin, end_session, end, invalidate, read, end_alone, shut_down, boot}
 use Rattle.cdi_machine.specs.Runs.{Legal}
-use Rattle.cdi_worlds_fit.specs.Fits.{AnswersCalls, FitsBean, Fits}
-use Rattle.cdi_worlds_fit.proofs.Contexts.{AllContexts, context_changed, context_gone, context_marked, context_requested, context_sessioned}
-use Rattle.cdi_worlds_fit.proofs.Whole.{Serves, HeldBy, Whole, Good}
-use Rattle.cdi_worlds_fit.proofs.Remains.{Any, Each, After, after_self, after_trans}
-use Rattle.cdi_worlds_fit.proofs.Busy.{borrowing}
-use Rattle.cdi_worlds_fit.proofs.Terms.{Told, Gives, Answered, IsEmptyStack}
+use Rattle.cdi_whole.specs.Fits.{AnswersCalls, FitsBean, Fits}
+use Rattle.cdi_whole.proofs.Contexts.{AllContexts, context_changed, context_gone, context_marked, context_requested, context_sessioned}
+use Rattle.cdi_whole.proofs.Whole.{Serves, HeldBy, Whole, Good}
+use Rattle.cdi_whole.proofs.Remains.{Any, Each, After, after_self, after_trans}
+use Rattle.cdi_whole.proofs.Busy.{borrowing}
+use Rattle.cdi_whole.proofs.Terms.{Told, Gives, Answered, IsEmptyStack}
 use Rattle.cdi_whole.proofs.Statements.{Goes, then, loosen, found, called, calling}
-use Rattle.cdi_worlds_fit.proofs.Moves.{Moves}
+use Rattle.cdi_whole.proofs.Moves.{Moves}
 use Rattle.cdi_whole.proofs.References.{Referred, Reaches, resolving, refer_safe, reach_safe}
 use Rattle.cdi_whole.proofs.Invocations.{borrow_safe}
 use Rattle.cdi_whole.proofs.Acts.{managed_of, method_call_safe}

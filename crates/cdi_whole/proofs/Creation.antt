@@ -25,14 +25,14 @@ use Rattle.cdi_machine.specs.Bodies.{invocation_at_start, body_at_start, provide
 use Rattle.cdi_machine.specs.Destruction.{obtain_receiver, borrow_for}
 use Rattle.cdi_machine.specs.Creation.{make_ready, discard, end_creation, create_by, construct, inject, take_step, call_producer, accept, produce, first_fields, make, create, intercept}
 use Rattle.cdi_machine.specs.Runs.{Legal}
-use Rattle.cdi_ownership.specs.Whose.{IsIn}
-use Rattle.cdi_worlds_fit.specs.Fits.{HasText, injected_by, intercepted_by, class_site, FitsLifecycle, FitsStep, FitsSteps, ready_after, IsThereInterceptor, FitsManaged, FitsSource, FitsProduct, FitsKind, FitsBean, Fits}
-use Rattle.cdi_worlds_fit.proofs.Whole.{by_bean, by_interceptor, Serves, injected_of, intercepted_of, fields_in, injected_in, intercepted_in, Declared, Stands, IsOlder, Attends, Good}
-use Rattle.cdi_worlds_fit.proofs.Remains.{Any, Alike, Other, Each, AfterAt, After, after_self, after_on, after_trans, after_less, stack_back, stands_then, idle_then}
-use Rattle.cdi_worlds_fit.proofs.Busy.{under_below, borrowing}
-use Rattle.cdi_worlds_fit.proofs.Terms.{Stood, Home, Told, Gives, Gets, IsLoose, Intercepts, IdleIn, IsBegun, Answered, CanRest, Post}
+use Rattle.cdi_ledger.specs.Whose.{IsIn}
+use Rattle.cdi_whole.specs.Fits.{HasText, injected_by, intercepted_by, class_site, FitsLifecycle, FitsStep, FitsSteps, ready_after, IsThereInterceptor, FitsManaged, FitsSource, FitsProduct, FitsKind, FitsBean, Fits}
+use Rattle.cdi_whole.proofs.Whole.{by_bean, by_interceptor, Serves, injected_of, intercepted_of, fields_in, injected_in, intercepted_in, Declared, Stands, IsOlder, Attends, Good}
+use Rattle.cdi_whole.proofs.Remains.{Any, Alike, Other, Each, AfterAt, After, after_self, after_on, after_trans, after_less, stack_back, stands_then, idle_then}
+use Rattle.cdi_whole.proofs.Busy.{under_below, borrowing}
+use Rattle.cdi_whole.proofs.Terms.{Stood, Home, Told, Gives, Gets, IsLoose, Intercepts, IdleIn, IsBegun, Answered, CanRest, Post}
 use Rattle.cdi_whole.proofs.Statements.{Goes, then, loosen, found, numbered, called, calling, rethrown, topped}
-use Rattle.cdi_worlds_fit.proofs.Moves.{Moves}
+use Rattle.cdi_whole.proofs.Moves.{Moves}
 use Rattle.cdi_whole.proofs.References.{Pointed, AllPointed, bean_of_managed, Reaches, point_safe, points_safe, receiver_safe}
 use Rattle.cdi_whole.proofs.Invocations.{Exits, exits_then, invoking, providing, invoke_safe, call_safe, borrow_safe}
 
@@ -310,7 +310,7 @@ module _ (t : Tables) (legal : Legal) (fits : Fits t legal) (moves : Moves t leg
       kept : (v : Value) (u : World) → After t legal w u → (v ≡ values.Null → IsLoose t b) → Given-by n b w (Gave (Given.Result v)) (after_change (Change.Hold n v) u)
       kept v u a f = (after_trans a (moves.holds u n v a.good), (f, λ i h. absurd (none i h)))
 
-      accepted : (a : Given) (u : World) → After t legal w u → Rattle.cdi_worlds_fit.proofs.Terms.IsValue (Gave a) → (normal : Bool) → is_normal bean.scope ≡ normal → Does (accept normal n a) u (Given-by n b w)
+      accepted : (a : Given) (u : World) → After t legal w u → Rattle.cdi_whole.proofs.Terms.IsValue (Gave a) → (normal : Bool) → is_normal bean.scope ≡ normal → Does (accept normal n a) u (Given-by n b w)
       accepted (Given.Result values.Null) u a q true e = (a, fits.texts built_in.IllegalProductException)
       accepted (Given.Result values.Null) u a q false e = kept values.Null u a (λ _. loose e)
       accepted (Given.Result (values.Int i)) u a q true e = kept (values.Int i) u a (λ f. absurd (cc))

@@ -23,18 +23,18 @@ use Rattle.cdi_machine.specs.Programs.{Task, Given, Completion, Gave, Threw, Pro
 use Rattle.cdi_machine.specs.Bodies.{invoke, call_back}
 use Rattle.cdi_machine.specs.Destruction.{latest, dismiss_latest, dismiss, obtain_receiver, dispose, clean_up_bean, clean_up, only_ready, destroy, release_from, release, greatest_in, clear_from, clear}
 use Rattle.cdi_machine.specs.Runs.{Legal}
-use Rattle.cdi_ownership.specs.Whose.{IsIn}
-use Rattle.cdi_worlds_fit.specs.Fits.{intercepted_by, FitsKind, FitsManaged, FitsMember, Fits}
-use Rattle.cdi_ownership.proofs.Maps.{all_weaker}
-use Rattle.cdi_ownership.proofs.Lists.{in_got, got, IsAmong}
-use Rattle.cdi_ownership.proofs.Holdings.{AllHeld, EachHeld}
-use Rattle.cdi_worlds_fit.proofs.Contexts.{held_at}
-use Rattle.cdi_worlds_fit.proofs.Whole.{intercepted_in, Declared, IsReady, Stands, IsOwned, HeldBy, Attends, Targets, OnStack, Busy, IsFree, Good}
-use Rattle.cdi_worlds_fit.proofs.Remains.{Any, Other, Each, But, Of, Alike, Levels, AfterAt, After, after_self, after_trans, after_less, stands_then, idle_then}
-use Rattle.cdi_worlds_fit.proofs.Busy.{busy_below, owner_busy, borrowing}
-use Rattle.cdi_worlds_fit.proofs.Terms.{Told, Gives, IdleIn, AllIdle, IsUnready, IsEmptyStack, Answered}
+use Rattle.cdi_ledger.specs.Whose.{IsIn}
+use Rattle.cdi_whole.specs.Fits.{intercepted_by, FitsKind, FitsManaged, FitsMember, Fits}
+use Rattle.cdi_ledger.proofs.Maps.{all_weaker}
+use Rattle.cdi_ledger.proofs.Lists.{in_got, got, IsAmong}
+use Rattle.cdi_ledger.proofs.Holdings.{AllHeld, EachHeld}
+use Rattle.cdi_whole.proofs.Contexts.{held_at}
+use Rattle.cdi_whole.proofs.Whole.{intercepted_in, Declared, IsReady, Stands, IsOwned, HeldBy, Attends, Targets, OnStack, Busy, IsFree, Good}
+use Rattle.cdi_whole.proofs.Remains.{Any, Other, Each, But, Of, Alike, Levels, AfterAt, After, after_self, after_trans, after_less, stands_then, idle_then}
+use Rattle.cdi_whole.proofs.Busy.{busy_below, owner_busy, borrowing}
+use Rattle.cdi_whole.proofs.Terms.{Told, Gives, IdleIn, AllIdle, IsUnready, IsEmptyStack, Answered}
 use Rattle.cdi_whole.proofs.Statements.{Goes, then, loosen, found, called, calling, topped}
-use Rattle.cdi_worlds_fit.proofs.Moves.{Moves}
+use Rattle.cdi_whole.proofs.Moves.{Moves}
 use Rattle.cdi_whole.proofs.References.{Reaches, bean_of_managed, receiver_safe}
 use Rattle.cdi_whole.proofs.Invocations.{invoke_safe, call_safe, borrow_safe}
 use Rattle.cdi_whole.proofs.Creation.{class_intercepted, ready_attended}

@@ -15,13 +15,13 @@ use Rattle.cdi_machine.specs.Bodies.{invoke}
 use Rattle.cdi_machine.specs.Destruction.{obtain_receiver}
 use Rattle.cdi_machine.specs.Events.{fire, is_skipped, observe, deliver, notify}
 use Rattle.cdi_machine.specs.Runs.{Legal}
-use Rattle.cdi_worlds_fit.specs.Fits.{FitsObserver, Fits}
-use Rattle.cdi_ownership.proofs.Maps.{all_get}
-use Rattle.cdi_ownership.proofs.Lists.{got}
-use Rattle.cdi_worlds_fit.proofs.Whole.{Good}
-use Rattle.cdi_worlds_fit.proofs.Remains.{Any, Each, After, after_self, after_trans}
-use Rattle.cdi_worlds_fit.proofs.Busy.{borrowing}
-use Rattle.cdi_worlds_fit.proofs.Terms.{Told, Answered}
+use Rattle.cdi_whole.specs.Fits.{FitsObserver, Fits}
+use Rattle.cdi_ledger.proofs.Maps.{all_get}
+use Rattle.cdi_ledger.proofs.Lists.{got}
+use Rattle.cdi_whole.proofs.Whole.{Good}
+use Rattle.cdi_whole.proofs.Remains.{Any, Each, After, after_self, after_trans}
+use Rattle.cdi_whole.proofs.Busy.{borrowing}
+use Rattle.cdi_whole.proofs.Terms.{Told, Answered}
 use Rattle.cdi_whole.proofs.Statements.{Goes, then, loosen, found, called, calling, rethrown}
 use Rattle.cdi_whole.proofs.References.{Reaches, bean_of_managed, receiver_safe}
 use Rattle.cdi_whole.proofs.Invocations.{invoke_safe, borrow_safe}

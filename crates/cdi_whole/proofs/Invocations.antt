@@ -17,12 +17,12 @@ use Rattle.cdi_machine.specs.Contexts.{resolve_points}
 use Rattle.cdi_machine.specs.Bodies.{invocation_at_start, invoke_by, provide, invoke}
 use Rattle.cdi_machine.specs.Destruction.{borrow_for, give_back}
 use Rattle.cdi_machine.specs.Runs.{Legal}
-use Rattle.cdi_ownership.specs.Whose.{IsIn}
-use Rattle.cdi_worlds_fit.specs.Fits.{class_site, FitsBody, FitsRole, FitsChain, FitsMember, FitsManaged, Fits, intercepted_by}
-use Rattle.cdi_worlds_fit.proofs.Whole.{Lives, IsOlder, AreFor, Attends, OnStack, Busy, Whole, Good}
-use Rattle.cdi_worlds_fit.proofs.Remains.{Any, Each, Alike, Levels, AfterOf, After, after_self, after_trans, idle_then, lives_then, attends_then}
-use Rattle.cdi_worlds_fit.proofs.Busy.{on_top as busy_top, busy_below, entered, borrowing, exited, returned}
-use Rattle.cdi_worlds_fit.proofs.Terms.{Home, Stood, CanRest, Told, Gives, Answered, AllIdle, IdleIn}
+use Rattle.cdi_ledger.specs.Whose.{IsIn}
+use Rattle.cdi_whole.specs.Fits.{class_site, FitsBody, FitsRole, FitsChain, FitsMember, FitsManaged, Fits, intercepted_by}
+use Rattle.cdi_whole.proofs.Whole.{Lives, IsOlder, AreFor, Attends, OnStack, Busy, Whole, Good}
+use Rattle.cdi_whole.proofs.Remains.{Any, Each, Alike, Levels, AfterOf, After, after_self, after_trans, idle_then, lives_then, attends_then}
+use Rattle.cdi_whole.proofs.Busy.{on_top as busy_top, busy_below, entered, borrowing, exited, returned}
+use Rattle.cdi_whole.proofs.Terms.{Home, Stood, CanRest, Told, Gives, Answered, AllIdle, IdleIn}
 use Rattle.cdi_whole.proofs.Statements.{Goes, then, called, calling}
 use Rattle.cdi_whole.proofs.References.{AllPointed, points_safe}
 

@@ -14,16 +14,16 @@ use Rattle.cdi_store.specs.declared.instance.Instance.{Instance}
 use Rattle.cdi_store.specs.declared.instance.Context.{Context}
 use Rattle.cdi_store.specs.declared.instance.Context.TheVariants.{Application, Request, Session}
 use Rattle.cdi_contexts.specs.Contexts.{context_at, at_boot}
-use Rattle.cdi_ownership.proofs.Holdings.{AllHeld}
-use Rattle.cdi_worlds_fit.proofs.Whole.{HeldBy}
-use Rattle.cdi_worlds_fit.specs.Fits.{HasMethod, AnswersCalls, Fits}
+use Rattle.cdi_ledger.proofs.Holdings.{AllHeld}
+use Rattle.cdi_whole.proofs.Whole.{HeldBy}
+use Rattle.cdi_whole.specs.Fits.{HasMethod, AnswersCalls, Fits}
 use Rattle.cdi_whole.specs.Thrown.{ThrowsWithText}
 use Rattle.cdi_machine.specs.Programs.{Threw}
 use Rattle.cdi_whole.specs.Missing.{AsksWhatIsThere, NothingMissing, MissesNothing}
 use Rattle.cdi_whole.proofs.Safe.{misses_none, UnlessCut}
-use Rattle.cdi_worlds_fit.proofs.Terms.{Pre, Post}
-use Rattle.cdi_worlds_fit.proofs.Moves.{Moves}
-use Rattle.cdi_worlds_fit.proofs.Quiet.{moves}
+use Rattle.cdi_whole.proofs.Terms.{Pre, Post}
+use Rattle.cdi_whole.proofs.Moves.{Moves}
+use Rattle.cdi_whole.proofs.Quiet.{moves}
 use Rattle.cdi_whole.proofs.Tasks.{task_safe}
 use Rattle.cdi_whole.proofs.Commands.{IsAdmitted, IsResting, Completes, command_safe}
 
@@ -108,7 +108,7 @@ module _ (t : Tables) (legal : Legal) (fits : Fits t legal) (moves : Moves t leg
       holds (Request name) = tt
       holds (Session name) = tt
 
-      by : (s : ℕ) → Rattle.cdi_worlds_fit.proofs.Whole.OnStack [] [] s → Rattle.cdi_worlds_fit.proofs.Whole.IsThere [] s
+      by : (s : ℕ) → Rattle.cdi_whole.proofs.Whole.OnStack [] [] s → Rattle.cdi_whole.proofs.Whole.IsThere [] s
       by s (Rattle.std.proofs.Common.inl h) = absurd h
       by s (Rattle.std.proofs.Common.inr h) = absurd h
 

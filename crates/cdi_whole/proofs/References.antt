@@ -29,13 +29,13 @@ use Rattle.cdi_machine.specs.Programs.{Task, Given, Completion, Gave, Threw, Pro
 use Rattle.cdi_machine.specs.Contexts.{find_or_create, obtain, is_normal, direct_reference, refer_to, resolve_point, resolve_points, stays, reach_instance}
 use Rattle.cdi_machine.specs.Destruction.{obtain_receiver}
 use Rattle.cdi_machine.specs.Runs.{Legal}
-use Rattle.cdi_worlds_fit.specs.Fits.{HasText, FitsKind, FitsManaged, FitsBean, Fits}
-use Rattle.cdi_ownership.proofs.Maps.{all_at}
-use Rattle.cdi_ownership.proofs.Holdings.{AllHeld, EachHeld}
-use Rattle.cdi_worlds_fit.proofs.Contexts.{held_at}
-use Rattle.cdi_worlds_fit.proofs.Whole.{Serves, IsOlder, Refers, IsFor, AreFor, HeldBy, Good}
-use Rattle.cdi_worlds_fit.proofs.Remains.{Any, Each, After, after_self, after_trans, for_then}
-use Rattle.cdi_worlds_fit.proofs.Terms.{Told, Gets, Obtains, Post}
+use Rattle.cdi_whole.specs.Fits.{HasText, FitsKind, FitsManaged, FitsBean, Fits}
+use Rattle.cdi_ledger.proofs.Maps.{all_at}
+use Rattle.cdi_ledger.proofs.Holdings.{AllHeld, EachHeld}
+use Rattle.cdi_whole.proofs.Contexts.{held_at}
+use Rattle.cdi_whole.proofs.Whole.{Serves, IsOlder, Refers, IsFor, AreFor, HeldBy, Good}
+use Rattle.cdi_whole.proofs.Remains.{Any, Each, After, after_self, after_trans, for_then}
+use Rattle.cdi_whole.proofs.Terms.{Told, Gets, Obtains, Post}
 use Rattle.cdi_whole.proofs.Statements.{Goes, then, loosen, found, called, calling}
 
 -- a scope with a context is a normal one

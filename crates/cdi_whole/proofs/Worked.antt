@@ -11,8 +11,8 @@ use Rattle.cdi_bodies.specs.declared.view.View.{View}
 use Rattle.cdi_machine.specs.Words.{Name, Fields, Asked}
 use Rattle.cdi_machine.specs.Tables.{Method, One, Nothing}
 use Rattle.cdi_machine.specs.Runs.{Legal}
-use Rattle.cdi_ownership.specs.Whose.{IsIn}
-use Rattle.cdi_worlds_fit.specs.Fits.{Site, class_site, interceptor_site, HasMethod, LeadsTo, AnswersCalls, FitsAct, FitsBody, FitsRole, FitsChain, FitsLifecycle, FitsMember, FitsMethod, FitsClass, FitsManaged, FitsProduct, FitsBean, FitsObserver, Fits}
+use Rattle.cdi_ledger.specs.Whose.{IsIn}
+use Rattle.cdi_whole.specs.Fits.{Site, class_site, interceptor_site, HasMethod, LeadsTo, AnswersCalls, FitsAct, FitsBody, FitsRole, FitsChain, FitsLifecycle, FitsMember, FitsMethod, FitsClass, FitsManaged, FitsProduct, FitsBean, FitsObserver, Fits}
 use Rattle.cdi_whole.specs.Worked.{of_type, code, member, class, bean, product, field_product, interceptor, resolution, observer, tables, MethodMay, MemberMay, InterceptorMay, GiveOnly, ProceedToo, ReadToo, FireToo, legal_by, lookup_at, AcceptsRightBodies, RefusesWrongBodies, RefusesUnknownNames}
 
 abbrev right : Legal
@@ -191,10 +191,10 @@ callback last fits =
     let b = fits.resolved (of_type 1) 0 refl in
     by b.bean b.known b.kind
   where
-    by : (x : Rattle.cdi_machine.specs.Tables.Bean) → Some bean ≡ Some x → Rattle.cdi_worlds_fit.specs.Fits.FitsKind tables (legal_by last) x.kind → FitsBody tables (legal_by last) (class_site class [] 3)
+    by : (x : Rattle.cdi_machine.specs.Tables.Bean) → Some bean ≡ Some x → Rattle.cdi_whole.specs.Fits.FitsKind tables (legal_by last) x.kind → FitsBody tables (legal_by last) (class_site class [] 3)
     by x e k =
         let q : x ≡ bean = cc in
-        let c : FitsClass tables (legal_by last) class = subst (λ (y : Rattle.cdi_machine.specs.Tables.Bean). Rattle.cdi_worlds_fit.specs.Fits.FitsKind tables (legal_by last) y.kind) q k in
+        let c : FitsClass tables (legal_by last) class = subst (λ (y : Rattle.cdi_machine.specs.Tables.Bean). Rattle.cdi_whole.specs.Fits.FitsKind tables (legal_by last) y.kind) q k in
         c.pre_destroy.callbacks.0
 
 nothing_seen : View

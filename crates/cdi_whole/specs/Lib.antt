@@ -1,4 +1,8 @@
 pub mod Missing
 pub mod Thrown
 pub mod Worked
-pub use Rattle.cdi_worlds_fit.specs as of_worlds_fit
+pub mod Fits
+pub mod Replies
+pub mod Beginnings
+pub mod WorkedFarewells
+pub use Rattle.cdi_ledger.specs as of_ledger

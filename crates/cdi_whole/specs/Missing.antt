@@ -8,7 +8,7 @@ use Rattle.cdi_machine.specs.Programs.{Given, Prog}
 use Rattle.cdi_machine.specs.Commands.{Command, task}
 use Rattle.cdi_machine.specs.Container.{State, before_commands, refusal, Leads}
 use Rattle.cdi_machine.specs.Runs.{Legal, Outcome, Runs}
-use Rattle.cdi_worlds_fit.specs.Fits.{AnswersCalls, Fits}
+use Rattle.cdi_whole.specs.Fits.{AnswersCalls, Fits}
 
 -- no point of the run is one at which something is missing
 abbrev pub NothingMissing : {tables : Tables} {legal : Legal} {Starved : Type 0} {p : Prog Given}

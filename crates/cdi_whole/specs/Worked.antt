@@ -9,7 +9,7 @@ use Rattle.cdi_base.specs.declared.scope.Scope.TheVariants as scopes
 use Rattle.cdi_machine.specs.Words.{Name, Asked}
 use Rattle.cdi_machine.specs.Tables.{Tables, Code, Member, Lifecycle, Step, Managed, Source, Kind, Bean, Interceptor, Observer, Resolution, One, Nothing}
 use Rattle.cdi_machine.specs.Runs.{Legal}
-use Rattle.cdi_worlds_fit.specs.Fits.{Fits}
+use Rattle.cdi_whole.specs.Fits.{Fits}
 
 abbrev pub of_type : Name → Asked
 of_type type = record { type = type; qualifiers = [] }

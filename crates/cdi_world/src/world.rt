@@ -12,7 +12,7 @@ mod refusals;
 use crate::environment::Environment;
 use cdi_base::{Entry, Limits, Seq};
 use cdi_contexts::Contexts;
-use cdi_host::cdi_stacks::{Invocation, Stack};
+use cdi_host::{Invocation, Stack};
 use cdi_store::Store;
 use std::alloc::{AllocError, Global};
 use std::marker::Model;

@@ -12,8 +12,7 @@ ghost use Rattle.cdi_frames.specs.Acts.{reference_via, use_act};
 
 use super::bodies::{answer, missed, with_answer};
 use cdi_base::{Answer, Name, Seq, Use, Value, Via};
-use cdi_calls::cdi_host::{Contents, Tables};
-use cdi_calls::cdi_stacks::{Invocation, Running};
+use cdi_calls::cdi_host::{Contents, Invocation, Running, Tables};
 use cdi_steps::task::{Call, Event, Frame, Next, Purpose, ReferenceUse, Task};
 use cdi_store::Reference;
 use std::alloc::AllocError;

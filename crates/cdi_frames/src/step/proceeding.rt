@@ -9,8 +9,7 @@ ghost use Rattle.cdi_calls.specs.of_host.Asked.{top_of};
 
 use super::bodies::answer;
 use cdi_base::{BuiltIn, InterceptorMethod, Seq, Value};
-use cdi_calls::cdi_host::{Contents, Tables};
-use cdi_calls::cdi_stacks::{Chain, Running};
+use cdi_calls::cdi_host::{Chain, Contents, Running, Tables};
 use cdi_steps::task::{Call, Completion, Frame, Next, Task};
 use std::alloc::AllocError;
 

@@ -1,5 +1,5 @@
 use Rattle.std.proofs.Common.{refl, sym, arith}
-use Rattle.cdi_life.specs.Told.{member_told}
+use Rattle.cdi_machine.specs.Told.{member_told}
 use Rattle.cdi_calls.proofs.CallSteps.{has_next, supply_ends, supply_missing, supply_runs}
 use Rattle.cdi_steps.proofs.Changes.{provide_invoked}
 use Rattle.cdi_steps.proofs.Made.{ends}

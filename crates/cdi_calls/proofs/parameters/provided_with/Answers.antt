@@ -1,5 +1,5 @@
 use Rattle.std.proofs.Common.{arith}
-use Rattle.cdi_life.specs.Told.{step_told}
+use Rattle.cdi_machine.specs.Told.{step_told}
 use Rattle.cdi_steps.specs.Parameters.{constructs}
 use Rattle.cdi_steps.proofs.ParameterSteps.{provided_threw, after_step_invoked}
 use Rattle.cdi_calls.proofs.parameters.provided_with.Goals as goal

@@ -1,5 +1,5 @@
 use Rattle.std.proofs.Common.{refl, sym, arith, ◌-◌}
-use Rattle.cdi_life.specs.Told.{point_told, step_told}
+use Rattle.cdi_machine.specs.Told.{point_told, step_told}
 use Rattle.cdi_steps.specs.Parameters.{constructs}
 use Rattle.cdi_steps.proofs.Heads.{is_there}
 use Rattle.cdi_steps.proofs.Made.{leaves_alone}

@@ -1,5 +1,5 @@
 use Rattle.std.proofs.Common.{refl, arith, map}
-use Rattle.cdi_life.specs.Told.{lifecycle_told, point_told}
+use Rattle.cdi_machine.specs.Told.{lifecycle_told, point_told}
 use Rattle.cdi_steps.proofs.Changes.{provide_invoked}
 use Rattle.cdi_steps.proofs.ParameterSteps.{construct_taken, takes_initializer}
 use Rattle.cdi_steps.proofs.Results.{map_ok}

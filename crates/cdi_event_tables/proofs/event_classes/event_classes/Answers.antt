@@ -3,7 +3,7 @@ use Rattle.std.proofs.lemmas.List.{take_all}
 use Rattle.cdi_name_check.proofs.NameSteps.{one_taken, none_taken, and_all, and_none}
 use Rattle.cdi_event_tables.proofs.EventClasses.{all_named, is_named_among, takes}
 use Rattle.cdi_event_tables.specs.Events.{is_event_class}
-use Rattle.cdi_shape_check.specs.WrittenNames.{is_concrete}
+use Rattle.cdi_body_check.specs.WrittenNames.{is_concrete}
 use Rattle.cdi_types.specs.Line.{class_named}
 use Rattle.cdi_event_tables.proofs.event_classes.event_classes.Goals as goal
 use Rattle.cdi_event_tables.proofs.event_classes.event_classes.Goals.{then-is_concrete+in_ok-insert, else-is_concrete}

@@ -2,7 +2,7 @@ use Rattle.std.proofs.Common.{◌≡◌, ℕ, Some, nat_eq, drop, if◌then◌el
 use Rattle.std.specs.HashMap.{get}
 use Rattle.cdi_bodies.specs.Gives.{place_of}
 use Rattle.cdi_bodies.specs.Table.{entries_of}
-use Rattle.cdi_shape_check.specs.of_body_check.Sites.{shown}
+use Rattle.cdi_body_check.specs.Sites.{shown}
 use Rattle.cdi_event_tables.specs.Ids.{is_named, told_of}
 use Rattle.cdi_event_tables.proofs.ids.ids_of.Given as goal
 

@@ -1,7 +1,7 @@
 use Rattle.std.proofs.Common.{◌∙◌, Some, ap, cond, nat_eq, sym}
 use Rattle.std.specs.HashMap.{get}
 use Rattle.cdi_event_tables.specs.Ids.{id_in}
-use Rattle.cdi_life.specs.declared.member.Method.{Method}
+use Rattle.cdi_machine.specs.declared.member.Method.{Method}
 use Rattle.cdi_numbered_plans.specs.Methods.{method_by}
 use Rattle.cdi_numbered_plans.proofs.FirstMethods.{registered}
 use Rattle.cdi_numbered_plans.proofs.methods.add_method.Goals as goal

@@ -1,7 +1,7 @@
 use Rattle.std.proofs.Common.{◌∙◌, Option, [], ◌∷◌, ap, sym}
 use Rattle.std.specs.Option.{option_or}
 use Rattle.cdi_event_tables.specs.Ids.{id_in}
-use Rattle.cdi_life.specs.declared.member.Method.{Method}
+use Rattle.cdi_machine.specs.declared.member.Method.{Method}
 use Rattle.cdi_numbered_plans.specs.Methods.{method_by}
 use Rattle.cdi_numbered_plans.proofs.FirstMethods.{found_in, found_next}
 use Rattle.cdi_numbered_plans.proofs.methods.first_methods.Goals as goal

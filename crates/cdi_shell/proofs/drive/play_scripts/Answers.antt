@@ -8,7 +8,7 @@ use Rattle.cdi_script.proofs.Following.{nil_of}
 use Rattle.cdi_script.proofs.Within.{lies}
 use Rattle.cdi_report.specs.of_prepare.declared.scripts.NamedScript.{NamedScript}
 use Rattle.cdi_report.specs.of_prepare.Scripts.{added, place_under, registered}
-use Rattle.cdi_settings.specs.Chosen.{chosen}
+use Rattle.cdi_base.specs.Chosen.{chosen}
 use Rattle.cdi_shell.specs.Drive.{Streams}
 use Rattle.cdi_report.proofs.of_prepare.Holding.{holds_add, same_length, same_place, add_known, add_new, holds_all, not_full}
 use Rattle.cdi_shell.proofs.Picked.{picked}

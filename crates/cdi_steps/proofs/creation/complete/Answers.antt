@@ -1,5 +1,5 @@
 use Rattle.std.proofs.Common.{◌+◌, arith}
-use Rattle.cdi_life.specs.Told.{lifecycle_told}
+use Rattle.cdi_machine.specs.Told.{lifecycle_told}
 use Rattle.cdi_steps.proofs.Changes.{enter_invoked}
 use Rattle.cdi_steps.proofs.InjectionSteps.{complete_leads}
 use Rattle.cdi_steps.proofs.InvocationSteps.{callbacks_known}

@@ -1,5 +1,5 @@
 use Rattle.std.proofs.Common.{refl, arith}
-use Rattle.cdi_life.specs.Told.{lifecycle_told}
+use Rattle.cdi_machine.specs.Told.{lifecycle_told}
 use Rattle.cdi_steps.proofs.Changes.{called_invoked, leave_invocations}
 use Rattle.cdi_steps.proofs.DestructionSteps.{leave_missing, leave_free, leave_called, before_destroy_known}
 use Rattle.cdi_steps.proofs.DisposerSteps.{leave_disposes}

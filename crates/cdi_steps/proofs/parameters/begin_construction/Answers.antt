@@ -1,5 +1,5 @@
 use Rattle.std.proofs.Common.{arith, ap, map, ◌+◌}
-use Rattle.cdi_life.specs.Told.{lifecycle_told, point_told}
+use Rattle.cdi_machine.specs.Told.{lifecycle_told, point_told}
 use Rattle.cdi_host.specs.Asked.{top_of}
 use Rattle.cdi_steps.proofs.Changes.{enter_invoked}
 use Rattle.cdi_steps.proofs.InvocationSteps.{callbacks_known}

@@ -1,5 +1,5 @@
 use Rattle.std.proofs.Common.{refl, arith, ap, map, ◌+◌}
-use Rattle.cdi_life.specs.Told.{point_told}
+use Rattle.cdi_machine.specs.Told.{point_told}
 use Rattle.cdi_host.specs.Asked.{top_of}
 use Rattle.cdi_steps.proofs.Made.{leaves_alone}
 use Rattle.cdi_steps.proofs.ParameterSteps.{initializer_begins, initializer_parameters, told_start}

@@ -1,5 +1,5 @@
 use Rattle.std.proofs.Common.{refl, arith}
-use Rattle.cdi_life.specs.Told.{product_told}
+use Rattle.cdi_machine.specs.Told.{product_told}
 use Rattle.cdi_store.specs.declared.instance.Component.TheVariants.{Bean}
 use Rattle.cdi_steps.proofs.Changes.{make_invocations}
 use Rattle.cdi_steps.proofs.Heads.{is_there}

@@ -20,6 +20,6 @@ returns c =
     let initialized : List Point = flat_map initializer_points has in
     let first : c.add_injected.new.needs ≡ c.args.needs.now ++ filter_map f injected = rw (← c.in_ok-fields.ensures, ← c.as_slice.ensures) c.in_ok-add_injected.ensures in
     let among : c.add_initializers.new.needs ≡ c.add_injected.new.needs ++ filter_map f (flat_map initializer_points (of_kind kinds.Initializer has)) =
-        rw (← c.in_ok-initializers.ensures, ← c.as_slice-2.ensures) c.in_ok-add_initializers.ensures in
+    rw (← c.in_ok-initializers.ensures, ← c.as_slice-2.ensures) c.in_ok-add_initializers.ensures in
     let second : c.add_initializers.new.needs ≡ c.add_injected.new.needs ++ filter_map f initialized = among ∙ ap (λ points. c.add_injected.new.needs ++ filter_map f points) (points-of_initializers has) in
     joined f injected initialized c.args.needs.now c.add_injected.new.needs c.add_initializers.new.needs first second

@@ -1,5 +1,5 @@
 use Rattle.std.proofs.Common.{◌∙◌, ap, option_map}
-use Rattle.cdi_life.specs.Told.{method_told}
+use Rattle.cdi_machine.specs.Told.{method_told}
 use Rattle.cdi_run_tables.proofs.Telling.{lent, methods_told, no_methods}
 use Rattle.cdi_run_tables.proofs.tables.RunTables.business_method.Goals as goal
 

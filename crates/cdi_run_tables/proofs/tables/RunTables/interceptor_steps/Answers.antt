@@ -1,6 +1,6 @@
 use Rattle.std.proofs.Common.{◌∙◌, ◌<◌, ◌^◌, ap, length, sym, subst}
 use Rattle.std.proofs.lemmas.List.{length-map}
-use Rattle.cdi_life.specs.Told.{step_told}
+use Rattle.cdi_machine.specs.Told.{step_told}
 use Rattle.cdi_run_tables.proofs.Creating.{few_injections}
 use Rattle.cdi_run_tables.proofs.tables.RunTables.interceptor_steps.Goals as goal
 

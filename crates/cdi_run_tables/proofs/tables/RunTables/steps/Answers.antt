@@ -1,6 +1,6 @@
 use Rattle.std.proofs.Common.{◌∙◌, ◌<◌, ◌^◌, ap, length, sym, subst}
 use Rattle.std.proofs.lemmas.List.{length-map}
-use Rattle.cdi_life.specs.Told.{step_told}
+use Rattle.cdi_machine.specs.Told.{step_told}
 use Rattle.cdi_numbered_plans.specs.Plans.{steps_in}
 use Rattle.cdi_run_tables.specs.Numbered as spec
 use Rattle.cdi_run_tables.proofs.Telling.{few_steps, steps_told}

@@ -1,8 +1,8 @@
 use Rattle.std.proofs.Common.{◌≡◌, map, subst}
 use Rattle.std.specs.Prelude.{IfOk}
 use Rattle.std.specs.List.{All}
-use Rattle.cdi_life.specs.Resolved.{IsResolvedObserver}
-use Rattle.cdi_life.specs.Told.{observer_told}
+use Rattle.cdi_machine.specs.Resolved.{IsResolvedObserver}
+use Rattle.cdi_machine.specs.Told.{observer_told}
 use Rattle.cdi_run_tables.specs.Machine.{machine_tables}
 use Rattle.cdi_runtime.proofs.served_tables.ServedTablesTables.observers.Goals as goal
 

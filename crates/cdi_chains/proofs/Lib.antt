@@ -1,4 +1,0 @@
-pub mod Bound
-pub mod Places
-pub mod Some
-pub use Rattle.cdi_beans.proofs as of_beans

@@ -1,7 +1,0 @@
-use Rattle.std.proofs.Common.{◌∙◌, ap}
-use Rattle.cdi_chains.specs.Chains.{is_bound}
-use Rattle.cdi_chains.proofs.Bound.{all_of_class}
-use Rattle.cdi_chains.proofs.bean_bindings.is_bound_by_class.Goals as goal
-
-pub returns : goal.returns
-returns c = c.is_bound.ensures ∙ ap (λ had. is_bound c.args.method had c.args.interceptor.now) (all_of_class c.args.of_class.now)

@@ -1,6 +1,0 @@
-use Rattle.cdi_chains.specs.Chains.{is_bound}
-use Rattle.cdi_chains.proofs.Places.{rising}
-use Rattle.cdi_chains.proofs.laws.law_in_order.Goals as goal
-
-pub returns : goal.returns
-returns c = λ method had interceptors. rising (is_bound method had) 0 interceptors

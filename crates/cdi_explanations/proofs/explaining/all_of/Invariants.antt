@@ -1,7 +1,0 @@
-use Rattle.std.proofs.Common.{◌≡◌, string_bytes, take}
-use Rattle.cdi_explanations.specs.Explanation as spec
-use Rattle.cdi_explanations.proofs.explaining.all_of.Given as goal
-
-abbrev pub invariant-loop-explanation : goal.invariant-loop-explanation
-invariant-loop-explanation l =
-    string_bytes l.text ≡ spec.texts_of l.word (take l.explanation-index l.explanations)

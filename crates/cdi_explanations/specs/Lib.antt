@@ -1,2 +1,0 @@
-pub mod Explanation
-pub mod Words

@@ -1,7 +1,0 @@
-//! A law of the words that are explained, over the definitions alone.
-ghost use Rattle.cdi_explanations.specs.Words.{AreComplete};
-
-/// Each kind of problem, each refusal, each cause of a cut, and the first word of each reply and each entry is explained.
-pub fn law_complete()
-    ensures { AreComplete }
-{}

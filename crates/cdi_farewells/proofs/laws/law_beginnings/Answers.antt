@@ -1,9 +1,0 @@
--- The law is proved in Beginning.
-use Rattle.cdi_farewells.proofs.Beginning.{begins_at_mark, begins_if_short}
-use Rattle.cdi_farewells.proofs.laws.law_beginnings.Goals as goal
-
-pub returns-clause-with_memory : goal.returns-clause-with_memory
-returns-clause-with_memory g c = λ tables. begins_at_mark tables (g.D.Driver.legal c.args.driver.now)
-
-pub returns-clause-short_of_memory : goal.returns-clause-short_of_memory
-returns-clause-short_of_memory g c = λ tables. begins_if_short tables (g.D.Driver.legal c.args.driver.now)

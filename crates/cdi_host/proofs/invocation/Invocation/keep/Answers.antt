@@ -1,0 +1,36 @@
+use Rattle.std.proofs.Common.{◌∙◌, Result, Ok, Err, OnOk, is_some, ap}
+use Rattle.cdi_base.specs.Maps.{at}
+use Rattle.cdi_machine.specs.World.{Invocation}
+use Rattle.cdi_host.specs.Invocation.{with_data}
+use Rattle.cdi_host.proofs.Data.{put_is, has_is}
+use Rattle.cdi_host.proofs.invocation.Invocation.keep.Goals as goal
+
+-- what holds where it went well, from what does so
+on_ok : {A E P Q : Type 0} (r : Result A E) → (P → Q) → OnOk r P → OnOk r Q
+on_ok (Ok a) f h = f h
+on_ok (Err e) f h = tt
+
+pub returns-clause-ok : goal.returns-clause-ok
+returns-clause-ok c =
+    let old : Invocation = record {
+      target = c.self.inside.target;
+      role = c.self.inside.role;
+      members = c.self.inside.members;
+      parameters = c.self.inside.parameters;
+      references = c.self.inside.references;
+      data_of = c.self.inside.data_of;
+      completed = c.self.inside.completed;
+    } in
+    on_ok c.put.result
+    (λ e.
+    ap (λ d. let i : Invocation = record old { data_of = d } in i)
+    (e ∙ put_is c.self.inside.data_of c.args.key c.args.value)
+    ∙ ap (with_data c.args.key c.args.value) c.self.view_is)
+    c.put.ensures.ok
+
+pub returns-clause-there : goal.returns-clause-there
+returns-clause-there c =
+    λ there.
+    c.put.ensures.there
+    (has_is c.self.inside.data_of c.args.key
+    ∙ ap (λ (i : Invocation). is_some (at i.data_of c.args.key)) c.self.view_is ∙ there)

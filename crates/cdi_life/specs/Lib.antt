@@ -1,2 +1,0 @@
-pub mod Resolved
-pub mod Told

@@ -1,6 +1,0 @@
-//! Which known text was probably meant by one that isn't known.
-#![tactic(auto)]
-
-pub mod near;
-
-pub use near::nearest;

@@ -1,6 +1,0 @@
--- The law is proved in Facts.
-use Rattle.cdi_read_laws.proofs.Facts.{reads_facts}
-use Rattle.cdi_read_laws.proofs.laws.law_reads_facts.Goals as goal
-
-pub returns : goal.returns
-returns c = reads_facts

@@ -1,3 +1,0 @@
-pub mod OfProducts
-pub mod Replied
-pub mod Counts

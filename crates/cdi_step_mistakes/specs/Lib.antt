@@ -1,2 +1,0 @@
-pub mod Mistake
-pub mod Steps

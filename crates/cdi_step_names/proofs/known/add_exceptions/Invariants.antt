@@ -1,6 +1,0 @@
-use Rattle.std.proofs.Common.{◌≡◌, ◌++◌, map, take}
-use Rattle.cdi_step_names.proofs.known.add_exceptions.Given as goal
-
-abbrev pub invariant-loop-exception : goal.invariant-loop-exception
-invariant-loop-exception l =
-    l.names ≡ l.initial.names ++ map (λ x. x.name) (take l.exception-index l.exceptions)

@@ -1,7 +1,0 @@
-use Rattle.std.proofs.Common.{◌≡◌, ◌++◌, take}
-use Rattle.cdi_step_names.specs.Known as spec
-use Rattle.cdi_step_names.proofs.known.add_injected_fields.Given as goal
-
-abbrev pub invariant-loop-field : goal.invariant-loop-field
-invariant-loop-field l =
-    l.names ≡ l.initial.names ++ spec.injected_names (take l.field-index l.fields)

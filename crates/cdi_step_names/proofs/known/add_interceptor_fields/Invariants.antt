@@ -1,8 +1,0 @@
-use Rattle.std.proofs.Common.{◌≡◌, ◌++◌, take}
-use Rattle.std.specs.List.{flat_map}
-use Rattle.cdi_step_names.specs.Known as spec
-use Rattle.cdi_step_names.proofs.known.add_interceptor_fields.Given as goal
-
-abbrev pub invariant-loop-interceptor : goal.invariant-loop-interceptor
-invariant-loop-interceptor l =
-    l.names ≡ l.initial.names ++ flat_map (λ j. spec.field_names j.fields) (take l.interceptor-index l.interceptors)

@@ -1,8 +1,0 @@
-use Rattle.std.proofs.Common.{◌≡◌, ◌++◌, take}
-use Rattle.std.specs.List.{flat_map, enumerate_from}
-use Rattle.cdi_step_names.specs.StepNames as spec
-use Rattle.cdi_step_names.proofs.step_name.add_steps.Given as goal
-
-abbrev pub invariant-loop-index : goal.invariant-loop-index
-invariant-loop-index l =
-    l.used ≡ l.initial.used ++ flat_map spec.step_names (enumerate_from 0 (take l.index l.steps))

@@ -1,2 +1,0 @@
-pub mod Tabled
-pub mod Driven

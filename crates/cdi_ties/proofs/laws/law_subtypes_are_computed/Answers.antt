@@ -1,6 +1,0 @@
--- The law is proved in Subtypes.
-use Rattle.cdi_ties.proofs.Subtypes.{subtypes_are}
-use Rattle.cdi_ties.proofs.laws.law_subtypes_are_computed.Goals as goal
-
-pub returns : goal.returns
-returns c = subtypes_are

@@ -1,6 +1,0 @@
--- The law is proved in Written.
-use Rattle.cdi_ties.proofs.Written.{written_are}
-use Rattle.cdi_ties.proofs.laws.law_written_are_computed.Goals as goal
-
-pub returns : goal.returns
-returns c = written_are
