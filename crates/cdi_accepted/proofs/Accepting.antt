@@ -1,7 +1,7 @@
 -- The tables of an accepted deployment are faultless.
 use Rattle.std.proofs.Common.{List}
 use Rattle.cdi_bodies.specs.declared.entry.Entry.{Entry}
-use Rattle.cdi_accepted.specs.of_body_check.Shapes.{shape_of}
+use Rattle.cdi_body_check.specs.Shapes.{shape_of}
 use Rattle.cdi_accepted.proofs.Verdicts.{none_by_tables}
 use Rattle.cdi_accepted.specs.Accepted.{AcceptedIsFaultless}
 

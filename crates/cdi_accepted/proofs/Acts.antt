@@ -18,24 +18,24 @@ use Rattle.cdi_bodies.specs.declared.shape.MethodCall.{MethodCall}
 use Rattle.cdi_bodies.specs.declared.shape.OwnCall.{OwnCall}
 use Rattle.cdi_bodies.specs.declared.shape.Shape.{Shape}
 use Rattle.cdi_bodies.specs.declared.view.View.{View}
-use Rattle.cdi_accepted.specs.of_body_check.Shapes.{shape_of}
-use Rattle.cdi_accepted.specs.of_check.Accepted.{AreBodiesSound}
-use Rattle.cdi_accepted.specs.of_check.Tables.{setting_by}
+use Rattle.cdi_body_check.specs.Shapes.{shape_of}
+use Rattle.cdi_check.specs.Accepted.{AreBodiesSound}
+use Rattle.cdi_check.specs.Tables.{setting_by}
 use Rattle.cdi_deployment.specs.declared.deployment.InjectedField.{InjectedField}
 use Rattle.cdi_deployment.specs.declared.deployment.Point.{Point}
 use Rattle.cdi_machine.specs.Tables as machine
 use Rattle.cdi_machine.specs.Words.{Asked}
-use Rattle.cdi_accepted.specs.of_run_tables.Machine.{AreIdsOf, asked_by, asked_by_lookup, lookup_in, lookups_at, machine_tables}
-use Rattle.cdi_accepted.specs.of_run_tables.Planned.{IsTabled}
-use Rattle.cdi_accepted.specs.of_run_tables.Texts.{has_texts}
-use Rattle.cdi_accepted.specs.of_run_tables.declared.tables.RunTables.{RunTables}
+use Rattle.cdi_run_tables.specs.Machine.{AreIdsOf, asked_by, asked_by_lookup, lookup_in, lookups_at, machine_tables}
+use Rattle.cdi_run_tables.specs.Planned.{IsTabled}
+use Rattle.cdi_run_tables.specs.Texts.{has_texts}
+use Rattle.cdi_run_tables.specs.declared.tables.RunTables.{RunTables}
 use Rattle.cdi_name_check.specs.UnknownName.{is_event_qualifier_use}
-use Rattle.cdi_accepted.specs.of_check.Application.{Application}
-use Rattle.cdi_accepted.specs.of_check.BodyOutsideShape.{lacks_call, lacks_cell, lacks_field, lacks_local, lacks_method, names_missing, names_unknown}
-use Rattle.cdi_accepted.specs.of_check.OwnParts.{OwnParts}
-use Rattle.cdi_accepted.specs.of_check.References.{bean_at, is_call_missing, is_cell_missing, point_at, refuses_call}
-use Rattle.cdi_accepted.specs.of_body_check.WrittenPoints.{point_of_field, point_of_lookup}
-use Rattle.cdi_accepted.specs.of_body_check.WrittenNames.{is_concrete, is_event, is_exception, is_lookup}
+use Rattle.cdi_check.specs.Application.{Application}
+use Rattle.cdi_check.specs.BodyOutsideShape.{lacks_call, lacks_cell, lacks_field, lacks_local, lacks_method, names_missing, names_unknown}
+use Rattle.cdi_check.specs.OwnParts.{OwnParts}
+use Rattle.cdi_check.specs.References.{bean_at, is_call_missing, is_cell_missing, point_at, refuses_call}
+use Rattle.cdi_body_check.specs.WrittenPoints.{point_of_field, point_of_lookup}
+use Rattle.cdi_body_check.specs.WrittenNames.{is_concrete, is_event, is_exception, is_lookup}
 use Rattle.cdi_types.specs.Line.{class_named}
 use Rattle.cdi_ledger.specs.Whose.{IsIn}
 use Rattle.cdi_whole.specs.Fits.{AnswersCalls, FitsAct, HasMethod, IsThere, LeadsTo, Site}

@@ -10,21 +10,21 @@ use Rattle.cdi_deployment.specs.declared.deployment.Disposer.{Disposer}
 use Rattle.cdi_deployment.specs.declared.deployment.Observer.{Observer}
 use Rattle.cdi_deployment.specs.Member.{member_name}
 use Rattle.cdi_quals.specs.declared.types.QualifierType.{QualifierType}
-use Rattle.cdi_run_tables.specs.of_bean_check.ManagedBeans.{is_bean}
-use Rattle.cdi_run_tables.proofs.of_beans.Sorted.{priorities_total}
-use Rattle.cdi_run_tables.specs.of_beans.BeanLists.{IsBeanListOf}
-use Rattle.cdi_run_tables.specs.of_beans.Beans.{IsBeanOf, sources_in}
-use Rattle.cdi_run_tables.specs.of_beans.DisposerMethods.{IsDisposerOf, disposers_in}
-use Rattle.cdi_run_tables.specs.of_beans.Interceptors.{Indexed, AreEnabled, AreInterceptorsOf, IsEnabledInterceptor, compare_priorities, has_priority, listed}
-use Rattle.cdi_run_tables.specs.of_beans.ObserverMethods.{AreObserversOf, IsObserverOf, observer}
-use Rattle.cdi_run_tables.specs.of_beans.Problems.{IsMadeOf}
-use Rattle.cdi_run_tables.specs.of_beans.declared.bean.BeanList.{BeanList}
-use Rattle.cdi_run_tables.specs.of_beans.declared.bean.DisposerMethod.{DisposerMethod}
-use Rattle.cdi_run_tables.specs.of_beans.declared.bean.EnabledInterceptor.{EnabledInterceptor}
-use Rattle.cdi_run_tables.specs.of_beans.declared.bean.ObserverMethod.{ObserverMethod}
+use Rattle.cdi_bean_check.specs.ManagedBeans.{is_bean}
+use Rattle.cdi_beans.proofs.Sorted.{priorities_total}
+use Rattle.cdi_beans.specs.BeanLists.{IsBeanListOf}
+use Rattle.cdi_beans.specs.Beans.{IsBeanOf, sources_in}
+use Rattle.cdi_beans.specs.DisposerMethods.{IsDisposerOf, disposers_in}
+use Rattle.cdi_beans.specs.Interceptors.{Indexed, AreEnabled, AreInterceptorsOf, IsEnabledInterceptor, compare_priorities, has_priority, listed}
+use Rattle.cdi_beans.specs.ObserverMethods.{AreObserversOf, IsObserverOf, observer}
+use Rattle.cdi_beans.specs.Problems.{IsMadeOf}
+use Rattle.cdi_beans.specs.declared.bean.BeanList.{BeanList}
+use Rattle.cdi_beans.specs.declared.bean.DisposerMethod.{DisposerMethod}
+use Rattle.cdi_beans.specs.declared.bean.EnabledInterceptor.{EnabledInterceptor}
+use Rattle.cdi_beans.specs.declared.bean.ObserverMethod.{ObserverMethod}
 use Rattle.cdi_accepted.proofs.OneBean.{one_bean}
 use Rattle.cdi_accepted.proofs.OneLine.{one_membership}
-use Rattle.cdi_run_tables.proofs.of_event_tables.OneSet.{one_set_of}
+use Rattle.cdi_event_tables.proofs.OneSet.{one_set_of}
 use Rattle.cdi_accepted.proofs.DeterminedLists.{kept_in, one_at, one_listed, one_zipped}
 use Rattle.cdi_accepted.proofs.Types.{one_qualifier_list, one_qualifier_set, one_type_list}
 

@@ -4,15 +4,15 @@ use Rattle.std.proofs.lemmas.Bool.{eq-eqb, eqb-true, true≢false}
 use Rattle.std.proofs.lemmas.Option.{same_Some}
 use Rattle.std.specs.List.{AllZip, enumerate_from, slice_get}
 use Rattle.cdi_base.specs.Maps.{at}
-use Rattle.cdi_run_tables.specs.of_bean_check.Qualifiers.{full_uses}
-use Rattle.cdi_run_tables.specs.of_beans.declared.bean.Bean.{Bean}
+use Rattle.cdi_bean_check.specs.Qualifiers.{full_uses}
+use Rattle.cdi_beans.specs.declared.bean.Bean.{Bean}
 use Rattle.cdi_machine.specs.Tables as machine
 use Rattle.cdi_machine.specs.Words.{Asked}
-use Rattle.cdi_run_tables.proofs.of_resolve.Eligible.{one_is_eligible}
-use Rattle.cdi_run_tables.specs.of_resolve.Filters.{enabled_of, is_enabled}
-use Rattle.cdi_run_tables.specs.of_resolve.Resolution.{resolution}
-use Rattle.cdi_run_tables.specs.of_resolve.declared.resolution.Resolution.{Resolution}
-use Rattle.cdi_run_tables.specs.of_resolve.declared.resolution.Resolution.TheVariants as resolutions
+use Rattle.cdi_resolve.proofs.Eligible.{one_is_eligible}
+use Rattle.cdi_resolve.specs.Filters.{enabled_of, is_enabled}
+use Rattle.cdi_resolve.specs.Resolution.{resolution}
+use Rattle.cdi_resolve.specs.declared.resolution.Resolution.{Resolution}
+use Rattle.cdi_resolve.specs.declared.resolution.Resolution.TheVariants as resolutions
 use Rattle.cdi_run_tables.specs.Machine.{machine_resolution, machine_tables, resolution_of}
 use Rattle.cdi_run_tables.specs.declared.tables.RunTables.{RunTables}
 use Rattle.cdi_accepted.proofs.Lists.{Among, contains_among, of_filter}

@@ -9,19 +9,19 @@ use Rattle.cdi_bodies.specs.Shape.{in_shape}
 use Rattle.cdi_bodies.specs.declared.entry.Entry.{Entry}
 use Rattle.cdi_bodies.specs.declared.shape.Shape.{Shape}
 use Rattle.cdi_bodies.specs.declared.view.View.{View}
-use Rattle.cdi_accepted.specs.of_body_check.ProceedNotAllowed.{HasProceedNotAllowed, may_proceed}
-use Rattle.cdi_accepted.specs.of_body_check.Shapes.{shape_of}
-use Rattle.cdi_accepted.specs.of_body_check.Sites.{Site, body_of, is_interceptor_method, is_live, params_of, sites_of}
-use Rattle.cdi_accepted.specs.of_check.Accepted.{AreBodiesSound, IsRegistered}
-use Rattle.cdi_accepted.specs.of_check.Tables.{setting_by}
+use Rattle.cdi_body_check.specs.ProceedNotAllowed.{HasProceedNotAllowed, may_proceed}
+use Rattle.cdi_body_check.specs.Shapes.{shape_of}
+use Rattle.cdi_body_check.specs.Sites.{Site, body_of, is_interceptor_method, is_live, params_of, sites_of}
+use Rattle.cdi_check.specs.Accepted.{AreBodiesSound, IsRegistered}
+use Rattle.cdi_check.specs.Tables.{setting_by}
 use Rattle.cdi_deployment.specs.declared.deployment.Deployment.{Deployment}
 use Rattle.cdi_machine.specs.Words.{Fields}
-use Rattle.cdi_accepted.proofs.of_plans.Fronts.{same}
-use Rattle.cdi_accepted.specs.of_event_tables.Ids.{is_named}
-use Rattle.cdi_accepted.specs.of_run_tables.Machine.{AreIdsOf, body_number, id_of}
-use Rattle.cdi_accepted.specs.of_run_tables.declared.tables.RunTables.{RunTables}
-use Rattle.cdi_accepted.specs.of_check.BodyOutsideShape.{HasBodyOutsideShape, is_outside, names_missing}
-use Rattle.cdi_accepted.specs.of_check.OwnParts.{ArePartsOf, OwnParts}
+use Rattle.cdi_plans.proofs.Fronts.{same}
+use Rattle.cdi_event_tables.specs.Ids.{is_named}
+use Rattle.cdi_run_tables.specs.Machine.{AreIdsOf, body_number, id_of}
+use Rattle.cdi_run_tables.specs.declared.tables.RunTables.{RunTables}
+use Rattle.cdi_check.specs.BodyOutsideShape.{HasBodyOutsideShape, is_outside, names_missing}
+use Rattle.cdi_check.specs.OwnParts.{ArePartsOf, OwnParts}
 use Rattle.cdi_accepted.proofs.Lists.{Among, any_passes, holds_among}
 use Rattle.cdi_accepted.proofs.Registered.{HasBody, app_of, has_shape}
 

@@ -2,27 +2,27 @@
 use Rattle.std.proofs.Common.{ℕ, ◌≡◌, ◌∙◌, true, false, nat_eq, List, Some, refl, sym, ap, subst}
 use Rattle.std.proofs.lemmas.Bool.{and_parts, not-false}
 use Rattle.std.specs.List.{list_any}
-use Rattle.cdi_accepted.specs.of_beans.Beans.{bean_member}
-use Rattle.cdi_accepted.specs.of_beans.declared.bean.Bean.{Bean}
-use Rattle.cdi_accepted.specs.of_beans.declared.bean.BeanMember.{BeanMember}
+use Rattle.cdi_beans.specs.Beans.{bean_member}
+use Rattle.cdi_beans.specs.declared.bean.Bean.{Bean}
+use Rattle.cdi_beans.specs.declared.bean.BeanMember.{BeanMember}
 use Rattle.cdi_bodies.specs.declared.entry.Entry.{Entry}
 use Rattle.cdi_bodies.specs.declared.shape.MethodCall.{MethodCall}
-use Rattle.cdi_accepted.specs.of_body_check.Shapes.{shape_of}
-use Rattle.cdi_accepted.specs.of_check.Accepted.{AreBodiesSound}
-use Rattle.cdi_accepted.specs.of_check.Tables.{setting_by}
+use Rattle.cdi_body_check.specs.Shapes.{shape_of}
+use Rattle.cdi_check.specs.Accepted.{AreBodiesSound}
+use Rattle.cdi_check.specs.Tables.{setting_by}
 use Rattle.cdi_deployment.specs.declared.deployment.Class.{Class}
 use Rattle.cdi_deployment.specs.declared.deployment.Deployment.{Deployment}
 use Rattle.cdi_deployment.specs.declared.deployment.Point.{Point}
-use Rattle.cdi_accepted.specs.of_beans.Kinds.{is_managed}
+use Rattle.cdi_beans.specs.Kinds.{is_managed}
 use Rattle.cdi_machine.specs.Tables as machine
 use Rattle.cdi_types.specs.Line.{class_named}
 use Rattle.cdi_types.specs.Members.{members_of}
-use Rattle.cdi_accepted.specs.of_resolve.Filters.{enabled_of}
-use Rattle.cdi_accepted.specs.of_run_tables.Machine.{AreIdsOf, asked_by, bean_with, machine_tables}
-use Rattle.cdi_accepted.specs.of_run_tables.Planned.{IsTabled}
-use Rattle.cdi_accepted.specs.of_run_tables.declared.tables.RunTables.{RunTables}
-use Rattle.cdi_accepted.specs.of_check.OwnParts.{declares_method}
-use Rattle.cdi_accepted.specs.of_check.References.{answers_call, bean_at, bean_told, declares_called, is_called, refuses_call}
+use Rattle.cdi_resolve.specs.Filters.{enabled_of}
+use Rattle.cdi_run_tables.specs.Machine.{AreIdsOf, asked_by, bean_with, machine_tables}
+use Rattle.cdi_run_tables.specs.Planned.{IsTabled}
+use Rattle.cdi_run_tables.specs.declared.tables.RunTables.{RunTables}
+use Rattle.cdi_check.specs.OwnParts.{declares_method}
+use Rattle.cdi_check.specs.References.{answers_call, bean_at, bean_told, declares_called, is_called, refuses_call}
 use Rattle.cdi_whole.specs.Fits.{AnswersCalls, HasMethod}
 use Rattle.cdi_accepted.proofs.Beans.{stands_listed, target}
 use Rattle.cdi_accepted.proofs.Lists.{Among, any_passes, mapped, passing}

@@ -1,7 +1,7 @@
 -- Lists that another list determines: by a sentence on its items, or item by item.
 use Rattle.std.proofs.Common.{◌≡◌, ◌∙◌, ◌≤◌, ◌+◌, ◌⊎◌, inl, inr, ℕ, zero, Bool, true, false, cond, List, [], ◌∷◌, filter, refl, sym, ap, arith}
 use Rattle.std.specs.List.{AllZip, Contains, enumerate_from}
-use Rattle.cdi_run_tables.proofs.of_event_tables.OneSet.{behind, in_front}
+use Rattle.cdi_event_tables.proofs.OneSet.{behind, in_front}
 use Rattle.cdi_types.specs.ListsThose.{ListsThose}
 
 -- ---- by a sentence

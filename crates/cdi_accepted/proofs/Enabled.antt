@@ -4,14 +4,14 @@ use Rattle.std.specs.Prelude.{option_and_then, option_map, slice_get, ifâ—Œthenâ
 use Rattle.std.proofs.lemmas.Bool.{and_parts, eqb-true}
 use Rattle.std.proofs.lemmas.Option.{same_Some}
 use Rattle.std.specs.List.{enumerate_from}
-use Rattle.cdi_accepted.specs.of_beans.Kinds.{is_managed}
-use Rattle.cdi_accepted.specs.of_beans.declared.bean.Bean.{Bean}
-use Rattle.cdi_accepted.specs.of_event_tables.Observers.{managed_bean}
-use Rattle.cdi_accepted.specs.of_resolve.Filters.{enabled_of, is_enabled}
-use Rattle.cdi_accepted.specs.of_run_tables.Machine.{bean_at, bean_with, id_of, machine_bean, machine_kind, planned_at}
-use Rattle.cdi_accepted.specs.of_run_tables.Planned.{IsTabled}
-use Rattle.cdi_accepted.specs.of_run_tables.declared.planned.PlannedBean.{PlannedBean}
-use Rattle.cdi_accepted.specs.of_run_tables.declared.tables.RunTables.{RunTables}
+use Rattle.cdi_beans.specs.Kinds.{is_managed}
+use Rattle.cdi_beans.specs.declared.bean.Bean.{Bean}
+use Rattle.cdi_event_tables.specs.Observers.{managed_bean}
+use Rattle.cdi_resolve.specs.Filters.{enabled_of, is_enabled}
+use Rattle.cdi_run_tables.specs.Machine.{bean_at, bean_with, id_of, machine_bean, machine_kind, planned_at}
+use Rattle.cdi_run_tables.specs.Planned.{IsTabled}
+use Rattle.cdi_run_tables.specs.declared.planned.PlannedBean.{PlannedBean}
+use Rattle.cdi_run_tables.specs.declared.tables.RunTables.{RunTables}
 use Rattle.cdi_accepted.proofs.Lists.{Among, among_filter, of_filter}
 use Rattle.cdi_accepted.proofs.Positions.{found_at, numbered_at}
 use Rattle.cdi_accepted.proofs.FitPlans.{HasPlan, has_plan, kind_of}

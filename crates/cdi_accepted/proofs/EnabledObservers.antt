@@ -4,27 +4,27 @@ use Rattle.std.specs.Prelude.{option_and_then, option_map, slice_get, if◌then�
 use Rattle.std.proofs.lemmas.Bool.{and_from, and_parts, eq-eqb, eqb-true, true≢false}
 use Rattle.std.proofs.lemmas.Option.{slice_get-map}
 use Rattle.std.specs.List.{filter_map, find, position_or_len}
-use Rattle.cdi_accepted.specs.of_bean_check.ManagedBeans.{is_bean}
-use Rattle.cdi_accepted.specs.of_beans.Kinds.{is_managed}
-use Rattle.cdi_accepted.specs.of_beans.ObserverMethods.{observer}
-use Rattle.cdi_accepted.specs.of_beans.declared.bean.Bean.{Bean}
-use Rattle.cdi_accepted.specs.of_beans.declared.bean.ObserverMethod.{ObserverMethod}
+use Rattle.cdi_bean_check.specs.ManagedBeans.{is_bean}
+use Rattle.cdi_beans.specs.Kinds.{is_managed}
+use Rattle.cdi_beans.specs.ObserverMethods.{observer}
+use Rattle.cdi_beans.specs.declared.bean.Bean.{Bean}
+use Rattle.cdi_beans.specs.declared.bean.ObserverMethod.{ObserverMethod}
 use Rattle.cdi_deployment.specs.declared.deployment.Class.{Class}
 use Rattle.cdi_deployment.specs.declared.deployment.Deployment.{Deployment}
 use Rattle.cdi_deployment.specs.declared.deployment.Member.{Member}
 use Rattle.cdi_deployment.specs.declared.deployment.Member.TheVariants as members
 use Rattle.cdi_deployment.specs.declared.deployment.Observer.{Observer}
-use Rattle.cdi_accepted.specs.of_enable.Enablement.{IsEnabledBean, IsEnabledClass, enablement_of, listed_bean}
-use Rattle.cdi_accepted.specs.of_enable.declared.listed_bean.ListedBean.{ListedBean}
+use Rattle.cdi_enable.specs.Enablement.{IsEnabledBean, IsEnabledClass, enablement_of, listed_bean}
+use Rattle.cdi_enable.specs.declared.listed_bean.ListedBean.{ListedBean}
 use Rattle.cdi_machine.specs.Tables as machine
 use Rattle.cdi_observers.proofs.Retained.{not_enabled}
-use Rattle.cdi_accepted.specs.of_plans.Observers.{as_observer, observer_in, observer_of}
-use Rattle.cdi_accepted.specs.of_resolve.Filters.{is_enabled}
-use Rattle.cdi_accepted.specs.of_resolve.declared.bean_tables.BeanTables.{BeanTables}
-use Rattle.cdi_accepted.specs.of_event_tables.Observers.{managed_bean}
-use Rattle.cdi_accepted.specs.of_run_tables.Machine.{machine_observer, observer_of_bean, observer_with}
-use Rattle.cdi_accepted.specs.of_run_tables.Planned.{IsTabled}
-use Rattle.cdi_accepted.specs.of_run_tables.declared.tables.RunTables.{RunTables}
+use Rattle.cdi_plans.specs.Observers.{as_observer, observer_in, observer_of}
+use Rattle.cdi_resolve.specs.Filters.{is_enabled}
+use Rattle.cdi_resolve.specs.declared.bean_tables.BeanTables.{BeanTables}
+use Rattle.cdi_event_tables.specs.Observers.{managed_bean}
+use Rattle.cdi_run_tables.specs.Machine.{machine_observer, observer_of_bean, observer_with}
+use Rattle.cdi_run_tables.specs.Planned.{IsTabled}
+use Rattle.cdi_run_tables.specs.declared.tables.RunTables.{RunTables}
 use Rattle.cdi_types.specs.Line.{class_named}
 use Rattle.cdi_types.specs.Members.{members_of}
 use Rattle.cdi_accepted.proofs.Lines.{front_of}

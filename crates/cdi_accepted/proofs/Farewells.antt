@@ -7,18 +7,18 @@ use Rattle.cdi_base.specs.declared.place.InterceptorMethod.{InterceptorMethod}
 use Rattle.cdi_base.specs.declared.place.InterceptorMethod.TheVariants as roles
 use Rattle.cdi_bodies.specs.Gives.{LieInShape}
 use Rattle.cdi_bodies.specs.declared.entry.Entry.{Entry}
-use Rattle.cdi_accepted.specs.of_plans.Chains.{class_level, is_bound, life_chain}
+use Rattle.cdi_plans.specs.Chains.{class_level, is_bound, life_chain}
 use Rattle.cdi_machine.specs.Registered.{legal_of}
 use Rattle.cdi_machine.specs.Tables as machine
-use Rattle.cdi_accepted.specs.of_plans.Codes.{pre_destroy}
-use Rattle.cdi_accepted.specs.of_plans.declared.plan.ManagedPlan.{ManagedPlan}
-use Rattle.cdi_accepted.specs.of_run_tables.Machine.{has_none, hearers, id_of, machine_code, machine_observer, machine_tables}
-use Rattle.cdi_accepted.specs.of_run_tables.Planned.{IsTabled}
+use Rattle.cdi_plans.specs.Codes.{pre_destroy}
+use Rattle.cdi_plans.specs.declared.plan.ManagedPlan.{ManagedPlan}
+use Rattle.cdi_run_tables.specs.Machine.{has_none, hearers, id_of, machine_code, machine_observer, machine_tables}
+use Rattle.cdi_run_tables.specs.Planned.{IsTabled}
 use Rattle.cdi_types.specs.Members.{members_of}
 use Rattle.cdi_ledger.specs.Whose.{IsIn}
-use Rattle.cdi_whole.specs.of_ledger.Callbacks.{FirstsStandOnce, IsOrdinary, PlacesOfBodiesAreApart}
-use Rattle.cdi_accepted.specs.of_event_tables.Events.{Group, groups_of}
-use Rattle.cdi_accepted.specs.of_run_tables.declared.tables.RunTables.{RunTables}
+use Rattle.cdi_ledger.specs.Callbacks.{FirstsStandOnce, IsOrdinary, PlacesOfBodiesAreApart}
+use Rattle.cdi_event_tables.specs.Events.{Group, groups_of}
+use Rattle.cdi_run_tables.specs.declared.tables.RunTables.{RunTables}
 use Rattle.cdi_accepted.proofs.Lists.{Among, given, mapped, of_filter, of_is_in}
 use Rattle.cdi_whole.proofs.Beginning.{begin_once, begin_once_if_short}
 use Rattle.cdi_accepted.specs.Accepted.{FarewellsApart, FarewellsBeginOnce, FarewellsBeginOnceIfShort}

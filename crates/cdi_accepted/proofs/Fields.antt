@@ -4,9 +4,9 @@ use Rattle.std.proofs.lemmas.Bool.{eqb-true, true≢false}
 use Rattle.std.specs.List.{filter_map, list_any}
 use Rattle.cdi_base.specs.Fields.{has, put}
 use Rattle.cdi_base.specs.declared.value.Value.{Value}
-use Rattle.cdi_run_tables.specs.of_bean_check.Repeated.{has_field as has_field_of}
-use Rattle.cdi_run_tables.specs.of_beans.declared.bean.Bean.{Bean}
-use Rattle.cdi_run_tables.specs.of_plans.Chains.{ChainTables, interceptors_of}
+use Rattle.cdi_bean_check.specs.Repeated.{has_field as has_field_of}
+use Rattle.cdi_beans.specs.declared.bean.Bean.{Bean}
+use Rattle.cdi_plans.specs.Chains.{ChainTables, interceptors_of}
 use Rattle.cdi_deployment.specs.declared.deployment.Class.{Class}
 use Rattle.cdi_deployment.specs.declared.deployment.Constructor.{Constructor}
 use Rattle.cdi_deployment.specs.declared.deployment.Field.{Field}
@@ -17,15 +17,15 @@ use Rattle.cdi_deployment.specs.declared.deployment.Point.{Point}
 use Rattle.cdi_machine.specs.Words.{Asked, Fields}
 use Rattle.cdi_machine.specs.Tables as machine
 use Rattle.cdi_types.specs.Members.{comes_down, fields_of, members_of, parts_of}
-use Rattle.cdi_run_tables.proofs.of_plans.Fronts.{same}
-use Rattle.cdi_run_tables.specs.of_plans.Codes.{completion}
-use Rattle.cdi_run_tables.specs.of_plans.Plans.{initial_fields}
-use Rattle.cdi_run_tables.specs.of_plans.Steps.{class_steps, construction, initialization, injection, injections, steps_of}
-use Rattle.cdi_run_tables.specs.of_plans.declared.plan.Step.{Step}
-use Rattle.cdi_run_tables.specs.of_plans.declared.plan.Step.TheVariants as steps
+use Rattle.cdi_plans.proofs.Fronts.{same}
+use Rattle.cdi_plans.specs.Codes.{completion}
+use Rattle.cdi_plans.specs.Plans.{initial_fields}
+use Rattle.cdi_plans.specs.Steps.{class_steps, construction, initialization, injection, injections, steps_of}
+use Rattle.cdi_plans.specs.declared.plan.Step.{Step}
+use Rattle.cdi_plans.specs.declared.plan.Step.TheVariants as steps
 use Rattle.cdi_run_tables.specs.Machine.{asked_by, does_something, first_values, machine_step, machine_steps}
 use Rattle.cdi_check.specs.OwnParts.{has_field}
-use Rattle.cdi_accepted.specs.of_body_check.WrittenPoints.{point_of_field}
+use Rattle.cdi_body_check.specs.WrittenPoints.{point_of_field}
 use Rattle.cdi_accepted.proofs.Duplicates.{IsNamedApart}
 use Rattle.cdi_accepted.proofs.Lines.{ArePairs}
 use Rattle.cdi_accepted.proofs.Lists.{Among, among_flat_map, among_map, among_parts, any_passes, given, mapped, of_filter, passing}

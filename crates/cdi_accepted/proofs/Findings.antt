@@ -1,9 +1,9 @@
 -- Where problems hold, and the early problems of a deployment, are one.
 use Rattle.std.proofs.Common.{◌≡◌, ◌∙◌, List, [], ◌++◌, map, refl, sym, ap, subst}
 use Rattle.cdi_base.specs.declared.place.Place.{Place}
-use Rattle.cdi_run_tables.specs.of_bean_rules.Tiers.{AreBeanProblems, AreTooMany}
-use Rattle.cdi_run_tables.specs.of_beans.Problems.{AreAllProblemsOf, AreEarlyProblemsOf, IsMadeOf}
-use Rattle.cdi_run_tables.specs.of_beans.declared.bean.BeanList.{BeanList}
+use Rattle.cdi_bean_rules.specs.Tiers.{AreBeanProblems, AreTooMany}
+use Rattle.cdi_beans.specs.Problems.{AreAllProblemsOf, AreEarlyProblemsOf, IsMadeOf}
+use Rattle.cdi_beans.specs.declared.bean.BeanList.{BeanList}
 use Rattle.cdi_deployment.specs.declared.deployment.Deployment.{Deployment}
 use Rattle.cdi_name_check.specs.NameProblems.{AreNameProblems}
 use Rattle.cdi_problems.specs.Findings.{ArePlacesWhere}

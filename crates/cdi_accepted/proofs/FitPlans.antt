@@ -2,29 +2,29 @@
 use Rattle.std.proofs.Common.{ℕ, ◌≡◌, ◌∙◌, true, List, [], ◌∷◌, map, Option, Some, None, refl, sym, ap, subst}
 use Rattle.std.specs.Prelude.{option_map, option_and_then}
 use Rattle.std.specs.List.{find, flat_map, slice_get}
-use Rattle.cdi_accepted.specs.of_beans.Beans.{IsBeanOf, Source, bean_member, sources_in}
-use Rattle.cdi_accepted.specs.of_beans.declared.bean.Bean.{Bean}
-use Rattle.cdi_accepted.specs.of_beans.declared.bean.BeanKind.{BeanKind}
-use Rattle.cdi_accepted.specs.of_beans.declared.bean.BeanKind.TheVariants as kinds
+use Rattle.cdi_beans.specs.Beans.{IsBeanOf, Source, bean_member, sources_in}
+use Rattle.cdi_beans.specs.declared.bean.Bean.{Bean}
+use Rattle.cdi_beans.specs.declared.bean.BeanKind.{BeanKind}
+use Rattle.cdi_beans.specs.declared.bean.BeanKind.TheVariants as kinds
 use Rattle.cdi_deployment.specs.declared.deployment.Class.{Class}
 use Rattle.cdi_deployment.specs.declared.deployment.Constructor.{Constructor}
 use Rattle.cdi_deployment.specs.declared.deployment.Deployment.{Deployment}
 use Rattle.cdi_deployment.specs.declared.deployment.Member.{Member}
-use Rattle.cdi_accepted.specs.of_beans.Kinds.{is_managed}
+use Rattle.cdi_beans.specs.Kinds.{is_managed}
 use Rattle.cdi_types.proofs.Lines.{one_line}
 use Rattle.cdi_types.specs.Line.{IsLineOf, class_named}
 use Rattle.cdi_types.specs.Members.{members_of}
-use Rattle.cdi_accepted.specs.of_plans.Plans.{IsManagedPlan, IsPlanOf, constructor_of, managed_plan}
-use Rattle.cdi_accepted.specs.of_plans.Products.{is_producer_of, producer_in, producer_of}
-use Rattle.cdi_accepted.specs.of_plans.Tables.{PlanTables}
-use Rattle.cdi_accepted.specs.of_plans.declared.plan.ManagedPlan.{ManagedPlan}
-use Rattle.cdi_accepted.specs.of_plans.declared.plan.Plan.{Plan}
-use Rattle.cdi_accepted.specs.of_plans.declared.plan.Plan.TheVariants as plans
+use Rattle.cdi_plans.specs.Plans.{IsManagedPlan, IsPlanOf, constructor_of, managed_plan}
+use Rattle.cdi_plans.specs.Products.{is_producer_of, producer_in, producer_of}
+use Rattle.cdi_plans.specs.Tables.{PlanTables}
+use Rattle.cdi_plans.specs.declared.plan.ManagedPlan.{ManagedPlan}
+use Rattle.cdi_plans.specs.declared.plan.Plan.{Plan}
+use Rattle.cdi_plans.specs.declared.plan.Plan.TheVariants as plans
 use Rattle.cdi_quals.specs.declared.types.QualifierType.{QualifierType}
-use Rattle.cdi_accepted.specs.of_run_tables.Planned.{IsPlanned, IsTabled, plan_tables}
-use Rattle.cdi_accepted.specs.of_run_tables.declared.planned.PlannedBean.{PlannedBean}
-use Rattle.cdi_accepted.specs.of_run_tables.declared.tables.RunTables.{RunTables}
-use Rattle.cdi_accepted.specs.of_resolve.declared.bean_tables.BeanTables.{BeanTables}
+use Rattle.cdi_run_tables.specs.Planned.{IsPlanned, IsTabled, plan_tables}
+use Rattle.cdi_run_tables.specs.declared.planned.PlannedBean.{PlannedBean}
+use Rattle.cdi_run_tables.specs.declared.tables.RunTables.{RunTables}
+use Rattle.cdi_resolve.specs.declared.bean_tables.BeanTables.{BeanTables}
 use Rattle.cdi_types.specs.Declarations.{declarations_of}
 use Rattle.cdi_types.specs.declared.declaration.TypeDeclaration.{TypeDeclaration}
 use Rattle.cdi_accepted.proofs.Beans.{before, beside}

@@ -2,26 +2,26 @@
 use Rattle.std.proofs.Common.{ℕ, ◌≡◌, ◌∙◌, ◌++◌, List, Option, Some, None, sym, ap, subst}
 use Rattle.std.specs.Prelude.{option_map}
 use Rattle.std.proofs.lemmas.Option.{same_Some}
-use Rattle.cdi_accepted.specs.of_beans.declared.bean.Bean.{Bean}
-use Rattle.cdi_accepted.specs.of_beans.declared.bean.BeanKind.TheVariants as kinds
+use Rattle.cdi_beans.specs.declared.bean.Bean.{Bean}
+use Rattle.cdi_beans.specs.declared.bean.BeanKind.TheVariants as kinds
 use Rattle.cdi_bodies.specs.Gives.{LieInShape}
 use Rattle.cdi_bodies.specs.declared.entry.Entry.{Entry}
-use Rattle.cdi_accepted.specs.of_body_check.Shapes.{shape_of}
-use Rattle.cdi_accepted.proofs.of_check.Accepted.{append_none, bodies_sound}
-use Rattle.cdi_accepted.specs.of_check.Accepted.{AreBodiesSound}
-use Rattle.cdi_accepted.specs.of_check.Tables.{setting_by}
-use Rattle.cdi_accepted.specs.of_beans.Kinds.{is_managed}
+use Rattle.cdi_body_check.specs.Shapes.{shape_of}
+use Rattle.cdi_check.proofs.Accepted.{append_none, bodies_sound}
+use Rattle.cdi_check.specs.Accepted.{AreBodiesSound}
+use Rattle.cdi_check.specs.Tables.{setting_by}
+use Rattle.cdi_beans.specs.Kinds.{is_managed}
 use Rattle.cdi_machine.specs.Registered.{legal_of}
 use Rattle.cdi_machine.specs.Tables as machine
-use Rattle.cdi_accepted.specs.of_plans.Plans.{IsPlanOf}
-use Rattle.cdi_accepted.specs.of_plans.Tables.{PlanTables}
-use Rattle.cdi_accepted.specs.of_plans.declared.plan.Plan.{Plan}
-use Rattle.cdi_accepted.specs.of_plans.declared.plan.Plan.TheVariants as plans
-use Rattle.cdi_accepted.specs.of_event_tables.Observers.{managed_bean}
-use Rattle.cdi_accepted.specs.of_run_tables.Machine.{bean_with, id_of, machine_kind, machine_tables, product_with}
-use Rattle.cdi_accepted.specs.of_run_tables.Planned.{IsPlanned, plan_tables}
-use Rattle.cdi_accepted.specs.of_run_tables.declared.planned.PlannedBean.{PlannedBean}
-use Rattle.cdi_accepted.specs.of_run_tables.declared.tables.RunTables.{RunTables}
+use Rattle.cdi_plans.specs.Plans.{IsPlanOf}
+use Rattle.cdi_plans.specs.Tables.{PlanTables}
+use Rattle.cdi_plans.specs.declared.plan.Plan.{Plan}
+use Rattle.cdi_plans.specs.declared.plan.Plan.TheVariants as plans
+use Rattle.cdi_event_tables.specs.Observers.{managed_bean}
+use Rattle.cdi_run_tables.specs.Machine.{bean_with, id_of, machine_kind, machine_tables, product_with}
+use Rattle.cdi_run_tables.specs.Planned.{IsPlanned, plan_tables}
+use Rattle.cdi_run_tables.specs.declared.planned.PlannedBean.{PlannedBean}
+use Rattle.cdi_run_tables.specs.declared.tables.RunTables.{RunTables}
 use Rattle.cdi_whole.specs.Fits.{FitsClass}
 use Rattle.cdi_accepted.proofs.Beans.{beside, stands_listed, target}
 use Rattle.cdi_accepted.proofs.Enabled.{has_flag, known_by, with_plan}

@@ -8,10 +8,10 @@ use Rattle.std.specs.FinMap.{int_cmp-IsAntisymmetric}
 use Rattle.std.specs.List.{AllByRecursion}
 use Rattle.std.specs.List.Sorted.{IsStrictlySortedBy}
 use Rattle.std.specs.Ordering.{int_cmp, int_eq, is_eq}
-use Rattle.cdi_accepted.specs.of_beans.declared.bean.ObserverMethod.{ObserverMethod}
-use Rattle.cdi_accepted.specs.of_event_tables.Events.{Group, groups_of, new_group, with_observer}
+use Rattle.cdi_beans.specs.declared.bean.ObserverMethod.{ObserverMethod}
+use Rattle.cdi_event_tables.specs.Events.{Group, groups_of, new_group, with_observer}
 use Rattle.cdi_accepted.proofs.Lists.{Among, among_map}
-use Rattle.cdi_accepted.proofs.of_event_tables.Inserted.{in_order, inserted, order_rises, placed, to_order}
+use Rattle.cdi_event_tables.proofs.Inserted.{in_order, inserted, order_rises, placed, to_order}
 
 abbrev pub priority : ObserverMethod → ℤ
 priority o = o.priority

@@ -9,9 +9,9 @@ use Rattle.std.specs.FinMap.{int_cmp-IsAntisymmetric}
 use Rattle.std.specs.List.{AllByRecursion, Contains, cons_option, enumerate_from, filter_map}
 use Rattle.std.specs.Ordering.{int_cmp, int_eq}
 use Rattle.cdi_base.specs.declared.uses.Use.{Use}
-use Rattle.cdi_accepted.specs.of_bean_check.Qualifiers.{full_uses}
-use Rattle.cdi_accepted.specs.of_beans.declared.bean.ObserverMethod.{ObserverMethod}
-use Rattle.cdi_accepted.specs.of_enable.Enablement.{IsEnabledClass}
+use Rattle.cdi_bean_check.specs.Qualifiers.{full_uses}
+use Rattle.cdi_beans.specs.declared.bean.ObserverMethod.{ObserverMethod}
+use Rattle.cdi_enable.specs.Enablement.{IsEnabledClass}
 use Rattle.cdi_machine.specs.Tables as machine
 use Rattle.cdi_name_check.proofs.SoundTypes.{sound_types}
 use Rattle.cdi_observers.proofs.Groupings.{AreGroupsBy, has_priority, with_priority}
@@ -22,10 +22,10 @@ use Rattle.cdi_observers.specs.declared.group.ObserverGroup.{ObserverGroup}
 use Rattle.cdi_observers.specs.Observers.{Hears, IsTableOf, ObserverTable, any}
 use Rattle.cdi_quals.specs.Qualifiers.{has_all}
 use Rattle.cdi_quals.specs.declared.qualifier.Qualifier.{Qualifier}
-use Rattle.cdi_accepted.specs.of_event_tables.Events.{Group, hears, is_subtype}
-use Rattle.cdi_accepted.specs.of_run_tables.Machine.{has_none, machine_observer, machine_tables}
-use Rattle.cdi_accepted.specs.of_run_tables.Planned.{IsTabled}
-use Rattle.cdi_accepted.specs.of_run_tables.declared.tables.RunTables.{RunTables}
+use Rattle.cdi_event_tables.specs.Events.{Group, hears, is_subtype}
+use Rattle.cdi_run_tables.specs.Machine.{has_none, machine_observer, machine_tables}
+use Rattle.cdi_run_tables.specs.Planned.{IsTabled}
+use Rattle.cdi_run_tables.specs.declared.tables.RunTables.{RunTables}
 use Rattle.cdi_types.specs.ListsThose.{ListsThose}
 use Rattle.cdi_types.specs.Subtype.{IsAcyclic, IsSubtype}
 use Rattle.cdi_types.specs.declared.declaration.TypeDeclaration.{TypeDeclaration}
@@ -33,7 +33,7 @@ use Rattle.cdi_accepted.proofs.Beans.{place_of}
 use Rattle.cdi_accepted.proofs.Lists.{Among, among_contains, among_filter, among_filter_map, among_map, contains_among, mapped, of_filter}
 use Rattle.cdi_accepted.proofs.EnabledObservers.{IsTold, told}
 use Rattle.cdi_accepted.proofs.Grouped.{group_of, groups_by_priority, of_priority, priorities, priority}
-use Rattle.cdi_accepted.proofs.of_event_tables.Inserted.{order_rises, to_order}
+use Rattle.cdi_event_tables.proofs.Inserted.{order_rises, to_order}
 use Rattle.cdi_accepted.proofs.Subtypes.{subtypes_are}
 use Rattle.cdi_accepted.specs.Ties.{GroupsAre, machine_group}
 

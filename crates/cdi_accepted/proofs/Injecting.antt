@@ -1,18 +1,18 @@
 -- The steps of a plan inject each field that the classes of its line declare.
 use Rattle.std.proofs.Common.{ℕ, ◌≡◌, inl, inr, Bool, true, false, cond, List, [], ◌∷◌, ◌++◌, map, filter, Option, refl, sym, subst}
 use Rattle.std.specs.List.{filter_map}
-use Rattle.cdi_accepted.specs.of_beans.declared.bean.Bean.{Bean}
-use Rattle.cdi_accepted.specs.of_plans.Chains.{ChainTables, interceptors_of}
+use Rattle.cdi_beans.specs.declared.bean.Bean.{Bean}
+use Rattle.cdi_plans.specs.Chains.{ChainTables, interceptors_of}
 use Rattle.cdi_deployment.specs.declared.deployment.Class.{Class}
 use Rattle.cdi_deployment.specs.declared.deployment.Constructor.{Constructor}
 use Rattle.cdi_deployment.specs.declared.deployment.InjectedField.{InjectedField}
 use Rattle.cdi_deployment.specs.declared.deployment.Point.{Point}
 use Rattle.cdi_machine.specs.Tables as machine
-use Rattle.cdi_accepted.specs.of_plans.Codes.{completion}
-use Rattle.cdi_accepted.specs.of_plans.Steps.{class_steps, construction, initialization, injection, injections, steps_of}
-use Rattle.cdi_accepted.specs.of_plans.declared.plan.Step.{Step}
-use Rattle.cdi_accepted.specs.of_plans.declared.plan.Step.TheVariants as steps
-use Rattle.cdi_accepted.specs.of_run_tables.Machine.{asked_by, does_something, machine_step, machine_steps}
+use Rattle.cdi_plans.specs.Codes.{completion}
+use Rattle.cdi_plans.specs.Steps.{class_steps, construction, initialization, injection, injections, steps_of}
+use Rattle.cdi_plans.specs.declared.plan.Step.{Step}
+use Rattle.cdi_plans.specs.declared.plan.Step.TheVariants as steps
+use Rattle.cdi_run_tables.specs.Machine.{asked_by, does_something, machine_step, machine_steps}
 use Rattle.cdi_types.specs.Members.{comes_down, members_of, parts_of}
 use Rattle.cdi_ledger.specs.Whose.{IsIn}
 use Rattle.cdi_whole.specs.Fits.{injected_by}

@@ -49,9 +49,3 @@ pub mod Grouped
 pub mod EnabledObservers
 pub mod Heard
 pub mod Sets
-pub use Rattle.cdi_check.proofs as of_check
-pub use Rattle.cdi_run_tables.proofs.of_enable as of_enable
-pub use Rattle.cdi_run_tables.proofs.of_event_tables as of_event_tables
-pub use Rattle.cdi_run_tables.proofs.of_plans as of_plans
-pub use Rattle.cdi_whole.proofs as of_whole
-pub use Rattle.cdi_whole.proofs.of_ledger as of_ledger

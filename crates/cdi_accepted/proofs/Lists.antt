@@ -4,7 +4,7 @@ use Rattle.std.proofs.lemmas.Bool.{true≢false, and_parts}
 use Rattle.std.proofs.lemmas.List.Elements.{All-head, All-tail}
 use Rattle.std.proofs.lemmas.Option.{same_Some}
 use Rattle.std.specs.List.{All, Contains, cons_option, enumerate_from, filter_map, find, flat_map, list_all, list_any, slice_get}
-pub use Rattle.cdi_run_tables.proofs.of_event_tables.Among.{Among, among_contains, among_filter, contains_among, of_filter}
+pub use Rattle.cdi_event_tables.proofs.Among.{Among, among_contains, among_filter, contains_among, of_filter}
 use Rattle.cdi_ledger.specs.Whose.{IsIn}
 use Rattle.cdi_types.specs.ListsThose.{ListsThose}
 

@@ -5,27 +5,26 @@ use Rattle.std.proofs.lemmas.Bool.{and_from}
 use Rattle.std.specs.List.{flat_map}
 use Rattle.cdi_base.specs.declared.place.InterceptorMethod.{InterceptorMethod}
 use Rattle.cdi_base.specs.declared.place.InterceptorMethod.TheVariants as methods
-use Rattle.cdi_accepted.specs.of_beans.Beans.{bean_member}
-use Rattle.cdi_accepted.specs.of_beans.declared.bean.Bean.{Bean}
-use Rattle.cdi_accepted.specs.of_beans.declared.bean.BeanMember.{BeanMember}
-use Rattle.cdi_accepted.specs.of_beans.declared.bean.EnabledInterceptor.{EnabledInterceptor}
-use Rattle.cdi_accepted.specs.of_body_check.Sites.{Site, class_sites, constructor_site, constructor_sites, interceptor_sites, is_live, member_body, member_site, member_sites, method_body, method_sites, sites_of}
-use Rattle.cdi_accepted.specs.of_check.Tables.{setting_by}
+use Rattle.cdi_beans.specs.Beans.{bean_member}
+use Rattle.cdi_beans.specs.declared.bean.Bean.{Bean}
+use Rattle.cdi_beans.specs.declared.bean.BeanMember.{BeanMember}
+use Rattle.cdi_beans.specs.declared.bean.EnabledInterceptor.{EnabledInterceptor}
+use Rattle.cdi_body_check.specs.Sites.{Site, class_sites, constructor_site, constructor_sites, interceptor_sites, is_live, member_body, member_site, member_sites, method_body, method_sites, sites_of}
+use Rattle.cdi_check.specs.Tables.{setting_by}
 use Rattle.cdi_deployment.specs.declared.deployment.Class.{Class}
 use Rattle.cdi_deployment.specs.declared.deployment.Constructor.{Constructor}
 use Rattle.cdi_deployment.specs.declared.deployment.Deployment.{Deployment}
 use Rattle.cdi_deployment.specs.declared.deployment.Interceptor.{Interceptor}
 use Rattle.cdi_deployment.specs.declared.deployment.Member.{Member}
 use Rattle.cdi_deployment.specs.declared.deployment.Member.TheVariants as members
-use Rattle.cdi_accepted.specs.of_resolve.Filters.{is_bean_of}
-use Rattle.cdi_accepted.specs.of_live.Live.{has_member}
-use Rattle.cdi_accepted.specs.of_beans.Kinds.{is_managed}
+use Rattle.cdi_resolve.specs.Filters.{enabled_of, is_bean_of}
+use Rattle.cdi_live.specs.Live.{has_member}
+use Rattle.cdi_beans.specs.Kinds.{is_managed}
 use Rattle.cdi_types.specs.Members.{members_of}
 use Rattle.cdi_deployment.specs.Member.{member_name}
-use Rattle.cdi_accepted.proofs.of_plans.Fronts.{same}
+use Rattle.cdi_plans.proofs.Fronts.{same}
 use Rattle.cdi_deployment.specs.Member.{member_name as element_name}
-use Rattle.cdi_accepted.specs.of_resolve.Filters.{enabled_of}
-use Rattle.cdi_accepted.specs.of_run_tables.declared.tables.RunTables.{RunTables}
+use Rattle.cdi_run_tables.specs.declared.tables.RunTables.{RunTables}
 use Rattle.cdi_accepted.proofs.Lists.{Among, among_filter_map, among_flat_map, among_left, among_map, among_right, any_passes}
 
 one_name : (m : Member) → element_name m ≡ member_name m

@@ -1,11 +1,11 @@
 -- The managed beans of a bean list, by their classes.
 use Rattle.std.proofs.Common.{ℕ, ◌≡◌, ◌∙◌, inl, inr, Bool, true, false, List, [], ◌∷◌, filter, refl, sym, ap, subst, if◌then◌else◌}
 use Rattle.std.specs.List.{AllZip, flat_map}
-use Rattle.cdi_run_tables.specs.of_bean_check.ManagedBeans.{is_bean}
-use Rattle.cdi_run_tables.specs.of_bean_rules.Limits.{is_producer}
-use Rattle.cdi_run_tables.specs.of_beans.Beans.{IsBeanOf, Source, products_in, sources_in}
-use Rattle.cdi_run_tables.specs.of_beans.declared.bean.Bean.{Bean}
-use Rattle.cdi_run_tables.specs.of_beans.declared.bean.BeanKind.TheVariants as kinds
+use Rattle.cdi_bean_check.specs.ManagedBeans.{is_bean}
+use Rattle.cdi_bean_rules.specs.Limits.{is_producer}
+use Rattle.cdi_beans.specs.Beans.{IsBeanOf, Source, products_in, sources_in}
+use Rattle.cdi_beans.specs.declared.bean.Bean.{Bean}
+use Rattle.cdi_beans.specs.declared.bean.BeanKind.TheVariants as kinds
 use Rattle.cdi_deployment.specs.declared.deployment.Class.{Class}
 use Rattle.cdi_deployment.specs.declared.deployment.Deployment.{Deployment}
 use Rattle.cdi_quals.specs.declared.types.QualifierType.{QualifierType}

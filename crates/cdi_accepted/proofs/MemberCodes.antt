@@ -1,23 +1,23 @@
 -- What of a member runs: its own body, with its own parameters.
 use Rattle.std.proofs.Common.{ℕ, ◌≡◌, Bool, true, false, not, List, [], Some, refl, sym}
 use Rattle.std.proofs.lemmas.Option.{same_Some}
-use Rattle.cdi_accepted.specs.of_body_check.Sites.{member_body}
-use Rattle.cdi_accepted.specs.of_plans.Chains.{ChainTables}
+use Rattle.cdi_body_check.specs.Sites.{member_body}
+use Rattle.cdi_plans.specs.Chains.{ChainTables}
 use Rattle.cdi_deployment.specs.Member.{member_name, member_params}
 use Rattle.cdi_deployment.specs.declared.deployment.Class.{Class}
 use Rattle.cdi_deployment.specs.declared.deployment.Member.{Member}
 use Rattle.cdi_deployment.specs.declared.deployment.Member.TheVariants as members
 use Rattle.cdi_deployment.specs.declared.deployment.Point.{Point}
 use Rattle.cdi_deployment.specs.declared.deployment.ProducerField.{ProducerField}
-use Rattle.cdi_accepted.specs.of_plans.Codes.{injected_method, member_code, post_construct, pre_destroy}
-use Rattle.cdi_accepted.specs.of_plans.Products.{disposer_method, source_of}
-use Rattle.cdi_accepted.specs.of_plans.Steps.{initialization}
-use Rattle.cdi_accepted.specs.of_plans.declared.plan.Code.{Code}
-use Rattle.cdi_accepted.specs.of_plans.declared.plan.InjectedMethod.{InjectedMethod}
-use Rattle.cdi_accepted.specs.of_plans.declared.plan.Source.{Source}
-use Rattle.cdi_accepted.specs.of_plans.declared.plan.Source.TheVariants as sources
-use Rattle.cdi_accepted.specs.of_plans.declared.plan.Step.{Step}
-use Rattle.cdi_accepted.specs.of_plans.declared.plan.Step.TheVariants as steps
+use Rattle.cdi_plans.specs.Codes.{injected_method, member_code, post_construct, pre_destroy}
+use Rattle.cdi_plans.specs.Products.{disposer_method, source_of}
+use Rattle.cdi_plans.specs.Steps.{initialization}
+use Rattle.cdi_plans.specs.declared.plan.Code.{Code}
+use Rattle.cdi_plans.specs.declared.plan.InjectedMethod.{InjectedMethod}
+use Rattle.cdi_plans.specs.declared.plan.Source.{Source}
+use Rattle.cdi_plans.specs.declared.plan.Source.TheVariants as sources
+use Rattle.cdi_plans.specs.declared.plan.Step.{Step}
+use Rattle.cdi_plans.specs.declared.plan.Step.TheVariants as steps
 
 -- a callback at the end of an instance's life
 abbrev pub is_farewell : Member → Bool

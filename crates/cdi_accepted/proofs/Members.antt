@@ -2,14 +2,14 @@
 use Rattle.std.proofs.Common.{ℕ, ◌≡◌, ◌∙◌, ◌||◌, ◌&&◌, ◌⊎◌, inl, inr, Bool, true, false, not, nat_eq, List, [], ◌∷◌, filter, refl, sym, ap, subst}
 use Rattle.std.proofs.lemmas.Bool.{and_from, and_parts, eqb-true, or_cases, true≢false}
 use Rattle.std.specs.List.{list_any}
-use Rattle.cdi_run_tables.specs.of_bean_check.Repeated.{is_alike}
+use Rattle.cdi_bean_check.specs.Repeated.{is_alike}
 use Rattle.cdi_deployment.specs.declared.deployment.Class.{Class}
 use Rattle.cdi_deployment.specs.declared.deployment.Member.{Member}
 use Rattle.cdi_deployment.specs.declared.deployment.Member.TheVariants as members
 use Rattle.cdi_deployment.specs.declared.deployment.Method.{Method}
 use Rattle.cdi_types.specs.Members.{is_inherited, declares, comes_down, parts_of, members_of}
 use Rattle.cdi_deployment.specs.Member.{member_name}
-use Rattle.cdi_run_tables.proofs.of_plans.Fronts.{same}
+use Rattle.cdi_plans.proofs.Fronts.{same}
 use Rattle.cdi_check.specs.OwnParts.{declares_method, is_method}
 use Rattle.cdi_accepted.proofs.Lists.{Among, among_filter, among_left, among_map, among_parts, among_right, any_passes, mapped, none_passes, of_filter, passing}
 use Rattle.cdi_accepted.proofs.Duplicates.{IsNamedApart}

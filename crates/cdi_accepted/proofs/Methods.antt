@@ -6,13 +6,13 @@ use Rattle.std.proofs.lemmas.Option.{same_Some}
 use Rattle.std.specs.List.{filter_map, list_any}
 use Rattle.cdi_base.specs.Maps.{at}
 use Rattle.cdi_base.specs.declared.place.Place.TheVariants as places
-use Rattle.cdi_accepted.specs.of_beans.Kinds.{is_managed}
-use Rattle.cdi_accepted.specs.of_beans.declared.bean.Bean.{Bean}
+use Rattle.cdi_beans.specs.Kinds.{is_managed}
+use Rattle.cdi_beans.specs.declared.bean.Bean.{Bean}
 use Rattle.cdi_bodies.specs.declared.entry.Entry.{Entry}
-use Rattle.cdi_accepted.specs.of_body_check.Shapes.{shape_of}
-use Rattle.cdi_accepted.specs.of_plans.Chains.{ChainTables}
-use Rattle.cdi_accepted.specs.of_check.Accepted.{AreBodiesSound}
-use Rattle.cdi_accepted.specs.of_check.Tables.{setting_by}
+use Rattle.cdi_body_check.specs.Shapes.{shape_of}
+use Rattle.cdi_plans.specs.Chains.{ChainTables}
+use Rattle.cdi_check.specs.Accepted.{AreBodiesSound}
+use Rattle.cdi_check.specs.Tables.{setting_by}
 use Rattle.cdi_deployment.specs.declared.deployment.Class.{Class}
 use Rattle.cdi_deployment.specs.declared.deployment.Constructor.{Constructor}
 use Rattle.cdi_deployment.specs.declared.deployment.Deployment.{Deployment}
@@ -22,15 +22,15 @@ use Rattle.cdi_deployment.specs.declared.deployment.Method.{Method}
 use Rattle.cdi_machine.specs.Tables as machine
 use Rattle.cdi_types.specs.Line.{class_named}
 use Rattle.cdi_types.specs.Members.{members_of}
-use Rattle.cdi_accepted.proofs.of_plans.Fronts.{same}
-use Rattle.cdi_accepted.specs.of_plans.Codes.{business_method, member_chain, member_code}
-use Rattle.cdi_accepted.specs.of_plans.declared.plan.BusinessMethod.{BusinessMethod}
-use Rattle.cdi_accepted.specs.of_plans.declared.plan.ManagedPlan.{ManagedPlan}
-use Rattle.cdi_accepted.specs.of_resolve.Filters.{enabled_of}
-use Rattle.cdi_accepted.specs.of_run_tables.Machine.{AreIdsOf, bean_at, bean_with, id_of, machine_kind, machine_managed, machine_method, machine_methods, method_with}
-use Rattle.cdi_accepted.specs.of_run_tables.Planned.{IsTabled}
-use Rattle.cdi_accepted.specs.of_run_tables.declared.tables.RunTables.{RunTables}
-use Rattle.cdi_accepted.specs.of_check.OwnParts.{declares_method, is_method}
+use Rattle.cdi_plans.proofs.Fronts.{same}
+use Rattle.cdi_plans.specs.Codes.{business_method, member_chain, member_code}
+use Rattle.cdi_plans.specs.declared.plan.BusinessMethod.{BusinessMethod}
+use Rattle.cdi_plans.specs.declared.plan.ManagedPlan.{ManagedPlan}
+use Rattle.cdi_resolve.specs.Filters.{enabled_of}
+use Rattle.cdi_run_tables.specs.Machine.{AreIdsOf, bean_at, bean_with, id_of, machine_kind, machine_managed, machine_method, machine_methods, method_with}
+use Rattle.cdi_run_tables.specs.Planned.{IsTabled}
+use Rattle.cdi_run_tables.specs.declared.tables.RunTables.{RunTables}
+use Rattle.cdi_check.specs.OwnParts.{declares_method, is_method}
 use Rattle.cdi_whole.specs.Fits.{HasMethod}
 use Rattle.cdi_accepted.proofs.Beans.{is_kept, kept_at}
 use Rattle.cdi_accepted.proofs.FitPlans.{HasPlan}
@@ -38,7 +38,7 @@ use Rattle.cdi_accepted.proofs.Duplicates.{IsNamedApart, named_apart}
 use Rattle.cdi_accepted.proofs.Lines.{ArePairs, HasFront, front_of, is_listed, is_of_name, pairs_of}
 use Rattle.cdi_accepted.proofs.Lists.{Among, among_filter_map, given}
 use Rattle.cdi_accepted.proofs.Members.{all_declared, has_declared, of_line}
-use Rattle.cdi_accepted.specs.of_body_check.Sites.{Site, member_body}
+use Rattle.cdi_body_check.specs.Sites.{Site, member_body}
 use Rattle.cdi_accepted.proofs.Bodies.{numbered, registered}
 use Rattle.cdi_accepted.proofs.Enabled.{has_flag, known_by, with_plan}
 use Rattle.cdi_accepted.proofs.Live.{IsLiveSite, constructor_live, constructor_stands, member_live, member_stands}

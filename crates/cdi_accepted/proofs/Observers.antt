@@ -6,14 +6,14 @@ use Rattle.std.proofs.lemmas.Bool.{eqb-true}
 use Rattle.std.proofs.lemmas.Option.{same_Some}
 use Rattle.std.specs.List.{AllByRecursion, filter_map}
 use Rattle.cdi_base.specs.declared.uses.Use.{Use}
-use Rattle.cdi_accepted.specs.of_bean_check.ManagedBeans.{is_bean}
-use Rattle.cdi_accepted.specs.of_beans.ObserverMethods.{observer}
-use Rattle.cdi_accepted.specs.of_beans.declared.bean.ObserverMethod.{ObserverMethod}
+use Rattle.cdi_bean_check.specs.ManagedBeans.{is_bean}
+use Rattle.cdi_beans.specs.ObserverMethods.{observer}
+use Rattle.cdi_beans.specs.declared.bean.ObserverMethod.{ObserverMethod}
 use Rattle.cdi_bodies.specs.Gives.{LieInShape, lookups_of}
 use Rattle.cdi_bodies.specs.declared.entry.Entry.{Entry}
-use Rattle.cdi_accepted.specs.of_body_check.Shapes.{shape_of}
-use Rattle.cdi_accepted.specs.of_check.Accepted.{AreBodiesSound}
-use Rattle.cdi_accepted.specs.of_check.Tables.{setting_by}
+use Rattle.cdi_body_check.specs.Shapes.{shape_of}
+use Rattle.cdi_check.specs.Accepted.{AreBodiesSound}
+use Rattle.cdi_check.specs.Tables.{setting_by}
 use Rattle.cdi_deployment.specs.declared.deployment.Class.{Class}
 use Rattle.cdi_deployment.specs.declared.deployment.Deployment.{Deployment}
 use Rattle.cdi_deployment.specs.declared.deployment.Member.{Member}
@@ -26,16 +26,16 @@ use Rattle.cdi_machine.specs.Words.{Name}
 use Rattle.cdi_types.proofs.Lines.{one_line}
 use Rattle.cdi_types.specs.Line.{IsLineOf, class_named}
 use Rattle.cdi_types.specs.Members.{members_of}
-use Rattle.cdi_accepted.specs.of_plans.Codes.{injected_method}
-use Rattle.cdi_accepted.specs.of_plans.Observers.{as_observer, observer_in, observer_named, observer_of}
-use Rattle.cdi_accepted.specs.of_resolve.declared.bean_tables.BeanTables.{BeanTables}
-use Rattle.cdi_accepted.specs.of_run_tables.Machine.{AreIdsOf, bean_with, has_none, hearers, id_of, machine_member, machine_observer, machine_tables, observer_with, observers_of}
-use Rattle.cdi_accepted.specs.of_run_tables.Planned.{IsTabled}
-use Rattle.cdi_accepted.specs.of_run_tables.Texts.{has_texts}
-use Rattle.cdi_accepted.specs.of_run_tables.declared.tables.RunTables.{RunTables}
+use Rattle.cdi_plans.specs.Codes.{injected_method}
+use Rattle.cdi_plans.specs.Observers.{as_observer, observer_in, observer_named, observer_of}
+use Rattle.cdi_resolve.specs.declared.bean_tables.BeanTables.{BeanTables}
+use Rattle.cdi_run_tables.specs.Machine.{AreIdsOf, bean_with, has_none, hearers, id_of, machine_member, machine_observer, machine_tables, observer_with, observers_of}
+use Rattle.cdi_run_tables.specs.Planned.{IsTabled}
+use Rattle.cdi_run_tables.specs.Texts.{has_texts}
+use Rattle.cdi_run_tables.specs.declared.tables.RunTables.{RunTables}
 use Rattle.cdi_types.specs.Declarations.{declarations_of}
 use Rattle.cdi_whole.specs.Fits.{FitsManaged, FitsMember, FitsObserver}
-use Rattle.cdi_accepted.specs.of_event_tables.Events.{Group, groups_of, new_group, with_observer}
+use Rattle.cdi_event_tables.specs.Events.{Group, groups_of, new_group, with_observer}
 use Rattle.cdi_accepted.proofs.Lists.{Among, found_among, given, mapped, of_filter}
 use Rattle.cdi_accepted.proofs.Members.{IsOfLine, of_line}
 use Rattle.cdi_accepted.proofs.Observing.{IsObserverIn, as_member, observer_in_list, of_as_observer}

@@ -2,15 +2,15 @@
 use Rattle.std.proofs.Common.{◌≡◌, ◌⊎◌, inl, inr, List, ◌∷◌, Some, refl, ap}
 use Rattle.std.proofs.lemmas.Option.{same_Some}
 use Rattle.std.specs.List.{filter_map}
-use Rattle.cdi_run_tables.specs.of_bean_check.Inherited.{AreMembersOf}
-use Rattle.cdi_run_tables.specs.of_beans.ObserverMethods.{AreObserversOf, IsObserverOf, observer}
-use Rattle.cdi_run_tables.specs.of_beans.declared.bean.ObserverMethod.{ObserverMethod}
+use Rattle.cdi_bean_check.specs.Inherited.{AreMembersOf}
+use Rattle.cdi_beans.specs.ObserverMethods.{AreObserversOf, IsObserverOf, observer}
+use Rattle.cdi_beans.specs.declared.bean.ObserverMethod.{ObserverMethod}
 use Rattle.cdi_deployment.specs.declared.deployment.Class.{Class}
 use Rattle.cdi_deployment.specs.declared.deployment.Deployment.{Deployment}
 use Rattle.cdi_deployment.specs.declared.deployment.Member.{Member}
 use Rattle.cdi_deployment.specs.declared.deployment.Member.TheVariants as members
 use Rattle.cdi_deployment.specs.declared.deployment.Observer.{Observer}
-use Rattle.cdi_run_tables.specs.of_plans.Observers.{as_observer}
+use Rattle.cdi_plans.specs.Observers.{as_observer}
 use Rattle.cdi_quals.specs.declared.types.QualifierType.{QualifierType}
 use Rattle.cdi_types.specs.Declarations.{declarations_of}
 use Rattle.cdi_accepted.proofs.Beans.{before}

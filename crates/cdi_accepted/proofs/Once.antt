@@ -4,8 +4,8 @@ use Rattle.std.specs.Prelude.{◌+◌}
 use Rattle.std.specs.List.{enumerate_from, filter_map, list_any}
 use Rattle.std.proofs.lemmas.Bool.{and_parts, true≢false}
 use Rattle.cdi_base.specs.declared.place.Place.TheVariants as places
-use Rattle.cdi_accepted.specs.of_beans.declared.bean.EnabledInterceptor.{EnabledInterceptor}
-use Rattle.cdi_accepted.specs.of_plans.Chains.{places_from}
+use Rattle.cdi_beans.specs.declared.bean.EnabledInterceptor.{EnabledInterceptor}
+use Rattle.cdi_plans.specs.Chains.{places_from}
 use Rattle.cdi_deployment.specs.Member.{member_name}
 use Rattle.cdi_deployment.specs.declared.deployment.Class.{Class}
 use Rattle.cdi_deployment.specs.declared.deployment.Deployment.{Deployment}
@@ -13,10 +13,10 @@ use Rattle.cdi_deployment.specs.declared.deployment.Member.{Member}
 use Rattle.cdi_machine.specs.Tables as machine
 use Rattle.cdi_name_check.specs.NameProblems.{AreNameProblems}
 use Rattle.cdi_name_check.specs.declared.claim.Claim.TheVariants as claims
-use Rattle.cdi_accepted.proofs.of_plans.Fronts.{same}
-use Rattle.cdi_accepted.specs.of_plans.Codes.{pre_destroy}
-use Rattle.cdi_accepted.specs.of_plans.declared.plan.Code.{Code}
-use Rattle.cdi_accepted.specs.of_run_tables.Machine.{machine_code}
+use Rattle.cdi_plans.proofs.Fronts.{same}
+use Rattle.cdi_plans.specs.Codes.{pre_destroy}
+use Rattle.cdi_plans.specs.declared.plan.Code.{Code}
+use Rattle.cdi_run_tables.specs.Machine.{machine_code}
 use Rattle.cdi_types.specs.Line.{class_named}
 use Rattle.cdi_types.specs.Members.{comes_down, declares, is_inherited, members_of, parts_of}
 use Rattle.cdi_ledger.specs.Whose.{IsIn}

@@ -6,11 +6,11 @@ use Rattle.cdi_base.specs.declared.uses.Use.{Use}
 use Rattle.cdi_deployment.specs.declared.deployment.Class.{Class}
 use Rattle.cdi_deployment.specs.declared.deployment.Deployment.{Deployment}
 use Rattle.cdi_quals.specs.declared.types.QualifierType.{QualifierType}
-use Rattle.cdi_run_tables.specs.of_bean_check.BeanTypes.{restriction}
-use Rattle.cdi_run_tables.specs.of_beans.Beans.{Source, IsBeanOf, IsBeanWith, IsDeclaredBy, IsManagedBeanOf, IsProductOf, bean_member}
-use Rattle.cdi_run_tables.specs.of_beans.declared.bean.Bean.{Bean}
-use Rattle.cdi_run_tables.specs.of_beans.declared.bean.BeanKind.{BeanKind}
-use Rattle.cdi_run_tables.specs.of_beans.declared.bean.BeanKind.TheVariants as kinds
+use Rattle.cdi_bean_check.specs.BeanTypes.{restriction}
+use Rattle.cdi_beans.specs.Beans.{Source, IsBeanOf, IsBeanWith, IsDeclaredBy, IsManagedBeanOf, IsProductOf, bean_member}
+use Rattle.cdi_beans.specs.declared.bean.Bean.{Bean}
+use Rattle.cdi_beans.specs.declared.bean.BeanKind.{BeanKind}
+use Rattle.cdi_beans.specs.declared.bean.BeanKind.TheVariants as kinds
 use Rattle.cdi_accepted.proofs.DeterminedLists.{one_listed}
 use Rattle.cdi_accepted.proofs.OneLine.{one_membership}
 use Rattle.cdi_accepted.proofs.Types.{one_use_list}

@@ -7,7 +7,7 @@ use Rattle.cdi_types.specs.Lineage.{IsLineage}
 use Rattle.cdi_types.specs.declared.declaration.TypeDeclaration.{TypeDeclaration}
 use Rattle.cdi_types.specs.Line.{IsLineOf, class_named}
 use Rattle.cdi_types.specs.Members.{members_of}
-use Rattle.cdi_run_tables.specs.of_bean_check.Inherited.{AreMembersOf}
+use Rattle.cdi_bean_check.specs.Inherited.{AreMembersOf}
 
 pub neither : {X : Type 0} {x : X} → None ≡ Some x → ⊥
 neither e = cc

@@ -7,10 +7,10 @@ use Rattle.std.proofs.lemmas.Option.{same_Some}
 use Rattle.cdi_base.specs.Maps.{at}
 use Rattle.cdi_base.specs.declared.place.Place.{Place}
 use Rattle.cdi_base.specs.declared.place.Place.TheVariants as places
-use Rattle.cdi_accepted.specs.of_beans.declared.bean.Bean.{Bean}
-use Rattle.cdi_accepted.specs.of_beans.declared.bean.BeanKind.{BeanKind}
-use Rattle.cdi_accepted.specs.of_beans.declared.bean.ObserverMethod.{ObserverMethod}
-use Rattle.cdi_accepted.specs.of_plans.Chains.{ChainTables, interceptors_of}
+use Rattle.cdi_beans.specs.declared.bean.Bean.{Bean}
+use Rattle.cdi_beans.specs.declared.bean.BeanKind.{BeanKind}
+use Rattle.cdi_beans.specs.declared.bean.ObserverMethod.{ObserverMethod}
+use Rattle.cdi_plans.specs.Chains.{ChainTables, interceptors_of}
 use Rattle.cdi_deployment.specs.Member.{member_name}
 use Rattle.cdi_deployment.specs.declared.deployment.Class.{Class}
 use Rattle.cdi_deployment.specs.declared.deployment.Constructor.{Constructor}
@@ -21,31 +21,31 @@ use Rattle.cdi_deployment.specs.declared.deployment.Observer.{Observer}
 use Rattle.cdi_deployment.specs.declared.deployment.Point.{Point}
 use Rattle.cdi_machine.specs.Tables as machine
 use Rattle.cdi_name_check.specs.NameProblems.{AreNameProblems}
-use Rattle.cdi_accepted.specs.of_plans.Codes.{business_method, completion, constructor_body, post_construct, pre_destroy}
-use Rattle.cdi_accepted.specs.of_plans.Observers.{as_observer, observer_in, observer_named, observer_of}
-use Rattle.cdi_accepted.specs.of_plans.Plans.{IsPlanOf}
-use Rattle.cdi_accepted.specs.of_plans.Products.{IsProductPlan, disposer_method}
-use Rattle.cdi_accepted.specs.of_plans.Steps.{construction, injections, steps_of}
-use Rattle.cdi_accepted.specs.of_plans.Tables.{PlanTables}
-use Rattle.cdi_accepted.specs.of_plans.declared.plan.Code.{Code}
-use Rattle.cdi_accepted.specs.of_plans.declared.plan.InjectedMethod.{InjectedMethod}
-use Rattle.cdi_accepted.specs.of_plans.declared.plan.ManagedPlan.{ManagedPlan}
-use Rattle.cdi_accepted.specs.of_plans.declared.plan.Plan.{Plan}
-use Rattle.cdi_accepted.specs.of_plans.declared.plan.Plan.TheVariants as plans
-use Rattle.cdi_accepted.specs.of_plans.declared.plan.ProductPlan.{ProductPlan}
-use Rattle.cdi_accepted.specs.of_plans.declared.plan.Source.{Source}
-use Rattle.cdi_accepted.specs.of_plans.declared.plan.Step.{Step}
-use Rattle.cdi_accepted.specs.of_plans.declared.plan.Step.TheVariants as steps
-use Rattle.cdi_accepted.specs.of_event_tables.Observers.{managed_bean}
-use Rattle.cdi_accepted.specs.of_run_tables.Machine.{bean_at, bean_with, does_something, id_of, machine_bean, machine_code, machine_kind, machine_managed, machine_member, machine_methods, machine_observer, machine_source, machine_step, machine_steps, observer_with, planned_at, product_with}
-use Rattle.cdi_accepted.specs.of_run_tables.Planned.{IsPlanned, IsTabled, plan_tables}
-use Rattle.cdi_accepted.specs.of_run_tables.declared.planned.PlannedBean.{PlannedBean}
-use Rattle.cdi_accepted.specs.of_run_tables.declared.tables.RunTables.{RunTables}
+use Rattle.cdi_plans.specs.Codes.{business_method, completion, constructor_body, post_construct, pre_destroy}
+use Rattle.cdi_plans.specs.Observers.{as_observer, observer_in, observer_named, observer_of}
+use Rattle.cdi_plans.specs.Plans.{IsPlanOf}
+use Rattle.cdi_plans.specs.Products.{IsProductPlan, disposer_method}
+use Rattle.cdi_plans.specs.Steps.{construction, injections, steps_of}
+use Rattle.cdi_plans.specs.Tables.{PlanTables}
+use Rattle.cdi_plans.specs.declared.plan.Code.{Code}
+use Rattle.cdi_plans.specs.declared.plan.InjectedMethod.{InjectedMethod}
+use Rattle.cdi_plans.specs.declared.plan.ManagedPlan.{ManagedPlan}
+use Rattle.cdi_plans.specs.declared.plan.Plan.{Plan}
+use Rattle.cdi_plans.specs.declared.plan.Plan.TheVariants as plans
+use Rattle.cdi_plans.specs.declared.plan.ProductPlan.{ProductPlan}
+use Rattle.cdi_plans.specs.declared.plan.Source.{Source}
+use Rattle.cdi_plans.specs.declared.plan.Step.{Step}
+use Rattle.cdi_plans.specs.declared.plan.Step.TheVariants as steps
+use Rattle.cdi_event_tables.specs.Observers.{managed_bean}
+use Rattle.cdi_run_tables.specs.Machine.{bean_at, bean_with, does_something, id_of, machine_bean, machine_code, machine_kind, machine_managed, machine_member, machine_methods, machine_observer, machine_source, machine_step, machine_steps, observer_with, planned_at, product_with}
+use Rattle.cdi_run_tables.specs.Planned.{IsPlanned, IsTabled, plan_tables}
+use Rattle.cdi_run_tables.specs.declared.planned.PlannedBean.{PlannedBean}
+use Rattle.cdi_run_tables.specs.declared.tables.RunTables.{RunTables}
 use Rattle.cdi_types.specs.Declarations.{declarations_of}
 use Rattle.cdi_types.specs.Line.{IsLineOf, class_named}
 use Rattle.cdi_types.specs.Members.{members_of}
 use Rattle.cdi_ledger.specs.Whose.{IsIn}
-use Rattle.cdi_whole.specs.of_ledger.Callbacks.{codes_in}
+use Rattle.cdi_ledger.specs.Callbacks.{codes_in}
 use Rattle.cdi_accepted.proofs.Beans.{kept_at}
 use Rattle.cdi_accepted.proofs.Duplicates.{named_apart}
 use Rattle.cdi_accepted.proofs.Lines.{front_of, is_listed, is_of_name}

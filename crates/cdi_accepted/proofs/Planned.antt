@@ -4,21 +4,21 @@ use Rattle.std.specs.Prelude.{map, filter, slice_get, is_some, ◌&&◌, ◌||�
 use Rattle.std.specs.List.{list_any, enumerate_from}
 use Rattle.cdi_base.specs.declared.place.InterceptorMethod.{InterceptorMethod}
 use Rattle.cdi_base.specs.declared.place.InterceptorMethod.TheVariants as methods
-use Rattle.cdi_accepted.specs.of_beans.declared.bean.Bean.{Bean}
-use Rattle.cdi_accepted.specs.of_beans.declared.bean.BeanMember.{BeanMember}
-use Rattle.cdi_accepted.specs.of_beans.declared.bean.EnabledInterceptor.{EnabledInterceptor}
+use Rattle.cdi_beans.specs.declared.bean.Bean.{Bean}
+use Rattle.cdi_beans.specs.declared.bean.BeanMember.{BeanMember}
+use Rattle.cdi_beans.specs.declared.bean.EnabledInterceptor.{EnabledInterceptor}
 use Rattle.cdi_quals.specs.Qualifiers.{has_all}
 use Rattle.cdi_quals.specs.declared.qualifier.Qualifier.{Qualifier}
-use Rattle.cdi_accepted.specs.of_plans.Bindings.{bindings_had}
-use Rattle.cdi_accepted.specs.of_plans.Chains.{ChainTables, method_of, is_bound, places_from, chain_of, class_level, member_level, chain_with, invoke_chain, life_chain, is_bound_with, intercepts_member, intercepts_lifecycle, intercepts, interceptors_of}
+use Rattle.cdi_plans.specs.Bindings.{bindings_had}
+use Rattle.cdi_plans.specs.Chains.{ChainTables, method_of, is_bound, places_from, chain_of, class_level, member_level, chain_with, invoke_chain, life_chain, is_bound_with, intercepts_member, intercepts_lifecycle, intercepts, interceptors_of}
 use Rattle.cdi_deployment.specs.declared.deployment.Class.{Class}
 use Rattle.cdi_deployment.specs.declared.deployment.Constructor.{Constructor}
-use Rattle.cdi_accepted.specs.of_plans.Steps.{steps_of, construction, injections}
-use Rattle.cdi_accepted.specs.of_plans.Codes.{completion}
+use Rattle.cdi_plans.specs.Steps.{steps_of, construction, injections}
+use Rattle.cdi_plans.specs.Codes.{completion}
 use Rattle.cdi_types.specs.Members.{members_of}
-use Rattle.cdi_accepted.specs.of_plans.declared.plan.Step.{Step}
-use Rattle.cdi_accepted.specs.of_plans.declared.plan.Step.TheVariants as steps
-use Rattle.cdi_accepted.specs.of_run_tables.Machine.{machine_step, machine_steps, does_something}
+use Rattle.cdi_plans.specs.declared.plan.Step.{Step}
+use Rattle.cdi_plans.specs.declared.plan.Step.TheVariants as steps
+use Rattle.cdi_run_tables.specs.Machine.{machine_step, machine_steps, does_something}
 use Rattle.cdi_ledger.specs.Whose.{IsIn}
 use Rattle.cdi_whole.specs.Fits.{intercepted_by}
 use Rattle.cdi_accepted.specs.Chains.{HasRole, InvokesPlanned, IsLifecycle, LivesPlanned}

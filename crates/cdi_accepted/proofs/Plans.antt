@@ -2,19 +2,19 @@
 use Rattle.std.proofs.Common.{◌≡◌, ◌∙◌, ℕ, List, [], ◌∷◌, Option, Some, None, refl, sym, ap, subst}
 use Rattle.std.specs.Prelude.{option_and_then, option_map}
 use Rattle.std.specs.List.{AllZip, filter_map, find}
-use Rattle.cdi_run_tables.specs.of_beans.declared.bean.Bean.{Bean}
-use Rattle.cdi_run_tables.specs.of_beans.declared.bean.BeanKind.{BeanKind}
-use Rattle.cdi_run_tables.specs.of_beans.declared.bean.BeanKind.TheVariants as kinds
+use Rattle.cdi_beans.specs.declared.bean.Bean.{Bean}
+use Rattle.cdi_beans.specs.declared.bean.BeanKind.{BeanKind}
+use Rattle.cdi_beans.specs.declared.bean.BeanKind.TheVariants as kinds
 use Rattle.cdi_deployment.specs.declared.deployment.Class.{Class}
 use Rattle.cdi_deployment.specs.declared.deployment.Member.{Member}
 use Rattle.cdi_types.specs.Line.{class_named}
-use Rattle.cdi_run_tables.specs.of_plans.Plans.{IsManagedPlan, IsPlanOf, constructor_of, managed_plan}
-use Rattle.cdi_run_tables.specs.of_plans.Products.{IsPlanBy, IsProductPlan, disposer_method, is_producer_of, producer_in, producer_of}
-use Rattle.cdi_run_tables.specs.of_plans.Tables.{PlanTables}
-use Rattle.cdi_run_tables.specs.of_plans.declared.plan.ManagedPlan.{ManagedPlan}
-use Rattle.cdi_run_tables.specs.of_plans.declared.plan.Plan.{Plan}
-use Rattle.cdi_run_tables.specs.of_plans.declared.plan.Plan.TheVariants as plans
-use Rattle.cdi_run_tables.specs.of_plans.declared.plan.ProductPlan.{ProductPlan}
+use Rattle.cdi_plans.specs.Plans.{IsManagedPlan, IsPlanOf, constructor_of, managed_plan}
+use Rattle.cdi_plans.specs.Products.{IsPlanBy, IsProductPlan, disposer_method, is_producer_of, producer_in, producer_of}
+use Rattle.cdi_plans.specs.Tables.{PlanTables}
+use Rattle.cdi_plans.specs.declared.plan.ManagedPlan.{ManagedPlan}
+use Rattle.cdi_plans.specs.declared.plan.Plan.{Plan}
+use Rattle.cdi_plans.specs.declared.plan.Plan.TheVariants as plans
+use Rattle.cdi_plans.specs.declared.plan.ProductPlan.{ProductPlan}
 use Rattle.cdi_run_tables.specs.Planned.{IsPlanned}
 use Rattle.cdi_run_tables.specs.declared.planned.PlannedBean.{PlannedBean}
 use Rattle.cdi_accepted.proofs.OneLine.{neither, one_line}

@@ -3,19 +3,19 @@ use Rattle.std.proofs.Common.{ℕ, ◌≡◌, ◌∙◌, ◌&&◌, Bool, true, n
 use Rattle.std.specs.Prelude.{slice_get}
 use Rattle.std.specs.List.{position_or_len}
 use Rattle.std.proofs.lemmas.Bool.{and_from, and_parts, eq-eqb, eqb-true}
-use Rattle.cdi_accepted.specs.of_beans.Kinds.{is_managed}
-use Rattle.cdi_accepted.specs.of_beans.declared.bean.Bean.{Bean}
+use Rattle.cdi_beans.specs.Kinds.{is_managed}
+use Rattle.cdi_beans.specs.declared.bean.Bean.{Bean}
 use Rattle.cdi_deployment.specs.declared.deployment.Class.{Class}
 use Rattle.cdi_deployment.specs.declared.deployment.Deployment.{Deployment}
 use Rattle.cdi_deployment.specs.declared.deployment.Member.{Member}
-use Rattle.cdi_accepted.specs.of_enable.Enablement.{enablement_of, listed_bean}
-use Rattle.cdi_accepted.specs.of_event_tables.Observers.{managed_bean}
-use Rattle.cdi_accepted.specs.of_plans.Products.{IsProductPlan}
-use Rattle.cdi_accepted.specs.of_plans.declared.plan.ProductPlan.{ProductPlan}
-use Rattle.cdi_accepted.specs.of_resolve.Filters.{enabled_of, is_enabled}
-use Rattle.cdi_accepted.specs.of_resolve.declared.bean_tables.BeanTables.{BeanTables}
-use Rattle.cdi_accepted.specs.of_run_tables.Planned.{IsTabled, plan_tables}
-use Rattle.cdi_accepted.specs.of_run_tables.declared.tables.RunTables.{RunTables}
+use Rattle.cdi_enable.specs.Enablement.{enablement_of, listed_bean}
+use Rattle.cdi_event_tables.specs.Observers.{managed_bean}
+use Rattle.cdi_plans.specs.Products.{IsProductPlan}
+use Rattle.cdi_plans.specs.declared.plan.ProductPlan.{ProductPlan}
+use Rattle.cdi_resolve.specs.Filters.{enabled_of, is_enabled}
+use Rattle.cdi_resolve.specs.declared.bean_tables.BeanTables.{BeanTables}
+use Rattle.cdi_run_tables.specs.Planned.{IsTabled, plan_tables}
+use Rattle.cdi_run_tables.specs.declared.tables.RunTables.{RunTables}
 use Rattle.cdi_types.specs.Line.{class_named}
 use Rattle.cdi_types.specs.Members.{members_of}
 use Rattle.cdi_accepted.proofs.Beans.{stands_listed}

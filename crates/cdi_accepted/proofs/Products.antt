@@ -5,22 +5,22 @@ use Rattle.std.proofs.lemmas.Bool.{and_parts, true≢false}
 use Rattle.std.proofs.lemmas.List.Elements.{filter_map-append}
 use Rattle.std.proofs.lemmas.Option.{same_Some}
 use Rattle.std.specs.List.{cons_option, filter_map, find, list_any}
-use Rattle.cdi_accepted.specs.of_beans.declared.bean.BeanKind.{BeanKind}
-use Rattle.cdi_accepted.proofs.of_check.Accepted.{append_none, none_told}
+use Rattle.cdi_beans.specs.declared.bean.BeanKind.{BeanKind}
+use Rattle.cdi_check.proofs.Accepted.{append_none, none_told}
 use Rattle.cdi_deployment.specs.declared.deployment.Class.{Class}
 use Rattle.cdi_deployment.specs.declared.deployment.Deployment.{Deployment}
 use Rattle.cdi_deployment.specs.declared.deployment.Member.{Member}
 use Rattle.cdi_deployment.specs.declared.deployment.Member.TheVariants as members
 use Rattle.cdi_deployment.specs.declared.deployment.ProducerField.{ProducerField}
-use Rattle.cdi_accepted.proofs.of_enable.Free.{once}
-use Rattle.cdi_accepted.specs.of_enable.Enablement.{AreFlags, Enablement, IsEnabledBean, IsEnabledManaged, bean_of_class}
-use Rattle.cdi_accepted.specs.of_enable.declared.listed_bean.ListedBean.{ListedBean}
-use Rattle.cdi_accepted.specs.of_enable.declared.managed_bean.ManagedBean.{ManagedBean}
+use Rattle.cdi_enable.proofs.Free.{once}
+use Rattle.cdi_enable.specs.Enablement.{AreFlags, Enablement, IsEnabledBean, IsEnabledManaged, bean_of_class}
+use Rattle.cdi_enable.specs.declared.listed_bean.ListedBean.{ListedBean}
+use Rattle.cdi_enable.specs.declared.managed_bean.ManagedBean.{ManagedBean}
 use Rattle.cdi_types.specs.Line.{IsLineOf, class_named}
 use Rattle.cdi_types.specs.Members.{comes_down, members_of, parts_of}
 use Rattle.cdi_name_check.specs.NameProblems.{AreNameProblems}
 use Rattle.cdi_name_check.specs.UnknownName.{HasUnknownName, knows_member}
-use Rattle.cdi_accepted.specs.of_plans.Products.{is_producer_of, producer_in, producer_of}
+use Rattle.cdi_plans.specs.Products.{is_producer_of, producer_in, producer_of}
 use Rattle.cdi_problems.specs.Elements.{Element, elements_of}
 use Rattle.cdi_problems.specs.declared.problem.ProblemKind.TheVariants as problem_kinds
 use Rattle.cdi_types.specs.ListsThose.{ListsThose}

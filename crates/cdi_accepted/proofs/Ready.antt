@@ -5,26 +5,26 @@ use Rattle.std.specs.List.{AllByRecursion, filter_map}
 use Rattle.cdi_base.specs.Maps.{at}
 use Rattle.cdi_base.specs.declared.place.InterceptorMethod.{InterceptorMethod}
 use Rattle.cdi_base.specs.declared.place.InterceptorMethod.TheVariants as roles
-use Rattle.cdi_accepted.specs.of_beans.Beans.{bean_member}
-use Rattle.cdi_accepted.specs.of_beans.declared.bean.Bean.{Bean}
-use Rattle.cdi_accepted.specs.of_beans.declared.bean.BeanMember.{BeanMember}
+use Rattle.cdi_beans.specs.Beans.{bean_member}
+use Rattle.cdi_beans.specs.declared.bean.Bean.{Bean}
+use Rattle.cdi_beans.specs.declared.bean.BeanMember.{BeanMember}
 use Rattle.cdi_bodies.specs.Gives.{LieInShape, lookups_of}
 use Rattle.cdi_bodies.specs.declared.entry.Entry.{Entry}
-use Rattle.cdi_accepted.specs.of_body_check.Shapes.{shape_of}
-use Rattle.cdi_accepted.specs.of_body_check.Sites.{member_body}
+use Rattle.cdi_body_check.specs.Shapes.{shape_of}
+use Rattle.cdi_body_check.specs.Sites.{member_body}
 use Rattle.cdi_deployment.specs.Member.{member_params}
 use Rattle.cdi_accepted.proofs.Planned.{first_of_all, life_of, member_chain, placed}
 use Rattle.cdi_accepted.specs.Chains.{IsLifecycle}
-use Rattle.cdi_accepted.specs.of_plans.Chains.{intercepts, interceptors_of, invoke_chain, life_chain}
-use Rattle.cdi_accepted.specs.of_check.Accepted.{AreBodiesSound}
-use Rattle.cdi_accepted.specs.of_check.Tables.{setting_by}
+use Rattle.cdi_plans.specs.Chains.{intercepts, interceptors_of, invoke_chain, life_chain}
+use Rattle.cdi_check.specs.Accepted.{AreBodiesSound}
+use Rattle.cdi_check.specs.Tables.{setting_by}
 use Rattle.cdi_deployment.specs.declared.deployment.Class.{Class}
 use Rattle.cdi_deployment.specs.declared.deployment.Constructor.{Constructor}
 use Rattle.cdi_deployment.specs.declared.deployment.Deployment.{Deployment}
 use Rattle.cdi_deployment.specs.declared.deployment.Member.{Member}
 use Rattle.cdi_deployment.specs.declared.deployment.Member.TheVariants as members
 use Rattle.cdi_deployment.specs.declared.deployment.Point.{Point}
-use Rattle.cdi_accepted.specs.of_beans.Kinds.{is_managed}
+use Rattle.cdi_beans.specs.Kinds.{is_managed}
 use Rattle.cdi_machine.specs.Registered.{legal_of}
 use Rattle.cdi_machine.specs.Runs.{Legal}
 use Rattle.cdi_machine.specs.Tables as machine
@@ -32,17 +32,17 @@ use Rattle.cdi_machine.specs.Words.{Name}
 use Rattle.cdi_types.specs.Line.{class_named}
 use Rattle.cdi_types.specs.Members.{comes_down, members_of, parts_of}
 use Rattle.cdi_deployment.specs.Member.{member_name}
-use Rattle.cdi_accepted.specs.of_plans.Codes.{completion, constructor_body, injected_method, post_construct, pre_destroy}
-use Rattle.cdi_accepted.specs.of_plans.Steps.{class_steps, construction, initialization, injection, injections, steps_of}
-use Rattle.cdi_accepted.specs.of_plans.declared.plan.Code.{Code}
-use Rattle.cdi_accepted.specs.of_plans.declared.plan.ManagedPlan.{ManagedPlan}
-use Rattle.cdi_accepted.specs.of_plans.declared.plan.Step.{Step}
-use Rattle.cdi_accepted.specs.of_plans.declared.plan.Step.TheVariants as steps
-use Rattle.cdi_accepted.specs.of_resolve.Filters.{enabled_of}
-use Rattle.cdi_accepted.specs.of_run_tables.Machine.{AreIdsOf, asked_by, body_number, does_something, id_of, machine_code, machine_lifecycle, machine_member, machine_step, machine_steps, machine_tables}
-use Rattle.cdi_accepted.specs.of_run_tables.Planned.{IsTabled}
-use Rattle.cdi_accepted.specs.of_run_tables.Texts.{has_texts}
-use Rattle.cdi_accepted.specs.of_run_tables.declared.tables.RunTables.{RunTables}
+use Rattle.cdi_plans.specs.Codes.{completion, constructor_body, injected_method, post_construct, pre_destroy}
+use Rattle.cdi_plans.specs.Steps.{class_steps, construction, initialization, injection, injections, steps_of}
+use Rattle.cdi_plans.specs.declared.plan.Code.{Code}
+use Rattle.cdi_plans.specs.declared.plan.ManagedPlan.{ManagedPlan}
+use Rattle.cdi_plans.specs.declared.plan.Step.{Step}
+use Rattle.cdi_plans.specs.declared.plan.Step.TheVariants as steps
+use Rattle.cdi_resolve.specs.Filters.{enabled_of}
+use Rattle.cdi_run_tables.specs.Machine.{AreIdsOf, asked_by, body_number, does_something, id_of, machine_code, machine_lifecycle, machine_member, machine_step, machine_steps, machine_tables}
+use Rattle.cdi_run_tables.specs.Planned.{IsTabled}
+use Rattle.cdi_run_tables.specs.Texts.{has_texts}
+use Rattle.cdi_run_tables.specs.declared.tables.RunTables.{RunTables}
 use Rattle.cdi_ledger.specs.Whose.{IsIn}
 use Rattle.cdi_whole.specs.Fits.{FitsBody, FitsChain, FitsClass, FitsLifecycle, FitsMember, FitsMethod, FitsRole, FitsStep, FitsSteps, IsThereInterceptor, class_site, intercepted_by, ready_after}
 use Rattle.cdi_accepted.proofs.Lists.{Among, among_left, among_map, among_parts, among_right, given, mapped}

@@ -4,8 +4,8 @@ use Rattle.std.specs.Prelude.{option_and_then}
 use Rattle.cdi_bodies.specs.Gives.{place_of, shape_at}
 use Rattle.cdi_bodies.specs.declared.entry.Entry.{Entry}
 use Rattle.cdi_bodies.specs.declared.shape.Shape.{Shape}
-use Rattle.cdi_run_tables.specs.of_body_check.Shapes.{shape_of}
-use Rattle.cdi_run_tables.specs.of_resolve.Filters.{enabled_of}
+use Rattle.cdi_body_check.specs.Shapes.{shape_of}
+use Rattle.cdi_resolve.specs.Filters.{enabled_of}
 use Rattle.cdi_run_tables.specs.declared.tables.RunTables.{RunTables}
 use Rattle.cdi_check.specs.Application.{Application}
 

@@ -9,16 +9,16 @@ use Rattle.std.proofs.lemmas.Option.{same_Some}
 use Rattle.cdi_base.specs.declared.place.InterceptorMethod.{InterceptorMethod}
 use Rattle.cdi_base.specs.declared.place.InterceptorMethod.TheVariants as roles
 use Rattle.cdi_base.specs.declared.place.Place.TheVariants as places
-use Rattle.cdi_accepted.specs.of_beans.Kinds.{is_managed}
-use Rattle.cdi_accepted.specs.of_beans.declared.bean.Bean.{Bean}
-use Rattle.cdi_accepted.specs.of_beans.declared.bean.EnabledInterceptor.{EnabledInterceptor}
-use Rattle.cdi_accepted.specs.of_beans.declared.bean.ObserverMethod.{ObserverMethod}
+use Rattle.cdi_beans.specs.Kinds.{is_managed}
+use Rattle.cdi_beans.specs.declared.bean.Bean.{Bean}
+use Rattle.cdi_beans.specs.declared.bean.EnabledInterceptor.{EnabledInterceptor}
+use Rattle.cdi_beans.specs.declared.bean.ObserverMethod.{ObserverMethod}
 use Rattle.cdi_bodies.specs.declared.entry.Entry.{Entry}
-use Rattle.cdi_accepted.specs.of_body_check.Shapes.{shape_of}
-use Rattle.cdi_accepted.specs.of_body_check.Sites.{Site, body_of, member_body, method_body}
-use Rattle.cdi_accepted.specs.of_plans.Chains.{interceptors_of}
-use Rattle.cdi_accepted.specs.of_check.Accepted.{AreBodiesSound}
-use Rattle.cdi_accepted.specs.of_check.Tables.{setting_by}
+use Rattle.cdi_body_check.specs.Shapes.{shape_of}
+use Rattle.cdi_body_check.specs.Sites.{Site, body_of, member_body, method_body}
+use Rattle.cdi_plans.specs.Chains.{interceptors_of}
+use Rattle.cdi_check.specs.Accepted.{AreBodiesSound}
+use Rattle.cdi_check.specs.Tables.{setting_by}
 use Rattle.cdi_deployment.specs.declared.deployment.Class.{Class}
 use Rattle.cdi_deployment.specs.declared.deployment.Constructor.{Constructor}
 use Rattle.cdi_deployment.specs.declared.deployment.Deployment.{Deployment}
@@ -26,32 +26,32 @@ use Rattle.cdi_deployment.specs.declared.deployment.Interceptor.{Interceptor}
 use Rattle.cdi_deployment.specs.declared.deployment.Member.{Member}
 use Rattle.cdi_deployment.specs.declared.deployment.Member.TheVariants as members
 use Rattle.cdi_deployment.specs.declared.deployment.Observer.{Observer}
-use Rattle.cdi_accepted.specs.of_event_tables.Observers.{group_with, planned_observer, planned_with, with_next, with_planned, with_told}
-use Rattle.cdi_accepted.specs.of_event_tables.declared.ids.BodyIds.{BodyIds}
-use Rattle.cdi_accepted.specs.of_event_tables.declared.observer_groups.ObserverGroup.{ObserverGroup}
-use Rattle.cdi_accepted.specs.of_event_tables.declared.observers.PlannedObserver.{PlannedObserver}
-use Rattle.cdi_accepted.specs.of_plans.Codes.{completion, constructor_body, post_construct, pre_destroy}
-use Rattle.cdi_accepted.specs.of_plans.Observers.{observer_of, observer_method}
-use Rattle.cdi_accepted.specs.of_plans.Plans.{IsPlanOf}
-use Rattle.cdi_accepted.specs.of_plans.Products.{IsProductPlan, disposer_method}
-use Rattle.cdi_accepted.specs.of_plans.Steps.{construction, injections, steps_of}
-use Rattle.cdi_accepted.specs.of_plans.Tables.{PlanTables}
-use Rattle.cdi_accepted.specs.of_plans.declared.plan.Code.{Code}
-use Rattle.cdi_accepted.specs.of_plans.declared.plan.InjectedMethod.{InjectedMethod}
-use Rattle.cdi_accepted.specs.of_plans.declared.plan.ManagedPlan.{ManagedPlan}
-use Rattle.cdi_accepted.specs.of_plans.declared.plan.Plan.{Plan}
-use Rattle.cdi_accepted.specs.of_plans.declared.plan.Plan.TheVariants as plans
-use Rattle.cdi_accepted.specs.of_plans.declared.plan.ProductPlan.{ProductPlan}
-use Rattle.cdi_accepted.specs.of_plans.declared.plan.Source.{Source}
-use Rattle.cdi_accepted.specs.of_plans.declared.plan.Step.{Step}
-use Rattle.cdi_accepted.specs.of_plans.declared.plan.Step.TheVariants as steps
-use Rattle.cdi_accepted.specs.of_resolve.Filters.{Candidates, enabled_of, is_enabled}
-use Rattle.cdi_accepted.specs.of_run_tables.Machine.{AreIdsOf, declared_at, id_of, planned_at}
-use Rattle.cdi_accepted.specs.of_run_tables.Observers.{planned_groups}
-use Rattle.cdi_accepted.specs.of_run_tables.Planned.{IsPlanned, IsTabled, plan_tables}
-use Rattle.cdi_accepted.specs.of_run_tables.Registered.{are_registered, is_registered, registers_body, registers_group, registers_interceptor, registers_member, registers_plan, registers_source, registers_step}
-use Rattle.cdi_accepted.specs.of_run_tables.declared.planned.PlannedBean.{PlannedBean}
-use Rattle.cdi_accepted.specs.of_run_tables.declared.tables.RunTables.{RunTables}
+use Rattle.cdi_event_tables.specs.Observers.{group_with, planned_observer, planned_with, with_next, with_planned, with_told}
+use Rattle.cdi_event_tables.specs.declared.ids.BodyIds.{BodyIds}
+use Rattle.cdi_event_tables.specs.declared.observer_groups.ObserverGroup.{ObserverGroup}
+use Rattle.cdi_event_tables.specs.declared.observers.PlannedObserver.{PlannedObserver}
+use Rattle.cdi_plans.specs.Codes.{completion, constructor_body, post_construct, pre_destroy}
+use Rattle.cdi_plans.specs.Observers.{observer_of, observer_method}
+use Rattle.cdi_plans.specs.Plans.{IsPlanOf}
+use Rattle.cdi_plans.specs.Products.{IsProductPlan, disposer_method}
+use Rattle.cdi_plans.specs.Steps.{construction, injections, steps_of}
+use Rattle.cdi_plans.specs.Tables.{PlanTables}
+use Rattle.cdi_plans.specs.declared.plan.Code.{Code}
+use Rattle.cdi_plans.specs.declared.plan.InjectedMethod.{InjectedMethod}
+use Rattle.cdi_plans.specs.declared.plan.ManagedPlan.{ManagedPlan}
+use Rattle.cdi_plans.specs.declared.plan.Plan.{Plan}
+use Rattle.cdi_plans.specs.declared.plan.Plan.TheVariants as plans
+use Rattle.cdi_plans.specs.declared.plan.ProductPlan.{ProductPlan}
+use Rattle.cdi_plans.specs.declared.plan.Source.{Source}
+use Rattle.cdi_plans.specs.declared.plan.Step.{Step}
+use Rattle.cdi_plans.specs.declared.plan.Step.TheVariants as steps
+use Rattle.cdi_resolve.specs.Filters.{Candidates, enabled_of, is_enabled}
+use Rattle.cdi_run_tables.specs.Machine.{AreIdsOf, declared_at, id_of, planned_at}
+use Rattle.cdi_run_tables.specs.Observers.{planned_groups}
+use Rattle.cdi_run_tables.specs.Planned.{IsPlanned, IsTabled, plan_tables}
+use Rattle.cdi_run_tables.specs.Registered.{are_registered, is_registered, registers_body, registers_group, registers_interceptor, registers_member, registers_plan, registers_source, registers_step}
+use Rattle.cdi_run_tables.specs.declared.planned.PlannedBean.{PlannedBean}
+use Rattle.cdi_run_tables.specs.declared.tables.RunTables.{RunTables}
 use Rattle.cdi_types.specs.Line.{class_named}
 use Rattle.cdi_types.specs.Members.{members_of}
 use Rattle.cdi_accepted.proofs.Lists.{Among, at_among, given, mapped}

@@ -1,9 +1,9 @@
 -- In a deployment without problems of beans a class repeats no name of a class above it, unless by a member that is alike.
 use Rattle.std.proofs.Common.{ℕ, ◌≡◌, ◌∙◌, ◌&&◌, Bool, true, false, nat_eq, List, [], ◌∷◌, ◌++◌, map, filter, option_to_list, Some, refl, ap}
 use Rattle.std.specs.List.{enumerate_from, flat_map}
-use Rattle.cdi_run_tables.specs.of_bean_check.MemberPlaces.{same_place}
-use Rattle.cdi_run_tables.specs.of_bean_check.Repeated.{RepeatsAt, RepeatsSuperclass, has_field, has_other_member, repeated_names, repeats_at}
-use Rattle.cdi_run_tables.specs.of_bean_rules.Tiers.{AreBeanProblems}
+use Rattle.cdi_bean_check.specs.MemberPlaces.{same_place}
+use Rattle.cdi_bean_check.specs.Repeated.{RepeatsAt, RepeatsSuperclass, has_field, has_other_member, repeated_names, repeats_at}
+use Rattle.cdi_bean_rules.specs.Tiers.{AreBeanProblems}
 use Rattle.cdi_deployment.specs.declared.deployment.Class.{Class}
 use Rattle.cdi_deployment.specs.declared.deployment.Deployment.{Deployment}
 use Rattle.cdi_deployment.specs.declared.deployment.Field.{Field}
@@ -11,7 +11,7 @@ use Rattle.cdi_deployment.specs.declared.deployment.InjectedField.{InjectedField
 use Rattle.cdi_deployment.specs.declared.deployment.Member.{Member}
 use Rattle.cdi_types.specs.Line.{IsLineOf}
 use Rattle.cdi_deployment.specs.Member.{member_name}
-use Rattle.cdi_run_tables.proofs.of_plans.Fronts.{same}
+use Rattle.cdi_plans.proofs.Fronts.{same}
 use Rattle.cdi_problems.specs.Elements.{Element, elements_of, class_elements, interceptor_elements}
 use Rattle.cdi_problems.specs.declared.problem.ProblemKind.TheVariants as kinds
 use Rattle.cdi_quals.specs.declared.types.QualifierType.{QualifierType}

@@ -15,7 +15,7 @@ use Rattle.cdi_types.specs.Nodes.{graph_of, place_of}
 use Rattle.cdi_paths.specs.Rounds.{has_path_through}
 use Rattle.cdi_types.specs.Subtype.{IsAcyclic, IsBelow, IsSubtype, object, supertypes_of}
 use Rattle.cdi_types.specs.declared.declaration.TypeDeclaration.{TypeDeclaration}
-use Rattle.cdi_accepted.specs.of_event_tables.Events.{is_below_within, is_subtype}
+use Rattle.cdi_event_tables.specs.Events.{is_below_within, is_subtype}
 use Rattle.cdi_accepted.proofs.Lists.{among_contains, any_passes, contains_among, passing}
 use Rattle.cdi_accepted.proofs.Positions.{found_at}
 use Rattle.cdi_accepted.specs.Ties.{SubtypesAre}

@@ -1,16 +1,16 @@
 -- The tables of a deployment are one.
 use Rattle.std.proofs.Common.{◌≡◌, ◌∙◌, ℕ, zero, suc, Bool, false, List, [], ◌∷◌, length, slice_index_or, Option, Some, None, refl, sym, subst, arith}
 use Rattle.std.specs.Prelude.{slice_get}
-use Rattle.cdi_run_tables.specs.of_beans.Declarations.{AreDeclaredBy}
-use Rattle.cdi_run_tables.specs.of_beans.declared.bean.BeanList.{BeanList}
-use Rattle.cdi_run_tables.specs.of_beans.declared.declared.DeclaredTables.{DeclaredTables}
+use Rattle.cdi_beans.specs.Declarations.{AreDeclaredBy}
+use Rattle.cdi_beans.specs.declared.bean.BeanList.{BeanList}
+use Rattle.cdi_beans.specs.declared.declared.DeclaredTables.{DeclaredTables}
 use Rattle.cdi_deployment.specs.declared.deployment.Deployment.{Deployment}
-use Rattle.cdi_run_tables.proofs.of_enable.Free.{once}
-use Rattle.cdi_run_tables.specs.of_enable.Enablement.{Enablement, AreFlags, IsEnabledBean, IsEnabledManaged, bean_of_class, enablement_of}
-use Rattle.cdi_run_tables.specs.of_enable.declared.listed_bean.ListedBean.{ListedBean}
-use Rattle.cdi_run_tables.specs.of_enable.declared.managed_bean.ManagedBean.{ManagedBean}
-use Rattle.cdi_run_tables.specs.of_resolve.BeanTables.{bean_tables, AreBeanTables, AreTablesOf}
-use Rattle.cdi_run_tables.specs.of_resolve.declared.bean_tables.BeanTables.{BeanTables}
+use Rattle.cdi_enable.proofs.Free.{once}
+use Rattle.cdi_enable.specs.Enablement.{Enablement, AreFlags, IsEnabledBean, IsEnabledManaged, bean_of_class, enablement_of}
+use Rattle.cdi_enable.specs.declared.listed_bean.ListedBean.{ListedBean}
+use Rattle.cdi_enable.specs.declared.managed_bean.ManagedBean.{ManagedBean}
+use Rattle.cdi_resolve.specs.BeanTables.{bean_tables, AreBeanTables, AreTablesOf}
+use Rattle.cdi_resolve.specs.declared.bean_tables.BeanTables.{BeanTables}
 use Rattle.cdi_accepted.proofs.BeanLists.{one_list}
 use Rattle.cdi_accepted.proofs.Types.{one_qualifier_list, one_type_list}
 

@@ -6,12 +6,12 @@ use Rattle.std.specs.List.{list_all, slice_get}
 use Rattle.cdi_base.specs.BuiltIn.{number_of}
 use Rattle.cdi_base.specs.declared.built_in.BuiltIn.{BuiltIn}
 use Rattle.cdi_base.specs.declared.built_in.BuiltIn.TheVariants as names
-use Rattle.cdi_run_tables.specs.of_body_check.Exceptions.{is_declared}
+use Rattle.cdi_body_check.specs.Exceptions.{is_declared}
 use Rattle.cdi_deployment.specs.declared.deployment.Deployment.{Deployment}
 use Rattle.cdi_deployment.specs.declared.deployment.Exception.{Exception}
 use Rattle.cdi_name_check.specs.UnknownName.{is_built_in}
 use Rattle.cdi_run_tables.specs.Texts.{has_text, has_texts}
-use Rattle.cdi_accepted.specs.of_body_check.WrittenNames.{is_built_in_exception, is_exception}
+use Rattle.cdi_body_check.specs.WrittenNames.{is_built_in_exception, is_exception}
 use Rattle.cdi_accepted.proofs.Lists.{all_pass, passing}
 
 abbrev pub HasTextIn : List (List ℕ) → ℕ → Type 0

@@ -9,8 +9,8 @@ use Rattle.cdi_quals.specs.Qualifiers.{full_use}
 use Rattle.cdi_quals.specs.Types.{member_type, IsTypeOf, AreTypesOf, built_in_qualifiers, AreQualifiersOf}
 use Rattle.cdi_quals.specs.declared.qualifier.Qualifier.{Qualifier}
 use Rattle.cdi_quals.specs.declared.types.QualifierType.{QualifierType}
-use Rattle.cdi_run_tables.specs.of_bean_check.Qualifiers.{AreUsesOf, IsSetOf, specializing_uses, declared_uses}
-use Rattle.cdi_run_tables.proofs.of_event_tables.OneSet.{one_set}
+use Rattle.cdi_bean_check.specs.Qualifiers.{AreUsesOf, IsSetOf, specializing_uses, declared_uses}
+use Rattle.cdi_event_tables.proofs.OneSet.{one_set}
 use Rattle.cdi_accepted.proofs.OneLine.{neither}
 
 type_with : AnnotationType → List ℕ → QualifierType

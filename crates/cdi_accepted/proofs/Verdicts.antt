@@ -1,19 +1,19 @@
 -- The problems of a deployment with its bodies are one list.
 use Rattle.std.proofs.Common.{◌≡◌, ◌∙◌, ℕ, Bool, List, [], ◌++◌, Option, refl, sym, subst}
-use Rattle.cdi_run_tables.specs.of_beans.declared.bean.BeanList.{BeanList}
+use Rattle.cdi_beans.specs.declared.bean.BeanList.{BeanList}
 use Rattle.cdi_bodies.specs.declared.shape.Shape.{Shape}
 use Rattle.cdi_check.specs.Late.{AreBodyProblems, AreEnabledProblems, AreLateProblems, ArePointProblems, AreProblemsIn, setting_of}
 use Rattle.cdi_check.specs.Problems.{AreProblemsOf}
 use Rattle.cdi_check.specs.Tables.{setting_by}
-use Rattle.cdi_run_tables.specs.of_live.OwnPoints.{Inventory}
+use Rattle.cdi_live.specs.OwnPoints.{Inventory}
 use Rattle.cdi_deployment.specs.declared.deployment.Deployment.{Deployment}
-use Rattle.cdi_run_tables.specs.of_enable.Enablement.{Enablement, AreFlags, enablement_of}
+use Rattle.cdi_enable.specs.Enablement.{Enablement, AreFlags, enablement_of}
 use Rattle.cdi_problems.specs.Words.{problems_at}
 use Rattle.cdi_problems.specs.declared.problem.Problem.{Problem}
 use Rattle.cdi_problems.specs.declared.problem.ProblemKind.TheVariants as kinds
 use Rattle.cdi_quals.specs.declared.types.QualifierType.{QualifierType}
-use Rattle.cdi_run_tables.specs.of_resolve.BeanTables.{AreTablesOf}
-use Rattle.cdi_run_tables.specs.of_resolve.declared.bean_tables.BeanTables.{BeanTables}
+use Rattle.cdi_resolve.specs.BeanTables.{AreTablesOf}
+use Rattle.cdi_resolve.specs.declared.bean_tables.BeanTables.{BeanTables}
 use Rattle.cdi_accepted.proofs.BeanLists.{one_list}
 use Rattle.cdi_accepted.proofs.Findings.{no_early, one_early, one_place_list}
 use Rattle.cdi_accepted.proofs.Tables.{one_flags}

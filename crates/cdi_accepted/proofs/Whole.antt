@@ -3,38 +3,38 @@ use Rattle.std.proofs.Common.{ℕ, ◌≡◌, ◌∙◌, true, nat_eq, List, map
 use Rattle.std.specs.Prelude.{option_map, slice_get}
 use Rattle.std.specs.List.{AllByRecursion, filter_map, list_any}
 use Rattle.cdi_base.specs.Fields.{has}
-use Rattle.cdi_accepted.specs.of_beans.declared.bean.Bean.{Bean}
+use Rattle.cdi_beans.specs.declared.bean.Bean.{Bean}
 use Rattle.cdi_bodies.specs.Gives.{LieInShape, lookups_of}
 use Rattle.cdi_bodies.specs.declared.entry.Entry.{Entry}
-use Rattle.cdi_accepted.specs.of_body_check.Shapes.{shape_of}
-use Rattle.cdi_accepted.specs.of_check.Accepted.{AreBodiesSound}
-use Rattle.cdi_accepted.specs.of_check.Tables.{setting_by}
+use Rattle.cdi_body_check.specs.Shapes.{shape_of}
+use Rattle.cdi_check.specs.Accepted.{AreBodiesSound}
+use Rattle.cdi_check.specs.Tables.{setting_by}
 use Rattle.cdi_deployment.specs.Member.{member_name, member_params}
 use Rattle.cdi_deployment.specs.declared.deployment.Class.{Class}
 use Rattle.cdi_deployment.specs.declared.deployment.Deployment.{Deployment}
 use Rattle.cdi_deployment.specs.declared.deployment.Member.{Member}
-use Rattle.cdi_accepted.specs.of_beans.Kinds.{is_managed}
+use Rattle.cdi_beans.specs.Kinds.{is_managed}
 use Rattle.cdi_machine.specs.Registered.{legal_of}
 use Rattle.cdi_machine.specs.Runs.{Legal}
 use Rattle.cdi_machine.specs.Tables as machine
 use Rattle.cdi_machine.specs.Words.{Asked}
 use Rattle.cdi_types.specs.Line.{class_named}
-use Rattle.cdi_accepted.specs.of_plans.Codes.{injected_method}
-use Rattle.cdi_accepted.specs.of_plans.Plans.{IsPlanOf}
-use Rattle.cdi_accepted.specs.of_plans.Products.{IsProductPlan, disposer_method}
-use Rattle.cdi_accepted.specs.of_plans.declared.plan.InjectedMethod.{InjectedMethod}
-use Rattle.cdi_accepted.specs.of_plans.declared.plan.ManagedPlan.{ManagedPlan}
-use Rattle.cdi_accepted.specs.of_plans.declared.plan.Plan.{Plan}
-use Rattle.cdi_accepted.specs.of_plans.declared.plan.Plan.TheVariants as plans
-use Rattle.cdi_accepted.specs.of_plans.declared.plan.ProductPlan.{ProductPlan}
-use Rattle.cdi_accepted.specs.of_plans.declared.plan.Source.{Source}
-use Rattle.cdi_accepted.specs.of_resolve.Filters.{enabled_of}
-use Rattle.cdi_accepted.specs.of_run_tables.Machine.{AreIdsOf, bean_with, first_values, id_of, machine_kind, machine_member, machine_source, machine_tables, product_with}
-use Rattle.cdi_accepted.specs.of_run_tables.Planned.{IsPlanned, IsTabled, plan_tables}
-use Rattle.cdi_accepted.specs.of_run_tables.Texts.{has_texts}
-use Rattle.cdi_accepted.specs.of_run_tables.declared.planned.PlannedBean.{PlannedBean}
-use Rattle.cdi_accepted.specs.of_run_tables.declared.tables.RunTables.{RunTables}
-use Rattle.cdi_accepted.specs.of_check.OwnParts.{has_field}
+use Rattle.cdi_plans.specs.Codes.{injected_method}
+use Rattle.cdi_plans.specs.Plans.{IsPlanOf}
+use Rattle.cdi_plans.specs.Products.{IsProductPlan, disposer_method}
+use Rattle.cdi_plans.specs.declared.plan.InjectedMethod.{InjectedMethod}
+use Rattle.cdi_plans.specs.declared.plan.ManagedPlan.{ManagedPlan}
+use Rattle.cdi_plans.specs.declared.plan.Plan.{Plan}
+use Rattle.cdi_plans.specs.declared.plan.Plan.TheVariants as plans
+use Rattle.cdi_plans.specs.declared.plan.ProductPlan.{ProductPlan}
+use Rattle.cdi_plans.specs.declared.plan.Source.{Source}
+use Rattle.cdi_resolve.specs.Filters.{enabled_of}
+use Rattle.cdi_run_tables.specs.Machine.{AreIdsOf, bean_with, first_values, id_of, machine_kind, machine_member, machine_source, machine_tables, product_with}
+use Rattle.cdi_run_tables.specs.Planned.{IsPlanned, IsTabled, plan_tables}
+use Rattle.cdi_run_tables.specs.Texts.{has_texts}
+use Rattle.cdi_run_tables.specs.declared.planned.PlannedBean.{PlannedBean}
+use Rattle.cdi_run_tables.specs.declared.tables.RunTables.{RunTables}
+use Rattle.cdi_check.specs.OwnParts.{has_field}
 use Rattle.cdi_whole.specs.Fits.{FitsBean, FitsMember, FitsSource}
 use Rattle.cdi_accepted.proofs.Beans.{beside, stands_listed, target}
 use Rattle.cdi_accepted.proofs.Fields.{has_first}

@@ -2,8 +2,8 @@
 use Rattle.std.proofs.Common.{map, filter, not, ap}
 use Rattle.cdi_base.specs.declared.uses.Use.{Use}
 use Rattle.cdi_bodies.specs.Events.{is_any}
-use Rattle.cdi_accepted.proofs.of_event_tables.Written.{ordered_are}
-use Rattle.cdi_accepted.specs.of_event_tables.Events.{written_use}
+use Rattle.cdi_event_tables.proofs.Written.{ordered_are}
+use Rattle.cdi_event_tables.specs.Events.{written_use}
 use Rattle.cdi_quals.specs.Qualifiers.{full_use}
 use Rattle.cdi_accepted.specs.Ties.{WrittenAre}
 

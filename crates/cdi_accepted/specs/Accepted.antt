@@ -2,14 +2,14 @@
 use Rattle.std.specs.Prelude.{ℕ, ◌≡◌, true, List, [], Some, None}
 use Rattle.cdi_bodies.specs.Gives.{lookups_of}
 use Rattle.cdi_bodies.specs.declared.entry.Entry.{Entry}
-use Rattle.cdi_accepted.specs.of_body_check.Shapes.{shape_of}
-use Rattle.cdi_accepted.specs.of_check.Late.{AreProblemsIn}
-use Rattle.cdi_accepted.specs.of_check.Problems.{AreProblemsOf}
-use Rattle.cdi_accepted.specs.of_check.Tables.{setting_by}
+use Rattle.cdi_body_check.specs.Shapes.{shape_of}
+use Rattle.cdi_check.specs.Late.{AreProblemsIn}
+use Rattle.cdi_check.specs.Problems.{AreProblemsOf}
+use Rattle.cdi_check.specs.Tables.{setting_by}
 use Rattle.cdi_whole.specs.Beginnings.{BeginsOnce}
-use Rattle.cdi_whole.specs.of_ledger.Callbacks.{FirstsStandOnce, PlacesOfBodiesAreApart}
-use Rattle.cdi_whole.specs.of_ledger.Ledger.{Item, items_of}
-use Rattle.cdi_whole.specs.of_ledger.Stories.{Story}
+use Rattle.cdi_ledger.specs.Callbacks.{FirstsStandOnce, PlacesOfBodiesAreApart}
+use Rattle.cdi_ledger.specs.Ledger.{Item, items_of}
+use Rattle.cdi_ledger.specs.Stories.{Story}
 use Rattle.cdi_machine.specs.Commands.{Command, task}
 use Rattle.cdi_machine.specs.Container.{State, refusal}
 use Rattle.cdi_machine.specs.Registered.{legal_of}
@@ -17,11 +17,11 @@ use Rattle.cdi_machine.specs.Runs.{Outcome, Runs}
 use Rattle.cdi_machine.specs.Tables.{Managed, Bean, Kind, One}
 use Rattle.cdi_machine.specs.Words.{Asked}
 use Rattle.cdi_machine.specs.World.{World, at_begin}
-use Rattle.cdi_accepted.specs.of_run_tables.Machine.{AreIdsOf, machine_tables}
-use Rattle.cdi_accepted.specs.of_run_tables.Planned.{IsTabled}
-use Rattle.cdi_accepted.specs.of_run_tables.Registered.{HasBodies}
-use Rattle.cdi_accepted.specs.of_run_tables.Texts.{has_texts}
-use Rattle.cdi_accepted.specs.of_run_tables.declared.tables.RunTables.{RunTables}
+use Rattle.cdi_run_tables.specs.Machine.{AreIdsOf, machine_tables}
+use Rattle.cdi_run_tables.specs.Planned.{IsTabled}
+use Rattle.cdi_run_tables.specs.Registered.{HasBodies}
+use Rattle.cdi_run_tables.specs.Texts.{has_texts}
+use Rattle.cdi_run_tables.specs.declared.tables.RunTables.{RunTables}
 use Rattle.cdi_whole.specs.Fits.{Fits, FitsClass}
 
 -- the tables of a deployment that has no problems with these registered bodies, and texts of its exceptions

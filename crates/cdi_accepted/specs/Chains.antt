@@ -2,14 +2,14 @@
 use Rattle.std.specs.Prelude.{ℕ, ◌≡◌, List, Option, Some, slice_get}
 use Rattle.cdi_base.specs.declared.place.InterceptorMethod.{InterceptorMethod}
 use Rattle.cdi_base.specs.declared.place.InterceptorMethod.TheVariants as methods
-use Rattle.cdi_accepted.specs.of_beans.declared.bean.Bean.{Bean}
-use Rattle.cdi_accepted.specs.of_beans.declared.bean.BeanMember.{BeanMember}
-use Rattle.cdi_accepted.specs.of_beans.declared.bean.EnabledInterceptor.{EnabledInterceptor}
-use Rattle.cdi_accepted.specs.of_plans.Chains.{ChainTables, method_of, invoke_chain, life_chain}
+use Rattle.cdi_beans.specs.declared.bean.Bean.{Bean}
+use Rattle.cdi_beans.specs.declared.bean.BeanMember.{BeanMember}
+use Rattle.cdi_beans.specs.declared.bean.EnabledInterceptor.{EnabledInterceptor}
+use Rattle.cdi_plans.specs.Chains.{ChainTables, method_of, invoke_chain, life_chain}
 use Rattle.cdi_deployment.specs.declared.deployment.Class.{Class}
 use Rattle.cdi_deployment.specs.declared.deployment.Constructor.{Constructor}
-use Rattle.cdi_accepted.specs.of_plans.Steps.{steps_of}
-use Rattle.cdi_accepted.specs.of_run_tables.Machine.{machine_steps}
+use Rattle.cdi_plans.specs.Steps.{steps_of}
+use Rattle.cdi_run_tables.specs.Machine.{machine_steps}
 use Rattle.cdi_ledger.specs.Whose.{IsIn}
 use Rattle.cdi_whole.specs.Fits.{intercepted_by}
 

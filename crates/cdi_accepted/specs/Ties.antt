@@ -3,8 +3,8 @@
 use Rattle.std.specs.Prelude.{ℕ, ◌≡◌, ◌↔◌, List, map, filter, not, IsTrue, option_and_then, slice_get}
 use Rattle.std.specs.List.{filter_map}
 use Rattle.cdi_base.specs.declared.uses.Use.{Use}
-use Rattle.cdi_accepted.specs.of_bean_check.Qualifiers.{full_uses, IsSetOf}
-use Rattle.cdi_accepted.specs.of_beans.declared.bean.Bean.{Bean}
+use Rattle.cdi_bean_check.specs.Qualifiers.{full_uses, IsSetOf}
+use Rattle.cdi_beans.specs.declared.bean.Bean.{Bean}
 use Rattle.cdi_bodies.specs.Events.{is_any}
 use Rattle.cdi_machine.specs.Tables as machine
 use Rattle.cdi_observers.specs.Groups.{AreGroupsOf}
@@ -14,10 +14,10 @@ use Rattle.cdi_quals.specs.Order.{compare_qualifiers}
 use Rattle.cdi_quals.specs.OrderedSet.{IsOrderedSet}
 use Rattle.cdi_quals.specs.Qualifiers.{has}
 use Rattle.cdi_quals.specs.declared.qualifier.Qualifier.{Qualifier}
-use Rattle.cdi_accepted.specs.of_event_tables.Events.{is_subtype, written_use}
-use Rattle.cdi_accepted.specs.of_run_tables.Machine.{machine_observer, machine_tables}
-use Rattle.cdi_accepted.specs.of_run_tables.Planned.{IsTabled}
-use Rattle.cdi_accepted.specs.of_run_tables.declared.tables.RunTables.{RunTables}
+use Rattle.cdi_event_tables.specs.Events.{is_subtype, written_use}
+use Rattle.cdi_run_tables.specs.Machine.{machine_observer, machine_tables}
+use Rattle.cdi_run_tables.specs.Planned.{IsTabled}
+use Rattle.cdi_run_tables.specs.declared.tables.RunTables.{RunTables}
 use Rattle.cdi_types.specs.Subtype.{IsAcyclic, IsSubtype}
 use Rattle.cdi_types.specs.declared.declaration.TypeDeclaration.{TypeDeclaration}
 

@@ -4,9 +4,3 @@
 
 pub mod laws;
 pub mod uniqueness_laws;
-
-// What callers name of the libraries below.
-pub use cdi_check;
-pub use cdi_run_tables::{cdi_beans, cdi_resolve};
-pub use cdi_whole;
-pub use cdi_whole::cdi_ledger;

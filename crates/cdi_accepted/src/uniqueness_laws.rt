@@ -1,18 +1,18 @@
 //! Laws of what a deployment determines, over the definitions alone. A call of one of these does nothing: its contract is the law.
 ghost use Rattle.std.specs.Prelude.{◌≡◌, ℕ, List, Option};
 ghost use Rattle.std.specs.List.{AllZip};
-ghost use Rattle.cdi_run_tables.specs.of_beans.Problems.{IsMadeOf};
-ghost use Rattle.cdi_run_tables.specs.of_beans.declared.bean.Bean.{Bean};
-ghost use Rattle.cdi_run_tables.specs.of_beans.declared.bean.BeanList.{BeanList};
+ghost use Rattle.cdi_beans.specs.Problems.{IsMadeOf};
+ghost use Rattle.cdi_beans.specs.declared.bean.Bean.{Bean};
+ghost use Rattle.cdi_beans.specs.declared.bean.BeanList.{BeanList};
 ghost use Rattle.cdi_bodies.specs.declared.shape.Shape.{Shape};
 ghost use Rattle.cdi_check.specs.Problems.{AreProblemsOf};
 ghost use Rattle.cdi_deployment.specs.declared.deployment.Deployment.{Deployment};
-ghost use Rattle.cdi_run_tables.specs.of_plans.Tables.{PlanTables};
+ghost use Rattle.cdi_plans.specs.Tables.{PlanTables};
 ghost use Rattle.cdi_problems.specs.declared.problem.Problem.{Problem};
 ghost use Rattle.cdi_run_tables.specs.Planned.{IsPlanned};
 ghost use Rattle.cdi_run_tables.specs.declared.planned.PlannedBean.{PlannedBean};
-ghost use Rattle.cdi_run_tables.specs.of_resolve.BeanTables.{AreTablesOf};
-ghost use Rattle.cdi_run_tables.specs.of_resolve.declared.bean_tables.BeanTables.{BeanTables};
+ghost use Rattle.cdi_resolve.specs.BeanTables.{AreTablesOf};
+ghost use Rattle.cdi_resolve.specs.declared.bean_tables.BeanTables.{BeanTables};
 
 /// A deployment whose names and beans have no problem has one bean list (Jakarta CDI 4.0, *Beans*).
 pub fn law_one_bean_list()

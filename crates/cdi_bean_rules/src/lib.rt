@@ -9,8 +9,6 @@ pub mod problems;
 pub mod required;
 pub mod tables;
 
-// What callers name of the libraries below.
-pub use cdi_bean_check;
 pub use conditional::{ConditionalDependent, conditional_of_dependent};
 pub use disposers::{TwoDisposers, UnmatchedDisposer, serves};
 pub use limits::{MAX_BEANS, MAX_OBSERVERS, has_too_many};

@@ -7,4 +7,3 @@ pub mod Served
 pub mod Sets
 pub mod Sorted
 pub mod Specialized
-pub use Rattle.cdi_bean_rules.proofs.of_bean_check as of_bean_check

@@ -6,7 +6,7 @@ use Rattle.cdi_deployment.specs.declared.deployment.Deployment.{Deployment}
 use Rattle.cdi_deployment.specs.declared.deployment.Member.{Member}
 use Rattle.cdi_quals.specs.declared.types.QualifierType.{QualifierType}
 use Rattle.cdi_types.specs.Declarations.{declarations_of}
-use Rattle.cdi_bean_rules.specs.of_bean_check.Inherited.{AreMembersOf}
+use Rattle.cdi_bean_check.specs.Inherited.{AreMembersOf}
 use Rattle.cdi_beans.specs.Adds.{Adds}
 use Rattle.cdi_beans.specs.ObserverMethods.{AreObserversOf, IsObserverOf, observer}
 use Rattle.cdi_beans.specs.declared.bean.ObserverMethod.{ObserverMethod}

@@ -3,7 +3,7 @@ use Rattle.std.proofs.Common.{◌≡◌, ◌∙◌, Bool, true, false, cond, ℕ
 use Rattle.cdi_types.specs.ListsThose.{ListsThose}
 use Rattle.cdi_types.specs.Subtype.{IsSubtype}
 use Rattle.cdi_types.specs.declared.declaration.TypeDeclaration.{TypeDeclaration}
-use Rattle.cdi_bean_rules.specs.of_bean_check.BeanTypes.{IsBeanType, is_left}
+use Rattle.cdi_bean_check.specs.BeanTypes.{IsBeanType, is_left}
 
 module _ (types : List TypeDeclaration) (of : ℕ) (typed : Option (List ℕ)) where
   pub restricted : {all above : List ℕ} → ListsThose (IsSubtype types of) all above → ListsThose (IsBeanType types of typed) all (filter (is_left typed) above)

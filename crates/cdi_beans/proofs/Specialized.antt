@@ -20,8 +20,8 @@ use Rattle.cdi_types.specs.declared.declaration.TypeDeclaration.{TypeDeclaration
 use Rattle.cdi_types.proofs.Listed.{cases_Option, not_in_none, first_or_later}
 use Rattle.cdi_types.proofs.Refined.{is_graph, nothing_above, edge_to, below_from_path}
 use Rattle.cdi_types.proofs.Steps.{steps_of}
-use Rattle.cdi_bean_rules.specs.of_bean_check.ManagedBeans.{is_bean, bean_class, extended_bean, says_specializes}
-use Rattle.cdi_bean_rules.specs.of_bean_check.Qualifiers.{specialized_bean, AreUsesOf, declared_uses, full_uses}
+use Rattle.cdi_bean_check.specs.ManagedBeans.{is_bean, bean_class, extended_bean, says_specializes}
+use Rattle.cdi_bean_check.specs.Qualifiers.{specialized_bean, AreUsesOf, declared_uses, full_uses}
 use Rattle.cdi_beans.specs.ManagedQualifiers.{qualifiers_in, added_uses, own_uses, AreManaged, AreSpecialized}
 use Rattle.cdi_quals.specs.Qualifiers.{full_use}
 use Rattle.cdi_quals.specs.declared.qualifier.Qualifier.{Qualifier}

@@ -3,7 +3,7 @@ use Rattle.std.specs.Prelude.{◌≡◌, List, filter}
 use Rattle.std.specs.List.{flat_map, AllZip}
 use Rattle.cdi_deployment.specs.declared.deployment.Deployment.{Deployment}
 use Rattle.cdi_quals.specs.declared.types.QualifierType.{QualifierType}
-use Rattle.cdi_bean_rules.specs.of_bean_check.ManagedBeans.{is_bean}
+use Rattle.cdi_bean_check.specs.ManagedBeans.{is_bean}
 use Rattle.cdi_beans.specs.Beans.{IsBeanOf, sources_in}
 use Rattle.cdi_beans.specs.DisposerMethods.{IsDisposerOf, disposers_in}
 use Rattle.cdi_beans.specs.Interceptors.{AreInterceptorsOf}

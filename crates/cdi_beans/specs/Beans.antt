@@ -14,11 +14,11 @@ use Rattle.cdi_quals.specs.declared.types.QualifierType.{QualifierType}
 use Rattle.cdi_types.specs.ListsThose.{ListsThose}
 use Rattle.cdi_types.specs.Declarations.{declarations_of}
 use Rattle.cdi_types.specs.Subtype.{all_types}
-use Rattle.cdi_bean_rules.specs.of_bean_check.BeanTypes.{IsBeanType, restriction}
-use Rattle.cdi_bean_rules.specs.of_bean_check.Inherited.{AreMembersOf}
+use Rattle.cdi_bean_check.specs.BeanTypes.{IsBeanType, restriction}
+use Rattle.cdi_bean_check.specs.Inherited.{AreMembersOf}
 use Rattle.cdi_bean_rules.specs.Limits.{is_producer}
-use Rattle.cdi_bean_rules.specs.of_bean_check.ManagedBeans.{is_bean}
-use Rattle.cdi_bean_rules.specs.of_bean_check.Qualifiers.{AreUsesOf, uses_with_built_in, full_uses, specialized_bean}
+use Rattle.cdi_bean_check.specs.ManagedBeans.{is_bean}
+use Rattle.cdi_bean_check.specs.Qualifiers.{AreUsesOf, uses_with_built_in, full_uses, specialized_bean}
 use Rattle.cdi_beans.specs.declared.bean.Bean.{Bean}
 use Rattle.cdi_beans.specs.declared.bean.BeanKind.{BeanKind}
 use Rattle.cdi_beans.specs.declared.bean.BeanKind.TheVariants as kinds

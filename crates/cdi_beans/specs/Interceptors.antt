@@ -8,7 +8,7 @@ use Rattle.cdi_deployment.specs.declared.deployment.Deployment.{Deployment}
 use Rattle.cdi_deployment.specs.declared.deployment.Interceptor.{Interceptor}
 use Rattle.cdi_quals.specs.OrderedSet.{IsOrderedSet}
 use Rattle.cdi_quals.specs.declared.types.QualifierType.{QualifierType}
-use Rattle.cdi_bean_rules.specs.of_bean_check.Qualifiers.{IsSetOf}
+use Rattle.cdi_bean_check.specs.Qualifiers.{IsSetOf}
 use Rattle.cdi_beans.specs.declared.bean.EnabledInterceptor.{EnabledInterceptor}
 
 -- an interceptor with its index among those of the deployment

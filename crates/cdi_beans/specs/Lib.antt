@@ -10,5 +10,3 @@ pub mod ObserverMembers
 pub mod ObserverMethods
 pub mod Problems
 pub mod SpecializedParts
-pub use Rattle.cdi_bean_rules.specs.of_bean_check as of_bean_check
-pub use Rattle.cdi_bean_rules.specs as of_bean_rules

@@ -7,7 +7,7 @@ use Rattle.cdi_base.specs.declared.uses.Use.{Use}
 use Rattle.cdi_deployment.specs.declared.deployment.Class.{Class}
 use Rattle.cdi_quals.specs.declared.qualifier.Qualifier.{Qualifier}
 use Rattle.cdi_quals.specs.declared.types.QualifierType.{QualifierType}
-use Rattle.cdi_bean_rules.specs.of_bean_check.Qualifiers.{AreUsesOf, declared_uses, full_uses, specialized_bean, specializing_uses, uses_with_built_in}
+use Rattle.cdi_bean_check.specs.Qualifiers.{AreUsesOf, declared_uses, full_uses, specialized_bean, specializing_uses, uses_with_built_in}
 
 -- the qualifiers that some parts hold
 abbrev pub qualifiers_in : {Z : Type 0} → List (Rc (List Qualifier) Z) → List Qualifier

@@ -6,7 +6,7 @@ use Rattle.cdi_deployment.specs.declared.deployment.Member.{Member}
 use Rattle.cdi_types.specs.Declarations.{declarations_of}
 use Rattle.cdi_types.specs.Kinds.{of_kind}
 use Rattle.cdi_types.specs.declared.kind.MemberKind.TheVariants as kinds
-use Rattle.cdi_bean_rules.specs.of_bean_check.Inherited.{AreMembersOf}
+use Rattle.cdi_bean_check.specs.Inherited.{AreMembersOf}
 
 -- the observers among the members of a bean, superclass first, each with the class that declares it
 pub record AreObserverMembersOf (d : Deployment) (bean : Class) (observers : List (Class × Member))

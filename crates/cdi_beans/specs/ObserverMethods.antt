@@ -8,8 +8,8 @@ use Rattle.cdi_deployment.specs.declared.deployment.Member.TheVariants as member
 use Rattle.cdi_deployment.specs.declared.deployment.Observer.{Observer}
 use Rattle.cdi_quals.specs.declared.types.QualifierType.{QualifierType}
 use Rattle.cdi_types.specs.Declarations.{declarations_of}
-use Rattle.cdi_bean_rules.specs.of_bean_check.Inherited.{AreMembersOf}
-use Rattle.cdi_bean_rules.specs.of_bean_check.Qualifiers.{IsSetOf}
+use Rattle.cdi_bean_check.specs.Inherited.{AreMembersOf}
+use Rattle.cdi_bean_check.specs.Qualifiers.{IsSetOf}
 use Rattle.cdi_beans.specs.declared.bean.ObserverMethod.{ObserverMethod}
 
 abbrev pub observer : Class × Member → Option (Class × Observer)

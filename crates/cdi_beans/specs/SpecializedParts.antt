@@ -3,8 +3,8 @@ use Rattle.std.specs.Prelude.{ℕ, ◌≡◌, nat_eq, List, Some, IfSome}
 use Rattle.std.specs.HashMap.{get}
 use Rattle.cdi_deployment.specs.declared.deployment.Class.{Class}
 use Rattle.cdi_quals.specs.declared.types.QualifierType.{QualifierType}
-use Rattle.cdi_bean_rules.specs.of_bean_check.ManagedBeans.{bean_class}
-use Rattle.cdi_bean_rules.specs.of_bean_check.Qualifiers.{full_uses}
+use Rattle.cdi_bean_check.specs.ManagedBeans.{bean_class}
+use Rattle.cdi_bean_check.specs.Qualifiers.{full_uses}
 use Rattle.cdi_beans.specs.ManagedQualifiers.{own_uses}
 use Rattle.cdi_beans.specs.declared.specialized_parts.SpecializedParts.{SpecializedParts}
 

@@ -10,7 +10,7 @@ use crate::declared::DeclaredTables;
 use crate::list::list_beans;
 use crate::listed::ListedBeans;
 use cdi_base::{OrMemory, Seq};
-use cdi_bean_rules::cdi_bean_check::BeanClasses;
+use cdi_bean_check::BeanClasses;
 use cdi_bean_rules::{RuleTables, bean_problems};
 use cdi_deployment::Deployment;
 use cdi_name_check::{NameSets, name_problems};

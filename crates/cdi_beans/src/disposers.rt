@@ -2,7 +2,7 @@
 ghost use Rattle.std.specs.Prelude.{◌≡◌, [], ◌∷◌, filter, IfOk, OnOk};
 ghost use Rattle.std.specs.List.{flat_map, filter_map, AllZip};
 ghost use Rattle.cdi_types.specs.Declarations.{declarations_of};
-ghost use Rattle.cdi_bean_rules.specs.of_bean_check.ManagedBeans.{is_bean};
+ghost use Rattle.cdi_bean_check.specs.ManagedBeans.{is_bean};
 ghost use Rattle.cdi_beans.specs.Adds.{Adds};
 ghost use Rattle.cdi_beans.specs.DisposerMethods as spec;
 

@@ -16,12 +16,9 @@ mod tables;
 mod types;
 mod uses;
 
-// What callers name of the libraries below.
 pub use bean::{
     Bean, BeanKind, BeanList, BeanMember, DisposerMethod, EnabledInterceptor, ObserverMethod,
 };
-pub use cdi_bean_rules;
-pub use cdi_bean_rules::cdi_bean_check;
 pub use declared::DeclaredTables;
 pub use list::list_beans;
 pub use listed::ListedBeans;

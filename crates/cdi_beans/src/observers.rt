@@ -1,7 +1,7 @@
 //! The observers of beans.
 ghost use Rattle.std.specs.Prelude.{◌≡◌, [], ◌∷◌, filter, IfOk, OnOk};
 ghost use Rattle.std.specs.List.{filter_map};
-ghost use Rattle.cdi_bean_rules.specs.of_bean_check.ManagedBeans.{is_bean};
+ghost use Rattle.cdi_bean_check.specs.ManagedBeans.{is_bean};
 ghost use Rattle.cdi_beans.specs.Adds.{Adds};
 ghost use Rattle.cdi_beans.specs.ObserverMethods as spec;
 

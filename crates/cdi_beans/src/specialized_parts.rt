@@ -1,7 +1,7 @@
 //! What beans have of the beans that they specialize.
 ghost use Rattle.std.specs.Prelude.{◌≡◌, map, Some, Contains, IfOk, OnOk};
-ghost use Rattle.cdi_bean_rules.specs.of_bean_check.ManagedBeans.{bean_class};
-ghost use Rattle.cdi_bean_rules.specs.of_bean_check.Qualifiers.{full_uses};
+ghost use Rattle.cdi_bean_check.specs.ManagedBeans.{bean_class};
+ghost use Rattle.cdi_bean_check.specs.Qualifiers.{full_uses};
 ghost use Rattle.cdi_beans.specs.ManagedQualifiers.{own_uses, qualifiers_in, AreSpecialized};
 ghost use Rattle.cdi_beans.specs.SpecializedParts.{HasOwn};
 ghost use Rattle.cdi_types.specs.Declarations.{of_class};
@@ -9,7 +9,7 @@ ghost use Rattle.cdi_types.specs.Subtype.{IsAcyclic};
 
 use crate::uses::own_qualifiers;
 use cdi_base::{Name, Seq};
-use cdi_bean_rules::cdi_bean_check::BeanClasses;
+use cdi_bean_check::BeanClasses;
 use cdi_deployment::Class;
 use cdi_quals::{Qualifier, QualifierTypes};
 use std::alloc::{AllocError, Global};

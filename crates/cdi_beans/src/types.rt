@@ -2,10 +2,10 @@
 ghost use Rattle.std.specs.Prelude.{IfOk};
 ghost use Rattle.cdi_types.specs.ListsThose.{ListsThose};
 ghost use Rattle.cdi_types.specs.Subtype.{all_types};
-ghost use Rattle.cdi_bean_rules.specs.of_bean_check.BeanTypes as spec;
+ghost use Rattle.cdi_bean_check.specs.BeanTypes as spec;
 
 use cdi_base::{Name, Seq};
-use cdi_bean_rules::cdi_bean_check::is_left;
+use cdi_bean_check::is_left;
 use cdi_types::TypeTable;
 use std::alloc::{AllocError, Global};
 

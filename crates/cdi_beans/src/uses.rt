@@ -1,6 +1,6 @@
 //! The qualifiers that beans have by what is declared.
 ghost use Rattle.std.specs.Prelude.{◌≡◌, ◌++◌, ◌∷◌, [], map, Contains, IfOk, OnOk};
-ghost use Rattle.cdi_bean_rules.specs.of_bean_check.Qualifiers as spec;
+ghost use Rattle.cdi_bean_check.specs.Qualifiers as spec;
 ghost use Rattle.cdi_beans.specs.ManagedQualifiers.{own_uses, AreManaged};
 ghost use Rattle.cdi_beans.specs.SpecializedParts.{HasOwn};
 ghost use Rattle.cdi_types.specs.Declarations.{of_class};
@@ -9,7 +9,7 @@ ghost use Rattle.cdi_types.specs.Subtype.{IsAcyclic};
 use crate::qualifiers::BeanQualifiers;
 use crate::specialized_parts::SpecializedParts;
 use cdi_base::{BuiltIn, Seq, Use};
-use cdi_bean_rules::cdi_bean_check::BeanClasses;
+use cdi_bean_check::BeanClasses;
 use cdi_deployment::Class;
 use cdi_quals::{Qualifier, QualifierTypes};
 use std::alloc::{AllocError, Global};

@@ -11,9 +11,6 @@ pub mod site;
 pub mod tables;
 pub mod unknown_body;
 
-// What callers name of the libraries below.
-pub use cdi_live;
-pub use cdi_live::{cdi_bean_check, cdi_beans, cdi_cache, cdi_enable, cdi_plans, cdi_resolve};
 pub use checked_lifecycle::checked_lifecycles;
 pub use exceptions::DeclaredExceptions;
 pub use finding::{SiteRule, add_places, places_where};

@@ -1,6 +1,6 @@
 -- What is remembered after a change of the cache.
 use Rattle.std.proofs.Common.{◌≡◌, ℕ, nat_eq, List, Result, Ok, Err, OnOk, OnErr, sym, subst, inl, inr}
-use Rattle.cdi_resolve.specs.of_beans.declared.bean.Bean.{Bean}
+use Rattle.cdi_beans.specs.declared.bean.Bean.{Bean}
 use Rattle.cdi_cache.specs.Answers.{IsTold, AreTold}
 use Rattle.cdi_cache.specs.declared.answer.Answer.{Answer}
 use Rattle.lru.proofs.CallerLemmas.{Contains-put_entries}

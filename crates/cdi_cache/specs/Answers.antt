@@ -1,6 +1,6 @@
 -- What is remembered.
 use Rattle.std.specs.Prelude.{ℕ, ◌≡◌, List, Contains}
-use Rattle.cdi_resolve.specs.of_beans.declared.bean.Bean.{Bean}
+use Rattle.cdi_beans.specs.declared.bean.Bean.{Bean}
 use Rattle.cdi_resolve.specs.Resolution.{resolution}
 use Rattle.cdi_cache.specs.declared.answer.Answer.{Answer}
 

@@ -24,9 +24,8 @@ use Rattle.cdi_machine.specs.Programs as machine
 use Rattle.cdi_machine.specs.Programs.{Given, Number, Result, Completion, Gave, Threw, Prog, ret, throw, see, nested, handle, finally, tell_missing, require_present, require_one, complete, call, alter, ◌>>=◌, ◌>>◌}
 use Rattle.cdi_machine.specs.Bodies.{invocation_at_start, invoke, provide}
 use Rattle.cdi_machine.specs.Contexts.{direct_reference, is_normal, reach_instance, refer_to, resolve_point, resolve_points, stays}
-use Rattle.cdi_steps.specs.of_host.Asked.{head_of, machine_resolution}
-use Rattle.cdi_steps.specs.of_host.declared.beans.BeanHead.{BeanHead}
-use Rattle.cdi_steps.specs.of_host.Asked.{product_of}
+use Rattle.cdi_host.specs.Asked.{head_of, machine_resolution, product_of}
+use Rattle.cdi_host.specs.declared.beans.BeanHead.{BeanHead}
 use Rattle.cdi_machine.specs.Resolved.{IsResolvedMember}
 use Rattle.cdi_machine.specs.Told.{member_told, point_told, product_told}
 use Rattle.cdi_machine.specs.declared.member.Member.{Member as CodeMember}

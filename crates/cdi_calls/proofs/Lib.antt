@@ -1,3 +1,2 @@
 pub mod CallSteps
 pub mod ReferenceSteps
-pub use Rattle.cdi_steps.proofs as of_steps

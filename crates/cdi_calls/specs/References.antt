@@ -7,8 +7,8 @@ use Rattle.cdi_machine.specs.Tables.{Tables}
 use Rattle.cdi_machine.specs.World.{World}
 use Rattle.cdi_steps.specs.Meanings.{use_instance}
 use Rattle.cdi_steps.specs.declared.task.Purpose.{Purpose}
-use Rattle.cdi_steps.specs.of_host.Asked.{head_of, held_in}
-use Rattle.cdi_steps.specs.of_host.declared.beans.BeanHead.{BeanHead}
+use Rattle.cdi_host.specs.Asked.{head_of, held_in}
+use Rattle.cdi_host.specs.declared.beans.BeanHead.{BeanHead}
 use Rattle.cdi_store.specs.declared.references.Reference.TheVariants.{Proxy}
 
 -- what is done with the contextual instance behind a client proxy

@@ -1,6 +1,6 @@
 //! The steps of calls by the container itself: producers, disposers and observers, on an instance of the bean that declares them.
 ghost use Rattle.std.specs.Prelude.{◌≡◌, ◌<◌, ◌^◌, ◌++◌, ◌∷◌, [], length, option_map, IfOk, IfSome, IsSome, OnErr};
-ghost use Rattle.cdi_steps.specs.of_host.Asked.{machine_resolution};
+ghost use Rattle.cdi_host.specs.Asked.{machine_resolution};
 ghost use Rattle.cdi_machine.specs.Resolved.{IsResolvedMember};
 ghost use Rattle.cdi_machine.specs.Told.{member_told};
 ghost use Rattle.cdi_machine.specs.World.{after_change};
@@ -11,7 +11,7 @@ ghost use Rattle.cdi_steps.specs.Ranks.{called_rank};
 ghost use Rattle.cdi_steps.specs.Steps.{GoesOn, Moves, Steps};
 
 use cdi_base::{BuiltIn, InterceptorMethod, Name, Seq, Value};
-use cdi_steps::cdi_host::{Chain, Code, Contents, Invocation, Member, Resolution, Source, Tables};
+use cdi_host::{Chain, Code, Contents, Invocation, Member, Resolution, Source, Tables};
 use cdi_steps::creation::reference_to;
 use cdi_steps::ends::{given, missing, raised};
 use cdi_steps::obtaining::{is_normal, stays};

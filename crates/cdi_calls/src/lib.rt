@@ -5,7 +5,3 @@
 pub mod container_calls;
 pub mod parameters;
 pub mod references;
-
-// What callers name of the libraries below.
-pub use cdi_steps;
-pub use cdi_steps::cdi_host;

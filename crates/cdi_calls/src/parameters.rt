@@ -5,13 +5,13 @@ ghost use Rattle.cdi_machine.specs.World.{after_change};
 ghost use Rattle.cdi_machine.specs.World.Change.{Provide};
 ghost use Rattle.cdi_machine.specs.Resolved.{IsResolved, IsResolvedStep};
 ghost use Rattle.cdi_machine.specs.Told.{point_told, step_told};
-ghost use Rattle.cdi_steps.specs.of_host.Asked.{last_of, plan_at};
+ghost use Rattle.cdi_host.specs.Asked.{last_of, plan_at};
 ghost use Rattle.cdi_steps.specs.Known.{AreParameters, HasParameters};
 ghost use Rattle.cdi_steps.specs.Parameters as spec;
 ghost use Rattle.cdi_steps.specs.Steps.{Moves, GoesOn};
 
 use cdi_base::{BuiltIn, Name, Seq};
-use cdi_steps::cdi_host::{Chain, Code, Contents, Point, Resolution, Running, Step, Tables};
+use cdi_host::{Chain, Code, Contents, Point, Resolution, Running, Step, Tables};
 use cdi_steps::creation::{fails, reference_to};
 use cdi_steps::ends::missing;
 use cdi_steps::obtaining::is_normal;

@@ -4,18 +4,18 @@ use Rattle.std.proofs.lemmas.List.{get_or_default}
 use Rattle.std.proofs.lemmas.List.Elements.{All-nil, All-cons}
 use Rattle.std.specs.List.{All}
 use Rattle.cdi_base.specs.declared.place.Place.{Place}
-use Rattle.cdi_check.specs.of_beans.Problems.{AreAllProblemsOf}
+use Rattle.cdi_beans.specs.Problems.{AreAllProblemsOf}
 use Rattle.cdi_bodies.specs.declared.shape.Shape.{Shape}
-use Rattle.cdi_check.specs.of_body_check.Sites.{Site, sites_of, is_live, body_of}
-use Rattle.cdi_check.specs.of_body_check.UnknownBody.{HasUnknownBody}
-use Rattle.cdi_check.specs.of_live.OwnPoints.{Inventory}
+use Rattle.cdi_body_check.specs.Sites.{Site, sites_of, is_live, body_of}
+use Rattle.cdi_body_check.specs.UnknownBody.{HasUnknownBody}
+use Rattle.cdi_live.specs.OwnPoints.{Inventory}
 use Rattle.cdi_deployment.specs.declared.deployment.Deployment.{Deployment}
 use Rattle.cdi_deployment.specs.declared.deployment.Point.{Point}
-use Rattle.cdi_check.specs.of_enable.Enablement.{Enablement, enablement_of}
-use Rattle.cdi_check.specs.of_live.Enabled.{Enabled}
-use Rattle.cdi_check.specs.of_live.PointProblems.{resolved, HasPointProblem}
-use Rattle.cdi_check.specs.of_live.Points.{points_of, IsLive}
-use Rattle.cdi_check.specs.of_live.declared.point_problem.PointProblem.TheVariants as points
+use Rattle.cdi_enable.specs.Enablement.{Enablement, enablement_of}
+use Rattle.cdi_live.specs.Enabled.{Enabled}
+use Rattle.cdi_live.specs.PointProblems.{resolved, HasPointProblem}
+use Rattle.cdi_live.specs.Points.{points_of, IsLive}
+use Rattle.cdi_live.specs.declared.point_problem.PointProblem.TheVariants as points
 use Rattle.cdi_problems.specs.Elements.{Element, elements_of}
 use Rattle.cdi_problems.specs.Findings.{ArePlacesWhere}
 use Rattle.cdi_problems.specs.Places.{once, with_place}
@@ -23,8 +23,8 @@ use Rattle.cdi_problems.specs.Words.{problems_at}
 use Rattle.cdi_problems.specs.declared.problem.ProblemKind.{ProblemKind}
 use Rattle.cdi_quals.specs.declared.types.QualifierType.{QualifierType}
 use Rattle.cdi_types.specs.ListsThose.{ListsThose}
-use Rattle.cdi_check.specs.of_resolve.declared.resolution.Resolution.{Resolution}
-use Rattle.cdi_check.specs.of_resolve.declared.resolution.Resolution.TheVariants.{One, Nothing, Many}
+use Rattle.cdi_resolve.specs.declared.resolution.Resolution.{Resolution}
+use Rattle.cdi_resolve.specs.declared.resolution.Resolution.TheVariants.{One, Nothing, Many}
 use Rattle.cdi_check.specs.Accepted.{HoldsOfNone, IsResolved, AreResolved, IsRegistered, AreBodiesSound, ArePointsSound, AreBeansSound, IsAccepted}
 use Rattle.cdi_check.specs.Late.{AreBodyProblems, ArePointProblems, AreEnabledProblems, AreProblemsIn, AreLateProblems, setting_of}
 use Rattle.cdi_check.specs.Problems.{AreProblemsOf}

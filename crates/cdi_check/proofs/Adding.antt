@@ -2,16 +2,16 @@
 use Rattle.std.proofs.Common.{ℕ, ◌≡◌, ◌∙◌, List, [], ◌++◌, Option, refl, ap, subst, append_assoc}
 use Rattle.cdi_base.specs.declared.place.Place.{Place}
 use Rattle.cdi_bodies.specs.declared.shape.Shape.{Shape}
-use Rattle.cdi_check.specs.of_body_check.CheckedLifecycle.{HasCheckedLifecycle}
-use Rattle.cdi_check.specs.of_body_check.Findings.{ArePlacesOf as AreSitesOf}
-use Rattle.cdi_check.specs.of_body_check.ProceedNotAllowed.{HasProceedNotAllowed}
-use Rattle.cdi_check.specs.of_body_check.Sites.{Site, sites_of}
-use Rattle.cdi_check.specs.of_body_check.UnknownBody.{HasUnknownBody}
-use Rattle.cdi_check.specs.of_live.Cycles.{HasDependentCycle}
-use Rattle.cdi_check.specs.of_live.OwnPoints.{Inventory}
+use Rattle.cdi_body_check.specs.CheckedLifecycle.{HasCheckedLifecycle}
+use Rattle.cdi_body_check.specs.Findings.{ArePlacesOf as AreSitesOf}
+use Rattle.cdi_body_check.specs.ProceedNotAllowed.{HasProceedNotAllowed}
+use Rattle.cdi_body_check.specs.Sites.{Site, sites_of}
+use Rattle.cdi_body_check.specs.UnknownBody.{HasUnknownBody}
+use Rattle.cdi_live.specs.Cycles.{HasDependentCycle}
+use Rattle.cdi_live.specs.OwnPoints.{Inventory}
 use Rattle.cdi_deployment.specs.declared.deployment.Deployment.{Deployment}
-use Rattle.cdi_check.specs.of_enable.Enablement.{Enablement}
-use Rattle.cdi_check.specs.of_live.declared.point_problem.PointProblem.TheVariants as points
+use Rattle.cdi_enable.specs.Enablement.{Enablement}
+use Rattle.cdi_live.specs.declared.point_problem.PointProblem.TheVariants as points
 use Rattle.cdi_problems.specs.Elements.{Element, elements_of}
 use Rattle.cdi_problems.specs.Findings.{ArePlacesOf}
 use Rattle.cdi_problems.specs.Words.{problems_at}

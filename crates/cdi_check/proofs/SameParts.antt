@@ -15,7 +15,7 @@ use Rattle.cdi_deployment.specs.declared.deployment.Constructor.{Constructor}
 use Rattle.cdi_deployment.specs.declared.deployment.InjectedField.{InjectedField}
 use Rattle.cdi_deployment.specs.declared.deployment.Interceptor.{Interceptor}
 use Rattle.cdi_deployment.specs.declared.deployment.Member.{Member}
-use Rattle.cdi_body_check.specs.of_live.Enabled.{Enabled}
+use Rattle.cdi_live.specs.Enabled.{Enabled}
 use Rattle.cdi_types.proofs.Lines.{one_line}
 use Rattle.cdi_types.specs.ListsThose.{ListsThose}
 use Rattle.cdi_types.specs.Declarations.{declarations_of}

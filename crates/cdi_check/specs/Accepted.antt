@@ -1,25 +1,25 @@
 -- What holds of an accepted deployment, on which its container relies.
 use Rattle.std.specs.Prelude.{ℕ, ◌≡◌, Bool, List, Option, IsTrue, IsSome}
 use Rattle.std.specs.List.{All}
-use Rattle.cdi_check.specs.of_beans.Problems.{IsMadeOf}
-use Rattle.cdi_check.specs.of_beans.declared.bean.BeanList.{BeanList}
+use Rattle.cdi_beans.specs.Problems.{IsMadeOf}
+use Rattle.cdi_beans.specs.declared.bean.BeanList.{BeanList}
 use Rattle.cdi_bodies.specs.declared.shape.Shape.{Shape}
-use Rattle.cdi_check.specs.of_body_check.CheckedLifecycle.{HasCheckedLifecycle}
-use Rattle.cdi_check.specs.of_body_check.ProceedNotAllowed.{HasProceedNotAllowed}
-use Rattle.cdi_check.specs.of_body_check.Sites.{Site, sites_of, is_live, body_of}
-use Rattle.cdi_check.specs.of_live.Cycles.{HasDependentCycle}
-use Rattle.cdi_check.specs.of_live.OwnPoints.{Inventory}
+use Rattle.cdi_body_check.specs.CheckedLifecycle.{HasCheckedLifecycle}
+use Rattle.cdi_body_check.specs.ProceedNotAllowed.{HasProceedNotAllowed}
+use Rattle.cdi_body_check.specs.Sites.{Site, sites_of, is_live, body_of}
+use Rattle.cdi_live.specs.Cycles.{HasDependentCycle}
+use Rattle.cdi_live.specs.OwnPoints.{Inventory}
 use Rattle.cdi_deployment.specs.declared.deployment.Deployment.{Deployment}
 use Rattle.cdi_deployment.specs.declared.deployment.Point.{Point}
-use Rattle.cdi_check.specs.of_enable.Enablement.{Enablement, enablement_of, AreFlags}
-use Rattle.cdi_check.specs.of_live.Enabled.{Enabled}
-use Rattle.cdi_check.specs.of_live.PointProblems.{resolved, HasPointProblem}
-use Rattle.cdi_check.specs.of_live.Points.{points_of, IsLive}
-use Rattle.cdi_check.specs.of_live.declared.point_problem.PointProblem.TheVariants as points
+use Rattle.cdi_enable.specs.Enablement.{Enablement, enablement_of, AreFlags}
+use Rattle.cdi_live.specs.Enabled.{Enabled}
+use Rattle.cdi_live.specs.PointProblems.{resolved, HasPointProblem}
+use Rattle.cdi_live.specs.Points.{points_of, IsLive}
+use Rattle.cdi_live.specs.declared.point_problem.PointProblem.TheVariants as points
 use Rattle.cdi_problems.specs.Elements.{Element, elements_of}
 use Rattle.cdi_quals.specs.Types.{AreQualifiersOf, AreTypesOf}
 use Rattle.cdi_quals.specs.declared.types.QualifierType.{QualifierType}
-use Rattle.cdi_check.specs.of_resolve.declared.resolution.Resolution.TheVariants.{One}
+use Rattle.cdi_resolve.specs.declared.resolution.Resolution.TheVariants.{One}
 use Rattle.cdi_check.specs.BodyOutsideShape.{HasBodyOutsideShape}
 use Rattle.cdi_check.specs.BeanRules.{HasInconsistentSpecialization, HasFinalIntercepted}
 use Rattle.cdi_check.specs.Late.{setting_of, application_in}

@@ -2,11 +2,11 @@
 -- Resolution).
 use Rattle.std.specs.Prelude.{◌&&◌, Bool, IsTrue}
 use Rattle.std.specs.List.{list_any}
-use Rattle.cdi_check.specs.of_beans.declared.bean.Bean.{Bean}
-use Rattle.cdi_check.specs.of_plans.Chains.{ChainTables, intercepts}
-use Rattle.cdi_check.specs.of_enable.Enablement.{Enablement, IsInconsistentBean, bean_of_class}
-use Rattle.cdi_check.specs.of_live.Enabled.{Enabled}
-use Rattle.cdi_check.specs.of_resolve.Filters.{is_bean_of}
+use Rattle.cdi_beans.specs.declared.bean.Bean.{Bean}
+use Rattle.cdi_plans.specs.Chains.{ChainTables, intercepts}
+use Rattle.cdi_enable.specs.Enablement.{Enablement, IsInconsistentBean, bean_of_class}
+use Rattle.cdi_live.specs.Enabled.{Enabled}
+use Rattle.cdi_resolve.specs.Filters.{is_bean_of}
 use Rattle.cdi_problems.specs.Elements.{Element}
 
 -- P19 InconsistentSpecialization: two enabled beans specialize the bean of a class

@@ -5,7 +5,7 @@ use Rattle.cdi_bodies.specs.declared.shape.Shape.{Shape}
 use Rattle.cdi_body_check.specs.Sites.{Site, is_live, body_of, params_of}
 use Rattle.cdi_deployment.specs.declared.deployment.Deployment.{Deployment}
 use Rattle.cdi_deployment.specs.declared.deployment.Point.{Point}
-use Rattle.cdi_body_check.specs.of_live.Enabled.{Enabled}
+use Rattle.cdi_live.specs.Enabled.{Enabled}
 use Rattle.cdi_check.specs.Application.{Application}
 use Rattle.cdi_check.specs.OwnParts.{OwnParts, ArePartsOf}
 use Rattle.cdi_check.specs.References.{point_at, is_call_missing, is_cell_missing}

@@ -1,22 +1,22 @@
 -- The last tier of problems: those of a deployment whose names and beans have none.
 use Rattle.std.specs.Prelude.{ℕ, ◌≡◌, ◌++◌, Bool, List, Option, map}
 use Rattle.cdi_base.specs.declared.place.Place.{Place}
-use Rattle.cdi_check.specs.of_beans.Problems.{IsMadeOf}
-use Rattle.cdi_check.specs.of_beans.declared.bean.BeanList.{BeanList}
+use Rattle.cdi_beans.specs.Problems.{IsMadeOf}
+use Rattle.cdi_beans.specs.declared.bean.BeanList.{BeanList}
 use Rattle.cdi_bodies.specs.declared.shape.Shape.{Shape}
-use Rattle.cdi_check.specs.of_body_check.CheckedLifecycle.{HasCheckedLifecycle}
-use Rattle.cdi_check.specs.of_body_check.Findings.{ArePlacesOf as AreSitesOf}
-use Rattle.cdi_check.specs.of_body_check.ProceedNotAllowed.{HasProceedNotAllowed}
-use Rattle.cdi_check.specs.of_body_check.Sites.{Site, sites_of}
-use Rattle.cdi_check.specs.of_body_check.UnknownBody.{HasUnknownBody}
-use Rattle.cdi_check.specs.of_plans.Bindings.{class_bindings}
-use Rattle.cdi_check.specs.of_live.Cycles.{HasDependentCycle}
-use Rattle.cdi_check.specs.of_live.OwnPoints.{Inventory}
+use Rattle.cdi_body_check.specs.CheckedLifecycle.{HasCheckedLifecycle}
+use Rattle.cdi_body_check.specs.Findings.{ArePlacesOf as AreSitesOf}
+use Rattle.cdi_body_check.specs.ProceedNotAllowed.{HasProceedNotAllowed}
+use Rattle.cdi_body_check.specs.Sites.{Site, sites_of}
+use Rattle.cdi_body_check.specs.UnknownBody.{HasUnknownBody}
+use Rattle.cdi_plans.specs.Bindings.{class_bindings}
+use Rattle.cdi_live.specs.Cycles.{HasDependentCycle}
+use Rattle.cdi_live.specs.OwnPoints.{Inventory}
 use Rattle.cdi_deployment.specs.declared.deployment.Deployment.{Deployment}
-use Rattle.cdi_check.specs.of_enable.Enablement.{Enablement, enablement_of, AreFlags}
-use Rattle.cdi_check.specs.of_live.PointProblems.{HasPointProblem}
-use Rattle.cdi_check.specs.of_live.declared.point_problem.PointProblem.{PointProblem}
-use Rattle.cdi_check.specs.of_live.declared.point_problem.PointProblem.TheVariants as points
+use Rattle.cdi_enable.specs.Enablement.{Enablement, enablement_of, AreFlags}
+use Rattle.cdi_live.specs.PointProblems.{HasPointProblem}
+use Rattle.cdi_live.specs.declared.point_problem.PointProblem.{PointProblem}
+use Rattle.cdi_live.specs.declared.point_problem.PointProblem.TheVariants as points
 use Rattle.cdi_problems.specs.Elements.{Element, elements_of}
 use Rattle.cdi_problems.specs.Findings.{PlacesIn}
 use Rattle.cdi_problems.specs.Words.{problems_at}
@@ -24,7 +24,7 @@ use Rattle.cdi_problems.specs.declared.problem.Problem.{Problem}
 use Rattle.cdi_problems.specs.declared.problem.ProblemKind.TheVariants as kinds
 use Rattle.cdi_quals.specs.Types.{AreQualifiersOf, AreTypesOf}
 use Rattle.cdi_quals.specs.declared.types.QualifierType.{QualifierType}
-use Rattle.cdi_check.specs.of_resolve.Filters.{enabled_beans}
+use Rattle.cdi_resolve.specs.Filters.{enabled_beans}
 use Rattle.cdi_check.specs.Application.{Application}
 use Rattle.cdi_check.specs.BodyOutsideShape.{HasBodyOutsideShape}
 use Rattle.cdi_types.specs.Declarations.{declarations_of}

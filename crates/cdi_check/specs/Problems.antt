@@ -1,7 +1,7 @@
 -- The problems of a deployment with its registered bodies, tier by tier (Jakarta CDI 4.0, Problems detected automatically by the
 -- container).
 use Rattle.std.specs.Prelude.{ℕ, List, Option}
-use Rattle.cdi_check.specs.of_beans.Problems.{AreAllProblemsOf}
+use Rattle.cdi_beans.specs.Problems.{AreAllProblemsOf}
 use Rattle.cdi_bodies.specs.declared.shape.Shape.{Shape}
 use Rattle.cdi_deployment.specs.declared.deployment.Deployment.{Deployment}
 use Rattle.cdi_problems.specs.declared.problem.Problem.{Problem}

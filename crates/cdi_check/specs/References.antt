@@ -4,20 +4,20 @@ use Rattle.std.specs.List.{list_any}
 use Rattle.cdi_base.specs.Maps.{at}
 use Rattle.cdi_base.specs.declared.act.Via.{Via}
 use Rattle.cdi_base.specs.declared.act.Via.TheVariants as vias
-use Rattle.cdi_body_check.specs.of_bean_check.Qualifiers.{full_uses}
-use Rattle.cdi_body_check.specs.of_beans.declared.bean.Bean.{Bean}
-use Rattle.cdi_body_check.specs.of_beans.declared.bean.BeanMember.{BeanMember}
+use Rattle.cdi_bean_check.specs.Qualifiers.{full_uses}
+use Rattle.cdi_beans.specs.declared.bean.Bean.{Bean}
+use Rattle.cdi_beans.specs.declared.bean.BeanMember.{BeanMember}
 use Rattle.cdi_bodies.specs.declared.shape.Lookup.{Lookup}
 use Rattle.cdi_bodies.specs.declared.shape.MethodCall.{MethodCall}
 use Rattle.cdi_deployment.specs.declared.deployment.Class.{Class}
 use Rattle.cdi_deployment.specs.declared.deployment.InjectedField.{InjectedField}
 use Rattle.cdi_deployment.specs.declared.deployment.Point.{Point}
-use Rattle.cdi_body_check.specs.of_beans.Kinds.{is_managed}
+use Rattle.cdi_beans.specs.Kinds.{is_managed}
 use Rattle.cdi_types.specs.Line.{class_named}
 use Rattle.cdi_body_check.specs.WrittenPoints.{point_of_field, point_of_lookup}
-use Rattle.cdi_body_check.specs.of_resolve.Resolution.{resolution}
-use Rattle.cdi_body_check.specs.of_resolve.declared.resolution.Resolution.{Resolution}
-use Rattle.cdi_body_check.specs.of_resolve.declared.resolution.Resolution.TheVariants as resolutions
+use Rattle.cdi_resolve.specs.Resolution.{resolution}
+use Rattle.cdi_resolve.specs.declared.resolution.Resolution.{Resolution}
+use Rattle.cdi_resolve.specs.declared.resolution.Resolution.TheVariants as resolutions
 use Rattle.cdi_check.specs.Application.{Application}
 use Rattle.cdi_check.specs.OwnParts.{OwnParts, declares_method}
 

@@ -1,9 +1,9 @@
 -- What the tables of the code show.
-use Rattle.cdi_check.specs.of_live.OwnPoints.{Inventory}
+use Rattle.cdi_live.specs.OwnPoints.{Inventory}
 use Rattle.cdi_deployment.specs.declared.deployment.Deployment.{Deployment}
-use Rattle.cdi_check.specs.of_resolve.Filters.{enabled_of}
+use Rattle.cdi_resolve.specs.Filters.{enabled_of}
 use Rattle.cdi_types.specs.Declarations.{declarations_of}
-use Rattle.cdi_check.specs.of_resolve.declared.bean_tables.BeanTables.{BeanTables}
+use Rattle.cdi_resolve.specs.declared.bean_tables.BeanTables.{BeanTables}
 
 -- what a deployment is, by these tables
 abbrev pub setting_by : Deployment → BeanTables → Inventory

@@ -2,14 +2,14 @@
 ghost use Rattle.std.specs.Prelude.{◌≡◌, ◌&&◌, IsTrue};
 ghost use Rattle.std.specs.List.{list_any};
 ghost use Rattle.cdi_check.specs.BeanRules as spec;
-ghost use Rattle.cdi_check.specs.of_resolve.Filters.{is_bean_of};
+ghost use Rattle.cdi_resolve.specs.Filters.{is_bean_of};
 
 use cdi_base::Name;
-use cdi_body_check::cdi_enable::EnabledSet;
-use cdi_body_check::cdi_live::LiveTables;
-use cdi_body_check::cdi_plans::Chains;
-use cdi_body_check::cdi_resolve::EnabledBean;
+use cdi_enable::EnabledSet;
+use cdi_live::LiveTables;
+use cdi_plans::Chains;
 use cdi_problems::{Element, Rule};
+use cdi_resolve::EnabledBean;
 
 /// Two enabled beans specialize the bean of a class (Jakarta CDI 4.0, *Inconsistent specialization*).
 #[derive(Clone, Copy)]

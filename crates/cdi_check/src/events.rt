@@ -8,8 +8,8 @@ ghost use Rattle.cdi_body_check.specs.WrittenNames as spec;
 use cdi_base::{BuiltIn, Name};
 use cdi_bodies::{FiredEvent, Shape};
 use cdi_body_check::DeclaredExceptions;
-use cdi_body_check::cdi_live::DeploymentTables;
 use cdi_deployment::Class;
+use cdi_live::DeploymentTables;
 use cdi_name_check::are_event_qualifiers;
 
 /// Whether there are instances of a class: it is declared, and not abstract.

@@ -1,23 +1,23 @@
 //! The last tier of problems.
 ghost use Rattle.std.specs.Prelude.{◌≡◌, ◌++◌, IfOk, OnOk};
 ghost use Rattle.cdi_bodies.specs.Table.{entries_of};
-ghost use Rattle.cdi_check.specs.of_body_check.Shapes.{shape_of};
-ghost use Rattle.cdi_check.specs.of_body_check.Sites.{sites_of, shown as shown_sites};
-ghost use Rattle.cdi_check.specs.of_live.PointProblems.{HasPointProblem};
+ghost use Rattle.cdi_body_check.specs.Shapes.{shape_of};
+ghost use Rattle.cdi_body_check.specs.Sites.{sites_of, shown as shown_sites};
+ghost use Rattle.cdi_live.specs.PointProblems.{HasPointProblem};
 ghost use Rattle.cdi_problems.specs.Elements.{elements_of, shown};
 ghost use Rattle.cdi_problems.specs.Findings.{ArePlacesOf};
 ghost use Rattle.cdi_problems.specs.Words.{problems_at};
 ghost use Rattle.cdi_check.specs.Late as spec;
-ghost use Rattle.cdi_check.specs.of_live.Settings.{setting_of};
+ghost use Rattle.cdi_live.specs.Settings.{setting_of};
 
 use crate::bean_rules::{FinalIntercepted, InconsistentSpecialization};
 use crate::bodies_outside_shape;
 use cdi_base::{Place, Seq};
-use cdi_body_check::cdi_live::{DeploymentTables, PointProblem, PointRule, dependent_cycles};
 use cdi_body_check::{
     BodySite, BodyTables, checked_lifecycles, proceeds_not_allowed, sites_of as all_sites,
     unknown_bodies,
 };
+use cdi_live::{DeploymentTables, PointProblem, PointRule, dependent_cycles};
 use cdi_problems::{Element, Problem, ProblemKind, add_problems_at, places_where};
 use std::alloc::{AllocError, Global};
 

@@ -17,6 +17,3 @@ mod tiers;
 
 pub use outside_shape::bodies_outside_shape;
 pub use tiers::{check, late_problems};
-// What callers name of the libraries below.
-pub use cdi_body_check;
-pub use cdi_body_check::{cdi_beans, cdi_cache, cdi_enable, cdi_live, cdi_plans, cdi_resolve};

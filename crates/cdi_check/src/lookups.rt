@@ -5,7 +5,7 @@ ghost use Rattle.cdi_check.specs.Application.{application_of};
 ghost use Rattle.cdi_body_check.specs.WrittenNames as spec;
 
 use cdi_bodies::{Lookup, Shape};
-use cdi_body_check::cdi_live::DeploymentTables;
+use cdi_live::DeploymentTables;
 use cdi_name_check::are_qualifiers;
 
 /// Whether the type and the qualifiers of a lookup are known.

@@ -7,8 +7,8 @@ ghost use Rattle.cdi_check.specs.OwnParts as spec;
 
 use crate::injected::{InjectedFields, add_fields as add_injected};
 use cdi_base::{Name, Seq};
-use cdi_body_check::cdi_live::DeploymentTables;
 use cdi_deployment::{Class, Field, InjectedField, Interceptor, Member};
+use cdi_live::DeploymentTables;
 use std::alloc::{AllocError, Global};
 use std::collections::HashSet;
 

@@ -12,11 +12,11 @@ ghost use Rattle.cdi_check.specs.Targets.{point_of};
 
 use crate::own::OwnTables;
 use cdi_base::{Name, Use, Via};
+use cdi_beans::{Bean, BeanKind, BeanMember};
 use cdi_bodies::{Lookup, MethodCall, Shape};
-use cdi_body_check::cdi_beans::{Bean, BeanKind, BeanMember};
-use cdi_body_check::cdi_live::DeploymentTables;
-use cdi_body_check::cdi_resolve::Resolution;
 use cdi_deployment::{Class, InjectedField, Member, Point};
+use cdi_live::DeploymentTables;
+use cdi_resolve::Resolution;
 
 /// The required type and qualifiers behind a reference.
 #[derive(Clone, Copy)]

@@ -1,7 +1,7 @@
 //! The last tier of problems, by the tables that its bean list gives.
 ghost use Rattle.std.specs.Prelude.{◌≡◌, IfOk};
 ghost use Rattle.cdi_bodies.specs.Table.{entries_of};
-ghost use Rattle.cdi_check.specs.of_body_check.Shapes.{shape_of};
+ghost use Rattle.cdi_body_check.specs.Shapes.{shape_of};
 ghost use Rattle.cdi_check.specs.Late.{AreProblemsIn};
 ghost use Rattle.cdi_check.specs.Tables.{setting_by};
 ghost use Rattle.cdi_name_check.specs.NameSets.{HasDeclared};
@@ -10,12 +10,12 @@ ghost use Rattle.cdi_types.specs.Declarations.{declarations_of};
 use crate::late::all_problems;
 use cdi_base::Seq;
 use cdi_bodies::Bodies;
-use cdi_body_check::cdi_live::{DeploymentTables, LiveTables, ResolvedPoints};
-use cdi_body_check::cdi_resolve::BeanTables;
 use cdi_body_check::{BodyTables, DeclaredExceptions};
 use cdi_deployment::Deployment;
+use cdi_live::{DeploymentTables, LiveTables, ResolvedPoints};
 use cdi_name_check::{DeclaredNames, NameSets};
 use cdi_problems::{Problem, elements_of as all_elements};
+use cdi_resolve::BeanTables;
 use cdi_types::ClassIndex;
 use std::alloc::{AllocError, Global};
 

@@ -1,23 +1,23 @@
 //! All problems of a deployment with its registered bodies.
 ghost use Rattle.std.specs.Prelude.{IfOk};
-ghost use Rattle.cdi_check.specs.of_beans.Declarations.{AreDeclaredBy};
-ghost use Rattle.cdi_check.specs.of_beans.Problems.{IsMadeOf};
+ghost use Rattle.cdi_beans.specs.Declarations.{AreDeclaredBy};
+ghost use Rattle.cdi_beans.specs.Problems.{IsMadeOf};
 ghost use Rattle.cdi_bodies.specs.Table.{entries_of};
-ghost use Rattle.cdi_check.specs.of_body_check.Shapes.{shape_of};
+ghost use Rattle.cdi_body_check.specs.Shapes.{shape_of};
 ghost use Rattle.cdi_check.specs.Late.{AreLateProblems, AreProblemsIn};
 ghost use Rattle.cdi_check.specs.Problems.{AreProblemsOf};
 ghost use Rattle.cdi_check.specs.Tables.{setting_by};
 ghost use Rattle.cdi_name_check.specs.NameSets.{HasDeclared};
-ghost use Rattle.cdi_check.specs.of_resolve.BeanTables.{AreTablesOf};
+ghost use Rattle.cdi_resolve.specs.BeanTables.{AreTablesOf};
 
 use crate::settings::problems_by;
 use cdi_base::{OrMemory, Seq};
+use cdi_beans::ListedBeans;
 use cdi_bodies::Bodies;
-use cdi_body_check::cdi_beans::ListedBeans;
-use cdi_body_check::cdi_resolve::BeanTables;
 use cdi_deployment::Deployment;
 use cdi_name_check::NameSets;
 use cdi_problems::Problem;
+use cdi_resolve::BeanTables;
 use std::alloc::{AllocError, Global};
 
 /// The last tier of problems of a deployment whose names and beans have none, by the names that it declares and its tables: those that

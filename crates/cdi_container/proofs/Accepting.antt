@@ -2,18 +2,18 @@
 use Rattle.std.proofs.Common.{◌≡◌, List, [], true, is_some, refl, sym, ap, subst}
 use Rattle.cdi_bodies.specs.Gives.{lookups_of}
 use Rattle.cdi_bodies.specs.declared.entry.Entry.{Entry}
-use Rattle.cdi_accepted.specs.of_body_check.Shapes.{shape_of}
-use Rattle.cdi_accepted.specs.of_check.Late.{AreLateProblems, AreProblemsIn}
-use Rattle.cdi_accepted.specs.of_check.Problems.{AreProblemsOf}
-use Rattle.cdi_accepted.specs.of_check.Tables.{setting_by}
+use Rattle.cdi_body_check.specs.Shapes.{shape_of}
+use Rattle.cdi_check.specs.Late.{AreLateProblems, AreProblemsIn}
+use Rattle.cdi_check.specs.Problems.{AreProblemsOf}
+use Rattle.cdi_check.specs.Tables.{setting_by}
 use Rattle.cdi_deployment.specs.declared.deployment.Deployment.{Deployment}
 use Rattle.cdi_problems.specs.declared.problem.Problem.{Problem}
-use Rattle.cdi_runtime.specs.of_run_tables.Machine.{AreIdsOf}
-use Rattle.cdi_runtime.specs.of_run_tables.Planned.{IsTabled}
-use Rattle.cdi_runtime.proofs.of_run_tables.WellFormed.{parts_of}
-use Rattle.cdi_runtime.specs.of_run_tables.declared.tables.RunTables.{RunTables}
+use Rattle.cdi_run_tables.specs.Machine.{AreIdsOf}
+use Rattle.cdi_run_tables.specs.Planned.{IsTabled}
+use Rattle.cdi_run_tables.proofs.WellFormed.{parts_of}
+use Rattle.cdi_run_tables.specs.declared.tables.RunTables.{RunTables}
 use Rattle.cdi_runtime.specs.Knowing.{DrivesRegistered}
-use Rattle.cdi_accepted.specs.of_resolve.declared.bean_tables.BeanTables.{BeanTables}
+use Rattle.cdi_resolve.specs.declared.bean_tables.BeanTables.{BeanTables}
 use Rattle.cdi_accepted.specs.Accepted.{IsFaultless, WholeFits, WholeIsRegistered}
 use Rattle.cdi_container.specs.Accepted.{AreTablesWith, IsAccepted, is_well_formed}
 

@@ -3,17 +3,17 @@ use Rattle.std.proofs.Common.{ℕ, List, [], Option, refl, sym, subst}
 use Rattle.cdi_accepted.proofs.Tables.{one_tables}
 use Rattle.cdi_bodies.specs.declared.entry.Entry.{Entry}
 use Rattle.cdi_bodies.specs.declared.shape.Shape.{Shape}
-use Rattle.cdi_accepted.specs.of_body_check.Shapes.{shape_of}
-use Rattle.cdi_accepted.specs.of_check.Late.{AreLateProblems, AreProblemsIn}
-use Rattle.cdi_accepted.specs.of_check.Problems.{AreProblemsOf}
-use Rattle.cdi_accepted.specs.of_check.Tables.{setting_by}
+use Rattle.cdi_body_check.specs.Shapes.{shape_of}
+use Rattle.cdi_check.specs.Late.{AreLateProblems, AreProblemsIn}
+use Rattle.cdi_check.specs.Problems.{AreProblemsOf}
+use Rattle.cdi_check.specs.Tables.{setting_by}
 use Rattle.cdi_deployment.specs.declared.deployment.Deployment.{Deployment}
-use Rattle.cdi_accepted.specs.of_enable.Enablement.{enablement_of}
-use Rattle.cdi_accepted.specs.of_resolve.BeanTables.{AreTablesOf, bean_tables}
-use Rattle.cdi_accepted.specs.of_resolve.declared.bean_tables.BeanTables.{BeanTables}
-use Rattle.cdi_accepted.specs.of_beans.declared.declared.DeclaredTables.{DeclaredTables}
-use Rattle.cdi_runtime.proofs.of_run_tables.WellFormed.{parts_of}
-use Rattle.cdi_runtime.specs.of_run_tables.declared.tables.RunTables.{RunTables}
+use Rattle.cdi_enable.specs.Enablement.{enablement_of}
+use Rattle.cdi_resolve.specs.BeanTables.{AreTablesOf, bean_tables}
+use Rattle.cdi_resolve.specs.declared.bean_tables.BeanTables.{BeanTables}
+use Rattle.cdi_beans.specs.declared.declared.DeclaredTables.{DeclaredTables}
+use Rattle.cdi_run_tables.proofs.WellFormed.{parts_of}
+use Rattle.cdi_run_tables.specs.declared.tables.RunTables.{RunTables}
 use Rattle.cdi_accepted.specs.Accepted.{IsFaultless}
 use Rattle.cdi_types.specs.Declarations.{declarations_of}
 use Rattle.cdi_container.specs.Accepted.{IsAccepted}

@@ -1,10 +1,10 @@
 -- What a container has written since its start is in order, and each destruction begins its callbacks exactly once, since so it is in
 -- each story of the machine.
 use Rattle.std.proofs.Common.{◌≡◌, List, length, None, refl, sym, subst}
-use Rattle.cdi_accepted.specs.of_whole.Beginnings.{BeginsOnce}
-use Rattle.cdi_accepted.specs.of_ledger.Ledger as ledger
-use Rattle.cdi_accepted.specs.of_ledger.Ledger.{Item, items_of, InOrder, Ledger, KeepsOrderIfShort}
-use Rattle.cdi_accepted.specs.of_ledger.Stories.{Story}
+use Rattle.cdi_whole.specs.Beginnings.{BeginsOnce}
+use Rattle.cdi_ledger.specs.Ledger as ledger
+use Rattle.cdi_ledger.specs.Ledger.{Item, items_of, InOrder, Ledger, KeepsOrderIfShort}
+use Rattle.cdi_ledger.specs.Stories.{Story}
 use Rattle.cdi_machine.specs.Commands.{Command, task}
 use Rattle.cdi_machine.specs.Container.{State, idle_state, refusal}
 use Rattle.cdi_machine.specs.Runs.{Legal, Outcome, Runs}

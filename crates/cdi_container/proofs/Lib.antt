@@ -15,6 +15,3 @@ pub mod Traces
 mod Answering
 pub mod TurnCounts
 pub mod Turning
-pub use Rattle.cdi_runtime.proofs.of_run_tables as of_run_tables
-pub use Rattle.cdi_accepted.proofs as of_accepted
-pub use Rattle.cdi_runtime.proofs.of_steps as of_steps

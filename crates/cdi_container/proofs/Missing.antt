@@ -4,7 +4,7 @@ use Rattle.cdi_machine.specs.Commands.{task}
 use Rattle.cdi_machine.specs.Container.{refusal}
 use Rattle.cdi_machine.specs.Runs.{Legal, Runs}
 use Rattle.cdi_machine.specs.Tables.{Tables}
-use Rattle.cdi_accepted.specs.of_whole.Missing.{MissesNothing, NothingMissing}
+use Rattle.cdi_whole.specs.Missing.{MissesNothing, NothingMissing}
 use Rattle.cdi_container.specs.Missing.{NoneMissed}
 use Rattle.cdi_container.proofs.Halted.{works_on}
 use Rattle.cdi_container.proofs.Stories.{is_story, led_to, refused_alike}

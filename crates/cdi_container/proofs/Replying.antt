@@ -1,19 +1,19 @@
 -- What a job is answered is the machine's reply to its command.
 use Rattle.std.proofs.Common.{ℕ, ◌≡◌, List, Option, true, false, refl}
-use Rattle.cdi_frames.specs.of_host.Asked.{asked_for}
+use Rattle.cdi_host.specs.Asked.{asked_for}
 use Rattle.cdi_machine.specs.Commands.{Command}
 use Rattle.cdi_machine.specs.Words.{Asked}
 use Rattle.cdi_machine.specs.World.{World}
 use Rattle.cdi_machine.specs.Container.{reply_to}
-use Rattle.cdi_runtime.specs.of_steps.declared.task.Given.TheVariants as givens
-use Rattle.cdi_runtime.specs.of_steps.declared.task.Completion.TheVariants as completions
-use Rattle.cdi_runtime.specs.of_steps.declared.task.Outcome.{Outcome}
-use Rattle.cdi_runtime.specs.of_steps.declared.task.Outcome.TheVariants as outcomes
-use Rattle.cdi_runtime.specs.of_steps.declared.task.BeanPurpose.{BeanPurpose}
-use Rattle.cdi_runtime.specs.of_steps.declared.task.BeanPurpose.TheVariants as bean_purposes
-use Rattle.cdi_runtime.specs.of_steps.declared.task.Job.{Job}
-use Rattle.cdi_runtime.specs.of_steps.declared.task.Job.TheVariants as jobs
-use Rattle.cdi_runtime.specs.of_steps.Words.{command_of, outcome_of, use_command}
+use Rattle.cdi_steps.specs.declared.task.Given.TheVariants as givens
+use Rattle.cdi_steps.specs.declared.task.Completion.TheVariants as completions
+use Rattle.cdi_steps.specs.declared.task.Outcome.{Outcome}
+use Rattle.cdi_steps.specs.declared.task.Outcome.TheVariants as outcomes
+use Rattle.cdi_steps.specs.declared.task.BeanPurpose.{BeanPurpose}
+use Rattle.cdi_steps.specs.declared.task.BeanPurpose.TheVariants as bean_purposes
+use Rattle.cdi_steps.specs.declared.task.Job.{Job}
+use Rattle.cdi_steps.specs.declared.task.Job.TheVariants as jobs
+use Rattle.cdi_steps.specs.Words.{command_of, outcome_of, use_command}
 use Rattle.cdi_container.specs.Replies.{IsToldByEnd, asks_for_live, has_value, reply_of}
 
 use_replied : (request : Option (List ℕ)) (asked : Asked) (purpose : BeanPurpose) (o : Outcome) (w : World) → reply_of true o ≡ reply_to (use_command request asked purpose) (outcome_of o) w

@@ -1,14 +1,14 @@
 -- In a container whose tables and bodies fit one another, and whose tables tell the bodies of a destruction from all others, all is
 -- sound.
-use Rattle.cdi_accepted.proofs.of_whole.Beginning.{begin_once, begin_once_if_short}
-use Rattle.cdi_accepted.proofs.of_ledger.Ledgered as ledger
-use Rattle.cdi_accepted.specs.of_ledger.Callbacks.{FirstsStandOnce, PlacesOfBodiesAreApart}
+use Rattle.cdi_whole.proofs.Beginning.{begin_once, begin_once_if_short}
+use Rattle.cdi_ledger.proofs.Ledgered as ledger
+use Rattle.cdi_ledger.specs.Callbacks.{FirstsStandOnce, PlacesOfBodiesAreApart}
 use Rattle.cdi_machine.proofs.Rests as machine
 use Rattle.cdi_machine.specs.Runs.{Legal}
-use Rattle.cdi_runtime.specs.of_run_tables.Machine.{machine_tables}
-use Rattle.cdi_runtime.specs.of_run_tables.declared.tables.RunTables.{RunTables}
-use Rattle.cdi_accepted.proofs.of_whole.Presence.{misses_nothing, throws_with_text}
-use Rattle.cdi_accepted.specs.of_whole.Fits.{Fits}
+use Rattle.cdi_run_tables.specs.Machine.{machine_tables}
+use Rattle.cdi_run_tables.specs.declared.tables.RunTables.{RunTables}
+use Rattle.cdi_whole.proofs.Presence.{misses_nothing, throws_with_text}
+use Rattle.cdi_whole.specs.Fits.{Fits}
 use Rattle.cdi_container.specs.Sound.{IsSound}
 use Rattle.cdi_container.proofs.History.{begins_once, keeps_order}
 use Rattle.cdi_container.proofs.Missing.{none_missed}

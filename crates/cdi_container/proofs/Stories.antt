@@ -3,8 +3,8 @@ use Rattle.std.proofs.Common.{◌≡◌, ◌∙◌, ◌⊎◌, inl, inr, List, [
 use Rattle.std.specs.Prelude.{ℕ, is_some}
 use Rattle.cdi_base.specs.declared.reply.Cause.TheVariants as causes
 use Rattle.cdi_base.specs.declared.reply.Reply.{Reply}
-use Rattle.cdi_accepted.specs.of_ledger.Ledger.{Item, items_of}
-use Rattle.cdi_accepted.specs.of_ledger.Stories.{Story}
+use Rattle.cdi_ledger.specs.Ledger.{Item, items_of}
+use Rattle.cdi_ledger.specs.Stories.{Story}
 use Rattle.cdi_machine.specs.Commands.{Command, task}
 use Rattle.cdi_machine.specs.Container as machine
 use Rattle.cdi_machine.specs.Container.{State, before_commands, idle_state, is_cut, refusal, state_after, Leads}

@@ -3,17 +3,17 @@ use Rattle.std.proofs.Common.{ℕ, ◌≡◌, ◌∙◌, List, [], Option, Some,
 use Rattle.std.specs.Prelude.{unwrap_or}
 use Rattle.cdi_base.specs.declared.reply.Reply.{Reply}
 use Rattle.cdi_base.specs.declared.reply.Reply.TheVariants as replies
-use Rattle.cdi_accepted.specs.of_ledger.Ledger.{Item}
+use Rattle.cdi_ledger.specs.Ledger.{Item}
 use Rattle.cdi_machine.specs.Commands.{Command, task}
 use Rattle.cdi_machine.specs.Container.{given_to, refusal, reply_to}
 use Rattle.cdi_machine.specs.Programs.{Given, Gave, Threw}
 use Rattle.cdi_machine.specs.Runs.{Legal, Outcome, Ends, Cut, Runs}
 use Rattle.cdi_machine.specs.Tables.{Tables}
 use Rattle.cdi_machine.specs.World.{World, at_begin}
-use Rattle.cdi_runtime.specs.of_run_tables.Machine.{machine_tables}
-use Rattle.cdi_runtime.specs.of_run_tables.declared.tables.RunTables.{RunTables}
-use Rattle.cdi_accepted.specs.of_whole.Thrown.{ThrowsWithText}
-use Rattle.cdi_accepted.specs.of_whole.Fits.{HasText, Fits}
+use Rattle.cdi_run_tables.specs.Machine.{machine_tables}
+use Rattle.cdi_run_tables.specs.declared.tables.RunTables.{RunTables}
+use Rattle.cdi_whole.specs.Thrown.{ThrowsWithText}
+use Rattle.cdi_whole.specs.Fits.{HasText, Fits}
 use Rattle.cdi_container.specs.History.{History}
 use Rattle.cdi_container.specs.States.{ContainerState, AnswersCommand, CarriesOut}
 use Rattle.cdi_container.specs.Thrown.{TellsName, NamesThrown}

@@ -13,7 +13,7 @@ use Rattle.cdi_machine.specs.Runs.{Legal, Outcome}
 use Rattle.cdi_machine.specs.Tables.{Tables}
 use Rattle.cdi_machine.specs.World.{World, at_begin}
 use Rattle.cdi_machine.proofs.Order.{wider}
-use Rattle.cdi_runtime.specs.of_steps.Words.{command_of, outcome_of}
+use Rattle.cdi_steps.specs.Words.{command_of, outcome_of}
 use Rattle.cdi_container.specs.declared.left.Left.{Left}
 use Rattle.cdi_container.specs.declared.left.Progress.TheVariants as progresses
 use Rattle.cdi_container.specs.States.{ContainerState, AnswersCommand, CarriesOut, after_refusal, without_memory}

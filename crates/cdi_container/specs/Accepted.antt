@@ -4,17 +4,17 @@ use Rattle.cdi_base.specs.declared.or_memory.OrMemory.{OrMemory}
 use Rattle.cdi_base.specs.declared.or_memory.OrMemory.TheVariants as errors
 use Rattle.cdi_bodies.specs.Gives.{lookups_of}
 use Rattle.cdi_bodies.specs.declared.entry.Entry.{Entry}
-use Rattle.cdi_accepted.specs.of_body_check.Shapes.{shape_of}
-use Rattle.cdi_accepted.specs.of_check.Problems.{AreProblemsOf}
+use Rattle.cdi_body_check.specs.Shapes.{shape_of}
+use Rattle.cdi_check.specs.Problems.{AreProblemsOf}
 use Rattle.cdi_deployment.specs.declared.deployment.Deployment.{Deployment}
 use Rattle.cdi_machine.specs.Registered.{legal_of}
-use Rattle.cdi_runtime.specs.of_run_tables.Machine.{AreIdsOf, machine_tables}
-use Rattle.cdi_runtime.specs.of_run_tables.Planned.{IsTabled}
-pub use Rattle.cdi_runtime.specs.of_run_tables.WellFormed.{is_well_formed}
-use Rattle.cdi_runtime.specs.of_run_tables.declared.tables.RunTables.{RunTables}
+use Rattle.cdi_run_tables.specs.Machine.{AreIdsOf, machine_tables}
+use Rattle.cdi_run_tables.specs.Planned.{IsTabled}
+pub use Rattle.cdi_run_tables.specs.WellFormed.{is_well_formed}
+use Rattle.cdi_run_tables.specs.declared.tables.RunTables.{RunTables}
 use Rattle.cdi_runtime.specs.Standing.{IsServable}
-use Rattle.cdi_runtime.specs.of_steps.Driving.{Drives}
-use Rattle.cdi_accepted.specs.of_whole.Fits.{Fits}
+use Rattle.cdi_steps.specs.Driving.{Drives}
+use Rattle.cdi_whole.specs.Fits.{Fits}
 use Rattle.cdi_container.specs.declared.acceptance.Unaccepted.{Unaccepted}
 use Rattle.cdi_container.specs.declared.acceptance.Unaccepted.TheVariants as reasons
 

@@ -9,7 +9,7 @@ use Rattle.cdi_base.specs.declared.uses.WrittenUse.{WrittenUse}
 use Rattle.cdi_base.specs.Name.{number_of}
 use Rattle.cdi_machine.specs.Commands as machine
 use Rattle.cdi_machine.specs.Words.{Asked}
-use Rattle.cdi_frames.specs.of_host.Asked.{asked_for}
+use Rattle.cdi_host.specs.Asked.{asked_for}
 
 -- Names are numbers of the table; one that it doesn't hold gets a number that no name has.
 abbrev pub member_for : List (List ℕ) → WrittenMember → MemberValue

@@ -6,8 +6,8 @@ use Rattle.cdi_machine.specs.World.{World}
 use Rattle.cdi_machine.specs.Programs.{Given, Prog}
 use Rattle.cdi_machine.specs.Commands.{Command}
 use Rattle.cdi_machine.specs.Runs.{Legal, Outcome}
-use Rattle.cdi_accepted.specs.of_whole.Beginnings.{BeginsOnce}
-use Rattle.cdi_accepted.specs.of_ledger.Ledger.{Item, items_of, InOrder}
+use Rattle.cdi_whole.specs.Beginnings.{BeginsOnce}
+use Rattle.cdi_ledger.specs.Ledger.{Item, items_of, InOrder}
 use Rattle.cdi_container.specs.States.{ContainerState, CarriesOut, AnswersCommand, before_start, after_refusal}
 
 abbrev pub carried_items : {tables : Tables} {legal : Legal} {Starved : Type 0} {p : Prog Given}

@@ -1,13 +1,13 @@
 -- In a container of an accepted deployment no command misses anything.
 use Rattle.std.specs.Prelude.{◌≡◌, List, None}
-use Rattle.cdi_accepted.specs.of_ledger.Ledger.{Item}
+use Rattle.cdi_ledger.specs.Ledger.{Item}
 use Rattle.cdi_machine.specs.Commands.{Command, task}
 use Rattle.cdi_machine.specs.Container.{refusal}
 use Rattle.cdi_machine.specs.Runs.{Legal, Outcome, Runs}
 use Rattle.cdi_machine.specs.Tables.{Tables}
 use Rattle.cdi_machine.specs.World.{World, at_begin}
-use Rattle.cdi_accepted.specs.of_whole.Missing.{NothingMissing}
-use Rattle.cdi_accepted.specs.of_whole.Fits.{Fits}
+use Rattle.cdi_whole.specs.Missing.{NothingMissing}
+use Rattle.cdi_whole.specs.Fits.{Fits}
 use Rattle.cdi_container.specs.History.{History}
 use Rattle.cdi_container.specs.States.{ContainerState, machine_state}
 

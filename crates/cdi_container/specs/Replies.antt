@@ -2,14 +2,14 @@
 use Rattle.std.specs.Prelude.{Bool, true, false}
 use Rattle.cdi_base.specs.declared.reply.Reply.{Reply}
 use Rattle.cdi_base.specs.declared.reply.Reply.TheVariants as replies
-use Rattle.cdi_runtime.specs.of_steps.declared.task.Given.{Given}
-use Rattle.cdi_runtime.specs.of_steps.declared.task.Given.TheVariants as givens
-use Rattle.cdi_runtime.specs.of_steps.declared.task.Completion.{Completion}
-use Rattle.cdi_runtime.specs.of_steps.declared.task.Completion.TheVariants as completions
-use Rattle.cdi_runtime.specs.of_steps.declared.task.Outcome.{Outcome}
-use Rattle.cdi_runtime.specs.of_steps.declared.task.Outcome.TheVariants as outcomes
-use Rattle.cdi_runtime.specs.of_steps.declared.task.Job.{Job}
-use Rattle.cdi_runtime.specs.of_steps.declared.task.Job.TheVariants as jobs
+use Rattle.cdi_steps.specs.declared.task.Given.{Given}
+use Rattle.cdi_steps.specs.declared.task.Given.TheVariants as givens
+use Rattle.cdi_steps.specs.declared.task.Completion.{Completion}
+use Rattle.cdi_steps.specs.declared.task.Completion.TheVariants as completions
+use Rattle.cdi_steps.specs.declared.task.Outcome.{Outcome}
+use Rattle.cdi_steps.specs.declared.task.Outcome.TheVariants as outcomes
+use Rattle.cdi_steps.specs.declared.task.Job.{Job}
+use Rattle.cdi_steps.specs.declared.task.Job.TheVariants as jobs
 
 -- a call and a read are answered by their value
 abbrev pub has_value : Job → Bool

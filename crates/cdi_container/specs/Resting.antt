@@ -1,6 +1,6 @@
 -- Between two commands nothing is running in a container.
 use Rattle.std.specs.Prelude.{◌≡◌, List, None}
-use Rattle.cdi_accepted.specs.of_ledger.Ledger.{Item}
+use Rattle.cdi_ledger.specs.Ledger.{Item}
 use Rattle.cdi_machine.specs.Laws.{IsAtRest}
 use Rattle.cdi_machine.specs.Runs.{Legal}
 use Rattle.cdi_machine.specs.Tables.{Tables}

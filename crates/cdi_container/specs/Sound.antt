@@ -1,9 +1,9 @@
 -- What is true of every run of a container of an accepted deployment.
 use Rattle.std.specs.Prelude.{List}
-use Rattle.cdi_accepted.specs.of_ledger.Ledger.{Item}
+use Rattle.cdi_ledger.specs.Ledger.{Item}
 use Rattle.cdi_machine.specs.Runs.{Legal}
-use Rattle.cdi_runtime.specs.of_run_tables.Machine.{machine_tables}
-use Rattle.cdi_runtime.specs.of_run_tables.declared.tables.RunTables.{RunTables}
+use Rattle.cdi_run_tables.specs.Machine.{machine_tables}
+use Rattle.cdi_run_tables.specs.declared.tables.RunTables.{RunTables}
 use Rattle.cdi_container.specs.History.{History, KeepsOrder, BeginsFarewellsOnce}
 use Rattle.cdi_container.specs.Missing.{MissesNone}
 use Rattle.cdi_container.specs.Resting.{NothingRuns}

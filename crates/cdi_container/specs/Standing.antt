@@ -5,8 +5,8 @@ use Rattle.cdi_base.specs.declared.reply.Reply.{Reply}
 use Rattle.cdi_machine.specs.Tables as machine
 use Rattle.cdi_machine.specs.Runs.{Legal}
 use Rattle.cdi_machine.specs.Laws.{IsWithin}
-use Rattle.cdi_runtime.specs.of_run_tables.Machine.{machine_tables}
-use Rattle.cdi_runtime.specs.of_run_tables.declared.tables.RunTables.{RunTables}
+use Rattle.cdi_run_tables.specs.Machine.{machine_tables}
+use Rattle.cdi_run_tables.specs.declared.tables.RunTables.{RunTables}
 use Rattle.cdi_runtime.specs.Standing.{RuntimeParts}
 use Rattle.cdi_container.specs.States.{ContainerState, Boots}
 

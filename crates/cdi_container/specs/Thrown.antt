@@ -2,12 +2,12 @@
 use Rattle.std.specs.Prelude.{ℕ, ◌≡◌, List, Some, slice_get}
 use Rattle.cdi_base.specs.declared.reply.Reply.{Reply}
 use Rattle.cdi_base.specs.declared.reply.Reply.TheVariants as replies
-use Rattle.cdi_accepted.specs.of_ledger.Ledger.{Item}
+use Rattle.cdi_ledger.specs.Ledger.{Item}
 use Rattle.cdi_machine.specs.Commands.{Command}
 use Rattle.cdi_machine.specs.Runs.{Legal}
 use Rattle.cdi_problems.specs.Places.{name_text}
-use Rattle.cdi_runtime.specs.of_run_tables.Machine.{machine_tables}
-use Rattle.cdi_runtime.specs.of_run_tables.declared.tables.RunTables.{RunTables}
+use Rattle.cdi_run_tables.specs.Machine.{machine_tables}
+use Rattle.cdi_run_tables.specs.declared.tables.RunTables.{RunTables}
 use Rattle.cdi_container.specs.History.{History}
 use Rattle.cdi_container.specs.States.{ContainerState, AnswersCommand}
 

@@ -12,10 +12,10 @@ use Rattle.cdi_machine.specs.Container.{refusal}
 use Rattle.cdi_machine.specs.Runs.{Legal}
 use Rattle.cdi_machine.specs.Tables.{Tables}
 use Rattle.cdi_machine.specs.World.{at_begin}
-use Rattle.cdi_runtime.specs.of_steps.Words.{command_of, outcome_of}
-use Rattle.cdi_runtime.specs.of_steps.declared.task.Job.{Job}
-use Rattle.cdi_runtime.specs.of_steps.declared.task.Outcome.{Outcome}
-use Rattle.cdi_runtime.specs.of_steps.declared.task.Task.TheVariants as tasks
+use Rattle.cdi_steps.specs.Words.{command_of, outcome_of}
+use Rattle.cdi_steps.specs.declared.task.Job.{Job}
+use Rattle.cdi_steps.specs.declared.task.Outcome.{Outcome}
+use Rattle.cdi_steps.specs.declared.task.Task.TheVariants as tasks
 use Rattle.cdi_container.specs.Replies.{IsToldByEnd, has_value, reply_of}
 use Rattle.cdi_container.specs.Standing.{ContainerParts, state_of}
 use Rattle.cdi_container.specs.States.{ContainerState, AnswersCommand, CarriesOut, after_refusal, cause_of, machine_state, refusal_in_state, without_memory}

@@ -1,25 +1,25 @@
 //! Which deployments a container is started for.
 ghost use Rattle.std.specs.Prelude.{◌≡◌, [], true, IfOk, IfErr};
 ghost use Rattle.cdi_base.specs.declared.or_memory.OrMemory.TheVariants.{Fault};
-ghost use Rattle.cdi_accepted.specs.of_beans.Declarations.{AreDeclaredBy};
-ghost use Rattle.cdi_accepted.specs.of_beans.Problems.{IsMadeOf};
+ghost use Rattle.cdi_beans.specs.Declarations.{AreDeclaredBy};
+ghost use Rattle.cdi_beans.specs.Problems.{IsMadeOf};
 ghost use Rattle.cdi_bodies.specs.Table.{entries_of};
-ghost use Rattle.cdi_accepted.specs.of_body_check.Shapes.{shape_of};
-ghost use Rattle.cdi_accepted.specs.of_check.Late.{AreProblemsIn};
-ghost use Rattle.cdi_accepted.specs.of_check.Tables.{setting_by};
+ghost use Rattle.cdi_body_check.specs.Shapes.{shape_of};
+ghost use Rattle.cdi_check.specs.Late.{AreProblemsIn};
+ghost use Rattle.cdi_check.specs.Tables.{setting_by};
 ghost use Rattle.cdi_container.specs.Accepted as spec;
 ghost use Rattle.cdi_container.specs.declared.acceptance.Unaccepted.TheVariants.{Problems};
 ghost use Rattle.cdi_name_check.specs.NameSets.{HasDeclared};
 
-use cdi_accepted::cdi_beans::ListedBeans;
-use cdi_accepted::cdi_check::late_problems;
-use cdi_accepted::cdi_resolve::BeanTables;
 use cdi_accepted::laws::{law_whole_fits, law_whole_is_registered};
 use cdi_base::{Names, OrMemory, Seq};
+use cdi_beans::ListedBeans;
 use cdi_bodies::Bodies;
+use cdi_check::late_problems;
 use cdi_deployment::Deployment;
 use cdi_problems::Problem;
-use cdi_runtime::cdi_run_tables::RunTables;
+use cdi_resolve::BeanTables;
+use cdi_run_tables::RunTables;
 use cdi_runtime::laws::law_drives_registered;
 use std::alloc::Global;
 

@@ -3,11 +3,11 @@ ghost use Rattle.std.specs.Prelude.{◌≡◌, map, IfOk};
 ghost use Rattle.std.specs.Option.{option_copied};
 ghost use Rattle.cdi_base.specs.Name.{number_of};
 ghost use Rattle.cdi_container.specs.Commands as spec;
-ghost use Rattle.cdi_runtime.specs.of_steps.Words.{command_of, use_command};
-ghost use Rattle.cdi_runtime.specs.of_steps.declared.task.BeanPurpose.TheVariants as purposes;
+ghost use Rattle.cdi_steps.specs.Words.{command_of, use_command};
+ghost use Rattle.cdi_steps.specs.declared.task.BeanPurpose.TheVariants as purposes;
 
 use cdi_base::{Command, MemberValue, Names, Seq, Text, Use, Value, WrittenMember, WrittenUse};
-use cdi_runtime::cdi_steps::{BeanPurpose, BeanUse, Event, Job};
+use cdi_steps::{BeanPurpose, BeanUse, Event, Job};
 use std::alloc::{AllocError, Global};
 
 fn member_for(names: &Names, written: &WrittenMember) -> Result<MemberValue, AllocError>

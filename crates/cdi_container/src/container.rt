@@ -5,12 +5,12 @@ ghost use Rattle.cdi_base.specs.Maps.{at};
 ghost use Rattle.cdi_machine.specs.Commands.{task};
 ghost use Rattle.cdi_machine.specs.Container.{refusal as machine_refusal};
 ghost use Rattle.cdi_machine.specs.World.{at_begin};
-ghost use Rattle.cdi_runtime.specs.of_run_tables.Machine.{machine_tables};
+ghost use Rattle.cdi_run_tables.specs.Machine.{machine_tables};
 ghost use Rattle.cdi_runtime.specs.Standing.{IsServable};
 ghost use Rattle.cdi_frames.specs.Stacks.{AddsAtMost, KeepsCount, KnownStack, KnownTurn, TurnsTo};
-ghost use Rattle.cdi_runtime.specs.of_steps.Driving.{Drives};
-ghost use Rattle.cdi_runtime.specs.of_steps.Words.{command_of, outcome_of};
-ghost use Rattle.cdi_runtime.specs.of_steps.Known.{KnownJob};
+ghost use Rattle.cdi_steps.specs.Driving.{Drives};
+ghost use Rattle.cdi_steps.specs.Words.{command_of, outcome_of};
+ghost use Rattle.cdi_steps.specs.Known.{KnownJob};
 ghost use Rattle.cdi_container.specs.Standing as spec;
 ghost use Rattle.cdi_container.specs.States.{AnswersCommand, CarriesOut, after_refusal, machine_state};
 ghost use Rattle.cdi_container.specs.States.{cause_of, refusal_in_state, without_memory};
@@ -26,10 +26,10 @@ use cdi_base::{Cause, Command, Entry, Limits, Names, Refusal, Reply, Seq};
 use cdi_frames::run::{run, turn};
 use cdi_frames::stack::{Stack, Turn};
 use cdi_machine::{Driver, Failure};
+use cdi_run_tables::RunTables;
 use cdi_runtime::Runtime;
-use cdi_runtime::cdi_run_tables::RunTables;
-use cdi_runtime::cdi_steps::task::Task;
-use cdi_runtime::cdi_steps::{Job, Outcome};
+use cdi_steps::task::Task;
+use cdi_steps::{Job, Outcome};
 use std::alloc::Global;
 use std::marker::Model;
 
@@ -55,7 +55,7 @@ impl<D: Driver + Drop> Drop for Container<D> {
 
 impl<D: Driver> Model for Container<D> {
     ghost use Rattle.std.specs.Coded.{codes};
-    ghost use Rattle.cdi_runtime.specs.of_run_tables.contracts.tables.RunTables as run_tables;
+    ghost use Rattle.cdi_run_tables.specs.contracts.tables.RunTables as run_tables;
     ghost use Rattle.cdi_container.specs.Standing.{ContainerParts};
 
     ghost Value = { ContainerParts D };

@@ -3,9 +3,9 @@ ghost use Rattle.cdi_bodies.specs.Table.{entries_of};
 ghost use Rattle.cdi_deployment.specs.declared.deployment.Deployment.{Deployment};
 ghost use Rattle.cdi_machine.specs.Registered.{in_shapes, legal_of};
 ghost use Rattle.cdi_machine.specs.Tables.{Tables};
-ghost use Rattle.cdi_runtime.specs.of_run_tables.Machine.{machine_tables};
-ghost use Rattle.cdi_runtime.specs.of_run_tables.declared.tables.RunTables.{RunTables};
-ghost use Rattle.cdi_accepted.specs.of_whole.Fits.{Fits};
+ghost use Rattle.cdi_run_tables.specs.Machine.{machine_tables};
+ghost use Rattle.cdi_run_tables.specs.declared.tables.RunTables.{RunTables};
+ghost use Rattle.cdi_whole.specs.Fits.{Fits};
 ghost use Rattle.cdi_container.specs.Accepted.{IsAccepted};
 ghost use Rattle.cdi_container.specs.History.{KeepsOrder};
 ghost use Rattle.cdi_container.specs.Missing.{NoneMissed};
@@ -17,11 +17,11 @@ ghost use Rattle.cdi_container.specs.Traces.{TraceTells};
 ghost use Rattle.cdi_container.specs.Turns.{AnswersByTurns, EndsByTurns};
 ghost use Rattle.cdi_machine.specs.Laws.{IsWithin};
 
-use cdi_accepted::cdi_ledger::laws as ledger;
-use cdi_accepted::cdi_whole::laws as whole;
 use cdi_accepted::laws as sites;
 use cdi_bodies::Bodies;
+use cdi_ledger::laws as ledger;
 use cdi_machine::{Driver, laws as machine};
+use cdi_whole::laws as whole;
 
 /// In a container whose tables and bodies fit one another, as those of every deployment that is [accepted](crate::accept)
 /// do, no look-up fails: a command that isn't refused, whichever it is, never comes to a point at which something that the

@@ -2,10 +2,10 @@
 ghost use Rattle.std.specs.Prelude.{◌≡◌};
 ghost use Rattle.cdi_container.specs.Replies as spec;
 ghost use Rattle.cdi_container.specs.States.{cause_of};
-ghost use Rattle.cdi_runtime.specs.of_steps.Words.{outcome_of};
+ghost use Rattle.cdi_steps.specs.Words.{outcome_of};
 
 use cdi_base::{Cause, Reply};
-use cdi_runtime::cdi_steps::{Completion, Given, Job, Outcome};
+use cdi_steps::{Completion, Given, Job, Outcome};
 
 /// Whether a job is answered by its value.
 pub(crate) fn has_value(job: &Job) -> bool

@@ -65,7 +65,7 @@ impl<D: Driver + Drop> Drop for Session<D> {
 
 impl<D: Driver> Model for Session<D> {
     ghost use Rattle.std.specs.Coded.{codes};
-    ghost use Rattle.cdi_runtime.specs.of_run_tables.contracts.tables.RunTables as run_tables;
+    ghost use Rattle.cdi_run_tables.specs.contracts.tables.RunTables as run_tables;
     ghost use Rattle.cdi_container.specs.Sessions.{SessionParts};
 
     ghost Value = { SessionParts D };

@@ -42,7 +42,7 @@ impl<D: Driver + Drop> Drop for Turns<D> {
 
 impl<D: Driver> Model for Turns<D> {
     ghost use Rattle.std.specs.Coded.{codes};
-    ghost use Rattle.cdi_runtime.specs.of_run_tables.contracts.tables.RunTables as run_tables;
+    ghost use Rattle.cdi_run_tables.specs.contracts.tables.RunTables as run_tables;
     ghost use Rattle.cdi_container.specs.Standing.{state_of, tables_of};
     ghost use Rattle.cdi_container.specs.Turns.{KnownLeft, TurnsParts};
 

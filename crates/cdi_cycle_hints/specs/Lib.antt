@@ -2,4 +2,3 @@ pub mod Cycle
 pub mod Hierarchy
 pub mod Needs
 pub mod ToldCycle
-pub use Rattle.cdi_resolve.specs as of_resolve

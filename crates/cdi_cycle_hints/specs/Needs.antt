@@ -3,11 +3,11 @@ use Rattle.std.specs.Prelude.{ℕ, ◌≡◌, ◌==◌, List, [], ◌∷◌, ◌
 use Rattle.std.specs.List.{flat_map}
 use Rattle.std.specs.Option.{ForSome}
 use Rattle.cdi_base.specs.declared.uses.Use.{Use}
-use Rattle.cdi_resolve.specs.of_bean_check.ManagedBeans.{is_dependent}
-use Rattle.cdi_resolve.specs.of_bean_check.Qualifiers.{full_uses}
-use Rattle.cdi_resolve.specs.of_beans.declared.bean.Bean.{Bean}
-use Rattle.cdi_resolve.specs.of_beans.declared.bean.BeanKind.{BeanKind}
-use Rattle.cdi_resolve.specs.of_beans.declared.bean.BeanKind.TheVariants as kinds
+use Rattle.cdi_bean_check.specs.ManagedBeans.{is_dependent}
+use Rattle.cdi_bean_check.specs.Qualifiers.{full_uses}
+use Rattle.cdi_beans.specs.declared.bean.Bean.{Bean}
+use Rattle.cdi_beans.specs.declared.bean.BeanKind.{BeanKind}
+use Rattle.cdi_beans.specs.declared.bean.BeanKind.TheVariants as kinds
 use Rattle.cdi_deployment.specs.Member.{member_name, member_params}
 use Rattle.cdi_deployment.specs.declared.deployment.Class.{Class}
 use Rattle.cdi_deployment.specs.declared.deployment.Constructor.{Constructor}

@@ -7,8 +7,8 @@ ghost use Rattle.cdi_problems.specs.Places.{same_place};
 use crate::needs::Needs;
 use crate::told_cycle::told_cycle;
 use cdi_base::{Names, Place, Seq};
+use cdi_beans::Bean;
 use cdi_problems::PlaceText;
-use cdi_resolve::cdi_beans::Bean;
 use cdi_resolve::place_of;
 use std::alloc::{AllocError, Global};
 

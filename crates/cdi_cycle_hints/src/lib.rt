@@ -6,8 +6,6 @@ pub mod hierarchy;
 pub mod needs;
 mod told_cycle;
 
-// What callers name of the libraries below.
-pub use cdi_resolve;
 pub use cycle::add_needs_cycle;
 pub use hierarchy::add_hierarchy;
 pub use needs::{Needs, needs_of};

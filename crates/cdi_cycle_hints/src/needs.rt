@@ -5,8 +5,8 @@ ghost use Rattle.std.specs.Option.{option_copied};
 ghost use Rattle.cdi_cycle_hints.specs.Needs as spec;
 
 use cdi_base::{Name, Scope, Seq, Use};
+use cdi_beans::{Bean, BeanKind};
 use cdi_deployment::{Class, Constructor, Deployment, InjectedField, Member, Point};
-use cdi_resolve::cdi_beans::{Bean, BeanKind};
 use cdi_resolve::{BeanTables, Resolution};
 use std::alloc::{AllocError, Global};
 use std::marker::Model;

@@ -16,8 +16,8 @@ use Rattle.cdi_types.specs.Subtype.{IsAcyclic}
 use Rattle.cdi_types.proofs.Listed.{not_in_none, first_or_later}
 use Rattle.cdi_types.proofs.Steps.{steps_of}
 use Rattle.cdi_name_check.proofs.SoundTypes.{sound_types}
-use Rattle.cdi_beans.specs.of_bean_check.ManagedBeans.{is_bean}
-use Rattle.cdi_beans.specs.of_bean_check.Qualifiers.{specialized_bean}
+use Rattle.cdi_bean_check.specs.ManagedBeans.{is_bean}
+use Rattle.cdi_bean_check.specs.Qualifiers.{specialized_bean}
 use Rattle.cdi_beans.specs.Beans.{Source, IsBeanOf, products_in, sources_in}
 use Rattle.cdi_beans.specs.Problems.{IsMadeOf}
 use Rattle.cdi_beans.specs.declared.bean.Bean.{Bean}

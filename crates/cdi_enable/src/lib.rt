@@ -9,9 +9,6 @@ pub mod listed_bean;
 pub mod managed_bean;
 mod managed_beans;
 
-// What callers name of the libraries below.
-pub use cdi_beans;
-pub use cdi_beans::cdi_bean_check;
 pub use enabled_managed::EnabledManaged;
 pub use enabled_set::{EnabledSet, enabled};
 pub use listed_bean::ListedBean;

@@ -8,7 +8,3 @@ pub mod OneSet
 pub mod Placed
 pub mod Subtypes
 pub mod Written
-pub use Rattle.cdi_plans.proofs.of_beans as of_beans
-pub use Rattle.cdi_body_check.proofs.of_enable as of_enable
-pub use Rattle.cdi_plans.proofs as of_plans
-pub use Rattle.cdi_body_check.proofs.of_resolve as of_resolve

@@ -8,7 +8,7 @@ use Rattle.std.specs.declared.cmp.Ordering.{Ordering}
 use Rattle.std.specs.declared.cmp.Ordering.TheVariants as orders
 use Rattle.cdi_base.specs.declared.uses.MemberValue.{MemberValue}
 use Rattle.cdi_base.specs.declared.uses.Use.{Use}
-use Rattle.cdi_plans.specs.of_beans.declared.bean.ObserverMethod.{ObserverMethod}
+use Rattle.cdi_beans.specs.declared.bean.ObserverMethod.{ObserverMethod}
 use Rattle.cdi_bodies.specs.Events.{is_any}
 use Rattle.cdi_deployment.specs.declared.deployment.Class.{Class}
 use Rattle.cdi_quals.specs.Order.{compare_qualifiers}
@@ -16,7 +16,7 @@ use Rattle.cdi_quals.specs.Qualifiers.{full_use, has_all}
 use Rattle.cdi_quals.specs.declared.qualifier.Qualifier.{Qualifier}
 use Rattle.cdi_quals.specs.declared.qualifier.QualifierMember.{QualifierMember}
 use Rattle.cdi_quals.specs.declared.types.QualifierType.{QualifierType}
-use Rattle.cdi_body_check.specs.of_resolve.Filters.{default}
+use Rattle.cdi_resolve.specs.Filters.{default}
 use Rattle.cdi_body_check.specs.WrittenNames.{is_concrete}
 use Rattle.cdi_types.specs.Line.{class_named}
 use Rattle.cdi_types.specs.Subtype.{object, supertypes_of}

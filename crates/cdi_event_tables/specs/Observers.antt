@@ -2,16 +2,16 @@
 use Rattle.std.specs.Prelude.{ℕ, suc, ℤ, ◌==◌, ◌&&◌, List, [], ◌∷◌, ◌++◌, fold, Bool, false, Option, Some, None, option_map, option_and_then, position, int_lt, if◌then◌else◌}
 use Rattle.std.specs.Ordering.{int_eq}
 use Rattle.cdi_base.specs.declared.uses.Use.{Use}
-use Rattle.cdi_plans.specs.of_bean_check.Qualifiers.{full_uses}
-use Rattle.cdi_plans.specs.of_beans.Kinds.{is_managed}
-use Rattle.cdi_plans.specs.of_beans.declared.bean.Bean.{Bean}
-use Rattle.cdi_plans.specs.of_beans.declared.bean.ObserverMethod.{ObserverMethod}
-use Rattle.cdi_plans.specs.of_beans.declared.declared.DeclaredTables.{DeclaredTables}
+use Rattle.cdi_bean_check.specs.Qualifiers.{full_uses}
+use Rattle.cdi_beans.specs.Kinds.{is_managed}
+use Rattle.cdi_beans.specs.declared.bean.Bean.{Bean}
+use Rattle.cdi_beans.specs.declared.bean.ObserverMethod.{ObserverMethod}
+use Rattle.cdi_beans.specs.declared.declared.DeclaredTables.{DeclaredTables}
 use Rattle.cdi_plans.specs.Observers.{observer_of, observer_method}
 use Rattle.cdi_plans.specs.Tables.{PlanTables}
 use Rattle.cdi_plans.specs.declared.plan.InjectedMethod.{InjectedMethod}
 use Rattle.cdi_quals.specs.Qualifiers.{has_all}
-use Rattle.cdi_body_check.specs.of_resolve.Filters.{Candidates, is_enabled}
+use Rattle.cdi_resolve.specs.Filters.{Candidates, is_enabled}
 use Rattle.cdi_event_tables.specs.Events.{any_qualifier, is_subtype}
 use Rattle.cdi_event_tables.specs.Ids.{id_in}
 use Rattle.cdi_event_tables.specs.declared.ids.BodyIds.{BodyIds}

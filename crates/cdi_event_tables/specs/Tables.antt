@@ -6,7 +6,7 @@ use Rattle.cdi_event_tables.specs.declared.ids.BodyIds.{BodyIds}
 use Rattle.cdi_event_tables.specs.declared.tables.EventTables.{EventTables}
 use Rattle.cdi_name_check.specs.NameSets.{HasNames}
 use Rattle.cdi_plans.specs.Tables.{PlanTables}
-use Rattle.cdi_body_check.specs.of_resolve.declared.bean_tables.BeanTables.{BeanTables}
+use Rattle.cdi_resolve.specs.declared.bean_tables.BeanTables.{BeanTables}
 
 -- the classes of events, and the observers of enabled beans
 pub record AreEventTables (plans : PlanTables) (beans : BeanTables) (ids : BodyIds) (t : EventTables)

@@ -5,7 +5,7 @@ ghost use Rattle.cdi_event_tables.specs.Observers as spec;
 use crate::observers::PlannedObserver;
 use crate::required::has_all;
 use cdi_base::{Name, Seq, Use};
-use cdi_plans::cdi_beans::DeclaredTables;
+use cdi_beans::DeclaredTables;
 use std::alloc::{AllocError, Global};
 
 /// Whether an observer hears an event of a class with these qualifiers.

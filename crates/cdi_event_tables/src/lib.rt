@@ -12,10 +12,6 @@ mod required;
 pub mod tables;
 pub mod written_form;
 
-// What callers name of the libraries below.
-pub use cdi_body_check::{cdi_cache, cdi_resolve};
-pub use cdi_plans;
-pub use cdi_plans::cdi_beans;
 pub use ids::BodyIds;
 pub use observer_groups::ObserverGroup;
 pub use observers::PlannedObserver;

@@ -7,9 +7,9 @@ ghost use Rattle.cdi_plans.specs.Observers.{observer_of};
 use crate::ids::BodyIds;
 use crate::observers::{ObserverPlanner, PlannedObserver};
 use cdi_base::Seq;
-use cdi_body_check::cdi_resolve::Resolver;
+use cdi_beans::ObserverMethod;
 use cdi_plans::Planner;
-use cdi_plans::cdi_beans::ObserverMethod;
+use cdi_resolve::Resolver;
 use std::alloc::{AllocError, Global};
 
 /// Observers of one priority, in the order of the bean list.

@@ -1,19 +1,19 @@
 //! The observers of enabled beans with what runs where they are notified.
 ghost use Rattle.std.specs.Prelude.{◌≡◌, ◌&&◌, ℕ, nat_eq, not, is_some, IfOk, IsSome};
 ghost use Rattle.std.specs.HashMap.{get};
-ghost use Rattle.cdi_plans.specs.of_beans.Kinds.{is_managed};
+ghost use Rattle.cdi_beans.specs.Kinds.{is_managed};
 ghost use Rattle.cdi_plans.specs.Observers.{observer_of};
 ghost use Rattle.cdi_event_tables.specs.Ids.{id_in};
 ghost use Rattle.cdi_event_tables.specs.Observers as spec;
-ghost use Rattle.cdi_body_check.specs.of_resolve.Filters as enabled;
+ghost use Rattle.cdi_resolve.specs.Filters as enabled;
 
 use crate::ids::BodyIds;
 use cdi_base::Name;
+use cdi_beans::{Bean, ObserverMethod};
 use cdi_bodies::BodyId;
-use cdi_body_check::cdi_resolve::Resolver;
-use cdi_plans::cdi_beans::{Bean, ObserverMethod};
 use cdi_plans::{InjectedMethod, Planner};
 use cdi_quals::QualSet;
+use cdi_resolve::Resolver;
 use std::alloc::{AllocError, Global};
 use std::collections::HashMap;
 

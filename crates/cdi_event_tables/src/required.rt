@@ -1,7 +1,7 @@
 //! Whether the qualifiers of an event, as they were written, are what an observer requires.
 ghost use Rattle.std.specs.Prelude.{◌≡◌, ◌∷◌, unwrap_or, map};
 ghost use Rattle.std.specs.Option.{option_copied};
-ghost use Rattle.cdi_plans.specs.of_bean_check.Qualifiers.{full_uses};
+ghost use Rattle.cdi_bean_check.specs.Qualifiers.{full_uses};
 ghost use Rattle.cdi_quals.specs.Qualifiers as quals;
 ghost use Rattle.cdi_event_tables.specs.Events.{any_qualifier};
 

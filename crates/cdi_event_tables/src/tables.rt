@@ -8,9 +8,9 @@ use crate::event_classes::event_classes;
 use crate::ids::BodyIds;
 use crate::observer_groups::{ObserverGroup, observer_groups};
 use cdi_base::{Name, Seq};
-use cdi_body_check::cdi_resolve::BeanTables;
 use cdi_deployment::Deployment;
 use cdi_plans::Planner;
+use cdi_resolve::BeanTables;
 use std::alloc::{AllocError, Global};
 use std::collections::HashSet;
 

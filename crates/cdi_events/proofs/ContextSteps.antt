@@ -16,7 +16,7 @@ use Rattle.cdi_machine.specs.Programs as machine
 use Rattle.cdi_machine.specs.Programs.{Given, Completion, Gave, Threw, Prog, ret, throw, see, nested, change, handle, quietly, complete, finish, each, ◌>>=◌, ◌>>◌}
 use Rattle.cdi_machine.specs.Events.{qualifier, fire_container_event}
 use Rattle.cdi_machine.specs.Commands.{close, end, end_alone, end_session, sessions_of, stand_in}
-use Rattle.cdi_steps.specs.of_host.Standing.{due_in, due_session, standing_in, standing_in_session}
+use Rattle.cdi_host.specs.Standing.{due_in, due_session, standing_in, standing_in_session}
 use Rattle.cdi_steps.specs.Words.{qualifier_of, scope_of, task_of}
 use Rattle.cdi_steps.specs.Meanings.{node, after_close, close_application, close_context, close_then, end_due_session, finish_context, shut_requests, shut_sessions}
 use Rattle.cdi_steps.specs.Contexts.{BeginsToClose, empty_then, finish_then}

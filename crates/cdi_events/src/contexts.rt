@@ -7,7 +7,7 @@ ghost use Rattle.cdi_steps.specs.Steps.{Settles};
 ghost use Rattle.cdi_steps.specs.declared.task.Completion.{Completion};
 
 use cdi_base::{Scope, Text};
-use cdi_steps::cdi_host::{Contents, Stack, Tables};
+use cdi_host::{Contents, Stack, Tables};
 use cdi_steps::ends::null;
 use cdi_steps::task::{AfterClose, Call, Closing, ContainerEvent, Frame, Given, Next, Task};
 use cdi_store::Context;

@@ -5,7 +5,7 @@ ghost use Rattle.cdi_steps.specs.Steps.{Moves};
 ghost use Rattle.cdi_events.specs.Events.{event_of};
 
 use cdi_base::{BuiltIn, Entry, MemberValue, Name, Scope, Seq, Text, Use, Value};
-use cdi_steps::cdi_host::{Contents, Tables};
+use cdi_host::{Contents, Tables};
 use cdi_steps::task::{Call, ContainerEvent, Continuation, Event, Next, Task};
 use std::alloc::{AllocError, Global};
 

@@ -13,8 +13,8 @@ ghost use Rattle.cdi_events.specs.Events.{is_passed_over, observer_call};
 
 use cdi_base::{BuiltIn, Entry, Name, Scope, Seq, Value};
 use cdi_contexts::{Held, Status};
+use cdi_host::{Contents, Observer, Stack, Tables};
 use cdi_machine::{Driver, Failure};
-use cdi_steps::cdi_host::{Contents, Observer, Stack, Tables};
 use cdi_steps::ends::{ended, missing, null, raised};
 use cdi_steps::obtaining::is_normal;
 use cdi_steps::task::{

@@ -6,9 +6,9 @@ use Rattle.cdi_bodies.specs.declared.entry.Entry.{Entry}
 use Rattle.cdi_container.specs.Accepted.{IsAccepted}
 use Rattle.cdi_container.specs.declared.acceptance.Unaccepted.{Unaccepted}
 use Rattle.cdi_deployment.specs.declared.deployment.Deployment.{Deployment}
-use Rattle.cdi_container.specs.of_run_tables.Machine.{machine_tables}
-use Rattle.cdi_container.specs.of_run_tables.declared.tables.RunTables.{RunTables}
-use Rattle.cdi_container.specs.of_steps.Driving.{Drives}
+use Rattle.cdi_run_tables.specs.Machine.{machine_tables}
+use Rattle.cdi_run_tables.specs.declared.tables.RunTables.{RunTables}
+use Rattle.cdi_steps.specs.Driving.{Drives}
 
 module _ {X : Type 0} {F : X → Type 0} {g : _} (entries : List (Entry X F g)) where
   pub drives_with : (d : Deployment) (accepted : Result RunTables (OrMemory Unaccepted)) → IfOk accepted (IsAccepted d entries)

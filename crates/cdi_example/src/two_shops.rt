@@ -2,16 +2,16 @@
 //! neither waits for the other.
 ghost use Rattle.std.specs.Prelude.{◌≡◌, ◌<◌, true, IfOk};
 ghost use Rattle.cdi_bodies.specs.Shape.{in_shape, no_acts};
-ghost use Rattle.cdi_container.specs.of_run_tables.Machine.{machine_tables};
-ghost use Rattle.cdi_container.specs.of_runtime.Standing.{IsServable};
-ghost use Rattle.cdi_container.specs.of_steps.Driving.{Drives};
+ghost use Rattle.cdi_run_tables.specs.Machine.{machine_tables};
+ghost use Rattle.cdi_runtime.specs.Standing.{IsServable};
+ghost use Rattle.cdi_steps.specs.Driving.{Drives};
 
 use crate::reading::{deployment_of, wrong};
 use cdi_base::{Act, Command, Fields, Limits, OrMemory, Reply, Seq, Text, Value};
 use cdi_bodies::{Bodies, Body, Choice, Chooser, Shape, View};
-use cdi_container::cdi_run_tables::RunTables;
 use cdi_container::{Container, Turned, Turns, Unaccepted, accept};
 use cdi_machine::{Driver, Registered};
+use cdi_run_tables::RunTables;
 use cdi_text::{write_reply, write_trace};
 use std::alloc::{AllocError, Global};
 use std::io;

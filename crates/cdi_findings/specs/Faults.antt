@@ -1,7 +1,7 @@
 -- The faults of bytes that can't be read, in words.
 use Rattle.std.specs.Prelude.{ℕ, ◌-◌, List, [], codes, length, take, bytes_eq, Result, Ok, Err, if◌then◌else◌}
 use Rattle.std.specs.Str.{is_utf8}
-use Rattle.cdi_report.specs.of_prepare.Ready.{Readied}
+use Rattle.cdi_prepare.specs.Ready.{Readied}
 
 -- a line without its last byte, which is the line feed
 abbrev pub without_feed : List ℕ → List ℕ

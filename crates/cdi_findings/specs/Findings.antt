@@ -6,11 +6,11 @@ use Rattle.cdi_deployment.specs.declared.deployment.Deployment.{Deployment}
 use Rattle.cdi_positions.specs.Position.{IsPositionIn}
 use Rattle.cdi_positions.specs.declared.position.Position.{Position}
 use Rattle.cdi_positions.specs.declared.repeated_keys.RepeatedKey.{RepeatedKey}
-use Rattle.cdi_report.specs.of_prepare.Hint.{IsHintFor}
-use Rattle.cdi_report.specs.of_prepare.HintText.{mistake_text}
-use Rattle.cdi_report.specs.of_prepare.Ready.{Readied}
-use Rattle.cdi_report.specs.of_prepare.Scripts.{registered}
-use Rattle.cdi_report.specs.of_prepare.declared.hint.Hint.{Hint}
+use Rattle.cdi_prepare.specs.Hint.{IsHintFor}
+use Rattle.cdi_prepare.specs.HintText.{mistake_text}
+use Rattle.cdi_prepare.specs.Ready.{Readied}
+use Rattle.cdi_prepare.specs.Scripts.{registered}
+use Rattle.cdi_prepare.specs.declared.hint.Hint.{Hint}
 use Rattle.cdi_problem_hints.specs.Hints.{problem_message}
 use Rattle.cdi_problem_hints.specs.Left.{problem_candidates}
 use Rattle.cdi_problem_hints.specs.Subjects.{Subject}
@@ -25,7 +25,7 @@ use Rattle.cdi_findings.specs.declared.finding.FindingKind.TheVariants as findin
 use Rattle.cdi_findings.specs.declared.findings.Findings.{Findings}
 use Rattle.cdi_report.specs.Reports.{AreProblemsWith}
 use Rattle.cdi_report.specs.Reviews.{names_of}
-use Rattle.cdi_problem_hints.specs.of_resolve.declared.bean_tables.BeanTables.{BeanTables}
+use Rattle.cdi_resolve.specs.declared.bean_tables.BeanTables.{BeanTables}
 use Rattle.cdi_name_uses.specs.declared.step_name.ScriptNames.{ScriptNames}
 
 -- a line for each finding, and whether there is more among them than a warning

@@ -5,4 +5,3 @@ pub mod Tables
 pub mod Warnings
 pub mod Explanation
 pub mod Words
-pub use Rattle.cdi_problem_hints.specs as of_problem_hints

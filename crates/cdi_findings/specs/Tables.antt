@@ -1,12 +1,12 @@
 -- The tables by which the points of a deployment resolve, for what is told of its problems.
 use Rattle.std.specs.Prelude.{◌≡◌, Bool, true, false, List, Option, None}
 use Rattle.std.specs.List.{list_any}
-use Rattle.cdi_problem_hints.specs.of_resolve.Tables.{AreTables}
+use Rattle.cdi_resolve.specs.Tables.{AreTables}
 use Rattle.cdi_deployment.specs.declared.deployment.Deployment.{Deployment}
 use Rattle.cdi_problems.specs.declared.problem.Problem.{Problem}
 use Rattle.cdi_problems.specs.declared.problem.ProblemKind.{ProblemKind}
 use Rattle.cdi_problems.specs.declared.problem.ProblemKind.TheVariants as kinds
-use Rattle.cdi_problem_hints.specs.of_resolve.declared.bean_tables.BeanTables.{BeanTables}
+use Rattle.cdi_resolve.specs.declared.bean_tables.BeanTables.{BeanTables}
 
 -- the tables tell something of a problem of a kind
 abbrev pub kind_needs_tables : ProblemKind → Bool

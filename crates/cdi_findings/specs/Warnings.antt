@@ -2,7 +2,7 @@
 use Rattle.std.specs.Prelude.{◌≡◌, ℕ, List, Option, option_map, IfSome}
 use Rattle.cdi_positions.specs.Position.{IsPositionIn}
 use Rattle.cdi_positions.specs.declared.repeated_keys.RepeatedKey.{RepeatedKey}
-use Rattle.cdi_report.specs.of_prepare.Warning.{lost_key}
+use Rattle.cdi_prepare.specs.Warning.{lost_key}
 
 -- this is the warning for bytes: of the first key that stands twice in an object
 pub record IsWarningFor (bytes : List ℕ) (warning : Option RepeatedKey) : Type 0 where

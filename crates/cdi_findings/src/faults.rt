@@ -1,10 +1,10 @@
 //! The faults of bytes that can't be read, in words.
 ghost use Rattle.std.specs.Prelude.{◌≡◌, string_bytes, IfOk};
-ghost use Rattle.cdi_report.specs.of_prepare.Ready.{readied_in};
+ghost use Rattle.cdi_prepare.specs.Ready.{readied_in};
 ghost use Rattle.cdi_findings.specs.Faults as spec;
 
 use cdi_base::OrMemory;
-use cdi_report::cdi_prepare::prepare;
+use cdi_prepare::prepare;
 use std::alloc::{AllocError, Global};
 use std::str;
 

@@ -1,7 +1,7 @@
 //! What is wrong with a deployment, as lines of JSON.
 ghost use Rattle.std.specs.Prelude.{◌≡◌, length, map, nat_lt, string_bytes, IfOk, IfSome};
 ghost use Rattle.cdi_positions.specs.Position.{IsPositionIn};
-ghost use Rattle.cdi_report.specs.of_prepare.Ready.{readied_in};
+ghost use Rattle.cdi_prepare.specs.Ready.{readied_in};
 ghost use Rattle.cdi_problem_hints.specs.Subjects.{subject_of};
 ghost use Rattle.cdi_problems.specs.Places.{place_text};
 ghost use Rattle.cdi_findings.specs.Findings as spec;
@@ -13,9 +13,9 @@ use crate::locating::position_of_problem;
 use cdi_base::{Names, Place};
 use cdi_deployment::Deployment;
 use cdi_positions::{Position, RepeatedKey};
+use cdi_prepare::{Hint, hint_for, warning_for};
 use cdi_problem_hints::{Subject, problem_candidates, problem_message};
 use cdi_problems::{PlaceText, Problem};
-use cdi_report::cdi_prepare::{Hint, hint_for, warning_for};
 use cdi_report::{Review, review_bytes};
 use std::alloc::{AllocError, Global};
 

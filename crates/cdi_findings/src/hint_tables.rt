@@ -4,14 +4,14 @@ ghost use Rattle.std.specs.List.{list_any};
 ghost use Rattle.std.specs.Option.{option_copied};
 ghost use Rattle.cdi_findings.specs.Tables as spec;
 ghost use Rattle.cdi_problem_hints.specs.Subjects.{subject_of};
-ghost use Rattle.cdi_problem_hints.specs.of_cycle_hints.Needs.{AreNeedsOf};
+ghost use Rattle.cdi_cycle_hints.specs.Needs.{AreNeedsOf};
 
+use cdi_cycle_hints::{Needs, needs_of};
 use cdi_deployment::Deployment;
 use cdi_name_uses::ScriptNames;
-use cdi_problem_hints::cdi_cycle_hints::{Needs, needs_of};
-use cdi_problem_hints::cdi_resolve::{BeanTables, tables_of};
 use cdi_problem_hints::{PlaceIndex, Subject};
 use cdi_problems::{Problem, ProblemKind};
+use cdi_resolve::{BeanTables, tables_of};
 use std::alloc::{AllocError, Global};
 
 /// Whether the tables tell something of a problem of a kind.

@@ -20,5 +20,3 @@ pub use findings::{Findings, findings_in, has_problem};
 pub use hint_tables::HintTables;
 pub use locating::position_of_problem;
 pub use table::explanations;
-// What callers name of the libraries below.
-pub use cdi_problem_hints;

@@ -21,9 +21,9 @@ use Rattle.cdi_machine.specs.Programs.{Given, Prog, ret, throw, cut, miss, see, 
 use Rattle.cdi_machine.specs.Contexts.{direct_reference, is_normal, refer_to}
 use Rattle.cdi_machine.specs.Bodies.{perform, reference_at, answer_find, with_answer}
 use Rattle.cdi_machine.specs.DestroyAct.{destroy_by, destroy_idle, is_idle}
-use Rattle.cdi_calls.specs.of_host.Running.{with_local}
-use Rattle.cdi_calls.specs.of_host.Asked.{head_of}
-use Rattle.cdi_calls.specs.of_host.declared.beans.BeanHead.{BeanHead}
+use Rattle.cdi_host.specs.Running.{with_local}
+use Rattle.cdi_host.specs.Asked.{head_of}
+use Rattle.cdi_host.specs.declared.beans.BeanHead.{BeanHead}
 use Rattle.cdi_steps.specs.Meanings.{go_on_with}
 use Rattle.cdi_steps.specs.Leads.{next_stop}
 use Rattle.cdi_steps.proofs.Heads.{IsThere, is_absent}

@@ -14,7 +14,7 @@ use Rattle.cdi_machine.specs.World.{World, Invocation, on_top}
 use Rattle.cdi_machine.specs.Programs as machine
 use Rattle.cdi_machine.specs.Programs.{Given, Completion, Gave, Threw, Prog, nested, handle, attempt, require, top, complete, call, ◌>>=◌, ◌>>◌}
 use Rattle.cdi_machine.specs.Bodies.{perform, fits, repeats, replace_parameters}
-use Rattle.cdi_calls.specs.of_host.Asked.{top_of}
+use Rattle.cdi_host.specs.Asked.{top_of}
 use Rattle.cdi_steps.specs.Known.{AllInvoked, HasKnownBodies}
 use Rattle.cdi_steps.specs.Meanings.{go_on_with}
 use Rattle.cdi_steps.specs.Leads.{next_stop}

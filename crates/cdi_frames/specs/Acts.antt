@@ -15,7 +15,7 @@ use Rattle.cdi_machine.specs.World.{World}
 use Rattle.cdi_machine.specs.Programs.{Running, Given, Prog, finish, raise}
 use Rattle.cdi_machine.specs.Bodies.{reference_at}
 use Rattle.cdi_machine.specs.DestroyAct.{destroy_idle}
-use Rattle.cdi_calls.specs.of_host.Asked.{reference_in}
+use Rattle.cdi_host.specs.Asked.{reference_in}
 use Rattle.cdi_steps.specs.Leads.{next_stop}
 use Rattle.cdi_steps.specs.declared.task.Purpose.{Purpose}
 use Rattle.cdi_steps.specs.declared.task.Purpose.TheVariants as purposes

@@ -12,7 +12,7 @@ use crate::resume::resume;
 use crate::stack::{Stack, Turn};
 use crate::step::{entries, step};
 use cdi_base::{Cause, Entry};
-use cdi_calls::cdi_host::{Contents, Stack as Waiting, Tables};
+use cdi_host::{Contents, Stack as Waiting, Tables};
 use cdi_machine::{Driver, Failure};
 use cdi_steps::Outcome;
 use cdi_steps::ends::cut;

@@ -3,7 +3,7 @@ ghost use Rattle.std.specs.Prelude.{◌≡◌, List, []};
 ghost use Rattle.cdi_frames.specs.Stacks.{stack_after, stack_at};
 
 use cdi_base::Entry;
-use cdi_calls::cdi_host::Stack as Waiting;
+use cdi_host::Stack as Waiting;
 use cdi_steps::task::{Continuation, Frame, Next, Outcome, Task};
 use std::alloc::Global;
 

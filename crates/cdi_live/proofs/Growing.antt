@@ -4,7 +4,7 @@ use Rattle.std.proofs.lemmas.Grind.{flat_map-append}
 use Rattle.std.proofs.lemmas.List.{map-append}
 use Rattle.std.proofs.lemmas.List.Elements.{filter-append, filter_map-append}
 use Rattle.std.specs.List.{filter_map, flat_map}
-use Rattle.cdi_cache.proofs.of_beans.Adding.{next_of}
+use Rattle.cdi_beans.proofs.Adding.{next_of}
 
 module _ {X Y : Type 0} (g : List X → List Y) (splits : (a b : List X) → g (a ++ b) ≡ g a ++ g b) (xs : List X) (i : ℕ) (x : X) (lt : i < length xs) (is : x ≡ get_or xs i x) (start old new : List Y) where
   pub grows : old ≡ start ++ g (take i xs) → new ≡ old ++ g (x ∷ []) → new ≡ start ++ g (take (i + 1) xs)

@@ -4,8 +4,8 @@ use Rattle.std.proofs.lemmas.List.{take_more}
 use Rattle.std.proofs.lemmas.List.Folds.{list_any-append}
 use Rattle.std.specs.HashSet.{HashSet, contains}
 use Rattle.std.specs.List.{list_any}
-use Rattle.cdi_cache.specs.of_beans.declared.bean.Bean.{Bean}
-use Rattle.cdi_cache.specs.of_beans.declared.bean.BeanMember.{BeanMember}
+use Rattle.cdi_beans.specs.declared.bean.Bean.{Bean}
+use Rattle.cdi_beans.specs.declared.bean.BeanMember.{BeanMember}
 use Rattle.cdi_live.specs.Live.{has_member, is_live_member}
 use Rattle.cdi_name_check.specs.NameSets.{HasPairs, same_pair}
 

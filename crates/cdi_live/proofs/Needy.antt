@@ -6,7 +6,7 @@ use Rattle.std.proofs.lemmas.Bool.{cases_lt, eqb-true, true≢false}
 use Rattle.std.proofs.lemmas.List.{get_or_past}
 use Rattle.std.proofs.lemmas.List.Folds.{Any-from_list_any, list_any-from_Any}
 use Rattle.cdi_base.specs.declared.place.Place.{Place}
-use Rattle.cdi_cache.specs.of_resolve.Filters.{is_bean_of}
+use Rattle.cdi_resolve.specs.Filters.{is_bean_of}
 use Rattle.cdi_deployment.specs.Member.{member_name}
 use Rattle.cdi_problems.specs.Elements.{Element}
 use Rattle.cdi_problems.specs.Findings.{ArePlacesOf}

@@ -1,7 +1,7 @@
 -- The set of the producers whose products need themselves, with one bean more.
 use Rattle.std.proofs.Common.{◌≡◌, ◌∙◌, ℕ, ◌+◌, ◌<◌, ◌||◌, ◌&&◌, ◌==◌, Bool, true, false, nat_eq, cond, List, length, take, get_or, Option, Some, None, refl, sym, ap}
 use Rattle.std.specs.HashSet.{HashSet, contains}
-use Rattle.cdi_cache.specs.of_beans.declared.bean.Bean.{Bean}
+use Rattle.cdi_beans.specs.declared.bean.Bean.{Bean}
 use Rattle.cdi_live.specs.Cycles.{is_name, flag, is_product_of, is_needy_product, has_needy_product}
 use Rattle.cdi_live.specs.OwnPoints.{product_name}
 use Rattle.cdi_live.specs.declared.cycles.NeedyFlags.{NeedyFlags}

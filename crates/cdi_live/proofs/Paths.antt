@@ -6,19 +6,18 @@ use Rattle.std.proofs.lemmas.Bool.Decides.{nat_tests}
 use Rattle.std.proofs.lemmas.List.{get_or_past, get_or_default}
 use Rattle.std.proofs.lemmas.Option.{slice_get_past}
 use Rattle.cdi_base.specs.Maps.{at}
-use Rattle.cdi_cache.specs.of_beans.declared.bean.Bean.{Bean}
-use Rattle.cdi_cache.specs.of_plans.Chains.{interceptors_of, intercepts}
+use Rattle.cdi_beans.specs.declared.bean.Bean.{Bean}
+use Rattle.cdi_plans.specs.Chains.{interceptors_of, intercepts}
 use Rattle.cdi_deployment.specs.declared.deployment.Point.{Point}
-use Rattle.cdi_cache.specs.of_resolve.Filters.{is_bean_of}
-use Rattle.cdi_cache.specs.of_bean_check.ManagedBeans.{is_dependent}
+use Rattle.cdi_resolve.specs.Filters.{enabled_beans, is_bean_of}
+use Rattle.cdi_bean_check.specs.ManagedBeans.{is_dependent}
 use Rattle.cdi_types.specs.Line.{class_named}
 use Rattle.cdi_types.proofs.Lines.{one_line}
 use Rattle.cdi_live.specs.Points.{field_point}
 use Rattle.cdi_live.specs.PointProblems.{resolved}
 use Rattle.cdi_paths.specs.Graph.{targets_of, Path, ProperPath}
-use Rattle.cdi_cache.specs.of_resolve.Filters.{enabled_beans}
-use Rattle.cdi_cache.specs.of_resolve.declared.resolution.Resolution.{Resolution}
-use Rattle.cdi_cache.specs.of_resolve.declared.resolution.Resolution.TheVariants.{Nothing, One, Many}
+use Rattle.cdi_resolve.specs.declared.resolution.Resolution.{Resolution}
+use Rattle.cdi_resolve.specs.declared.resolution.Resolution.TheVariants.{Nothing, One, Many}
 use Rattle.cdi_live.specs.Graphs.{Counts, number_of, node_of, IsRowOf, HasRows}
 use Rattle.cdi_live.specs.Needs.{is_dependent_bean, dependent_bean, needed_at, declaring_bean, NeedsThose, Needs, NeedsInTurn}
 use Rattle.cdi_live.specs.OwnPoints.{Inventory, AreManagedPoints, constructor_points, line_points, product_points, product_name, interceptor_points, fields_of_some}

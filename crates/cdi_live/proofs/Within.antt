@@ -5,12 +5,12 @@ use Rattle.std.specs.List.{enumerate_from}
 use Rattle.std.proofs.lemmas.Option.{slice_get_within}
 use Rattle.std.proofs.lemmas.List.FromFn.{length-enumerate_from, get_or-enumerate_from}
 use Rattle.cdi_base.specs.Maps.{at}
-use Rattle.cdi_cache.specs.of_beans.declared.bean.Bean.{Bean}
-use Rattle.cdi_cache.specs.of_beans.declared.bean.EnabledInterceptor.{EnabledInterceptor}
-use Rattle.cdi_cache.specs.of_plans.Chains.{places_from}
-use Rattle.cdi_cache.proofs.of_resolve.Enabled.{enabled_at, disabled_at}
-use Rattle.cdi_cache.proofs.of_resolve.Eligible.{kept}
-use Rattle.cdi_cache.specs.of_resolve.Filters.{is_enabled, enabled_beans}
+use Rattle.cdi_beans.specs.declared.bean.Bean.{Bean}
+use Rattle.cdi_beans.specs.declared.bean.EnabledInterceptor.{EnabledInterceptor}
+use Rattle.cdi_plans.specs.Chains.{places_from}
+use Rattle.cdi_resolve.proofs.Enabled.{enabled_at, disabled_at}
+use Rattle.cdi_resolve.proofs.Eligible.{kept}
+use Rattle.cdi_resolve.specs.Filters.{is_enabled, enabled_beans}
 
 module _ (beans : List Bean) (flags : List Bool) where
   -- an enabled bean that is found at an index

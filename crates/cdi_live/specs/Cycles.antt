@@ -1,10 +1,10 @@
 -- Dependent instances that need themselves.
 use Rattle.std.specs.Prelude.{ℕ, ◌≡◌, Bool, false, ◌==◌, ◌&&◌, List, Option, Some, None, IsTrue, ◌↔◌, slice_index_or}
 use Rattle.std.specs.List.{Any, enumerate_from, list_any}
-use Rattle.cdi_cache.specs.of_beans.declared.bean.Bean.{Bean}
-use Rattle.cdi_cache.specs.of_beans.declared.bean.EnabledInterceptor.{EnabledInterceptor}
+use Rattle.cdi_beans.specs.declared.bean.Bean.{Bean}
+use Rattle.cdi_beans.specs.declared.bean.EnabledInterceptor.{EnabledInterceptor}
 use Rattle.cdi_live.specs.Enabled.{Enabled}
-use Rattle.cdi_cache.specs.of_resolve.Filters.{is_bean_of}
+use Rattle.cdi_resolve.specs.Filters.{is_bean_of}
 use Rattle.cdi_deployment.specs.Member.{member_name}
 use Rattle.cdi_problems.specs.Elements.{Element}
 use Rattle.cdi_live.specs.Needs.{NeedsInTurn}

@@ -1,12 +1,12 @@
 -- What is live: what the container calls, and where it injects, by the enabled beans, each with its index, and the enabled interceptors.
 use Rattle.std.specs.Prelude.{ℕ, Bool, ◌==◌, ◌&&◌, List, IsTrue}
 use Rattle.std.specs.List.{list_any, Any}
-use Rattle.cdi_cache.specs.of_beans.declared.bean.Bean.{Bean}
-use Rattle.cdi_cache.specs.of_beans.declared.bean.EnabledInterceptor.{EnabledInterceptor}
-use Rattle.cdi_cache.specs.of_beans.Kinds.{is_managed}
+use Rattle.cdi_beans.specs.declared.bean.Bean.{Bean}
+use Rattle.cdi_beans.specs.declared.bean.EnabledInterceptor.{EnabledInterceptor}
+use Rattle.cdi_beans.specs.Kinds.{is_managed}
 use Rattle.cdi_deployment.specs.declared.deployment.Class.{Class}
 use Rattle.cdi_deployment.specs.Lists.{is_declared_class}
-use Rattle.cdi_cache.specs.of_resolve.Filters.{is_bean_of}
+use Rattle.cdi_resolve.specs.Filters.{is_bean_of}
 use Rattle.cdi_types.specs.Subtype.{IsSubtype}
 use Rattle.cdi_types.specs.declared.declaration.TypeDeclaration.{TypeDeclaration}
 

@@ -2,16 +2,16 @@
 use Rattle.std.specs.Prelude.{ℕ, ◌≡◌, ◌&&◌, Bool, false, List, ◌++◌, map, Option, Some, None, Contains, if◌then◌else◌}
 use Rattle.std.specs.List.{filter_map}
 use Rattle.cdi_base.specs.Maps.{at}
-use Rattle.cdi_cache.specs.of_bean_check.ManagedBeans.{is_dependent}
-use Rattle.cdi_cache.specs.of_beans.declared.bean.Bean.{Bean}
-use Rattle.cdi_cache.specs.of_beans.declared.bean.BeanKind.TheVariants as kinds
-use Rattle.cdi_cache.specs.of_plans.Chains.{interceptors_of}
+use Rattle.cdi_bean_check.specs.ManagedBeans.{is_dependent}
+use Rattle.cdi_beans.specs.declared.bean.Bean.{Bean}
+use Rattle.cdi_beans.specs.declared.bean.BeanKind.TheVariants as kinds
+use Rattle.cdi_plans.specs.Chains.{interceptors_of}
 use Rattle.cdi_deployment.specs.declared.deployment.Point.{Point}
 use Rattle.cdi_live.specs.Enabled.{Enabled}
-use Rattle.cdi_cache.specs.of_resolve.Filters.{is_bean_of}
+use Rattle.cdi_resolve.specs.Filters.{is_bean_of}
 use Rattle.cdi_live.specs.PointProblems.{resolved}
-use Rattle.cdi_cache.specs.of_resolve.declared.resolution.Resolution.{Resolution}
-use Rattle.cdi_cache.specs.of_resolve.declared.resolution.Resolution.TheVariants.{Nothing, One, Many}
+use Rattle.cdi_resolve.specs.declared.resolution.Resolution.{Resolution}
+use Rattle.cdi_resolve.specs.declared.resolution.Resolution.TheVariants.{Nothing, One, Many}
 use Rattle.cdi_live.specs.OwnPoints.{Inventory, AreManagedPoints, product_points, product_name, interceptor_points}
 use Rattle.cdi_live.specs.declared.node.Node.{Node}
 use Rattle.cdi_live.specs.declared.node.Node.TheVariants as nodes

@@ -1,11 +1,11 @@
 -- The injection points for which the creation of an instance, or its destruction by a disposer, needs other instances.
 use Rattle.std.specs.Prelude.{ℕ, ◌≡◌, ◌==◌, ◌&&◌, Bool, List, [], ◌++◌, map, filter, Option, Some, None, slice_get, option_and_then}
 use Rattle.std.specs.List.{find, flat_map, list_any}
-use Rattle.cdi_cache.specs.of_beans.declared.bean.Bean.{Bean}
-use Rattle.cdi_cache.specs.of_beans.declared.bean.BeanKind.{BeanKind}
-use Rattle.cdi_cache.specs.of_beans.declared.bean.BeanKind.TheVariants as kinds
-use Rattle.cdi_cache.specs.of_beans.declared.bean.DisposerMethod.{DisposerMethod}
-use Rattle.cdi_cache.specs.of_plans.Chains.{ChainTables}
+use Rattle.cdi_beans.specs.declared.bean.Bean.{Bean}
+use Rattle.cdi_beans.specs.declared.bean.BeanKind.{BeanKind}
+use Rattle.cdi_beans.specs.declared.bean.BeanKind.TheVariants as kinds
+use Rattle.cdi_beans.specs.declared.bean.DisposerMethod.{DisposerMethod}
+use Rattle.cdi_plans.specs.Chains.{ChainTables}
 use Rattle.cdi_deployment.specs.declared.deployment.Class.{Class}
 use Rattle.cdi_deployment.specs.declared.deployment.Constructor.{Constructor}
 use Rattle.cdi_deployment.specs.declared.deployment.InjectedField.{InjectedField}

@@ -1,18 +1,18 @@
 -- The problems of injection points (Jakarta CDI 4.0, Unsatisfied and ambiguous dependencies, Unproxyable bean types).
 use Rattle.std.specs.Prelude.{ℕ, ◌≡◌, Bool, false, not, List, Option, Some, None, IsTrue}
 use Rattle.cdi_base.specs.Maps.{at}
-use Rattle.cdi_cache.specs.of_bean_check.ManagedBeans.{is_dependent}
-use Rattle.cdi_cache.specs.of_bean_check.Qualifiers.{full_uses}
-use Rattle.cdi_cache.specs.of_beans.declared.bean.Bean.{Bean}
+use Rattle.cdi_bean_check.specs.ManagedBeans.{is_dependent}
+use Rattle.cdi_bean_check.specs.Qualifiers.{full_uses}
+use Rattle.cdi_beans.specs.declared.bean.Bean.{Bean}
 use Rattle.cdi_deployment.specs.declared.deployment.Class.{Class}
 use Rattle.cdi_deployment.specs.declared.deployment.Point.{Point}
 use Rattle.cdi_live.specs.Enabled.{Enabled}
 use Rattle.cdi_types.specs.Line.{class_named}
 use Rattle.cdi_problems.specs.Elements.{Element}
 use Rattle.cdi_quals.specs.declared.types.QualifierType.{QualifierType}
-use Rattle.cdi_cache.specs.of_resolve.Resolution.{resolution}
-use Rattle.cdi_cache.specs.of_resolve.declared.resolution.Resolution.{Resolution}
-use Rattle.cdi_cache.specs.of_resolve.declared.resolution.Resolution.TheVariants.{Nothing, One, Many}
+use Rattle.cdi_resolve.specs.Resolution.{resolution}
+use Rattle.cdi_resolve.specs.declared.resolution.Resolution.{Resolution}
+use Rattle.cdi_resolve.specs.declared.resolution.Resolution.TheVariants.{Nothing, One, Many}
 use Rattle.cdi_live.specs.Points.{HasLivePoint}
 use Rattle.cdi_live.specs.declared.point_problem.PointProblem.{PointProblem}
 use Rattle.cdi_live.specs.declared.point_problem.PointProblem.TheVariants as problems

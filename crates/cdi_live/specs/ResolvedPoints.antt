@@ -1,12 +1,12 @@
 -- What injection points resolve to, and what is kept of that.
 use Rattle.std.specs.Prelude.{ℕ, ◌≡◌, List, All}
 use Rattle.cdi_base.specs.declared.uses.Use.{Use}
-use Rattle.cdi_cache.specs.of_bean_check.Qualifiers.{full_uses}
-use Rattle.cdi_cache.specs.of_beans.declared.bean.Bean.{Bean}
+use Rattle.cdi_bean_check.specs.Qualifiers.{full_uses}
+use Rattle.cdi_beans.specs.declared.bean.Bean.{Bean}
 use Rattle.cdi_deployment.specs.declared.deployment.Point.{Point}
 use Rattle.cdi_quals.specs.declared.types.QualifierType.{QualifierType}
-use Rattle.cdi_cache.specs.of_resolve.Resolution.{resolution}
-use Rattle.cdi_cache.specs.of_resolve.declared.resolution.Resolution.{Resolution}
+use Rattle.cdi_resolve.specs.Resolution.{resolution}
+use Rattle.cdi_resolve.specs.declared.resolution.Resolution.{Resolution}
 
 -- the types of qualifiers, and the enabled beans with their indices in the bean list
 pub record Resolving : Type 0 where

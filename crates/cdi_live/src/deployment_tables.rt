@@ -2,16 +2,16 @@
 ghost use Rattle.std.specs.Prelude.{◌≡◌};
 ghost use Rattle.std.specs.Option.{option_copied};
 ghost use Rattle.cdi_live.specs.PointProblems as spec;
-ghost use Rattle.cdi_cache.specs.of_resolve.Filters.{enabled_of};
+ghost use Rattle.cdi_resolve.specs.Filters.{enabled_of};
 ghost use Rattle.cdi_types.specs.Declarations.{declarations_of};
 ghost use Rattle.cdi_types.specs.Line.{class_named};
 
 use crate::live_tables::LiveTables;
 use crate::resolved_points::ResolvedPoints;
 use cdi_base::{Name, Use};
-use cdi_cache::cdi_resolve::{BeanTables, Resolution};
 use cdi_deployment::{Class, Deployment};
 use cdi_name_check::DeclaredNames;
+use cdi_resolve::{BeanTables, Resolution};
 use cdi_types::ClassIndex;
 
 /// A deployment whose names and beans have no problem, with all the tables by which the last tier of its problems is looked for.

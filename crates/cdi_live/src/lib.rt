@@ -16,9 +16,6 @@ pub mod point_rule;
 pub mod resolved_points;
 mod sets;
 
-// What callers name of the libraries below.
-pub use cdi_cache;
-pub use cdi_cache::{cdi_bean_check, cdi_beans, cdi_enable, cdi_plans, cdi_resolve};
 pub use cycle_rule::dependent_cycles;
 pub use deployment_tables::DeploymentTables;
 pub use live_tables::LiveTables;

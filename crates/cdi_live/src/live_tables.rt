@@ -1,13 +1,13 @@
 //! What is live, as tables.
 ghost use Rattle.std.specs.Prelude.{◌≡◌, ◌↔◌, IsTrue, IfOk};
 ghost use Rattle.cdi_live.specs.Live as spec;
-ghost use Rattle.cdi_cache.specs.of_resolve.Filters.{enabled_beans};
+ghost use Rattle.cdi_resolve.specs.Filters.{enabled_beans};
 
 use crate::sets::LiveSets;
 use cdi_base::{Name, Seq};
-use cdi_cache::cdi_beans::{Bean, EnabledInterceptor};
-use cdi_cache::cdi_resolve::enabled_bean::{EnabledBean, enabled_of};
+use cdi_beans::{Bean, EnabledInterceptor};
 use cdi_deployment::Class;
+use cdi_resolve::enabled_bean::{EnabledBean, enabled_of};
 use cdi_types::TypeTable;
 use std::alloc::{AllocError, Global};
 use std::marker::Model;

@@ -10,9 +10,9 @@ ghost use Rattle.cdi_live.specs.Settings.{setting_of};
 use crate::deployment_tables::DeploymentTables;
 use crate::node::Node;
 use cdi_base::{Name, Scope, Seq, Use};
-use cdi_cache::cdi_beans::Bean;
-use cdi_cache::cdi_resolve::Resolution;
+use cdi_beans::Bean;
 use cdi_deployment::{InjectedField, Member, Point};
+use cdi_resolve::Resolution;
 use cdi_types::ClassPart;
 use std::alloc::AllocError;
 

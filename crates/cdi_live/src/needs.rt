@@ -3,7 +3,7 @@ ghost use Rattle.std.specs.Prelude.{◌≡◌, ◌==◌, ◌++◌, ◌∷◌, []
 ghost use Rattle.std.specs.List.{filter_map, flat_map, list_any};
 ghost use Rattle.std.specs.Option.{option_copied};
 ghost use Rattle.cdi_base.specs.Maps.{at};
-ghost use Rattle.cdi_cache.specs.of_plans.Chains.{interceptors_of};
+ghost use Rattle.cdi_plans.specs.Chains.{interceptors_of};
 ghost use Rattle.cdi_live.specs.Points.{field_point};
 ghost use Rattle.cdi_live.specs.Needs as spec;
 ghost use Rattle.cdi_live.specs.OwnPoints as own;
@@ -13,9 +13,9 @@ use crate::deployment_tables::DeploymentTables;
 use crate::needed_at_points::{add_fields, add_initializers, add_injected, add_params};
 use crate::node::Node;
 use cdi_base::{Name, Scope, Seq};
-use cdi_cache::cdi_beans::{Bean, BeanKind, DisposerMethod};
-use cdi_cache::cdi_resolve::EnabledBean;
+use cdi_beans::{Bean, BeanKind, DisposerMethod};
 use cdi_deployment::{Class, InjectedField, Member, Point};
+use cdi_resolve::EnabledBean;
 use cdi_types::{ClassLine, MemberKind};
 use std::alloc::{AllocError, Global};
 

@@ -8,10 +8,10 @@ ghost use Rattle.cdi_live.specs.Points.{field_point};
 use crate::deployment_tables::DeploymentTables;
 use crate::point_problem::PointProblem;
 use cdi_base::{Name, Scope, Use};
-use cdi_cache::cdi_beans::Bean;
-use cdi_cache::cdi_resolve::Resolution;
+use cdi_beans::Bean;
 use cdi_deployment::{Class, InjectedField, Point};
 use cdi_problems::{Element, Rule};
+use cdi_resolve::Resolution;
 
 /// A live injection point has a problem. It stands at the injected field, or at the constructor or the member that has the parameter.
 #[derive(Clone, Copy)]

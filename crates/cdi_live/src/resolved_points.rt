@@ -1,14 +1,14 @@
 //! What the injection points of a deployment resolve to.
 ghost use Rattle.std.specs.Prelude.{◌≡◌, IfOk, OnOk, IfSome};
 ghost use Rattle.cdi_live.specs.ResolvedPoints as spec;
-ghost use Rattle.cdi_cache.specs.of_resolve.Filters.{enabled_of};
+ghost use Rattle.cdi_resolve.specs.Filters.{enabled_of};
 
 use cdi_base::{Name, Seq, Use};
 use cdi_cache::WrittenQuestion;
-use cdi_cache::cdi_resolve::{Resolution, Resolver};
 use cdi_deployment::{InjectedField, Point};
 use cdi_problems::Element;
 use cdi_quals::QualifierTypes;
+use cdi_resolve::{Resolution, Resolver};
 use std::alloc::{AllocError, Global};
 use std::collections::HashMap;
 use std::marker::Model;
@@ -22,7 +22,7 @@ pub(crate) struct ResolvedPoint<'a> {
 
 impl<'a> Model for ResolvedPoint<'a> {
     ghost use Rattle.cdi_deployment.specs.declared.deployment.Point.{Point};
-    ghost use Rattle.cdi_cache.specs.of_resolve.declared.resolution.Resolution.{Resolution};
+    ghost use Rattle.cdi_resolve.specs.declared.resolution.Resolution.{Resolution};
 
     ghost Value = { Point × Resolution };
 
@@ -43,7 +43,7 @@ pub struct ResolvedPoints<'a> {
 
 impl<'a> Model for ResolvedPoints<'a> {
     ghost use Rattle.cdi_live.specs.ResolvedPoints.{Resolving, AreTold};
-    ghost use Rattle.cdi_cache.specs.of_resolve.Filters.{enabled_of};
+    ghost use Rattle.cdi_resolve.specs.Filters.{enabled_of};
 
     ghost Value = { Resolving };
 

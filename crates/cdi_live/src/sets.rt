@@ -7,9 +7,9 @@ ghost use Rattle.cdi_live.specs.LiveSets.{HasThose, AreLive};
 ghost use Rattle.cdi_name_check.specs.NameSets.{HasNames, HasPairs, same_pair};
 
 use cdi_base::Name;
-use cdi_cache::cdi_beans::EnabledInterceptor;
-use cdi_cache::cdi_resolve::EnabledBean;
+use cdi_beans::EnabledInterceptor;
 use cdi_deployment::Class;
+use cdi_resolve::EnabledBean;
 use cdi_types::TypeTable;
 use std::alloc::{AllocError, Global};
 use std::collections::HashSet;

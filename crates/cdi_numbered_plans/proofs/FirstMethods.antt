@@ -8,7 +8,7 @@ use Rattle.std.proofs.lemmas.List.Elements.{filter_map-append}
 use Rattle.cdi_base.specs.Maps.{Map, at}
 use Rattle.cdi_machine.specs.Tables as machine
 use Rattle.cdi_numbered_plans.specs.Machine.{machine_method, machine_methods, method_with}
-use Rattle.cdi_event_tables.specs.of_plans.declared.plan.BusinessMethod.{BusinessMethod}
+use Rattle.cdi_plans.specs.declared.plan.BusinessMethod.{BusinessMethod}
 
 at-append : {X : Type 0} (xs ys : Map X) (key : ℕ) → at (xs ++ ys) key ≡ option_or (at xs key) (at ys key)
 at-append [] ys key = refl

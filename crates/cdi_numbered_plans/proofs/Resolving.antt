@@ -4,12 +4,12 @@ use Rattle.std.specs.Prelude.{Contains, ◌↔◌}
 use Rattle.std.specs.List.{list_all}
 use Rattle.std.proofs.lemmas.List.Elements.{All-contains, Contains-get_or, filter_agree}
 use Rattle.std.proofs.lemmas.List.Sums.{AllPass-from_list_all, list_all-from_AllPass}
-use Rattle.cdi_event_tables.specs.of_beans.declared.bean.Bean.{Bean}
+use Rattle.cdi_beans.specs.declared.bean.Bean.{Bean}
 use Rattle.cdi_quals.specs.OrderedSet.{IsOrderedSet}
 use Rattle.cdi_quals.specs.Qualifiers.{has}
 use Rattle.cdi_quals.specs.declared.qualifier.Qualifier.{Qualifier}
-use Rattle.cdi_event_tables.specs.of_resolve.Filters.{fits, has_required, has_type}
-use Rattle.cdi_event_tables.specs.of_resolve.Resolution.{among_eligible, resolution}
+use Rattle.cdi_resolve.specs.Filters.{fits, has_required, has_type}
+use Rattle.cdi_resolve.specs.Resolution.{among_eligible, resolution}
 
 same_tests : (a b : Bool) → (a ≡ true → b ≡ true) → (b ≡ true → a ≡ true) → a ≡ b
 same_tests true true f g = refl

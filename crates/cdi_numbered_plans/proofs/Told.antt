@@ -21,17 +21,17 @@ use Rattle.cdi_numbered_plans.specs.Plans.{AreInjectionsBy, AreObserversBy, IsNu
 use Rattle.cdi_numbered_plans.specs.declared.numbering.Numbering.{Numbering}
 use Rattle.cdi_numbered_plans.specs.declared.plan.NumberedPlan.{NumberedPlan}
 use Rattle.cdi_numbered_plans.specs.declared.plan.NumberedPlan.TheVariants as numbered
-use Rattle.cdi_event_tables.specs.of_plans.declared.plan.InjectedMethod.{InjectedMethod}
-use Rattle.cdi_event_tables.specs.of_plans.declared.plan.Lifecycle.{Lifecycle}
-use Rattle.cdi_event_tables.specs.of_plans.declared.plan.Plan.{Plan}
-use Rattle.cdi_event_tables.specs.of_plans.declared.plan.Plan.TheVariants as plans
-use Rattle.cdi_event_tables.specs.of_plans.declared.plan.ProductPlan.{ProductPlan}
-use Rattle.cdi_event_tables.specs.of_plans.declared.plan.Source.{Source}
-use Rattle.cdi_event_tables.specs.of_plans.declared.plan.Source.TheVariants as sources
-use Rattle.cdi_event_tables.specs.of_plans.declared.plan.Step.{Step}
-use Rattle.cdi_event_tables.specs.of_plans.declared.plan.Step.TheVariants as steps
-use Rattle.cdi_event_tables.specs.of_resolve.declared.resolution.Resolution.{Resolution}
-use Rattle.cdi_event_tables.specs.of_resolve.declared.resolution.Resolution.TheVariants as resolutions
+use Rattle.cdi_plans.specs.declared.plan.InjectedMethod.{InjectedMethod}
+use Rattle.cdi_plans.specs.declared.plan.Lifecycle.{Lifecycle}
+use Rattle.cdi_plans.specs.declared.plan.Plan.{Plan}
+use Rattle.cdi_plans.specs.declared.plan.Plan.TheVariants as plans
+use Rattle.cdi_plans.specs.declared.plan.ProductPlan.{ProductPlan}
+use Rattle.cdi_plans.specs.declared.plan.Source.{Source}
+use Rattle.cdi_plans.specs.declared.plan.Source.TheVariants as sources
+use Rattle.cdi_plans.specs.declared.plan.Step.{Step}
+use Rattle.cdi_plans.specs.declared.plan.Step.TheVariants as steps
+use Rattle.cdi_resolve.specs.declared.resolution.Resolution.{Resolution}
+use Rattle.cdi_resolve.specs.declared.resolution.Resolution.TheVariants as resolutions
 
 -- two ways that agree at each item
 each_alike : {X Y Z : Type 0} (f : X → Y) (g : Y → Z) (h : X → Z) → ((x : X) → g (f x) ≡ h x) → (xs : List X) → map g (map f xs) ≡ map h xs

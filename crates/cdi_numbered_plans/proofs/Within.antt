@@ -5,16 +5,16 @@ use Rattle.std.specs.List.{enumerate_from, position_or_len}
 use Rattle.std.proofs.lemmas.Bool.{ltb-true}
 use Rattle.std.proofs.lemmas.Option.{same_Some}
 use Rattle.std.proofs.lemmas.List.FromFn.{length-enumerate_from, get_or-enumerate_from}
-use Rattle.cdi_event_tables.specs.of_beans.declared.bean.Bean.{Bean}
-use Rattle.cdi_event_tables.specs.of_beans.Kinds.{is_managed}
+use Rattle.cdi_beans.specs.declared.bean.Bean.{Bean}
+use Rattle.cdi_beans.specs.Kinds.{is_managed}
 use Rattle.cdi_event_tables.specs.Observers.{managed_bean}
 use Rattle.cdi_numbered_plans.specs.Numbered.{HasNumber}
 use Rattle.cdi_quals.specs.declared.qualifier.Qualifier.{Qualifier}
-use Rattle.cdi_event_tables.proofs.of_resolve.Eligible.{kept, one_is_eligible}
-use Rattle.cdi_event_tables.specs.of_resolve.Filters.{Candidates, enabled_of, is_enabled}
-use Rattle.cdi_event_tables.specs.of_resolve.Resolution.{resolution}
-use Rattle.cdi_event_tables.specs.of_resolve.declared.resolution.Resolution.{Resolution}
-use Rattle.cdi_event_tables.specs.of_resolve.declared.resolution.Resolution.TheVariants as resolutions
+use Rattle.cdi_resolve.proofs.Eligible.{kept, one_is_eligible}
+use Rattle.cdi_resolve.specs.Filters.{Candidates, enabled_of, is_enabled}
+use Rattle.cdi_resolve.specs.Resolution.{resolution}
+use Rattle.cdi_resolve.specs.declared.resolution.Resolution.{Resolution}
+use Rattle.cdi_resolve.specs.declared.resolution.Resolution.TheVariants as resolutions
 
 -- what stands among numbered items has a number below their count
 numbered_within : {X : Type 0} (xs : List X) (b : ℕ) (x : X) → Contains (enumerate_from 0 xs) (b, x) → b < length xs

@@ -3,7 +3,7 @@ use Rattle.std.specs.Prelude.{ℕ, ◌&&◌, List, [], ◌∷◌, map, filter, f
 use Rattle.std.specs.List.{filter_map}
 use Rattle.cdi_base.specs.Fields.{put}
 use Rattle.cdi_base.specs.Maps.{at}
-use Rattle.cdi_event_tables.specs.of_beans.declared.bean.Bean.{Bean}
+use Rattle.cdi_beans.specs.declared.bean.Bean.{Bean}
 use Rattle.cdi_deployment.specs.declared.deployment.Field.{Field}
 use Rattle.cdi_deployment.specs.declared.deployment.InjectedField.{InjectedField}
 use Rattle.cdi_deployment.specs.declared.deployment.Point.{Point}
@@ -11,20 +11,20 @@ use Rattle.cdi_event_tables.specs.Observers.{managed_bean}
 use Rattle.cdi_event_tables.specs.declared.observers.PlannedObserver.{PlannedObserver}
 use Rattle.cdi_machine.specs.Words.{Name, Asked, Fields}
 use Rattle.cdi_machine.specs.Tables as machine
-use Rattle.cdi_event_tables.specs.of_plans.declared.plan.BusinessMethod.{BusinessMethod}
-use Rattle.cdi_event_tables.specs.of_plans.declared.plan.Code.{Code}
-use Rattle.cdi_event_tables.specs.of_plans.declared.plan.InjectedMethod.{InjectedMethod}
-use Rattle.cdi_event_tables.specs.of_plans.declared.plan.Lifecycle.{Lifecycle}
-use Rattle.cdi_event_tables.specs.of_plans.declared.plan.ManagedPlan.{ManagedPlan}
-use Rattle.cdi_event_tables.specs.of_plans.declared.plan.Plan.{Plan}
-use Rattle.cdi_event_tables.specs.of_plans.declared.plan.Plan.TheVariants as plans
-use Rattle.cdi_event_tables.specs.of_plans.declared.plan.ProductPlan.{ProductPlan}
-use Rattle.cdi_event_tables.specs.of_plans.declared.plan.Source.{Source}
-use Rattle.cdi_event_tables.specs.of_plans.declared.plan.Source.TheVariants as sources
-use Rattle.cdi_event_tables.specs.of_plans.declared.plan.Step.{Step}
-use Rattle.cdi_event_tables.specs.of_plans.declared.plan.Step.TheVariants as steps
-use Rattle.cdi_event_tables.specs.of_resolve.declared.resolution.Resolution.{Resolution}
-use Rattle.cdi_event_tables.specs.of_resolve.declared.resolution.Resolution.TheVariants as resolutions
+use Rattle.cdi_plans.specs.declared.plan.BusinessMethod.{BusinessMethod}
+use Rattle.cdi_plans.specs.declared.plan.Code.{Code}
+use Rattle.cdi_plans.specs.declared.plan.InjectedMethod.{InjectedMethod}
+use Rattle.cdi_plans.specs.declared.plan.Lifecycle.{Lifecycle}
+use Rattle.cdi_plans.specs.declared.plan.ManagedPlan.{ManagedPlan}
+use Rattle.cdi_plans.specs.declared.plan.Plan.{Plan}
+use Rattle.cdi_plans.specs.declared.plan.Plan.TheVariants as plans
+use Rattle.cdi_plans.specs.declared.plan.ProductPlan.{ProductPlan}
+use Rattle.cdi_plans.specs.declared.plan.Source.{Source}
+use Rattle.cdi_plans.specs.declared.plan.Source.TheVariants as sources
+use Rattle.cdi_plans.specs.declared.plan.Step.{Step}
+use Rattle.cdi_plans.specs.declared.plan.Step.TheVariants as steps
+use Rattle.cdi_resolve.specs.declared.resolution.Resolution.{Resolution}
+use Rattle.cdi_resolve.specs.declared.resolution.Resolution.TheVariants as resolutions
 
 abbrev pub asked_by : Point → Asked
 asked_by p = record { type = p.ty; qualifiers = p.quals }

@@ -6,7 +6,7 @@ use Rattle.cdi_machine.specs.Tables as machine
 use Rattle.cdi_machine.specs.Words.{Name}
 use Rattle.cdi_numbered_plans.specs.Machine.{method_in}
 use Rattle.cdi_numbered_plans.specs.Numbers.{has_numbers}
-use Rattle.cdi_event_tables.specs.of_plans.declared.plan.Plan.{Plan}
+use Rattle.cdi_plans.specs.declared.plan.Plan.{Plan}
 
 -- a method of the machine
 abbrev pub method_by : machine.Method → Method

@@ -1,7 +1,7 @@
 -- What is numbered, in the words of an instance's life: bodies by the numbers of a table, points with what they resolve to.
 use Rattle.std.specs.Prelude.{ℕ, ◌≡◌, ◌&&◌, ◌<◌, ◌≤◌, ◌^◌, List, length, Bool, nat_le, map, filter, Option, Some, option_map}
 use Rattle.cdi_base.specs.declared.uses.Use.{Use}
-use Rattle.cdi_event_tables.specs.of_bean_check.Qualifiers.{full_uses}
+use Rattle.cdi_bean_check.specs.Qualifiers.{full_uses}
 use Rattle.cdi_deployment.specs.declared.deployment.InjectedField.{InjectedField}
 use Rattle.cdi_deployment.specs.declared.deployment.Point.{Point}
 use Rattle.cdi_event_tables.specs.Ids.{id_in}
@@ -24,21 +24,21 @@ use Rattle.cdi_numbered_plans.specs.declared.numbering.Numbering.{Numbering}
 use Rattle.cdi_numbered_plans.specs.declared.plan.ManagedLife.{ManagedLife}
 use Rattle.cdi_numbered_plans.specs.declared.plan.NumberedPlan.{NumberedPlan}
 use Rattle.cdi_numbered_plans.specs.declared.plan.NumberedPlan.TheVariants as numbered
-use Rattle.cdi_event_tables.specs.of_plans.declared.plan.InjectedMethod.{InjectedMethod}
-use Rattle.cdi_event_tables.specs.of_plans.declared.plan.Lifecycle.{Lifecycle}
-use Rattle.cdi_event_tables.specs.of_plans.declared.plan.ManagedPlan.{ManagedPlan}
-use Rattle.cdi_event_tables.specs.of_plans.declared.plan.Plan.{Plan}
-use Rattle.cdi_event_tables.specs.of_plans.declared.plan.Plan.TheVariants as plans
-use Rattle.cdi_event_tables.specs.of_plans.declared.plan.ProductPlan.{ProductPlan}
-use Rattle.cdi_event_tables.specs.of_plans.declared.plan.Source.{Source}
-use Rattle.cdi_event_tables.specs.of_plans.declared.plan.Source.TheVariants as sources
-use Rattle.cdi_event_tables.specs.of_plans.declared.plan.Step.{Step}
-use Rattle.cdi_event_tables.specs.of_plans.declared.plan.Step.TheVariants as steps
+use Rattle.cdi_plans.specs.declared.plan.InjectedMethod.{InjectedMethod}
+use Rattle.cdi_plans.specs.declared.plan.Lifecycle.{Lifecycle}
+use Rattle.cdi_plans.specs.declared.plan.ManagedPlan.{ManagedPlan}
+use Rattle.cdi_plans.specs.declared.plan.Plan.{Plan}
+use Rattle.cdi_plans.specs.declared.plan.Plan.TheVariants as plans
+use Rattle.cdi_plans.specs.declared.plan.ProductPlan.{ProductPlan}
+use Rattle.cdi_plans.specs.declared.plan.Source.{Source}
+use Rattle.cdi_plans.specs.declared.plan.Source.TheVariants as sources
+use Rattle.cdi_plans.specs.declared.plan.Step.{Step}
+use Rattle.cdi_plans.specs.declared.plan.Step.TheVariants as steps
 use Rattle.cdi_quals.specs.declared.types.QualifierType.{QualifierType}
-use Rattle.cdi_event_tables.specs.of_resolve.Filters.{Candidates, enabled_of}
-use Rattle.cdi_event_tables.specs.of_resolve.Resolution.{resolution}
-use Rattle.cdi_event_tables.specs.of_resolve.declared.resolution.Resolution.{Resolution}
-use Rattle.cdi_event_tables.specs.of_resolve.declared.resolution.Resolution.TheVariants as resolutions
+use Rattle.cdi_resolve.specs.Filters.{Candidates, enabled_of}
+use Rattle.cdi_resolve.specs.Resolution.{resolution}
+use Rattle.cdi_resolve.specs.declared.resolution.Resolution.{Resolution}
+use Rattle.cdi_resolve.specs.declared.resolution.Resolution.TheVariants as resolutions
 
 -- ---- bodies
 

@@ -2,17 +2,17 @@
 use Rattle.std.specs.Prelude.{ℕ, ◌&&◌, ◌^◌, List, Bool, true, length, nat_lt}
 use Rattle.std.specs.List.{list_all}
 use Rattle.cdi_event_tables.specs.declared.observers.PlannedObserver.{PlannedObserver}
-use Rattle.cdi_event_tables.specs.of_plans.declared.plan.BusinessMethod.{BusinessMethod}
-use Rattle.cdi_event_tables.specs.of_plans.declared.plan.InjectedMethod.{InjectedMethod}
-use Rattle.cdi_event_tables.specs.of_plans.declared.plan.Lifecycle.{Lifecycle}
-use Rattle.cdi_event_tables.specs.of_plans.declared.plan.ManagedPlan.{ManagedPlan}
-use Rattle.cdi_event_tables.specs.of_plans.declared.plan.Plan.{Plan}
-use Rattle.cdi_event_tables.specs.of_plans.declared.plan.Plan.TheVariants as plans
-use Rattle.cdi_event_tables.specs.of_plans.declared.plan.ProductPlan.{ProductPlan}
-use Rattle.cdi_event_tables.specs.of_plans.declared.plan.Source.{Source}
-use Rattle.cdi_event_tables.specs.of_plans.declared.plan.Source.TheVariants as sources
-use Rattle.cdi_event_tables.specs.of_plans.declared.plan.Step.{Step}
-use Rattle.cdi_event_tables.specs.of_plans.declared.plan.Step.TheVariants as steps
+use Rattle.cdi_plans.specs.declared.plan.BusinessMethod.{BusinessMethod}
+use Rattle.cdi_plans.specs.declared.plan.InjectedMethod.{InjectedMethod}
+use Rattle.cdi_plans.specs.declared.plan.Lifecycle.{Lifecycle}
+use Rattle.cdi_plans.specs.declared.plan.ManagedPlan.{ManagedPlan}
+use Rattle.cdi_plans.specs.declared.plan.Plan.{Plan}
+use Rattle.cdi_plans.specs.declared.plan.Plan.TheVariants as plans
+use Rattle.cdi_plans.specs.declared.plan.ProductPlan.{ProductPlan}
+use Rattle.cdi_plans.specs.declared.plan.Source.{Source}
+use Rattle.cdi_plans.specs.declared.plan.Source.TheVariants as sources
+use Rattle.cdi_plans.specs.declared.plan.Step.{Step}
+use Rattle.cdi_plans.specs.declared.plan.Step.TheVariants as steps
 
 abbrev pub is_number : ℕ → Bool
 is_number n = nat_lt n (2 ^ 32)

@@ -17,7 +17,7 @@ use Rattle.cdi_numbered_plans.specs.declared.numbering.Numbering.{Numbering}
 use Rattle.cdi_numbered_plans.specs.declared.plan.ManagedLife.{ManagedLife}
 use Rattle.cdi_numbered_plans.specs.declared.plan.NumberedPlan.{NumberedPlan}
 use Rattle.cdi_numbered_plans.specs.declared.plan.NumberedPlan.TheVariants as plans
-use Rattle.cdi_event_tables.specs.of_plans.declared.plan.Plan.{Plan}
+use Rattle.cdi_plans.specs.declared.plan.Plan.{Plan}
 
 -- the steps of a managed bean, and what runs where an instance is destroyed
 pub record TellsManaged (c : machine.Managed) (life : ManagedLife) : Type 0 where

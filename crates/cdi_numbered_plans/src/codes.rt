@@ -8,8 +8,8 @@ ghost use Rattle.cdi_numbered_plans.specs.Numbers.{are_numbers, numbers_lifecycl
 use cdi_base::Seq;
 use cdi_bodies::BodyId;
 use cdi_event_tables::BodyIds;
-use cdi_event_tables::cdi_plans::{Code as NamedCode, Lifecycle as NamedLifecycle};
 use cdi_machine::{Code, Lifecycle};
+use cdi_plans::{Code as NamedCode, Lifecycle as NamedLifecycle};
 use std::alloc::{AllocError, Global};
 
 /// A body, by its number.

@@ -6,10 +6,10 @@ ghost use Rattle.cdi_numbered_plans.specs.Plans.{AreInjectionsBy};
 use crate::numbering::Numbering;
 use crate::points::numbered_at;
 use cdi_base::Seq;
+use cdi_cache::Lookup;
 use cdi_deployment::InjectedField;
-use cdi_event_tables::cdi_cache::Lookup;
-use cdi_event_tables::cdi_resolve::Resolver;
 use cdi_machine::{Point, Step};
+use cdi_resolve::Resolver;
 use std::alloc::{AllocError, Global};
 
 /// The step of an injected field.

@@ -15,9 +15,6 @@ pub mod plan;
 pub mod points;
 pub mod steps;
 
-// What callers name of the libraries below.
-pub use cdi_event_tables;
-pub use cdi_event_tables::{cdi_beans, cdi_cache, cdi_plans, cdi_resolve};
 pub use fields::first_values;
 pub use injections::injections_by;
 pub use methods::methods_by;

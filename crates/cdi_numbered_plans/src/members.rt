@@ -9,10 +9,10 @@ use crate::codes::{chain_of, code_of};
 use crate::numbering::Numbering;
 use crate::points::points_of;
 use cdi_base::Seq;
-use cdi_event_tables::cdi_cache::Lookup;
-use cdi_event_tables::cdi_plans::{InjectedMethod, Source as NamedSource};
-use cdi_event_tables::cdi_resolve::Resolver;
+use cdi_cache::Lookup;
 use cdi_machine::{Member, Source};
+use cdi_plans::{InjectedMethod, Source as NamedSource};
+use cdi_resolve::Resolver;
 use std::alloc::{AllocError, Global};
 
 /// A producer method, a disposer, or what runs where an observer is notified.

@@ -13,8 +13,8 @@ use crate::numbers::has_numbers;
 use cdi_base::Name;
 use cdi_bodies::BodyId;
 use cdi_event_tables::BodyIds;
-use cdi_event_tables::cdi_plans::{BusinessMethod, Plan};
 use cdi_machine::{Code, Method};
+use cdi_plans::{BusinessMethod, Plan};
 use std::alloc::{AllocError, Global};
 use std::collections::HashMap;
 

@@ -1,14 +1,14 @@
 //! What plans are numbered by.
 ghost use Rattle.std.specs.Prelude.{◌≡◌, ◌&&◌, ℕ, not, is_some, nat_eq, IfOk};
 ghost use Rattle.std.specs.HashMap.{get};
-ghost use Rattle.cdi_event_tables.specs.of_beans.Kinds.{is_managed};
+ghost use Rattle.cdi_beans.specs.Kinds.{is_managed};
 ghost use Rattle.cdi_event_tables.specs.Observers as observers;
 
 use cdi_base::{Name, Names};
+use cdi_beans::Bean;
 use cdi_event_tables::BodyIds;
-use cdi_event_tables::cdi_beans::Bean;
-use cdi_event_tables::cdi_resolve::Resolver;
 use cdi_quals::QualifierTypes;
+use cdi_resolve::Resolver;
 use std::alloc::{AllocError, Global};
 use std::collections::HashMap;
 

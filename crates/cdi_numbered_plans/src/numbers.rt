@@ -6,7 +6,7 @@ ghost use Rattle.cdi_numbered_plans.specs.Numbers as spec;
 
 use crate::numbering::Numbering;
 use cdi_event_tables::PlannedObserver;
-use cdi_event_tables::cdi_plans::{
+use cdi_plans::{
     BusinessMethod, InjectedMethod, Lifecycle, ManagedPlan, Plan, ProductPlan, Source, Step,
 };
 

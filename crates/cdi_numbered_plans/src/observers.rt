@@ -7,10 +7,10 @@ ghost use Rattle.cdi_numbered_plans.specs.Plans.{AreObserversBy};
 use crate::members::member_of;
 use crate::numbering::Numbering;
 use cdi_base::Seq;
+use cdi_cache::Lookup;
 use cdi_event_tables::PlannedObserver;
-use cdi_event_tables::cdi_cache::Lookup;
-use cdi_event_tables::cdi_resolve::Resolver;
 use cdi_machine::Observer;
+use cdi_resolve::Resolver;
 use std::alloc::{AllocError, Global};
 
 /// An observer.

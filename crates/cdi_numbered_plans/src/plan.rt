@@ -10,10 +10,10 @@ use crate::members::{members_of, source_of};
 use crate::numbering::Numbering;
 use crate::steps::steps_of;
 use cdi_base::Seq;
-use cdi_event_tables::cdi_cache::Lookup;
-use cdi_event_tables::cdi_plans::{ManagedPlan, Plan, ProductPlan};
-use cdi_event_tables::cdi_resolve::Resolver;
+use cdi_cache::Lookup;
 use cdi_machine::{Lifecycle, Product, Step};
+use cdi_plans::{ManagedPlan, Plan, ProductPlan};
+use cdi_resolve::Resolver;
 use std::alloc::{AllocError, Global};
 
 /// The life of an instance of a managed bean (Jakarta CDI 4.0, *Lifecycle of managed beans*).

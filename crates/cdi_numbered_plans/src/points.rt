@@ -1,17 +1,17 @@
 //! Injection points with what they resolve to.
 ghost use Rattle.std.specs.Prelude.{◌≡◌, map, IfOk};
-ghost use Rattle.cdi_event_tables.specs.of_bean_check.Qualifiers.{full_uses};
+ghost use Rattle.cdi_bean_check.specs.Qualifiers.{full_uses};
 ghost use Rattle.cdi_numbered_plans.specs.Numbered as spec;
-ghost use Rattle.cdi_event_tables.specs.of_resolve.Filters.{enabled_of};
-ghost use Rattle.cdi_event_tables.specs.of_resolve.Resolution.{resolution};
+ghost use Rattle.cdi_resolve.specs.Filters.{enabled_of};
+ghost use Rattle.cdi_resolve.specs.Resolution.{resolution};
 
 use crate::numbering::Numbering;
 use cdi_base::{Name, Names, Seq, Use};
+use cdi_cache::Lookup;
 use cdi_deployment::{InjectedField, Point as DeclaredPoint};
-use cdi_event_tables::cdi_cache::Lookup;
-use cdi_event_tables::cdi_resolve::{Resolution as Resolved, Resolver};
 use cdi_machine::{Point, Resolution};
 use cdi_quals::{QualSet, QualifierTypes};
+use cdi_resolve::{Resolution as Resolved, Resolver};
 use std::alloc::{AllocError, Global};
 
 /// What a type and qualifiers, as they were written, resolve to among the beans of a lookup (Jakarta CDI 4.0, *Typesafe resolution*),

@@ -9,10 +9,10 @@ use crate::codes::{code_of, lifecycle_of};
 use crate::numbering::Numbering;
 use crate::points::{point_of, points_of};
 use cdi_base::Seq;
-use cdi_event_tables::cdi_cache::Lookup;
-use cdi_event_tables::cdi_plans::{Lifecycle as NamedLifecycle, Step as NamedStep};
-use cdi_event_tables::cdi_resolve::Resolver;
+use cdi_cache::Lookup;
 use cdi_machine::Step;
+use cdi_plans::{Lifecycle as NamedLifecycle, Step as NamedStep};
+use cdi_resolve::Resolver;
 use std::alloc::{AllocError, Global};
 
 /// Whether there is no item.

@@ -8,7 +8,7 @@ use Rattle.std.specs.List.{AllByRecursion, Contains, enumerate_from}
 use Rattle.std.specs.Option.{IsSomeAnd}
 use Rattle.std.specs.Ordering.{int_eq}
 use Rattle.std.specs.Prelude.{int_lt}
-use Rattle.cdi_enable.specs.of_beans.declared.bean.ObserverMethod.{ObserverMethod}
+use Rattle.cdi_beans.specs.declared.bean.ObserverMethod.{ObserverMethod}
 use Rattle.cdi_quals.specs.declared.qualifier.Qualifier.{Qualifier}
 use Rattle.cdi_types.specs.ListsThose.{ListsThose}
 use Rattle.cdi_observers.specs.Groups.{AreGroups, AreGroupsOf}

@@ -8,7 +8,7 @@ use Rattle.std.specs.List.{enumerate_from}
 use Rattle.std.specs.List.Sorted.{IsSortedByKey, IsStableByKey, ties}
 use Rattle.std.specs.Ordering.{int_cmp, int_eq, is_eq}
 use Rattle.std.specs.Prelude.{int_lt}
-use Rattle.cdi_enable.specs.of_beans.declared.bean.ObserverMethod.{ObserverMethod}
+use Rattle.cdi_beans.specs.declared.bean.ObserverMethod.{ObserverMethod}
 use Rattle.cdi_observers.specs.Order.{ranked, IsAscending, IsOrderOf}
 use Rattle.cdi_observers.specs.declared.order.RankedObserver.{RankedObserver}
 use Rattle.cdi_observers.proofs.Those.{same_filter}

@@ -2,7 +2,7 @@
 use Rattle.std.specs.Prelude.{ℕ, ◌≡◌, List, map, filter}
 use Rattle.std.specs.List.{All, enumerate_from}
 use Rattle.std.specs.Ordering.{int_cmp, int_eq}
-use Rattle.cdi_enable.specs.of_beans.declared.bean.ObserverMethod.{ObserverMethod}
+use Rattle.cdi_beans.specs.declared.bean.ObserverMethod.{ObserverMethod}
 use Rattle.cdi_quals.specs.OrderedSet.{IsOrderedSet}
 use Rattle.cdi_quals.specs.declared.qualifier.Qualifier.{Qualifier}
 use Rattle.cdi_types.specs.ListsThose.{ListsThose}

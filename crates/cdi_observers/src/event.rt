@@ -7,7 +7,7 @@ ghost use Rattle.cdi_observers.specs.Order.{HearsAt};
 
 use crate::order::RankedObserver;
 use cdi_base::{Name, Seq};
-use cdi_enable::cdi_beans::ObserverMethod;
+use cdi_beans::ObserverMethod;
 use cdi_quals::{QualSet, Qualifier};
 use cdi_types::TypeTable;
 use std::alloc::{AllocError, Global};

@@ -8,8 +8,5 @@ pub mod laws;
 pub mod observers;
 mod order;
 
-// What callers name of the libraries below.
-pub use cdi_enable;
-pub use cdi_enable::cdi_beans;
 pub use group::ObserverGroup;
 pub use observers::Observers;

@@ -4,7 +4,7 @@ ghost use Rattle.std.specs.List.{enumerate_from};
 ghost use Rattle.cdi_observers.specs.Order as spec;
 
 use cdi_base::Seq;
-use cdi_enable::cdi_beans::ObserverMethod;
+use cdi_beans::ObserverMethod;
 use std::alloc::{AllocError, Global};
 
 /// An observer by its index, with its priority.

@@ -3,7 +3,7 @@ use Rattle.std.specs.Prelude.{ℕ, List, ◌++◌, codes}
 use Rattle.std.specs.List.{flat_map}
 use Rattle.cdi_base.specs.declared.scope.Scope.{Scope}
 use Rattle.cdi_base.specs.declared.scope.Scope.TheVariants as scopes
-use Rattle.cdi_resolve.specs.of_beans.declared.bean.Bean.{Bean}
+use Rattle.cdi_beans.specs.declared.bean.Bean.{Bean}
 use Rattle.cdi_resolve.specs.Candidates.{place_of}
 use Rattle.cdi_problems.specs.Places.{place_text}
 

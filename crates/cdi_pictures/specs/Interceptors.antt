@@ -1,6 +1,6 @@
 -- The enabled interceptors of a picture, in their order.
 use Rattle.std.specs.Prelude.{ℕ, ◌+◌, List, [], ◌∷◌, ◌++◌, codes, decimal, Option, Some, None}
-use Rattle.cdi_resolve.specs.of_beans.declared.bean.EnabledInterceptor.{EnabledInterceptor}
+use Rattle.cdi_beans.specs.declared.bean.EnabledInterceptor.{EnabledInterceptor}
 use Rattle.cdi_pictures.specs.Edges.{edge_line}
 use Rattle.cdi_pictures.specs.declared.edge.Look.TheVariants as looks
 use Rattle.cdi_problems.specs.Places.{name_text}

@@ -8,4 +8,3 @@ pub mod Problems
 pub mod Producers
 pub mod Subjects
 pub mod WorkedLines
-pub use Rattle.cdi_resolve.specs as of_resolve

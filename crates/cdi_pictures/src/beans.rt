@@ -4,8 +4,8 @@ ghost use Rattle.cdi_pictures.specs.Beans as spec;
 ghost use Rattle.cdi_resolve.specs.Filters as filters;
 
 use cdi_base::{Names, Scope};
+use cdi_beans::Bean;
 use cdi_problems::PlaceText;
-use cdi_resolve::cdi_beans::Bean;
 use cdi_resolve::enabled_bean::enabled_of;
 use cdi_resolve::{EnabledBean, Resolver, place_of};
 use std::alloc::{AllocError, Global};

@@ -4,8 +4,8 @@ ghost use Rattle.cdi_pictures.specs.Interceptors as spec;
 
 use crate::edge::{Edge, Look, add_edge};
 use cdi_base::{Name, Names};
+use cdi_beans::EnabledInterceptor;
 use cdi_problems::name_text;
-use cdi_resolve::cdi_beans::EnabledInterceptor;
 use std::alloc::{AllocError, Global};
 
 /// The node of an interceptor, with its number.

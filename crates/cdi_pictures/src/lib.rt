@@ -15,7 +15,5 @@ mod problems;
 mod producers;
 pub mod subject;
 
-// What callers name of the libraries below.
-pub use cdi_resolve;
 pub use graph::picture;
 pub use subject::Pictured;

@@ -4,14 +4,14 @@ use Rattle.std.specs.Prelude.{IsSome, option_map, if◌then◌else◌}
 use Rattle.std.specs.List.{All, AllZip, find, list_any, flat_map}
 use Rattle.std.proofs.lemmas.Bool.{eqb-true, true≢false}
 use Rattle.std.proofs.lemmas.List.Elements.{All-cons, All-nil}
-use Rattle.cdi_plans.specs.of_bean_rules.Limits.{is_producer}
-use Rattle.cdi_plans.specs.of_bean_check.ManagedBeans.{is_bean}
-use Rattle.cdi_plans.specs.of_beans.BeanLists.{IsBeanListOf}
-use Rattle.cdi_plans.specs.of_beans.Beans.{Source, IsBeanOf, sources_in, products_in}
-use Rattle.cdi_plans.specs.of_beans.declared.bean.Bean.{Bean}
-use Rattle.cdi_plans.specs.of_beans.declared.bean.BeanKind.{BeanKind}
-use Rattle.cdi_plans.specs.of_beans.declared.bean.BeanKind.TheVariants as kinds
-use Rattle.cdi_plans.specs.of_beans.declared.bean.BeanList.{BeanList}
+use Rattle.cdi_bean_rules.specs.Limits.{is_producer}
+use Rattle.cdi_bean_check.specs.ManagedBeans.{is_bean}
+use Rattle.cdi_beans.specs.BeanLists.{IsBeanListOf}
+use Rattle.cdi_beans.specs.Beans.{Source, IsBeanOf, sources_in, products_in}
+use Rattle.cdi_beans.specs.declared.bean.Bean.{Bean}
+use Rattle.cdi_beans.specs.declared.bean.BeanKind.{BeanKind}
+use Rattle.cdi_beans.specs.declared.bean.BeanKind.TheVariants as kinds
+use Rattle.cdi_beans.specs.declared.bean.BeanList.{BeanList}
 use Rattle.cdi_deployment.specs.declared.deployment.Class.{Class}
 use Rattle.cdi_deployment.specs.declared.deployment.Deployment.{Deployment}
 use Rattle.cdi_deployment.specs.declared.deployment.Member.{Member}

@@ -8,4 +8,3 @@ pub mod Serving
 pub mod Bound
 pub mod Places
 pub mod Some
-pub use Rattle.cdi_beans.proofs as of_beans

@@ -3,9 +3,9 @@ use Rattle.std.proofs.Common.{◌≡◌, ℕ, true, List, Option, Some, None, re
 use Rattle.std.specs.Prelude.{IsTrue, option_map, option_and_then}
 use Rattle.std.specs.List.{find}
 use Rattle.std.proofs.lemmas.Bool.{true≢false}
-use Rattle.cdi_plans.specs.of_bean_rules.Limits.{is_producer}
-use Rattle.cdi_plans.specs.of_beans.declared.bean.BeanKind.{BeanKind}
-use Rattle.cdi_plans.specs.of_beans.declared.bean.BeanKind.TheVariants as kinds
+use Rattle.cdi_bean_rules.specs.Limits.{is_producer}
+use Rattle.cdi_beans.specs.declared.bean.BeanKind.{BeanKind}
+use Rattle.cdi_beans.specs.declared.bean.BeanKind.TheVariants as kinds
 use Rattle.cdi_deployment.specs.declared.deployment.Class.{Class}
 use Rattle.cdi_deployment.specs.declared.deployment.Member.{Member}
 use Rattle.cdi_deployment.specs.declared.deployment.Member.TheVariants as members

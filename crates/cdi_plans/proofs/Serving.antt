@@ -2,8 +2,8 @@
 use Rattle.std.proofs.Common.{◌≡◌, ◌∙◌, ℕ, ◌+◌, ◌<◌, List, [], ◌∷◌, ◌++◌, length, take, get_or, refl, sym, ap, subst}
 use Rattle.std.proofs.lemmas.List.Elements.{filter_map-append}
 use Rattle.std.specs.List.{filter_map}
-use Rattle.cdi_plans.specs.of_bean_rules.Disposers.{Disposes}
-use Rattle.cdi_plans.proofs.of_beans.Adding.{next_of}
+use Rattle.cdi_bean_rules.specs.Disposers.{Disposes}
+use Rattle.cdi_beans.proofs.Adding.{next_of}
 use Rattle.cdi_plans.specs.Chains.{ChainTables}
 use Rattle.cdi_deployment.specs.declared.deployment.Class.{Class}
 use Rattle.cdi_deployment.specs.declared.deployment.Disposer.{Disposer}

@@ -1,7 +1,7 @@
 -- What runs where an observer of a bean is notified (Jakarta CDI 4.0, Observer methods).
 use Rattle.std.specs.Prelude.{ℕ, ◌==◌, List, Option, Some, None, option_map, option_and_then}
 use Rattle.std.specs.List.{find, filter_map}
-use Rattle.cdi_plans.specs.of_beans.declared.bean.ObserverMethod.{ObserverMethod}
+use Rattle.cdi_beans.specs.declared.bean.ObserverMethod.{ObserverMethod}
 use Rattle.cdi_plans.specs.Chains.{ChainTables}
 use Rattle.cdi_deployment.specs.declared.deployment.Class.{Class}
 use Rattle.cdi_deployment.specs.declared.deployment.Member.{Member}

@@ -1,9 +1,9 @@
 -- By which steps an instance of a bean is created (Jakarta CDI 4.0, Lifecycle of managed beans, Lifecycle of producer methods).
 use Rattle.std.specs.Prelude.{ℕ, ◌≡◌, List, map, Option, option_and_then, IsSome}
 use Rattle.std.specs.List.{filter_map}
-use Rattle.cdi_plans.specs.of_beans.declared.bean.Bean.{Bean}
-use Rattle.cdi_plans.specs.of_beans.declared.bean.BeanKind.{BeanKind}
-use Rattle.cdi_plans.specs.of_beans.declared.bean.BeanKind.TheVariants as kinds
+use Rattle.cdi_beans.specs.declared.bean.Bean.{Bean}
+use Rattle.cdi_beans.specs.declared.bean.BeanKind.{BeanKind}
+use Rattle.cdi_beans.specs.declared.bean.BeanKind.TheVariants as kinds
 use Rattle.cdi_plans.specs.Chains.{ChainTables}
 use Rattle.cdi_deployment.specs.declared.deployment.Class.{Class}
 use Rattle.cdi_deployment.specs.declared.deployment.Constructor.{Constructor}

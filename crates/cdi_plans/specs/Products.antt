@@ -1,9 +1,9 @@
 -- What a product comes from, and what disposes of it (Jakarta CDI 4.0, Lifecycle of producer methods, Lifecycle of producer fields).
 use Rattle.std.specs.Prelude.{ℕ, ◌≡◌, ◌==◌, Bool, false, List, Option, Some, None, option_map, option_and_then}
 use Rattle.std.specs.List.{find, filter_map}
-use Rattle.cdi_plans.specs.of_bean_rules.Disposers.{Disposes}
-use Rattle.cdi_plans.specs.of_beans.declared.bean.BeanKind.{BeanKind}
-use Rattle.cdi_plans.specs.of_beans.declared.bean.BeanKind.TheVariants as kinds
+use Rattle.cdi_bean_rules.specs.Disposers.{Disposes}
+use Rattle.cdi_beans.specs.declared.bean.BeanKind.{BeanKind}
+use Rattle.cdi_beans.specs.declared.bean.BeanKind.TheVariants as kinds
 use Rattle.cdi_plans.specs.Chains.{ChainTables}
 use Rattle.cdi_deployment.specs.declared.deployment.Class.{Class}
 use Rattle.cdi_deployment.specs.declared.deployment.Member.{Member}

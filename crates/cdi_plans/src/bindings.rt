@@ -2,7 +2,7 @@
 ghost use Rattle.std.specs.Prelude.{◌≡◌, ◌++◌, ◌∷◌, [], map, option_map, IfOk, OnOk};
 ghost use Rattle.std.specs.List.{filter_map};
 ghost use Rattle.std.specs.Option.{option_copied};
-ghost use Rattle.cdi_beans.specs.of_bean_check.Qualifiers.{full_uses as all_full};
+ghost use Rattle.cdi_bean_check.specs.Qualifiers.{full_uses as all_full};
 ghost use Rattle.cdi_plans.specs.Bindings as spec;
 
 use cdi_base::{Name, Seq, Use};

@@ -6,8 +6,8 @@ ghost use Rattle.cdi_base.specs.declared.place.InterceptorMethod.{InterceptorMet
 ghost use Rattle.cdi_beans.specs.declared.bean.EnabledInterceptor.{EnabledInterceptor};
 ghost use Rattle.cdi_quals.specs.declared.qualifier.Qualifier.{Qualifier};
 ghost use Rattle.cdi_plans.specs.Chains.{chain_of};
-ghost use Rattle.cdi_plans.specs.of_beans.Problems.{IsMadeOf};
-ghost use Rattle.cdi_plans.specs.of_beans.declared.bean.BeanList.{BeanList};
+ghost use Rattle.cdi_beans.specs.Problems.{IsMadeOf};
+ghost use Rattle.cdi_beans.specs.declared.bean.BeanList.{BeanList};
 ghost use Rattle.cdi_deployment.specs.declared.deployment.Deployment.{Deployment};
 ghost use Rattle.cdi_plans.specs.Observers.{observer_of};
 ghost use Rattle.cdi_plans.specs.Plans.{IsDeclared};

@@ -24,6 +24,3 @@ pub use plan::{
     BusinessMethod, Code, InjectedMethod, Lifecycle, ManagedPlan, Plan, ProductPlan, Source, Step,
 };
 pub use planner::Planner;
-// What callers name of the libraries below.
-pub use cdi_beans;
-pub use cdi_beans::cdi_bean_rules;

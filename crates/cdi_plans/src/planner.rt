@@ -5,7 +5,7 @@ ghost use Rattle.cdi_types.specs.Line.{class_named};
 ghost use Rattle.cdi_plans.specs.Observers as observers;
 ghost use Rattle.cdi_plans.specs.Plans as spec;
 ghost use Rattle.cdi_plans.specs.Products.{producer_of, IsPlanBy, IsProductPlan};
-ghost use Rattle.cdi_plans.specs.of_bean_rules.Limits.{is_producer};
+ghost use Rattle.cdi_bean_rules.specs.Limits.{is_producer};
 
 use crate::Chains;
 use crate::codes::injected_method;

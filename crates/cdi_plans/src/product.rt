@@ -1,8 +1,8 @@
 //! What a product comes from, and what disposes of it (Jakarta CDI 4.0, *Lifecycle of producer methods*, *Lifecycle of producer
 //! fields*).
 ghost use Rattle.std.specs.Prelude.{◌≡◌, ◌∷◌, [], Some, MatchOption, IfOk, IsTrue};
-ghost use Rattle.cdi_plans.specs.of_bean_rules.Disposers.{Serves, Disposes};
-ghost use Rattle.cdi_plans.specs.of_bean_rules.Limits.{is_producer};
+ghost use Rattle.cdi_bean_rules.specs.Disposers.{Serves, Disposes};
+ghost use Rattle.cdi_bean_rules.specs.Limits.{is_producer};
 ghost use Rattle.cdi_deployment.specs.declared.deployment.Member.TheVariants as members;
 ghost use Rattle.cdi_plans.specs.Products as spec;
 
@@ -10,8 +10,8 @@ use crate::Chains;
 use crate::codes::injected_method;
 use crate::plan::{InjectedMethod, Source};
 use cdi_base::Seq;
+use cdi_bean_rules::serves;
 use cdi_beans::BeanKind;
-use cdi_beans::cdi_bean_rules::serves;
 use cdi_deployment::{Class, Disposer, Member};
 use cdi_quals::QualifierTypes;
 use cdi_types::{ClassPart, TypeTable};

@@ -2,7 +2,7 @@
 use Rattle.std.specs.Prelude.{ℕ, ◌==◌, Bool, List, [], ◌++◌, codes, map, Option, if◌then◌else◌}
 use Rattle.std.specs.List.{flat_map, list_any}
 use Rattle.cdi_base.specs.declared.place.Place.{Place}
-use Rattle.cdi_problem_hints.specs.of_body_check.Sites.{Site, body_of, sites_of}
+use Rattle.cdi_body_check.specs.Sites.{Site, body_of, sites_of}
 use Rattle.cdi_deployment.specs.declared.deployment.Deployment.{Deployment}
 use Rattle.cdi_problem_hints.specs.Scripts.{is_at}
 use Rattle.cdi_problem_hints.specs.Sentences.{meant, suggestion}

@@ -4,7 +4,7 @@ use Rattle.cdi_base.specs.declared.place.Place.{Place}
 use Rattle.cdi_cycle_hints.specs.Cycle.{cycle_text}
 use Rattle.cdi_cycle_hints.specs.Needs.{needs_of}
 use Rattle.cdi_deployment.specs.declared.deployment.Deployment.{Deployment}
-use Rattle.cdi_problem_hints.specs.of_resolve.declared.bean_tables.BeanTables.{BeanTables}
+use Rattle.cdi_resolve.specs.declared.bean_tables.BeanTables.{BeanTables}
 
 -- the places of the beans on a cycle through the one at a place, by the tables of the deployment, if there are any
 abbrev pub dependent_cycle_text : Deployment → Option BeanTables → Option Place → List ℕ

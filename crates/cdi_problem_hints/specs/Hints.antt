@@ -20,7 +20,7 @@ use Rattle.cdi_problems.specs.Words.{problem_text}
 use Rattle.cdi_problems.specs.declared.problem.Problem.{Problem}
 use Rattle.cdi_problems.specs.declared.problem.ProblemKind.{ProblemKind}
 use Rattle.cdi_problems.specs.declared.problem.ProblemKind.TheVariants as kinds
-use Rattle.cdi_problem_hints.specs.of_resolve.declared.bean_tables.BeanTables.{BeanTables}
+use Rattle.cdi_resolve.specs.declared.bean_tables.BeanTables.{BeanTables}
 use Rattle.cdi_name_uses.specs.declared.step_name.ScriptNames.{ScriptNames}
 
 -- of an unknown name what it has to be and what was probably meant, of a type that is its own supertype a cycle, and of a point what

@@ -1,18 +1,18 @@
 -- The beans that nearly have what a point asks for, in words.
 use Rattle.std.specs.Prelude.{ℕ, ◌-◌, List, [], ◌++◌, codes, decimal, length, min, take, nat_eq, Option, Some, None, if◌then◌else◌}
 use Rattle.std.specs.List.{flat_map}
-use Rattle.cdi_problem_hints.specs.of_bean_check.Qualifiers.{full_uses}
-use Rattle.cdi_cycle_hints.specs.of_resolve.Near.{near_beans}
-use Rattle.cdi_cycle_hints.specs.of_resolve.declared.near.Lack.{Lack}
-use Rattle.cdi_cycle_hints.specs.of_resolve.declared.near.Lack.TheVariants as lacks
-use Rattle.cdi_cycle_hints.specs.of_resolve.declared.near.NearBean.{NearBean}
+use Rattle.cdi_bean_check.specs.Qualifiers.{full_uses}
+use Rattle.cdi_resolve.specs.Near.{near_beans}
+use Rattle.cdi_resolve.specs.declared.near.Lack.{Lack}
+use Rattle.cdi_resolve.specs.declared.near.Lack.TheVariants as lacks
+use Rattle.cdi_resolve.specs.declared.near.NearBean.{NearBean}
 use Rattle.cdi_deployment.specs.declared.deployment.Deployment.{Deployment}
 use Rattle.cdi_deployment.specs.declared.deployment.Point.{Point}
 use Rattle.cdi_problem_hints.specs.Asked.{points_of}
 use Rattle.cdi_problem_hints.specs.Points.{point_text}
 use Rattle.cdi_problems.specs.Elements.{Element}
 use Rattle.cdi_problems.specs.Places.{name_text, place_text}
-use Rattle.cdi_problem_hints.specs.of_resolve.declared.bean_tables.BeanTables.{BeanTables}
+use Rattle.cdi_resolve.specs.declared.bean_tables.BeanTables.{BeanTables}
 
 abbrev pub lacked_names : List (List ℕ) → List ℕ → List ℕ
 lacked_names names lacked = flat_map (λ name. codes " @" ++ name_text names name) lacked

@@ -8,7 +8,7 @@ use Rattle.cdi_problem_hints.specs.Candidates.{candidates_text}
 use Rattle.cdi_problem_hints.specs.Left.{left_for}
 use Rattle.cdi_problems.specs.Elements.{Element}
 use Rattle.cdi_problems.specs.Places.{name_text}
-use Rattle.cdi_problem_hints.specs.of_resolve.declared.bean_tables.BeanTables.{BeanTables}
+use Rattle.cdi_resolve.specs.declared.bean_tables.BeanTables.{BeanTables}
 
 abbrev pub quals_text : List (List ℕ) → List Use → List ℕ
 quals_text names quals = flat_map (λ u. codes " @" ++ name_text names u.name) quals

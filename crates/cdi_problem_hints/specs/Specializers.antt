@@ -2,14 +2,14 @@
 use Rattle.std.specs.Prelude.{ℕ, zero, suc, ◌==◌, ◌||◌, Bool, false, List, [], filter, length, map, Option, Some, None, option_and_then, option_map}
 use Rattle.cdi_base.specs.declared.place.Place.{Place}
 use Rattle.cdi_base.specs.declared.place.Place.TheVariants as places
-use Rattle.cdi_problem_hints.specs.of_bean_check.ManagedBeans.{bean_class}
-use Rattle.cdi_problem_hints.specs.of_bean_check.Qualifiers.{specialized_bean}
-use Rattle.cdi_cycle_hints.specs.of_resolve.Candidates.{place_of}
+use Rattle.cdi_bean_check.specs.ManagedBeans.{bean_class}
+use Rattle.cdi_bean_check.specs.Qualifiers.{specialized_bean}
+use Rattle.cdi_resolve.specs.Candidates.{place_of}
 use Rattle.cdi_deployment.specs.declared.deployment.Class.{Class}
 use Rattle.cdi_deployment.specs.declared.deployment.Deployment.{Deployment}
 use Rattle.cdi_problem_hints.specs.Candidates.{candidates_text}
-use Rattle.cdi_problem_hints.specs.of_resolve.Filters.{enabled_of}
-use Rattle.cdi_problem_hints.specs.of_resolve.declared.bean_tables.BeanTables.{BeanTables}
+use Rattle.cdi_resolve.specs.Filters.{enabled_of}
+use Rattle.cdi_resolve.specs.declared.bean_tables.BeanTables.{BeanTables}
 
 -- the class whose bean that of a class directly specializes, if it does
 abbrev pub specialized_by : List Class → ℕ → Option ℕ

@@ -3,7 +3,7 @@ use Rattle.std.specs.Prelude.{List, Option}
 use Rattle.std.specs.Option.{option_copied}
 use Rattle.cdi_deployment.specs.declared.deployment.Deployment.{Deployment}
 use Rattle.cdi_problem_hints.specs.declared.subject.Subject.{Subject as Lent}
-use Rattle.cdi_problem_hints.specs.of_resolve.declared.bean_tables.BeanTables.{BeanTables}
+use Rattle.cdi_resolve.specs.declared.bean_tables.BeanTables.{BeanTables}
 use Rattle.cdi_name_uses.specs.declared.step_name.ScriptNames.{ScriptNames}
 
 -- a deployment, the names that its scripts use, and the tables by which its points resolve, if they are given

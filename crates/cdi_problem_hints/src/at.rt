@@ -1,6 +1,6 @@
 //! What stands at the place of a problem.
 ghost use Rattle.std.specs.Prelude.{◌≡◌, filter};
-ghost use Rattle.cdi_problem_hints.specs.of_body_check.Sites as sites;
+ghost use Rattle.cdi_body_check.specs.Sites as sites;
 ghost use Rattle.cdi_problem_hints.specs.Asked.{is_at};
 ghost use Rattle.cdi_problem_hints.specs.Scripts.{is_at as is_site_at};
 ghost use Rattle.cdi_problems.specs.Elements as elements;

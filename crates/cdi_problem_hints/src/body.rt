@@ -1,7 +1,7 @@
 //! What is told of a body that isn't the name of a script.
 ghost use Rattle.std.specs.Prelude.{◌≡◌, ◌++◌, string_bytes, IfOk, OnOk};
 ghost use Rattle.std.specs.List.{flat_map};
-ghost use Rattle.cdi_problem_hints.specs.of_body_check.Sites.{body_of, shown};
+ghost use Rattle.cdi_body_check.specs.Sites.{body_of, shown};
 ghost use Rattle.cdi_problem_hints.specs.Bodies as spec;
 
 use crate::at::sites_at;

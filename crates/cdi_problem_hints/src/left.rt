@@ -10,9 +10,8 @@ use crate::at::elements_at;
 use crate::specializer::specializers_at;
 use crate::subject::Subject;
 use cdi_base::{Place, Seq};
-use cdi_body_check::cdi_resolve::BeanTables;
-use cdi_cycle_hints::cdi_resolve::candidates;
 use cdi_problems::{Element, Problem, ProblemKind};
+use cdi_resolve::{BeanTables, candidates};
 use std::alloc::{AllocError, Global};
 
 fn add_places(left: &[Place], places: &mut Seq<Place>) -> Result<(), AllocError>

@@ -25,7 +25,3 @@ pub use left::problem_candidates;
 pub use rows::PlaceRows;
 pub use rule::rule_text;
 pub use subject::Subject;
-// What callers name of the libraries below.
-pub use cdi_body_check;
-pub use cdi_body_check::{cdi_bean_check, cdi_resolve};
-pub use cdi_cycle_hints;

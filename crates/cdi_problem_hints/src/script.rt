@@ -2,7 +2,7 @@
 ghost use Rattle.std.specs.Prelude.{◌≡◌, ◌++◌, string_bytes, IfOk, OnOk};
 ghost use Rattle.std.specs.List.{flat_map};
 ghost use Rattle.std.specs.Option.{option_copied};
-ghost use Rattle.cdi_problem_hints.specs.of_body_check.Sites.{body_of, shown};
+ghost use Rattle.cdi_body_check.specs.Sites.{body_of, shown};
 ghost use Rattle.cdi_problem_hints.specs.Scripts as spec;
 
 use crate::at::sites_at;

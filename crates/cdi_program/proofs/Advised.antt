@@ -1,9 +1,9 @@
 -- The hints for bytes, by what they were read as.
 use Rattle.std.proofs.Common.{◌≡◌, ℕ, List, Some, None, Result, Ok, Err}
-use Rattle.cdi_shell.specs.of_prepare.Ready.{Readied}
+use Rattle.cdi_prepare.specs.Ready.{Readied}
 use Rattle.cdi_program.specs.Advice.{IsAdviceFor, IsAdviceWith, fault_advice}
-use Rattle.cdi_shell.specs.of_report.Reviews.{Reviews}
-use Rattle.cdi_shell.specs.of_report.declared.reviewing.Review.{Review}
+use Rattle.cdi_report.specs.Reviews.{Reviews}
+use Rattle.cdi_report.specs.declared.reviewing.Review.{Review}
 
 pub advised : (file bytes : List ℕ) (read : Result Readied (List ℕ)) (review : Review) → Reviews read (Some review)
     → (advice : List ℕ) → IsAdviceWith file bytes review.deployment review.scripts review.problems advice

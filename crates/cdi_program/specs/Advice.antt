@@ -3,17 +3,17 @@ use Rattle.std.specs.Prelude.{◌≡◌, ℕ, ◌-◌, List, [], ◌∷◌, ◌+
 use Rattle.cdi_deployment.specs.declared.deployment.Deployment.{Deployment}
 use Rattle.cdi_positions.specs.Position.{IsPositionIn}
 use Rattle.cdi_positions.specs.declared.position.Position.{Position}
-use Rattle.cdi_shell.specs.of_prepare.Ready.{Readied}
-use Rattle.cdi_shell.specs.of_prepare.Scripts.{registered}
-use Rattle.cdi_findings.specs.of_problem_hints.Hints.{problem_hint}
-use Rattle.cdi_findings.specs.of_problem_hints.Subjects.{Subject}
+use Rattle.cdi_prepare.specs.Ready.{Readied}
+use Rattle.cdi_prepare.specs.Scripts.{registered}
+use Rattle.cdi_problem_hints.specs.Hints.{problem_hint}
+use Rattle.cdi_problem_hints.specs.Subjects.{Subject}
 use Rattle.cdi_problems.specs.declared.problem.Problem.{Problem}
 use Rattle.cdi_findings.specs.Faults.{fault_name, unhinted_text}
 use Rattle.cdi_findings.specs.Tables.{AreTablesFor}
 use Rattle.cdi_program.specs.Lines.{file_line}
-use Rattle.cdi_shell.specs.of_report.Reports.{AreProblemsWith}
-use Rattle.cdi_shell.specs.of_report.Reviews.{names_of}
-use Rattle.cdi_pictures.specs.of_resolve.declared.bean_tables.BeanTables.{BeanTables}
+use Rattle.cdi_report.specs.Reports.{AreProblemsWith}
+use Rattle.cdi_report.specs.Reviews.{names_of}
+use Rattle.cdi_resolve.specs.declared.bean_tables.BeanTables.{BeanTables}
 use Rattle.cdi_name_uses.specs.declared.step_name.ScriptNames.{ScriptNames}
 
 -- what stands in front of a hint: the position of a text, if one is known

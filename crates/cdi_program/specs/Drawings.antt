@@ -1,14 +1,14 @@
 -- The drawing of the deployment that bytes are.
 use Rattle.std.specs.Prelude.{◌≡◌, ℕ, List, length, nat_lt, string_bytes, Option, None, Result, Ok, Err, IsSomeAnd}
-use Rattle.cdi_pictures.specs.of_resolve.Tables.{AreTables}
+use Rattle.cdi_resolve.specs.Tables.{AreTables}
 use Rattle.cdi_deployment.specs.declared.deployment.Deployment.{Deployment}
 use Rattle.cdi_pictures.specs.Pictures.{picture}
-use Rattle.cdi_shell.specs.of_prepare.Ready.{Readied}
-use Rattle.cdi_shell.specs.of_prepare.Scripts.{registered}
+use Rattle.cdi_prepare.specs.Ready.{Readied}
+use Rattle.cdi_prepare.specs.Scripts.{registered}
 use Rattle.cdi_problems.specs.declared.problem.Problem.{Problem}
 use Rattle.cdi_program.specs.declared.drawing.Drawing.{Drawing}
-use Rattle.cdi_shell.specs.of_report.Reports.{AreProblemsWith}
-use Rattle.cdi_pictures.specs.of_resolve.declared.bean_tables.BeanTables.{BeanTables}
+use Rattle.cdi_report.specs.Reports.{AreProblemsWith}
+use Rattle.cdi_resolve.specs.declared.bean_tables.BeanTables.{BeanTables}
 
 -- the picture of a deployment with these problems, which is refused if there is one
 pub record IsDrawingWith (d : Deployment) (problems : List Problem) (drawing : Drawing)

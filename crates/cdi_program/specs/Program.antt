@@ -12,14 +12,14 @@ use Rattle.cdi_options.specs.Options.{AsksFor, faults_in}
 use Rattle.cdi_options.specs.declared.options.Mode.{Mode}
 use Rattle.cdi_options.specs.declared.options.Mode.TheVariants as modes
 use Rattle.cdi_options.specs.declared.options.Options.{Options}
-use Rattle.cdi_shell.specs.of_report.Reports.{ReportsOn}
-use Rattle.cdi_shell.specs.of_report.Verdicts.{outcome_of as outcome_of_verdict, status_of as status_of_verdict}
-use Rattle.cdi_shell.specs.of_report.declared.verdict.Verdict.{Verdict}
+use Rattle.cdi_report.specs.Reports.{ReportsOn}
+use Rattle.cdi_report.specs.Verdicts.{outcome_of as outcome_of_verdict, status_of as status_of_verdict}
+use Rattle.cdi_report.specs.declared.verdict.Verdict.{Verdict}
 use Rattle.cdi_base.specs.declared.settings.Settings.{Settings}
 use Rattle.cdi_shell.specs.Endings.{outcome_of, status_of as status_of_ending}
 use Rattle.cdi_shell.specs.Laws.{DrivesOnce}
 use Rattle.cdi_shell.specs.declared.ending.Ending.{Ending}
-use Rattle.cdi_shell.specs.of_prepare.Ready.{readied_in}
+use Rattle.cdi_prepare.specs.Ready.{readied_in}
 use Rattle.cdi_program.specs.Drawings.{IsDrawing}
 use Rattle.cdi_findings.specs.Findings.{AreFindings, Found}
 use Rattle.cdi_program.specs.Lines.{cause_line}

@@ -8,14 +8,14 @@ use Rattle.cdi_lines.specs.declared.fault.ServeFault.{ServeFault}
 use Rattle.cdi_lines.specs.declared.fault.ServeFault.TheVariants as faults
 use Rattle.cdi_positions.specs.RepeatedKey.{repeated_text}
 use Rattle.cdi_positions.specs.declared.repeated_keys.RepeatedKey.{RepeatedKey}
-use Rattle.cdi_shell.specs.of_prepare.Hint.{IsHintFor}
-use Rattle.cdi_shell.specs.of_prepare.HintText.{hint_text}
-use Rattle.cdi_shell.specs.of_prepare.declared.hint.Hint.{Hint}
-use Rattle.cdi_shell.specs.of_report.declared.verdict.Verdict.{Verdict}
-use Rattle.cdi_shell.specs.of_report.declared.verdict.Verdict.TheVariants as verdicts
+use Rattle.cdi_prepare.specs.Hint.{IsHintFor}
+use Rattle.cdi_prepare.specs.HintText.{hint_text}
+use Rattle.cdi_prepare.specs.declared.hint.Hint.{Hint}
+use Rattle.cdi_report.specs.declared.verdict.Verdict.{Verdict}
+use Rattle.cdi_report.specs.declared.verdict.Verdict.TheVariants as verdicts
 use Rattle.cdi_shell.specs.declared.ending.Ending.{Ending}
 use Rattle.cdi_shell.specs.declared.ending.Ending.TheVariants as endings
-use Rattle.cdi_shell.specs.of_prepare.Ready.{readied_in}
+use Rattle.cdi_prepare.specs.Ready.{readied_in}
 use Rattle.cdi_findings.specs.Warnings.{IsWarningFor}
 use Rattle.cdi_program.specs.Advice.{IsAdviceFor}
 use Rattle.cdi_program.specs.Lines.{IsFileLine, cause_line}

@@ -1,7 +1,7 @@
 //! The hints for the problems of a deployment, on standard error.
 ghost use Rattle.std.specs.Prelude.{◌≡◌, ◌++◌, string_bytes, IfOk, OnOk};
-ghost use Rattle.cdi_shell.specs.of_prepare.Ready.{readied_in};
-ghost use Rattle.cdi_findings.specs.of_problem_hints.Subjects.{subject_of};
+ghost use Rattle.cdi_prepare.specs.Ready.{readied_in};
+ghost use Rattle.cdi_problem_hints.specs.Subjects.{subject_of};
 ghost use Rattle.cdi_program.specs.Advice as spec;
 ghost use Rattle.cdi_program.specs.Streams.{output_of};
 ghost use Rattle.cdi_program.specs.Telling as telling;
@@ -9,12 +9,12 @@ ghost use Rattle.cdi_program.specs.Telling as telling;
 use crate::lines::{add_line, file_line};
 use crate::telling::{tell, tell_text};
 use cdi_base::Text;
-use cdi_findings::cdi_problem_hints::{Subject, problem_hint};
 use cdi_findings::{HintTables, fault_name, position_of_problem, unhinted_text};
 use cdi_lines::{ServeFault, Sink};
 use cdi_positions::Position;
+use cdi_problem_hints::{Subject, problem_hint};
 use cdi_problems::Problem;
-use cdi_shell::cdi_report::{Review, review_bytes};
+use cdi_report::{Review, review_bytes};
 use std::alloc::{AllocError, Global};
 
 /// The most problems of a deployment that get a hint.

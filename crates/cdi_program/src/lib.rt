@@ -13,9 +13,6 @@ pub mod status;
 mod telling;
 pub mod words;
 
-// What callers name of the libraries below.
-pub use cdi_shell;
-pub use cdi_shell::cdi_report;
 pub use files::{Files, HostFiles, Opener};
 pub use program::run_program;
 pub use words::{WordsError, host_words};

@@ -16,7 +16,7 @@ use crate::words::WordsError;
 use cdi_findings::findings_in;
 use cdi_lines::{ServeFault, Sink, Source};
 use cdi_options::{Mode, Options};
-use cdi_shell::cdi_report::report;
+use cdi_report::report;
 use cdi_shell::drive::drive;
 use clap::Error;
 use clap::error::ErrorKind;

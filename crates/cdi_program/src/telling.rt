@@ -1,7 +1,7 @@
 //! What is told on standard error.
 ghost use Rattle.std.specs.Prelude.{◌++◌, IsTrue, OnOk, codes};
 ghost use Rattle.cdi_lines.specs.Ends.{Tells, WritesAll};
-ghost use Rattle.cdi_shell.specs.of_report.Verdicts.{outcome_of as outcome_of_verdict};
+ghost use Rattle.cdi_report.specs.Verdicts.{outcome_of as outcome_of_verdict};
 ghost use Rattle.cdi_shell.specs.Endings.{outcome_of as outcome_of_ending};
 ghost use Rattle.cdi_program.specs.Lines as lines;
 ghost use Rattle.cdi_program.specs.Streams.{output_of};
@@ -10,9 +10,9 @@ ghost use Rattle.cdi_program.specs.Telling as spec;
 use crate::advising::advise;
 use crate::lines::file_line_of;
 use cdi_lines::{ServeFault, Sink, WriteFailed};
+use cdi_prepare::{hint_for, warning_for};
+use cdi_report::Verdict;
 use cdi_shell::Ending;
-use cdi_shell::cdi_prepare::{hint_for, warning_for};
-use cdi_shell::cdi_report::Verdict;
 use std::alloc::Global;
 use std::fmt::Display;
 

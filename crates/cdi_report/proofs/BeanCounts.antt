@@ -4,10 +4,10 @@ use Rattle.std.specs.Prelude.{if◌then◌else◌}
 use Rattle.std.proofs.lemmas.List.{length-map}
 use Rattle.std.proofs.lemmas.List.Sums.{length-filter, sum_by-cons}
 use Rattle.std.specs.List.{count_by, flat_map}
-use Rattle.cdi_run_tables.specs.of_bean_rules.Limits.{bean_count, beans_in, is_producer}
-use Rattle.cdi_run_tables.specs.of_bean_check.ManagedBeans.{is_bean}
-use Rattle.cdi_run_tables.specs.of_bean_rules.Tiers.{AreBeanProblems, AreTooMany}
-use Rattle.cdi_run_tables.specs.of_beans.Beans.{Source, products_in, sources_in}
+use Rattle.cdi_bean_rules.specs.Limits.{bean_count, beans_in, is_producer}
+use Rattle.cdi_bean_check.specs.ManagedBeans.{is_bean}
+use Rattle.cdi_bean_rules.specs.Tiers.{AreBeanProblems, AreTooMany}
+use Rattle.cdi_beans.specs.Beans.{Source, products_in, sources_in}
 use Rattle.cdi_deployment.specs.declared.deployment.Class.{Class}
 use Rattle.cdi_deployment.specs.declared.deployment.Deployment.{Deployment}
 use Rattle.cdi_problems.specs.declared.problem.Problem.{Problem}

@@ -1,7 +1,7 @@
 -- The problems of names and of beans, of a deployment with these facts, are told by names.
 use Rattle.std.proofs.Common.{List, sym, subst}
-use Rattle.cdi_accepted.specs.of_bean_rules.Tiers.{AreBeanProblems, AreTooMany}
-use Rattle.cdi_accepted.specs.of_beans.Problems.{AreEarlyProblemsOf}
+use Rattle.cdi_bean_rules.specs.Tiers.{AreBeanProblems, AreTooMany}
+use Rattle.cdi_beans.specs.Problems.{AreEarlyProblemsOf}
 use Rattle.cdi_deployment.specs.declared.deployment.Deployment.{Deployment}
 use Rattle.cdi_name_check.specs.NameProblems.{AreNameProblems}
 use Rattle.cdi_problems.specs.declared.problem.Problem.{Problem}

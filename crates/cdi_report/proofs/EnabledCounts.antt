@@ -9,9 +9,9 @@ use Rattle.std.proofs.lemmas.Slice.Zip.{AllZip-long}
 use Rattle.std.specs.List.{Any, Contains, enumerate_from, filter_map}
 use Rattle.std.specs.Ordering.{eq_by_cmp}
 use Rattle.std.specs.Set.{is_member}
-use Rattle.cdi_run_tables.proofs.of_beans.Sorted.{priorities_total}
-use Rattle.cdi_run_tables.specs.of_beans.Interceptors.{AreEnabled, AreInterceptorsOf, Indexed, IsEnabledInterceptor, compare_priorities, has_priority, listed}
-use Rattle.cdi_run_tables.specs.of_beans.declared.bean.EnabledInterceptor.{EnabledInterceptor}
+use Rattle.cdi_beans.proofs.Sorted.{priorities_total}
+use Rattle.cdi_beans.specs.Interceptors.{AreEnabled, AreInterceptorsOf, Indexed, IsEnabledInterceptor, compare_priorities, has_priority, listed}
+use Rattle.cdi_beans.specs.declared.bean.EnabledInterceptor.{EnabledInterceptor}
 use Rattle.cdi_deployment.specs.declared.deployment.Deployment.{Deployment}
 use Rattle.cdi_quals.specs.OrderedSet.{IsOrderedSet}
 use Rattle.cdi_quals.specs.declared.types.QualifierType.{QualifierType}

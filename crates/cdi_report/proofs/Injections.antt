@@ -2,18 +2,18 @@
 use Rattle.std.proofs.Common.{ℕ, suc, ◌≡◌, ◌∙◌, ◌+◌, ◌*◌, ◌≤◌, List, [], ◌∷◌, ◌++◌, filter, length, map, Option, Some, None, refl, ap, arith, length-append}
 use Rattle.std.proofs.lemmas.List.Elements.{filter_map-append}
 use Rattle.std.specs.List.{AllByRecursion, filter_map}
-use Rattle.cdi_run_tables.specs.of_beans.declared.bean.Bean.{Bean}
-use Rattle.cdi_run_tables.specs.of_plans.Chains.{ChainTables, interceptors_of}
+use Rattle.cdi_beans.specs.declared.bean.Bean.{Bean}
+use Rattle.cdi_plans.specs.Chains.{ChainTables, interceptors_of}
 use Rattle.cdi_deployment.specs.declared.deployment.Class.{Class}
 use Rattle.cdi_deployment.specs.declared.deployment.Constructor.{Constructor}
 use Rattle.cdi_deployment.specs.declared.deployment.InjectedField.{InjectedField}
 use Rattle.cdi_deployment.specs.declared.deployment.Member.{Member}
 use Rattle.cdi_deployment.specs.declared.deployment.Member.TheVariants as members
 use Rattle.cdi_types.specs.Members.{comes_down, members_of, parts_of}
-use Rattle.cdi_run_tables.specs.of_plans.Codes.{completion}
-use Rattle.cdi_run_tables.specs.of_plans.Steps.{class_steps, construction, initialization, injection, injections, steps_of}
-use Rattle.cdi_run_tables.specs.of_plans.declared.plan.Step.{Step}
-use Rattle.cdi_run_tables.specs.of_plans.declared.plan.Step.TheVariants as steps
+use Rattle.cdi_plans.specs.Codes.{completion}
+use Rattle.cdi_plans.specs.Steps.{class_steps, construction, initialization, injection, injections, steps_of}
+use Rattle.cdi_plans.specs.declared.plan.Step.{Step}
+use Rattle.cdi_plans.specs.declared.plan.Step.TheVariants as steps
 use Rattle.cdi_run_tables.specs.Managed.{injected}
 use Rattle.cdi_report.proofs.Within.{HasFew}
 

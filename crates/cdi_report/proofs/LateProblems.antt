@@ -1,11 +1,11 @@
 -- All problems of a deployment with these facts are told by names: those of the last tier, and those before.
 use Rattle.std.proofs.Common.{ℕ, List, ◌++◌, Option, sym, subst}
 use Rattle.cdi_bodies.specs.declared.shape.Shape.{Shape}
-use Rattle.cdi_accepted.specs.of_check.Late.{AreBodyProblems, AreEnabledProblems, ArePointProblems, AreProblemsIn}
-use Rattle.cdi_accepted.specs.of_check.Problems.{AreProblemsOf}
-use Rattle.cdi_accepted.specs.of_live.OwnPoints.{Inventory}
+use Rattle.cdi_check.specs.Late.{AreBodyProblems, AreEnabledProblems, ArePointProblems, AreProblemsIn}
+use Rattle.cdi_check.specs.Problems.{AreProblemsOf}
+use Rattle.cdi_live.specs.OwnPoints.{Inventory}
 use Rattle.cdi_deployment.specs.declared.deployment.Deployment.{Deployment}
-use Rattle.cdi_accepted.specs.of_enable.Enablement.{Enablement}
+use Rattle.cdi_enable.specs.Enablement.{Enablement}
 use Rattle.cdi_problems.specs.declared.problem.Problem.{Problem}
 use Rattle.cdi_problems.specs.declared.problem.ProblemKind.TheVariants as kinds
 use Rattle.cdi_report.proofs.EarlyProblems.{early-told}

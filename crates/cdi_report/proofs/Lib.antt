@@ -31,5 +31,3 @@ pub mod KnownMore
 pub mod Facts
 pub mod WellFormed
 pub mod BadScripts
-pub use Rattle.cdi_accepted.proofs as of_accepted
-pub use Rattle.cdi_prepare.proofs as of_prepare

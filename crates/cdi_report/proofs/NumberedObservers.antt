@@ -5,17 +5,17 @@ use Rattle.std.proofs.lemmas.List.Folds.{list_all-append}
 use Rattle.std.specs.Prelude.{IfSome, option_and_then, option_map, int_lt}
 use Rattle.std.specs.Ordering.{int_eq}
 use Rattle.std.specs.List.{list_all}
-use Rattle.cdi_run_tables.specs.of_beans.declared.bean.ObserverMethod.{ObserverMethod}
+use Rattle.cdi_beans.specs.declared.bean.ObserverMethod.{ObserverMethod}
 use Rattle.cdi_deployment.specs.declared.deployment.Class.{Class}
 use Rattle.cdi_deployment.specs.declared.deployment.Observer.{Observer}
-use Rattle.cdi_run_tables.specs.of_event_tables.Observers.{group_with, managed_bean, member_of, observer_groups, planned_observer, planned_of_bean, planned_with, with_next, with_planned, with_told}
-use Rattle.cdi_run_tables.specs.of_event_tables.declared.ids.BodyIds.{BodyIds}
-use Rattle.cdi_run_tables.specs.of_event_tables.declared.observer_groups.ObserverGroup.{ObserverGroup}
-use Rattle.cdi_run_tables.specs.of_event_tables.declared.observers.PlannedObserver.{PlannedObserver}
-use Rattle.cdi_run_tables.specs.of_numbered_plans.Numbers.{numbers_member, observers_have_numbers}
-use Rattle.cdi_run_tables.specs.of_plans.Observers.{observer_method, observer_of}
-use Rattle.cdi_run_tables.specs.of_plans.Tables.{PlanTables}
-use Rattle.cdi_run_tables.specs.of_resolve.Filters.{Candidates, is_enabled}
+use Rattle.cdi_event_tables.specs.Observers.{group_with, managed_bean, member_of, observer_groups, planned_observer, planned_of_bean, planned_with, with_next, with_planned, with_told}
+use Rattle.cdi_event_tables.specs.declared.ids.BodyIds.{BodyIds}
+use Rattle.cdi_event_tables.specs.declared.observer_groups.ObserverGroup.{ObserverGroup}
+use Rattle.cdi_event_tables.specs.declared.observers.PlannedObserver.{PlannedObserver}
+use Rattle.cdi_numbered_plans.specs.Numbers.{numbers_member, observers_have_numbers}
+use Rattle.cdi_plans.specs.Observers.{observer_method, observer_of}
+use Rattle.cdi_plans.specs.Tables.{PlanTables}
+use Rattle.cdi_resolve.specs.Filters.{Candidates, is_enabled}
 use Rattle.cdi_run_tables.specs.Observers.{group_has_numbers}
 use Rattle.cdi_report.proofs.Places.{invoke_numbered}
 

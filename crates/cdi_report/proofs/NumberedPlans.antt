@@ -5,26 +5,26 @@ use Rattle.std.proofs.lemmas.List.Folds.{list_all-map}
 use Rattle.std.proofs.lemmas.Option.{same_Some}
 use Rattle.std.specs.List.{AllByRecursion, filter_map, list_all}
 use Rattle.cdi_base.specs.declared.place.InterceptorMethod.TheVariants as methods
-use Rattle.cdi_run_tables.specs.of_beans.declared.bean.Bean.{Bean}
-use Rattle.cdi_run_tables.specs.of_plans.Chains.{ChainTables, interceptors_of}
+use Rattle.cdi_beans.specs.declared.bean.Bean.{Bean}
+use Rattle.cdi_plans.specs.Chains.{ChainTables, interceptors_of}
 use Rattle.cdi_deployment.specs.declared.deployment.Class.{Class}
 use Rattle.cdi_deployment.specs.declared.deployment.Constructor.{Constructor}
 use Rattle.cdi_deployment.specs.declared.deployment.InjectedField.{InjectedField}
 use Rattle.cdi_deployment.specs.declared.deployment.Member.{Member}
 use Rattle.cdi_deployment.specs.declared.deployment.Member.TheVariants as members
-use Rattle.cdi_run_tables.specs.of_numbered_plans.Numbers.{is_number, numbers_managed, numbers_member, numbers_method, numbers_product, numbers_source, numbers_step}
+use Rattle.cdi_numbered_plans.specs.Numbers.{is_number, numbers_managed, numbers_member, numbers_method, numbers_product, numbers_source, numbers_step}
 use Rattle.cdi_types.specs.Members.{comes_down, members_of, parts_of}
-use Rattle.cdi_run_tables.specs.of_plans.Codes.{business_method, completion}
-use Rattle.cdi_run_tables.specs.of_plans.Plans.{managed_plan}
-use Rattle.cdi_run_tables.specs.of_plans.Products.{IsPlanBy, disposer_method, source_of}
-use Rattle.cdi_run_tables.specs.of_plans.Steps.{class_steps, construction, initialization, injection, injections, steps_of}
-use Rattle.cdi_run_tables.specs.of_plans.Tables.{PlanTables}
-use Rattle.cdi_run_tables.specs.of_plans.declared.plan.BusinessMethod.{BusinessMethod}
-use Rattle.cdi_run_tables.specs.of_plans.declared.plan.InjectedMethod.{InjectedMethod}
-use Rattle.cdi_run_tables.specs.of_plans.declared.plan.ProductPlan.{ProductPlan}
-use Rattle.cdi_run_tables.specs.of_plans.declared.plan.Source.{Source}
-use Rattle.cdi_run_tables.specs.of_plans.declared.plan.Step.{Step}
-use Rattle.cdi_run_tables.specs.of_plans.declared.plan.Step.TheVariants as steps
+use Rattle.cdi_plans.specs.Codes.{business_method, completion}
+use Rattle.cdi_plans.specs.Plans.{managed_plan}
+use Rattle.cdi_plans.specs.Products.{IsPlanBy, disposer_method, source_of}
+use Rattle.cdi_plans.specs.Steps.{class_steps, construction, initialization, injection, injections, steps_of}
+use Rattle.cdi_plans.specs.Tables.{PlanTables}
+use Rattle.cdi_plans.specs.declared.plan.BusinessMethod.{BusinessMethod}
+use Rattle.cdi_plans.specs.declared.plan.InjectedMethod.{InjectedMethod}
+use Rattle.cdi_plans.specs.declared.plan.ProductPlan.{ProductPlan}
+use Rattle.cdi_plans.specs.declared.plan.Source.{Source}
+use Rattle.cdi_plans.specs.declared.plan.Step.{Step}
+use Rattle.cdi_plans.specs.declared.plan.Step.TheVariants as steps
 use Rattle.cdi_report.proofs.Each.{all_pass, each_append, each_given, each_passes}
 use Rattle.cdi_report.proofs.PlanLengths.{few_steps}
 use Rattle.cdi_report.proofs.Places.{instances_numbered, invoke_numbered, life_numbered}

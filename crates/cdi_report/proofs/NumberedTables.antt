@@ -3,16 +3,16 @@ use Rattle.std.proofs.Common.{◌≡◌, ◌∙◌, ◌≤◌, ◌&&◌, true, L
 use Rattle.std.proofs.lemmas.Bool.{and_from}
 use Rattle.std.specs.Prelude.{IsTrue}
 use Rattle.std.specs.List.{AllByRecursion, AllZip, list_all}
-use Rattle.cdi_run_tables.specs.of_beans.declared.bean.Bean.{Bean}
-use Rattle.cdi_run_tables.specs.of_beans.declared.bean.BeanList.{BeanList}
+use Rattle.cdi_beans.specs.declared.bean.Bean.{Bean}
+use Rattle.cdi_beans.specs.declared.bean.BeanList.{BeanList}
 use Rattle.cdi_deployment.specs.Limits.{is_within}
 use Rattle.cdi_deployment.specs.declared.deployment.Deployment.{Deployment}
-use Rattle.cdi_run_tables.specs.of_numbered_plans.Numbers.{has_numbers, numbers_managed}
-use Rattle.cdi_run_tables.specs.of_plans.Plans.{IsManagedPlan, IsPlanOf, constructor_of}
-use Rattle.cdi_run_tables.specs.of_plans.Tables.{PlanTables}
-use Rattle.cdi_run_tables.specs.of_plans.declared.plan.ManagedPlan.{ManagedPlan}
-use Rattle.cdi_run_tables.specs.of_plans.declared.plan.Plan.{Plan}
-use Rattle.cdi_run_tables.specs.of_resolve.declared.bean_tables.BeanTables.{BeanTables}
+use Rattle.cdi_numbered_plans.specs.Numbers.{has_numbers, numbers_managed}
+use Rattle.cdi_plans.specs.Plans.{IsManagedPlan, IsPlanOf, constructor_of}
+use Rattle.cdi_plans.specs.Tables.{PlanTables}
+use Rattle.cdi_plans.specs.declared.plan.ManagedPlan.{ManagedPlan}
+use Rattle.cdi_plans.specs.declared.plan.Plan.{Plan}
+use Rattle.cdi_resolve.specs.declared.bean_tables.BeanTables.{BeanTables}
 use Rattle.cdi_run_tables.specs.Numbered.{has_few_beans, is_numbered}
 use Rattle.cdi_run_tables.specs.Observers.{group_has_numbers, planned_groups}
 use Rattle.cdi_run_tables.specs.Planned.{IsPlanned, IsTabled, plan_tables}

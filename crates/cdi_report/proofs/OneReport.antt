@@ -3,13 +3,13 @@ use Rattle.std.proofs.Common.{◌≡◌, ◌∙◌, ℕ, Bool, true, false, List
 use Rattle.std.specs.Prelude.{Result, Ok, Err}
 use Rattle.std.specs.Io.KnownBytes.{Appends}
 use Rattle.cdi_bodies.specs.declared.shape.Shape.{Shape}
-use Rattle.cdi_accepted.specs.of_check.Problems.{AreProblemsOf}
+use Rattle.cdi_check.specs.Problems.{AreProblemsOf}
 use Rattle.cdi_deployment.specs.declared.deployment.Deployment.{Deployment}
 use Rattle.cdi_lines.specs.Ends.{WritesAll}
 use Rattle.cdi_lines.specs.declared.sink.WriteFailed.{WriteFailed}
-use Rattle.cdi_report.specs.of_prepare.Ready.{Readied}
-use Rattle.cdi_report.specs.of_prepare.Scripts.{registered}
-use Rattle.cdi_report.specs.of_prepare.declared.scripts.NamedScript.{NamedScript}
+use Rattle.cdi_prepare.specs.Ready.{Readied}
+use Rattle.cdi_prepare.specs.Scripts.{registered}
+use Rattle.cdi_prepare.specs.declared.scripts.NamedScript.{NamedScript}
 use Rattle.cdi_problems.specs.declared.problem.Problem.{Problem}
 use Rattle.cdi_report.specs.OneReport.{IsSettled, OneReport, SameReport}
 use Rattle.cdi_report.specs.Reports.{AreFindings, AreProblemsWith, ReportsOn, TellsProblems, Told, Writes, verdict_of}

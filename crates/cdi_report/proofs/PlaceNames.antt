@@ -2,8 +2,8 @@
 use Rattle.std.proofs.Common.{ℕ, List, All, IfOk}
 use Rattle.std.proofs.lemmas.List.Elements.{All-from_recursion}
 use Rattle.std.proofs.lemmas.Result.{IfOk-weaker}
-use Rattle.cdi_report.specs.of_prepare.Ready.{Readied, readied_in}
-use Rattle.cdi_report.specs.of_prepare.Scripts.{registered}
+use Rattle.cdi_prepare.specs.Ready.{Readied, readied_in}
+use Rattle.cdi_prepare.specs.Scripts.{registered}
 use Rattle.cdi_problems.specs.declared.problem.Problem.{Problem}
 use Rattle.cdi_report.specs.PlaceNames.{PlacesHaveNames}
 use Rattle.cdi_report.specs.Reports.{AreProblemsWith}

@@ -6,12 +6,12 @@ use Rattle.std.proofs.lemmas.List.FromFn.{length-enumerate_from}
 use Rattle.std.specs.List.{enumerate_from}
 use Rattle.cdi_base.specs.declared.place.InterceptorMethod.{InterceptorMethod}
 use Rattle.cdi_base.specs.declared.place.InterceptorMethod.TheVariants as methods
-use Rattle.cdi_run_tables.specs.of_beans.declared.bean.Bean.{Bean}
-use Rattle.cdi_run_tables.specs.of_beans.declared.bean.BeanMember.{BeanMember}
-use Rattle.cdi_run_tables.specs.of_beans.declared.bean.EnabledInterceptor.{EnabledInterceptor}
-use Rattle.cdi_run_tables.specs.of_plans.Bindings.{bindings_had}
-use Rattle.cdi_run_tables.specs.of_plans.Chains.{ChainTables, chain_with, class_level, intercepts, interceptors_of, invoke_chain, is_bound, life_chain, member_level, places_from}
-use Rattle.cdi_run_tables.specs.of_numbered_plans.Numbers.{are_numbers, is_number}
+use Rattle.cdi_beans.specs.declared.bean.Bean.{Bean}
+use Rattle.cdi_beans.specs.declared.bean.BeanMember.{BeanMember}
+use Rattle.cdi_beans.specs.declared.bean.EnabledInterceptor.{EnabledInterceptor}
+use Rattle.cdi_plans.specs.Bindings.{bindings_had}
+use Rattle.cdi_plans.specs.Chains.{ChainTables, chain_with, class_level, intercepts, interceptors_of, invoke_chain, is_bound, life_chain, member_level, places_from}
+use Rattle.cdi_numbered_plans.specs.Numbers.{are_numbers, is_number}
 use Rattle.cdi_quals.specs.declared.qualifier.Qualifier.{Qualifier}
 use Rattle.cdi_report.proofs.Lengths.{filter_no_longer}
 

@@ -2,16 +2,16 @@
 use Rattle.std.proofs.Common.{◌≡◌, ◌+◌, ◌*◌, ◌≤◌, List, [], ◌∷◌, ◌++◌, filter, length, map, Option, refl, arith, length-append}
 use Rattle.std.proofs.lemmas.List.{length-map}
 use Rattle.std.specs.List.{AllByRecursion, filter_map}
-use Rattle.cdi_run_tables.specs.of_beans.declared.bean.Bean.{Bean}
-use Rattle.cdi_run_tables.specs.of_plans.Chains.{ChainTables, interceptors_of}
+use Rattle.cdi_beans.specs.declared.bean.Bean.{Bean}
+use Rattle.cdi_plans.specs.Chains.{ChainTables, interceptors_of}
 use Rattle.cdi_deployment.specs.declared.deployment.Class.{Class}
 use Rattle.cdi_deployment.specs.declared.deployment.Constructor.{Constructor}
 use Rattle.cdi_deployment.specs.declared.deployment.Member.{Member}
 use Rattle.cdi_types.specs.Members.{comes_down, members_of, parts_of}
-use Rattle.cdi_run_tables.specs.of_plans.Codes.{completion}
-use Rattle.cdi_run_tables.specs.of_plans.Steps.{class_steps, construction, initialization, injection, injections, steps_of}
-use Rattle.cdi_run_tables.specs.of_plans.declared.plan.Step.{Step}
-use Rattle.cdi_run_tables.specs.of_plans.declared.plan.Step.TheVariants as steps
+use Rattle.cdi_plans.specs.Codes.{completion}
+use Rattle.cdi_plans.specs.Steps.{class_steps, construction, initialization, injection, injections, steps_of}
+use Rattle.cdi_plans.specs.declared.plan.Step.{Step}
+use Rattle.cdi_plans.specs.declared.plan.Step.TheVariants as steps
 use Rattle.cdi_report.proofs.Lengths.{filter_map_no_longer, filter_no_longer}
 use Rattle.cdi_report.proofs.Places.{few_instances}
 use Rattle.cdi_report.proofs.Within.{HasFew, HasFewMembers}

@@ -3,7 +3,7 @@ use Rattle.std.proofs.Common.{ℕ, Option, Some, None, IfSome, length, option_an
 use Rattle.std.specs.List.{AllByRecursion}
 use Rattle.cdi_base.specs.declared.place.InterceptorMethod.{InterceptorMethod}
 use Rattle.cdi_base.specs.declared.place.InterceptorMethod.TheVariants as methods
-use Rattle.cdi_accepted.specs.of_body_check.Sites.{Site, class_sites, constructor_site, interceptor_sites, member_body, member_site, method_body, place_of, sites_of}
+use Rattle.cdi_body_check.specs.Sites.{Site, class_sites, constructor_site, interceptor_sites, member_body, member_site, method_body, place_of, sites_of}
 use Rattle.cdi_deployment.specs.KnownNames.{IsKnown, KnowsClass, KnowsInterceptor, KnowsMember}
 use Rattle.cdi_deployment.specs.declared.deployment.Class.{Class}
 use Rattle.cdi_deployment.specs.declared.deployment.Constructor.{Constructor}

@@ -4,24 +4,24 @@ use Rattle.std.specs.Prelude.{IsTrue}
 use Rattle.std.proofs.lemmas.Bool.{and_from, le-leb, lt-ltb}
 use Rattle.std.proofs.lemmas.Slice.Zip.{AllZip-long}
 use Rattle.std.specs.List.{AllByRecursion, AllZip, flat_map, list_all}
-use Rattle.cdi_run_tables.specs.of_bean_rules.Limits.{bean_count}
-use Rattle.cdi_run_tables.specs.of_beans.Beans.{IsBeanOf, sources_in}
-use Rattle.cdi_run_tables.specs.of_beans.declared.bean.Bean.{Bean}
-use Rattle.cdi_run_tables.specs.of_beans.declared.bean.BeanList.{BeanList}
+use Rattle.cdi_bean_rules.specs.Limits.{bean_count}
+use Rattle.cdi_beans.specs.Beans.{IsBeanOf, sources_in}
+use Rattle.cdi_beans.specs.declared.bean.Bean.{Bean}
+use Rattle.cdi_beans.specs.declared.bean.BeanList.{BeanList}
 use Rattle.cdi_deployment.specs.Limits.{is_within}
 use Rattle.cdi_deployment.specs.declared.deployment.Deployment.{Deployment}
-use Rattle.cdi_run_tables.specs.of_plans.Plans.{IsManagedPlan, IsPlanOf, constructor_of}
-use Rattle.cdi_run_tables.specs.of_plans.Steps.{steps_of}
-use Rattle.cdi_run_tables.specs.of_plans.Tables.{PlanTables}
-use Rattle.cdi_run_tables.specs.of_plans.declared.plan.ManagedPlan.{ManagedPlan}
-use Rattle.cdi_run_tables.specs.of_plans.declared.plan.Plan.{Plan}
+use Rattle.cdi_plans.specs.Plans.{IsManagedPlan, IsPlanOf, constructor_of}
+use Rattle.cdi_plans.specs.Steps.{steps_of}
+use Rattle.cdi_plans.specs.Tables.{PlanTables}
+use Rattle.cdi_plans.specs.declared.plan.ManagedPlan.{ManagedPlan}
+use Rattle.cdi_plans.specs.declared.plan.Plan.{Plan}
 use Rattle.cdi_run_tables.specs.Managed.{injections_of, managed_of}
 use Rattle.cdi_run_tables.specs.Planned.{IsPlanned, IsTabled, plan_tables}
 use Rattle.cdi_run_tables.specs.Numbered.{has_few_beans}
 use Rattle.cdi_run_tables.specs.Sizes.{has_few_fields, has_few_injections, is_small}
 use Rattle.cdi_run_tables.specs.declared.planned.PlannedBean.{PlannedBean}
 use Rattle.cdi_run_tables.specs.declared.tables.RunTables.{RunTables}
-use Rattle.cdi_run_tables.specs.of_resolve.declared.bean_tables.BeanTables.{BeanTables}
+use Rattle.cdi_resolve.specs.declared.bean_tables.BeanTables.{BeanTables}
 use Rattle.cdi_report.proofs.BeanCounts.{as_many, few_beans}
 use Rattle.cdi_report.proofs.Each.{all_pass, each_item, each_zipped}
 use Rattle.cdi_report.proofs.Injections.{count, few_injections}

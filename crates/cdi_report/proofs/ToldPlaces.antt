@@ -2,8 +2,8 @@
 use Rattle.std.proofs.Common.{List, []}
 use Rattle.std.specs.List.{AllByRecursion}
 use Rattle.cdi_base.specs.declared.place.Place.{Place}
-use Rattle.cdi_accepted.specs.of_body_check.Findings.{ArePlacesOf as AreSitesOf}
-use Rattle.cdi_accepted.specs.of_body_check.Sites.{Site, sites_of}
+use Rattle.cdi_body_check.specs.Findings.{ArePlacesOf as AreSitesOf}
+use Rattle.cdi_body_check.specs.Sites.{Site, sites_of}
 use Rattle.cdi_deployment.specs.declared.deployment.Deployment.{Deployment}
 use Rattle.cdi_problems.specs.Elements.{Element, elements_of, place_of}
 use Rattle.cdi_problems.specs.Findings.{ArePlacesAfter, ArePlacesOf, Placed}

@@ -3,8 +3,8 @@ use Rattle.std.specs.Prelude.{ℕ, List, All, IfOk, IfSome, IsTrue}
 use Rattle.cdi_base.specs.Name.{is_name}
 use Rattle.cdi_base.specs.declared.place.Place.{Place}
 use Rattle.cdi_base.specs.declared.place.Place.TheVariants as places
-use Rattle.cdi_report.specs.of_prepare.Ready.{readied_in}
-use Rattle.cdi_report.specs.of_prepare.Scripts.{registered}
+use Rattle.cdi_prepare.specs.Ready.{readied_in}
+use Rattle.cdi_prepare.specs.Scripts.{registered}
 use Rattle.cdi_problems.specs.Places.{name_text}
 use Rattle.cdi_problems.specs.declared.problem.Problem.{Problem}
 use Rattle.cdi_report.specs.Reports.{AreProblemsWith}

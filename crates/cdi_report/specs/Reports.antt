@@ -2,15 +2,15 @@
 use Rattle.std.specs.Prelude.{◌≡◌, ℕ, Bool, true, false, List, [], ◌∷◌, codes, Option, Result, Ok, Err}
 use Rattle.std.specs.List.{flat_map}
 use Rattle.cdi_bodies.specs.declared.shape.Shape.{Shape}
-use Rattle.cdi_accepted.specs.of_check.Problems.{AreProblemsOf}
+use Rattle.cdi_check.specs.Problems.{AreProblemsOf}
 use Rattle.cdi_deployment.specs.declared.deployment.Deployment.{Deployment}
 use Rattle.cdi_lines.specs.declared.fault.ServeFault.TheVariants as faults
 use Rattle.cdi_lines.specs.declared.sink.WriteFailed.{WriteFailed}
 use Rattle.cdi_lines.specs.Ends.{WritesAll}
-use Rattle.cdi_report.specs.of_prepare.declared.scripts.NamedScript.{NamedScript}
-use Rattle.cdi_report.specs.of_prepare.FaultText.{line}
-use Rattle.cdi_report.specs.of_prepare.Ready.{Readied, readied_in}
-use Rattle.cdi_report.specs.of_prepare.Scripts.{registered, shape_under}
+use Rattle.cdi_prepare.specs.declared.scripts.NamedScript.{NamedScript}
+use Rattle.cdi_prepare.specs.FaultText.{line}
+use Rattle.cdi_prepare.specs.Ready.{Readied, readied_in}
+use Rattle.cdi_prepare.specs.Scripts.{registered, shape_under}
 use Rattle.cdi_problems.specs.declared.problem.Problem.{Problem}
 use Rattle.cdi_problems.specs.Words.{problem_text}
 use Rattle.cdi_report.specs.declared.verdict.Verdict.{Verdict}

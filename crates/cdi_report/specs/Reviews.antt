@@ -1,8 +1,8 @@
 -- The problems of the deployment that bytes are.
 use Rattle.std.specs.Prelude.{◌≡◌, ℕ, List, map, Option, None, Result, Ok, Err, IsSomeAnd}
-use Rattle.cdi_report.specs.of_prepare.Ready.{Readied}
-use Rattle.cdi_report.specs.of_prepare.Scripts.{registered}
-use Rattle.cdi_report.specs.of_prepare.declared.scripts.NamedScript.{NamedScript}
+use Rattle.cdi_prepare.specs.Ready.{Readied}
+use Rattle.cdi_prepare.specs.Scripts.{registered}
+use Rattle.cdi_prepare.specs.declared.scripts.NamedScript.{NamedScript}
 use Rattle.cdi_report.specs.Reports.{AreProblemsWith}
 use Rattle.cdi_report.specs.declared.reviewing.Review.{Review}
 use Rattle.cdi_name_uses.specs.StepNames.{script_names}

@@ -10,6 +10,3 @@ pub mod verdict;
 pub use reporting::report;
 pub use reviewing::{Review, review_bytes};
 pub use verdict::Verdict;
-// What callers name of the libraries below.
-pub use cdi_prepare;
-pub use cdi_run_tables;

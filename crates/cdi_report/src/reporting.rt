@@ -1,7 +1,7 @@
 //! A report on a deployment, from its bytes to the bytes of the output.
 ghost use Rattle.std.specs.Prelude.{◌≡◌, ◌≤◌, length, Bool, IfOk, OnOk, IsTrue};
 ghost use Rattle.cdi_lines.specs.Served.{Blames};
-ghost use Rattle.cdi_report.specs.of_prepare.Ready.{ready_of};
+ghost use Rattle.cdi_prepare.specs.Ready.{ready_of};
 ghost use Rattle.cdi_report.specs.Reports as spec;
 ghost use Rattle.cdi_report.specs.Verdicts.{outcome_of};
 

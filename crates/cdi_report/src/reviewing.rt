@@ -1,12 +1,12 @@
 //! The problems of a deployment, from its bytes.
 ghost use Rattle.std.specs.Prelude.{◌≡◌, ◌≤◌, length, IfOk, IsSomeAnd};
-ghost use Rattle.cdi_report.specs.of_prepare.Ready.{readied_in, ready_of};
+ghost use Rattle.cdi_prepare.specs.Ready.{readied_in, ready_of};
 ghost use Rattle.cdi_report.specs.Reviews as spec;
 ghost use Rattle.cdi_script.specs.Next.{next_of};
 
-use cdi_accepted::cdi_check::check;
 use cdi_base::{Act, Fields, OrMemory, Seq};
 use cdi_bodies::{AddError, Bodies, Body, MAX_BODIES, View};
+use cdi_check::check;
 use cdi_deployment::Deployment;
 use cdi_name_uses::ScriptNames;
 use cdi_prepare::{NamedScript, Prepared, prepare};

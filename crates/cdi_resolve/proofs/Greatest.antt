@@ -5,7 +5,7 @@ use Rattle.std.proofs.lemmas.Cmp.{int_eq_equiv}
 use Rattle.std.specs.Int.{int_max}
 use Rattle.std.specs.List.{list_any}
 use Rattle.std.specs.Prelude.{fold, int_lt, is_some}
-use Rattle.cdi_resolve.specs.of_beans.declared.bean.Bean.{Bean}
+use Rattle.cdi_beans.specs.declared.bean.Bean.{Bean}
 use Rattle.cdi_resolve.specs.Filters.{has_priority, is_priority}
 use Rattle.cdi_resolve.specs.Resolution.{all_have_priority, greater, greatest_priority, with_greatest, highest}
 

@@ -8,5 +8,3 @@ pub mod Rows
 pub mod Greatest
 pub mod One
 pub mod Sole
-pub use Rattle.cdi_beans.proofs as of_beans
-pub use Rattle.cdi_enable.proofs as of_enable

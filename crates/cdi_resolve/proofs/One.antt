@@ -5,7 +5,7 @@ use Rattle.std.proofs.lemmas.Option.{slice_get-get_or}
 use Rattle.std.specs.List.{enumerate_from, list_any}
 use Rattle.std.specs.Prelude.{ℤ, Contains, slice_get}
 use Rattle.cdi_base.specs.Maps.{at}
-use Rattle.cdi_resolve.specs.of_beans.declared.bean.Bean.{Bean}
+use Rattle.cdi_beans.specs.declared.bean.Bean.{Bean}
 use Rattle.cdi_resolve.proofs.Sole.{sole_left}
 use Rattle.cdi_resolve.specs.Candidates.{among_eligible, by_priority, candidates, left, place_if, place_of}
 use Rattle.cdi_quals.specs.declared.qualifier.Qualifier.{Qualifier}

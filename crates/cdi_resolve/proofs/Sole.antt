@@ -1,7 +1,7 @@
 -- What resolution gives is the sole bean that is left.
 use Rattle.std.proofs.Common.{◌≡◌, ℕ, ℤ, ◌||◌, Bool, true, false, cond, List, [], ◌∷◌, Option, Some, None, refl}
 use Rattle.std.specs.List.{list_any}
-use Rattle.cdi_resolve.specs.of_beans.declared.bean.Bean.{Bean}
+use Rattle.cdi_beans.specs.declared.bean.Bean.{Bean}
 use Rattle.cdi_resolve.proofs.Greatest.{none_left, some_left, is_own, highest_some}
 use Rattle.cdi_resolve.specs.Candidates.{among_eligible, by_priority}
 use Rattle.cdi_resolve.specs.Resolution as resolution

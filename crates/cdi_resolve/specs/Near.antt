@@ -1,12 +1,12 @@
 -- The beans that nearly have a type and qualifiers (Jakarta CDI 4.0, Typesafe resolution, Enabled and disabled beans).
 use Rattle.std.specs.Prelude.{ℕ, ◌==◌, ◌&&◌, Bool, true, false, not, List, [], ◌∷◌, map, filter, Option, Some, None, if◌then◌else◌}
 use Rattle.std.specs.List.{flat_map, list_any, enumerate_from}
-use Rattle.cdi_resolve.specs.of_beans.declared.bean.Bean.{Bean}
+use Rattle.cdi_beans.specs.declared.bean.Bean.{Bean}
 use Rattle.cdi_resolve.specs.Candidates.{place_of}
 use Rattle.cdi_resolve.specs.declared.near.Lack.{Lack}
 use Rattle.cdi_resolve.specs.declared.near.Lack.TheVariants as lacks
 use Rattle.cdi_resolve.specs.declared.near.NearBean.{NearBean}
-use Rattle.cdi_resolve.specs.of_enable.Enablement.{is_selected}
+use Rattle.cdi_enable.specs.Enablement.{is_selected}
 use Rattle.cdi_quals.specs.Qualifiers.{has, has_all}
 use Rattle.cdi_quals.specs.declared.qualifier.Qualifier.{Qualifier}
 use Rattle.cdi_resolve.specs.Filters.{Candidates, enabled_of, has_type, is_enabled, required}

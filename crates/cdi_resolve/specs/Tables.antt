@@ -1,6 +1,6 @@
 -- The tables of a deployment by which its points resolve.
 use Rattle.std.specs.Prelude.{List, Option, Some, None}
-use Rattle.cdi_resolve.specs.of_beans.Problems.{AreAllProblemsOf}
+use Rattle.cdi_beans.specs.Problems.{AreAllProblemsOf}
 use Rattle.cdi_deployment.specs.declared.deployment.Deployment.{Deployment}
 use Rattle.cdi_problems.specs.declared.problem.Problem.{Problem}
 use Rattle.cdi_resolve.specs.BeanTables.{AreTablesOf}

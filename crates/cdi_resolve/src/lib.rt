@@ -28,7 +28,3 @@ pub use resolution::Resolution;
 pub use resolver::Resolver;
 pub use resolving::Resolving;
 pub use tables::tables_of;
-// What callers name of the libraries below.
-pub use cdi_enable;
-pub use cdi_enable::{cdi_bean_check, cdi_beans};
-pub use cdi_plans;

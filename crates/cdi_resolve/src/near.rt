@@ -1,8 +1,8 @@
 //! The beans that nearly have what a point asks for.
 ghost use Rattle.std.specs.Prelude.{◌≡◌, ◌++◌, IfOk, OnOk};
-ghost use Rattle.cdi_resolve.specs.of_bean_check.Qualifiers.{full_uses};
+ghost use Rattle.cdi_bean_check.specs.Qualifiers.{full_uses};
 ghost use Rattle.cdi_resolve.specs.Near as spec;
-ghost use Rattle.cdi_resolve.specs.of_enable.Enablement as enablement;
+ghost use Rattle.cdi_enable.specs.Enablement as enablement;
 ghost use Rattle.cdi_resolve.specs.Filters as filters;
 
 use crate::BeanTables;

@@ -1,7 +1,7 @@
 //! What is left for what a point asks for.
 ghost use Rattle.std.specs.Prelude.{◌≡◌, map, IfOk};
 ghost use Rattle.cdi_base.specs.Maps.{at};
-ghost use Rattle.cdi_resolve.specs.of_bean_check.Qualifiers.{full_uses};
+ghost use Rattle.cdi_bean_check.specs.Qualifiers.{full_uses};
 ghost use Rattle.cdi_resolve.specs.Candidates as spec;
 ghost use Rattle.cdi_resolve.specs.Filters.{enabled_of};
 

@@ -1,6 +1,6 @@
 //! The enabled beans that have a type and qualifiers.
 ghost use Rattle.std.specs.Prelude.{◌≡◌, ◌&&◌, filter, IfOk};
-ghost use Rattle.cdi_resolve.specs.of_bean_check.Qualifiers as written;
+ghost use Rattle.cdi_bean_check.specs.Qualifiers as written;
 ghost use Rattle.cdi_quals.specs.Qualifiers as quals;
 ghost use Rattle.cdi_resolve.specs.Filters as filters;
 ghost use Rattle.cdi_resolve.specs.Resolution as spec;

@@ -3,7 +3,7 @@ ghost use Rattle.std.specs.Prelude.{◌≡◌, unwrap_or, map};
 ghost use Rattle.std.specs.List.{list_any};
 ghost use Rattle.std.specs.Option.{option_copied};
 ghost use Rattle.cdi_quals.specs.Qualifiers as quals;
-ghost use Rattle.cdi_enable.specs.of_bean_check.Qualifiers.{full_uses};
+ghost use Rattle.cdi_bean_check.specs.Qualifiers.{full_uses};
 ghost use Rattle.cdi_resolve.specs.Filters as spec;
 ghost use Rattle.cdi_resolve.specs.WrittenUses.{use_with};
 

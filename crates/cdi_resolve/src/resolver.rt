@@ -2,7 +2,7 @@
 ghost use Rattle.std.specs.Prelude.{◌≡◌, IfOk};
 ghost use Rattle.std.specs.Option.{option_copied};
 ghost use Rattle.cdi_base.specs.Maps.{at};
-ghost use Rattle.cdi_enable.specs.of_bean_check.Qualifiers.{full_uses};
+ghost use Rattle.cdi_bean_check.specs.Qualifiers.{full_uses};
 ghost use Rattle.cdi_resolve.specs.Filters.{required_of, enabled_of};
 ghost use Rattle.cdi_resolve.specs.Narrowing.{eligible_of as eligible_in};
 ghost use Rattle.cdi_resolve.specs.Resolution as spec;

@@ -1,7 +1,7 @@
 //! The tables of a deployment by which its points resolve.
 ghost use Rattle.std.specs.Prelude.{IfOk, IsSomeAnd};
-ghost use Rattle.cdi_resolve.specs.of_beans.Declarations.{AreDeclaredBy};
-ghost use Rattle.cdi_resolve.specs.of_beans.Problems.{IsMadeOf};
+ghost use Rattle.cdi_beans.specs.Declarations.{AreDeclaredBy};
+ghost use Rattle.cdi_beans.specs.Problems.{IsMadeOf};
 ghost use Rattle.cdi_resolve.specs.Tables as spec;
 ghost use Rattle.cdi_resolve.specs.BeanTables.{AreTablesOf};
 

@@ -6,11 +6,11 @@ use Rattle.std.specs.List.{All, AllZip, list_all}
 use Rattle.std.proofs.lemmas.Bool.{and_parts, ltb-true}
 use Rattle.std.proofs.lemmas.List.{length-map}
 use Rattle.std.proofs.lemmas.List.Elements.{All-nil}
-use Rattle.cdi_numbered_plans.specs.of_bean_check.Qualifiers.{full_uses}
-use Rattle.cdi_numbered_plans.specs.of_beans.declared.bean.EnabledInterceptor.{EnabledInterceptor}
+use Rattle.cdi_bean_check.specs.Qualifiers.{full_uses}
+use Rattle.cdi_beans.specs.declared.bean.EnabledInterceptor.{EnabledInterceptor}
 use Rattle.cdi_deployment.specs.declared.deployment.InjectedField.{InjectedField}
 use Rattle.cdi_deployment.specs.declared.deployment.Interceptor.{Interceptor}
-use Rattle.cdi_numbered_plans.specs.of_event_tables.Ids.{id_in}
+use Rattle.cdi_event_tables.specs.Ids.{id_in}
 use Rattle.cdi_machine.specs.Resolved.{IsResolvedStep}
 use Rattle.cdi_machine.specs.Told.{step_told}
 use Rattle.cdi_machine.specs.declared.step.Step.{Step}
@@ -18,8 +18,8 @@ use Rattle.cdi_numbered_plans.specs.Machine.{machine_injection}
 use Rattle.cdi_numbered_plans.specs.Plans.{AreInjectionsBy}
 use Rattle.cdi_numbered_plans.specs.declared.numbering.Numbering.{Numbering}
 use Rattle.cdi_quals.specs.declared.types.QualifierType.{QualifierType}
-use Rattle.cdi_numbered_plans.specs.of_resolve.Filters.{Candidates, enabled_of}
-use Rattle.cdi_numbered_plans.specs.of_resolve.Resolution.{resolution}
+use Rattle.cdi_resolve.specs.Filters.{Candidates, enabled_of}
+use Rattle.cdi_resolve.specs.Resolution.{resolution}
 use Rattle.cdi_run_tables.proofs.NumberedParts.{numbers_of}
 use Rattle.cdi_run_tables.specs.Index.{ArePlannedBy, AreStepsOf, IsNumberingOf}
 use Rattle.cdi_run_tables.specs.Interceptors.{injecting, plan_of}

@@ -1,7 +1,7 @@
 -- The bean with an index, if it is enabled.
 use Rattle.std.proofs.Common.{ℕ, ◌≡◌, Bool, true, false, cond, Option, Some, None, ap, sym}
 use Rattle.std.specs.Prelude.{slice_get}
-use Rattle.cdi_numbered_plans.specs.of_resolve.Filters.{is_enabled}
+use Rattle.cdi_resolve.specs.Filters.{is_enabled}
 use Rattle.cdi_run_tables.specs.Machine.{planned_at}
 use Rattle.cdi_run_tables.specs.declared.parts.RunParts.{RunParts}
 use Rattle.cdi_run_tables.specs.declared.planned.PlannedBean.{PlannedBean}

@@ -5,24 +5,24 @@ use Rattle.std.specs.List.{cons_option, filter_map}
 use Rattle.std.specs.Ordering.{int_eq}
 use Rattle.std.proofs.lemmas.Option.{same_Some}
 use Rattle.cdi_base.specs.declared.uses.Use.{Use}
-use Rattle.cdi_numbered_plans.specs.of_bean_check.Qualifiers.{full_uses}
-use Rattle.cdi_numbered_plans.specs.of_beans.declared.bean.ObserverMethod.{ObserverMethod}
+use Rattle.cdi_bean_check.specs.Qualifiers.{full_uses}
+use Rattle.cdi_beans.specs.declared.bean.ObserverMethod.{ObserverMethod}
 use Rattle.cdi_deployment.specs.declared.deployment.Class.{Class}
 use Rattle.cdi_deployment.specs.declared.deployment.Observer.{Observer}
 use Rattle.cdi_machine.specs.Tables as machine
 use Rattle.cdi_machine.specs.Words.{Name}
 use Rattle.cdi_numbered_plans.specs.Machine as numbered
-use Rattle.cdi_numbered_plans.specs.of_plans.Observers.{observer_method, observer_of}
-use Rattle.cdi_numbered_plans.specs.of_plans.declared.plan.InjectedMethod.{InjectedMethod}
-use Rattle.cdi_numbered_plans.specs.of_resolve.Filters.{is_enabled}
-use Rattle.cdi_numbered_plans.specs.of_event_tables.Events as events
-use Rattle.cdi_numbered_plans.specs.of_event_tables.Ids.{id_in}
-use Rattle.cdi_numbered_plans.specs.of_event_tables.Events.{Group, groups_of, with_observer}
-use Rattle.cdi_numbered_plans.specs.of_event_tables.Observers as planned
-use Rattle.cdi_numbered_plans.specs.of_event_tables.Observers.{is_heard_by, managed_bean, member_of, planned_with, with_planned, with_told}
-use Rattle.cdi_numbered_plans.specs.of_event_tables.declared.observer_groups.ObserverGroup.{ObserverGroup}
-use Rattle.cdi_numbered_plans.specs.of_event_tables.declared.observers.PlannedObserver.{PlannedObserver}
-use Rattle.cdi_numbered_plans.proofs.of_event_tables.Grouped.{added, back, front, grouped, grouped_by_back, items, kept, told, told_of, with_item}
+use Rattle.cdi_plans.specs.Observers.{observer_method, observer_of}
+use Rattle.cdi_plans.specs.declared.plan.InjectedMethod.{InjectedMethod}
+use Rattle.cdi_resolve.specs.Filters.{is_enabled}
+use Rattle.cdi_event_tables.specs.Events as events
+use Rattle.cdi_event_tables.specs.Ids.{id_in}
+use Rattle.cdi_event_tables.specs.Events.{Group, groups_of, with_observer}
+use Rattle.cdi_event_tables.specs.Observers as planned
+use Rattle.cdi_event_tables.specs.Observers.{is_heard_by, managed_bean, member_of, planned_with, with_planned, with_told}
+use Rattle.cdi_event_tables.specs.declared.observer_groups.ObserverGroup.{ObserverGroup}
+use Rattle.cdi_event_tables.specs.declared.observers.PlannedObserver.{PlannedObserver}
+use Rattle.cdi_event_tables.proofs.Grouped.{added, back, front, grouped, grouped_by_back, items, kept, told, told_of, with_item}
 use Rattle.cdi_run_tables.specs.Machine as whole
 use Rattle.cdi_run_tables.specs.Machine.{has_none, observers_of}
 use Rattle.cdi_run_tables.specs.Observers.{heard_among, planned_groups}

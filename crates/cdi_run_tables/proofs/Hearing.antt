@@ -5,8 +5,8 @@ use Rattle.std.specs.List.{All, AllZip, cons_option, slice_range}
 use Rattle.std.proofs.lemmas.Bool.{true≢false}
 use Rattle.std.proofs.lemmas.List.{length-take-le, take_more}
 use Rattle.std.proofs.lemmas.List.Elements.{All-cons, All-nil}
-use Rattle.cdi_numbered_plans.specs.of_event_tables.declared.observer_groups.ObserverGroup.{ObserverGroup}
-use Rattle.cdi_numbered_plans.specs.of_event_tables.declared.observers.PlannedObserver.{PlannedObserver}
+use Rattle.cdi_event_tables.specs.declared.observer_groups.ObserverGroup.{ObserverGroup}
+use Rattle.cdi_event_tables.specs.declared.observers.PlannedObserver.{PlannedObserver}
 use Rattle.cdi_machine.specs.declared.member.Observer.{Observer}
 use Rattle.cdi_machine.specs.Tables as machine
 use Rattle.cdi_run_tables.specs.Machine.{has_none}

@@ -5,11 +5,11 @@ use Rattle.std.specs.declared.alloc.AllocError.{AllocError}
 use Rattle.std.specs.List.{All, AllByRecursion, AllZip}
 use Rattle.std.proofs.lemmas.Bool.{and_from}
 use Rattle.cdi_base.specs.declared.uses.Use.{Use}
-use Rattle.cdi_numbered_plans.specs.of_bean_check.Qualifiers.{full_uses}
-use Rattle.cdi_numbered_plans.specs.of_event_tables.Ids.{id_in}
-use Rattle.cdi_numbered_plans.specs.of_event_tables.declared.ids.BodyIds.{BodyIds}
-use Rattle.cdi_numbered_plans.specs.of_event_tables.declared.observer_groups.ObserverGroup.{ObserverGroup}
-use Rattle.cdi_numbered_plans.specs.of_event_tables.declared.tables.EventTables.{EventTables}
+use Rattle.cdi_bean_check.specs.Qualifiers.{full_uses}
+use Rattle.cdi_event_tables.specs.Ids.{id_in}
+use Rattle.cdi_event_tables.specs.declared.ids.BodyIds.{BodyIds}
+use Rattle.cdi_event_tables.specs.declared.observer_groups.ObserverGroup.{ObserverGroup}
+use Rattle.cdi_event_tables.specs.declared.tables.EventTables.{EventTables}
 use Rattle.cdi_machine.specs.Resolved.{IsResolvedObserver}
 use Rattle.cdi_machine.specs.Told.{observer_told}
 use Rattle.cdi_machine.specs.declared.member.Observer.{Observer}
@@ -18,8 +18,8 @@ use Rattle.cdi_numbered_plans.specs.Machine.{machine_observer}
 use Rattle.cdi_numbered_plans.specs.Numbers.{numbers_observers}
 use Rattle.cdi_numbered_plans.specs.declared.numbering.Numbering.{Numbering}
 use Rattle.cdi_quals.specs.declared.types.QualifierType.{QualifierType}
-use Rattle.cdi_numbered_plans.specs.of_resolve.Filters.{Candidates, enabled_of}
-use Rattle.cdi_numbered_plans.specs.of_resolve.Resolution.{resolution}
+use Rattle.cdi_resolve.specs.Filters.{Candidates, enabled_of}
+use Rattle.cdi_resolve.specs.Resolution.{resolution}
 use Rattle.cdi_run_tables.proofs.Heard.{heard_observers, hears_it}
 use Rattle.cdi_run_tables.proofs.Hearing.{groups_same, groups_so}
 use Rattle.cdi_run_tables.proofs.NumberedParts.{numbers_of}

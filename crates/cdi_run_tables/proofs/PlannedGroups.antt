@@ -5,16 +5,16 @@ use Rattle.std.specs.List.{AllByRecursion, list_all}
 use Rattle.std.specs.Ordering.{int_eq}
 use Rattle.std.proofs.lemmas.Bool.{and_from, and_parts, leb-true, lt-ltb}
 use Rattle.std.proofs.lemmas.Option.{same_Some}
-use Rattle.cdi_numbered_plans.specs.of_beans.declared.bean.ObserverMethod.{ObserverMethod}
-use Rattle.cdi_numbered_plans.specs.of_event_tables.Observers.{group_with, managed_bean, member_of, planned_observer, planned_of_bean, planned_with, with_next, with_planned, with_told}
-use Rattle.cdi_numbered_plans.specs.of_event_tables.declared.ids.BodyIds.{BodyIds}
-use Rattle.cdi_numbered_plans.specs.of_event_tables.declared.observer_groups.ObserverGroup.{ObserverGroup}
-use Rattle.cdi_numbered_plans.specs.of_event_tables.declared.observers.PlannedObserver.{PlannedObserver}
+use Rattle.cdi_beans.specs.declared.bean.ObserverMethod.{ObserverMethod}
+use Rattle.cdi_event_tables.specs.Observers.{group_with, managed_bean, member_of, planned_observer, planned_of_bean, planned_with, with_next, with_planned, with_told}
+use Rattle.cdi_event_tables.specs.declared.ids.BodyIds.{BodyIds}
+use Rattle.cdi_event_tables.specs.declared.observer_groups.ObserverGroup.{ObserverGroup}
+use Rattle.cdi_event_tables.specs.declared.observers.PlannedObserver.{PlannedObserver}
 use Rattle.cdi_numbered_plans.proofs.Within.{managed_within}
 use Rattle.cdi_numbered_plans.specs.Numbers.{is_number, numbers_member, numbers_observer, numbers_observers, observers_have_numbers}
-use Rattle.cdi_numbered_plans.specs.of_plans.Tables.{PlanTables}
-use Rattle.cdi_numbered_plans.specs.of_plans.declared.plan.InjectedMethod.{InjectedMethod}
-use Rattle.cdi_numbered_plans.specs.of_resolve.Filters.{Candidates, is_enabled}
+use Rattle.cdi_plans.specs.Tables.{PlanTables}
+use Rattle.cdi_plans.specs.declared.plan.InjectedMethod.{InjectedMethod}
+use Rattle.cdi_resolve.specs.Filters.{Candidates, is_enabled}
 use Rattle.cdi_run_tables.proofs.NumberedParts.{numbers_of}
 use Rattle.cdi_run_tables.specs.Numbered.{is_numbered}
 use Rattle.cdi_run_tables.specs.Observers.{group_has_numbers, planned_groups}

@@ -6,10 +6,10 @@ use Rattle.std.specs.List.{All, list_all}
 use Rattle.std.specs.Option.{option_copied}
 use Rattle.std.proofs.lemmas.Bool.{and_from, and_parts, ltb-true}
 use Rattle.std.proofs.lemmas.List.{length-map}
-use Rattle.cdi_numbered_plans.specs.of_bean_check.Qualifiers.{full_uses}
-use Rattle.cdi_numbered_plans.specs.of_event_tables.Ids.{id_in}
-use Rattle.cdi_numbered_plans.specs.of_event_tables.Observers.{managed_bean}
-use Rattle.cdi_numbered_plans.specs.of_event_tables.declared.ids.BodyIds.{BodyIds}
+use Rattle.cdi_bean_check.specs.Qualifiers.{full_uses}
+use Rattle.cdi_event_tables.specs.Ids.{id_in}
+use Rattle.cdi_event_tables.specs.Observers.{managed_bean}
+use Rattle.cdi_event_tables.specs.declared.ids.BodyIds.{BodyIds}
 use Rattle.cdi_machine.specs.Told.{lifecycle_told, method_told, product_told, step_told}
 use Rattle.cdi_machine.specs.Tables as machine
 use Rattle.cdi_numbered_plans.specs.Methods.{method_by}
@@ -18,11 +18,11 @@ use Rattle.cdi_numbered_plans.specs.Plans.{IsNumberedPlan, IsResolvedIfAny, Tell
 use Rattle.cdi_numbered_plans.specs.declared.numbering.Numbering.{Numbering}
 use Rattle.cdi_numbered_plans.specs.declared.plan.NumberedPlan.{NumberedPlan}
 use Rattle.cdi_numbered_plans.specs.declared.plan.NumberedPlan.TheVariants as plans
-use Rattle.cdi_numbered_plans.specs.of_plans.declared.plan.Plan.{Plan}
-use Rattle.cdi_numbered_plans.specs.of_plans.declared.plan.Plan.TheVariants as plan_kinds
+use Rattle.cdi_plans.specs.declared.plan.Plan.{Plan}
+use Rattle.cdi_plans.specs.declared.plan.Plan.TheVariants as plan_kinds
 use Rattle.cdi_quals.specs.declared.types.QualifierType.{QualifierType}
-use Rattle.cdi_numbered_plans.specs.of_resolve.Filters.{Candidates, enabled_of}
-use Rattle.cdi_numbered_plans.specs.of_resolve.Resolution.{resolution}
+use Rattle.cdi_resolve.specs.Filters.{Candidates, enabled_of}
+use Rattle.cdi_resolve.specs.Resolution.{resolution}
 use Rattle.cdi_run_tables.proofs.Enabled.{if_enabled}
 use Rattle.cdi_run_tables.proofs.NumberedParts.{numbers_of}
 use Rattle.cdi_run_tables.specs.Index.{IsIndexAt, IsNumberedOf, IsNumberingOf}

@@ -1,13 +1,13 @@
 -- What is looked up of a deployment in a run.
 use Rattle.std.specs.Prelude.{◌≡◌, true, List, map, Option, Some, None, option_map, slice_get}
 use Rattle.std.specs.List.{All, AllZip}
-use Rattle.cdi_numbered_plans.specs.of_beans.declared.bean.EnabledInterceptor.{EnabledInterceptor}
-use Rattle.cdi_numbered_plans.specs.of_body_check.Exceptions.{is_checked}
+use Rattle.cdi_beans.specs.declared.bean.EnabledInterceptor.{EnabledInterceptor}
+use Rattle.cdi_body_check.specs.Exceptions.{is_checked}
 use Rattle.cdi_deployment.specs.declared.deployment.Interceptor.{Interceptor}
-use Rattle.cdi_numbered_plans.specs.of_event_tables.Ids.{id_in}
-use Rattle.cdi_numbered_plans.specs.of_event_tables.Tables.{AreEventTables}
-use Rattle.cdi_numbered_plans.specs.of_event_tables.declared.observer_groups.ObserverGroup.{ObserverGroup}
-use Rattle.cdi_numbered_plans.specs.of_event_tables.declared.tables.EventTables.{EventTables}
+use Rattle.cdi_event_tables.specs.Ids.{id_in}
+use Rattle.cdi_event_tables.specs.Tables.{AreEventTables}
+use Rattle.cdi_event_tables.specs.declared.observer_groups.ObserverGroup.{ObserverGroup}
+use Rattle.cdi_event_tables.specs.declared.tables.EventTables.{EventTables}
 use Rattle.cdi_machine.specs.Resolved.{IsResolvedObserver, IsResolvedStep}
 use Rattle.cdi_machine.specs.Told.{observer_told, step_told}
 use Rattle.cdi_machine.specs.declared.member.Observer.{Observer}
@@ -19,8 +19,8 @@ use Rattle.cdi_numbered_plans.specs.Numbers.{has_numbers, numbers_observers}
 use Rattle.cdi_numbered_plans.specs.Plans.{AreObserversBy, IsResolvedIfAny, TellsOf}
 use Rattle.cdi_numbered_plans.specs.declared.numbering.Numbering.{Numbering}
 use Rattle.cdi_numbered_plans.specs.declared.plan.NumberedPlan.{NumberedPlan}
-use Rattle.cdi_numbered_plans.specs.of_plans.declared.plan.Plan.{Plan}
-use Rattle.cdi_numbered_plans.specs.of_resolve.Filters.{Candidates, enabled_of}
+use Rattle.cdi_plans.specs.declared.plan.Plan.{Plan}
+use Rattle.cdi_resolve.specs.Filters.{Candidates, enabled_of}
 use Rattle.cdi_run_tables.specs.Asked.{AreTold}
 use Rattle.cdi_run_tables.specs.Interceptors.{plan_of}
 use Rattle.cdi_run_tables.specs.Machine.{machine_interceptor, machine_kind}

@@ -2,14 +2,14 @@
 use Rattle.std.specs.Prelude.{ℕ, ◌&&◌, List, map, filter, Bool, not, Option, None, option_map, option_and_then, slice_get, if◌then◌else◌}
 use Rattle.std.specs.List.{filter_map}
 use Rattle.cdi_base.specs.declared.uses.Use.{Use}
-use Rattle.cdi_numbered_plans.specs.of_bean_check.Qualifiers.{full_uses}
-use Rattle.cdi_numbered_plans.specs.of_beans.declared.bean.Bean.{Bean}
-use Rattle.cdi_numbered_plans.specs.of_beans.declared.bean.EnabledInterceptor.{EnabledInterceptor}
-use Rattle.cdi_numbered_plans.specs.of_beans.declared.bean.ObserverMethod.{ObserverMethod}
+use Rattle.cdi_bean_check.specs.Qualifiers.{full_uses}
+use Rattle.cdi_beans.specs.declared.bean.Bean.{Bean}
+use Rattle.cdi_beans.specs.declared.bean.EnabledInterceptor.{EnabledInterceptor}
+use Rattle.cdi_beans.specs.declared.bean.ObserverMethod.{ObserverMethod}
 use Rattle.cdi_bodies.specs.declared.entry.Entry.{Entry}
 use Rattle.cdi_bodies.specs.declared.shape.Lookup.{Lookup}
-use Rattle.cdi_numbered_plans.specs.of_body_check.Exceptions.{is_checked}
-use Rattle.cdi_numbered_plans.specs.of_body_check.Sites.{method_body}
+use Rattle.cdi_body_check.specs.Exceptions.{is_checked}
+use Rattle.cdi_body_check.specs.Sites.{method_body}
 use Rattle.cdi_deployment.specs.declared.deployment.Class.{Class}
 use Rattle.cdi_deployment.specs.declared.deployment.Deployment.{Deployment}
 use Rattle.cdi_deployment.specs.declared.deployment.InjectedField.{InjectedField}
@@ -19,17 +19,17 @@ use Rattle.cdi_machine.specs.Words.{Name, Asked}
 use Rattle.cdi_machine.specs.Tables as machine
 pub use Rattle.cdi_numbered_plans.specs.Machine.{asked_by, body_number, code_with, does_something, first_values, has_none, is_idle, machine_code, machine_kind, machine_lifecycle, machine_managed, machine_member, machine_method, machine_methods, machine_resolution, machine_source, machine_step, machine_steps, method_in, method_with, product_with}
 use Rattle.cdi_name_check.specs.UnknownName.{is_type, are_qualifiers}
-use Rattle.cdi_numbered_plans.specs.of_plans.Observers.{observer_of, observer_method}
-use Rattle.cdi_numbered_plans.specs.of_resolve.Filters.{enabled_of, is_enabled}
-use Rattle.cdi_numbered_plans.specs.of_resolve.Resolution.{resolution}
-use Rattle.cdi_numbered_plans.specs.of_resolve.declared.resolution.Resolution.{Resolution}
-use Rattle.cdi_numbered_plans.specs.of_event_tables.Events.{Group, groups_of, hears, written_uses}
-use Rattle.cdi_numbered_plans.specs.of_event_tables.Ids.{id_in, AreIdsIn}
-use Rattle.cdi_numbered_plans.specs.of_event_tables.Observers.{managed_bean}
+use Rattle.cdi_plans.specs.Observers.{observer_of, observer_method}
+use Rattle.cdi_resolve.specs.Filters.{enabled_of, is_enabled}
+use Rattle.cdi_resolve.specs.Resolution.{resolution}
+use Rattle.cdi_resolve.specs.declared.resolution.Resolution.{Resolution}
+use Rattle.cdi_event_tables.specs.Events.{Group, groups_of, hears, written_uses}
+use Rattle.cdi_event_tables.specs.Ids.{id_in, AreIdsIn}
+use Rattle.cdi_event_tables.specs.Observers.{managed_bean}
 use Rattle.cdi_run_tables.specs.declared.planned.PlannedBean.{PlannedBean}
 use Rattle.cdi_run_tables.specs.declared.tables.RunTables.{RunTables}
-use Rattle.cdi_numbered_plans.specs.of_body_check.WrittenPoints.{point_of_field, point_of_lookup}
-use Rattle.cdi_numbered_plans.specs.of_body_check.WrittenNames.{is_event}
+use Rattle.cdi_body_check.specs.WrittenPoints.{point_of_field, point_of_lookup}
+use Rattle.cdi_body_check.specs.WrittenNames.{is_event}
 
 -- ---- beans
 

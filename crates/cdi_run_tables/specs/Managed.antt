@@ -3,11 +3,11 @@ use Rattle.std.specs.Prelude.{List, [], Option, Some, None}
 use Rattle.std.specs.List.{filter_map}
 use Rattle.cdi_deployment.specs.declared.deployment.Point.{Point}
 use Rattle.cdi_machine.specs.Words.{Name, Fields}
-use Rattle.cdi_numbered_plans.specs.of_plans.declared.plan.ManagedPlan.{ManagedPlan}
-use Rattle.cdi_numbered_plans.specs.of_plans.declared.plan.Plan.{Plan}
-use Rattle.cdi_numbered_plans.specs.of_plans.declared.plan.Plan.TheVariants as plans
-use Rattle.cdi_numbered_plans.specs.of_plans.declared.plan.Step.{Step}
-use Rattle.cdi_numbered_plans.specs.of_plans.declared.plan.Step.TheVariants as steps
+use Rattle.cdi_plans.specs.declared.plan.ManagedPlan.{ManagedPlan}
+use Rattle.cdi_plans.specs.declared.plan.Plan.{Plan}
+use Rattle.cdi_plans.specs.declared.plan.Plan.TheVariants as plans
+use Rattle.cdi_plans.specs.declared.plan.Step.{Step}
+use Rattle.cdi_plans.specs.declared.plan.Step.TheVariants as steps
 use Rattle.cdi_run_tables.specs.Machine.{first_values}
 use Rattle.cdi_run_tables.specs.declared.planned.PlannedBean.{PlannedBean}
 

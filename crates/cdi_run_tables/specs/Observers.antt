@@ -1,9 +1,9 @@
 -- The observers of enabled beans, as they are kept for a run, and those that hear an event.
 use Rattle.std.specs.Prelude.{List, [], ◌∷◌, map, filter, Bool, false, not, Option, Some, None, if◌then◌else◌}
 use Rattle.std.specs.List.{cons_option, list_all}
-use Rattle.cdi_numbered_plans.specs.of_event_tables.Observers.{observer_groups}
-use Rattle.cdi_numbered_plans.specs.of_event_tables.declared.observer_groups.ObserverGroup.{ObserverGroup}
-use Rattle.cdi_numbered_plans.specs.of_event_tables.declared.observers.PlannedObserver.{PlannedObserver}
+use Rattle.cdi_event_tables.specs.Observers.{observer_groups}
+use Rattle.cdi_event_tables.specs.declared.observer_groups.ObserverGroup.{ObserverGroup}
+use Rattle.cdi_event_tables.specs.declared.observers.PlannedObserver.{PlannedObserver}
 use Rattle.cdi_machine.specs.declared.member.Observer.{Observer}
 use Rattle.cdi_numbered_plans.specs.Numbers.{observers_have_numbers}
 use Rattle.cdi_run_tables.specs.Machine.{has_none}

@@ -3,13 +3,13 @@ use Rattle.std.specs.Prelude.{◌≡◌}
 use Rattle.std.specs.List.{AllZip}
 use Rattle.cdi_base.specs.declared.place.Place.{Place}
 use Rattle.cdi_base.specs.declared.place.Place.TheVariants as places
-use Rattle.cdi_numbered_plans.specs.of_beans.declared.bean.Bean.{Bean}
-use Rattle.cdi_numbered_plans.specs.of_beans.declared.bean.BeanKind.TheVariants as kinds
+use Rattle.cdi_beans.specs.declared.bean.Bean.{Bean}
+use Rattle.cdi_beans.specs.declared.bean.BeanKind.TheVariants as kinds
 use Rattle.cdi_deployment.specs.declared.deployment.Deployment.{Deployment}
-use Rattle.cdi_numbered_plans.specs.of_plans.Plans.{IsPlanOf}
-use Rattle.cdi_numbered_plans.specs.of_plans.Tables.{PlanTables}
-use Rattle.cdi_numbered_plans.specs.of_resolve.BeanTables.{AreTablesOf}
-use Rattle.cdi_numbered_plans.specs.of_resolve.declared.bean_tables.BeanTables.{BeanTables}
+use Rattle.cdi_plans.specs.Plans.{IsPlanOf}
+use Rattle.cdi_plans.specs.Tables.{PlanTables}
+use Rattle.cdi_resolve.specs.BeanTables.{AreTablesOf}
+use Rattle.cdi_resolve.specs.declared.bean_tables.BeanTables.{BeanTables}
 use Rattle.cdi_run_tables.specs.declared.planned.PlannedBean.{PlannedBean}
 use Rattle.cdi_run_tables.specs.declared.tables.RunTables.{RunTables}
 

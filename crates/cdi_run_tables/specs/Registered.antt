@@ -2,16 +2,16 @@
 use Rattle.std.specs.Prelude.{ℕ, ◌≡◌, ◌&&◌, Bool, true, List, Option, Some, None, is_some}
 use Rattle.std.specs.List.{list_all}
 use Rattle.cdi_deployment.specs.declared.deployment.Interceptor.{Interceptor}
-use Rattle.cdi_numbered_plans.specs.of_event_tables.declared.observer_groups.ObserverGroup.{ObserverGroup}
-use Rattle.cdi_numbered_plans.specs.of_event_tables.declared.observers.PlannedObserver.{PlannedObserver}
-use Rattle.cdi_numbered_plans.specs.of_plans.declared.plan.Code.{Code}
-use Rattle.cdi_numbered_plans.specs.of_plans.declared.plan.InjectedMethod.{InjectedMethod}
-use Rattle.cdi_numbered_plans.specs.of_plans.declared.plan.Plan.{Plan}
-use Rattle.cdi_numbered_plans.specs.of_plans.declared.plan.Plan.TheVariants as plans
-use Rattle.cdi_numbered_plans.specs.of_plans.declared.plan.Source.{Source}
-use Rattle.cdi_numbered_plans.specs.of_plans.declared.plan.Source.TheVariants as sources
-use Rattle.cdi_numbered_plans.specs.of_plans.declared.plan.Step.{Step}
-use Rattle.cdi_numbered_plans.specs.of_plans.declared.plan.Step.TheVariants as steps
+use Rattle.cdi_event_tables.specs.declared.observer_groups.ObserverGroup.{ObserverGroup}
+use Rattle.cdi_event_tables.specs.declared.observers.PlannedObserver.{PlannedObserver}
+use Rattle.cdi_plans.specs.declared.plan.Code.{Code}
+use Rattle.cdi_plans.specs.declared.plan.InjectedMethod.{InjectedMethod}
+use Rattle.cdi_plans.specs.declared.plan.Plan.{Plan}
+use Rattle.cdi_plans.specs.declared.plan.Plan.TheVariants as plans
+use Rattle.cdi_plans.specs.declared.plan.Source.{Source}
+use Rattle.cdi_plans.specs.declared.plan.Source.TheVariants as sources
+use Rattle.cdi_plans.specs.declared.plan.Step.{Step}
+use Rattle.cdi_plans.specs.declared.plan.Step.TheVariants as steps
 use Rattle.cdi_run_tables.specs.Machine.{declared_at, id_of, planned_at}
 use Rattle.cdi_run_tables.specs.Observers.{planned_groups}
 use Rattle.cdi_run_tables.specs.declared.planned.PlannedBean.{PlannedBean}

@@ -5,8 +5,8 @@ ghost use Rattle.cdi_run_tables.specs.Machine.{resolution_of};
 ghost use Rattle.cdi_run_tables.specs.declared.parts.RunParts.{RunParts as Parts};
 
 use cdi_base::{Name, Seq, Use};
-use cdi_numbered_plans::cdi_cache::WrittenQuestion;
-use cdi_numbered_plans::cdi_resolve::Resolution;
+use cdi_cache::WrittenQuestion;
+use cdi_resolve::Resolution;
 use lru::LruCache;
 use std::alloc::{AllocError, Global};
 use std::num::NonZeroUsize;

@@ -1,7 +1,7 @@
 //! Which observers hear an event.
 ghost use Rattle.std.specs.Prelude.{◌≡◌, map, slice_get, IfOk, IsTrue};
 ghost use Rattle.std.specs.List.{All};
-ghost use Rattle.cdi_numbered_plans.specs.of_event_tables.Observers.{is_heard_by};
+ghost use Rattle.cdi_event_tables.specs.Observers.{is_heard_by};
 ghost use Rattle.cdi_machine.specs.Resolved.{IsResolvedObserver};
 ghost use Rattle.cdi_machine.specs.Told.{observer_told};
 ghost use Rattle.cdi_run_tables.specs.Machine.{machine_tables};
@@ -10,10 +10,10 @@ ghost use Rattle.cdi_run_tables.specs.Observers as spec;
 
 use crate::tables::RunTables;
 use cdi_base::{Name, Seq, Use};
+use cdi_beans::DeclaredTables;
+use cdi_event_tables::heard::heard;
+use cdi_event_tables::{ObserverGroup, PlannedObserver};
 use cdi_machine::Observer;
-use cdi_numbered_plans::cdi_beans::DeclaredTables;
-use cdi_numbered_plans::cdi_event_tables::heard::heard;
-use cdi_numbered_plans::cdi_event_tables::{ObserverGroup, PlannedObserver};
 use std::alloc::{AllocError, Global};
 
 /// An event of a class with qualifiers, as they were written, in a deployment that declares types.

@@ -1,6 +1,6 @@
 //! Which exceptions are checked.
 ghost use Rattle.std.specs.Prelude.{◌≡◌, IfOk};
-ghost use Rattle.cdi_numbered_plans.specs.of_body_check.Exceptions as declared;
+ghost use Rattle.cdi_body_check.specs.Exceptions as declared;
 ghost use Rattle.cdi_name_check.specs.NameSets.{HasNames};
 ghost use Rattle.cdi_run_tables.specs.Machine as spec;
 

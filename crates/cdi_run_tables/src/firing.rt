@@ -4,8 +4,8 @@ ghost use Rattle.cdi_run_tables.specs.Machine as spec;
 
 use crate::tables::RunTables;
 use cdi_base::{Name, Seq, Use};
+use cdi_event_tables::written_uses;
 use cdi_name_check::{DeclaredNames, are_event_qualifiers};
-use cdi_numbered_plans::cdi_event_tables::written_uses;
 use std::alloc::{AllocError, Global};
 
 impl RunTables {

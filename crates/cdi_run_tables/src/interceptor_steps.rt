@@ -11,11 +11,11 @@ ghost use Rattle.cdi_run_tables.specs.Numbered.{is_numbered};
 use crate::parts::RunParts;
 use crate::tables::RunTables;
 use cdi_base::Seq;
+use cdi_beans::EnabledInterceptor;
+use cdi_cache::Lookup;
 use cdi_machine::Step;
-use cdi_numbered_plans::cdi_beans::EnabledInterceptor;
-use cdi_numbered_plans::cdi_cache::Lookup;
-use cdi_numbered_plans::cdi_resolve::Resolver;
 use cdi_numbered_plans::{Numbering, injections_by};
+use cdi_resolve::Resolver;
 use std::alloc::{AllocError, Global};
 
 /// The steps by which an instance of an enabled interceptor is created: its injected fields, in the order of their declaration.

@@ -1,7 +1,7 @@
 //! The enabled interceptors, by their places in their order (Jakarta Interceptors 2.1, *Interceptor Ordering*).
 ghost use Rattle.std.specs.Prelude.{◌≡◌, option_map, IfOk};
 ghost use Rattle.std.specs.Option.{option_copied};
-ghost use Rattle.cdi_numbered_plans.specs.of_body_check.Sites.{method_body};
+ghost use Rattle.cdi_body_check.specs.Sites.{method_body};
 ghost use Rattle.cdi_run_tables.specs.Interceptors as spec;
 ghost use Rattle.cdi_run_tables.specs.Machine as machine;
 

@@ -20,8 +20,5 @@ mod sizes;
 pub mod tables;
 mod well_formed;
 
-// What callers name of the libraries below.
-pub use cdi_numbered_plans::cdi_event_tables::{ObserverGroup, PlannedObserver};
-pub use cdi_numbered_plans::{cdi_beans, cdi_plans, cdi_resolve};
 pub use planned::PlannedBean;
 pub use tables::RunTables;

@@ -6,8 +6,8 @@ ghost use Rattle.cdi_run_tables.specs.Managed as spec;
 
 use crate::tables::RunTables;
 use cdi_base::Fields;
-use cdi_numbered_plans::cdi_plans::{ManagedPlan, Plan, Step};
 use cdi_numbered_plans::first_values;
+use cdi_plans::{ManagedPlan, Plan, Step};
 use std::alloc::{AllocError, Global};
 
 /// How many injected fields some steps have.

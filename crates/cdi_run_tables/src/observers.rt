@@ -8,11 +8,11 @@ ghost use Rattle.cdi_run_tables.specs.Observers as spec;
 use crate::parts::RunParts;
 use crate::tables::RunTables;
 use cdi_base::Seq;
+use cdi_cache::Lookup;
+use cdi_event_tables::{EventTables, ObserverGroup};
 use cdi_machine::Observer;
-use cdi_numbered_plans::cdi_cache::Lookup;
-use cdi_numbered_plans::cdi_event_tables::{EventTables, ObserverGroup};
-use cdi_numbered_plans::cdi_resolve::Resolver;
 use cdi_numbered_plans::{Numbering, observers_by, observers_have_numbers};
+use cdi_resolve::Resolver;
 use std::alloc::{AllocError, Global};
 
 /// The observers of each of some groups in the words of an instance's life; none of a group if what its observers name has no numbers.

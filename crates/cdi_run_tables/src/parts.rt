@@ -3,8 +3,8 @@ ghost use Rattle.std.specs.Prelude.{◌≡◌, slice_get, option_map, IfOk};
 ghost use Rattle.std.specs.List.{AllZip};
 ghost use Rattle.cdi_bodies.specs.Gives.{lookups_of};
 ghost use Rattle.cdi_bodies.specs.Table.{entries_of};
-ghost use Rattle.cdi_numbered_plans.specs.of_resolve.BeanTables.{AreTablesOf};
-ghost use Rattle.cdi_numbered_plans.specs.of_event_tables.Tables.{AreEventTables};
+ghost use Rattle.cdi_resolve.specs.BeanTables.{AreTablesOf};
+ghost use Rattle.cdi_event_tables.specs.Tables.{AreEventTables};
 ghost use Rattle.cdi_run_tables.specs.Index.{AreEventsOf};
 ghost use Rattle.cdi_run_tables.specs.Machine as spec;
 ghost use Rattle.cdi_run_tables.specs.Planned.{IsPlanned, IsTabled, plan_tables};
@@ -13,10 +13,10 @@ use crate::planned::{PlannedBean, planned_beans};
 use cdi_base::Seq;
 use cdi_bodies::{Bodies, Lookup};
 use cdi_deployment::Deployment;
-use cdi_numbered_plans::cdi_event_tables::{BodyIds, EventTables};
-use cdi_numbered_plans::cdi_plans::Planner;
-use cdi_numbered_plans::cdi_plans::laws::{law_beans_are_declared, law_observers_are_declared};
-use cdi_numbered_plans::cdi_resolve::BeanTables;
+use cdi_event_tables::{BodyIds, EventTables};
+use cdi_plans::Planner;
+use cdi_plans::laws::{law_beans_are_declared, law_observers_are_declared};
+use cdi_resolve::BeanTables;
 use std::alloc::{AllocError, Global};
 
 /// A deployment with its tables, the plans of its beans, and the numbers and lookups of its bodies.

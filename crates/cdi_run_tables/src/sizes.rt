@@ -7,7 +7,7 @@ use crate::managed::count_of;
 use crate::planned::PlannedBean;
 use crate::tables::RunTables;
 use cdi_deployment::Interceptor;
-use cdi_numbered_plans::cdi_plans::Plan;
+use cdi_plans::Plan;
 
 /// The most beans that a container numbers.
 const MAX_BEANS: usize = 4096;

@@ -11,27 +11,27 @@ use Rattle.cdi_base.specs.declared.place.InterceptorMethod.TheVariants as roles
 use Rattle.cdi_base.specs.declared.place.Place.TheVariants as places
 use Rattle.cdi_bodies.specs.Gives.{place_of}
 use Rattle.cdi_bodies.specs.declared.entry.Entry.{Entry}
-use Rattle.cdi_run_tables.specs.of_body_check.Sites.{method_body, sites_of}
+use Rattle.cdi_body_check.specs.Sites.{method_body, sites_of}
 use Rattle.cdi_deployment.specs.declared.deployment.Interceptor.{Interceptor}
-use Rattle.cdi_run_tables.specs.of_event_tables.Ids.{is_named}
-use Rattle.cdi_run_tables.specs.of_event_tables.Observers.{managed_bean}
-use Rattle.cdi_run_tables.specs.of_event_tables.declared.observer_groups.ObserverGroup.{ObserverGroup}
-use Rattle.cdi_run_tables.specs.of_event_tables.declared.observers.PlannedObserver.{PlannedObserver}
-use Rattle.cdi_world.specs.of_host.Asked.{code_in, injecting, interceptor_code, interceptor_plan, method_at, method_in, plan_at, plan_of, pre_destroy_of, product_of}
+use Rattle.cdi_event_tables.specs.Ids.{is_named}
+use Rattle.cdi_event_tables.specs.Observers.{managed_bean}
+use Rattle.cdi_event_tables.specs.declared.observer_groups.ObserverGroup.{ObserverGroup}
+use Rattle.cdi_event_tables.specs.declared.observers.PlannedObserver.{PlannedObserver}
+use Rattle.cdi_host.specs.Asked.{code_in, injecting, interceptor_code, interceptor_plan, method_at, method_in, plan_at, plan_of, pre_destroy_of, product_of}
 use Rattle.cdi_machine.specs.Tables as machine
 use Rattle.cdi_machine.specs.Words.{Name, Asked}
-use Rattle.cdi_run_tables.specs.of_numbered_plans.Machine.{machine_observer}
-use Rattle.cdi_run_tables.specs.of_plans.declared.plan.BusinessMethod.{BusinessMethod}
-use Rattle.cdi_run_tables.specs.of_plans.declared.plan.Code.{Code}
-use Rattle.cdi_run_tables.specs.of_plans.declared.plan.InjectedMethod.{InjectedMethod}
-use Rattle.cdi_run_tables.specs.of_plans.declared.plan.ManagedPlan.{ManagedPlan}
-use Rattle.cdi_run_tables.specs.of_plans.declared.plan.Plan.{Plan}
-use Rattle.cdi_run_tables.specs.of_plans.declared.plan.Plan.TheVariants as plans
-use Rattle.cdi_run_tables.specs.of_plans.declared.plan.ProductPlan.{ProductPlan}
-use Rattle.cdi_run_tables.specs.of_plans.declared.plan.Source.{Source}
-use Rattle.cdi_run_tables.specs.of_plans.declared.plan.Source.TheVariants as sources
-use Rattle.cdi_run_tables.specs.of_plans.declared.plan.Step.{Step}
-use Rattle.cdi_run_tables.specs.of_plans.declared.plan.Step.TheVariants as steps
+use Rattle.cdi_numbered_plans.specs.Machine.{machine_observer}
+use Rattle.cdi_plans.specs.declared.plan.BusinessMethod.{BusinessMethod}
+use Rattle.cdi_plans.specs.declared.plan.Code.{Code}
+use Rattle.cdi_plans.specs.declared.plan.InjectedMethod.{InjectedMethod}
+use Rattle.cdi_plans.specs.declared.plan.ManagedPlan.{ManagedPlan}
+use Rattle.cdi_plans.specs.declared.plan.Plan.{Plan}
+use Rattle.cdi_plans.specs.declared.plan.Plan.TheVariants as plans
+use Rattle.cdi_plans.specs.declared.plan.ProductPlan.{ProductPlan}
+use Rattle.cdi_plans.specs.declared.plan.Source.{Source}
+use Rattle.cdi_plans.specs.declared.plan.Source.TheVariants as sources
+use Rattle.cdi_plans.specs.declared.plan.Step.{Step}
+use Rattle.cdi_plans.specs.declared.plan.Step.TheVariants as steps
 use Rattle.cdi_run_tables.specs.Machine as tables
 use Rattle.cdi_run_tables.specs.Machine.{AreIdsOf, bean_at, bean_with, body_number, declared_at, does_something, has_none, id_of, interceptor_at, machine_code, machine_interceptor, machine_lifecycle, machine_member, machine_methods, machine_source, machine_step, machine_steps, machine_tables, method_with, planned_at, product_with}
 use Rattle.cdi_run_tables.proofs.Heard.{heard_observers, hears_it}

@@ -11,7 +11,7 @@ use Rattle.cdi_machine.specs.Commands.{Command}
 use Rattle.cdi_machine.specs.Container.{idle_state, refusal, refused_by_contexts, refused_by_tables, call_refusals, read_refusals, bean_of}
 use Rattle.cdi_run_tables.specs.Machine.{machine_tables}
 use Rattle.cdi_run_tables.specs.declared.tables.RunTables.{RunTables}
-use Rattle.cdi_world.specs.of_host.Asked.{asked_for, method_at, method_in, product_in, product_of}
+use Rattle.cdi_host.specs.Asked.{asked_for, method_at, method_in, product_in, product_of}
 use Rattle.cdi_runtime.specs.Refusals.{method_refusal, read_refusal, bean_refusal, resolved_refusal, use_refusal, contexts_refusal, otherwise}
 use Rattle.cdi_runtime.specs.Standing.{IsServable}
 use Rattle.cdi_steps.specs.Known.{KnownJob}

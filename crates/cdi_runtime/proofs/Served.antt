@@ -6,16 +6,16 @@ use Rattle.std.proofs.lemmas.Bool.{and_parts, leb-true}
 use Rattle.cdi_base.specs.declared.place.Place.{Place}
 use Rattle.cdi_base.specs.declared.scope.Scope.{Scope}
 use Rattle.cdi_base.specs.declared.uses.Use.{Use}
-use Rattle.cdi_run_tables.specs.of_event_tables.Observers.{managed_bean}
-use Rattle.cdi_world.specs.of_host.Asked.{fields_of, head_of, method_at, method_in, interceptor_fields, interceptor_plan, plan_of, pre_destroy_of, product_of}
-use Rattle.cdi_world.specs.of_host.declared.beans.BeanHead.{BeanHead}
+use Rattle.cdi_event_tables.specs.Observers.{managed_bean}
+use Rattle.cdi_host.specs.Asked.{fields_of, head_of, method_at, method_in, interceptor_fields, interceptor_plan, plan_of, pre_destroy_of, product_of}
+use Rattle.cdi_host.specs.declared.beans.BeanHead.{BeanHead}
 use Rattle.cdi_machine.specs.Tables as machine
-use Rattle.cdi_run_tables.specs.of_plans.declared.plan.ManagedPlan.{ManagedPlan}
-use Rattle.cdi_run_tables.specs.of_plans.declared.plan.Plan.{Plan}
-use Rattle.cdi_run_tables.specs.of_plans.declared.plan.Plan.TheVariants as plans
-use Rattle.cdi_run_tables.specs.of_plans.declared.plan.ProductPlan.{ProductPlan}
-use Rattle.cdi_run_tables.specs.of_resolve.declared.resolution.Resolution.{Resolution}
-use Rattle.cdi_run_tables.specs.of_resolve.declared.resolution.Resolution.TheVariants as resolutions
+use Rattle.cdi_plans.specs.declared.plan.ManagedPlan.{ManagedPlan}
+use Rattle.cdi_plans.specs.declared.plan.Plan.{Plan}
+use Rattle.cdi_plans.specs.declared.plan.Plan.TheVariants as plans
+use Rattle.cdi_plans.specs.declared.plan.ProductPlan.{ProductPlan}
+use Rattle.cdi_resolve.specs.declared.resolution.Resolution.{Resolution}
+use Rattle.cdi_resolve.specs.declared.resolution.Resolution.TheVariants as resolutions
 use Rattle.cdi_run_tables.proofs.Enabled.{stands_at}
 use Rattle.cdi_run_tables.specs.Interceptors as interceptors
 use Rattle.cdi_run_tables.specs.Interceptors.{fields_in}

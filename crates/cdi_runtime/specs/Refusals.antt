@@ -5,7 +5,7 @@ use Rattle.cdi_base.specs.declared.reply.Refusal.TheVariants as refusals
 use Rattle.cdi_base.specs.declared.uses.Use.{Use}
 use Rattle.cdi_contexts.specs.Contexts.{Contexts}
 use Rattle.cdi_contexts.specs.Refusals.{first_that_holds}
-use Rattle.cdi_world.specs.of_host.Asked.{asked_for, method_at, product_of}
+use Rattle.cdi_host.specs.Asked.{asked_for, method_at, product_of}
 use Rattle.cdi_machine.specs.Tables.{Tables, Method, Product, Resolution, One}
 use Rattle.cdi_machine.specs.Commands.{Command}
 use Rattle.cdi_machine.specs.Container.{no_method, refused_by_contexts, wrong_count}

@@ -3,8 +3,8 @@ use Rattle.std.specs.Prelude.{ℕ, ◌≡◌, ◌<◌, ◌^◌, true, IsSome}
 use Rattle.cdi_machine.specs.Words.{Asked}
 use Rattle.cdi_machine.specs.Tables as machine
 use Rattle.cdi_machine.specs.World.{World}
-use Rattle.cdi_run_tables.specs.of_resolve.declared.resolution.Resolution.{Resolution}
-use Rattle.cdi_run_tables.specs.of_resolve.declared.resolution.Resolution.TheVariants as resolutions
+use Rattle.cdi_resolve.specs.declared.resolution.Resolution.{Resolution}
+use Rattle.cdi_resolve.specs.declared.resolution.Resolution.TheVariants as resolutions
 use Rattle.cdi_run_tables.specs.Machine.{bean_at, machine_tables}
 use Rattle.cdi_run_tables.specs.Numbered.{is_numbered as is_numbered_deployment}
 use Rattle.cdi_run_tables.specs.Sizes.{is_small}

@@ -6,9 +6,5 @@ mod refusal;
 mod runtime;
 mod served_tables;
 
-// What callers name of the libraries below.
-pub use cdi_run_tables;
-pub use cdi_steps;
-pub use cdi_world;
 pub use runtime::Runtime;
 pub use served_tables::ServedTables;

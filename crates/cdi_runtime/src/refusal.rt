@@ -14,12 +14,12 @@ ghost use Rattle.cdi_runtime.specs.Refusals.{resolved_refusal, use_refusal};
 use crate::runtime::Runtime;
 use crate::served_tables::ServedTables;
 use cdi_base::{Refusal, Text};
+use cdi_host::{Method, Tables};
 use cdi_machine::Driver;
+use cdi_resolve::Resolution;
 use cdi_run_tables::RunTables;
-use cdi_run_tables::cdi_resolve::Resolution;
 use cdi_steps::{BeanPurpose, BeanUse, Event, Job};
 use cdi_world::World;
-use cdi_world::cdi_host::{Method, Tables};
 use std::alloc::Global;
 
 /// Why a method that was looked for can't be called with so many values.

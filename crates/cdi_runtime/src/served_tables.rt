@@ -2,18 +2,16 @@
 ghost use Rattle.std.specs.Prelude.{◌≡◌};
 ghost use Rattle.cdi_run_tables.specs.Machine.{machine_tables};
 ghost use Rattle.cdi_run_tables.specs.Machine.{machine_resolution as machine_told, resolution_of};
-ghost use Rattle.cdi_world.specs.of_host.Asked.{machine_resolution};
+ghost use Rattle.cdi_host.specs.Asked.{machine_resolution};
 ghost use Rattle.cdi_runtime.specs.Standing.{HasNumber, IsServable};
 
 use cdi_base::{Fields, InterceptorMethod, Name, Seq, Use};
 use cdi_bodies::BodyId;
+use cdi_host::Tables;
+use cdi_host::beans::{BeanHead, Code, Lifecycle, Method, Observer, Product, Resolution, Step};
+use cdi_resolve::Resolution as Resolved;
 use cdi_run_tables::RunTables;
-use cdi_run_tables::cdi_resolve::Resolution as Resolved;
 use cdi_store::Component;
-use cdi_world::cdi_host::Tables;
-use cdi_world::cdi_host::beans::{
-    BeanHead, Code, Lifecycle, Method, Observer, Product, Resolution, Step,
-};
 use std::alloc::{AllocError, Global};
 use std::marker::Model;
 

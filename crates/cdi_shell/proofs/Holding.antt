@@ -9,8 +9,8 @@ use Rattle.cdi_bodies.specs.Gives.{gives}
 use Rattle.cdi_bodies.specs.Picks.{picks}
 use Rattle.cdi_machine.specs.Laws.{IsWithin}
 use Rattle.cdi_machine.specs.Registered.{chosen_by}
-use Rattle.cdi_report.specs.of_prepare.declared.scripts.NamedScript.{NamedScript}
-use Rattle.cdi_report.proofs.of_prepare.Holding.{AreBodiesOf}
+use Rattle.cdi_prepare.specs.declared.scripts.NamedScript.{NamedScript}
+use Rattle.cdi_prepare.proofs.Holding.{AreBodiesOf}
 use Rattle.cdi_base.specs.Chosen.{chosen}
 use Rattle.cdi_base.specs.declared.settings.Order.{Order}
 use Rattle.cdi_shell.specs.Drive.{legal_by}

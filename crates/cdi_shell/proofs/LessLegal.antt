@@ -9,7 +9,7 @@ use Rattle.cdi_machine.specs.Runs.{Legal}
 use Rattle.cdi_machine.specs.Tables.{Bean, Interceptor, Kind, Lifecycle, Managed, Member, Method, Observer, Product, Source, Step, Tables}
 use Rattle.cdi_machine.specs.Words.{Asked, Fields}
 use Rattle.cdi_ledger.specs.Whose.{IsIn}
-use Rattle.cdi_container.specs.of_whole.Fits.{Fits, FitsBean, FitsBody, FitsChain, FitsClass, FitsKind, FitsLifecycle, FitsManaged, FitsMember, FitsMethod, FitsObserver, FitsProduct, FitsRole, FitsSource, FitsStep, FitsSteps, Site, class_site, intercepted_by, interceptor_site, ready_after}
+use Rattle.cdi_whole.specs.Fits.{Fits, FitsBean, FitsBody, FitsChain, FitsClass, FitsKind, FitsLifecycle, FitsManaged, FitsMember, FitsMethod, FitsObserver, FitsProduct, FitsRole, FitsSource, FitsStep, FitsSteps, Site, class_site, intercepted_by, interceptor_site, ready_after}
 
 each : {A : Type 0} (P Q : A → Type 0) → ((x : A) → P x → Q x) → (xs : List A) → AllByRecursion P xs → AllByRecursion Q xs
 each P Q f [] h = tt

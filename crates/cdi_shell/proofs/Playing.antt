@@ -5,8 +5,8 @@ use Rattle.cdi_base.specs.declared.reply.Cause.{Cause}
 use Rattle.cdi_machine.specs.Tables.{Tables}
 use Rattle.cdi_machine.specs.Runs.{Legal}
 use Rattle.cdi_machine.specs.Laws.{IsWithin}
-use Rattle.cdi_container.specs.of_run_tables.Machine.{machine_tables}
-use Rattle.cdi_container.specs.of_run_tables.declared.tables.RunTables.{RunTables}
+use Rattle.cdi_run_tables.specs.Machine.{machine_tables}
+use Rattle.cdi_run_tables.specs.declared.tables.RunTables.{RunTables}
 use Rattle.cdi_container.specs.Sessions.{AnswersLine, AnswersSo, Served, ServedBy, SessionParts, greeting_of, reply_in}
 use Rattle.cdi_container.specs.Standing.{IsStarted, names_of, tables_of, state_of}
 use Rattle.cdi_container.specs.States.{ContainerState}

@@ -6,27 +6,27 @@ use Rattle.cdi_bodies.specs.declared.entry.Entry.{Entry}
 use Rattle.cdi_bodies.specs.declared.chooser.Chooser.{Chooser}
 use Rattle.cdi_bodies.specs.declared.shape.Shape.{Shape}
 use Rattle.cdi_bodies.specs.Picks.{picks}
-use Rattle.cdi_container.specs.of_body_check.Shapes.{shape_of}
-use Rattle.cdi_container.specs.of_body_check.Sites.{sites_of}
-use Rattle.cdi_container.specs.of_check.Problems.{AreProblemsOf}
+use Rattle.cdi_body_check.specs.Shapes.{shape_of}
+use Rattle.cdi_body_check.specs.Sites.{sites_of}
+use Rattle.cdi_check.specs.Problems.{AreProblemsOf}
 use Rattle.cdi_deployment.specs.declared.deployment.Deployment.{Deployment}
 use Rattle.cdi_machine.specs.Commands.{Command}
 use Rattle.cdi_machine.specs.Laws.{IsWithin}
 use Rattle.cdi_machine.specs.Registered.{chosen_by}
 use Rattle.cdi_machine.specs.Runs.{Legal}
 use Rattle.cdi_problems.specs.declared.problem.Problem.{Problem}
-use Rattle.cdi_container.specs.of_event_tables.Ids.{is_named, told_of}
-use Rattle.cdi_container.specs.of_run_tables.Machine.{machine_tables}
-use Rattle.cdi_container.specs.of_run_tables.declared.tables.RunTables.{RunTables}
+use Rattle.cdi_event_tables.specs.Ids.{is_named, told_of}
+use Rattle.cdi_run_tables.specs.Machine.{machine_tables}
+use Rattle.cdi_run_tables.specs.declared.tables.RunTables.{RunTables}
 use Rattle.cdi_container.specs.Accepted as container
 use Rattle.cdi_container.specs.Accepted.{IsAccepted, IsUnaccepted}
 use Rattle.cdi_container.specs.declared.acceptance.Unaccepted.{Unaccepted}
 use Rattle.cdi_container.specs.declared.acceptance.Unaccepted.TheVariants as reasons
 use Rattle.cdi_container.specs.Sessions.{AnswersLine, reply_in}
 use Rattle.cdi_container.specs.States.{before_start}
-use Rattle.cdi_report.specs.of_prepare.declared.scripts.NamedScript.{NamedScript}
-use Rattle.cdi_report.specs.of_prepare.Scripts.{place_under, shape_under}
-use Rattle.cdi_report.proofs.of_prepare.Holding.{AreBodiesOf, same_place, same_shape}
+use Rattle.cdi_prepare.specs.declared.scripts.NamedScript.{NamedScript}
+use Rattle.cdi_prepare.specs.Scripts.{place_under, shape_under}
+use Rattle.cdi_prepare.proofs.Holding.{AreBodiesOf, same_place, same_shape}
 use Rattle.cdi_report.specs.Reports.{AreProblemsWith, problem_lines}
 use Rattle.cdi_base.specs.Chosen.{chosen}
 use Rattle.cdi_base.specs.declared.settings.Settings.{Settings}

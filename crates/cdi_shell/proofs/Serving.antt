@@ -1,7 +1,7 @@
 -- What a container takes for granted holds of a deployment that was made ready.
 use Rattle.std.proofs.Common.{ℕ, ◌≡◌, List, Ok, Result, IfOk, subst}
-use Rattle.cdi_report.specs.of_prepare.Ready.{Readied, readied_in}
-use Rattle.cdi_report.specs.of_prepare.Scripts.{registered}
+use Rattle.cdi_prepare.specs.Ready.{Readied, readied_in}
+use Rattle.cdi_prepare.specs.Scripts.{registered}
 use Rattle.cdi_report.proofs.WellFormed.{reads_well_formed}
 use Rattle.cdi_report.specs.WellFormed.{IsWellFormed}
 use Rattle.cdi_shell.specs.Drive.{IsWellFormedWith}

@@ -3,27 +3,27 @@ use Rattle.std.proofs.Common.{ℕ, ◌≡◌, ◌∙◌, ◌&&◌, List, [], tru
 use Rattle.std.proofs.lemmas.Bool.{and_parts}
 use Rattle.cdi_bodies.specs.Gives.{lookups_of}
 use Rattle.cdi_bodies.specs.declared.shape.Shape.{Shape}
-use Rattle.cdi_container.specs.of_body_check.Shapes.{shape_of}
-use Rattle.cdi_container.specs.of_body_check.Sites.{sites_of}
-use Rattle.cdi_container.specs.of_check.Late.{AreProblemsIn}
-use Rattle.cdi_container.specs.of_check.Problems.{AreProblemsOf}
-use Rattle.cdi_container.specs.of_check.Tables.{setting_by}
+use Rattle.cdi_body_check.specs.Shapes.{shape_of}
+use Rattle.cdi_body_check.specs.Sites.{sites_of}
+use Rattle.cdi_check.specs.Late.{AreProblemsIn}
+use Rattle.cdi_check.specs.Problems.{AreProblemsOf}
+use Rattle.cdi_check.specs.Tables.{setting_by}
 use Rattle.cdi_deployment.specs.declared.deployment.Deployment.{Deployment}
 use Rattle.cdi_machine.specs.Registered.{legal_of}
-use Rattle.cdi_container.specs.of_ledger.Callbacks.{FirstsStandOnce, PlacesOfBodiesAreApart}
-use Rattle.cdi_container.specs.of_event_tables.Ids.{is_named, told_of}
-use Rattle.cdi_container.specs.of_run_tables.Machine.{AreIdsOf, machine_tables}
-use Rattle.cdi_container.proofs.of_run_tables.WellFormed.{parts_of}
-use Rattle.cdi_container.specs.of_run_tables.declared.tables.RunTables.{RunTables}
-use Rattle.cdi_container.proofs.of_accepted.Farewells.{farewells_apart}
-use Rattle.cdi_container.proofs.of_accepted.Whole.{whole_fits}
-use Rattle.cdi_container.specs.of_accepted.Accepted.{IsFaultless}
+use Rattle.cdi_ledger.specs.Callbacks.{FirstsStandOnce, PlacesOfBodiesAreApart}
+use Rattle.cdi_event_tables.specs.Ids.{is_named, told_of}
+use Rattle.cdi_run_tables.specs.Machine.{AreIdsOf, machine_tables}
+use Rattle.cdi_run_tables.proofs.WellFormed.{parts_of}
+use Rattle.cdi_run_tables.specs.declared.tables.RunTables.{RunTables}
+use Rattle.cdi_accepted.proofs.Farewells.{farewells_apart}
+use Rattle.cdi_accepted.proofs.Whole.{whole_fits}
+use Rattle.cdi_accepted.specs.Accepted.{IsFaultless}
 use Rattle.cdi_container.proofs.Faultless.{none_in}
 use Rattle.cdi_container.proofs.Sound.{sound}
 use Rattle.cdi_container.specs.Sound.{IsSound}
-use Rattle.cdi_report.specs.of_prepare.declared.scripts.NamedScript.{NamedScript}
-use Rattle.cdi_report.specs.of_prepare.Scripts.{place_under, shape_under}
-use Rattle.cdi_report.proofs.of_prepare.Holding.{same_place, same_shape}
+use Rattle.cdi_prepare.specs.declared.scripts.NamedScript.{NamedScript}
+use Rattle.cdi_prepare.specs.Scripts.{place_under, shape_under}
+use Rattle.cdi_prepare.proofs.Holding.{same_place, same_shape}
 use Rattle.cdi_report.specs.Reports.{AreProblemsWith}
 use Rattle.cdi_base.specs.declared.settings.Order.{Order}
 use Rattle.cdi_shell.specs.Drive.{AreTablesWith, IsWellFormedWith, legal_by}

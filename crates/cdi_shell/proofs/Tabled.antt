@@ -2,28 +2,28 @@
 use Rattle.std.proofs.Common.{ℕ, ◌≡◌, ◌∙◌, List, filter, map, not, Option, None, sym, ap, subst}
 use Rattle.std.specs.Prelude.{if◌then◌else◌, option_and_then, option_map, slice_get}
 use Rattle.std.specs.List.{AllZip, filter_map}
-use Rattle.cdi_container.specs.of_bean_check.Qualifiers.{full_uses}
-use Rattle.cdi_container.specs.of_beans.declared.bean.EnabledInterceptor.{EnabledInterceptor}
-use Rattle.cdi_container.specs.of_body_check.Exceptions.{is_checked}
+use Rattle.cdi_bean_check.specs.Qualifiers.{full_uses}
+use Rattle.cdi_beans.specs.declared.bean.EnabledInterceptor.{EnabledInterceptor}
+use Rattle.cdi_body_check.specs.Exceptions.{is_checked}
 use Rattle.cdi_deployment.specs.declared.deployment.Class.{Class}
 use Rattle.cdi_deployment.specs.declared.deployment.Deployment.{Deployment}
 use Rattle.cdi_deployment.specs.declared.deployment.Observer.{Observer}
 use Rattle.cdi_machine.specs.Tables as machine
-use Rattle.cdi_container.specs.of_plans.Observers.{observer_of, observer_method}
-use Rattle.cdi_container.specs.of_plans.Tables.{PlanTables}
-use Rattle.cdi_container.specs.of_resolve.Filters.{enabled_of, is_enabled}
-use Rattle.cdi_container.specs.of_resolve.Resolution.{resolution}
-use Rattle.cdi_container.specs.of_event_tables.Events.{Group, groups_of, hears, written_uses}
-use Rattle.cdi_container.specs.of_event_tables.Observers.{managed_bean}
-use Rattle.cdi_container.specs.of_run_tables.Machine.{has_none, id_of, interceptor_at, is_known, lookup_in, machine_bean, machine_interceptor, machine_member, machine_observer, machine_resolution, machine_tables, observers_of}
-use Rattle.cdi_container.specs.of_run_tables.Planned.{IsPlanned, plan_tables}
-use Rattle.cdi_container.specs.of_run_tables.declared.tables.RunTables.{RunTables}
-use Rattle.cdi_container.specs.of_resolve.BeanTables.{AreTablesOf}
-use Rattle.cdi_container.specs.of_resolve.declared.bean_tables.BeanTables.{BeanTables}
-use Rattle.cdi_container.specs.of_body_check.WrittenNames.{is_event}
-use Rattle.cdi_report.specs.of_prepare.declared.scripts.NamedScript.{NamedScript}
-use Rattle.cdi_report.proofs.of_accepted.Plans.{one_plan_list}
-use Rattle.cdi_report.proofs.of_accepted.Tables.{one_tables}
+use Rattle.cdi_plans.specs.Observers.{observer_of, observer_method}
+use Rattle.cdi_plans.specs.Tables.{PlanTables}
+use Rattle.cdi_resolve.specs.Filters.{enabled_of, is_enabled}
+use Rattle.cdi_resolve.specs.Resolution.{resolution}
+use Rattle.cdi_event_tables.specs.Events.{Group, groups_of, hears, written_uses}
+use Rattle.cdi_event_tables.specs.Observers.{managed_bean}
+use Rattle.cdi_run_tables.specs.Machine.{has_none, id_of, interceptor_at, is_known, lookup_in, machine_bean, machine_interceptor, machine_member, machine_observer, machine_resolution, machine_tables, observers_of}
+use Rattle.cdi_run_tables.specs.Planned.{IsPlanned, plan_tables}
+use Rattle.cdi_run_tables.specs.declared.tables.RunTables.{RunTables}
+use Rattle.cdi_resolve.specs.BeanTables.{AreTablesOf}
+use Rattle.cdi_resolve.specs.declared.bean_tables.BeanTables.{BeanTables}
+use Rattle.cdi_body_check.specs.WrittenNames.{is_event}
+use Rattle.cdi_prepare.specs.declared.scripts.NamedScript.{NamedScript}
+use Rattle.cdi_accepted.proofs.Plans.{one_plan_list}
+use Rattle.cdi_accepted.proofs.Tables.{one_tables}
 use Rattle.cdi_shell.specs.Drive.{AreTablesWith}
 
 module _ (ss : List NamedScript) (d : Deployment) (t u : RunTables) (a : AreTablesWith ss d t) (b : AreTablesWith ss d u) where

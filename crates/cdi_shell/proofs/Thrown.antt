@@ -7,8 +7,8 @@ use Rattle.cdi_base.specs.Name.{is_name}
 use Rattle.cdi_bodies.specs.declared.entry.Entry.{Entry}
 use Rattle.cdi_deployment.specs.declared.deployment.Deployment.{Deployment}
 use Rattle.cdi_machine.specs.Registered.{legal_of}
-use Rattle.cdi_report.specs.of_prepare.Ready.{Readied, readied_in}
-use Rattle.cdi_container.specs.of_run_tables.declared.tables.RunTables.{RunTables}
+use Rattle.cdi_prepare.specs.Ready.{Readied, readied_in}
+use Rattle.cdi_run_tables.specs.declared.tables.RunTables.{RunTables}
 use Rattle.cdi_report.proofs.TrueNames.{name-at}
 use Rattle.cdi_report.specs.Facts.{HasFacts}
 use Rattle.cdi_problems.specs.Places.{name_text}

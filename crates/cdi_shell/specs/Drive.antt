@@ -8,14 +8,14 @@ use Rattle.cdi_base.specs.Chosen.{chosen}
 use Rattle.cdi_base.specs.declared.settings.Order.{Order}
 use Rattle.cdi_base.specs.declared.settings.Settings.{Settings}
 use Rattle.cdi_bodies.specs.declared.shape.Lookup.{Lookup}
-use Rattle.cdi_container.specs.of_body_check.Sites.{sites_of}
+use Rattle.cdi_body_check.specs.Sites.{sites_of}
 use Rattle.cdi_deployment.specs.declared.deployment.Deployment.{Deployment}
 use Rattle.cdi_machine.specs.Runs.{Legal}
 use Rattle.cdi_problems.specs.declared.problem.Problem.{Problem}
-use Rattle.cdi_container.specs.of_event_tables.Ids.{told_of}
-use Rattle.cdi_container.specs.of_run_tables.Machine.{machine_tables}
-use Rattle.cdi_container.specs.of_run_tables.Planned.{IsTabled}
-use Rattle.cdi_container.specs.of_run_tables.declared.tables.RunTables.{RunTables}
+use Rattle.cdi_event_tables.specs.Ids.{told_of}
+use Rattle.cdi_run_tables.specs.Machine.{machine_tables}
+use Rattle.cdi_run_tables.specs.Planned.{IsTabled}
+use Rattle.cdi_run_tables.specs.declared.tables.RunTables.{RunTables}
 use Rattle.cdi_script.specs.Listed.{shape_of}
 use Rattle.cdi_script.specs.Next.{next_of}
 use Rattle.cdi_container.specs.Accepted.{is_well_formed}
@@ -27,9 +27,9 @@ use Rattle.cdi_container.specs.States.{ContainerState, Boots}
 use Rattle.cdi_shell.specs.declared.ending.Ending.{Ending}
 use Rattle.cdi_lines.specs.declared.fault.ServeFault.{ServeFault}
 use Rattle.cdi_lines.specs.declared.sink.WriteFailed.{WriteFailed}
-use Rattle.cdi_report.specs.of_prepare.declared.scripts.NamedScript.{NamedScript}
-use Rattle.cdi_report.specs.of_prepare.Ready.{Readied, readied_in}
-use Rattle.cdi_report.specs.of_prepare.Scripts.{registered, place_under, shape_under}
+use Rattle.cdi_prepare.specs.declared.scripts.NamedScript.{NamedScript}
+use Rattle.cdi_prepare.specs.Ready.{Readied, readied_in}
+use Rattle.cdi_prepare.specs.Scripts.{registered, place_under, shape_under}
 use Rattle.cdi_report.specs.Reports.{AreProblemsWith, problem_lines}
 use Rattle.cdi_shell.specs.Endings.{after_serving, after_refusal, starved}
 use Rattle.cdi_lines.specs.Ends.{WritesAll}

@@ -4,15 +4,15 @@ use Rattle.cdi_base.specs.declared.reply.Reply.{Reply}
 use Rattle.cdi_base.specs.declared.reply.Reply.TheVariants as replies
 use Rattle.cdi_base.specs.Name.{is_name}
 use Rattle.cdi_bodies.specs.declared.entry.Entry.{Entry}
-use Rattle.cdi_container.specs.of_ledger.Ledger.{Item}
+use Rattle.cdi_ledger.specs.Ledger.{Item}
 use Rattle.cdi_machine.specs.Commands.{Command}
 use Rattle.cdi_machine.specs.Registered.{legal_of}
 use Rattle.cdi_machine.specs.Runs.{Legal}
 use Rattle.cdi_machine.specs.Tables.{Tables}
-use Rattle.cdi_report.specs.of_prepare.Scripts.{registered}
+use Rattle.cdi_prepare.specs.Scripts.{registered}
 use Rattle.cdi_report.specs.Reports.{AreProblemsWith}
-use Rattle.cdi_container.specs.of_run_tables.Machine.{machine_tables}
-use Rattle.cdi_container.specs.of_run_tables.declared.tables.RunTables.{RunTables}
+use Rattle.cdi_run_tables.specs.Machine.{machine_tables}
+use Rattle.cdi_run_tables.specs.declared.tables.RunTables.{RunTables}
 use Rattle.cdi_text.specs.Command.{command_in}
 use Rattle.cdi_problems.specs.Places.{name_text}
 use Rattle.cdi_base.specs.declared.settings.Settings.{Settings}
@@ -20,7 +20,7 @@ use Rattle.cdi_container.specs.Accepted.{IsAccepted}
 use Rattle.cdi_container.specs.History.{History}
 use Rattle.cdi_container.specs.Sessions.{AnswersRead, Served, reply_in}
 use Rattle.cdi_container.specs.States.{ContainerState, AnswersCommand}
-use Rattle.cdi_report.specs.of_prepare.Ready.{readied_in}
+use Rattle.cdi_prepare.specs.Ready.{readied_in}
 use Rattle.cdi_shell.specs.declared.ending.Ending.{Ending}
 use Rattle.cdi_shell.specs.Drive.{AreTablesWith, Lives, Streams, legal_by}
 

@@ -14,10 +14,10 @@ use Rattle.cdi_machine.specs.Commands.{Command}
 use Rattle.cdi_machine.specs.Container.{before_commands, refusal}
 use Rattle.cdi_machine.specs.Deployments.{Deployment, managed_bean, method, no_chain, tables_of}
 use Rattle.cdi_machine.specs.Tables.{Nothing, One}
-use Rattle.cdi_container.specs.of_host.Asked.{of_type}
+use Rattle.cdi_host.specs.Asked.{of_type}
 use Rattle.cdi_script.specs.declared.fault.ScriptFault.TheVariants as script_faults
 use Rattle.cdi_lines.specs.Lines.{complete_lines, all_lines}
-use Rattle.cdi_report.specs.of_prepare.FaultText.{fault_line, script_line}
+use Rattle.cdi_prepare.specs.FaultText.{fault_line, script_line}
 use Rattle.cdi_report.specs.Reports.{problem_line}
 use Rattle.cdi_text.specs.ReplyText.{reply_line}
 

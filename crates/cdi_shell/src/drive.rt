@@ -1,10 +1,10 @@
 //! A run of the program, from the bytes of a deployment and of its input to the bytes of its output.
 ghost use Rattle.std.specs.Prelude.{◌≡◌, ◌≤◌, length, Bool, IfOk, OnOk, OnErr, IsTrue};
-ghost use Rattle.cdi_report.specs.of_prepare.Scripts.{registered};
+ghost use Rattle.cdi_prepare.specs.Scripts.{registered};
 ghost use Rattle.cdi_report.specs.Reports.{problem_lines};
-ghost use Rattle.cdi_container.specs.of_run_tables.Machine.{machine_tables};
-ghost use Rattle.cdi_container.specs.of_runtime.Standing.{IsServable};
-ghost use Rattle.cdi_container.specs.of_steps.Driving.{Drives as Runs};
+ghost use Rattle.cdi_run_tables.specs.Machine.{machine_tables};
+ghost use Rattle.cdi_runtime.specs.Standing.{IsServable};
+ghost use Rattle.cdi_steps.specs.Driving.{Drives as Runs};
 ghost use Rattle.cdi_script.specs.Next.{next_of};
 ghost use Rattle.cdi_base.specs.Chosen.{chosen};
 ghost use Rattle.cdi_shell.specs.Drive as spec;
@@ -15,13 +15,13 @@ ghost use Rattle.cdi_shell.specs.Laws.{DrivesOnce};
 use crate::ending::{Ending, after_serving};
 use cdi_base::{Act, Fields, Names, OrMemory, Settings};
 use cdi_bodies::{AddError, Bodies, Body, Choice, Chooser, MAX_BODIES, View};
-use cdi_container::cdi_run_tables::RunTables;
 use cdi_container::{Container, Session, Unaccepted, accept};
 use cdi_lines::{ServeFault, Sink, Source};
 use cdi_machine::{Driver, Registered};
+use cdi_prepare::{NamedScript, Prepared, prepare};
 use cdi_problems::Problem;
-use cdi_report::cdi_prepare::{NamedScript, Prepared, prepare};
 use cdi_report::problem_lines::write_problems;
+use cdi_run_tables::RunTables;
 use std::alloc::{AllocError, Global};
 
 /// Memory ran out where no container was served.

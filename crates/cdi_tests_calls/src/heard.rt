@@ -1,9 +1,9 @@
 //! What the ledger hears of jobs.
 use cdi_base::{Place, Scope};
-use cdi_container::cdi_steps::{Completion, Outcome};
-use cdi_container::cdi_world::World;
 use cdi_deployment::{Class, Deployment, Member};
+use cdi_steps::{Completion, Outcome};
 use cdi_tests_player::{Beans, Ledger};
+use cdi_world::World;
 use std::alloc::{AllocError, Global};
 
 /// Adds the class itself, if its bean is application-scoped.

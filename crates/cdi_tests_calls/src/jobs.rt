@@ -16,22 +16,22 @@
 //! | `live` | how many instances live | the number |
 //! | `next` | the next number of an instance | it, or `none` |
 ghost use Rattle.std.specs.Prelude.{◌≡◌, None, IfOk};
-ghost use Rattle.cdi_container.specs.of_frames.Stacks.{KnownStack, KnownTurn};
-ghost use Rattle.cdi_container.specs.of_run_tables.Machine.{machine_tables};
-ghost use Rattle.cdi_container.specs.of_steps.Known.{KnownJob};
+ghost use Rattle.cdi_frames.specs.Stacks.{KnownStack, KnownTurn};
+ghost use Rattle.cdi_run_tables.specs.Machine.{machine_tables};
+ghost use Rattle.cdi_steps.specs.Known.{KnownJob};
 
 use crate::entries::{push_entries, push_name, push_value};
 use crate::heard::{beans_of, hear};
 use cdi_base::{Names, Refusal, Seq, Text, Value};
-use cdi_container::cdi_frames::run::{run, turn};
-use cdi_container::cdi_frames::stack::{Stack, Turn};
-use cdi_container::cdi_host::Contents;
-use cdi_container::cdi_runtime::Runtime;
-use cdi_container::cdi_steps::task::Task;
-use cdi_container::cdi_steps::{BeanPurpose, BeanUse, Completion, Event, Given, Job, Outcome};
-use cdi_container::cdi_world::World;
+use cdi_frames::run::{run, turn};
+use cdi_frames::stack::{Stack, Turn};
+use cdi_host::Contents;
 use cdi_machine::{Driver, Failure};
+use cdi_runtime::Runtime;
+use cdi_steps::task::Task;
+use cdi_steps::{BeanPurpose, BeanUse, Completion, Event, Given, Job, Outcome};
 use cdi_tests_player::Ledger;
+use cdi_world::World;
 use std::alloc::{AllocError, Global};
 
 /// What is told of the jobs of a runtime.

@@ -13,6 +13,4 @@ mod jobs;
 mod report;
 mod runtimes;
 
-// What callers name of the libraries below.
 pub use calls::Calls;
-pub use cdi_prepare;

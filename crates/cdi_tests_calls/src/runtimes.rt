@@ -1,17 +1,17 @@
 //! The functions that own the tables of a deployment. The proof of each drops all tables, so that there are few.
 ghost use Rattle.std.specs.Prelude.{IfOk};
-ghost use Rattle.cdi_container.specs.of_run_tables.Machine.{machine_tables};
-ghost use Rattle.cdi_container.specs.of_runtime.Standing.{IsServable};
-ghost use Rattle.cdi_container.specs.of_steps.Driving.{Drives};
+ghost use Rattle.cdi_run_tables.specs.Machine.{machine_tables};
+ghost use Rattle.cdi_runtime.specs.Standing.{IsServable};
+ghost use Rattle.cdi_steps.specs.Driving.{Drives};
 
 use crate::jobs::{Told, answers};
 use cdi_base::{Limits, OrMemory};
 use cdi_container::Unaccepted;
-use cdi_container::cdi_run_tables::RunTables;
-use cdi_container::cdi_runtime::Runtime;
-use cdi_container::cdi_world::World;
 use cdi_machine::Driver;
 use cdi_problems::Problem;
+use cdi_run_tables::RunTables;
+use cdi_runtime::Runtime;
+use cdi_world::World;
 use std::alloc::{AllocError, Global};
 
 /// Which of several candidates is picked.

@@ -1,10 +1,10 @@
 //! Beans with a name, and lookups by a name. Beans 0 to 99 have the names 0 to 99, beans 100 to 199 have the names 100 to 199, and so
 //! have beans 200 to 299.
 use cdi_base::{BuiltIn, MemberValue, Name, Names, Scope, Seq, Use, Value};
-use cdi_cache::cdi_beans::{Bean, BeanKind, BeanQualifiers};
-use cdi_cache::cdi_resolve::{Resolution, Resolver};
+use cdi_beans::{Bean, BeanKind, BeanQualifiers};
 use cdi_deployment::Deployment;
 use cdi_quals::{QualSet, Qualifier, QualifierTypes};
+use cdi_resolve::{Resolution, Resolver};
 use std::alloc::Global;
 use std::process::Abort;
 

@@ -2,8 +2,8 @@
 use crate::beans::{resolver, set_of, sets_of, wanted};
 use cdi_base::BuiltIn;
 use cdi_cache::Lookup;
-use cdi_cache::cdi_resolve::{Resolution, Resolving};
 use cdi_quals::QualSet;
+use cdi_resolve::{Resolution, Resolving};
 use std::alloc::Global;
 use std::num::NonZeroUsize;
 use std::process::Abort;

@@ -2,11 +2,11 @@
 //! tells the groups of observers that hear it: each group has its priority and, behind `:`, its observers as `Class#member`, after the
 //! bean and `/` where the class of the bean is another one; it ends with `;`.
 use cdi_base::{Name, Names, OrMemory, Seq};
+use cdi_beans::{BeanList, ListedBeans, ObserverMethod};
 use cdi_deploy::read;
 use cdi_deployment::{Deployment, InjectedField};
-use cdi_observers::cdi_beans::{BeanList, ListedBeans, ObserverMethod};
-use cdi_observers::cdi_enable::laws::law_forest;
-use cdi_observers::cdi_enable::{EnabledSet, enabled};
+use cdi_enable::laws::law_forest;
+use cdi_enable::{EnabledSet, enabled};
 use cdi_observers::{ObserverGroup, Observers};
 use cdi_quals::{QualSet, QualifierTypes};
 use cdi_tests_player::Scene;

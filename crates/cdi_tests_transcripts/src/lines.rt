@@ -1,10 +1,10 @@
 //! Lines of refused deployments that were written by hand, among them those that no text of a deployment comes to.
 use cdi_base::{Names, Place, Text, is_name};
 use cdi_deploy::ReadFault;
+use cdi_prepare::fault_text::{write_fault, write_script_fault};
 use cdi_problems::{Problem, ProblemKind};
-use cdi_program::cdi_report::problem_lines::write_problems;
+use cdi_report::problem_lines::write_problems;
 use cdi_script::ScriptFault;
-use cdi_tests_calls::cdi_prepare::fault_text::{write_fault, write_script_fault};
 use std::alloc::{AllocError, Global};
 
 /// Each kind of problem.

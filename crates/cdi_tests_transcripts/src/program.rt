@@ -2,8 +2,8 @@
 use cdi_base::Settings;
 use cdi_lines::{Input, Output};
 use cdi_options::MAX_SLICE;
-use cdi_program::cdi_shell::drive::drive;
 use cdi_program::{Files, WordsError, run_program};
+use cdi_shell::drive::drive;
 use cdi_tests_player::Played;
 use cdi_tests_player::limits::limits_of;
 use std::alloc::Global;

@@ -35,4 +35,3 @@ mod BornOnce
 mod Counted
 pub mod Beginning
 pub mod WorkedFarewells
-pub use Rattle.cdi_ledger.proofs as of_ledger

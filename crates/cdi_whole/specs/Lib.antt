@@ -5,4 +5,3 @@ pub mod Fits
 pub mod Replies
 pub mod Beginnings
 pub mod WorkedFarewells
-pub use Rattle.cdi_ledger.specs as of_ledger

@@ -7,6 +7,4 @@ mod making;
 mod named;
 pub mod world;
 
-// What callers name of the libraries below.
-pub use cdi_host;
 pub use world::World;

@@ -5,14 +5,14 @@ ghost use Rattle.cdi_base.specs.declared.act.Act.TheVariants.{Keep, Peek};
 ghost use Rattle.cdi_base.specs.declared.act.Act.TheVariants.{Fire as ActFire};
 ghost use Rattle.cdi_machine.specs.World.{instance_at};
 ghost use Rattle.cdi_machine.specs.Bodies.{perform, value_at};
-ghost use Rattle.cdi_calls.specs.of_host.Asked.{reference_in};
+ghost use Rattle.cdi_host.specs.Asked.{reference_in};
 ghost use Rattle.cdi_steps.specs.Known.{IsKnownBody};
 ghost use Rattle.cdi_steps.specs.Steps.{Steps, Settles};
 ghost use Rattle.cdi_frames.specs.Acts.{reference_via, use_act};
 
 use super::bodies::{answer, missed, with_answer};
 use cdi_base::{Answer, Name, Seq, Use, Value, Via};
-use cdi_calls::cdi_host::{Contents, Invocation, Running, Tables};
+use cdi_host::{Contents, Invocation, Running, Tables};
 use cdi_steps::task::{Call, Event, Frame, Next, Purpose, ReferenceUse, Task};
 use cdi_store::Reference;
 use std::alloc::AllocError;

@@ -7,8 +7,8 @@ ghost use Rattle.cdi_steps.specs.Steps.{Moves, GoesOn};
 ghost use Rattle.cdi_steps.specs.declared.task.Outcome.{Outcome};
 
 use cdi_base::{Scope, Text};
-use cdi_calls::cdi_host::{Contents, Tables};
 use cdi_events::contexts;
+use cdi_host::{Contents, Tables};
 use cdi_steps::ends::{ended, null};
 use cdi_steps::task::{
     AfterClose, BeanUse, Call, Completion, ContainerEvent, Event, Frame, Job, Next, Task,

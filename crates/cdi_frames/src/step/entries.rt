@@ -4,8 +4,8 @@ ghost use Rattle.cdi_steps.specs.Known.{KnownContinuation};
 ghost use Rattle.cdi_steps.specs.Steps.{Follows};
 
 use super::bodies;
-use cdi_calls::cdi_host::{Contents, Tables};
 use cdi_events::observers;
+use cdi_host::{Contents, Tables};
 use cdi_steps::task::{Continuation, Next};
 use cdi_steps::{creation, destruction, products};
 use std::alloc::AllocError;

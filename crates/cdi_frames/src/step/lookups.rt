@@ -13,8 +13,8 @@ ghost use Rattle.cdi_frames.specs.Acts.{bean_looked_up, destroy_found, StopsAlik
 use super::bodies::{answer, missed, threw, with_answer};
 use cdi_base::{Answer, BuiltIn, Value};
 use cdi_bodies::BodyId;
-use cdi_calls::cdi_host::{Contents, Resolution, Running, Tables};
 use cdi_contexts::Held;
+use cdi_host::{Contents, Resolution, Running, Tables};
 use cdi_steps::creation::reference_to;
 use cdi_steps::obtaining::is_normal;
 use cdi_steps::task::{Call, Completion, Frame, Given, Next, Task};

@@ -5,11 +5,11 @@ ghost use Rattle.cdi_machine.specs.Bodies.{fits, perform, repeats};
 ghost use Rattle.cdi_steps.specs.Known.{IsKnownBody};
 ghost use Rattle.cdi_steps.specs.Steps.{Settles};
 ghost use Rattle.cdi_frames.specs.Proceeding.{having_tried, refusal_in, with_replaced};
-ghost use Rattle.cdi_calls.specs.of_host.Asked.{top_of};
+ghost use Rattle.cdi_host.specs.Asked.{top_of};
 
 use super::bodies::answer;
 use cdi_base::{BuiltIn, InterceptorMethod, Seq, Value};
-use cdi_calls::cdi_host::{Chain, Contents, Running, Tables};
+use cdi_host::{Chain, Contents, Running, Tables};
 use cdi_steps::task::{Call, Completion, Frame, Next, Task};
 use std::alloc::AllocError;
 

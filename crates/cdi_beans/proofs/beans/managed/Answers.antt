@@ -2,7 +2,7 @@ use Rattle.std.proofs.Common.{◌∙◌, ℕ, List, Option, map, option_map, ref
 use Rattle.cdi_types.specs.ListsThose.{ListsThose}
 use Rattle.cdi_types.specs.Declarations.{declarations_of}
 use Rattle.cdi_types.specs.Subtype.{all_types}
-use Rattle.cdi_bean_rules.specs.of_bean_check.BeanTypes.{IsBeanType, restriction}
+use Rattle.cdi_bean_check.specs.BeanTypes.{IsBeanType, restriction}
 use Rattle.cdi_deployment.specs.declared.deployment.Bean.{Bean}
 use Rattle.cdi_beans.specs.Beans.{IsBeanOf, bean_member, is_alternative, priority_of}
 use Rattle.cdi_beans.proofs.beans.managed.Goals as goal

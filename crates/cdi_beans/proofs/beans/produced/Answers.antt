@@ -1,5 +1,5 @@
 use Rattle.std.proofs.Common.{◌∙◌, refl, sym, ap}
-use Rattle.cdi_bean_rules.specs.of_bean_check.Qualifiers.{full_uses, uses_with_built_in}
+use Rattle.cdi_bean_check.specs.Qualifiers.{full_uses, uses_with_built_in}
 use Rattle.cdi_beans.specs.Beans.{IsBeanOf, is_alternative, priority_of}
 use Rattle.cdi_beans.proofs.beans.produced.Goals as goal
 

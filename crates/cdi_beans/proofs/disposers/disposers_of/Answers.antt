@@ -1,5 +1,5 @@
 use Rattle.std.proofs.Common.{◌∙◌, sym}
-use Rattle.cdi_bean_rules.specs.of_bean_check.ManagedBeans.{is_bean}
+use Rattle.cdi_bean_check.specs.ManagedBeans.{is_bean}
 use Rattle.cdi_beans.specs.DisposerMethods.{disposers_in}
 use Rattle.cdi_beans.proofs.Adding.{adds_kept, adds_skipped}
 use Rattle.cdi_beans.proofs.disposers.disposers_of.Goals as goal

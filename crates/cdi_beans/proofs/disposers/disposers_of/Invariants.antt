@@ -1,6 +1,6 @@
 use Rattle.std.proofs.Common.{[], filter, take}
 use Rattle.std.specs.List.{flat_map}
-use Rattle.cdi_bean_rules.specs.of_bean_check.ManagedBeans.{is_bean}
+use Rattle.cdi_bean_check.specs.ManagedBeans.{is_bean}
 use Rattle.cdi_beans.specs.Adds.{Adds}
 use Rattle.cdi_beans.specs.DisposerMethods.{IsDisposerOf, disposers_in}
 use Rattle.cdi_beans.proofs.disposers.disposers_of.Given as goal

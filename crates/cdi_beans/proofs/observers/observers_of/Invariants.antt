@@ -1,5 +1,5 @@
 use Rattle.std.proofs.Common.{filter, take}
-use Rattle.cdi_bean_rules.specs.of_bean_check.ManagedBeans.{is_bean}
+use Rattle.cdi_bean_check.specs.ManagedBeans.{is_bean}
 use Rattle.cdi_beans.specs.ObserverMethods.{AreObserversOf}
 use Rattle.cdi_beans.proofs.observers.observers_of.Given as goal
 

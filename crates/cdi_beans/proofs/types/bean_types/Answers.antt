@@ -2,7 +2,7 @@ use Rattle.std.proofs.Common.{◌≡◌, ◌∙◌, ℕ, List, take, filter, sym
 use Rattle.std.proofs.lemmas.Grind.{common_steps}
 use Rattle.cdi_types.specs.ListsThose.{ListsThose}
 use Rattle.cdi_types.specs.Subtype.{all_types}
-use Rattle.cdi_bean_rules.specs.of_bean_check.BeanTypes.{IsBeanType, is_left}
+use Rattle.cdi_bean_check.specs.BeanTypes.{IsBeanType, is_left}
 use Rattle.cdi_beans.proofs.Restricted.{restricted}
 use Rattle.cdi_beans.proofs.types.bean_types.Goals as goal
 

@@ -1,5 +1,5 @@
 use Rattle.std.proofs.Common.{◌≡◌, filter, take}
-use Rattle.cdi_bean_rules.specs.of_bean_check.BeanTypes.{is_left}
+use Rattle.cdi_bean_check.specs.BeanTypes.{is_left}
 use Rattle.cdi_beans.proofs.types.bean_types.Given as goal
 
 abbrev pub invariant-loop-name : goal.invariant-loop-name

@@ -1,5 +1,5 @@
 use Rattle.std.proofs.Common.{◌≡◌, ◌++◌, drop}
-use Rattle.cdi_bean_rules.specs.of_bean_check.Qualifiers.{full_uses}
+use Rattle.cdi_bean_check.specs.Qualifiers.{full_uses}
 use Rattle.cdi_beans.proofs.uses.add_uses.Given as goal
 
 abbrev pub invariant-loop-written : goal.invariant-loop-written

@@ -1,7 +1,7 @@
 use Rattle.cdi_bodies.specs.Table.{entries_of}
-use Rattle.cdi_check.specs.of_body_check.Shapes.{shape_of}
-use Rattle.cdi_check.specs.of_body_check.Sites.{shown}
-use Rattle.cdi_check.specs.of_live.Settings.{setting_of}
+use Rattle.cdi_body_check.specs.Shapes.{shape_of}
+use Rattle.cdi_body_check.specs.Sites.{shown}
+use Rattle.cdi_live.specs.Settings.{setting_of}
 use Rattle.cdi_check.proofs.Adding.{adds_bodies}
 use Rattle.cdi_check.proofs.late.add_of_bodies.Goals as goal
 

@@ -1,4 +1,4 @@
-use Rattle.cdi_check.specs.of_live.Settings.{setting_of}
+use Rattle.cdi_live.specs.Settings.{setting_of}
 use Rattle.cdi_check.proofs.Adding.{adds_points}
 use Rattle.cdi_check.proofs.late.add_of_points.Goals as goal
 

@@ -1,6 +1,6 @@
 use Rattle.cdi_bodies.specs.Table.{entries_of}
-use Rattle.cdi_check.specs.of_body_check.Shapes.{shape_of}
-use Rattle.cdi_check.specs.of_live.Settings.{setting_of}
+use Rattle.cdi_body_check.specs.Shapes.{shape_of}
+use Rattle.cdi_live.specs.Settings.{setting_of}
 use Rattle.cdi_check.proofs.Adding.{all_added}
 use Rattle.cdi_check.proofs.late.all_problems.Goals as goal
 

@@ -1,5 +1,5 @@
 use Rattle.std.proofs.Common.{subst}
-use Rattle.cdi_check.specs.of_live.PointProblems.{HasPointProblem}
+use Rattle.cdi_live.specs.PointProblems.{HasPointProblem}
 use Rattle.cdi_problems.specs.Findings.{ArePlacesOf}
 use Rattle.cdi_check.proofs.late.point_places.Goals as goal
 

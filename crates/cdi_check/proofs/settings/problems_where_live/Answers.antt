@@ -1,7 +1,7 @@
 use Rattle.std.proofs.Common.{subst}
 use Rattle.cdi_bodies.specs.Table.{entries_of}
-use Rattle.cdi_check.specs.of_body_check.Shapes.{shape_of}
-use Rattle.cdi_check.specs.of_live.Enabled.{Enabled}
+use Rattle.cdi_body_check.specs.Shapes.{shape_of}
+use Rattle.cdi_live.specs.Enabled.{Enabled}
 use Rattle.cdi_check.specs.Late.{AreProblemsIn}
 use Rattle.cdi_check.proofs.settings.problems_where_live.Goals as goal
 

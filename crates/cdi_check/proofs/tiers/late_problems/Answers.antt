@@ -1,9 +1,9 @@
 use Rattle.std.proofs.Common.{subst, sym, ap}
 use Rattle.cdi_bodies.specs.Table.{entries_of}
-use Rattle.cdi_check.specs.of_body_check.Shapes.{shape_of}
+use Rattle.cdi_body_check.specs.Shapes.{shape_of}
 use Rattle.cdi_check.specs.Late.{AreProblemsIn}
 use Rattle.cdi_check.specs.Tables.{setting_by}
-use Rattle.cdi_check.specs.of_resolve.declared.bean_tables.BeanTables.{BeanTables}
+use Rattle.cdi_resolve.specs.declared.bean_tables.BeanTables.{BeanTables}
 use Rattle.cdi_check.proofs.tiers.late_problems.Goals as goal
 
 pub returns-clause-late : goal.returns-clause-late

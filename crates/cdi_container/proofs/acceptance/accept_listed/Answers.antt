@@ -1,6 +1,6 @@
 use Rattle.std.proofs.Common.{rules, ◌≡◌, ◌≢◌, [], refl, sym, subst, IfOk, IfErr}
 use Rattle.cdi_bodies.specs.Table.{entries_of}
-use Rattle.cdi_accepted.specs.of_check.Problems.{AreProblemsOf}
+use Rattle.cdi_check.specs.Problems.{AreProblemsOf}
 use Rattle.cdi_container.specs.Accepted.{IsAccepted, IsUnaccepted}
 use Rattle.cdi_container.proofs.Accepting.{faultless_by, tables_with}
 use Rattle.cdi_container.proofs.acceptance.accept_listed.Goals as goal

@@ -1,8 +1,8 @@
 use Rattle.std.proofs.Common.{sym, subst}
 use Rattle.cdi_frames.specs.Stacks.{KnownFrames, KnownPending}
-use Rattle.cdi_runtime.specs.of_run_tables.Machine.{machine_tables}
+use Rattle.cdi_run_tables.specs.Machine.{machine_tables}
 use Rattle.cdi_runtime.specs.Standing.{RuntimeParts}
-use Rattle.cdi_runtime.specs.of_steps.Known.{AllInvoked, KnownJob}
+use Rattle.cdi_steps.specs.Known.{AllInvoked, KnownJob}
 use Rattle.cdi_container.proofs.container.begun.Goals as goal
 
 -- a command that begins changes no contexts

@@ -1,11 +1,11 @@
 use Rattle.std.proofs.Common.{◌∙◌, sym, subst}
 use Rattle.cdi_machine.specs.Commands.{task}
-use Rattle.cdi_runtime.specs.of_run_tables.Machine.{machine_tables}
+use Rattle.cdi_run_tables.specs.Machine.{machine_tables}
 use Rattle.cdi_runtime.specs.Standing.{RuntimeParts}
-use Rattle.cdi_runtime.proofs.of_steps.Driving.{still_drives}
-use Rattle.cdi_runtime.specs.of_steps.Known.{KnownJob}
-use Rattle.cdi_runtime.specs.of_steps.Leads.{Ran}
-use Rattle.cdi_runtime.specs.of_steps.Words.{command_of}
+use Rattle.cdi_steps.proofs.Driving.{still_drives}
+use Rattle.cdi_steps.specs.Known.{KnownJob}
+use Rattle.cdi_steps.specs.Leads.{Ran}
+use Rattle.cdi_steps.specs.Words.{command_of}
 use Rattle.cdi_container.specs.States.CarriesOut.{ends, starves}
 use Rattle.cdi_container.proofs.container.carry_out.Goals as goal
 use Rattle.cdi_container.proofs.container.carry_out.Goals.{in-Ok, in-Err}

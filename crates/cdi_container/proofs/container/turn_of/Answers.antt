@@ -1,8 +1,8 @@
 use Rattle.std.proofs.Common.{sym, subst}
 use Rattle.cdi_frames.specs.Stacks.{KnownStack, TurnsTo}
-use Rattle.cdi_runtime.specs.of_run_tables.Machine.{machine_tables}
+use Rattle.cdi_run_tables.specs.Machine.{machine_tables}
 use Rattle.cdi_runtime.specs.Standing.{RuntimeParts}
-use Rattle.cdi_runtime.proofs.of_steps.Driving.{still_drives}
+use Rattle.cdi_steps.proofs.Driving.{still_drives}
 use Rattle.cdi_container.proofs.container.turn_of.Goals as goal
 
 pub turn-requires-clause-known : goal.turn-requires-clause-known

@@ -1,4 +1,4 @@
-use Rattle.cdi_runtime.specs.of_run_tables.Machine.{machine_tables}
+use Rattle.cdi_run_tables.specs.Machine.{machine_tables}
 use Rattle.cdi_container.proofs.Thrown.{names_thrown}
 use Rattle.cdi_container.proofs.laws.law_thrown_has_name.Goals as goal
 

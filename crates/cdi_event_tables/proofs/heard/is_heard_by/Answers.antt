@@ -1,5 +1,5 @@
 use Rattle.std.proofs.Common.{◌∙◌, ◌&&◌, ◌∷◌, ap, sym}
-use Rattle.cdi_plans.specs.of_bean_check.Qualifiers.{full_uses}
+use Rattle.cdi_bean_check.specs.Qualifiers.{full_uses}
 use Rattle.cdi_quals.specs.Qualifiers.{has_all}
 use Rattle.cdi_event_tables.specs.Events.{any_qualifier}
 use Rattle.cdi_event_tables.proofs.Subtypes.{subtype_told}

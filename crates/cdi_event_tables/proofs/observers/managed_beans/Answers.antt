@@ -1,7 +1,7 @@
 use Rattle.std.proofs.Common.{◌≡◌, ◌∙◌, ◌&&◌, ℕ, Bool, Option, Some, cond, nat_eq, not, take, sym, ap}
 use Rattle.std.specs.Option.{is_some}
-use Rattle.cdi_plans.specs.of_beans.Kinds.{is_managed}
-use Rattle.cdi_plans.specs.of_beans.declared.bean.Bean.{Bean}
+use Rattle.cdi_beans.specs.Kinds.{is_managed}
+use Rattle.cdi_beans.specs.declared.bean.Bean.{Bean}
 use Rattle.cdi_types.proofs.ClassPlaces.{position-more}
 use Rattle.cdi_event_tables.proofs.ManagedPlaces.{gets, keeps}
 use Rattle.cdi_event_tables.specs.Observers.{managed_bean}

@@ -1,5 +1,5 @@
 use Rattle.std.proofs.Common.{◌≡◌, drop}
-use Rattle.cdi_plans.specs.of_bean_check.Qualifiers.{full_uses}
+use Rattle.cdi_bean_check.specs.Qualifiers.{full_uses}
 use Rattle.cdi_quals.specs.Qualifiers.{has}
 use Rattle.cdi_event_tables.proofs.required.has.Given as goal
 

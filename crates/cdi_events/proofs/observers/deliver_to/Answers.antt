@@ -1,5 +1,5 @@
 use Rattle.std.proofs.Common.{refl, sym, ap, ◌∙◌, arith}
-use Rattle.cdi_steps.specs.of_host.declared.beans.BeanHead.{BeanHead}
+use Rattle.cdi_host.specs.declared.beans.BeanHead.{BeanHead}
 use Rattle.cdi_machine.specs.Told.{observer_told}
 use Rattle.cdi_steps.specs.declared.task.Delivery.{Delivery}
 use Rattle.cdi_steps.proofs.Heads.{is_absent, is_there}

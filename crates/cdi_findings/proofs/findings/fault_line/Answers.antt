@@ -1,6 +1,6 @@
 use Rattle.std.proofs.Common.{rules, ◌≡◌, ◌∙◌, refl, string_bytes, []}
 use Rattle.std.proofs.lemmas.Result.{IfOk-weaker}
-use Rattle.cdi_report.specs.of_prepare.Ready.{readied_in}
+use Rattle.cdi_prepare.specs.Ready.{readied_in}
 use Rattle.cdi_findings.specs.Faults.{fault_name}
 use Rattle.cdi_findings.specs.declared.finding.FindingKind.TheVariants as finding_kinds
 use Rattle.cdi_findings.proofs.findings.fault_line.Goals as goal

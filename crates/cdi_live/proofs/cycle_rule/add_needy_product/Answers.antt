@@ -1,6 +1,6 @@
 use Rattle.std.proofs.Common.{◌≡◌, ◌∙◌, ℕ, Bool, true, false, cond, List, Some, None, sym, ap}
 use Rattle.std.specs.HashSet.{contains}
-use Rattle.cdi_cache.specs.of_beans.declared.bean.Bean.{Bean}
+use Rattle.cdi_beans.specs.declared.bean.Bean.{Bean}
 use Rattle.cdi_live.specs.Cycles.{flag}
 use Rattle.cdi_live.specs.OwnPoints.{product_name}
 use Rattle.cdi_live.proofs.NeedyProducts.{no_product, no_flag, needy}

@@ -1,6 +1,6 @@
 use Rattle.std.proofs.Common.{◌≡◌, ◌+◌, ◌<◌, ◌≤◌, refl, sym, ap, length-append, arith}
 use Rattle.std.specs.Prelude.{◌↔◌, IsTrue}
-use Rattle.cdi_cache.proofs.of_enable.Flags.{flag_push}
+use Rattle.cdi_enable.proofs.Flags.{flag_push}
 use Rattle.cdi_paths.specs.Graph.{ProperPath}
 use Rattle.cdi_live.specs.Cycles.{InterceptorNeedsItself}
 use Rattle.cdi_live.specs.Settings.{setting_of, counts_of}

@@ -1,7 +1,7 @@
 use Rattle.std.proofs.Common.{◌≡◌, ◌∙◌, ◌&&◌, ◌==◌, Bool, true, false, cond, nat_eq, refl, sym, ap}
 use Rattle.std.specs.HashSet.{contains}
-use Rattle.cdi_cache.specs.of_resolve.Filters.{is_bean_of}
-use Rattle.cdi_cache.specs.of_beans.Kinds.{is_managed}
+use Rattle.cdi_resolve.specs.Filters.{is_bean_of}
+use Rattle.cdi_beans.specs.Kinds.{is_managed}
 use Rattle.cdi_name_check.proofs.NameSteps.{one_taken, none_taken}
 use Rattle.cdi_live.proofs.sets.classes_of.Goals as goal
 use Rattle.cdi_live.proofs.sets.classes_of.Goals.{then-is_managed+in_ok-insert, else-is_managed}

@@ -1,8 +1,8 @@
 use Rattle.std.proofs.Common.{◌∙◌, ap}
-use Rattle.cdi_event_tables.specs.of_bean_check.Qualifiers.{full_uses}
+use Rattle.cdi_bean_check.specs.Qualifiers.{full_uses}
 use Rattle.cdi_numbered_plans.proofs.Within.{has_number}
 use Rattle.cdi_numbered_plans.proofs.points.numbered_at.Goals as goal
-use Rattle.cdi_event_tables.specs.of_resolve.Resolution.{resolution}
+use Rattle.cdi_resolve.specs.Resolution.{resolution}
 
 pub numbered-requires : goal.numbered-requires
 numbered-requires c =

@@ -1,8 +1,8 @@
 use Rattle.std.proofs.Common.{◌∙◌}
-use Rattle.cdi_event_tables.specs.of_bean_check.Qualifiers.{IsSetOf, full_uses}
+use Rattle.cdi_bean_check.specs.Qualifiers.{IsSetOf, full_uses}
 use Rattle.cdi_numbered_plans.proofs.Resolving.{same_resolution}
 use Rattle.cdi_numbered_plans.proofs.points.resolution_at.Goals as goal
-use Rattle.cdi_event_tables.specs.of_resolve.Filters.{enabled_of}
+use Rattle.cdi_resolve.specs.Filters.{enabled_of}
 
 pub returns-clause-told : goal.returns-clause-told
 returns-clause-told c =

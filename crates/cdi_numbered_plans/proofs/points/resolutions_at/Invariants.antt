@@ -1,5 +1,5 @@
 use Rattle.std.proofs.Common.{◌≡◌, map, take}
-use Rattle.cdi_event_tables.specs.of_resolve.Filters.{enabled_of}
+use Rattle.cdi_resolve.specs.Filters.{enabled_of}
 use Rattle.cdi_numbered_plans.specs.Numbered.{field_resolution}
 use Rattle.cdi_numbered_plans.proofs.points.resolutions_at.Given as goal
 

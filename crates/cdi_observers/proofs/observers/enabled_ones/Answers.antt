@@ -1,5 +1,5 @@
 use Rattle.std.proofs.Common.{true, rules}
-use Rattle.cdi_enable.specs.of_beans.declared.bean.ObserverMethod.{ObserverMethod}
+use Rattle.cdi_beans.specs.declared.bean.ObserverMethod.{ObserverMethod}
 use Rattle.cdi_enable.specs.Enablement.{IsEnabledClass}
 use Rattle.cdi_observers.proofs.Retained.{retained, not_enabled}
 use Rattle.cdi_observers.proofs.observers.enabled_ones.Goals as goal

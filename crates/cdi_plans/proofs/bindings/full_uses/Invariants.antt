@@ -1,5 +1,5 @@
 use Rattle.std.proofs.Common.{◌≡◌, take}
-use Rattle.cdi_beans.specs.of_bean_check.Qualifiers.{full_uses}
+use Rattle.cdi_bean_check.specs.Qualifiers.{full_uses}
 use Rattle.cdi_plans.proofs.bindings.full_uses.Given as goal
 
 abbrev pub invariant-loop-written : goal.invariant-loop-written

@@ -1,4 +1,4 @@
-use Rattle.cdi_plans.specs.of_bean_check.ManagedBeans.{is_bean}
+use Rattle.cdi_bean_check.specs.ManagedBeans.{is_bean}
 use Rattle.std.specs.List.{filter}
 use Rattle.cdi_plans.proofs.Observing.{all_declared}
 use Rattle.cdi_plans.proofs.laws.law_observers_are_declared.Goals as goal

@@ -2,7 +2,7 @@ use Rattle.std.proofs.Common.{◌∙◌, ap, sym, filter}
 use Rattle.cdi_problem_hints.specs.PlaceIndex.{sites_at}
 use Rattle.cdi_problem_hints.proofs.Where.{none}
 use Rattle.cdi_problem_hints.specs.Scripts.{is_at}
-use Rattle.cdi_problem_hints.specs.of_body_check.Sites.{sites_of}
+use Rattle.cdi_body_check.specs.Sites.{sites_of}
 use Rattle.cdi_problem_hints.proofs.at.sites_at.Goals as goal
 
 pub returns-in-Some : goal.returns-in-Some

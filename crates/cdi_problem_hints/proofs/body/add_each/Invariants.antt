@@ -1,6 +1,6 @@
 use Rattle.std.proofs.Common.{◌≡◌, ◌++◌, string_bytes, take}
 use Rattle.std.specs.List.{flat_map}
-use Rattle.cdi_problem_hints.specs.of_body_check.Sites.{body_of, shown}
+use Rattle.cdi_body_check.specs.Sites.{body_of, shown}
 use Rattle.cdi_problem_hints.specs.Bodies as spec
 use Rattle.cdi_problem_hints.proofs.body.add_each.Given as goal
 

@@ -1,6 +1,6 @@
 use Rattle.std.proofs.Common.{◌≡◌, ◌∙◌, ◌++◌, ℕ, List, OnOk, ap, subst, string_bytes}
 use Rattle.std.specs.List.{flat_map}
-use Rattle.cdi_problem_hints.specs.of_body_check.Sites.{Site, body_of, sites_of}
+use Rattle.cdi_body_check.specs.Sites.{Site, body_of, sites_of}
 use Rattle.cdi_problem_hints.proofs.Where.{told_where}
 use Rattle.cdi_problem_hints.specs.Scripts.{is_at}
 use Rattle.cdi_problem_hints.specs.Bodies as spec

@@ -6,7 +6,7 @@ use Rattle.cdi_problem_hints.proofs.Where.{told_where}
 use Rattle.cdi_problem_hints.specs.Asked.{is_at}
 use Rattle.cdi_problem_hints.specs.Left.{left_in, places_left}
 use Rattle.cdi_problems.specs.Elements.{elements_of}
-use Rattle.cdi_problem_hints.specs.of_resolve.declared.bean_tables.BeanTables.{BeanTables}
+use Rattle.cdi_resolve.specs.declared.bean_tables.BeanTables.{BeanTables}
 use Rattle.cdi_problem_hints.proofs.left.places_left.Goals as goal
 
 pub returns-in-Some : goal.returns-in-Some

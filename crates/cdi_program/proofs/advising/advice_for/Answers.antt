@@ -1,5 +1,5 @@
 use Rattle.std.proofs.lemmas.Result.{IfOk-weaker}
-use Rattle.cdi_shell.specs.of_prepare.Ready.{readied_in}
+use Rattle.cdi_prepare.specs.Ready.{readied_in}
 use Rattle.cdi_program.proofs.Advised.{advised, unadvised}
 use Rattle.cdi_program.proofs.advising.advice_for.Goals as goal
 

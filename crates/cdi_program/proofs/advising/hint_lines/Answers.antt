@@ -1,8 +1,8 @@
 use Rattle.std.proofs.Common.{◌≡◌, ◌∙◌, ◌++◌, ◌∷◌, ℕ, List, [], ◌+◌, take, string_bytes, rules, ap, sym, subst}
 use Rattle.std.proofs.lemmas.List.{take_more}
 use Rattle.cdi_problems.specs.declared.problem.Problem.{Problem}
-use Rattle.cdi_findings.specs.of_problem_hints.Hints.{problem_hint}
-use Rattle.cdi_findings.specs.of_problem_hints.Subjects.{subject_of}
+use Rattle.cdi_problem_hints.specs.Hints.{problem_hint}
+use Rattle.cdi_problem_hints.specs.Subjects.{subject_of}
 use Rattle.cdi_program.specs.Advice as spec
 use Rattle.cdi_program.proofs.advising.hint_lines.Goals as goal
 

@@ -1,5 +1,5 @@
 use Rattle.std.proofs.Common.{string_bytes, take}
-use Rattle.cdi_findings.specs.of_problem_hints.Subjects.{subject_of}
+use Rattle.cdi_problem_hints.specs.Subjects.{subject_of}
 use Rattle.cdi_program.specs.Advice as spec
 use Rattle.cdi_program.proofs.advising.hint_lines.Given as goal
 

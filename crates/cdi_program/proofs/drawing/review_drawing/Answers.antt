@@ -2,7 +2,7 @@ use Rattle.std.proofs.Common.{rules, ◌≡◌, ◌∙◌, List, Option, ap₂}
 use Rattle.std.specs.Option.{option_copied}
 use Rattle.cdi_pictures.specs.Pictures.{picture}
 use Rattle.cdi_problems.specs.declared.problem.Problem.{Problem}
-use Rattle.cdi_pictures.specs.of_resolve.declared.bean_tables.BeanTables.{BeanTables}
+use Rattle.cdi_resolve.specs.declared.bean_tables.BeanTables.{BeanTables}
 use Rattle.cdi_program.proofs.drawing.review_drawing.Goals as goal
 
 pub returns : goal.returns

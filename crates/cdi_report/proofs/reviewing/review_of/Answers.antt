@@ -2,14 +2,14 @@ use Rattle.std.proofs.Common.{rules, ◌≡◌, ◌<◌, ◌∙◌, ◌++◌, �
 use Rattle.std.specs.Prelude.{fold}
 use Rattle.cdi_bodies.specs.Table.{entries_of}
 use Rattle.cdi_bodies.specs.Gives.{place_of}
-use Rattle.cdi_accepted.specs.of_body_check.Shapes.{shape_of}
+use Rattle.cdi_body_check.specs.Shapes.{shape_of}
 use Rattle.cdi_script.specs.Next.{next_of}
 use Rattle.cdi_script.proofs.Boxed.{made_post}
 use Rattle.cdi_script.proofs.Following.{nil_of}
 use Rattle.cdi_script.proofs.Within.{lies}
-use Rattle.cdi_report.specs.of_prepare.declared.scripts.NamedScript.{NamedScript}
-use Rattle.cdi_report.specs.of_prepare.Scripts.{added, place_under, registered}
-use Rattle.cdi_report.proofs.of_prepare.Holding.{holds_add, same_length, same_place, add_known, add_new, holds_all, not_full, same_shape}
+use Rattle.cdi_prepare.specs.declared.scripts.NamedScript.{NamedScript}
+use Rattle.cdi_prepare.specs.Scripts.{added, place_under, registered}
+use Rattle.cdi_prepare.proofs.Holding.{holds_add, same_length, same_place, add_known, add_new, holds_all, not_full, same_shape}
 use Rattle.cdi_report.specs.Reviews.{names_of}
 use Rattle.cdi_report.proofs.reviewing.review_of.OwnLists.{own-1, at-1-1}
 use Rattle.cdi_report.proofs.reviewing.review_of.Goals as goal

@@ -1,9 +1,9 @@
 use Rattle.std.proofs.Common.{◌≡◌, ◌+◌, ◌≤◌, length, List}
 use Rattle.std.specs.Prelude.{fold}
 use Rattle.cdi_bodies.specs.Table.{entries_of}
-use Rattle.cdi_report.specs.of_prepare.declared.scripts.NamedScript.{NamedScript}
-use Rattle.cdi_report.specs.of_prepare.Scripts.{added, registered}
-use Rattle.cdi_report.proofs.of_prepare.Holding.{AreBodiesOf}
+use Rattle.cdi_prepare.specs.declared.scripts.NamedScript.{NamedScript}
+use Rattle.cdi_prepare.specs.Scripts.{added, registered}
+use Rattle.cdi_prepare.proofs.Holding.{AreBodiesOf}
 use Rattle.cdi_report.proofs.reviewing.review_of.Given as goal
 
 abbrev pub invariant-loop-named : goal.invariant-loop-named

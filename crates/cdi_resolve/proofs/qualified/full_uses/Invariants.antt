@@ -1,5 +1,5 @@
 use Rattle.std.proofs.Common.{◌≡◌, take}
-use Rattle.cdi_resolve.specs.of_bean_check.Qualifiers as written
+use Rattle.cdi_bean_check.specs.Qualifiers as written
 use Rattle.cdi_resolve.proofs.qualified.full_uses.Given as goal
 
 abbrev pub invariant-loop-written : goal.invariant-loop-written

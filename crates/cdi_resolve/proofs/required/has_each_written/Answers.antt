@@ -1,6 +1,6 @@
 use Rattle.std.proofs.Common.{◌∙◌, sym}
 use Rattle.cdi_quals.specs.Qualifiers.{full_use, has}
-use Rattle.cdi_enable.proofs.of_bean_check.Mapped.{passes, fails}
+use Rattle.cdi_bean_check.proofs.Mapped.{passes, fails}
 use Rattle.cdi_resolve.proofs.required.has_each_written.Goals as goal
 
 pub returns-then-not-bean_has_written : goal.returns-then-not-bean_has_written

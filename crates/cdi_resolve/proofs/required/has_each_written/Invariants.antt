@@ -1,6 +1,6 @@
 use Rattle.std.proofs.Common.{◌≡◌, drop}
 use Rattle.cdi_quals.specs.Qualifiers.{has_all}
-use Rattle.cdi_enable.specs.of_bean_check.Qualifiers.{full_uses}
+use Rattle.cdi_bean_check.specs.Qualifiers.{full_uses}
 use Rattle.cdi_resolve.proofs.required.has_each_written.Given as goal
 
 abbrev pub invariant-loop-written : goal.invariant-loop-written

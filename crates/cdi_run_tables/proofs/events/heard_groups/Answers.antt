@@ -1,4 +1,4 @@
-use Rattle.cdi_numbered_plans.specs.of_event_tables.Observers.{is_heard_by}
+use Rattle.cdi_event_tables.specs.Observers.{is_heard_by}
 use Rattle.cdi_run_tables.proofs.Hearing.{no_group, one_group}
 use Rattle.cdi_run_tables.proofs.events.heard_groups.Goals as goal
 use Rattle.cdi_run_tables.proofs.events.heard_groups.Goals.{then-not-is_empty+in_ok-push, else-not-is_empty}

@@ -1,5 +1,5 @@
 use Rattle.std.proofs.Common.{◌∙◌, ◌++◌, ◌∷◌, [], ap, sym, take}
-use Rattle.cdi_numbered_plans.specs.of_event_tables.Observers.{is_heard_by}
+use Rattle.cdi_event_tables.specs.Observers.{is_heard_by}
 use Rattle.cdi_run_tables.specs.Observers.{heard_in}
 use Rattle.cdi_run_tables.proofs.Hearing.{none_hears, one_hears}
 use Rattle.cdi_run_tables.proofs.events.heard_in.Goals as goal

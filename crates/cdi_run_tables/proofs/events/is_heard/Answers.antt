@@ -1,4 +1,4 @@
-use Rattle.cdi_numbered_plans.specs.of_event_tables.Observers.{is_heard_by}
+use Rattle.cdi_event_tables.specs.Observers.{is_heard_by}
 use Rattle.cdi_run_tables.proofs.Hearing.{heard_alone}
 use Rattle.cdi_run_tables.proofs.events.is_heard.Goals as goal
 

@@ -1,5 +1,5 @@
 use Rattle.std.proofs.Common.{take}
-use Rattle.cdi_numbered_plans.specs.of_body_check.Exceptions.{is_checked}
+use Rattle.cdi_body_check.specs.Exceptions.{is_checked}
 use Rattle.cdi_name_check.specs.NameSets.{HasNames}
 use Rattle.cdi_run_tables.proofs.exceptions.checked_exceptions.Given as goal
 

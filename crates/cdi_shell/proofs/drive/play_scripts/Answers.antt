@@ -6,11 +6,11 @@ use Rattle.cdi_script.specs.Next.{next_of}
 use Rattle.cdi_script.proofs.Boxed.{made_post}
 use Rattle.cdi_script.proofs.Following.{nil_of}
 use Rattle.cdi_script.proofs.Within.{lies}
-use Rattle.cdi_report.specs.of_prepare.declared.scripts.NamedScript.{NamedScript}
-use Rattle.cdi_report.specs.of_prepare.Scripts.{added, place_under, registered}
+use Rattle.cdi_prepare.specs.declared.scripts.NamedScript.{NamedScript}
+use Rattle.cdi_prepare.specs.Scripts.{added, place_under, registered}
 use Rattle.cdi_base.specs.Chosen.{chosen}
 use Rattle.cdi_shell.specs.Drive.{Streams}
-use Rattle.cdi_report.proofs.of_prepare.Holding.{holds_add, same_length, same_place, add_known, add_new, holds_all, not_full}
+use Rattle.cdi_prepare.proofs.Holding.{holds_add, same_length, same_place, add_known, add_new, holds_all, not_full}
 use Rattle.cdi_shell.proofs.Picked.{picked}
 use Rattle.cdi_shell.proofs.Scripted.{accepted_plays, refusable, refused_plays}
 use Rattle.cdi_shell.proofs.drive.play_scripts.OwnLists.{own-1, at-1-1, own-2, at-2-1}

@@ -1,7 +1,7 @@
 use Rattle.std.proofs.Common.{◌∙◌, sym, subst}
-use Rattle.cdi_container.specs.of_runtime.Standing.{RuntimeParts}
-use Rattle.cdi_container.specs.of_steps.Known.{KnownJob}
-use Rattle.cdi_container.proofs.of_steps.Driving.{still_drives}
+use Rattle.cdi_runtime.specs.Standing.{RuntimeParts}
+use Rattle.cdi_steps.specs.Known.{KnownJob}
+use Rattle.cdi_steps.proofs.Driving.{still_drives}
 use Rattle.cdi_tests_calls.proofs.jobs.end_of_run.Goals as goal
 
 pub invariant_of-runtime : goal.invariant_of-runtime

@@ -1,5 +1,5 @@
-use Rattle.cdi_container.specs.of_run_tables.Machine.{machine_tables}
-use Rattle.cdi_container.specs.of_frames.Stacks.{KnownStack}
+use Rattle.cdi_run_tables.specs.Machine.{machine_tables}
+use Rattle.cdi_frames.specs.Stacks.{KnownStack}
 use Rattle.cdi_tests_calls.proofs.jobs.end_of_turns.Given as goal
 
 -- what the stack rests on is known

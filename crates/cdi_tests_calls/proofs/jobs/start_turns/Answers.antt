@@ -1,7 +1,7 @@
 use Rattle.std.proofs.Common.{sym, subst}
-use Rattle.cdi_container.specs.of_run_tables.Machine.{machine_tables}
-use Rattle.cdi_container.specs.of_runtime.Standing.{RuntimeParts}
-use Rattle.cdi_container.specs.of_steps.Known.{AllInvoked, KnownJob}
+use Rattle.cdi_run_tables.specs.Machine.{machine_tables}
+use Rattle.cdi_runtime.specs.Standing.{RuntimeParts}
+use Rattle.cdi_steps.specs.Known.{AllInvoked, KnownJob}
 use Rattle.cdi_tests_calls.proofs.jobs.start_turns.Goals as goal
 
 pub returns : goal.returns

@@ -1,8 +1,8 @@
 use Rattle.std.proofs.Common.{subst, sym}
-use Rattle.cdi_container.specs.of_frames.Stacks.{KnownStack}
-use Rattle.cdi_container.specs.of_run_tables.Machine.{machine_tables}
-use Rattle.cdi_container.specs.of_runtime.Standing.{RuntimeParts}
-use Rattle.cdi_container.proofs.of_steps.Driving.{still_drives}
+use Rattle.cdi_frames.specs.Stacks.{KnownStack}
+use Rattle.cdi_run_tables.specs.Machine.{machine_tables}
+use Rattle.cdi_runtime.specs.Standing.{RuntimeParts}
+use Rattle.cdi_steps.proofs.Driving.{still_drives}
 use Rattle.cdi_tests_calls.proofs.jobs.take_turn.Goals as goal
 
 pub invariant_of-runtime : goal.invariant_of-runtime

@@ -1,6 +1,6 @@
 use Rattle.std.proofs.Common.{subst, sym}
-use Rattle.cdi_container.specs.of_run_tables.Machine.{machine_tables}
-use Rattle.cdi_container.specs.of_steps.Known.{AllInvoked}
+use Rattle.cdi_run_tables.specs.Machine.{machine_tables}
+use Rattle.cdi_steps.specs.Known.{AllInvoked}
 use Rattle.cdi_tests_calls.proofs.runtimes.start_anew.Goals as goal
 
 pub invariant_of-runtime : goal.invariant_of-runtime

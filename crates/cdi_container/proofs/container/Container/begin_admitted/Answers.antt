@@ -3,8 +3,8 @@ use Rattle.cdi_frames.specs.Stacks.{Steps}
 use Rattle.cdi_frames.specs.declared.stack.Pending.TheVariants as pendings
 use Rattle.cdi_machine.specs.Container.{refusal}
 use Rattle.cdi_machine.specs.World.{at_begin}
-use Rattle.cdi_runtime.specs.of_steps.Words.{command_of}
-use Rattle.cdi_runtime.specs.of_steps.declared.task.Task.TheVariants as tasks
+use Rattle.cdi_steps.specs.Words.{command_of}
+use Rattle.cdi_steps.specs.declared.task.Task.TheVariants as tasks
 use Rattle.cdi_runtime.specs.Standing.{RuntimeParts}
 use Rattle.cdi_container.specs.Standing.{state_of, tables_in, tables_of}
 use Rattle.cdi_container.specs.States.{machine_state}

@@ -1,8 +1,8 @@
 use Rattle.std.proofs.Common.{sym, ap, subst}
 use Rattle.cdi_base.specs.declared.reply.Cause.TheVariants as causes
 use Rattle.cdi_frames.specs.Stacks.{KnownStack, program_of}
-use Rattle.cdi_runtime.specs.of_steps.Words.{outcome_of}
-use Rattle.cdi_runtime.specs.of_steps.declared.task.Outcome.TheVariants as outcomes
+use Rattle.cdi_steps.specs.Words.{outcome_of}
+use Rattle.cdi_steps.specs.declared.task.Outcome.TheVariants as outcomes
 use Rattle.cdi_container.specs.Standing.{state_of, tables_in, tables_of}
 use Rattle.cdi_container.specs.States.{ContainerState, CarriesOut}
 use Rattle.cdi_container.specs.Turns.{KeepsOn}

@@ -1,6 +1,6 @@
 use Rattle.std.proofs.Common.{◌≡◌, subst}
 use Rattle.cdi_machine.specs.Container.{refusal}
-use Rattle.cdi_runtime.specs.of_steps.Words.{command_of}
+use Rattle.cdi_steps.specs.Words.{command_of}
 use Rattle.cdi_container.specs.Standing.{tables_of, state_of}
 use Rattle.cdi_container.specs.States.{machine_state}
 use Rattle.cdi_container.proofs.container.Container.refusal.Goals as goal

@@ -1,6 +1,6 @@
 use Rattle.std.proofs.Common.{◌∙◌, refl}
-use Rattle.cdi_runtime.specs.of_steps.declared.task.Job.TheVariants as jobs
-use Rattle.cdi_runtime.specs.of_steps.Words.{outcome_of}
+use Rattle.cdi_steps.specs.declared.task.Job.TheVariants as jobs
+use Rattle.cdi_steps.specs.Words.{outcome_of}
 use Rattle.cdi_container.specs.States.AnswersCommand.{carries_out}
 use Rattle.cdi_container.proofs.Replying.{replied}
 use Rattle.cdi_container.proofs.container.Container.start.Goals as goal

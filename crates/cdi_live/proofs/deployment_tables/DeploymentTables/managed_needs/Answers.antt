@@ -1,6 +1,6 @@
 use Rattle.std.proofs.Common.{◌≡◌, ◌∙◌, ◌++◌, List, map, ap, subst, sym}
 use Rattle.std.specs.List.{filter_map}
-use Rattle.cdi_cache.specs.of_plans.Chains.{interceptors_of}
+use Rattle.cdi_plans.specs.Chains.{interceptors_of}
 use Rattle.cdi_live.specs.Needs.{needed_at, NeedsThose}
 use Rattle.cdi_live.specs.Settings.{setting_of}
 use Rattle.cdi_live.specs.declared.node.Node.{Node}

@@ -3,8 +3,8 @@ use Rattle.std.specs.Prelude.{slice_get}
 use Rattle.std.specs.Option.{option_copied}
 use Rattle.std.proofs.lemmas.Option.{slice_get_within, get_or_from_slice_get}
 use Rattle.cdi_deployment.specs.declared.deployment.Point.{Point}
-use Rattle.cdi_cache.specs.of_resolve.Filters.{enabled_of}
-use Rattle.cdi_cache.specs.of_resolve.declared.resolution.Resolution.{Resolution}
+use Rattle.cdi_resolve.specs.Filters.{enabled_of}
+use Rattle.cdi_resolve.specs.declared.resolution.Resolution.{Resolution}
 use Rattle.cdi_live.specs.ResolvedPoints.{Resolving, resolved_by, IsTold, AreTold}
 use Rattle.cdi_live.proofs.resolved_points.ResolvedPoints.known.Goals as goal
 

@@ -1,6 +1,6 @@
 use Rattle.std.proofs.Common.{sym, subst}
 use Rattle.std.specs.Prelude.{IsTrue}
-use Rattle.cdi_plans.specs.of_bean_rules.Limits.{is_producer}
+use Rattle.cdi_bean_rules.specs.Limits.{is_producer}
 use Rattle.cdi_deployment.specs.declared.deployment.Class.{Class}
 use Rattle.cdi_deployment.specs.declared.deployment.Member.{Member}
 use Rattle.cdi_plans.proofs.Producers.{found}

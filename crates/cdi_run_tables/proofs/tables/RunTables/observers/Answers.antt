@@ -1,6 +1,6 @@
 use Rattle.std.proofs.Common.{◌≡◌, subst}
 use Rattle.std.specs.Prelude.{IfOk}
-use Rattle.cdi_numbered_plans.specs.of_event_tables.Observers.{is_heard_by}
+use Rattle.cdi_event_tables.specs.Observers.{is_heard_by}
 use Rattle.cdi_run_tables.specs.Observers.{heard_groups, planned_groups}
 use Rattle.cdi_run_tables.proofs.Heard.{hears_it}
 use Rattle.cdi_run_tables.proofs.Observing.{resolved_if_heard, told_if_heard}

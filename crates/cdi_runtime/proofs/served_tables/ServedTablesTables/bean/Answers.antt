@@ -1,7 +1,7 @@
 use Rattle.std.proofs.Common.{◌≡◌, ◌∙◌, None, Some, ap, option_map, subst}
 use Rattle.cdi_run_tables.specs.Machine.{bean_at}
 use Rattle.cdi_run_tables.specs.Numbered as numbered
-use Rattle.cdi_world.specs.of_host.Asked.{head_of}
+use Rattle.cdi_host.specs.Asked.{head_of}
 use Rattle.cdi_runtime.proofs.Served.{head_is, placed}
 use Rattle.cdi_runtime.proofs.served_tables.ServedTablesTables.bean.Goals as goal
 

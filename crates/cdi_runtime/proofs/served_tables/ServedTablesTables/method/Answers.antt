@@ -1,7 +1,7 @@
 use Rattle.std.proofs.Common.{◌≡◌, ◌∙◌, option_map, sym, subst}
 use Rattle.cdi_machine.specs.Told.{method_told}
 use Rattle.cdi_run_tables.specs.Machine.{machine_tables}
-use Rattle.cdi_world.specs.of_host.Asked.{method_at}
+use Rattle.cdi_host.specs.Asked.{method_at}
 use Rattle.cdi_runtime.proofs.Served.{method_is}
 use Rattle.cdi_runtime.proofs.served_tables.ServedTablesTables.method.Goals as goal
 

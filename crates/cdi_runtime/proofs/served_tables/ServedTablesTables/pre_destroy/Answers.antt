@@ -1,7 +1,7 @@
 use Rattle.std.proofs.Common.{◌≡◌, ◌∙◌, option_map, sym, subst}
 use Rattle.cdi_machine.specs.Told.{lifecycle_told}
 use Rattle.cdi_run_tables.specs.Machine.{bean_at}
-use Rattle.cdi_world.specs.of_host.Asked.{pre_destroy_of}
+use Rattle.cdi_host.specs.Asked.{pre_destroy_of}
 use Rattle.cdi_runtime.proofs.Served.{same_pre_destroy}
 use Rattle.cdi_runtime.proofs.served_tables.ServedTablesTables.pre_destroy.Goals as goal
 

@@ -1,6 +1,6 @@
 use Rattle.std.proofs.Common.{◌≡◌, ◌∙◌, sym, ap, subst}
 use Rattle.cdi_run_tables.specs.Machine.{machine_tables, machine_resolution as machine_told}
-use Rattle.cdi_world.specs.of_host.Asked.{asked_for, machine_resolution}
+use Rattle.cdi_host.specs.Asked.{asked_for, machine_resolution}
 use Rattle.cdi_runtime.proofs.Served.{numbered_resolved}
 use Rattle.cdi_runtime.proofs.served_tables.ServedTablesTables.resolve.Goals as goal
 
