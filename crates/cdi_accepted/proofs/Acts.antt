@@ -30,10 +30,10 @@ use Rattle.cdi_run_tables.specs.Planned.{IsTabled}
 use Rattle.cdi_run_tables.specs.Texts.{has_texts}
 use Rattle.cdi_run_tables.specs.declared.tables.RunTables.{RunTables}
 use Rattle.cdi_name_check.specs.UnknownName.{is_event_qualifier_use}
-use Rattle.cdi_check.specs.Application.{Application}
-use Rattle.cdi_check.specs.BodyOutsideShape.{lacks_call, lacks_cell, lacks_field, lacks_local, lacks_method, names_missing, names_unknown}
-use Rattle.cdi_check.specs.OwnParts.{OwnParts}
-use Rattle.cdi_check.specs.References.{bean_at, is_call_missing, is_cell_missing, point_at, refuses_call}
+use Rattle.cdi_shape_check.specs.Application.{Application}
+use Rattle.cdi_shape_check.specs.BodyOutsideShape.{lacks_call, lacks_cell, lacks_field, lacks_local, lacks_method, names_missing, names_unknown}
+use Rattle.cdi_shape_check.specs.OwnParts.{OwnParts}
+use Rattle.cdi_shape_check.specs.References.{bean_at, is_call_missing, is_cell_missing, point_at, refuses_call}
 use Rattle.cdi_body_check.specs.WrittenPoints.{point_of_field, point_of_lookup}
 use Rattle.cdi_body_check.specs.WrittenNames.{is_concrete, is_event, is_exception, is_lookup}
 use Rattle.cdi_types.specs.Line.{class_named}

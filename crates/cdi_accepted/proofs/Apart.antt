@@ -16,14 +16,14 @@ use Rattle.cdi_name_check.specs.DuplicateName.{HasDuplicateName, claims_of, clai
 use Rattle.cdi_name_check.specs.NameProblems.{AreNameProblems}
 use Rattle.cdi_name_check.specs.declared.claim.Claim.{Claim}
 use Rattle.cdi_name_check.specs.declared.claim.Claim.TheVariants as claims
-use Rattle.cdi_plans.proofs.Fronts.{same}
+use Rattle.cdi_planner.proofs.Fronts.{same}
 use Rattle.cdi_problems.specs.Elements.{Element, elements_of, class_elements, interceptor_elements, place_of}
 use Rattle.cdi_problems.specs.Findings.{Placed, placed_after, placed}
 use Rattle.cdi_problems.specs.Words.{problems_at}
 use Rattle.cdi_problems.specs.declared.problem.ProblemKind.TheVariants as kinds
 use Rattle.cdi_types.specs.ListsThose.{ListsThose}
 use Rattle.cdi_run_tables.specs.Machine.{first_values}
-use Rattle.cdi_check.specs.OwnParts.{has_field}
+use Rattle.cdi_shape_check.specs.OwnParts.{has_field}
 use Rattle.cdi_check.proofs.Accepted.{append_none, map_none, no_places}
 use Rattle.cdi_accepted.proofs.Lists.{Among, passing}
 

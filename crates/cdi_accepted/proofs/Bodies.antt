@@ -16,12 +16,12 @@ use Rattle.cdi_check.specs.Accepted.{AreBodiesSound, IsRegistered}
 use Rattle.cdi_check.specs.Tables.{setting_by}
 use Rattle.cdi_deployment.specs.declared.deployment.Deployment.{Deployment}
 use Rattle.cdi_machine.specs.Words.{Fields}
-use Rattle.cdi_plans.proofs.Fronts.{same}
+use Rattle.cdi_planner.proofs.Fronts.{same}
 use Rattle.cdi_event_tables.specs.Ids.{is_named}
 use Rattle.cdi_run_tables.specs.Machine.{AreIdsOf, body_number, id_of}
 use Rattle.cdi_run_tables.specs.declared.tables.RunTables.{RunTables}
-use Rattle.cdi_check.specs.BodyOutsideShape.{HasBodyOutsideShape, is_outside, names_missing}
-use Rattle.cdi_check.specs.OwnParts.{ArePartsOf, OwnParts}
+use Rattle.cdi_shape_check.specs.BodyOutsideShape.{HasBodyOutsideShape, is_outside, names_missing}
+use Rattle.cdi_shape_check.specs.OwnParts.{ArePartsOf, OwnParts}
 use Rattle.cdi_accepted.proofs.Lists.{Among, any_passes, holds_among}
 use Rattle.cdi_accepted.proofs.Registered.{HasBody, app_of, has_shape}
 

@@ -21,8 +21,8 @@ use Rattle.cdi_resolve.specs.Filters.{enabled_of}
 use Rattle.cdi_run_tables.specs.Machine.{AreIdsOf, asked_by, bean_with, machine_tables}
 use Rattle.cdi_run_tables.specs.Planned.{IsTabled}
 use Rattle.cdi_run_tables.specs.declared.tables.RunTables.{RunTables}
-use Rattle.cdi_check.specs.OwnParts.{declares_method}
-use Rattle.cdi_check.specs.References.{answers_call, bean_at, bean_told, declares_called, is_called, refuses_call}
+use Rattle.cdi_shape_check.specs.OwnParts.{declares_method}
+use Rattle.cdi_shape_check.specs.References.{answers_call, bean_at, bean_told, declares_called, is_called, refuses_call}
 use Rattle.cdi_whole.specs.Fits.{AnswersCalls, HasMethod}
 use Rattle.cdi_accepted.proofs.Beans.{stands_listed, target}
 use Rattle.cdi_accepted.proofs.Lists.{Among, any_passes, mapped, passing}

@@ -18,7 +18,7 @@ use Rattle.cdi_enable.specs.Enablement.{IsEnabledBean, IsEnabledClass, enablemen
 use Rattle.cdi_enable.specs.declared.listed_bean.ListedBean.{ListedBean}
 use Rattle.cdi_machine.specs.Tables as machine
 use Rattle.cdi_observers.proofs.Retained.{not_enabled}
-use Rattle.cdi_plans.specs.Observers.{as_observer, observer_in, observer_of}
+use Rattle.cdi_planner.specs.Observers.{as_observer, observer_in, observer_of}
 use Rattle.cdi_resolve.specs.Filters.{is_enabled}
 use Rattle.cdi_resolve.specs.declared.bean_tables.BeanTables.{BeanTables}
 use Rattle.cdi_event_tables.specs.Observers.{managed_bean}

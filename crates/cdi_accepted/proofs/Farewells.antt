@@ -10,7 +10,7 @@ use Rattle.cdi_bodies.specs.declared.entry.Entry.{Entry}
 use Rattle.cdi_plans.specs.Chains.{class_level, is_bound, life_chain}
 use Rattle.cdi_machine.specs.Registered.{legal_of}
 use Rattle.cdi_machine.specs.Tables as machine
-use Rattle.cdi_plans.specs.Codes.{pre_destroy}
+use Rattle.cdi_planner.specs.Codes.{pre_destroy}
 use Rattle.cdi_plans.specs.declared.plan.ManagedPlan.{ManagedPlan}
 use Rattle.cdi_run_tables.specs.Machine.{has_none, hearers, id_of, machine_code, machine_observer, machine_tables}
 use Rattle.cdi_run_tables.specs.Planned.{IsTabled}

@@ -17,14 +17,14 @@ use Rattle.cdi_deployment.specs.declared.deployment.Point.{Point}
 use Rattle.cdi_machine.specs.Words.{Asked, Fields}
 use Rattle.cdi_machine.specs.Tables as machine
 use Rattle.cdi_types.specs.Members.{comes_down, fields_of, members_of, parts_of}
-use Rattle.cdi_plans.proofs.Fronts.{same}
-use Rattle.cdi_plans.specs.Codes.{completion}
-use Rattle.cdi_plans.specs.Plans.{initial_fields}
-use Rattle.cdi_plans.specs.Steps.{class_steps, construction, initialization, injection, injections, steps_of}
+use Rattle.cdi_planner.proofs.Fronts.{same}
+use Rattle.cdi_planner.specs.Codes.{completion}
+use Rattle.cdi_planner.specs.Plans.{initial_fields}
+use Rattle.cdi_planner.specs.Steps.{class_steps, construction, initialization, injection, injections, steps_of}
 use Rattle.cdi_plans.specs.declared.plan.Step.{Step}
 use Rattle.cdi_plans.specs.declared.plan.Step.TheVariants as steps
 use Rattle.cdi_run_tables.specs.Machine.{asked_by, does_something, first_values, machine_step, machine_steps}
-use Rattle.cdi_check.specs.OwnParts.{has_field}
+use Rattle.cdi_shape_check.specs.OwnParts.{has_field}
 use Rattle.cdi_body_check.specs.WrittenPoints.{point_of_field}
 use Rattle.cdi_accepted.proofs.Duplicates.{IsNamedApart}
 use Rattle.cdi_accepted.proofs.Lines.{ArePairs}

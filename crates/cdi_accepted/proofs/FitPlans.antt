@@ -14,9 +14,9 @@ use Rattle.cdi_beans.specs.Kinds.{is_managed}
 use Rattle.cdi_types.proofs.Lines.{one_line}
 use Rattle.cdi_types.specs.Line.{IsLineOf, class_named}
 use Rattle.cdi_types.specs.Members.{members_of}
-use Rattle.cdi_plans.specs.Plans.{IsManagedPlan, IsPlanOf, constructor_of, managed_plan}
-use Rattle.cdi_plans.specs.Products.{is_producer_of, producer_in, producer_of}
-use Rattle.cdi_plans.specs.Tables.{PlanTables}
+use Rattle.cdi_planner.specs.Plans.{IsManagedPlan, IsPlanOf, constructor_of, managed_plan}
+use Rattle.cdi_planner.specs.Products.{is_producer_of, producer_in, producer_of}
+use Rattle.cdi_planner.specs.Tables.{PlanTables}
 use Rattle.cdi_plans.specs.declared.plan.ManagedPlan.{ManagedPlan}
 use Rattle.cdi_plans.specs.declared.plan.Plan.{Plan}
 use Rattle.cdi_plans.specs.declared.plan.Plan.TheVariants as plans

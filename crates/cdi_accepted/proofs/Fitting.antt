@@ -13,8 +13,8 @@ use Rattle.cdi_check.specs.Tables.{setting_by}
 use Rattle.cdi_beans.specs.Kinds.{is_managed}
 use Rattle.cdi_machine.specs.Registered.{legal_of}
 use Rattle.cdi_machine.specs.Tables as machine
-use Rattle.cdi_plans.specs.Plans.{IsPlanOf}
-use Rattle.cdi_plans.specs.Tables.{PlanTables}
+use Rattle.cdi_planner.specs.Plans.{IsPlanOf}
+use Rattle.cdi_planner.specs.Tables.{PlanTables}
 use Rattle.cdi_plans.specs.declared.plan.Plan.{Plan}
 use Rattle.cdi_plans.specs.declared.plan.Plan.TheVariants as plans
 use Rattle.cdi_event_tables.specs.Observers.{managed_bean}

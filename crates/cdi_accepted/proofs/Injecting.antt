@@ -8,8 +8,8 @@ use Rattle.cdi_deployment.specs.declared.deployment.Constructor.{Constructor}
 use Rattle.cdi_deployment.specs.declared.deployment.InjectedField.{InjectedField}
 use Rattle.cdi_deployment.specs.declared.deployment.Point.{Point}
 use Rattle.cdi_machine.specs.Tables as machine
-use Rattle.cdi_plans.specs.Codes.{completion}
-use Rattle.cdi_plans.specs.Steps.{class_steps, construction, initialization, injection, injections, steps_of}
+use Rattle.cdi_planner.specs.Codes.{completion}
+use Rattle.cdi_planner.specs.Steps.{class_steps, construction, initialization, injection, injections, steps_of}
 use Rattle.cdi_plans.specs.declared.plan.Step.{Step}
 use Rattle.cdi_plans.specs.declared.plan.Step.TheVariants as steps
 use Rattle.cdi_run_tables.specs.Machine.{asked_by, does_something, machine_step, machine_steps}

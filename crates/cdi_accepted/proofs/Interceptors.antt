@@ -25,7 +25,7 @@ use Rattle.cdi_run_tables.specs.Machine.{AreIdsOf, asked_by, body_number, id_of,
 use Rattle.cdi_run_tables.specs.Planned.{IsTabled}
 use Rattle.cdi_run_tables.specs.Texts.{has_texts}
 use Rattle.cdi_run_tables.specs.declared.tables.RunTables.{RunTables}
-use Rattle.cdi_check.specs.OwnParts.{parts_of_interceptor}
+use Rattle.cdi_shape_check.specs.OwnParts.{parts_of_interceptor}
 use Rattle.cdi_body_check.specs.WrittenPoints.{point_of_field}
 use Rattle.cdi_resolve.specs.declared.bean_tables.BeanTables.{BeanTables}
 use Rattle.cdi_ledger.specs.Whose.{IsIn}

@@ -9,9 +9,9 @@ use Rattle.cdi_deployment.specs.declared.deployment.Member.{Member}
 use Rattle.cdi_deployment.specs.declared.deployment.Member.TheVariants as members
 use Rattle.cdi_deployment.specs.declared.deployment.Point.{Point}
 use Rattle.cdi_deployment.specs.declared.deployment.ProducerField.{ProducerField}
-use Rattle.cdi_plans.specs.Codes.{injected_method, member_code, post_construct, pre_destroy}
-use Rattle.cdi_plans.specs.Products.{disposer_method, source_of}
-use Rattle.cdi_plans.specs.Steps.{initialization}
+use Rattle.cdi_planner.specs.Codes.{injected_method, member_code, post_construct, pre_destroy}
+use Rattle.cdi_planner.specs.Products.{disposer_method, source_of}
+use Rattle.cdi_planner.specs.Steps.{initialization}
 use Rattle.cdi_plans.specs.declared.plan.Code.{Code}
 use Rattle.cdi_plans.specs.declared.plan.InjectedMethod.{InjectedMethod}
 use Rattle.cdi_plans.specs.declared.plan.Source.{Source}

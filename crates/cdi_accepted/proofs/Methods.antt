@@ -22,15 +22,15 @@ use Rattle.cdi_deployment.specs.declared.deployment.Method.{Method}
 use Rattle.cdi_machine.specs.Tables as machine
 use Rattle.cdi_types.specs.Line.{class_named}
 use Rattle.cdi_types.specs.Members.{members_of}
-use Rattle.cdi_plans.proofs.Fronts.{same}
-use Rattle.cdi_plans.specs.Codes.{business_method, member_chain, member_code}
+use Rattle.cdi_planner.proofs.Fronts.{same}
+use Rattle.cdi_planner.specs.Codes.{business_method, member_chain, member_code}
 use Rattle.cdi_plans.specs.declared.plan.BusinessMethod.{BusinessMethod}
 use Rattle.cdi_plans.specs.declared.plan.ManagedPlan.{ManagedPlan}
 use Rattle.cdi_resolve.specs.Filters.{enabled_of}
 use Rattle.cdi_run_tables.specs.Machine.{AreIdsOf, bean_at, bean_with, id_of, machine_kind, machine_managed, machine_method, machine_methods, method_with}
 use Rattle.cdi_run_tables.specs.Planned.{IsTabled}
 use Rattle.cdi_run_tables.specs.declared.tables.RunTables.{RunTables}
-use Rattle.cdi_check.specs.OwnParts.{declares_method, is_method}
+use Rattle.cdi_shape_check.specs.OwnParts.{declares_method, is_method}
 use Rattle.cdi_whole.specs.Fits.{HasMethod}
 use Rattle.cdi_accepted.proofs.Beans.{is_kept, kept_at}
 use Rattle.cdi_accepted.proofs.FitPlans.{HasPlan}

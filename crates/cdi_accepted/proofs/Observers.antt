@@ -26,8 +26,8 @@ use Rattle.cdi_machine.specs.Words.{Name}
 use Rattle.cdi_types.proofs.Lines.{one_line}
 use Rattle.cdi_types.specs.Line.{IsLineOf, class_named}
 use Rattle.cdi_types.specs.Members.{members_of}
-use Rattle.cdi_plans.specs.Codes.{injected_method}
-use Rattle.cdi_plans.specs.Observers.{as_observer, observer_in, observer_named, observer_of}
+use Rattle.cdi_planner.specs.Codes.{injected_method}
+use Rattle.cdi_planner.specs.Observers.{as_observer, observer_in, observer_named, observer_of}
 use Rattle.cdi_resolve.specs.declared.bean_tables.BeanTables.{BeanTables}
 use Rattle.cdi_run_tables.specs.Machine.{AreIdsOf, bean_with, has_none, hearers, id_of, machine_member, machine_observer, machine_tables, observer_with, observers_of}
 use Rattle.cdi_run_tables.specs.Planned.{IsTabled}

@@ -10,7 +10,7 @@ use Rattle.cdi_deployment.specs.declared.deployment.Deployment.{Deployment}
 use Rattle.cdi_deployment.specs.declared.deployment.Member.{Member}
 use Rattle.cdi_deployment.specs.declared.deployment.Member.TheVariants as members
 use Rattle.cdi_deployment.specs.declared.deployment.Observer.{Observer}
-use Rattle.cdi_plans.specs.Observers.{as_observer}
+use Rattle.cdi_planner.specs.Observers.{as_observer}
 use Rattle.cdi_quals.specs.declared.types.QualifierType.{QualifierType}
 use Rattle.cdi_types.specs.Declarations.{declarations_of}
 use Rattle.cdi_accepted.proofs.Beans.{before}

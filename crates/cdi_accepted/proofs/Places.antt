@@ -21,12 +21,12 @@ use Rattle.cdi_deployment.specs.declared.deployment.Observer.{Observer}
 use Rattle.cdi_deployment.specs.declared.deployment.Point.{Point}
 use Rattle.cdi_machine.specs.Tables as machine
 use Rattle.cdi_name_check.specs.NameProblems.{AreNameProblems}
-use Rattle.cdi_plans.specs.Codes.{business_method, completion, constructor_body, post_construct, pre_destroy}
-use Rattle.cdi_plans.specs.Observers.{as_observer, observer_in, observer_named, observer_of}
-use Rattle.cdi_plans.specs.Plans.{IsPlanOf}
-use Rattle.cdi_plans.specs.Products.{IsProductPlan, disposer_method}
-use Rattle.cdi_plans.specs.Steps.{construction, injections, steps_of}
-use Rattle.cdi_plans.specs.Tables.{PlanTables}
+use Rattle.cdi_planner.specs.Codes.{business_method, completion, constructor_body, post_construct, pre_destroy}
+use Rattle.cdi_planner.specs.Observers.{as_observer, observer_in, observer_named, observer_of}
+use Rattle.cdi_planner.specs.Plans.{IsPlanOf}
+use Rattle.cdi_planner.specs.Products.{IsProductPlan, disposer_method}
+use Rattle.cdi_planner.specs.Steps.{construction, injections, steps_of}
+use Rattle.cdi_planner.specs.Tables.{PlanTables}
 use Rattle.cdi_plans.specs.declared.plan.Code.{Code}
 use Rattle.cdi_plans.specs.declared.plan.InjectedMethod.{InjectedMethod}
 use Rattle.cdi_plans.specs.declared.plan.ManagedPlan.{ManagedPlan}

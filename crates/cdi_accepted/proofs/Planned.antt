@@ -13,8 +13,8 @@ use Rattle.cdi_plans.specs.Bindings.{bindings_had}
 use Rattle.cdi_plans.specs.Chains.{ChainTables, method_of, is_bound, places_from, chain_of, class_level, member_level, chain_with, invoke_chain, life_chain, is_bound_with, intercepts_member, intercepts_lifecycle, intercepts, interceptors_of}
 use Rattle.cdi_deployment.specs.declared.deployment.Class.{Class}
 use Rattle.cdi_deployment.specs.declared.deployment.Constructor.{Constructor}
-use Rattle.cdi_plans.specs.Steps.{steps_of, construction, injections}
-use Rattle.cdi_plans.specs.Codes.{completion}
+use Rattle.cdi_planner.specs.Steps.{steps_of, construction, injections}
+use Rattle.cdi_planner.specs.Codes.{completion}
 use Rattle.cdi_types.specs.Members.{members_of}
 use Rattle.cdi_plans.specs.declared.plan.Step.{Step}
 use Rattle.cdi_plans.specs.declared.plan.Step.TheVariants as steps

@@ -8,9 +8,9 @@ use Rattle.cdi_beans.specs.declared.bean.BeanKind.TheVariants as kinds
 use Rattle.cdi_deployment.specs.declared.deployment.Class.{Class}
 use Rattle.cdi_deployment.specs.declared.deployment.Member.{Member}
 use Rattle.cdi_types.specs.Line.{class_named}
-use Rattle.cdi_plans.specs.Plans.{IsManagedPlan, IsPlanOf, constructor_of, managed_plan}
-use Rattle.cdi_plans.specs.Products.{IsPlanBy, IsProductPlan, disposer_method, is_producer_of, producer_in, producer_of}
-use Rattle.cdi_plans.specs.Tables.{PlanTables}
+use Rattle.cdi_planner.specs.Plans.{IsManagedPlan, IsPlanOf, constructor_of, managed_plan}
+use Rattle.cdi_planner.specs.Products.{IsPlanBy, IsProductPlan, disposer_method, is_producer_of, producer_in, producer_of}
+use Rattle.cdi_planner.specs.Tables.{PlanTables}
 use Rattle.cdi_plans.specs.declared.plan.ManagedPlan.{ManagedPlan}
 use Rattle.cdi_plans.specs.declared.plan.Plan.{Plan}
 use Rattle.cdi_plans.specs.declared.plan.Plan.TheVariants as plans

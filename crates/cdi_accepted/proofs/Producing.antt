@@ -10,7 +10,7 @@ use Rattle.cdi_deployment.specs.declared.deployment.Deployment.{Deployment}
 use Rattle.cdi_deployment.specs.declared.deployment.Member.{Member}
 use Rattle.cdi_enable.specs.Enablement.{enablement_of, listed_bean}
 use Rattle.cdi_event_tables.specs.Observers.{managed_bean}
-use Rattle.cdi_plans.specs.Products.{IsProductPlan}
+use Rattle.cdi_planner.specs.Products.{IsProductPlan}
 use Rattle.cdi_plans.specs.declared.plan.ProductPlan.{ProductPlan}
 use Rattle.cdi_resolve.specs.Filters.{enabled_of, is_enabled}
 use Rattle.cdi_resolve.specs.declared.bean_tables.BeanTables.{BeanTables}

@@ -20,7 +20,7 @@ use Rattle.cdi_types.specs.Line.{IsLineOf, class_named}
 use Rattle.cdi_types.specs.Members.{comes_down, members_of, parts_of}
 use Rattle.cdi_name_check.specs.NameProblems.{AreNameProblems}
 use Rattle.cdi_name_check.specs.UnknownName.{HasUnknownName, knows_member}
-use Rattle.cdi_plans.specs.Products.{is_producer_of, producer_in, producer_of}
+use Rattle.cdi_planner.specs.Products.{is_producer_of, producer_in, producer_of}
 use Rattle.cdi_problems.specs.Elements.{Element, elements_of}
 use Rattle.cdi_problems.specs.declared.problem.ProblemKind.TheVariants as problem_kinds
 use Rattle.cdi_types.specs.ListsThose.{ListsThose}

@@ -32,8 +32,8 @@ use Rattle.cdi_machine.specs.Words.{Name}
 use Rattle.cdi_types.specs.Line.{class_named}
 use Rattle.cdi_types.specs.Members.{comes_down, members_of, parts_of}
 use Rattle.cdi_deployment.specs.Member.{member_name}
-use Rattle.cdi_plans.specs.Codes.{completion, constructor_body, injected_method, post_construct, pre_destroy}
-use Rattle.cdi_plans.specs.Steps.{class_steps, construction, initialization, injection, injections, steps_of}
+use Rattle.cdi_planner.specs.Codes.{completion, constructor_body, injected_method, post_construct, pre_destroy}
+use Rattle.cdi_planner.specs.Steps.{class_steps, construction, initialization, injection, injections, steps_of}
 use Rattle.cdi_plans.specs.declared.plan.Code.{Code}
 use Rattle.cdi_plans.specs.declared.plan.ManagedPlan.{ManagedPlan}
 use Rattle.cdi_plans.specs.declared.plan.Step.{Step}

@@ -7,7 +7,7 @@ use Rattle.cdi_bodies.specs.declared.shape.Shape.{Shape}
 use Rattle.cdi_body_check.specs.Shapes.{shape_of}
 use Rattle.cdi_resolve.specs.Filters.{enabled_of}
 use Rattle.cdi_run_tables.specs.declared.tables.RunTables.{RunTables}
-use Rattle.cdi_check.specs.Application.{Application}
+use Rattle.cdi_shape_check.specs.Application.{Application}
 
 abbrev pub app_of : RunTables → Application
 app_of t =

@@ -30,12 +30,12 @@ use Rattle.cdi_event_tables.specs.Observers.{group_with, planned_observer, plann
 use Rattle.cdi_event_tables.specs.declared.ids.BodyIds.{BodyIds}
 use Rattle.cdi_event_tables.specs.declared.observer_groups.ObserverGroup.{ObserverGroup}
 use Rattle.cdi_event_tables.specs.declared.observers.PlannedObserver.{PlannedObserver}
-use Rattle.cdi_plans.specs.Codes.{completion, constructor_body, post_construct, pre_destroy}
-use Rattle.cdi_plans.specs.Observers.{observer_of, observer_method}
-use Rattle.cdi_plans.specs.Plans.{IsPlanOf}
-use Rattle.cdi_plans.specs.Products.{IsProductPlan, disposer_method}
-use Rattle.cdi_plans.specs.Steps.{construction, injections, steps_of}
-use Rattle.cdi_plans.specs.Tables.{PlanTables}
+use Rattle.cdi_planner.specs.Codes.{completion, constructor_body, post_construct, pre_destroy}
+use Rattle.cdi_planner.specs.Observers.{observer_of, observer_method}
+use Rattle.cdi_planner.specs.Plans.{IsPlanOf}
+use Rattle.cdi_planner.specs.Products.{IsProductPlan, disposer_method}
+use Rattle.cdi_planner.specs.Steps.{construction, injections, steps_of}
+use Rattle.cdi_planner.specs.Tables.{PlanTables}
 use Rattle.cdi_plans.specs.declared.plan.Code.{Code}
 use Rattle.cdi_plans.specs.declared.plan.InjectedMethod.{InjectedMethod}
 use Rattle.cdi_plans.specs.declared.plan.ManagedPlan.{ManagedPlan}

@@ -32,12 +32,12 @@ use Rattle.cdi_plans.specs.declared.plan.ManagedPlan.{ManagedPlan}
 use Rattle.cdi_plans.specs.declared.plan.Step.{Step}
 use Rattle.cdi_plans.specs.declared.plan.Step.TheVariants as steps
 use Rattle.cdi_resolve.specs.Filters.{enabled_of}
-use Rattle.cdi_plans.specs.Steps.{steps_of}
+use Rattle.cdi_planner.specs.Steps.{steps_of}
 use Rattle.cdi_run_tables.specs.Machine.{AreIdsOf, asked_by, body_number, first_values, id_of, lookups_at, machine_steps, machine_tables}
 use Rattle.cdi_run_tables.specs.Planned.{IsTabled}
 use Rattle.cdi_run_tables.specs.Texts.{has_texts}
 use Rattle.cdi_run_tables.specs.declared.tables.RunTables.{RunTables}
-use Rattle.cdi_check.specs.OwnParts.{ArePartsOf, OwnParts, declares_method, has_field, parts_of_line}
+use Rattle.cdi_shape_check.specs.OwnParts.{ArePartsOf, OwnParts, declares_method, has_field, parts_of_line}
 use Rattle.cdi_body_check.specs.WrittenPoints.{point_of_field}
 use Rattle.cdi_types.specs.Declarations.{declarations_of}
 use Rattle.cdi_ledger.specs.Whose.{IsIn}

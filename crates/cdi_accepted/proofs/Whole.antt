@@ -19,9 +19,9 @@ use Rattle.cdi_machine.specs.Runs.{Legal}
 use Rattle.cdi_machine.specs.Tables as machine
 use Rattle.cdi_machine.specs.Words.{Asked}
 use Rattle.cdi_types.specs.Line.{class_named}
-use Rattle.cdi_plans.specs.Codes.{injected_method}
-use Rattle.cdi_plans.specs.Plans.{IsPlanOf}
-use Rattle.cdi_plans.specs.Products.{IsProductPlan, disposer_method}
+use Rattle.cdi_planner.specs.Codes.{injected_method}
+use Rattle.cdi_planner.specs.Plans.{IsPlanOf}
+use Rattle.cdi_planner.specs.Products.{IsProductPlan, disposer_method}
 use Rattle.cdi_plans.specs.declared.plan.InjectedMethod.{InjectedMethod}
 use Rattle.cdi_plans.specs.declared.plan.ManagedPlan.{ManagedPlan}
 use Rattle.cdi_plans.specs.declared.plan.Plan.{Plan}
@@ -34,7 +34,7 @@ use Rattle.cdi_run_tables.specs.Planned.{IsPlanned, IsTabled, plan_tables}
 use Rattle.cdi_run_tables.specs.Texts.{has_texts}
 use Rattle.cdi_run_tables.specs.declared.planned.PlannedBean.{PlannedBean}
 use Rattle.cdi_run_tables.specs.declared.tables.RunTables.{RunTables}
-use Rattle.cdi_check.specs.OwnParts.{has_field}
+use Rattle.cdi_shape_check.specs.OwnParts.{has_field}
 use Rattle.cdi_whole.specs.Fits.{FitsBean, FitsMember, FitsSource}
 use Rattle.cdi_accepted.proofs.Beans.{beside, stands_listed, target}
 use Rattle.cdi_accepted.proofs.Fields.{has_first}

@@ -8,7 +8,7 @@ use Rattle.cdi_beans.specs.declared.bean.EnabledInterceptor.{EnabledInterceptor}
 use Rattle.cdi_plans.specs.Chains.{ChainTables, method_of, invoke_chain, life_chain}
 use Rattle.cdi_deployment.specs.declared.deployment.Class.{Class}
 use Rattle.cdi_deployment.specs.declared.deployment.Constructor.{Constructor}
-use Rattle.cdi_plans.specs.Steps.{steps_of}
+use Rattle.cdi_planner.specs.Steps.{steps_of}
 use Rattle.cdi_run_tables.specs.Machine.{machine_steps}
 use Rattle.cdi_ledger.specs.Whose.{IsIn}
 use Rattle.cdi_whole.specs.Fits.{intercepted_by}

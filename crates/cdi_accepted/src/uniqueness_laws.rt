@@ -7,7 +7,7 @@ ghost use Rattle.cdi_beans.specs.declared.bean.BeanList.{BeanList};
 ghost use Rattle.cdi_bodies.specs.declared.shape.Shape.{Shape};
 ghost use Rattle.cdi_check.specs.Problems.{AreProblemsOf};
 ghost use Rattle.cdi_deployment.specs.declared.deployment.Deployment.{Deployment};
-ghost use Rattle.cdi_plans.specs.Tables.{PlanTables};
+ghost use Rattle.cdi_planner.specs.Tables.{PlanTables};
 ghost use Rattle.cdi_problems.specs.declared.problem.Problem.{Problem};
 ghost use Rattle.cdi_run_tables.specs.Planned.{IsPlanned};
 ghost use Rattle.cdi_run_tables.specs.declared.planned.PlannedBean.{PlannedBean};

@@ -1,7 +1,2 @@
 pub mod Accepted
 pub mod Adding
-pub mod AddingShapes
-pub mod Putting
-pub mod SameParts
-pub mod SetSteps
-pub mod Split

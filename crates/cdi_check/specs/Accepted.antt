@@ -20,7 +20,7 @@ use Rattle.cdi_problems.specs.Elements.{Element, elements_of}
 use Rattle.cdi_quals.specs.Types.{AreQualifiersOf, AreTypesOf}
 use Rattle.cdi_quals.specs.declared.types.QualifierType.{QualifierType}
 use Rattle.cdi_resolve.specs.declared.resolution.Resolution.TheVariants.{One}
-use Rattle.cdi_check.specs.BodyOutsideShape.{HasBodyOutsideShape}
+use Rattle.cdi_shape_check.specs.BodyOutsideShape.{HasBodyOutsideShape}
 use Rattle.cdi_check.specs.BeanRules.{HasInconsistentSpecialization, HasFinalIntercepted}
 use Rattle.cdi_check.specs.Late.{setting_of, application_in}
 

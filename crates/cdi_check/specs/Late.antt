@@ -25,8 +25,8 @@ use Rattle.cdi_problems.specs.declared.problem.ProblemKind.TheVariants as kinds
 use Rattle.cdi_quals.specs.Types.{AreQualifiersOf, AreTypesOf}
 use Rattle.cdi_quals.specs.declared.types.QualifierType.{QualifierType}
 use Rattle.cdi_resolve.specs.Filters.{enabled_beans}
-use Rattle.cdi_check.specs.Application.{Application}
-use Rattle.cdi_check.specs.BodyOutsideShape.{HasBodyOutsideShape}
+use Rattle.cdi_shape_check.specs.Application.{Application}
+use Rattle.cdi_shape_check.specs.BodyOutsideShape.{HasBodyOutsideShape}
 use Rattle.cdi_types.specs.Declarations.{declarations_of}
 use Rattle.cdi_check.specs.BeanRules.{HasInconsistentSpecialization, HasFinalIntercepted}
 

@@ -3,10 +3,3 @@ pub mod BeanRules
 pub mod Late
 pub mod Problems
 pub mod Tables
-pub mod Application
-pub mod BodyOutsideShape
-pub mod OwnFindings
-pub mod OwnParts
-pub mod OwnTables
-pub mod References
-pub mod Targets

@@ -11,7 +11,6 @@ ghost use Rattle.cdi_check.specs.Late as spec;
 ghost use Rattle.cdi_live.specs.Settings.{setting_of};
 
 use crate::bean_rules::{FinalIntercepted, InconsistentSpecialization};
-use crate::bodies_outside_shape;
 use cdi_base::{Place, Seq};
 use cdi_body_check::{
     BodySite, BodyTables, checked_lifecycles, proceeds_not_allowed, sites_of as all_sites,
@@ -19,6 +18,7 @@ use cdi_body_check::{
 };
 use cdi_live::{DeploymentTables, PointProblem, PointRule, dependent_cycles};
 use cdi_problems::{Element, Problem, ProblemKind, add_problems_at, places_where};
+use cdi_shape_check::bodies_outside_shape;
 use std::alloc::{AllocError, Global};
 
 /// Where the shape of a live body names something that isn't there.

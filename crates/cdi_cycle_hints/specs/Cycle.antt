@@ -3,7 +3,7 @@ use Rattle.std.specs.Prelude.{ℕ, List, [], ◌∷◌, ◌++◌, codes, positio
 use Rattle.std.specs.List.{flat_map}
 use Rattle.cdi_base.specs.declared.place.Place.{Place}
 use Rattle.cdi_beans.specs.declared.bean.Bean.{Bean}
-use Rattle.cdi_resolve.specs.Candidates.{place_of}
+use Rattle.cdi_candidates.specs.Candidates.{place_of}
 use Rattle.cdi_cycle_hints.specs.ToldCycle.{told_cycle}
 use Rattle.cdi_problems.specs.Places.{place_text, same_place}
 

@@ -1,6 +1,6 @@
 //! The cycle that a dependent bean stands on which needs itself.
 ghost use Rattle.std.specs.Prelude.{◌≡◌, ◌++◌, string_bytes, IfOk, OnOk};
-ghost use Rattle.cdi_resolve.specs.Candidates as candidates;
+ghost use Rattle.cdi_candidates.specs.Candidates as candidates;
 ghost use Rattle.cdi_cycle_hints.specs.Cycle as spec;
 ghost use Rattle.cdi_problems.specs.Places.{same_place};
 
@@ -8,8 +8,8 @@ use crate::needs::Needs;
 use crate::told_cycle::told_cycle;
 use cdi_base::{Names, Place, Seq};
 use cdi_beans::Bean;
+use cdi_candidates::place_of;
 use cdi_problems::PlaceText;
-use cdi_resolve::place_of;
 use std::alloc::{AllocError, Global};
 
 fn is_at(bean: &Bean, place: &Place) -> bool

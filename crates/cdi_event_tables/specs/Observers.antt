@@ -7,8 +7,8 @@ use Rattle.cdi_beans.specs.Kinds.{is_managed}
 use Rattle.cdi_beans.specs.declared.bean.Bean.{Bean}
 use Rattle.cdi_beans.specs.declared.bean.ObserverMethod.{ObserverMethod}
 use Rattle.cdi_beans.specs.declared.declared.DeclaredTables.{DeclaredTables}
-use Rattle.cdi_plans.specs.Observers.{observer_of, observer_method}
-use Rattle.cdi_plans.specs.Tables.{PlanTables}
+use Rattle.cdi_planner.specs.Observers.{observer_of, observer_method}
+use Rattle.cdi_planner.specs.Tables.{PlanTables}
 use Rattle.cdi_plans.specs.declared.plan.InjectedMethod.{InjectedMethod}
 use Rattle.cdi_quals.specs.Qualifiers.{has_all}
 use Rattle.cdi_resolve.specs.Filters.{Candidates, is_enabled}

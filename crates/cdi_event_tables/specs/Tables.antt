@@ -5,7 +5,7 @@ use Rattle.cdi_event_tables.specs.Observers.{observer_groups}
 use Rattle.cdi_event_tables.specs.declared.ids.BodyIds.{BodyIds}
 use Rattle.cdi_event_tables.specs.declared.tables.EventTables.{EventTables}
 use Rattle.cdi_name_check.specs.NameSets.{HasNames}
-use Rattle.cdi_plans.specs.Tables.{PlanTables}
+use Rattle.cdi_planner.specs.Tables.{PlanTables}
 use Rattle.cdi_resolve.specs.declared.bean_tables.BeanTables.{BeanTables}
 
 -- the classes of events, and the observers of enabled beans

@@ -2,13 +2,13 @@
 ghost use Rattle.std.specs.Prelude.{◌≡◌, slice_get, IfOk, IsSome, OnOk};
 ghost use Rattle.std.specs.List.{All};
 ghost use Rattle.cdi_event_tables.specs.Observers as spec;
-ghost use Rattle.cdi_plans.specs.Observers.{observer_of};
+ghost use Rattle.cdi_planner.specs.Observers.{observer_of};
 
 use crate::ids::BodyIds;
 use crate::observers::{ObserverPlanner, PlannedObserver};
 use cdi_base::Seq;
 use cdi_beans::ObserverMethod;
-use cdi_plans::Planner;
+use cdi_planner::Planner;
 use cdi_resolve::Resolver;
 use std::alloc::{AllocError, Global};
 

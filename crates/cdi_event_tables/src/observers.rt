@@ -2,7 +2,7 @@
 ghost use Rattle.std.specs.Prelude.{◌≡◌, ◌&&◌, ℕ, nat_eq, not, is_some, IfOk, IsSome};
 ghost use Rattle.std.specs.HashMap.{get};
 ghost use Rattle.cdi_beans.specs.Kinds.{is_managed};
-ghost use Rattle.cdi_plans.specs.Observers.{observer_of};
+ghost use Rattle.cdi_planner.specs.Observers.{observer_of};
 ghost use Rattle.cdi_event_tables.specs.Ids.{id_in};
 ghost use Rattle.cdi_event_tables.specs.Observers as spec;
 ghost use Rattle.cdi_resolve.specs.Filters as enabled;
@@ -11,7 +11,8 @@ use crate::ids::BodyIds;
 use cdi_base::Name;
 use cdi_beans::{Bean, ObserverMethod};
 use cdi_bodies::BodyId;
-use cdi_plans::{InjectedMethod, Planner};
+use cdi_planner::Planner;
+use cdi_plans::InjectedMethod;
 use cdi_quals::QualSet;
 use cdi_resolve::Resolver;
 use std::alloc::{AllocError, Global};

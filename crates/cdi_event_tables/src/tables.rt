@@ -2,14 +2,14 @@
 ghost use Rattle.std.specs.Prelude.{◌≡◌, IfOk, IsSome};
 ghost use Rattle.std.specs.List.{All};
 ghost use Rattle.cdi_event_tables.specs.Tables as spec;
-ghost use Rattle.cdi_plans.specs.Observers.{observer_of};
+ghost use Rattle.cdi_planner.specs.Observers.{observer_of};
 
 use crate::event_classes::event_classes;
 use crate::ids::BodyIds;
 use crate::observer_groups::{ObserverGroup, observer_groups};
 use cdi_base::{Name, Seq};
 use cdi_deployment::Deployment;
-use cdi_plans::Planner;
+use cdi_planner::Planner;
 use cdi_resolve::BeanTables;
 use std::alloc::{AllocError, Global};
 use std::collections::HashSet;
@@ -26,7 +26,7 @@ pub struct EventTables {
 impl EventTables {
     /// That of a deployment with its tables, what makes its plans and the numbers of its bodies. Of each observer the first class of the
     /// name of the one that declares it has to declare it, as it does in a deployment whose names have no problem
-    /// ([`law_observers_are_declared`](cdi_plans::laws::law_observers_are_declared)). It goes over the classes, the beans and the
+    /// ([`law_observers_are_declared`](cdi_planner::laws::law_observers_are_declared)). It goes over the classes, the beans and the
     /// observers, and for each of these over the priorities.
     pub fn build(
         alloc: Global,

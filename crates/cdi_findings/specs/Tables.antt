@@ -1,7 +1,7 @@
 -- The tables by which the points of a deployment resolve, for what is told of its problems.
 use Rattle.std.specs.Prelude.{◌≡◌, Bool, true, false, List, Option, None}
 use Rattle.std.specs.List.{list_any}
-use Rattle.cdi_resolve.specs.Tables.{AreTables}
+use Rattle.cdi_candidates.specs.Tables.{AreTables}
 use Rattle.cdi_deployment.specs.declared.deployment.Deployment.{Deployment}
 use Rattle.cdi_problems.specs.declared.problem.Problem.{Problem}
 use Rattle.cdi_problems.specs.declared.problem.ProblemKind.{ProblemKind}

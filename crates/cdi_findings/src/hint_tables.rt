@@ -6,12 +6,14 @@ ghost use Rattle.cdi_findings.specs.Tables as spec;
 ghost use Rattle.cdi_problem_hints.specs.Subjects.{subject_of};
 ghost use Rattle.cdi_cycle_hints.specs.Needs.{AreNeedsOf};
 
+use cdi_candidates::tables_of;
 use cdi_cycle_hints::{Needs, needs_of};
 use cdi_deployment::Deployment;
 use cdi_name_uses::ScriptNames;
-use cdi_problem_hints::{PlaceIndex, Subject};
+use cdi_place_index::PlaceIndex;
+use cdi_problem_hints::Subject;
 use cdi_problems::{Problem, ProblemKind};
-use cdi_resolve::{BeanTables, tables_of};
+use cdi_resolve::BeanTables;
 use std::alloc::{AllocError, Global};
 
 /// Whether the tables tell something of a problem of a kind.

@@ -4,7 +4,7 @@ use Rattle.std.specs.List.{flat_map}
 use Rattle.cdi_base.specs.declared.scope.Scope.{Scope}
 use Rattle.cdi_base.specs.declared.scope.Scope.TheVariants as scopes
 use Rattle.cdi_beans.specs.declared.bean.Bean.{Bean}
-use Rattle.cdi_resolve.specs.Candidates.{place_of}
+use Rattle.cdi_candidates.specs.Candidates.{place_of}
 use Rattle.cdi_problems.specs.Places.{place_text}
 
 abbrev pub scope_text : Scope → List ℕ

@@ -5,7 +5,7 @@ use Rattle.std.specs.List.{flat_map, list_any}
 use Rattle.cdi_base.specs.declared.place.Place.{Place}
 use Rattle.cdi_base.specs.declared.uses.Use.{Use}
 use Rattle.cdi_bean_check.specs.Qualifiers.{full_uses}
-use Rattle.cdi_resolve.specs.Candidates.{candidates}
+use Rattle.cdi_candidates.specs.Candidates.{candidates}
 use Rattle.cdi_deployment.specs.Member.{member_params}
 use Rattle.cdi_deployment.specs.declared.deployment.Point.{Point}
 use Rattle.cdi_pictures.specs.Edges.{edge_line}

@@ -5,9 +5,10 @@ ghost use Rattle.cdi_resolve.specs.Filters as filters;
 
 use cdi_base::{Names, Scope};
 use cdi_beans::Bean;
+use cdi_candidates::place_of;
 use cdi_problems::PlaceText;
 use cdi_resolve::enabled_bean::enabled_of;
-use cdi_resolve::{EnabledBean, Resolver, place_of};
+use cdi_resolve::{EnabledBean, Resolver};
 use std::alloc::{AllocError, Global};
 
 fn scope_text(scope: Scope) -> &'static str

@@ -6,9 +6,9 @@ ghost use Rattle.cdi_problems.specs.Elements.{element_of, shown};
 use crate::asker::{Asker, Drawing};
 use crate::edge::{Edge, Look, add_edge};
 use cdi_base::{Name, Names, Place, Use};
+use cdi_candidates::candidates;
 use cdi_deployment::Point;
 use cdi_problems::{Element, PlaceText, name_text};
-use cdi_resolve::candidates;
 use std::alloc::{AllocError, Global};
 
 /// How many of the beans that are left for a point are drawn.

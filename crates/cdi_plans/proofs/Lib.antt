@@ -1,10 +1,3 @@
-pub mod Apart
-pub mod Declared
-pub mod Fronts
-pub mod Lineages
-pub mod Observing
-pub mod Producers
-pub mod Serving
 pub mod Bound
 pub mod Places
 pub mod Some

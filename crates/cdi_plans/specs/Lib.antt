@@ -1,10 +1,3 @@
-pub mod Apart
-pub mod Codes
-pub mod Observers
-pub mod Plans
-pub mod Products
-pub mod Steps
-pub mod Tables
 pub mod BeanBindings
 pub mod Bindings
 pub mod Chains

@@ -1,28 +1,10 @@
-//! Laws of chains and plans, over the definitions alone.
-ghost use Rattle.std.specs.Prelude.{◌≡◌, ℕ, List, IsSome};
-ghost use Rattle.std.specs.List.{All};
+//! Laws of chains, over the definitions alone.
+ghost use Rattle.std.specs.Prelude.{List};
 ghost use Rattle.std.specs.List.Sorted.{IsStrictlyIncreasing};
 ghost use Rattle.cdi_base.specs.declared.place.InterceptorMethod.{InterceptorMethod};
 ghost use Rattle.cdi_beans.specs.declared.bean.EnabledInterceptor.{EnabledInterceptor};
 ghost use Rattle.cdi_quals.specs.declared.qualifier.Qualifier.{Qualifier};
 ghost use Rattle.cdi_plans.specs.Chains.{chain_of};
-ghost use Rattle.cdi_beans.specs.Problems.{IsMadeOf};
-ghost use Rattle.cdi_beans.specs.declared.bean.BeanList.{BeanList};
-ghost use Rattle.cdi_deployment.specs.declared.deployment.Deployment.{Deployment};
-ghost use Rattle.cdi_plans.specs.Observers.{observer_of};
-ghost use Rattle.cdi_plans.specs.Plans.{IsDeclared};
-
-/// Each bean of a deployment whose names have no problem has a plan.
-pub fn law_beans_are_declared()
-    ensures { (d : Deployment) (list : BeanList) → IsMadeOf d list
-        → All (IsDeclared d.classes) list.beans }
-{}
-
-/// Each observer of a deployment whose names have no problem is declared by the class that is told to declare it.
-pub fn law_observers_are_declared()
-    ensures { (d : Deployment) (list : BeanList) → IsMadeOf d list
-        → All (λ o. IsSome (observer_of d.classes o)) list.observers }
-{}
 
 /// A chain lists interceptors in their order, and none twice.
 pub fn law_in_order()

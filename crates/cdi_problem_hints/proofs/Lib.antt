@@ -1,4 +1,2 @@
 pub mod Upward
 pub mod Where
-pub mod Keys
-pub mod Steps

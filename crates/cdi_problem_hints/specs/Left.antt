@@ -3,7 +3,7 @@ use Rattle.std.specs.Prelude.{List, [], ◌∷◌, Option, Some, None, if◌then
 use Rattle.std.specs.List.{flat_map}
 use Rattle.cdi_base.specs.declared.place.Place.{Place}
 use Rattle.cdi_bean_check.specs.Qualifiers.{full_uses}
-use Rattle.cdi_resolve.specs.Candidates.{candidates}
+use Rattle.cdi_candidates.specs.Candidates.{candidates}
 use Rattle.cdi_deployment.specs.declared.deployment.Deployment.{Deployment}
 use Rattle.cdi_deployment.specs.declared.deployment.Point.{Point}
 use Rattle.cdi_problem_hints.specs.Asked.{is_at, points_of}

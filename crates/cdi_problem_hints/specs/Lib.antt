@@ -11,6 +11,3 @@ pub mod Scripts
 pub mod Sentences
 pub mod Specializers
 pub mod Subjects
-pub mod PlaceIndex
-pub mod PlaceRows
-pub mod Sets

@@ -2,10 +2,10 @@
 use Rattle.std.specs.Prelude.{ℕ, ◌-◌, List, [], ◌++◌, codes, decimal, length, min, take, nat_eq, Option, Some, None, if◌then◌else◌}
 use Rattle.std.specs.List.{flat_map}
 use Rattle.cdi_bean_check.specs.Qualifiers.{full_uses}
-use Rattle.cdi_resolve.specs.Near.{near_beans}
-use Rattle.cdi_resolve.specs.declared.near.Lack.{Lack}
-use Rattle.cdi_resolve.specs.declared.near.Lack.TheVariants as lacks
-use Rattle.cdi_resolve.specs.declared.near.NearBean.{NearBean}
+use Rattle.cdi_candidates.specs.Near.{near_beans}
+use Rattle.cdi_candidates.specs.declared.near.Lack.{Lack}
+use Rattle.cdi_candidates.specs.declared.near.Lack.TheVariants as lacks
+use Rattle.cdi_candidates.specs.declared.near.NearBean.{NearBean}
 use Rattle.cdi_deployment.specs.declared.deployment.Deployment.{Deployment}
 use Rattle.cdi_deployment.specs.declared.deployment.Point.{Point}
 use Rattle.cdi_problem_hints.specs.Asked.{points_of}

@@ -4,7 +4,7 @@ use Rattle.cdi_base.specs.declared.place.Place.{Place}
 use Rattle.cdi_base.specs.declared.place.Place.TheVariants as places
 use Rattle.cdi_bean_check.specs.ManagedBeans.{bean_class}
 use Rattle.cdi_bean_check.specs.Qualifiers.{specialized_bean}
-use Rattle.cdi_resolve.specs.Candidates.{place_of}
+use Rattle.cdi_candidates.specs.Candidates.{place_of}
 use Rattle.cdi_deployment.specs.declared.deployment.Class.{Class}
 use Rattle.cdi_deployment.specs.declared.deployment.Deployment.{Deployment}
 use Rattle.cdi_problem_hints.specs.Candidates.{candidates_text}

@@ -10,8 +10,9 @@ use crate::at::elements_at;
 use crate::specializer::specializers_at;
 use crate::subject::Subject;
 use cdi_base::{Place, Seq};
+use cdi_candidates::candidates;
 use cdi_problems::{Element, Problem, ProblemKind};
-use cdi_resolve::{BeanTables, candidates};
+use cdi_resolve::BeanTables;
 use std::alloc::{AllocError, Global};
 
 fn add_places(left: &[Place], places: &mut Seq<Place>) -> Result<(), AllocError>

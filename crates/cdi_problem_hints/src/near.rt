@@ -8,8 +8,8 @@ use crate::asked::{Asked, asked_by};
 use crate::point::point_text;
 use crate::subject::Subject;
 use cdi_base::{Name, Names};
+use cdi_candidates::{Lack, NearBean, near_beans};
 use cdi_problems::{Element, PlaceText, name_text};
-use cdi_resolve::{Lack, NearBean, near_beans};
 use std::alloc::{AllocError, Global};
 
 /// The most beans that are told as near to what a point asks for.

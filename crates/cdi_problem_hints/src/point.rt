@@ -7,8 +7,9 @@ ghost use Rattle.cdi_problems.specs.Elements.{element_of};
 use crate::asked::{Asked, asked_by};
 use crate::candidate::add_candidates;
 use cdi_base::{Name, Names, Use};
+use cdi_candidates::candidates;
 use cdi_problems::{Element, name_text};
-use cdi_resolve::{BeanTables, candidates};
+use cdi_resolve::BeanTables;
 use std::alloc::{AllocError, Global};
 
 /// Qualifiers as they are told of a point.

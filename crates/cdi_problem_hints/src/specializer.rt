@@ -1,16 +1,17 @@
 //! The enabled beans that specialize one bean.
 ghost use Rattle.std.specs.Prelude.{◌≡◌, ◌++◌, map, filter, string_bytes, IfOk, OnOk};
 ghost use Rattle.std.specs.Option.{option_copied};
-ghost use Rattle.cdi_resolve.specs.Candidates as candidates;
+ghost use Rattle.cdi_candidates.specs.Candidates as candidates;
 ghost use Rattle.cdi_problem_hints.specs.Specializers as spec;
 
 use crate::candidate::add_candidates;
 use crate::subject::Subject;
 use cdi_base::{Name, Place, Seq};
 use cdi_bean_check::BeanClasses;
+use cdi_candidates::place_of;
 use cdi_deployment::Deployment;
 use cdi_resolve::enabled_bean::enabled_of;
-use cdi_resolve::{BeanTables, EnabledBean, place_of};
+use cdi_resolve::{BeanTables, EnabledBean};
 use std::alloc::{AllocError, Global};
 
 /// The class whose bean that of a class directly specializes, if it does.

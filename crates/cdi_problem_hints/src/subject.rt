@@ -3,10 +3,10 @@ ghost use Rattle.std.specs.Prelude.{◌≡◌};
 ghost use Rattle.std.specs.Option.{option_copied};
 ghost use Rattle.cdi_cycle_hints.specs.Needs.{AreNeedsOf};
 
-use crate::PlaceIndex;
 use cdi_cycle_hints::Needs;
 use cdi_deployment::Deployment;
 use cdi_name_uses::ScriptNames;
+use cdi_place_index::PlaceIndex;
 use cdi_resolve::BeanTables;
 
 /// A deployment whose problems get hints.

@@ -1,6 +1,6 @@
 -- The drawing of the deployment that bytes are.
 use Rattle.std.specs.Prelude.{◌≡◌, ℕ, List, length, nat_lt, string_bytes, Option, None, Result, Ok, Err, IsSomeAnd}
-use Rattle.cdi_resolve.specs.Tables.{AreTables}
+use Rattle.cdi_candidates.specs.Tables.{AreTables}
 use Rattle.cdi_deployment.specs.declared.deployment.Deployment.{Deployment}
 use Rattle.cdi_pictures.specs.Pictures.{picture}
 use Rattle.cdi_prepare.specs.Ready.{Readied}

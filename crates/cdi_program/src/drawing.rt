@@ -3,10 +3,10 @@ ghost use Rattle.std.specs.Prelude.{IfOk, IsSomeAnd};
 ghost use Rattle.cdi_prepare.specs.Ready.{readied_in};
 ghost use Rattle.cdi_program.specs.Drawings as spec;
 
+use cdi_candidates::tables_of;
 use cdi_findings::has_problem;
 use cdi_pictures::{Pictured, picture};
 use cdi_report::{Review, review_bytes};
-use cdi_resolve::tables_of;
 use std::alloc::{AllocError, Global};
 
 /// The drawing of a deployment.

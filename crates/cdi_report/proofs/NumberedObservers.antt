@@ -13,8 +13,8 @@ use Rattle.cdi_event_tables.specs.declared.ids.BodyIds.{BodyIds}
 use Rattle.cdi_event_tables.specs.declared.observer_groups.ObserverGroup.{ObserverGroup}
 use Rattle.cdi_event_tables.specs.declared.observers.PlannedObserver.{PlannedObserver}
 use Rattle.cdi_numbered_plans.specs.Numbers.{numbers_member, observers_have_numbers}
-use Rattle.cdi_plans.specs.Observers.{observer_method, observer_of}
-use Rattle.cdi_plans.specs.Tables.{PlanTables}
+use Rattle.cdi_planner.specs.Observers.{observer_method, observer_of}
+use Rattle.cdi_planner.specs.Tables.{PlanTables}
 use Rattle.cdi_resolve.specs.Filters.{Candidates, is_enabled}
 use Rattle.cdi_run_tables.specs.Observers.{group_has_numbers}
 use Rattle.cdi_report.proofs.Places.{invoke_numbered}

@@ -14,11 +14,11 @@ use Rattle.cdi_deployment.specs.declared.deployment.Member.{Member}
 use Rattle.cdi_deployment.specs.declared.deployment.Member.TheVariants as members
 use Rattle.cdi_numbered_plans.specs.Numbers.{is_number, numbers_managed, numbers_member, numbers_method, numbers_product, numbers_source, numbers_step}
 use Rattle.cdi_types.specs.Members.{comes_down, members_of, parts_of}
-use Rattle.cdi_plans.specs.Codes.{business_method, completion}
-use Rattle.cdi_plans.specs.Plans.{managed_plan}
-use Rattle.cdi_plans.specs.Products.{IsPlanBy, disposer_method, source_of}
-use Rattle.cdi_plans.specs.Steps.{class_steps, construction, initialization, injection, injections, steps_of}
-use Rattle.cdi_plans.specs.Tables.{PlanTables}
+use Rattle.cdi_planner.specs.Codes.{business_method, completion}
+use Rattle.cdi_planner.specs.Plans.{managed_plan}
+use Rattle.cdi_planner.specs.Products.{IsPlanBy, disposer_method, source_of}
+use Rattle.cdi_planner.specs.Steps.{class_steps, construction, initialization, injection, injections, steps_of}
+use Rattle.cdi_planner.specs.Tables.{PlanTables}
 use Rattle.cdi_plans.specs.declared.plan.BusinessMethod.{BusinessMethod}
 use Rattle.cdi_plans.specs.declared.plan.InjectedMethod.{InjectedMethod}
 use Rattle.cdi_plans.specs.declared.plan.ProductPlan.{ProductPlan}

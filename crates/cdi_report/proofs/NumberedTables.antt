@@ -8,8 +8,8 @@ use Rattle.cdi_beans.specs.declared.bean.BeanList.{BeanList}
 use Rattle.cdi_deployment.specs.Limits.{is_within}
 use Rattle.cdi_deployment.specs.declared.deployment.Deployment.{Deployment}
 use Rattle.cdi_numbered_plans.specs.Numbers.{has_numbers, numbers_managed}
-use Rattle.cdi_plans.specs.Plans.{IsManagedPlan, IsPlanOf, constructor_of}
-use Rattle.cdi_plans.specs.Tables.{PlanTables}
+use Rattle.cdi_planner.specs.Plans.{IsManagedPlan, IsPlanOf, constructor_of}
+use Rattle.cdi_planner.specs.Tables.{PlanTables}
 use Rattle.cdi_plans.specs.declared.plan.ManagedPlan.{ManagedPlan}
 use Rattle.cdi_plans.specs.declared.plan.Plan.{Plan}
 use Rattle.cdi_resolve.specs.declared.bean_tables.BeanTables.{BeanTables}

@@ -5,6 +5,3 @@ pub mod Filtering
 pub mod Narrowing
 pub mod Pushing
 pub mod Rows
-pub mod Greatest
-pub mod One
-pub mod Sole

@@ -3,7 +3,4 @@ pub mod Filters
 pub mod Narrowing
 pub mod Resolution
 pub mod TypeIndex
-pub mod Candidates
-pub mod Near
-pub mod Tables
 pub mod WrittenUses

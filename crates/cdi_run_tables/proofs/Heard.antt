@@ -12,7 +12,7 @@ use Rattle.cdi_deployment.specs.declared.deployment.Observer.{Observer}
 use Rattle.cdi_machine.specs.Tables as machine
 use Rattle.cdi_machine.specs.Words.{Name}
 use Rattle.cdi_numbered_plans.specs.Machine as numbered
-use Rattle.cdi_plans.specs.Observers.{observer_method, observer_of}
+use Rattle.cdi_planner.specs.Observers.{observer_method, observer_of}
 use Rattle.cdi_plans.specs.declared.plan.InjectedMethod.{InjectedMethod}
 use Rattle.cdi_resolve.specs.Filters.{is_enabled}
 use Rattle.cdi_event_tables.specs.Events as events

@@ -12,7 +12,7 @@ use Rattle.cdi_event_tables.specs.declared.observer_groups.ObserverGroup.{Observ
 use Rattle.cdi_event_tables.specs.declared.observers.PlannedObserver.{PlannedObserver}
 use Rattle.cdi_numbered_plans.proofs.Within.{managed_within}
 use Rattle.cdi_numbered_plans.specs.Numbers.{is_number, numbers_member, numbers_observer, numbers_observers, observers_have_numbers}
-use Rattle.cdi_plans.specs.Tables.{PlanTables}
+use Rattle.cdi_planner.specs.Tables.{PlanTables}
 use Rattle.cdi_plans.specs.declared.plan.InjectedMethod.{InjectedMethod}
 use Rattle.cdi_resolve.specs.Filters.{Candidates, is_enabled}
 use Rattle.cdi_run_tables.proofs.NumberedParts.{numbers_of}

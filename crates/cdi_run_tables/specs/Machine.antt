@@ -19,7 +19,7 @@ use Rattle.cdi_machine.specs.Words.{Name, Asked}
 use Rattle.cdi_machine.specs.Tables as machine
 pub use Rattle.cdi_numbered_plans.specs.Machine.{asked_by, body_number, code_with, does_something, first_values, has_none, is_idle, machine_code, machine_kind, machine_lifecycle, machine_managed, machine_member, machine_method, machine_methods, machine_resolution, machine_source, machine_step, machine_steps, method_in, method_with, product_with}
 use Rattle.cdi_name_check.specs.UnknownName.{is_type, are_qualifiers}
-use Rattle.cdi_plans.specs.Observers.{observer_of, observer_method}
+use Rattle.cdi_planner.specs.Observers.{observer_of, observer_method}
 use Rattle.cdi_resolve.specs.Filters.{enabled_of, is_enabled}
 use Rattle.cdi_resolve.specs.Resolution.{resolution}
 use Rattle.cdi_resolve.specs.declared.resolution.Resolution.{Resolution}

@@ -6,8 +6,8 @@ use Rattle.cdi_base.specs.declared.place.Place.TheVariants as places
 use Rattle.cdi_beans.specs.declared.bean.Bean.{Bean}
 use Rattle.cdi_beans.specs.declared.bean.BeanKind.TheVariants as kinds
 use Rattle.cdi_deployment.specs.declared.deployment.Deployment.{Deployment}
-use Rattle.cdi_plans.specs.Plans.{IsPlanOf}
-use Rattle.cdi_plans.specs.Tables.{PlanTables}
+use Rattle.cdi_planner.specs.Plans.{IsPlanOf}
+use Rattle.cdi_planner.specs.Tables.{PlanTables}
 use Rattle.cdi_resolve.specs.BeanTables.{AreTablesOf}
 use Rattle.cdi_resolve.specs.declared.bean_tables.BeanTables.{BeanTables}
 use Rattle.cdi_run_tables.specs.declared.planned.PlannedBean.{PlannedBean}

@@ -14,8 +14,8 @@ use cdi_base::Seq;
 use cdi_bodies::{Bodies, Lookup};
 use cdi_deployment::Deployment;
 use cdi_event_tables::{BodyIds, EventTables};
-use cdi_plans::Planner;
-use cdi_plans::laws::{law_beans_are_declared, law_observers_are_declared};
+use cdi_planner::Planner;
+use cdi_planner::laws::{law_beans_are_declared, law_observers_are_declared};
 use cdi_resolve::BeanTables;
 use std::alloc::{AllocError, Global};
 

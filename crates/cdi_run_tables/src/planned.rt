@@ -1,12 +1,13 @@
 //! Beans with the plans of their instances.
 ghost use Rattle.std.specs.Prelude.{◌≡◌, IfOk};
 ghost use Rattle.std.specs.List.{All, AllZip};
-ghost use Rattle.cdi_plans.specs.Plans.{IsDeclared};
+ghost use Rattle.cdi_planner.specs.Plans.{IsDeclared};
 ghost use Rattle.cdi_run_tables.specs.Planned as spec;
 
 use cdi_base::{Place, Scope, Seq};
 use cdi_beans::{Bean, BeanKind};
-use cdi_plans::{Plan, Planner};
+use cdi_planner::Planner;
+use cdi_plans::Plan;
 use std::alloc::{AllocError, Global};
 
 /// A bean as the machine makes and uses its instances.

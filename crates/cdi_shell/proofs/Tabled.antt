@@ -9,8 +9,8 @@ use Rattle.cdi_deployment.specs.declared.deployment.Class.{Class}
 use Rattle.cdi_deployment.specs.declared.deployment.Deployment.{Deployment}
 use Rattle.cdi_deployment.specs.declared.deployment.Observer.{Observer}
 use Rattle.cdi_machine.specs.Tables as machine
-use Rattle.cdi_plans.specs.Observers.{observer_of, observer_method}
-use Rattle.cdi_plans.specs.Tables.{PlanTables}
+use Rattle.cdi_planner.specs.Observers.{observer_of, observer_method}
+use Rattle.cdi_planner.specs.Tables.{PlanTables}
 use Rattle.cdi_resolve.specs.Filters.{enabled_of, is_enabled}
 use Rattle.cdi_resolve.specs.Resolution.{resolution}
 use Rattle.cdi_event_tables.specs.Events.{Group, groups_of, hears, written_uses}

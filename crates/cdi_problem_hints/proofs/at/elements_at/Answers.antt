@@ -1,5 +1,5 @@
 use Rattle.std.proofs.Common.{◌∙◌, ap, sym, filter}
-use Rattle.cdi_problem_hints.specs.PlaceIndex.{elements_at}
+use Rattle.cdi_place_index.specs.PlaceIndex.{elements_at}
 use Rattle.cdi_problem_hints.proofs.Where.{none}
 use Rattle.cdi_problem_hints.specs.Asked.{is_at}
 use Rattle.cdi_problems.specs.Elements.{elements_of}

@@ -1,5 +1,5 @@
 use Rattle.std.proofs.Common.{◌∙◌, ap, sym, filter}
-use Rattle.cdi_problem_hints.specs.PlaceIndex.{sites_at}
+use Rattle.cdi_place_index.specs.PlaceIndex.{sites_at}
 use Rattle.cdi_problem_hints.proofs.Where.{none}
 use Rattle.cdi_problem_hints.specs.Scripts.{is_at}
 use Rattle.cdi_body_check.specs.Sites.{sites_of}

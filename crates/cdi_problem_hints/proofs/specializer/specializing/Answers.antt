@@ -1,7 +1,7 @@
 use Rattle.std.proofs.Common.{◌≡◌, ◌∙◌, ◌++◌, ◌∷◌, [], ℕ, Bool, sym, ap}
 use Rattle.cdi_base.specs.declared.place.Place.{Place}
 use Rattle.cdi_beans.specs.declared.bean.Bean.{Bean}
-use Rattle.cdi_resolve.specs.Candidates.{place_of}
+use Rattle.cdi_candidates.specs.Candidates.{place_of}
 use Rattle.cdi_problem_hints.proofs.Where.{kept_more, passed_over}
 use Rattle.cdi_problem_hints.specs.Specializers as spec
 use Rattle.cdi_problem_hints.proofs.specializer.specializing.Goals as goal

@@ -1,5 +1,5 @@
 use Rattle.std.proofs.Common.{◌≡◌, filter, map, take}
-use Rattle.cdi_resolve.specs.Candidates.{place_of}
+use Rattle.cdi_candidates.specs.Candidates.{place_of}
 use Rattle.cdi_problem_hints.specs.Specializers as spec
 use Rattle.cdi_problem_hints.proofs.specializer.specializing.Given as goal
 

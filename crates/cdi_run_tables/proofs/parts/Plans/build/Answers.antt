@@ -1,8 +1,8 @@
 use Rattle.std.proofs.Common.{sym, subst}
 use Rattle.std.specs.Prelude.{IsSome}
 use Rattle.std.specs.List.{All}
-use Rattle.cdi_plans.specs.Observers.{observer_of}
-use Rattle.cdi_plans.specs.Plans.{IsDeclared}
+use Rattle.cdi_planner.specs.Observers.{observer_of}
+use Rattle.cdi_planner.specs.Plans.{IsDeclared}
 use Rattle.cdi_resolve.specs.declared.bean_tables.BeanTables.{BeanTables}
 use Rattle.cdi_run_tables.proofs.parts.Plans.build.Goals as goal
 

@@ -1,6 +1,0 @@
-use Rattle.std.proofs.Common.{◌≡◌, map, take}
-use Rattle.std.specs.List.{flat_map}
-use Rattle.cdi_check.proofs.own.injected_of.Given as goal
-
-abbrev pub invariant-loop-class : goal.invariant-loop-class
-invariant-loop-class l = l.fields ≡ flat_map (λ c. c.inject) (map (λ c. c.now) (take l.class-index l.line))

@@ -1,0 +1,3 @@
+pub mod PlaceIndex
+pub mod PlaceRows
+pub mod Sets

@@ -1,0 +1,7 @@
+pub mod Apart
+pub mod Declared
+pub mod Fronts
+pub mod Lineages
+pub mod Observing
+pub mod Producers
+pub mod Serving

@@ -1,0 +1,7 @@
+pub mod Apart
+pub mod Codes
+pub mod Observers
+pub mod Plans
+pub mod Products
+pub mod Steps
+pub mod Tables

@@ -1,0 +1,14 @@
+//! By which steps an instance of a bean is created, and what runs where it is destroyed (Jakarta CDI 4.0, *Lifecycle of managed beans*,
+//! *Lifecycle of producer methods*, *Lifecycle of producer fields*).
+#![tactic(auto)]
+
+mod codes;
+mod copies;
+pub mod laws;
+mod managed;
+mod observer;
+pub mod planner;
+mod product;
+mod steps;
+
+pub use planner::Planner;

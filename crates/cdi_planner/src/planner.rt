@@ -1,0 +1,193 @@
+//! What makes plans.
+ghost use Rattle.std.specs.Prelude.{◌≡◌, Some, option_map, IfOk, IsSome, IsTrue};
+ghost use Rattle.std.specs.Option.{option_copied};
+ghost use Rattle.cdi_types.specs.Line.{class_named};
+ghost use Rattle.cdi_planner.specs.Observers as observers;
+ghost use Rattle.cdi_planner.specs.Plans as spec;
+ghost use Rattle.cdi_planner.specs.Products.{producer_of, IsPlanBy, IsProductPlan};
+ghost use Rattle.cdi_bean_rules.specs.Limits.{is_producer};
+
+use crate::codes::injected_method;
+use crate::managed::managed_plan;
+use crate::observer::observer_in;
+use crate::product::{disposers_of, producer_in, source_of};
+use cdi_base::Name;
+use cdi_beans::{Bean, BeanKind, ObserverMethod};
+use cdi_deployment::{Class, Constructor, Deployment, Member, Observer};
+use cdi_plans::Chains;
+use cdi_plans::plan::{InjectedMethod, ManagedPlan, Plan, ProductPlan};
+use cdi_quals::QualifierTypes;
+use cdi_types::{ClassIndex, ClassPart, TypeTable};
+use std::alloc::{AllocError, Global};
+use std::marker::Model;
+
+/// The tables of a deployment that plans are made from. Contracts see these.
+#[derive(Drop)]
+pub struct Planner<'a> {
+    types: &'a TypeTable,
+    qualifiers: &'a QualifierTypes,
+    classes: ClassIndex<'a>,
+    chains: &'a Chains,
+}
+
+impl<'a> Model for Planner<'a> {
+    ghost use Rattle.cdi_planner.specs.Tables.{PlanTables};
+
+    ghost Value = { PlanTables };
+
+    ghost view = { λ t. record {
+      types = t.types.now;
+      qualifiers = t.qualifiers.now;
+      classes = t.classes;
+      chains = t.chains.now;
+    } };
+}
+
+impl<'a> Planner<'a> {
+    /// What makes the plans of a deployment, with the table of its types, the types of its qualifiers and the chains of its beans.
+    pub fn build(
+        alloc: Global,
+        deployment: &'a Deployment,
+        types: &'a TypeTable,
+        qualifiers: &'a QualifierTypes,
+        chains: &'a Chains,
+    ) -> Result<Planner<'a>, AllocError>
+        ensures { IfOk result (λ planner. planner ≡ record {
+          types = types.now;
+          qualifiers = qualifiers.now;
+          classes = deployment.now.classes;
+          chains = chains.now;
+        }) }
+    {
+        Ok(Planner {
+            types,
+            qualifiers,
+            classes: ClassIndex::build(alloc, deployment.classes.as_slice())?,
+            chains,
+        })
+    }
+
+    /// The classes of the deployment, by their names.
+    pub fn classes(&self) -> &ClassIndex<'a>
+        ensures { result.now ≡ self.now.classes }
+    {
+        &self.classes
+    }
+
+    /// The constructor of a class, if that declares one.
+    fn constructor(&self, class: Name) -> Option<&'a Constructor>
+        ensures { option_copied result ≡ spec.constructor_of self.now.classes class }
+    {
+        match self.classes.class(class) {
+            Some(class) => class.constructor.as_ref(),
+            None => None,
+        }
+    }
+
+    /// The plan of a managed bean.
+    fn managed(&self, alloc: Global, bean: &Bean) -> Result<ManagedPlan, AllocError>
+        ensures { IfOk result (spec.IsManagedPlan self.now bean.now) }
+    {
+        let line = self.classes.line(alloc, self.types, bean.class)?;
+        let constructor = self.constructor(bean.class);
+        managed_plan(alloc, self.chains, constructor, bean, &line)
+    }
+
+    /// The producer of beans of this kind that a class declares, if it declares one.
+    fn producer(&self, class: Name, kind: BeanKind) -> Option<ClassPart<'a, Member>>
+        ensures { result ≡ producer_of self.now.classes class kind }
+    {
+        match self.classes.class(class) {
+            Some(class) => producer_in(&kind, class),
+            None => None,
+        }
+    }
+
+    /// The plan of what a producer of a class produces.
+    fn produced(
+        &self,
+        alloc: Global,
+        class: &Class,
+        producer: &Member,
+    ) -> Result<ProductPlan, AllocError>
+        requires { IsTrue (is_producer producer.now) }
+        ensures { IfOk result (IsPlanBy self.now (class.now, producer.now)) }
+    {
+        let qualifiers = self.qualifiers;
+        let chains = self.chains;
+        Ok(ProductPlan {
+            declaring: class.name,
+            source: source_of(alloc, chains, class, producer)?,
+            disposers: disposers_of(alloc, self.types, qualifiers, chains, class, producer)?,
+        })
+    }
+
+    /// The plan of a product of this kind, whose class declares its producer.
+    fn product(&self, alloc: Global, class: Name, kind: BeanKind) -> Result<ProductPlan, AllocError>
+        requires { IsSome (producer_of self.now.classes class kind) }
+        ensures { IfOk result (IsProductPlan self.now class kind) }
+    {
+        match self.producer(class, kind) {
+            Some(producer) => self.produced(alloc, producer.class, producer.part),
+            None => unreachable!(),
+        }
+    }
+
+    /// An observer as the class that declares it says, if one does.
+    fn declared(&self, observer: &ObserverMethod) -> Option<ClassPart<'a, Observer>>
+        ensures { result ≡ observers.observer_of self.now.classes observer.now }
+    {
+        match self.classes.class(observer.class) {
+            Some(class) => observer_in(class, observer.name),
+            None => None,
+        }
+    }
+
+    /// What runs where an observer is notified (Jakarta CDI 4.0, *Observer methods*): its body, what is injected into its parameters, and
+    /// the chain round it, which is that of the bean that has it. The first class of the name of the one that declares it has to declare
+    /// it, as it does for the observers of a deployment whose names have no problem
+    /// ([`law_observers_are_declared`](crate::laws::law_observers_are_declared)).
+    pub fn observer(
+        &self,
+        alloc: Global,
+        observer: &ObserverMethod,
+    ) -> Result<InjectedMethod, AllocError>
+        requires { IsSome (observers.observer_of self.now.classes observer.now) }
+        ensures { IfOk result (λ method. Some method ≡ option_map
+            (observers.observer_method self.now.chains observer.now.bean)
+            (observers.observer_of self.now.classes observer.now)) }
+    {
+        let bean = observer.bean;
+        match self.declared(observer) {
+            Some(found) => {
+                let method = found.part;
+                let params = method.params.as_slice();
+                injected_method(
+                    alloc,
+                    self.chains,
+                    bean,
+                    found.class,
+                    method.name,
+                    method.body,
+                    params,
+                )
+            }
+            None => unreachable!(),
+        }
+    }
+
+    /// By which steps an instance of a bean is created (Jakarta CDI 4.0, *Lifecycle of managed beans*, *Lifecycle of producer methods*,
+    /// *Lifecycle of producer fields*), and what else runs in its life. If the bean is a product, the first class of the name of its
+    /// class has to declare its producer, as it does for the beans of a deployment whose names have no problem
+    /// ([`law_beans_are_declared`](crate::laws::law_beans_are_declared)). It takes time and memory in proportion to what the classes of
+    /// the bean's line declare, times the enabled interceptors for each member that is called through a chain.
+    pub fn plan(&self, alloc: Global, bean: &Bean) -> Result<Plan, AllocError>
+        requires { spec.IsDeclared self.now.classes bean.now }
+        ensures { IfOk result (spec.IsPlanOf self.now bean.now) }
+    {
+        match bean.kind {
+            BeanKind::Managed => Ok(Plan::Managed(self.managed(alloc, bean)?)),
+            kind => Ok(Plan::Product(self.product(alloc, bean.class, kind)?)),
+        }
+    }
+}

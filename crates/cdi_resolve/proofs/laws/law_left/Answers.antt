@@ -1,6 +1,0 @@
-use Rattle.cdi_resolve.proofs.Sole.{sole_left}
-use Rattle.cdi_resolve.specs.Resolution.{eligible}
-use Rattle.cdi_resolve.proofs.laws.law_left.Goals as goal
-
-pub returns : goal.returns
-returns c = λ type qualifiers beans. sole_left (eligible type qualifiers beans)

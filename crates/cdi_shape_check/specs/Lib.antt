@@ -1,0 +1,7 @@
+pub mod Application
+pub mod BodyOutsideShape
+pub mod OwnFindings
+pub mod OwnParts
+pub mod OwnTables
+pub mod References
+pub mod Targets
