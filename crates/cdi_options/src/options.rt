@@ -1,6 +1,6 @@
 //! The words of the command line.
 ghost use Rattle.std.specs.Prelude.{◌≡◌, false, map, option_map, IfOk, IfErr, MatchOption};
-ghost use Rattle.clap.specs.Words.{HasKind, first_of, rule_of, subcommand_name_of, subcommand_rows_of};
+ghost use Rattle.clap.specs.Words.{App, HasKind, app_of, first_of, rule_of, subcommand_name_of, subcommand_rows_of, with_rule, with_subcommand};
 ghost use Rattle.cdi_options.specs.Options as spec;
 
 use cdi_base::limits::{MAX_DEPTH, MAX_TICKS};
@@ -161,6 +161,18 @@ fn flag_option<'a>(alloc: Global, name: &'a str, help: &'a str) -> Arg<'a>
         .action(ArgAction::SetTrue)
 }
 
+/// The words of a mode with one option more, if memory didn't run out for them. In a function of its own, so that no other options are
+/// dropped where it does.
+fn with_option<'a>(
+    mode: Result<Command<'a>, AllocError>,
+    option: Arg<'a>,
+) -> Result<Command<'a>, AllocError>
+    ensures { (form : App) → option.entry.global ≡ false → IfOk mode.entry (spec.IsMode form)
+        → IfOk result (spec.IsMode (with_rule form (rule_of option.entry))) }
+{
+    mode?.arg(option)
+}
+
 /// The words of a check: those of a mode, and how it writes.
 fn check_command<'a>(alloc: Global) -> Result<Command<'a>, AllocError>
     ensures { IfOk result (spec.IsMode spec.check_form) }
@@ -171,7 +183,7 @@ fn check_command<'a>(alloc: Global) -> Result<Command<'a>, AllocError>
         "Writes what is wrong as JSON, an object in a line, with its place in the file",
     );
     let about = "Tells all problems of a deployment, or that it is accepted";
-    file_command(alloc, "check", about, FILE_OR_INPUT)?.arg(json)
+    with_option(file_command(alloc, "check", about, FILE_OR_INPUT), json)
 }
 
 /// The words of a drawing: those of a mode.
@@ -186,67 +198,78 @@ fn graph_command<'a>(alloc: Global) -> Result<Command<'a>, AllocError>
 fn run_command<'a>(alloc: Global) -> Result<Command<'a>, AllocError>
     ensures { IfOk result (spec.IsMode spec.run_form) }
 {
+    let about = "Runs a deployment on the command lines of the standard input";
+    let file = file_command(alloc, "run", about, "The deployment, as JSON");
     let ticks = number_option(
         alloc,
         "ticks",
         MAX_TICKS,
         "The most entries of a command, from 1 to 100000 [default: 100000]",
     );
+    let bounded = with_option(file, ticks);
     let depth = number_option(
         alloc,
         "depth",
         MAX_DEPTH,
         "The most levels of nested bodies, from 1 to 1024 [default: 32]",
     );
+    let limited = with_option(bounded, depth);
     let order = value_option(
         alloc,
         "order",
         "first|last",
         "The candidate that is taken where the rules leave the order open [default: first]",
     );
+    let ordered = with_option(limited, order);
     let trace = flag_option(
         alloc,
         "trace",
         "Writes the entries of each command before its reply",
     );
+    let traced = with_option(ordered, trace);
     let slice = number_option(
         alloc,
         "slice",
         MAX_SLICE,
         "The most entries of a turn, by which each command is carried out, from 1 to 100000 [default: 100000]",
     );
-    let about = "Runs a deployment on the command lines of the standard input";
-    file_command(alloc, "run", about, "The deployment, as JSON")?
-        .arg(ticks)?
-        .arg(depth)?
-        .arg(order)?
-        .arg(trace)?
-        .arg(slice)
+    with_option(traced, slice)
+}
+
+/// The words that a text to explain takes.
+fn explain_command<'a>(alloc: Global) -> Result<Command<'a>, AllocError>
+    ensures { IfOk result (spec.IsMode spec.explain_form) }
+{
+    let about = "Tells what a word of the output means";
+    let help = "A fault, a problem or its number, a refusal, a cause or an exception";
+    mode_command(alloc, "explain", about, "WORD", help)
+}
+
+/// The words of the program with those of a mode, if memory didn't run out for these. In a function of its own, so that no other
+/// words are dropped where it does.
+fn with_mode<'a>(
+    program: Command<'a>,
+    mode: Result<Command<'a>, AllocError>,
+) -> Result<Command<'a>, AllocError>
+    ensures { (form : App) → IfOk mode.entry (spec.IsMode form)
+        → IfOk result (λ c. app_of c ≡ with_subcommand (app_of program.entry) form.top) }
+{
+    program.subcommand(mode?)
 }
 
 /// The words that the program takes.
 fn command<'a>(alloc: Global) -> Result<Command<'a>, AllocError>
     ensures { IfOk result (λ c. spec.IsCommand c) }
 {
-    let check = check_command(alloc)?;
-    let run = run_command(alloc)?;
-    let graph = graph_command(alloc)?;
-    let explain = mode_command(
-        alloc,
-        "explain",
-        "Tells what a word of the output means",
-        "WORD",
-        "A fault, a problem or its number, a refusal, a cause or an exception",
-    )?;
-    Command::new(alloc, "cdi")
+    let bare = Command::new(alloc, "cdi")
         .about("A container for Jakarta Contexts and Dependency Injection")
         .version(VERSION)
         .after_help(NOTES)
-        .subcommand_required(true)
-        .subcommand(check)?
-        .subcommand(run)?
-        .subcommand(graph)?
-        .subcommand(explain)
+        .subcommand_required(true);
+    let checks = with_mode(bare, check_command(alloc))?;
+    let runs = with_mode(checks, run_command(alloc))?;
+    let graphs = with_mode(runs, graph_command(alloc))?;
+    with_mode(graphs, explain_command(alloc))
 }
 
 /// The mode that the words name.

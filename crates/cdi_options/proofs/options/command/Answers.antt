@@ -1,4 +1,4 @@
-use Rattle.std.proofs.Common.{ap, ap₂, true, ◌≡◌, ◌∙◌}
+use Rattle.std.proofs.Common.{ap, true, ◌≡◌, ◌∙◌}
 use Rattle.std.proofs.lemmas.Result.{IfOk-weaker}
 use Rattle.clap.specs.Simple.{app_of_fields}
 use Rattle.clap.specs.declared.builder.command.Command.{Command}
@@ -11,22 +11,19 @@ abbrev told : App → App
 told app = record app { top = record app.top { subcommand_required = true; has_version = true } }
 
 abbrev with_mode : App → App → App
-with_mode app mode = with_subcommand app mode.top
+with_mode mode app = with_subcommand app mode.top
 
 pub returns : goal.returns
 returns c =
-    let check_is : app_of c.in_ok-check.check ≡ spec.check_form = c.in_ok-check.ensures.form in
-    let run_is : app_of c.in_ok-run.run' ≡ spec.run_form = c.in_ok-run.ensures.form in
-    let bare_is : app_of c.subcommand_required.result ≡ spec.bare_form =
-    ap app_of_fields c.subcommand_required.ensures ∙ ap (λ (f : Command-F Command). app_of_fields (record f { subcommand_required = true })) (c.after_help.ensures)
+    let bare_is : app_of c.subcommand_required-bare.result ≡ spec.bare_form =
+    ap app_of_fields c.subcommand_required-bare.ensures ∙ ap (λ (f : Command-F Command). app_of_fields (record f { subcommand_required = true })) (c.after_help.ensures)
     ∙ ap (λ (f : Command-F Command). app_of_fields (record f { subcommand_required = true })) c.version.ensures
     ∙ ap (λ (f : Command-F Command). told (app_of_fields f)) c.about.ensures ∙ ap told c.new.ensures.app in
-    let checks_is : app_of c.in_ok-subcommand.field-0 ≡ with_mode spec.bare_form spec.check_form =
-    c.in_ok-subcommand.ensures.shape c.in_ok-check.ensures.none_global ∙ ap₂ with_mode bare_is check_is in
-    let runs_is : app_of c.in_ok-subcommand-2.field-0 ≡ with_mode (with_mode spec.bare_form spec.check_form) spec.run_form =
-    c.in_ok-subcommand-2.ensures.shape c.in_ok-run.ensures.none_global ∙ ap₂ with_mode checks_is run_is in
-    let graph_is : app_of c.in_ok-graph.graph ≡ spec.graph_form = c.in_ok-graph.ensures.form in
-    let graphs_is : app_of c.in_ok-subcommand-3.field-0 ≡ with_mode (with_mode (with_mode spec.bare_form spec.check_form) spec.run_form) spec.graph_form =
-    c.in_ok-subcommand-3.ensures.shape c.in_ok-graph.ensures.none_global ∙ ap₂ with_mode runs_is graph_is in
-    let explain_is : app_of c.in_ok-explain.explain ≡ spec.explain_form = c.in_ok-explain.ensures.form in
-    IfOk-weaker c.subcommand-4.result _ _ (λ app added. added.shape c.in_ok-explain.ensures.none_global ∙ ap₂ with_mode graphs_is explain_is) c.subcommand-4.ensures
+    let checks_is : app_of c.in_ok-checks.checks ≡ with_mode spec.check_form spec.bare_form =
+    c.in_ok-checks.ensures spec.check_form c.check_command.ensures ∙ ap (with_mode spec.check_form) bare_is in
+    let runs_is : app_of c.in_ok-runs.runs ≡ with_mode spec.run_form (with_mode spec.check_form spec.bare_form) =
+    c.in_ok-runs.ensures spec.run_form c.run_command.ensures ∙ ap (with_mode spec.run_form) checks_is in
+    let graphs_is : app_of c.in_ok-graphs.graphs ≡ with_mode spec.graph_form (with_mode spec.run_form (with_mode spec.check_form spec.bare_form)) =
+    c.in_ok-graphs.ensures spec.graph_form c.graph_command.ensures ∙ ap (with_mode spec.graph_form) runs_is in
+    IfOk-weaker c.with_mode-4.result _ _ (λ app added. added ∙ ap (with_mode spec.explain_form) graphs_is)
+    (c.with_mode-4.ensures spec.explain_form c.explain_command.ensures)
