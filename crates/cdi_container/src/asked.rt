@@ -134,7 +134,7 @@ fn use_job(
     names: &Names,
     request: &Option<Text>,
     bean_type: &Text,
-    qualifiers: &Seq<WrittenUse>,
+    qualifiers: &[WrittenUse],
     purpose: BeanPurpose,
 ) -> Result<Job, AllocError>
     ensures { IfOk result (λ job. command_of job ≡ use_command request.now
@@ -142,7 +142,7 @@ fn use_job(
 {
     Ok(Job::Use {
         request: copy_of(request)?,
-        used: bean_use(alloc, names, bean_type, qualifiers.as_slice(), purpose)?,
+        used: bean_use(alloc, names, bean_type, qualifiers, purpose)?,
     })
 }
 
@@ -163,20 +163,30 @@ pub(crate) fn job_for(alloc: Global, names: &Names, command: &Command) -> Result
             args,
         } => {
             let call = call_of(names, method, args)?;
-            use_job(alloc, names, request, bean_type, qualifiers, call)
+            use_job(
+                alloc,
+                names,
+                request,
+                bean_type,
+                qualifiers.as_slice(),
+                call,
+            )
         }
         Command::Read {
             request,
             bean_type,
             qualifiers,
-        } => use_job(
-            alloc,
-            names,
-            request,
-            bean_type,
-            qualifiers,
-            BeanPurpose::Read,
-        ),
+        } => {
+            let qualifiers = qualifiers.as_slice();
+            use_job(
+                alloc,
+                names,
+                request,
+                bean_type,
+                qualifiers,
+                BeanPurpose::Read,
+            )
+        }
         Command::Fire {
             request,
             class,
