@@ -134,7 +134,7 @@ fn use_job(
     names: &Names,
     request: &Option<Text>,
     bean_type: &Text,
-    qualifiers: &[WrittenUse],
+    qualifiers: &Seq<WrittenUse>,
     purpose: BeanPurpose,
 ) -> Result<Job, AllocError>
     ensures { IfOk result (λ job. command_of job ≡ use_command request.now
@@ -142,7 +142,7 @@ fn use_job(
 {
     Ok(Job::Use {
         request: copy_of(request)?,
-        used: bean_use(alloc, names, bean_type, qualifiers, purpose)?,
+        used: bean_use(alloc, names, bean_type, qualifiers.as_slice(), purpose)?,
     })
 }
 
@@ -163,30 +163,20 @@ pub(crate) fn job_for(alloc: Global, names: &Names, command: &Command) -> Result
             args,
         } => {
             let call = call_of(names, method, args)?;
-            use_job(
-                alloc,
-                names,
-                request,
-                bean_type,
-                qualifiers.as_slice(),
-                call,
-            )
+            use_job(alloc, names, request, bean_type, qualifiers, call)
         }
         Command::Read {
             request,
             bean_type,
             qualifiers,
-        } => {
-            let qualifiers = qualifiers.as_slice();
-            use_job(
-                alloc,
-                names,
-                request,
-                bean_type,
-                qualifiers,
-                BeanPurpose::Read,
-            )
-        }
+        } => use_job(
+            alloc,
+            names,
+            request,
+            bean_type,
+            qualifiers,
+            BeanPurpose::Read,
+        ),
         Command::Fire {
             request,
             class,

@@ -7,7 +7,7 @@ ghost use Rattle.cdi_runtime.specs.Standing.{IsServable};
 ghost use Rattle.cdi_steps.specs.Driving.{Drives};
 ghost use Rattle.cdi_example.specs.Shapes as spec;
 
-use crate::bodies::{buy_shape, call_office, first_answer, first_argument, note_shape, number_in};
+use crate::bodies::{act_of_desk, act_of_ledger, act_of_office, buy_shape, note_shape};
 use crate::reading::{deployment_of, wrong};
 use cdi_base::{Act, Command, Fields, Limits, Names, OrMemory, Reply, Seq, Text, Value};
 use cdi_bodies::{Bodies, Body, Choice, Chooser, Shape, View};
@@ -176,8 +176,8 @@ fn run_with(
     run_accepted(alloc, output, accepted, Registered { bodies, chooser })
 }
 
-/// Makes the bodies, closures of which one has a list of prices, registers them, and goes on. The office gives the price of a row;
-/// the desk calls it, fires an event with the price, and gives that; the ledger adds an event's price to its takings.
+/// Makes the bodies, closures of which one has a list of prices, registers them, and goes on. They are made here, since no function may
+/// hand out a closure that it boxed.
 pub(crate) fn run_box_office(alloc: Global, output: &mut impl Write) -> io::Result<()> {
     let deployment = deployment_of(alloc, BOX_OFFICE)?;
     let prices = vec![in alloc; 40i64, 25, 15]?;
@@ -185,13 +185,7 @@ pub(crate) fn run_box_office(alloc: Global, output: &mut impl Write) -> io::Resu
         alloc,
         move |_fields: &Fields, view: &View| -> Result<Act, AllocError>
             ensures { IfOk result (λ act. in_shape no_acts view.now act ≡ true) }
-        {
-            let row = usize::try_from(first_argument(view)).unwrap_or(usize::MAX);
-            let price = prices.get(row).copied().unwrap_or(0);
-            Ok(Act::Give {
-                value: Value::Int(price),
-            })
-        },
+        { Ok(act_of_office(&prices, view)) },
     )?;
     let office = deployment.names.name_for("office");
     let sell = deployment.names.name_for("sell");
@@ -201,35 +195,14 @@ pub(crate) fn run_box_office(alloc: Global, output: &mut impl Write) -> io::Resu
         move |_fields: &Fields, view: &View| -> Result<Act, AllocError>
             ensures { IfOk result
                 (λ act. in_shape (spec.buy_shape office sell sold) view.now act ≡ true) }
-        {
-            match view.answers.len() {
-                0 => call_office(alloc, office, sell, first_argument(view)),
-                1 => Ok(Act::Fire {
-                    class: sold,
-                    qualifiers: Seq::empty(alloc),
-                    value: Value::Int(first_answer(view)),
-                }),
-                _ => Ok(Act::Give {
-                    value: Value::Int(first_answer(view)),
-                }),
-            }
-        },
+        { act_of_desk(alloc, office, sell, sold, view) },
     )?;
     let takings = deployment.names.name_for("takings");
     let note_body: Body = Box::new(
         alloc,
         move |fields: &Fields, view: &View| -> Result<Act, AllocError>
             ensures { IfOk result (λ act. in_shape (spec.note_shape takings) view.now act ≡ true) }
-        {
-            if view.answers.len() > 0 {
-                return Ok(Act::Give { value: Value::Null });
-            }
-            let total = number_in(fields, takings).saturating_add(first_argument(view));
-            Ok(Act::Set {
-                field: takings,
-                value: Value::Int(total),
-            })
-        },
+        { Ok(act_of_ledger(takings, fields, view)) },
     )?;
     let names = &deployment.names;
     let buys = buy_shape(alloc, office, sell, sold)?;

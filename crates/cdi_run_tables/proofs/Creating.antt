@@ -1,5 +1,5 @@
 -- The steps by which instances of interceptors are created are those of the machine.
-use Rattle.std.proofs.Common.{ℕ, ◌≡◌, ◌∙◌, ◌^◌, ◌<◌, Bool, true, nat_le, nat_lt, List, [], ◌∷◌, Option, Some, None, Result, Ok, Err, length, map, refl, sym, ap, arith, subst, zero, suc}
+use Rattle.std.proofs.Common.{ℕ, ◌≡◌, ◌∙◌, ◌^◌, ◌<◌, true, nat_le, List, [], ◌∷◌, Option, Some, None, Result, Ok, Err, length, map, refl, sym, ap, arith, subst, zero, suc}
 use Rattle.std.specs.Prelude.{slice_get, option_map, option_and_then, IfOk, IfSome}
 use Rattle.std.specs.declared.alloc.AllocError.{AllocError}
 use Rattle.std.specs.List.{All, AllZip, list_all}
@@ -12,7 +12,6 @@ use Rattle.cdi_deployment.specs.declared.deployment.InjectedField.{InjectedField
 use Rattle.cdi_deployment.specs.declared.deployment.Interceptor.{Interceptor}
 use Rattle.cdi_event_tables.specs.Ids.{id_in}
 use Rattle.cdi_machine.specs.Resolved.{IsResolvedStep}
-use Rattle.cdi_machine.specs.Told.{step_told}
 use Rattle.cdi_machine.specs.declared.step.Step.{Step}
 use Rattle.cdi_numbered_plans.specs.Machine.{machine_injection}
 use Rattle.cdi_numbered_plans.specs.Plans.{AreInjectionsBy}

@@ -1,5 +1,5 @@
 -- The numbered observers of a deployment tell what the machine is told, and those of them that hear an event are those that it asks for.
-use Rattle.std.proofs.Common.{ℕ, ◌≡◌, ◌∙◌, ◌^◌, true, nat_le, List, [], ◌∷◌, Option, Result, Ok, Err, length, map, sym, subst}
+use Rattle.std.proofs.Common.{◌≡◌, ◌∙◌, ◌^◌, true, nat_le, List, [], ◌∷◌, Result, Ok, Err, length, map, sym, subst}
 use Rattle.std.specs.Prelude.{IfOk}
 use Rattle.std.specs.declared.alloc.AllocError.{AllocError}
 use Rattle.std.specs.List.{All, AllByRecursion, AllZip}

@@ -1,6 +1,6 @@
 -- The observers of enabled beans, as they are kept for a run, and those that hear an event.
 use Rattle.std.specs.Prelude.{List, [], ◌∷◌, map, filter, Bool, false, not, Option, Some, None, if◌then◌else◌}
-use Rattle.std.specs.List.{cons_option, list_all}
+use Rattle.std.specs.List.{cons_option}
 use Rattle.cdi_event_tables.specs.Observers.{observer_groups}
 use Rattle.cdi_event_tables.specs.declared.observer_groups.ObserverGroup.{ObserverGroup}
 use Rattle.cdi_event_tables.specs.declared.observers.PlannedObserver.{PlannedObserver}

@@ -77,22 +77,30 @@ impl CommandAnswers {
         })
     }
 
-    /// What is remembered of a question.
-    pub(crate) fn known(&self, question: &WrittenQuestion<'_>) -> Option<Resolution>
+    /// What is remembered of a question with this hash.
+    pub(crate) fn known(&self, hash: u64, question: &WrittenQuestion<'_>) -> Option<Resolution>
         ensures { IfSome result (λ told. (t : Parts) → spec.AreTold t self.now
             → told ≡ resolution_of t question.now.ty question.now.uses.now) }
     {
-        let answer = self.answers.peek(&question.hash())?;
+        let answer = self.answers.peek(&hash)?;
         if answer.is_of(question) {
             return Some(answer.told);
         }
         None
     }
 
-    /// Remembers an answer, if there is memory, as the last that was asked for.
+    /// The answer to a question with this hash becomes the last that was asked for.
+    pub(crate) fn promote(&mut self, hash: u64)
+        ensures { (t : Parts) → spec.AreTold t self.old → spec.AreTold t self.new }
+    {
+        self.answers.promote(&hash);
+    }
+
+    /// Remembers an answer to a question with this hash, if there is memory, as the last that was asked for.
     pub(crate) fn remember(
         &mut self,
         alloc: Global,
+        hash: u64,
         question: &WrittenQuestion<'_>,
         told: Resolution,
     )
@@ -100,11 +108,6 @@ impl CommandAnswers {
             → told ≡ resolution_of t question.now.ty question.now.uses.now
             → spec.AreTold t self.new }
     {
-        let hash = question.hash();
-        if self.known(question).is_some() {
-            self.answers.promote(&hash);
-            return;
-        }
         if let Ok(answer) = CommandAnswer::new(alloc, question, told) {
             let _ = self.answers.put(hash, answer);
         }

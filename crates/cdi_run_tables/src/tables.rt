@@ -130,7 +130,8 @@ impl RunTables {
     pub fn resolve(&self, ty: Name, uses: &[Use]) -> Resolution
         ensures { result ≡ spec.resolution_of self.now ty uses.now }
     {
-        match self.index.asked.known(&WrittenQuestion { ty, uses }) {
+        let question = WrittenQuestion { ty, uses };
+        match self.index.asked.known(question.hash(), &question) {
             Some(told) => told,
             None => self.resolve_anew(ty, uses),
         }
@@ -151,10 +152,14 @@ impl RunTables {
         ensures told { result ≡ spec.resolution_of self.old ty uses.now }
         ensures kept { self.new ≡ self.old }
     {
-        let told = self.resolve(ty, uses);
-        self.index
-            .asked
-            .remember(alloc, &WrittenQuestion { ty, uses }, told);
+        let question = WrittenQuestion { ty, uses };
+        let hash = question.hash();
+        if let Some(told) = self.index.asked.known(hash, &question) {
+            self.index.asked.promote(hash);
+            return told;
+        }
+        let told = self.resolve_anew(ty, uses);
+        self.index.asked.remember(alloc, hash, &question, told);
         told
     }
 

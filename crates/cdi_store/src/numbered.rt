@@ -15,10 +15,7 @@ use std::alloc::AllocError;
 pub fn instance_in(store: &Store, number: u32) -> Option<&Instance>
     ensures { option_copied result ≡ at store.now.instances number }
 {
-    match store.key(number) {
-        Some(key) => store.instance(key).ok(),
-        None => None,
-    }
+    store.with_number(number)
 }
 
 /// A new instance gets the next number. On an error nothing changes.

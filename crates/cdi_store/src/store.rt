@@ -1,5 +1,6 @@
 //! The live instances of a container, each under a key.
 ghost use Rattle.std.specs.Prelude.{◌≡◌, ◌≢◌, ◌+◌, ◌<◌, ◌≤◌, ◌^◌, ◌++◌, ◌∷◌, ◌↔◌, [], length, IfOk, OnOk, OnErr, IfSome, IsTrue, IsOk, IsSome, IsNone, Some, Err, IsSomeAnd, IfErr, false, ◌&&◌, map, option_map};
+ghost use Rattle.std.specs.Option.{option_copied};
 ghost use Rattle.cdi_base.specs.Maps.{at};
 ghost use Rattle.cdi_store.specs.Live.{is_live, key_at, owner_at, reference_at};
 ghost use Rattle.cdi_store.specs.Live.{for_owner, in_phase, with_dependent, without_dependent};
@@ -159,6 +160,14 @@ impl Store {
             return Err(Stale);
         }
         Ok(&self.slots[key.slot])
+    }
+
+    /// The live instance with a number, found by one look.
+    pub(crate) fn with_number(&self, number: u32) -> Option<&Instance>
+        ensures { option_copied result ≡ at self.now.instances number }
+    {
+        let slot = *self.numbers.get(&number)?;
+        self.slots.get(slot)
     }
 
     /// The fields of a live instance.
