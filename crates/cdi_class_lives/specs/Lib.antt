@@ -1,0 +1,2 @@
+pub mod Inheriting
+pub mod Lives
