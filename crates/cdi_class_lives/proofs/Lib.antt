@@ -1,1 +1,3 @@
+mod Added
+mod Keeping
 mod Kept

@@ -1,20 +1,17 @@
 -- What a class leaves of what its direct superclass has, by the names of the members that it declares (Jakarta CDI 4.0, Inheritance of
 -- member-level metadata).
-use Rattle.std.specs.Prelude.{ℕ, ◌==◌, Bool, true, not, List, Option, Some, None, slice_get}
-use Rattle.std.specs.List.{list_any}
+use Rattle.std.specs.Prelude.{ℕ, Bool, true, not, List, Option, Some, None, slice_get}
 use Rattle.cdi_base.specs.declared.place.Place.{Place}
 use Rattle.cdi_base.specs.declared.place.Place.TheVariants as places
 use Rattle.cdi_machine.specs.Tables.{Code}
 use Rattle.cdi_machine.specs.declared.step.Step.{Step}
 use Rattle.cdi_machine.specs.declared.step.Step.TheVariants as steps
-
-abbrev pub is_among : List ℕ → ℕ → Bool
-is_among names name = list_any (λ n. n == name) names
+use Rattle.cdi_method_maps.specs.NamedMethods.{is_among}
 
 module _ (declared : List ℕ) where
   -- the member that stands at a place
   abbrev pub leaves_place : Place → Bool
-  leaves_place (places.Member class name) = not (is_among declared name)
+  leaves_place (places.Member class name) = not (is_among name declared)
   leaves_place place = true
 
   -- a callback

@@ -1,11 +1,7 @@
 -- What is kept of classes, and what a class has of its direct superclass.
-use Rattle.std.specs.Prelude.{ℕ, ◌≡◌, ◌++◌, ◌∷◌, ◌&&◌, Bool, not, List, [], filter, length, nat_eq, nat_lt, Option, Some, None, option_and_then, slice_get, if◌then◌else◌}
-use Rattle.std.specs.HashMap.{get}
-use Rattle.std.specs.List.{filter_map, list_all}
-use Rattle.std.specs.Option.{option_or}
-use Rattle.cdi_class_lives.specs.Inheriting.{is_among, leaves_at, leaves_code}
+use Rattle.std.specs.Prelude.{ℕ, ◌++◌, ◌∷◌, List, [], filter, Option, Some, None}
+use Rattle.cdi_class_lives.specs.Inheriting.{leaves_at, leaves_code}
 use Rattle.cdi_class_lives.specs.declared.life.ClassLife.{ClassLife}
-use Rattle.cdi_machine.specs.Tables.{Code}
 use Rattle.cdi_machine.specs.declared.step.Step.{Step}
 
 -- the line of a class below these

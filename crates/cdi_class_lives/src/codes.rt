@@ -1,6 +1,7 @@
 //! Callbacks that a class has of its direct superclass.
 ghost use Rattle.std.specs.Prelude.{◌≡◌, ◌++◌, filter, IfOk, OnOk};
 ghost use Rattle.cdi_class_lives.specs.Inheriting as spec;
+ghost use Rattle.cdi_method_maps.specs.NamedMethods.{is_among};
 
 use cdi_base::{Name, Place, Seq};
 use cdi_machine::Code;
@@ -8,7 +9,7 @@ use std::alloc::{AllocError, Global};
 
 /// Whether a name is one of these.
 fn is_among(names: &[Name], name: Name) -> bool
-    ensures { result ≡ spec.is_among names.now name }
+    ensures { result ≡ is_among name names.now }
 {
     names.iter().any(|other| *other == name)
 }
@@ -24,7 +25,11 @@ pub(crate) fn leaves_place(declared: &[Name], place: Place) -> bool
 }
 
 /// Those of these callbacks that a class which declares members of these names leaves.
-pub(crate) fn left_codes(alloc: Global, codes: &[Code], declared: &[Name]) -> Result<Seq<Code>, AllocError>
+pub(crate) fn left_codes(
+    alloc: Global,
+    codes: &[Code],
+    declared: &[Name],
+) -> Result<Seq<Code>, AllocError>
     ensures { IfOk result (λ left. left ≡ filter (spec.leaves_code declared.now) codes.now) }
 {
     let mut left = Seq::empty(alloc);

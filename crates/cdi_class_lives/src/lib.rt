@@ -8,6 +8,10 @@
 
 mod codes;
 pub mod life;
+pub mod lives;
+pub mod own_life;
 mod steps;
 
 pub use life::ClassLife;
+pub use lives::ClassLives;
+pub use own_life::OwnLife;

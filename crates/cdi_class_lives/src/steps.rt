@@ -1,6 +1,7 @@
 //! Steps that are kept once, and the places of those that a class has.
-ghost use Rattle.std.specs.Prelude.{◌≡◌, ◌++◌, filter, map, slice_get, Some, IfOk, OnOk};
+ghost use Rattle.std.specs.Prelude.{◌≡◌, ◌≤◌, ◌++◌, filter, length, map, slice_get, true, Some, IfOk, OnOk};
 ghost use Rattle.cdi_class_lives.specs.Inheriting as spec;
+ghost use Rattle.cdi_class_lives.specs.Kept.{are_below};
 
 use crate::codes::leaves_place;
 use cdi_base::{Name, Seq};
@@ -55,6 +56,9 @@ pub(crate) fn keep_steps(
     ensures kept { OnOk result (kept.new ≡ kept.old ++ steps) }
     ensures places { OnOk result (map (slice_get kept.new) places.new
         ≡ map (slice_get kept.new) places.old ++ map Some steps) }
+    ensures below { OnOk result (are_below (length kept.old) places.old ≡ true
+        → are_below (length kept.new) places.new ≡ true) }
+    ensures grown { length kept.old ≤ length kept.new }
 {
     for step in steps.into_vec() {
         let Ok(place) = u32::try_from(kept.len()) else {

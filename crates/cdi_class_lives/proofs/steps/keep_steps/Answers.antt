@@ -1,7 +1,9 @@
-use Rattle.std.proofs.Common.{rules, ◌≡◌, ◌∙◌, ◌++◌, ◌∷◌, [], length, map, Some, slice_get, refl, sym, ap, append_assoc, append-nil}
+use Rattle.cdi_class_lives.specs.Kept.{are_below}
+use Rattle.std.proofs.Common.{◌≤◌, arith, length-append, rules, ◌≡◌, ◌∙◌, ◌++◌, ◌∷◌, [], length, map, Some, slice_get, refl, sym, ap, append_assoc, append-nil}
 use Rattle.std.proofs.lemmas.Iterator.Adapters.{YieldsList-from_vec}
 use Rattle.std.proofs.lemmas.Iterator.Consumers.{YieldsList-end}
 use Rattle.std.proofs.lemmas.List.{map-append, map-id}
+use Rattle.cdi_class_lives.proofs.Keeping.{are_below_both, are_below_more, below_if_told}
 use Rattle.cdi_class_lives.proofs.Kept.{are_there_still, is_last}
 use Rattle.cdi_class_lives.proofs.steps.keep_steps.Goals as goal
 
@@ -37,3 +39,14 @@ returns-clause-places c =
     ap (map (slice_get c.loop-step.kept)) inv.places
     ∙ map-append (slice_get c.loop-step.kept) c.args.places.now inv.added
     ∙ ap (λ os. map (slice_get c.loop-step.kept) c.args.places.now ++ os) (inv.told ∙ ap (map Some) whole)
+
+pub returns-clause-below : goal.returns-clause-below
+returns-clause-below c =
+    let inv = c.loop-step.invariant in
+    let kept = c.loop-step.kept in
+    let grown : length c.args.kept.now ≤ length kept = omega (arith, ap length inv.kept, length-append c.args.kept.now c.loop-step.yielded) in
+    λ e.
+    ap (are_below (length kept)) inv.places
+    ∙ are_below_both (length kept) c.args.places.now inv.added
+    (are_below_more (length c.args.kept.now) (length kept) c.args.places.now grown e)
+    (below_if_told kept inv.added c.loop-step.yielded inv.told)
