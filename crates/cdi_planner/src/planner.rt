@@ -1,5 +1,5 @@
 //! What makes plans.
-ghost use Rattle.std.specs.Prelude.{◌≡◌, Some, option_map, IfOk, IsSome, IsTrue};
+ghost use Rattle.std.specs.Prelude.{◌≡◌, Some, length, option_map, IfOk, IsSome, IsTrue};
 ghost use Rattle.std.specs.Option.{option_copied};
 ghost use Rattle.cdi_types.specs.Line.{class_named};
 ghost use Rattle.cdi_planner.specs.Codes.{lifecycle as lifecycle_of};
@@ -8,6 +8,7 @@ ghost use Rattle.cdi_planner.specs.Observers as observers;
 ghost use Rattle.cdi_planner.specs.Plans as spec;
 ghost use Rattle.cdi_planner.specs.Products.{producer_of, IsPlanBy, IsProductPlan};
 ghost use Rattle.cdi_planner.specs.Steps.{first_steps as first_steps_of};
+ghost use Rattle.cdi_plans.specs.Chains.{HaveSameChains};
 ghost use Rattle.cdi_bean_rules.specs.Limits.{is_producer};
 
 use crate::codes::{business_methods, injected_method, lifecycle};
@@ -197,6 +198,20 @@ impl<'a> Planner<'a> {
         let line = self.classes.line(alloc, self.types, bean)?;
         let has = line.members(alloc)?;
         business_methods(alloc, self.chains, bean, has.as_slice())
+    }
+
+    /// Whether each member is in the same chain for two beans, as [`Chains::have_same_chains`] tells.
+    pub fn have_same_chains(&self, bean: Name, other: Name) -> bool
+        ensures { IsTrue result → HaveSameChains self.now.chains bean other }
+    {
+        self.chains.have_same_chains(bean, other)
+    }
+
+    /// How many interceptors are enabled.
+    pub fn interceptor_count(&self) -> usize
+        ensures { result ≡ length self.now.chains.interceptors }
+    {
+        self.chains.interceptors().len()
     }
 
     /// The steps up to the construction of an instance of a managed bean: an instance of each interceptor in its chains, and the

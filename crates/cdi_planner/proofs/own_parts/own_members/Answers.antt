@@ -1,4 +1,4 @@
-use Rattle.std.proofs.Common.{◌∙◌, sym, ap}
+use Rattle.std.proofs.Common.{[], ◌∙◌, sym, ap}
 use Rattle.std.proofs.lemmas.List.{take_all}
 use Rattle.cdi_types.proofs.Lines.{inherited}
 use Rattle.cdi_types.specs.Members.{parts_of}
