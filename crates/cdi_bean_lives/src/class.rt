@@ -1,0 +1,54 @@
+//! A class that is added to those of which is kept what they have.
+ghost use Rattle.std.specs.Prelude.{◌≡◌, ◌≢◌, ◌≤◌, ◌^◌, ◌++◌, ◌∷◌, [], ℕ, length, Some, OnOk};
+ghost use Rattle.cdi_bean_lives.specs.Lives as spec;
+ghost use Rattle.cdi_class_lives.specs.ClassLives.{life_from, line_in, line_of};
+ghost use Rattle.cdi_numbered_plans.specs.Numbered as numbered;
+ghost use Rattle.cdi_types.specs.Line.{IsLineOf, class_named};
+
+use crate::own::own_life;
+use cdi_base::Name;
+use cdi_cache::Lookup;
+use cdi_class_lives::ClassLives;
+use cdi_deployment::Class;
+use cdi_numbered_plans::Numbering;
+use cdi_planner::Planner;
+use cdi_resolve::Resolver;
+use std::alloc::{AllocError, Global};
+
+/// Whether a class has the methods that it inherits in the chains that they have above it.
+fn inherits_methods(planner: &Planner<'_>, class: Name, above: Option<Name>) -> bool
+    ensures { spec.InheritsIf planner.now class above result }
+{
+    match above {
+        Some(above) => planner.have_same_chains(class, above),
+        None => true,
+    }
+}
+
+/// Adds a class below another one, or one that has no superclass.
+pub fn add_class(
+    alloc: Global,
+    planner: &Planner<'_>,
+    numbering: &Numbering<'_>,
+    lookup: &mut Lookup<&Resolver>,
+    lives: &mut ClassLives,
+    above: Option<Name>,
+    class: &Class,
+) -> Result<(), AllocError>
+    requires asks { numbered.AsksNumbered numbering.now lookup.old.now }
+    requires few { length planner.now.chains.interceptors ≤ 2 ^ 32 }
+    requires lives { spec.AreLives planner.now numbering.now lives.old }
+    requires above { spec.IsKeptIfAny lives.old above }
+    requires line { spec.IsLineBelow planner.now lives.old above class.now }
+    ensures lives { OnOk result (spec.AreLives planner.now numbering.now lives.new) }
+    ensures line { OnOk result (line_of lives.new class.now.name
+        ≡ Some (line_in lives.old (life_from lives.old above) ++ class.now.name ∷ [])) }
+    ensures others { OnOk result ((other : ℕ) → other ≢ class.now.name
+        → line_of lives.new other ≡ line_of lives.old other) }
+    ensures kept { numbered.AsksNumbered numbering.now lookup.new.now }
+{
+    let inherits = inherits_methods(planner, class.name, above);
+    let own = own_life(alloc, planner, numbering, lookup, class, inherits)?;
+    lives.add(alloc, above, inherits, own)?;
+    Ok(())
+}
