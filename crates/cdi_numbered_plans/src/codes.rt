@@ -23,8 +23,7 @@ pub(crate) fn code_of(ids: &BodyIds, code: &NamedCode) -> Code
     Code::new(code.place, body)
 }
 
-/// Some bodies, by their numbers.
-pub fn codes_of(alloc: Global, ids: &BodyIds, codes: &[NamedCode]) -> Result<Seq<Code>, AllocError>
+fn codes_of(alloc: Global, ids: &BodyIds, codes: &[NamedCode]) -> Result<Seq<Code>, AllocError>
     ensures { IfOk result (λ all. all ≡ map (machine_code (id_in ids.now)) codes.now) }
 {
     let mut all = Seq::empty(alloc);

@@ -3,7 +3,7 @@
 //! resolution*).
 #![tactic(auto)]
 
-pub mod codes;
+mod codes;
 pub mod fields;
 pub mod injections;
 mod members;
@@ -15,13 +15,12 @@ pub mod plan;
 pub mod points;
 pub mod steps;
 
-pub use codes::codes_of;
 pub use fields::first_values;
 pub use injections::injections_by;
-pub use methods::{methods_by, named_methods};
+pub use methods::methods_by;
 pub use numbering::Numbering;
 pub use numbers::{has_numbers, observers_have_numbers};
 pub use observers::observers_by;
 pub use plan::{ManagedLife, NumberedPlan};
 pub use points::{resolution_at, resolutions_at};
-pub use steps::{has_none, is_idle, steps_of};
+pub use steps::{has_none, is_idle};

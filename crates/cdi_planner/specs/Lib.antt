@@ -1,6 +1,5 @@
 pub mod Apart
 pub mod Codes
-pub mod Inherited
 pub mod Observers
 pub mod Plans
 pub mod Products

@@ -103,8 +103,7 @@ fn add_pre_destroy(
     }
 }
 
-/// The post-construct callbacks among the members of a bean.
-pub(crate) fn post_constructs(
+fn post_constructs(
     alloc: Global,
     members: &[ClassPart<'_, Member>],
 ) -> Result<Seq<Code>, AllocError>
@@ -117,11 +116,7 @@ pub(crate) fn post_constructs(
     Ok(callbacks)
 }
 
-/// The pre-destroy callbacks among the members of a bean.
-pub(crate) fn pre_destroys(
-    alloc: Global,
-    members: &[ClassPart<'_, Member>],
-) -> Result<Seq<Code>, AllocError>
+fn pre_destroys(alloc: Global, members: &[ClassPart<'_, Member>]) -> Result<Seq<Code>, AllocError>
     ensures { IfOk result (λ callbacks. callbacks ≡ filter_map spec.pre_destroy members.now) }
 {
     let mut callbacks = Seq::empty(alloc);

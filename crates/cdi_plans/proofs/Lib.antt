@@ -1,4 +1,3 @@
 pub mod Bound
 pub mod Places
-mod SameQualifiers
 pub mod Some

@@ -1,4 +1,0 @@
-mod Below
-mod Declared
-mod Overriding
-mod Rising

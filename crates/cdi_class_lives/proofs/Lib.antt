@@ -1,3 +1,0 @@
-mod Added
-mod Keeping
-mod Kept

@@ -1,4 +1,0 @@
-pub mod ClassLives
-pub mod Inheriting
-pub mod Kept
-pub mod Lives

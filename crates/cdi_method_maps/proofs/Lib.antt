@@ -1,4 +1,0 @@
-pub mod Growth
-pub mod Puts
-pub mod HiddenChanges
-pub mod Maps

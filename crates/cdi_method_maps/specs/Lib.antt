@@ -1,3 +1,0 @@
-pub mod NamedMethods
-pub mod KeptMethods
-pub mod MethodMaps
