@@ -1,5 +1,6 @@
 pub mod Apart
 pub mod Codes
+pub mod Inherited
 pub mod Observers
 pub mod Plans
 pub mod Products

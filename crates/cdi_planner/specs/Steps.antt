@@ -40,6 +40,11 @@ abbrev pub injections : List Class → List Step
 injections [] = []
 injections (c ∷ below) = class_steps c below ++ injections below
 
+-- instances of the interceptors in any chain of the bean, in the order of interceptors, and the constructor
+abbrev pub first_steps : ChainTables → Option Constructor → Bean → List Step
+first_steps t constructor b =
+    map steps.Intercept (interceptors_of t b) ++ construction t b.class constructor ∷ []
+
 -- Instances of the interceptors in any chain of the bean, in the order of interceptors; the constructor; class by class the injected
 -- fields and the initializers; and the post-construct chain and callbacks.
 abbrev pub steps_of : ChainTables → Option Constructor → Bean → List Class → List Step

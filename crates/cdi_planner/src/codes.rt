@@ -103,7 +103,8 @@ fn add_pre_destroy(
     }
 }
 
-fn post_constructs(
+/// The post-construct callbacks among the members of a bean.
+pub(crate) fn post_constructs(
     alloc: Global,
     members: &[ClassPart<'_, Member>],
 ) -> Result<Seq<Code>, AllocError>
@@ -116,7 +117,11 @@ fn post_constructs(
     Ok(callbacks)
 }
 
-fn pre_destroys(alloc: Global, members: &[ClassPart<'_, Member>]) -> Result<Seq<Code>, AllocError>
+/// The pre-destroy callbacks among the members of a bean.
+pub(crate) fn pre_destroys(
+    alloc: Global,
+    members: &[ClassPart<'_, Member>],
+) -> Result<Seq<Code>, AllocError>
     ensures { IfOk result (λ callbacks. callbacks ≡ filter_map spec.pre_destroy members.now) }
 {
     let mut callbacks = Seq::empty(alloc);

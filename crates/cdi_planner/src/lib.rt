@@ -7,8 +7,10 @@ mod copies;
 pub mod laws;
 mod managed;
 mod observer;
+pub mod own_parts;
 pub mod planner;
 mod product;
 mod steps;
 
+pub use own_parts::OwnParts;
 pub use planner::Planner;

@@ -1,21 +1,29 @@
 //! What makes plans.
-ghost use Rattle.std.specs.Prelude.{◌≡◌, Some, option_map, IfOk, IsSome, IsTrue};
+ghost use Rattle.std.specs.Prelude.{◌≡◌, Some, length, option_map, IfOk, IsSome, IsTrue};
 ghost use Rattle.std.specs.Option.{option_copied};
 ghost use Rattle.cdi_types.specs.Line.{class_named};
+ghost use Rattle.cdi_planner.specs.Codes.{lifecycle as lifecycle_of};
+ghost use Rattle.cdi_planner.specs.Inherited as inherited;
 ghost use Rattle.cdi_planner.specs.Observers as observers;
 ghost use Rattle.cdi_planner.specs.Plans as spec;
 ghost use Rattle.cdi_planner.specs.Products.{producer_of, IsPlanBy, IsProductPlan};
+ghost use Rattle.cdi_planner.specs.Steps.{first_steps as first_steps_of};
+ghost use Rattle.cdi_plans.specs.Chains.{HaveSameChains};
 ghost use Rattle.cdi_bean_rules.specs.Limits.{is_producer};
 
-use crate::codes::injected_method;
+use crate::codes::{business_methods, injected_method, lifecycle};
 use crate::managed::managed_plan;
 use crate::observer::observer_in;
+use crate::own_parts::{OwnParts, own_parts};
 use crate::product::{disposers_of, producer_in, source_of};
-use cdi_base::Name;
+use crate::steps::first_steps;
+use cdi_base::{InterceptorMethod, Name, Seq};
 use cdi_beans::{Bean, BeanKind, ObserverMethod};
 use cdi_deployment::{Class, Constructor, Deployment, Member, Observer};
 use cdi_plans::Chains;
-use cdi_plans::plan::{InjectedMethod, ManagedPlan, Plan, ProductPlan};
+use cdi_plans::plan::{
+    BusinessMethod, Code, InjectedMethod, Lifecycle, ManagedPlan, Plan, ProductPlan, Step,
+};
 use cdi_quals::QualifierTypes;
 use cdi_types::{ClassIndex, ClassPart, TypeTable};
 use std::alloc::{AllocError, Global};
@@ -174,6 +182,59 @@ impl<'a> Planner<'a> {
             }
             None => unreachable!(),
         }
+    }
+
+    /// What a class declares that runs in the lives of instances, with the chains of a bean of this class.
+    pub fn own_parts(&self, alloc: Global, class: &Class) -> Result<OwnParts, AllocError>
+        ensures { IfOk result (λ own. own ≡ inherited.own_parts self.now.chains class.now) }
+    {
+        own_parts(alloc, self.chains, class)
+    }
+
+    /// The business methods of a bean, which is told by its class, those of the topmost superclass first.
+    pub fn methods(&self, alloc: Global, bean: Name) -> Result<Seq<BusinessMethod>, AllocError>
+        ensures { IfOk result (inherited.AreMethodsOf self.now bean) }
+    {
+        let line = self.classes.line(alloc, self.types, bean)?;
+        let has = line.members(alloc)?;
+        business_methods(alloc, self.chains, bean, has.as_slice())
+    }
+
+    /// Whether each member is in the same chain for two beans, as [`Chains::have_same_chains`] tells.
+    pub fn have_same_chains(&self, bean: Name, other: Name) -> bool
+        ensures { IsTrue result → HaveSameChains self.now.chains bean other }
+    {
+        self.chains.have_same_chains(bean, other)
+    }
+
+    /// How many interceptors are enabled.
+    pub fn interceptor_count(&self) -> usize
+        ensures { result ≡ length self.now.chains.interceptors }
+    {
+        self.chains.interceptors().len()
+    }
+
+    /// The steps up to the construction of an instance of a managed bean: an instance of each interceptor in its chains, and the
+    /// constructor.
+    pub fn first_steps(&self, alloc: Global, bean: &Bean) -> Result<Seq<Step>, AllocError>
+        ensures { IfOk result (λ steps. steps ≡ first_steps_of self.now.chains
+            (spec.constructor_of self.now.classes bean.now.class) bean.now) }
+    {
+        first_steps(alloc, self.chains, self.constructor(bean.class), bean)
+    }
+
+    /// What runs at a point of the life of an instance of a bean with these callbacks.
+    pub fn lifecycle(
+        &self,
+        alloc: Global,
+        bean: Name,
+        method: InterceptorMethod,
+        callbacks: Seq<Code>,
+    ) -> Result<Lifecycle, AllocError>
+        ensures { IfOk result (λ life. life
+            ≡ lifecycle_of self.now.chains bean method callbacks) }
+    {
+        lifecycle(alloc, self.chains, bean, method, callbacks)
     }
 
     /// By which steps an instance of a bean is created (Jakarta CDI 4.0, *Lifecycle of managed beans*, *Lifecycle of producer methods*,

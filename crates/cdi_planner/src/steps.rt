@@ -69,7 +69,7 @@ fn construction(
 }
 
 /// Adds a step for each of these injected fields.
-fn add_injected_fields(
+pub(crate) fn add_injected_fields(
     alloc: Global,
     fields: &[InjectedField],
     steps: &mut Seq<Step>,
@@ -107,7 +107,7 @@ fn add_initializer(
 }
 
 /// Adds a step for each of these members that is an initializer.
-fn add_initializers(
+pub(crate) fn add_initializers(
     alloc: Global,
     members: &[ClassPart<'_, Member>],
     steps: &mut Seq<Step>,
@@ -118,6 +118,25 @@ fn add_initializers(
         add_initializer(alloc, member, steps)?;
     }
     Ok(())
+}
+
+/// The steps up to the construction of an instance of a bean, by the constructor of its class: an instance of each interceptor in its
+/// chains, and the constructor.
+pub(crate) fn first_steps(
+    alloc: Global,
+    chains: &Chains,
+    constructor: Option<&Constructor>,
+    bean: &Bean,
+) -> Result<Seq<Step>, AllocError>
+    ensures { IfOk result (λ steps. steps
+        ≡ spec.first_steps chains.now (option_copied constructor.entry) bean.now) }
+{
+    let interceptors = chains.interceptors_of(alloc, bean)?;
+    let construct = construction(alloc, chains, bean.class, constructor)?;
+    let mut steps = Seq::empty(alloc);
+    add_interceptors(interceptors.as_slice(), &mut steps)?;
+    steps.push(construct)?;
+    Ok(steps)
 }
 
 /// Whether a class of this name declares a member.

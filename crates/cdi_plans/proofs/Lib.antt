@@ -1,3 +1,4 @@
 pub mod Bound
 pub mod Places
+mod SameQualifiers
 pub mod Some

@@ -1,5 +1,5 @@
 -- The chains of interceptors (Jakarta Interceptors 2.1, Interceptor Resolution, Interceptor Ordering).
-use Rattle.std.specs.Prelude.{ℕ, ◌==◌, ◌&&◌, ◌||◌, Bool, false, List, [], map, filter, Option, Some, None, is_some, option_map, option_and_then, unwrap_or}
+use Rattle.std.specs.Prelude.{ℕ, ◌≡◌, ◌==◌, ◌&&◌, ◌||◌, Bool, false, List, [], map, filter, Option, Some, None, is_some, option_map, option_and_then, unwrap_or}
 use Rattle.std.specs.List.{find, list_any, enumerate_from}
 use Rattle.cdi_base.specs.declared.place.InterceptorMethod.{InterceptorMethod}
 use Rattle.cdi_base.specs.declared.place.InterceptorMethod.TheVariants as methods
@@ -61,6 +61,10 @@ chain_with method (Some own) of_class interceptors =
 abbrev pub invoke_chain : ChainTables → ℕ → BeanMember → List ℕ
 invoke_chain t bean m =
     chain_with methods.AroundInvoke (member_level t m) (class_level t bean) t.interceptors
+
+-- each member is in the same chain for two beans
+abbrev pub HaveSameChains : ChainTables → ℕ → ℕ → Type 0
+HaveSameChains t bean other = (m : BeanMember) → invoke_chain t bean m ≡ invoke_chain t other m
 
 -- the chain of a lifecycle method of a bean
 abbrev pub life_chain : ChainTables → ℕ → InterceptorMethod → List ℕ

@@ -1,5 +1,5 @@
 //! The chains of all beans.
-ghost use Rattle.std.specs.Prelude.{◌≡◌, ◌==◌, [], ℕ, position, nat_eq, map, option_map, option_and_then, IfOk};
+ghost use Rattle.std.specs.Prelude.{◌≡◌, ◌==◌, [], ℕ, position, nat_eq, map, option_map, option_and_then, IfOk, IsTrue};
 ghost use Rattle.std.specs.HashMap.{get};
 ghost use Rattle.std.specs.List.{find, list_any};
 ghost use Rattle.std.specs.Option.{option_copied};
@@ -171,6 +171,14 @@ impl Chains {
             self.member_level(member),
             self.class_level(bean),
         )
+    }
+
+    /// Whether each member is in the same chain for two beans, which are told by their classes: no interceptor is enabled, or both classes
+    /// have the same class-level bindings. It doesn't look for other reasons.
+    pub fn have_same_chains(&self, bean: Name, other: Name) -> bool
+        ensures { IsTrue result → spec.HaveSameChains self.now bean other }
+    {
+        self.interceptors.is_empty() || self.class_level(bean) == self.class_level(other)
     }
 
     /// The chain round the construction of a bean, or round its post-construct or pre-destroy callbacks (Jakarta Interceptors 2.1,

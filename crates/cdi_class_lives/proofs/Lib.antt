@@ -1,0 +1,3 @@
+mod Added
+mod Keeping
+mod Kept

@@ -1,0 +1,11 @@
+use Rattle.std.proofs.Common.{ℕ, ◌≡◌, ◌++◌, List, map, Some, slice_get}
+use Rattle.cdi_class_lives.proofs.steps.keep_steps.Given as goal
+
+abbrev pub invariant-loop-step : goal.invariant-loop-step
+invariant-loop-step l =
+    record {
+      kept : l.kept ≡ l.initial.kept ++ l.yielded;
+      added : List ℕ;
+      places : l.places ≡ l.initial.places ++ added;
+      told : map (slice_get l.kept) added ≡ map Some l.yielded;
+    }

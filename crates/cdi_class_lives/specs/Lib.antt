@@ -1,0 +1,4 @@
+pub mod ClassLives
+pub mod Inheriting
+pub mod Kept
+pub mod Lives

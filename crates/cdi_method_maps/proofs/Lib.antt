@@ -1,0 +1,4 @@
+pub mod Growth
+pub mod Puts
+pub mod HiddenChanges
+pub mod Maps

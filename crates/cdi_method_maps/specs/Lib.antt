@@ -1,0 +1,3 @@
+pub mod NamedMethods
+pub mod KeptMethods
+pub mod MethodMaps
