@@ -16,7 +16,7 @@ use Rattle.cdi_check.specs.Accepted.{AreBodiesSound, IsRegistered}
 use Rattle.cdi_check.specs.Tables.{setting_by}
 use Rattle.cdi_deployment.specs.declared.deployment.Deployment.{Deployment}
 use Rattle.cdi_machine.specs.Words.{Fields}
-use Rattle.cdi_planner.proofs.Fronts.{same}
+use Rattle.cdi_planner.proofs.Names.{same}
 use Rattle.cdi_event_tables.specs.Ids.{is_named}
 use Rattle.cdi_run_tables.specs.Machine.{AreIdsOf, body_number, id_of}
 use Rattle.cdi_run_tables.specs.declared.tables.RunTables.{RunTables}

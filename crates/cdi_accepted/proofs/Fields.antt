@@ -17,7 +17,7 @@ use Rattle.cdi_deployment.specs.declared.deployment.Point.{Point}
 use Rattle.cdi_machine.specs.Words.{Asked, Fields}
 use Rattle.cdi_machine.specs.Tables as machine
 use Rattle.cdi_types.specs.Members.{comes_down, fields_of, members_of, parts_of}
-use Rattle.cdi_planner.proofs.Fronts.{same}
+use Rattle.cdi_planner.proofs.Names.{same}
 use Rattle.cdi_planner.specs.Codes.{completion}
 use Rattle.cdi_planner.specs.Plans.{initial_fields}
 use Rattle.cdi_planner.specs.Steps.{class_steps, construction, initialization, injection, injections, steps_of}

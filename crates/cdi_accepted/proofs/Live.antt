@@ -22,7 +22,7 @@ use Rattle.cdi_live.specs.Live.{has_member}
 use Rattle.cdi_beans.specs.Kinds.{is_managed}
 use Rattle.cdi_types.specs.Members.{members_of}
 use Rattle.cdi_deployment.specs.Member.{member_name}
-use Rattle.cdi_planner.proofs.Fronts.{same}
+use Rattle.cdi_planner.proofs.Names.{same}
 use Rattle.cdi_deployment.specs.Member.{member_name as element_name}
 use Rattle.cdi_run_tables.specs.declared.tables.RunTables.{RunTables}
 use Rattle.cdi_accepted.proofs.Lists.{Among, among_filter_map, among_flat_map, among_left, among_map, among_right, any_passes}

@@ -9,7 +9,7 @@ use Rattle.cdi_deployment.specs.declared.deployment.Member.TheVariants as member
 use Rattle.cdi_deployment.specs.declared.deployment.Method.{Method}
 use Rattle.cdi_types.specs.Members.{is_inherited, declares, comes_down, parts_of, members_of}
 use Rattle.cdi_deployment.specs.Member.{member_name}
-use Rattle.cdi_planner.proofs.Fronts.{same}
+use Rattle.cdi_planner.proofs.Names.{same}
 use Rattle.cdi_shape_check.specs.OwnParts.{declares_method, is_method}
 use Rattle.cdi_accepted.proofs.Lists.{Among, among_filter, among_left, among_map, among_parts, among_right, any_passes, mapped, none_passes, of_filter, passing}
 use Rattle.cdi_accepted.proofs.Duplicates.{IsNamedApart}

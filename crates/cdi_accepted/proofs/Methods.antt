@@ -22,7 +22,7 @@ use Rattle.cdi_deployment.specs.declared.deployment.Method.{Method}
 use Rattle.cdi_machine.specs.Tables as machine
 use Rattle.cdi_types.specs.Line.{class_named}
 use Rattle.cdi_types.specs.Members.{members_of}
-use Rattle.cdi_planner.proofs.Fronts.{same}
+use Rattle.cdi_planner.proofs.Names.{same}
 use Rattle.cdi_planner.specs.Codes.{business_method, member_chain, member_code}
 use Rattle.cdi_plans.specs.declared.plan.BusinessMethod.{BusinessMethod}
 use Rattle.cdi_plans.specs.declared.plan.ManagedPlan.{ManagedPlan}

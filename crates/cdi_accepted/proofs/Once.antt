@@ -13,7 +13,7 @@ use Rattle.cdi_deployment.specs.declared.deployment.Member.{Member}
 use Rattle.cdi_machine.specs.Tables as machine
 use Rattle.cdi_name_check.specs.NameProblems.{AreNameProblems}
 use Rattle.cdi_name_check.specs.declared.claim.Claim.TheVariants as claims
-use Rattle.cdi_planner.proofs.Fronts.{same}
+use Rattle.cdi_planner.proofs.Names.{same}
 use Rattle.cdi_planner.specs.Codes.{pre_destroy}
 use Rattle.cdi_plans.specs.declared.plan.Code.{Code}
 use Rattle.cdi_run_tables.specs.Machine.{machine_code}

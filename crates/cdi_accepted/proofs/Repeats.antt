@@ -11,7 +11,7 @@ use Rattle.cdi_deployment.specs.declared.deployment.InjectedField.{InjectedField
 use Rattle.cdi_deployment.specs.declared.deployment.Member.{Member}
 use Rattle.cdi_types.specs.Line.{IsLineOf}
 use Rattle.cdi_deployment.specs.Member.{member_name}
-use Rattle.cdi_planner.proofs.Fronts.{same}
+use Rattle.cdi_planner.proofs.Names.{same}
 use Rattle.cdi_problems.specs.Elements.{Element, elements_of, class_elements, interceptor_elements}
 use Rattle.cdi_problems.specs.declared.problem.ProblemKind.TheVariants as kinds
 use Rattle.cdi_quals.specs.declared.types.QualifierType.{QualifierType}

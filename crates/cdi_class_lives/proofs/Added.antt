@@ -1,18 +1,18 @@
 -- What a class has once it is added, and what the others have still.
-use Rattle.std.proofs.Common.{ℕ, ◌≡◌, ◌≢◌, ◌∙◌, ◌&&◌, Bool, true, false, not, cond, nat_eq, List, ◌++◌, length, map, filter, Option, Some, None, slice_get, option_map, refl, sym, ap}
-use Rattle.std.proofs.lemmas.Bool.{eq-eqb, ne_eqb}
+use Rattle.std.proofs.Common.{ℕ, ◌≡◌, ◌≢◌, ◌∙◌, ◌&&◌, Bool, true, false, not, cond, List, [], ◌∷◌, ◌++◌, length, map, filter, Option, Some, None, slice_get, option_map, refl, sym, ap, subst, arith}
 use Rattle.std.proofs.lemmas.List.{map-append}
-use Rattle.std.specs.HashMap.{get}
+use Rattle.std.proofs.lemmas.Option.{slice_get_past}
 use Rattle.std.specs.Option.{option_or}
-use Rattle.cdi_class_lives.proofs.Keeping.{all_there, told, told_at}
-use Rattle.cdi_class_lives.proofs.Kept.{are_left, are_there_still}
-use Rattle.cdi_class_lives.specs.ClassLives.{IsAdded, KeepsLife, injections_in, life_from, life_of, line_in, method_in, post_constructs_in, pre_destroys_in}
+use Rattle.cdi_class_lives.proofs.Keeping.{all_there, others_stay, told, told_at}
+use Rattle.cdi_class_lives.proofs.Kept.{are_left, are_there_still, is_last}
+use Rattle.cdi_class_lives.specs.ClassLives.{IsAdded, KeepsLife, fields_in, injections_in, life_from, life_of, line_in, method_in, post_constructs_in, pre_destroys_in}
 use Rattle.cdi_class_lives.specs.Inheriting.{leaves_at, leaves_code, leaves_if_any, leaves_step}
 use Rattle.cdi_class_lives.specs.Kept.{are_below}
 use Rattle.cdi_class_lives.specs.Lives.{inherited, longer}
 use Rattle.cdi_class_lives.specs.declared.life.ClassLife.{ClassLife}
 use Rattle.cdi_class_lives.specs.declared.lives.ClassLives.{ClassLives}
 use Rattle.cdi_class_lives.specs.declared.own_life.OwnLife.{OwnLife}
+use Rattle.cdi_deployment.specs.declared.deployment.Field.{Field}
 use Rattle.cdi_machine.specs.declared.step.Step.{Step}
 use Rattle.cdi_method_maps.specs.MethodMaps.{IsMap, KeepsMaps, method_at}
 use Rattle.cdi_method_maps.specs.NamedMethods.{is_among, method_named}
@@ -20,7 +20,11 @@ use Rattle.cdi_method_maps.specs.NamedMethods.{is_among, method_named}
 -- what is kept of a class stands where it is looked for
 from_kept : (self : ClassLives) (above : Option ℕ) (life : ClassLife) → life_from self above ≡ Some life → are_below (length self.steps) life.injections ≡ true
 from_kept self None life e = absurd cc
-from_kept self (Some class) life e = (self.kept class life e).places
+from_kept self (Some class) life e = (self.kept class life e).step_places
+
+from_kept_fields : (self : ClassLives) (above : Option ℕ) (life : ClassLife) → life_from self above ≡ Some life → are_below (length self.fields) life.fields ≡ true
+from_kept_fields self None life e = absurd cc
+from_kept_fields self (Some class) life e = (self.kept class life e).field_places
 
 -- ---- what a class has of the one above it
 
@@ -52,18 +56,28 @@ module _ (old : ClassLives) (class : ℕ) (declared : List ℕ) where
       are_there_still old.steps own (filter (leaves_at declared old.steps) places) (filter (leaves_step declared) (told_at old.steps places))
       (are_left old.steps (leaves_step declared) (leaves_at declared old.steps) (λ place x e. ap (leaves_if_any declared) e) places (told_at old.steps places) (all_there old.steps places (below life refl)))
 
+  fields_below : (own : List Field) (above : Option ClassLife) → ((life : ClassLife) → above ≡ Some life → are_below (length old.fields) life.fields ≡ true)
+      → map (slice_get (old.fields ++ own)) (has above).fields ≡ map Some (fields_in old above)
+  fields_below own None below = refl
+  fields_below own (Some life) below =
+      are_there_still old.fields own life.fields (told_at old.fields life.fields) (all_there old.fields life.fields (below life refl))
+
 -- ---- a class more
 
 module _ (old new : ClassLives) (above : Option ℕ) (inherits_methods : Bool) (own : OwnLife) (life : ClassLife)
     (steps : new.steps ≡ old.steps ++ own.injections)
-    (with : (k : ℕ) → get nat_eq new.lives k ≡ cond (nat_eq own.class k) (Some life) (get nat_eq old.lives k))
+    (fields : new.fields ≡ old.fields ++ own.fields)
+    (lives : new.lives ≡ old.lives ++ life ∷ [])
     (kept : KeepsMaps old.methods new.methods)
   where
-    here : get nat_eq new.lives own.class ≡ Some life
-    here = with own.class ∙ ap (λ b. cond b (Some life) (get nat_eq old.lives own.class)) (eq-eqb own.class own.class refl)
+    abbrev added : ℕ
+    added = length old.lives
 
-    elsewhere : (class : ℕ) → class ≢ own.class → get nat_eq new.lives class ≡ get nat_eq old.lives class
-    elsewhere class other = with class ∙ ap (λ b. cond b (Some life) (get nat_eq old.lives class)) (ne_eqb own.class class (λ e. other (sym e)))
+    here : slice_get new.lives added ≡ Some life
+    here = ap (λ all. slice_get all added) lives ∙ is_last old.lives life
+
+    elsewhere : (class : ℕ) → class ≢ added → slice_get new.lives class ≡ slice_get old.lives class
+    elsewhere class other = ap (λ all. slice_get all class) lives ∙ others_stay old.lives life class other
 
     -- another class has what it had
     steps_still : (o : Option ClassLife) → ((life : ClassLife) → o ≡ Some life → are_below (length old.steps) life.injections ≡ true) → injections_in new o ≡ injections_in old o
@@ -73,7 +87,14 @@ module _ (old new : ClassLives) (above : Option ℕ) (inherits_methods : Bool) (
         ∙ told (old.steps ++ own.injections) life.injections (told_at old.steps life.injections)
         (are_there_still old.steps own.injections life.injections (told_at old.steps life.injections) (all_there old.steps life.injections (below life refl)))
 
-    method_still : (class : ℕ) (o : Option ClassLife) → get nat_eq old.lives class ≡ o → (name : ℕ) → method_in new o name ≡ method_in old o name
+    fields_still : (o : Option ClassLife) → ((life : ClassLife) → o ≡ Some life → are_below (length old.fields) life.fields ≡ true) → fields_in new o ≡ fields_in old o
+    fields_still None below = refl
+    fields_still (Some life) below =
+        ap (λ all. told_at all life.fields) fields
+        ∙ told (old.fields ++ own.fields) life.fields (told_at old.fields life.fields)
+        (are_there_still old.fields own.fields life.fields (told_at old.fields life.fields) (all_there old.fields life.fields (below life refl)))
+
+    method_still : (class : ℕ) (o : Option ClassLife) → slice_get old.lives class ≡ o → (name : ℕ) → method_in new o name ≡ method_in old o name
     method_still class None e name = refl
     method_still class (Some life) e name = by life.methods (old.kept class life e).map
       where
@@ -81,12 +102,13 @@ module _ (old new : ClassLives) (above : Option ℕ) (inherits_methods : Bool) (
         by None is = refl
         by (Some m) is = kept.methods m name (is m refl)
 
-    keeps : (class : ℕ) → class ≢ own.class → KeepsLife old new class
+    keeps : (class : ℕ) → class ≢ added → KeepsLife old new class
     keeps class other =
         let same = elsewhere class other in
         record {
           line = ap (option_map (λ (l : ClassLife). l.line)) same;
-          injections = ap (injections_in new) same ∙ steps_still (life_of old class) (λ l e. (old.kept class l e).places);
+          fields = ap (fields_in new) same ∙ fields_still (life_of old class) (λ l e. (old.kept class l e).field_places);
+          injections = ap (injections_in new) same ∙ steps_still (life_of old class) (λ l e. (old.kept class l e).step_places);
           post_constructs = ap (post_constructs_in new) same ∙ codes_still (life_of old class);
           pre_destroys = ap (pre_destroys_in new) same ∙ ends_still (life_of old class);
           methods = λ name. ap (λ o. method_in new o name) same ∙ method_still class (life_of old class) refl name;
@@ -113,17 +135,26 @@ module _ (old new : ClassLives) (above : Option ℕ) (inherits_methods : Bool) (
         choice name false true = refl
         choice name false false = refl
 
-        pub is_added : life.line ≡ got.line
+        is_added : life.line ≡ got.line
+            → map (slice_get new.fields) life.fields ≡ map (slice_get new.fields) got.fields ++ map Some own.fields
             → map (slice_get new.steps) life.injections ≡ map (slice_get new.steps) got.injections ++ map Some own.injections
             → life.post_constructs ≡ got.post_constructs ++ own.post_constructs
             → life.pre_destroys ≡ got.pre_destroys ++ own.pre_destroys
             → ((name : ℕ) → method_at new.methods (Some number) name ≡ option_or (method_named name own.methods) (cond (is_among name own.declared) None (method_at old.methods origin name)))
-            → IsAdded old above inherits_methods own new
-        is_added line places post pre methods =
+            → IsAdded old above inherits_methods own new added
+        is_added line field_places places post pre methods =
             let from_above = life_from old above in
             let left = filter (leaves_step own.declared) (injections_in old from_above) in
             record {
+              fresh = ap (option_map (λ (l : ClassLife). l.line)) (slice_get_past old.lives added (omega (arith)));
               line = ap (option_map (λ (l : ClassLife). l.line)) here ∙ ap Some (line ∙ line_below old own.class own.declared from_above);
+              fields =
+                  ap (fields_in new) here
+                  ∙ told new.fields life.fields (fields_in old from_above ++ own.fields)
+                  (field_places
+                  ∙ ap (λ os. os ++ map Some own.fields)
+                  (ap (λ all. map (slice_get all) got.fields) fields ∙ fields_below old own.class own.declared own.fields from_above (from_kept_fields old above))
+                  ∙ sym (map-append Some (fields_in old from_above) own.fields));
               injections =
                   ap (injections_in new) here
                   ∙ told new.steps life.injections (left ++ own.injections)
@@ -141,3 +172,13 @@ module _ (old new : ClassLives) (above : Option ℕ) (inherits_methods : Bool) (
                   ∙ ap (option_or (method_named name own.methods)) (choice name inherits_methods (is_among name own.declared));
               others = keeps;
             }
+
+        pub is_added_at : (place : ℕ) → place ≡ added → life.line ≡ got.line
+            → map (slice_get new.fields) life.fields ≡ map (slice_get new.fields) got.fields ++ map Some own.fields
+            → map (slice_get new.steps) life.injections ≡ map (slice_get new.steps) got.injections ++ map Some own.injections
+            → life.post_constructs ≡ got.post_constructs ++ own.post_constructs
+            → life.pre_destroys ≡ got.pre_destroys ++ own.pre_destroys
+            → ((name : ℕ) → method_at new.methods (Some number) name ≡ option_or (method_named name own.methods) (cond (is_among name own.declared) None (method_at old.methods origin name)))
+            → IsAdded old above inherits_methods own new place
+        is_added_at place at line field_places places post pre methods =
+            subst (IsAdded old above inherits_methods own new) (sym at) (is_added line field_places places post pre methods)

@@ -1,14 +1,15 @@
 -- Classes whose steps and methods are kept still have them where more are kept.
-use Rattle.std.proofs.Common.{ℕ, ◌≡◌, ◌∙◌, ◌<◌, ◌≤◌, Bool, true, false, ◌⊎◌, inl, inr, List, [], get_or, option_and_then, option_map, ◌∷◌, ◌++◌, length, map, filter, cond, nat_eq, nat_lt, Option, Some, None, slice_get, refl, sym, ap, subst, arith}
-use Rattle.std.proofs.lemmas.Bool.{and_from, and_parts, lt-ltb, ltb-true}
-use Rattle.std.proofs.lemmas.Option.{same_Some, slice_get_cases, slice_get_within, slice_get-map}
-use Rattle.std.proofs.lemmas.List.{length-map}
-use Rattle.std.specs.HashMap.{HashMap, get}
+use Rattle.std.proofs.Common.{ℕ, ◌≡◌, ◌≢◌, ◌∙◌, ◌<◌, ◌≤◌, Bool, true, false, ◌⊎◌, inl, inr, List, [], get_or, option_and_then, option_map, ◌∷◌, ◌++◌, length, map, filter, cond, nat_lt, Option, Some, None, slice_get, refl, sym, ap, subst, arith}
+use Rattle.std.proofs.lemmas.Bool.{and_from, and_parts, cases_order, lt-ltb, ltb-true}
+use Rattle.std.proofs.lemmas.Option.{get_or_from_slice_get, same_Some, slice_get_cases, slice_get_past, slice_get_within, slice_get-get_or, slice_get-map}
+use Rattle.std.proofs.lemmas.List.{get_or_append_left, length-map, length_push}
 use Rattle.std.specs.List.{cons_option, filter_map}
+use Rattle.cdi_class_lives.proofs.Kept.{is_last, there_still}
 use Rattle.cdi_class_lives.specs.Inheriting.{leaves_at}
 use Rattle.cdi_class_lives.specs.Kept.{AreKept, IsKept, are_below}
 use Rattle.cdi_class_lives.specs.Lives.{inherited}
 use Rattle.cdi_class_lives.specs.declared.life.ClassLife.{ClassLife}
+use Rattle.cdi_deployment.specs.declared.deployment.Field.{Field}
 use Rattle.cdi_machine.specs.declared.step.Step.{Step}
 use Rattle.cdi_method_maps.specs.MethodMaps.{IsMap}
 use Rattle.cdi_method_maps.specs.declared.method_maps.MethodMaps.{MethodMaps}
@@ -92,33 +93,61 @@ module _ {X : Type 0} (kept : List X) where
 
 -- ---- classes
 
-module _ (steps more : List Step) (maps others : MethodMaps) (grown : length steps ≤ length more) (still : (map : ℕ) → IsMap maps map → IsMap others map) where
-  pub is_kept_still : (life : ClassLife) → IsKept steps maps life → IsKept more others life
+module _ (steps more : List Step) (fields others : List Field) (maps those : MethodMaps)
+    (grown : length steps ≤ length more) (wider : length fields ≤ length others) (still : (map : ℕ) → IsMap maps map → IsMap those map)
+  where
+  pub is_kept_still : (life : ClassLife) → IsKept steps fields maps life → IsKept more others those life
   is_kept_still life is = record {
-    places = are_below_more (length steps) (length more) life.injections grown is.places;
+    step_places = are_below_more (length steps) (length more) life.injections grown is.step_places;
+    field_places = are_below_more (length fields) (length others) life.fields wider is.field_places;
     map = λ map e. still map (is.map map e);
   }
 
-  pub are_kept_still : {S : Type 0} (lives : HashMap ℕ ClassLife S) → AreKept steps maps lives → AreKept more others lives
+  pub are_kept_still : (lives : List ClassLife) → AreKept steps fields maps lives → AreKept more others those lives
   are_kept_still lives are = λ class life e. is_kept_still life (are class life e)
 
 -- what a class has of its direct superclass
-pub is_kept_below : (steps : List Step) (maps : MethodMaps) (above : Option ClassLife) (class : ℕ) (declared : List ℕ)
-    → ((life : ClassLife) → above ≡ Some life → IsKept steps maps life) → IsKept steps maps (inherited above steps class declared)
-is_kept_below steps maps None class declared are = record { places = refl; map = λ map e. absurd cc }
-is_kept_below steps maps (Some life) class declared are =
+pub is_kept_below : (steps : List Step) (fields : List Field) (maps : MethodMaps) (above : Option ClassLife) (class : ℕ) (declared : List ℕ)
+    → ((life : ClassLife) → above ≡ Some life → IsKept steps fields maps life) → IsKept steps fields maps (inherited above steps class declared)
+is_kept_below steps fields maps None class declared are = record { step_places = refl; field_places = refl; map = λ map e. absurd cc }
+is_kept_below steps fields maps (Some life) class declared are =
     let is = are life refl in
-    record { places = are_below_left (length steps) (leaves_at declared steps) life.injections is.places; map = is.map }
+    record {
+      step_places = are_below_left (length steps) (leaves_at declared steps) life.injections is.step_places;
+      field_places = is.field_places;
+      map = is.map;
+    }
+
+-- an element more at the end of a list
+module _ {X : Type 0} (xs : List X) (x : X) where
+  pub pushed_there : (k : ℕ) (y : X) → slice_get (xs ++ x ∷ []) k ≡ Some y → ((k ≡ length xs) × (x ≡ y)) ⊎ (slice_get xs k ≡ Some y)
+  pushed_there k y e = by (cases_order k (length xs))
+    where
+      by : (k ≡ length xs) ⊎ ((k < length xs) ⊎ (length xs < k)) → ((k ≡ length xs) × (x ≡ y)) ⊎ (slice_get xs k ≡ Some y)
+      by (inl at) = inl (at, same_Some x y (sym (is_last xs x) ∙ ap (slice_get (xs ++ x ∷ [])) (sym at) ∙ e))
+      by (inr (inl lt)) =
+          inr (slice_get-get_or xs k x lt
+          ∙ ap Some (sym (get_or_append_left xs (x ∷ []) x k lt) ∙ get_or_from_slice_get (xs ++ x ∷ []) k y x e))
+      by (inr (inr gt)) = absurd (omega (arith, gt, slice_get_within (xs ++ x ∷ []) k y e, length_push xs x))
+
+  pub others_stay : (k : ℕ) → k ≢ length xs → slice_get (xs ++ x ∷ []) k ≡ slice_get xs k
+  others_stay k other = by (slice_get_cases xs k).1
+    where
+      by : ((y : X) × (k < length xs) × (slice_get xs k ≡ Some y) × (get_or xs k y ≡ y)) ⊎ ((length xs ≤ k) × (slice_get xs k ≡ None))
+          → slice_get (xs ++ x ∷ []) k ≡ slice_get xs k
+      by (inl (y, within, e, same)) = there_still xs (x ∷ []) k y e ∙ sym e
+      by (inr past) = beyond (cases_order k (length xs))
+        where
+          beyond : (k ≡ length xs) ⊎ ((k < length xs) ⊎ (length xs < k)) → slice_get (xs ++ x ∷ []) k ≡ slice_get xs k
+          beyond (inl at) = absurd (other at)
+          beyond (inr (inl lt)) = absurd (omega (arith, lt, past.0))
+          beyond (inr (inr gt)) = slice_get_past (xs ++ x ∷ []) k (omega (arith, gt, length_push xs x)) ∙ sym past.1
 
 -- a class more
-module _ (steps : List Step) (maps : MethodMaps) {S : Type 0} (lives new : HashMap ℕ ClassLife S) where
-  pub are_kept_unchanged : ((k : ℕ) → get nat_eq new k ≡ get nat_eq lives k) → AreKept steps maps lives → AreKept steps maps new
-  are_kept_unchanged same are = λ class life e. are class life (sym (same class) ∙ e)
-
-  pub are_kept_with : (class : ℕ) (life : ClassLife) → ((k : ℕ) → get nat_eq new k ≡ cond (nat_eq class k) (Some life) (get nat_eq lives k))
-      → IsKept steps maps life → AreKept steps maps lives → AreKept steps maps new
-  are_kept_with class life with is are = λ k other e. by k other (nat_eq class k) (sym (with k) ∙ e)
+module _ (steps : List Step) (fields : List Field) (maps : MethodMaps) (lives : List ClassLife) where
+  pub are_kept_with : (life : ClassLife) → IsKept steps fields maps life → AreKept steps fields maps lives → AreKept steps fields maps (lives ++ life ∷ [])
+  are_kept_with life is are = λ k other e. by k other (pushed_there lives life k other e)
     where
-      by : (k : ℕ) (other : ClassLife) (b : Bool) → cond b (Some life) (get nat_eq lives k) ≡ Some other → IsKept steps maps other
-      by k other true e = subst (IsKept steps maps) (same_Some life other e) is
-      by k other false e = are k other e
+      by : (k : ℕ) (other : ClassLife) → ((k ≡ length lives) × (life ≡ other)) ⊎ (slice_get lives k ≡ Some other) → IsKept steps fields maps other
+      by k other (inl last) = subst (IsKept steps fields maps) last.1 is
+      by k other (inr there) = are k other there

@@ -13,6 +13,7 @@ abbrev pub topmost : ℕ → ClassLife
 topmost class =
     record {
       line = class ∷ [];
+      fields = [];
       injections = [];
       post_constructs = [];
       pre_destroys = [];
@@ -24,6 +25,7 @@ abbrev pub below : ClassLife → List Step → ℕ → List ℕ → ClassLife
 below above kept class declared =
     record {
       line = longer above.line class;
+      fields = above.fields;
       injections = filter (leaves_at declared kept) above.injections;
       post_constructs = filter (leaves_code declared) above.post_constructs;
       pre_destroys = filter (leaves_code declared) above.pre_destroys;

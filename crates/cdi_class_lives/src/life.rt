@@ -13,6 +13,8 @@ use std::alloc::{AllocError, Global};
 pub struct ClassLife {
     /// The names of the classes of its line, the topmost first.
     pub(crate) line: Seq<Name>,
+    /// The places of its fields.
+    pub(crate) fields: Seq<u32>,
     /// The places of the steps of its injected fields and initializers.
     pub(crate) injections: Seq<u32>,
     /// Its post-construct callbacks.
@@ -28,6 +30,7 @@ impl Drop for ClassLife {
     fn drop(self) {
         let ClassLife {
             line: _line,
+            fields: _fields,
             injections: _injections,
             post_constructs: _post_constructs,
             pre_destroys: _pre_destroys,
@@ -52,6 +55,7 @@ impl ClassLife {
     {
         Ok(ClassLife {
             line: line_below(alloc, &[], class)?,
+            fields: Seq::empty(alloc),
             injections: Seq::empty(alloc),
             post_constructs: Seq::empty(alloc),
             pre_destroys: Seq::empty(alloc),
@@ -71,6 +75,7 @@ impl ClassLife {
     {
         Ok(ClassLife {
             line: line_below(alloc, self.line.as_slice(), class)?,
+            fields: Seq::new(Vec::from_slice(alloc, self.fields.as_slice())?),
             injections: left_places(alloc, kept, self.injections.as_slice(), declared)?,
             post_constructs: left_codes(alloc, self.post_constructs.as_slice(), declared)?,
             pre_destroys: left_codes(alloc, self.pre_destroys.as_slice(), declared)?,

@@ -1,5 +1,6 @@
 //! What a class declares for the lives of its instances.
 use cdi_base::{Name, Seq};
+use cdi_deployment::Field;
 use cdi_machine::{Code, Step};
 use cdi_method_maps::NamedMethod;
 
@@ -10,6 +11,8 @@ pub struct OwnLife {
     pub class: Name,
     /// The names of all members that it declares. It overrides those of the same names.
     pub declared: Seq<Name>,
+    /// Its fields with the values that they begin with.
+    pub fields: Seq<Field>,
     /// The steps of its injected fields and initializers.
     pub injections: Seq<Step>,
     /// Its post-construct callbacks.

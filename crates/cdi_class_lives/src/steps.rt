@@ -1,7 +1,6 @@
-//! Steps that are kept once, and the places of those that a class has.
-ghost use Rattle.std.specs.Prelude.{◌≡◌, ◌≤◌, ◌++◌, filter, length, map, slice_get, true, Some, IfOk, OnOk};
+//! The places of the steps that a class has of its direct superclass.
+ghost use Rattle.std.specs.Prelude.{◌≡◌, filter, IfOk};
 ghost use Rattle.cdi_class_lives.specs.Inheriting as spec;
-ghost use Rattle.cdi_class_lives.specs.Kept.{are_below};
 
 use crate::codes::leaves_place;
 use cdi_base::{Name, Seq};
@@ -45,27 +44,4 @@ pub(crate) fn left_places(
         }
     }
     Ok(left)
-}
-
-/// Adds steps behind those that are kept, and their places behind these. A place has 32 bits: there is no memory for more steps.
-pub(crate) fn keep_steps(
-    kept: &mut Seq<Step>,
-    steps: Seq<Step>,
-    places: &mut Seq<u32>,
-) -> Result<(), AllocError>
-    ensures kept { OnOk result (kept.new ≡ kept.old ++ steps) }
-    ensures places { OnOk result (map (slice_get kept.new) places.new
-        ≡ map (slice_get kept.new) places.old ++ map Some steps) }
-    ensures below { OnOk result (are_below (length kept.old) places.old ≡ true
-        → are_below (length kept.new) places.new ≡ true) }
-    ensures grown { length kept.old ≤ length kept.new }
-{
-    for step in steps.into_vec() {
-        let Ok(place) = u32::try_from(kept.len()) else {
-            return Err(AllocError);
-        };
-        kept.push(step)?;
-        places.push(place)?;
-    }
-    Ok(())
 }

@@ -1,13 +1,17 @@
 -- The first method of a name, by what is kept of it.
 use Rattle.std.proofs.Common.{ℕ, ◌≡◌, ◌∙◌, ◌+◌, ◌<◌, length, take, get_or, ◌⊎◌, inl, inr, Bool, true, false, cond, List, [], ◌∷◌, ◌++◌, Option, Some, None, nat_eq, option_map, refl, sym, ap}
 use Rattle.std.specs.Option.{option_or, is_some}
-use Rattle.std.specs.List.{cons_option}
+use Rattle.std.specs.List.{cons_option, find}
 use Rattle.std.proofs.lemmas.Bool.{cases_eq, eq-eqb, ne_eqb}
 use Rattle.std.proofs.lemmas.List.{take_more}
 use Rattle.std.proofs.lemmas.List.Elements.{filter_map-append}
 use Rattle.cdi_base.specs.Maps.{Map, at}
 use Rattle.cdi_machine.specs.Tables as machine
 use Rattle.cdi_numbered_plans.specs.Machine.{machine_method, machine_methods, method_with}
+use Rattle.cdi_machine.specs.declared.member.Method.{Method}
+use Rattle.cdi_method_maps.specs.NamedMethods.{method_named}
+use Rattle.cdi_method_maps.specs.declared.named_method.NamedMethod.{NamedMethod}
+use Rattle.cdi_numbered_plans.specs.Methods.{method_by}
 use Rattle.cdi_plans.specs.declared.plan.BusinessMethod.{BusinessMethod}
 
 at-append : {X : Type 0} (xs ys : Map X) (key : ℕ) → at (xs ++ ys) key ≡ option_or (at xs key) (at ys key)
@@ -25,14 +29,6 @@ map_or f (Some x) b = refl
 or_none : {X : Type 0} (a b : Option X) → b ≡ None → a ≡ option_or a b
 or_none None b e = sym e
 or_none (Some x) b e = refl
-
-or_some : {X : Type 0} (a b : Option X) → is_some a ≡ true → a ≡ option_or a b
-or_some None b e = absurd cc
-or_some (Some x) b e = refl
-
-first_none : {X : Type 0} (a b : Option X) → is_some a ≡ false → b ≡ option_or a b
-first_none None b e = refl
-first_none (Some x) b e = absurd cc
 
 module _ {M : Type 0} (kept : machine.Method → M) (ids : ℕ → Option ℕ) where
   abbrev pub found_in : List BusinessMethod → ℕ → Option M
@@ -56,31 +52,37 @@ module _ {M : Type 0} (kept : machine.Method → M) (ids : ℕ → Option ℕ) w
   none_of_other m None name other = refl
   none_of_other m (Some body) name other = ap (λ b. option_map kept (cond b (Some (method_with m body).1) None)) (ne_eqb name m.name (λ e. other (sym e)))
 
-  module _ (m : BusinessMethod) (old : ℕ → Option M) where
-    abbrev pub with_method : ℕ → Option M
-    with_method name = option_or (old name) (found_in (m ∷ []) name)
+-- ---- methods in a list, with their names
 
-    -- one whose body isn't registered is passed over
-    pub unregistered : ids m.code.body ≡ None → (name : ℕ) → old name ≡ with_method name
-    unregistered e name = or_none (old name) (found_in (m ∷ []) name) (found_with m None e name)
+named_push : (name : ℕ) (xs : List NamedMethod) (y : NamedMethod) → method_named name (xs ++ y ∷ []) ≡ option_or (method_named name xs) (method_named name (y ∷ []))
+named_push name [] y = refl
+named_push name (x ∷ xs) y = by (named_push name xs y) (nat_eq x.name name)
+  where
+    by : method_named name (xs ++ y ∷ []) ≡ option_or (method_named name xs) (method_named name (y ∷ [])) → (b : Bool)
+        → option_map (λ (m : NamedMethod). m.method) (cond b (Some x) (find (λ (m : NamedMethod). nat_eq m.name name) (xs ++ y ∷ [])))
+        ≡ option_or (option_map (λ (m : NamedMethod). m.method) (cond b (Some x) (find (λ (m : NamedMethod). nat_eq m.name name) xs))) (method_named name (y ∷ []))
+    by more true = refl
+    by more false = more
 
-    -- so is one if there is a method of its name
-    pub repeated : is_some (old m.name) ≡ true → (name : ℕ) → old name ≡ with_method name
-    repeated there name = by (cases_eq m.name name)
-      where
-        by : (m.name ≡ name) ⊎ (m.name ≡ name → ⊥) → old name ≡ with_method name
-        by (inl e) = or_some (old name) (found_in (m ∷ []) name) (ap (λ n. is_some (old n)) (sym e) ∙ there)
-        by (inr other) = or_none (old name) (found_in (m ∷ []) name) (found_with m (ids m.code.body) refl name ∙ none_of_other m (ids m.code.body) name other)
+module _ (ids : ℕ → Option ℕ) (named : List NamedMethod) (m : BusinessMethod) where
+  -- one more, if its body is registered
+  pub named_next : (body : ℕ) (method : Method) → ids m.code.body ≡ Some body → method ≡ method_by (method_with m body).1 → (name : ℕ)
+      → method_named name (named ++ record { name = m.name; method = method } ∷ []) ≡ option_or (method_named name named) (found_in method_by ids (m ∷ []) name)
+  named_next body method e is name =
+      named_push name named (record { name = m.name; method = method })
+      ∙ ap (option_or (method_named name named)) (ap (λ (k : Method). method_named name (record { name = m.name; method = k } ∷ [])) is ∙ by (cases_eq m.name name) ∙ sym (found_with method_by ids m (Some body) e name))
+    where
+      made : Method
+      made = method_by (method_with m body).1
 
-    -- another one is put at its name
-    pub registered : (body : ℕ) → ids m.code.body ≡ Some body → is_some (old m.name) ≡ false → (name : ℕ) → cond (nat_eq m.name name) (Some (kept (method_with m body).1)) (old name) ≡ with_method name
-    registered body e absent name = by (cases_eq m.name name)
-      where
-        by : (m.name ≡ name) ⊎ (m.name ≡ name → ⊥) → cond (nat_eq m.name name) (Some (kept (method_with m body).1)) (old name) ≡ with_method name
-        by (inl same) =
-            ap (λ b. cond b (Some (kept (method_with m body).1)) (old name)) (eq-eqb m.name name same)
-            ∙ sym (found_with m (Some body) e name ∙ ap (λ b. option_map kept (cond b (Some (method_with m body).1) None)) (eq-eqb name m.name (sym same)))
-            ∙ first_none (old name) (found_in (m ∷ []) name) (ap (λ n. is_some (old n)) (sym same) ∙ absent)
-        by (inr other) =
-            ap (λ b. cond b (Some (kept (method_with m body).1)) (old name)) (ne_eqb m.name name other)
-            ∙ or_none (old name) (found_in (m ∷ []) name) (found_with m (Some body) e name ∙ none_of_other m (Some body) name other)
+      by : (m.name ≡ name) ⊎ (m.name ≡ name → ⊥) → method_named name (record { name = m.name; method = made } ∷ []) ≡ option_map method_by (cond (nat_eq name m.name) (Some (method_with m body).1) None)
+      by (inl same) =
+          ap (λ b. option_map (λ (k : NamedMethod). k.method) (cond b (Some (record { name = m.name; method = made })) None)) (eq-eqb m.name name same)
+          ∙ sym (ap (λ b. option_map method_by (cond b (Some (method_with m body).1) None)) (eq-eqb name m.name (sym same)))
+      by (inr other) =
+          ap (λ b. option_map (λ (k : NamedMethod). k.method) (cond b (Some (record { name = m.name; method = made })) None)) (ne_eqb m.name name other)
+          ∙ sym (ap (λ b. option_map method_by (cond b (Some (method_with m body).1) None)) (ne_eqb name m.name (λ e. other (sym e))))
+
+  -- one whose body isn't registered is passed over
+  pub not_named : ids m.code.body ≡ None → (name : ℕ) → method_named name named ≡ option_or (method_named name named) (found_in method_by ids (m ∷ []) name)
+  not_named e name = or_none (method_named name named) (found_in method_by ids (m ∷ []) name) (found_with method_by ids m None e name)

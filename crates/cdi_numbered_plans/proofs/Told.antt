@@ -14,13 +14,13 @@ use Rattle.cdi_machine.specs.Told.{lifecycle_told, member_told, observer_told, p
 use Rattle.cdi_machine.specs.Tables as machine
 use Rattle.cdi_machine.specs.Words.{Asked}
 use Rattle.cdi_machine.specs.declared.member.Observer.{Observer}
+use Rattle.cdi_machine.specs.declared.member.Product.{Product}
 use Rattle.cdi_machine.specs.declared.step.Step.{Step as LifeStep}
+use Rattle.cdi_numbered_plans.specs.Life.{NumberedPlan}
 use Rattle.cdi_numbered_plans.specs.Machine.{asked_by, does_something, machine_code, machine_injection, machine_kind, machine_lifecycle, machine_member, machine_observer, machine_resolution, machine_source, machine_step, machine_steps, product_with}
 use Rattle.cdi_numbered_plans.specs.Numbered.{bodies_by, can_number, can_number_observers, has_few_beans, injection_by, lifecycle_by, member_by, numbered_resolution, observer_by, plan_by, point_by, product_by, source_by, step_by, steps_by}
-use Rattle.cdi_numbered_plans.specs.Plans.{AreInjectionsBy, AreObserversBy, IsNumberedPlan, IsResolvedIfAny, TellsOf, resolve_by}
+use Rattle.cdi_numbered_plans.specs.Plans.{AreInjectionsBy, AreObserversBy, IsNumberedPlan, IsNumberedProduct, IsResolvedIfAny, TellsOf, resolve_by}
 use Rattle.cdi_numbered_plans.specs.declared.numbering.Numbering.{Numbering}
-use Rattle.cdi_numbered_plans.specs.declared.plan.NumberedPlan.{NumberedPlan}
-use Rattle.cdi_numbered_plans.specs.declared.plan.NumberedPlan.TheVariants as numbered
 use Rattle.cdi_plans.specs.declared.plan.InjectedMethod.{InjectedMethod}
 use Rattle.cdi_plans.specs.declared.plan.Lifecycle.{Lifecycle}
 use Rattle.cdi_plans.specs.declared.plan.Plan.{Plan}
@@ -81,7 +81,7 @@ module _ (n : Numbering) where
   product_alike : (p : ProductPlan) (b : ℕ) → product_told (product_by n p b) ≡ record { declaring = b; source = machine_source ids p.source; disposers = map (machine_member ids) p.disposers }
   product_alike p b = λ i. record { declaring = b; source = source_alike p.source i; disposers = each_alike (member_by n) member_told (machine_member ids) member_alike p.disposers i }
 
-  product_told_of : (p : ProductPlan) (b : Option ℕ) → TellsOf (option_map (product_with ids p) b) (option_map (λ k. numbered.Product (product_by n p k)) b)
+  product_told_of : (p : ProductPlan) (b : Option ℕ) → TellsOf (option_map (product_with ids p) b) (option_map (λ k. NumberedPlan.Produced (product_by n p k)) b)
   product_told_of p None = tt
   product_told_of p (Some b) = product_alike p b
 
@@ -120,7 +120,7 @@ module _ (n : Numbering) where
   pub each_observer_resolved : (os : List PlannedObserver) → All (IsResolvedObserver resolve) (map (observer_by n) os)
   each_observer_resolved os = each_so (observer_by n) (IsResolvedObserver resolve) (λ o. member_resolved o.member) os
 
-  product_resolved : (p : ProductPlan) (b : Option ℕ) → IsResolvedIfAny resolve (option_map (λ k. numbered.Product (product_by n p k)) b)
+  product_resolved : (p : ProductPlan) (b : Option ℕ) → IsResolvedIfAny resolve (option_map (λ k. NumberedPlan.Produced (product_by n p k)) b)
   product_resolved p None = tt
   product_resolved p (Some b) = record { source = source_resolved p.source; disposers = each_so (member_by n) (IsResolvedMember resolve) member_resolved p.disposers }
 
@@ -151,9 +151,12 @@ observers_made n os (Err x) e = tt
 pub no_observers : (n : Numbering) (os : List PlannedObserver) → can_number_observers n os ≡ false → AreObserversBy n os []
 no_observers n os cant = record { tells = λ can. absurd (true≢false (sym can ∙ cant)); resolved = All-nil (IsResolvedObserver (resolve_by n)) }
 
--- what is made is one of these
-pub made : (n : Numbering) (plan : Plan) → can_number n plan ≡ true → (r : Result (Option NumberedPlan) AllocError) → IfOk r (λ m. m ≡ plan_by n plan) → IfOk r (IsNumberedPlan n plan)
-made n plan can (Ok m) e =
-    subst (IsNumberedPlan n plan) (sym e)
-    (record { tells = λ h. tells n plan; none = λ h. absurd (true≢false (sym can ∙ h)); resolved = resolved n plan })
-made n plan can (Err x) e = tt
+-- what is made of a plan whose names can be numbered is as it should be
+pub is_numbered_plan : (n : Numbering) (plan : Plan) → can_number n plan ≡ true → IsNumberedPlan n plan (plan_by n plan)
+is_numbered_plan n plan can = record { tells = λ h. tells n plan; none = λ h. absurd (true≢false (sym can ∙ h)); resolved = resolved n plan }
+
+-- so is what is made of a product's
+pub product_made : (n : Numbering) (plan : ProductPlan) → can_number n (plans.Product plan) ≡ true → (r : Result (Option Product) AllocError)
+    → IfOk r (λ m. option_map NumberedPlan.Produced m ≡ plan_by n (plans.Product plan)) → IfOk r (IsNumberedProduct n plan)
+product_made n plan can (Ok m) e = subst (IsNumberedPlan n (plans.Product plan)) (sym e) (is_numbered_plan n (plans.Product plan) can)
+product_made n plan can (Err x) e = tt

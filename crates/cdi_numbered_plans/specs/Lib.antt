@@ -1,3 +1,4 @@
+pub mod Life
 pub mod Machine
 pub mod Methods
 pub mod Numbered

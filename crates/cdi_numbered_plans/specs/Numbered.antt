@@ -18,12 +18,10 @@ use Rattle.cdi_machine.specs.declared.point.Resolution.TheVariants as life_resol
 use Rattle.cdi_machine.specs.declared.step.Lifecycle.{Lifecycle as LifeCycle}
 use Rattle.cdi_machine.specs.declared.step.Step.{Step as LifeStep}
 use Rattle.cdi_machine.specs.declared.step.Step.TheVariants as life_steps
+use Rattle.cdi_numbered_plans.specs.Life.{ManagedLife, NumberedPlan}
 use Rattle.cdi_numbered_plans.specs.Machine.{does_something, machine_code}
 use Rattle.cdi_numbered_plans.specs.Numbers.{has_numbers, numbers_observers}
 use Rattle.cdi_numbered_plans.specs.declared.numbering.Numbering.{Numbering}
-use Rattle.cdi_numbered_plans.specs.declared.plan.ManagedLife.{ManagedLife}
-use Rattle.cdi_numbered_plans.specs.declared.plan.NumberedPlan.{NumberedPlan}
-use Rattle.cdi_numbered_plans.specs.declared.plan.NumberedPlan.TheVariants as numbered
 use Rattle.cdi_plans.specs.declared.plan.InjectedMethod.{InjectedMethod}
 use Rattle.cdi_plans.specs.declared.plan.Lifecycle.{Lifecycle}
 use Rattle.cdi_plans.specs.declared.plan.ManagedPlan.{ManagedPlan}
@@ -159,7 +157,7 @@ module _ (n : Numbering) where
 
   -- a product is one of the managed bean of the class that declares its producer
   abbrev pub plan_by : Plan → Option NumberedPlan
-  plan_by (plans.Managed p) = Some (numbered.Managed (managed_by p))
+  plan_by (plans.Managed p) = Some (NumberedPlan.Managed (managed_by p))
   plan_by (plans.Product p) =
-      option_map (λ b. numbered.Product (product_by p b))
+      option_map (λ b. NumberedPlan.Produced (product_by p b))
       (managed_bean n.resolver.now.beans p.declaring)

@@ -1,5 +1,5 @@
 -- What numbered plans and observers tell: what the machine is told of them, with each point resolved.
-use Rattle.std.specs.Prelude.{◌≡◌, true, false, List, [], map, Option, Some, None}
+use Rattle.std.specs.Prelude.{◌≡◌, true, false, List, [], map, Option, Some, None, option_map}
 use Rattle.std.specs.List.{All}
 use Rattle.cdi_deployment.specs.declared.deployment.InjectedField.{InjectedField}
 use Rattle.cdi_event_tables.specs.declared.observers.PlannedObserver.{PlannedObserver}
@@ -11,13 +11,13 @@ use Rattle.cdi_machine.specs.declared.step.Lifecycle.{Lifecycle}
 use Rattle.cdi_machine.specs.declared.step.Step.{Step}
 use Rattle.cdi_machine.specs.Tables as machine
 use Rattle.cdi_machine.specs.Words.{Asked}
+use Rattle.cdi_numbered_plans.specs.Life.{ManagedLife, NumberedPlan}
 use Rattle.cdi_numbered_plans.specs.Machine.{machine_injection, machine_kind, machine_observer, machine_resolution}
 use Rattle.cdi_numbered_plans.specs.Numbered.{bodies_by, can_number, can_number_observers, has_few_beans, resolution_by}
 use Rattle.cdi_numbered_plans.specs.declared.numbering.Numbering.{Numbering}
-use Rattle.cdi_numbered_plans.specs.declared.plan.ManagedLife.{ManagedLife}
-use Rattle.cdi_numbered_plans.specs.declared.plan.NumberedPlan.{NumberedPlan}
-use Rattle.cdi_numbered_plans.specs.declared.plan.NumberedPlan.TheVariants as plans
 use Rattle.cdi_plans.specs.declared.plan.Plan.{Plan}
+use Rattle.cdi_plans.specs.declared.plan.Plan.TheVariants as plans
+use Rattle.cdi_plans.specs.declared.plan.ProductPlan.{ProductPlan}
 
 -- the steps of a managed bean, and what runs where an instance is destroyed
 pub record TellsManaged (c : machine.Managed) (life : ManagedLife) : Type 0 where
@@ -25,8 +25,8 @@ pub record TellsManaged (c : machine.Managed) (life : ManagedLife) : Type 0 wher
   pub pre_destroy : lifecycle_told life.pre_destroy ≡ c.pre_destroy
 
 abbrev pub Tells : machine.Kind → NumberedPlan → Type 0
-Tells (machine.Kind.Class c) (plans.Managed life) = TellsManaged c life
-Tells (machine.Kind.Producer p) (plans.Product product) = product_told product ≡ p
+Tells (machine.Kind.Class c) (NumberedPlan.Managed life) = TellsManaged c life
+Tells (machine.Kind.Producer p) (NumberedPlan.Produced product) = product_told product ≡ p
 Tells kind plan = ⊥
 
 -- there is one where the machine has a bean, and it tells of that
@@ -41,8 +41,8 @@ resolve_by n asked = machine_resolution (resolution_by n asked.type asked.qualif
 
 module _ (resolve : Asked → machine.Resolution) where
   abbrev pub IsResolvedPlan : NumberedPlan → Type 0
-  IsResolvedPlan (plans.Managed life) = All (IsResolvedStep resolve) life.steps
-  IsResolvedPlan (plans.Product product) = IsResolvedProduct resolve product
+  IsResolvedPlan (NumberedPlan.Managed life) = All (IsResolvedStep resolve) life.steps
+  IsResolvedPlan (NumberedPlan.Produced product) = IsResolvedProduct resolve product
 
   abbrev pub IsResolvedIfAny : Option NumberedPlan → Type 0
   IsResolvedIfAny None = Unit {0}
@@ -56,6 +56,11 @@ pub record IsNumberedPlan (n : Numbering) (plan : Plan) (made : Option NumberedP
       → TellsOf (machine_kind (bodies_by n) n.resolver.now.beans plan) made
   pub none : can_number n plan ≡ false → made ≡ None
   pub resolved : IsResolvedIfAny (resolve_by n) made
+
+-- what is made of the plan of a product
+abbrev pub IsNumberedProduct : Numbering → ProductPlan → Option Product → Type 0
+IsNumberedProduct n plan made =
+    IsNumberedPlan n (plans.Product plan) (option_map NumberedPlan.Produced made)
 
 -- what is made of the injected fields of an interceptor
 pub record AreInjectionsBy (n : Numbering) (fields : List InjectedField) (made : List Step)
@@ -74,13 +79,13 @@ pub record AreObserversBy (n : Numbering) (observers : List PlannedObserver) (ma
 -- ---- parts
 
 abbrev pub steps_in : NumberedPlan → List Step
-steps_in (plans.Managed life) = life.steps
-steps_in (plans.Product product) = []
+steps_in (NumberedPlan.Managed life) = life.steps
+steps_in (NumberedPlan.Produced product) = []
 
 abbrev pub pre_destroy_in : NumberedPlan → Option Lifecycle
-pre_destroy_in (plans.Managed life) = Some life.pre_destroy
-pre_destroy_in (plans.Product product) = None
+pre_destroy_in (NumberedPlan.Managed life) = Some life.pre_destroy
+pre_destroy_in (NumberedPlan.Produced product) = None
 
 abbrev pub product_in : NumberedPlan → Option Product
-product_in (plans.Managed life) = None
-product_in (plans.Product product) = Some product
+product_in (NumberedPlan.Managed life) = None
+product_in (NumberedPlan.Produced product) = Some product

@@ -23,7 +23,8 @@ pub(crate) fn code_of(ids: &BodyIds, code: &NamedCode) -> Code
     Code::new(code.place, body)
 }
 
-fn codes_of(alloc: Global, ids: &BodyIds, codes: &[NamedCode]) -> Result<Seq<Code>, AllocError>
+/// Some bodies, by their numbers.
+pub fn codes_of(alloc: Global, ids: &BodyIds, codes: &[NamedCode]) -> Result<Seq<Code>, AllocError>
     ensures { IfOk result (λ all. all ≡ map (machine_code (id_in ids.now)) codes.now) }
 {
     let mut all = Seq::empty(alloc);
@@ -45,8 +46,8 @@ pub(crate) fn chain_of(alloc: Global, places: &[usize]) -> Result<Seq<u32>, Allo
     Ok(chain)
 }
 
-/// What runs at a point of the life of an instance.
-pub(crate) fn lifecycle_of(
+/// What runs at a point of the life of an instance. The places of its interceptors have to be numbers of 32 bits.
+pub fn lifecycle_of(
     alloc: Global,
     ids: &BodyIds,
     lifecycle: &NamedLifecycle,

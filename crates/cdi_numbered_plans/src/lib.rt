@@ -3,7 +3,7 @@
 //! resolution*).
 #![tactic(auto)]
 
-mod codes;
+pub mod codes;
 pub mod fields;
 pub mod injections;
 mod members;
@@ -11,16 +11,17 @@ pub mod methods;
 pub mod numbering;
 pub mod numbers;
 pub mod observers;
-pub mod plan;
 pub mod points;
+pub mod product;
 pub mod steps;
 
+pub use codes::{codes_of, lifecycle_of};
 pub use fields::first_values;
 pub use injections::injections_by;
-pub use methods::methods_by;
+pub use methods::named_methods;
 pub use numbering::Numbering;
-pub use numbers::{has_numbers, observers_have_numbers};
+pub use numbers::{numbers_product, observers_have_numbers};
 pub use observers::observers_by;
-pub use plan::{ManagedLife, NumberedPlan};
 pub use points::{resolution_at, resolutions_at};
-pub use steps::{has_none, is_idle};
+pub use product::numbered_product;
+pub use steps::{has_none, is_idle, steps_of};

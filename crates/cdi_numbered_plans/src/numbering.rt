@@ -71,6 +71,13 @@ impl<'a> Numbering<'a> {
         })
     }
 
+    /// The numbers of the bodies.
+    pub fn ids(&self) -> &'a BodyIds
+        ensures { result.now ≡ self.now.ids.now }
+    {
+        self.ids
+    }
+
     /// The managed bean of a class, by its index.
     pub(crate) fn managed_bean(&self, class: Name) -> Option<usize>
         ensures { result ≡ observers.managed_bean self.now.resolver.now.beans class }

@@ -1,14 +1,13 @@
-//! Whether the steps of a plan and the places of interceptors, in it and round observers, can be numbered.
+//! Whether the places of interceptors, in the plan of a product and round observers, can be numbered.
 ghost use Rattle.std.specs.Prelude.{◌≡◌};
 ghost use Rattle.std.specs.List.{list_all};
 ghost use Rattle.cdi_numbered_plans.specs.Numbered as numbered;
 ghost use Rattle.cdi_numbered_plans.specs.Numbers as spec;
+ghost use Rattle.cdi_plans.specs.declared.plan.Plan.TheVariants as plans;
 
 use crate::numbering::Numbering;
 use cdi_event_tables::PlannedObserver;
-use cdi_plans::{
-    BusinessMethod, InjectedMethod, Lifecycle, ManagedPlan, Plan, ProductPlan, Source, Step,
-};
+use cdi_plans::{InjectedMethod, ProductPlan, Source};
 
 fn is_number(place: usize) -> bool
     ensures { result ≡ spec.is_number place }
@@ -20,38 +19,6 @@ fn are_numbers(places: &[usize]) -> bool
     ensures { result ≡ spec.are_numbers places.now }
 {
     places.iter().all(|place| is_number(*place))
-}
-
-fn numbers_lifecycle(lifecycle: &Lifecycle) -> bool
-    ensures { result ≡ spec.numbers_lifecycle lifecycle.now }
-{
-    are_numbers(lifecycle.chain.as_slice())
-}
-
-fn numbers_step(step: &Step) -> bool
-    ensures { result ≡ spec.numbers_step step.now }
-{
-    match step {
-        Step::Intercept(place) => is_number(*place),
-        Step::Construct { lifecycle, .. } | Step::Complete(lifecycle) => {
-            numbers_lifecycle(lifecycle)
-        }
-        Step::Inject { .. } | Step::Initialize { .. } => true,
-    }
-}
-
-fn number_steps(steps: &[Step]) -> bool
-    ensures { result ≡ list_all spec.numbers_step steps.now }
-{
-    steps.iter().all(numbers_step)
-}
-
-fn numbers_methods(methods: &[BusinessMethod]) -> bool
-    ensures { result ≡ spec.numbers_methods methods.now }
-{
-    methods
-        .iter()
-        .all(|method| are_numbers(method.chain.as_slice()))
 }
 
 fn numbers_member(member: &InjectedMethod) -> bool
@@ -75,29 +42,11 @@ fn numbers_source(source: &Source) -> bool
     }
 }
 
-fn numbers_managed(plan: &ManagedPlan) -> bool
-    ensures { result ≡ spec.numbers_managed plan.now }
-{
-    is_number(plan.steps.len())
-        && number_steps(plan.steps.as_slice())
-        && numbers_lifecycle(&plan.pre_destroy)
-        && numbers_methods(plan.methods.as_slice())
-}
-
-fn numbers_product(plan: &ProductPlan) -> bool
+/// Whether the places of the interceptors that the plan of a product names are below 4,294,967,296.
+pub fn numbers_product(plan: &ProductPlan) -> bool
     ensures { result ≡ spec.numbers_product plan.now }
 {
     numbers_source(&plan.source) && number_members(plan.disposers.as_slice())
-}
-
-/// Whether a plan has less than 4,294,967,296 steps, and the places of its interceptors are below that.
-pub fn has_numbers(plan: &Plan) -> bool
-    ensures { result ≡ spec.has_numbers plan.now }
-{
-    match plan {
-        Plan::Managed(plan) => numbers_managed(plan),
-        Plan::Product(plan) => numbers_product(plan),
-    }
 }
 
 /// Whether the places of the interceptors round some observers are below 4,294,967,296.
@@ -123,18 +72,18 @@ fn numbers_observers(observers: &[PlannedObserver]) -> bool
 
 impl Numbering<'_> {
     /// Whether there are at most 4,294,967,296 beans.
-    pub(crate) fn has_few_beans(&self) -> bool
+    pub fn has_few_beans(&self) -> bool
         ensures { result ≡ numbered.has_few_beans self.now }
     {
         self.resolver.beans().len() <= 4_294_967_296
     }
 
-    /// Whether what a plan names has numbers of 32 bits: there are at most 4,294,967,296 beans, the plan has less steps, and the places of
-    /// its interceptors are below that.
-    pub fn can_number(&self, plan: &Plan) -> bool
-        ensures { result ≡ numbered.can_number self.now plan.now }
+    /// Whether what the plan of a product names has numbers of 32 bits: there are at most 4,294,967,296 beans, and the places of its
+    /// interceptors are below that.
+    pub fn can_number(&self, plan: &ProductPlan) -> bool
+        ensures { result ≡ numbered.can_number self.now (plans.Product plan.now) }
     {
-        self.has_few_beans() && has_numbers(plan)
+        self.has_few_beans() && numbers_product(plan)
     }
 
     /// Whether what some observers name has numbers of 32 bits: there are at most 4,294,967,296 beans, and the places of the observers'

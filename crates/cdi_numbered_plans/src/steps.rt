@@ -74,8 +74,9 @@ fn step_of(
     }
 }
 
-/// Those of some steps at which something runs, in their order.
-pub(crate) fn steps_of(
+/// Those of some steps at which something runs, in their order, each with what its injection points resolve to. The beans and the places of
+/// interceptors have to be numbers of 32 bits.
+pub fn steps_of(
     alloc: Global,
     numbering: &Numbering<'_>,
     lookup: &mut Lookup<&Resolver>,

@@ -21,7 +21,7 @@ use Rattle.cdi_quals.specs.declared.types.QualifierType.{QualifierType}
 use Rattle.cdi_planner.specs.Apart.{has_class, AreNamedApart}
 use Rattle.cdi_planner.specs.Plans.{IsDeclared, IsDeclaredAs}
 use Rattle.cdi_planner.specs.Products.{is_producer_of, producer_of}
-use Rattle.cdi_planner.proofs.Fronts.{same}
+use Rattle.cdi_planner.proofs.Names.{same}
 
 pub some_found : {X : Type 0} (p : X → Bool) (xs : List X) → list_any p xs ≡ true → IsSome (find p xs)
 some_found p [] e = absurd (true≢false (sym e))
@@ -38,7 +38,7 @@ module _ (all : List Class) where
     found : (kind : BeanKind) → is_producer_of kind m ≡ true → IsSome (find (is_producer_of kind) c.members)
 
   abbrev IsFoundSource : Source → Type 0
-  IsFoundSource (Source.AClass c) = Unit {0}
+  IsFoundSource (Source.AClass c) = class_named all c.name ≡ Some c
   IsFoundSource (Source.AProducer c m) = IsFound c m
 
   abbrev AreFound : List Source → Type 0
@@ -79,7 +79,7 @@ module _ (all : List Class) where
     sources_found = by (is_bean c)
       where
         by : (b : Bool) → AreFound (if b then Source.AClass c ∷ products_in c c.members else [])
-        by true = (tt, products_found c.members (λ kind e. e))
+        by true = (named, products_found c.members (λ kind e. e))
         by false = tt
 
   all_found : (cs : List Class) → AreNamedApart cs → ((name : ℕ) → has_class name cs ≡ true → class_named all name ≡ class_named cs name) → AreFound (flat_map sources_in cs)
@@ -114,8 +114,10 @@ module _ (all : List Class) where
 module _ (d : Deployment) (qualifiers : List QualifierType) where
   one_declared : (s : Source) (b : Bean) → IsFoundSource d.classes s → IsBeanOf d qualifiers s b → IsDeclared d.classes b
   one_declared (Source.AClass c) b is (IsBeanOf.managed uses by has with) =
-      let P : BeanKind → Type 0 = IsDeclaredAs d.classes b.class in
-      subst P (sym with.kind_is) tt
+      let P : ℕ × BeanKind → Type 0 = λ k. IsDeclaredAs d.classes k.0 k.1 in
+      let class : c.name ≡ b.class = sym by.class in
+      let kind : kinds.Managed ≡ b.kind = sym with.kind_is in
+      subst P (ap (λ n. (n, kinds.Managed)) class ∙ ap (λ k. (b.class, k)) kind) (subst IsSome (sym is) refl)
   one_declared (Source.AProducer c m) b is (IsBeanOf.produced {p = p} by with) =
       let P : ℕ × BeanKind → Type 0 = λ k. IsDeclaredAs d.classes k.0 k.1 in
       let class : c.name ≡ b.class = sym by.declared.class in

@@ -1,8 +1,7 @@
 pub mod Apart
 pub mod Declared
-pub mod Fronts
 pub mod Inheriting
-pub mod Lineages
+pub mod Names
 pub mod Observing
 pub mod Producers
 pub mod Serving

@@ -16,8 +16,8 @@ use Rattle.cdi_types.specs.Members.{comes_down, members_of, parts_of}
 use Rattle.cdi_quals.specs.declared.types.QualifierType.{QualifierType}
 use Rattle.cdi_planner.specs.Observers.{as_observer, observer_named, observer_of}
 use Rattle.cdi_planner.proofs.Declared.{some_found}
-use Rattle.cdi_planner.proofs.Fronts.{same}
-use Rattle.cdi_planner.proofs.Lineages.{passes}
+use Rattle.cdi_planner.proofs.Names.{same}
+use Rattle.cdi_planner.proofs.Names.{passes}
 
 abbrev has_observer : ℕ → List Member → Bool
 has_observer name ms = list_any (λ o. nat_eq o.name name) (filter_map as_observer ms)

@@ -11,7 +11,7 @@ use Rattle.cdi_deployment.specs.declared.deployment.Member.{Member}
 use Rattle.cdi_deployment.specs.declared.deployment.Member.TheVariants as members
 use Rattle.cdi_types.specs.Line.{class_named}
 use Rattle.cdi_planner.specs.Products.{is_producer_of, producer_in, producer_of}
-use Rattle.cdi_planner.proofs.Lineages.{passes}
+use Rattle.cdi_planner.proofs.Names.{passes}
 
 is_one : (kind : BeanKind) (m : Member) → is_producer_of kind m ≡ true → IsTrue (is_producer m)
 is_one kinds.Managed m e = absurd (true≢false (sym e))

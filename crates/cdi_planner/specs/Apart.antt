@@ -2,7 +2,6 @@
 use Rattle.std.specs.Prelude.{ℕ, ◌≡◌, ◌==◌, Bool, false, List, [], ◌∷◌}
 use Rattle.std.specs.List.{list_any}
 use Rattle.cdi_deployment.specs.declared.deployment.Class.{Class}
-use Rattle.cdi_deployment.specs.declared.deployment.Member.{Member}
 
 abbrev pub has_class : ℕ → List Class → Bool
 has_class name classes = list_any (λ c. c.name == name) classes
@@ -10,7 +9,3 @@ has_class name classes = list_any (λ c. c.name == name) classes
 abbrev pub AreNamedApart : List Class → Type 0
 AreNamedApart [] = Unit {0}
 AreNamedApart (c ∷ below) = (has_class c.name below ≡ false) × AreNamedApart below
-
--- a class of this name declares the member
-abbrev pub is_of : Class → Class × Member → Bool
-is_of c m = m.0.name == c.name

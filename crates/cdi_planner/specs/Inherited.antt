@@ -35,6 +35,7 @@ leaves_step c step = true
 abbrev pub own_parts : ChainTables → Class → OwnParts
 own_parts t c =
     record {
+      fields = c.fields;
       injections = injections (c ∷ []);
       post_constructs = filter_map post_construct (members_of (c ∷ []));
       pre_destroys = filter_map pre_destroy (members_of (c ∷ []));

@@ -48,9 +48,9 @@ pub data IsPlanOf (t : PlanTables) (b : Bean) : Plan → Type 0 where
   product : {plan : ProductPlan} → IsProductPlan t b.class b.kind plan
       → IsPlanOf t b (plans.Product plan)
 
--- the class of a product declares its producer; of classes with one name the first counts
+-- the class of a bean is one of these, and that of a product declares its producer; of classes with one name the first counts
 abbrev pub IsDeclaredAs : List Class → ℕ → BeanKind → Type 0
-IsDeclaredAs classes name kinds.Managed = Unit {0}
+IsDeclaredAs classes name kinds.Managed = IsSome (class_named classes name)
 IsDeclaredAs classes name kind = IsSome (producer_of classes name kind)
 
 abbrev pub IsDeclared : List Class → Bean → Type 0

@@ -131,44 +131,6 @@ pub(crate) fn pre_destroys(
     Ok(callbacks)
 }
 
-/// The post-construct chain of a bean with these members, and its callbacks.
-pub(crate) fn completion(
-    alloc: Global,
-    chains: &Chains,
-    bean: Name,
-    members: &[ClassPart<'_, Member>],
-) -> Result<Lifecycle, AllocError>
-    ensures { IfOk result (λ life. life ≡ spec.completion chains.now bean members.now) }
-{
-    let callbacks = post_constructs(alloc, members)?;
-    lifecycle(
-        alloc,
-        chains,
-        bean,
-        InterceptorMethod::PostConstruct,
-        callbacks,
-    )
-}
-
-/// The pre-destroy chain of a bean with these members, and its callbacks.
-pub(crate) fn destruction(
-    alloc: Global,
-    chains: &Chains,
-    bean: Name,
-    members: &[ClassPart<'_, Member>],
-) -> Result<Lifecycle, AllocError>
-    ensures { IfOk result (λ life. life ≡ spec.destruction chains.now bean members.now) }
-{
-    let callbacks = pre_destroys(alloc, members)?;
-    lifecycle(
-        alloc,
-        chains,
-        bean,
-        InterceptorMethod::PreDestroy,
-        callbacks,
-    )
-}
-
 /// Adds a member of a bean, if it is a business method.
 fn add_method(
     alloc: Global,

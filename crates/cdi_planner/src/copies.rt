@@ -1,9 +1,8 @@
 //! Copies of what a deployment declares.
-ghost use Rattle.std.specs.Prelude.{◌≡◌, map, IfOk};
+ghost use Rattle.std.specs.Prelude.{◌≡◌, IfOk};
 
 use cdi_base::{Name, Seq, Use};
 use cdi_deployment::{Field, Point};
-use cdi_types::ClassPart;
 use std::alloc::{AllocError, Global};
 
 fn copy_uses(alloc: Global, uses: &[Use]) -> Result<Seq<Use>, AllocError>
@@ -45,16 +44,12 @@ fn copy_field(field: &Field) -> Result<Field, AllocError>
     })
 }
 
-/// The fields of a bean, without the classes that declare them.
-pub(crate) fn copy_fields(
-    alloc: Global,
-    fields: &[ClassPart<'_, Field>],
-) -> Result<Seq<Field>, AllocError>
-    ensures { IfOk result (λ copies. copies ≡ map (λ f. f.1) fields.now) }
+pub(crate) fn copy_fields(alloc: Global, fields: &[Field]) -> Result<Seq<Field>, AllocError>
+    ensures { IfOk result (λ copies. copies ≡ fields.now) }
 {
     let mut copies = Seq::empty(alloc);
     for field in fields {
-        copies.push(copy_field(field.part)?)?;
+        copies.push(copy_field(field)?)?;
     }
     Ok(copies)
 }

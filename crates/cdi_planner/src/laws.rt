@@ -12,7 +12,7 @@ ghost use Rattle.cdi_planner.specs.Plans.{IsDeclared};
 ghost use Rattle.cdi_planner.specs.Steps.{injections};
 ghost use Rattle.cdi_types.specs.Members.{members_of};
 
-/// Each bean of a deployment whose names have no problem has a plan.
+/// Each bean of a deployment whose names have no problem has a plan: its class is declared, and so is its producer, if it is a product.
 pub fn law_beans_are_declared()
     ensures { (d : Deployment) (list : BeanList) → IsMadeOf d list
         → All (IsDeclared d.classes) list.beans }

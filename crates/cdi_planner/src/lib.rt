@@ -5,7 +5,6 @@
 mod codes;
 mod copies;
 pub mod laws;
-mod managed;
 mod observer;
 pub mod own_parts;
 pub mod planner;

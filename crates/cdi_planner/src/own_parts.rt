@@ -5,9 +5,10 @@ ghost use Rattle.cdi_planner.specs.Steps.{injections};
 ghost use Rattle.cdi_types.specs.Members.{members_of};
 
 use crate::codes::{business_methods, post_constructs, pre_destroys};
+use crate::copies::copy_fields;
 use crate::steps::{add_initializers, add_injected_fields};
 use cdi_base::Seq;
-use cdi_deployment::{Class, Member};
+use cdi_deployment::{Class, Field, Member};
 use cdi_plans::Chains;
 use cdi_plans::plan::{BusinessMethod, Code, Step};
 use cdi_types::ClassPart;
@@ -16,6 +17,8 @@ use std::alloc::{AllocError, Global};
 /// What a class declares that runs in the lives of its instances, and of those of the classes below it unless they override it (Jakarta
 /// CDI 4.0, *Inheritance of member-level metadata*).
 pub struct OwnParts {
+    /// Its fields with the values that they begin with.
+    pub fields: Seq<Field>,
     /// The steps of its injected fields, and behind them those of its initializers.
     pub injections: Seq<Step>,
     /// Its post-construct callbacks.
@@ -30,6 +33,7 @@ pub struct OwnParts {
 impl Drop for OwnParts {
     fn drop(self) {
         let OwnParts {
+            fields: _fields,
             injections: _injections,
             post_constructs: _post_constructs,
             pre_destroys: _pre_destroys,
@@ -78,6 +82,7 @@ pub(crate) fn own_parts(
     let members = own_members(alloc, class)?;
     let has = members.as_slice();
     Ok(OwnParts {
+        fields: copy_fields(alloc, class.fields.as_slice())?,
         injections: own_injections(alloc, class, has)?,
         post_constructs: post_constructs(alloc, has)?,
         pre_destroys: pre_destroys(alloc, has)?,

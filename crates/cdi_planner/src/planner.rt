@@ -1,7 +1,7 @@
 //! What makes plans.
 ghost use Rattle.std.specs.Prelude.{◌≡◌, Some, length, option_map, IfOk, IsSome, IsTrue};
 ghost use Rattle.std.specs.Option.{option_copied};
-ghost use Rattle.cdi_types.specs.Line.{class_named};
+ghost use Rattle.cdi_types.specs.Line.{IsLineOf, class_named};
 ghost use Rattle.cdi_planner.specs.Codes.{lifecycle as lifecycle_of};
 ghost use Rattle.cdi_planner.specs.Inherited as inherited;
 ghost use Rattle.cdi_planner.specs.Observers as observers;
@@ -12,7 +12,6 @@ ghost use Rattle.cdi_plans.specs.Chains.{HaveSameChains};
 ghost use Rattle.cdi_bean_rules.specs.Limits.{is_producer};
 
 use crate::codes::{business_methods, injected_method, lifecycle};
-use crate::managed::managed_plan;
 use crate::observer::observer_in;
 use crate::own_parts::{OwnParts, own_parts};
 use crate::product::{disposers_of, producer_in, source_of};
@@ -22,10 +21,10 @@ use cdi_beans::{Bean, BeanKind, ObserverMethod};
 use cdi_deployment::{Class, Constructor, Deployment, Member, Observer};
 use cdi_plans::Chains;
 use cdi_plans::plan::{
-    BusinessMethod, Code, InjectedMethod, Lifecycle, ManagedPlan, Plan, ProductPlan, Step,
+    BusinessMethod, Code, InjectedMethod, Lifecycle, ProductPlan, Step,
 };
 use cdi_quals::QualifierTypes;
-use cdi_types::{ClassIndex, ClassPart, TypeTable};
+use cdi_types::{ClassIndex, ClassLine, ClassPart, TypeTable};
 use std::alloc::{AllocError, Global};
 use std::marker::Model;
 
@@ -82,6 +81,13 @@ impl<'a> Planner<'a> {
         &self.classes
     }
 
+    /// The class of a name with its superclasses, the topmost first.
+    pub fn line(&self, alloc: Global, class: Name) -> Result<ClassLine<'a>, AllocError>
+        ensures { IfOk result (IsLineOf self.now.types self.now.classes class) }
+    {
+        self.classes.line(alloc, self.types, class)
+    }
+
     /// The constructor of a class, if that declares one.
     fn constructor(&self, class: Name) -> Option<&'a Constructor>
         ensures { option_copied result ≡ spec.constructor_of self.now.classes class }
@@ -90,15 +96,6 @@ impl<'a> Planner<'a> {
             Some(class) => class.constructor.as_ref(),
             None => None,
         }
-    }
-
-    /// The plan of a managed bean.
-    fn managed(&self, alloc: Global, bean: &Bean) -> Result<ManagedPlan, AllocError>
-        ensures { IfOk result (spec.IsManagedPlan self.now bean.now) }
-    {
-        let line = self.classes.line(alloc, self.types, bean.class)?;
-        let constructor = self.constructor(bean.class);
-        managed_plan(alloc, self.chains, constructor, bean, &line)
     }
 
     /// The producer of beans of this kind that a class declares, if it declares one.
@@ -130,8 +127,10 @@ impl<'a> Planner<'a> {
         })
     }
 
-    /// The plan of a product of this kind, whose class declares its producer.
-    fn product(&self, alloc: Global, class: Name, kind: BeanKind) -> Result<ProductPlan, AllocError>
+    /// Where an instance of a product comes from, and what disposes of it (Jakarta CDI 4.0, *Lifecycle of producer methods*, *Lifecycle of
+    /// producer fields*), by its class and its kind. The first class of this name has to declare its producer, as it does for the beans of a
+    /// deployment whose names have no problem ([`law_beans_are_declared`](crate::laws::law_beans_are_declared)).
+    pub fn product(&self, alloc: Global, class: Name, kind: BeanKind) -> Result<ProductPlan, AllocError>
         requires { IsSome (producer_of self.now.classes class kind) }
         ensures { IfOk result (IsProductPlan self.now class kind) }
     {
@@ -235,20 +234,5 @@ impl<'a> Planner<'a> {
             ≡ lifecycle_of self.now.chains bean method callbacks) }
     {
         lifecycle(alloc, self.chains, bean, method, callbacks)
-    }
-
-    /// By which steps an instance of a bean is created (Jakarta CDI 4.0, *Lifecycle of managed beans*, *Lifecycle of producer methods*,
-    /// *Lifecycle of producer fields*), and what else runs in its life. If the bean is a product, the first class of the name of its
-    /// class has to declare its producer, as it does for the beans of a deployment whose names have no problem
-    /// ([`law_beans_are_declared`](crate::laws::law_beans_are_declared)). It takes time and memory in proportion to what the classes of
-    /// the bean's line declare, times the enabled interceptors for each member that is called through a chain.
-    pub fn plan(&self, alloc: Global, bean: &Bean) -> Result<Plan, AllocError>
-        requires { spec.IsDeclared self.now.classes bean.now }
-        ensures { IfOk result (spec.IsPlanOf self.now bean.now) }
-    {
-        match bean.kind {
-            BeanKind::Managed => Ok(Plan::Managed(self.managed(alloc, bean)?)),
-            kind => Ok(Plan::Product(self.product(alloc, bean.class, kind)?)),
-        }
     }
 }

@@ -1,21 +1,19 @@
 //! The steps by which an instance of a managed bean is created (Jakarta CDI 4.0, *Lifecycle of managed beans*).
 ghost use Rattle.std.specs.Prelude.{◌≡◌, ◌++◌, ◌∷◌, [], map, IfOk, OnOk};
-ghost use Rattle.std.specs.List.{filter_map, prefix_len};
+ghost use Rattle.std.specs.List.{filter_map};
 ghost use Rattle.std.specs.Option.{option_copied};
-ghost use Rattle.cdi_types.specs.Members.{members_of};
-ghost use Rattle.cdi_planner.specs.Apart as apart;
 ghost use Rattle.cdi_planner.specs.Codes.{constructor_body as body_of};
 ghost use Rattle.cdi_planner.specs.Steps as spec;
 ghost use Rattle.cdi_plans.specs.declared.plan.Step.TheVariants as steps_are;
 
-use crate::codes::{completion, lifecycle, member_code};
+use crate::codes::{lifecycle, member_code};
 use crate::copies::{copy_points, point_of};
 use cdi_base::{InterceptorMethod, Name, Place, Seq};
 use cdi_beans::Bean;
-use cdi_deployment::{Class, Constructor, InjectedField, Member};
+use cdi_deployment::{Constructor, InjectedField, Member};
 use cdi_plans::Chains;
 use cdi_plans::plan::{Code, Step};
-use cdi_types::{ClassLine, ClassPart};
+use cdi_types::ClassPart;
 use std::alloc::{AllocError, Global};
 
 /// Adds a step for each of these interceptors.
@@ -136,71 +134,5 @@ pub(crate) fn first_steps(
     let mut steps = Seq::empty(alloc);
     add_interceptors(interceptors.as_slice(), &mut steps)?;
     steps.push(construct)?;
-    Ok(steps)
-}
-
-/// Whether a class of this name declares a member.
-fn is_of(class: &Class, member: &ClassPart<'_, Member>) -> bool
-    ensures { result ≡ apart.is_of class.now member.now }
-{
-    member.class.name == class.name
-}
-
-/// How many of these members stand in front of the first one that a class of another name declares.
-fn count_of(class: &Class, members: &[ClassPart<'_, Member>]) -> usize
-    ensures { result ≡ prefix_len (apart.is_of class.now) members.now }
-{
-    for (index, member) in members.iter().enumerate() {
-        if !is_of(class, member) {
-            return index;
-        }
-    }
-    members.len()
-}
-
-/// Adds the steps for the injected fields and the initializers of a bean with these members, by the line of its class: class by class.
-fn add_injections(
-    alloc: Global,
-    line: &ClassLine<'_>,
-    members: &[ClassPart<'_, Member>],
-    steps: &mut Seq<Step>,
-) -> Result<(), AllocError>
-    requires apart { apart.AreNamedApart line.now }
-    requires members { members.now ≡ members_of line.now }
-    ensures { OnOk result (steps.new ≡ steps.old ++ spec.injections line.now) }
-{
-    let mut start = 0;
-    for class in line.classes() {
-        add_injected_fields(alloc, class.inject.as_slice(), steps)?;
-        let rest = &members[start..];
-        let count = count_of(class, rest);
-        add_initializers(alloc, &rest[..count], steps)?;
-        start += count;
-    }
-    Ok(())
-}
-
-/// The steps of a managed bean, by the constructor and the line of its class and the members of that.
-pub(crate) fn steps_of(
-    alloc: Global,
-    chains: &Chains,
-    constructor: Option<&Constructor>,
-    bean: &Bean,
-    line: &ClassLine<'_>,
-    members: &[ClassPart<'_, Member>],
-) -> Result<Seq<Step>, AllocError>
-    requires apart { apart.AreNamedApart line.now }
-    requires members { members.now ≡ members_of line.now }
-    ensures { IfOk result (λ steps. steps
-        ≡ spec.steps_of chains.now (option_copied constructor.entry) bean.now line.now) }
-{
-    let interceptors = chains.interceptors_of(alloc, bean)?;
-    let construct = construction(alloc, chains, bean.class, constructor)?;
-    let complete = completion(alloc, chains, bean.class, members)?;
-    let mut steps = Seq::empty(alloc);
-    add_interceptors(interceptors.as_slice(), &mut steps)?;
-    steps.push(construct)?;
-    add_injections(alloc, line, members, &mut steps)?;
-    steps.push(Step::Complete(complete))?;
     Ok(steps)
 }

@@ -8,5 +8,5 @@ pub returns-in-Some : goal.returns-in-Some
 returns-in-Some c =
     let decided = slice_eq-Decides Decides-eqb c.as_slice.result.now c.args.line.now c.eq.result c.eq.ensures in
     λ e.
-    ap (option_map (λ (life : ClassLife). life.line)) (sym c.in-Some.ensures.value)
+    ap (option_map (λ (life : ClassLife). life.line)) (sym c.in-Some.ensures)
     ∙ ap Some (sym c.as_slice.ensures ∙ decided.0 e)

@@ -8,5 +8,5 @@ returns-in-Some c =
     let self = c.args.self.now in
     let life = c.in-Some.life.now in
     c.len.ensures
-    ∙ same_length self.steps life.injections (self.kept c.args.class life (sym c.in-Some.ensures.value)).places
-    ∙ ap (λ o. length (injections_in self o)) c.in-Some.ensures.value
+    ∙ same_length self.steps life.injections (self.kept c.args.class life (sym c.in-Some.ensures)).step_places
+    ∙ ap (λ o. length (injections_in self o)) c.in-Some.ensures

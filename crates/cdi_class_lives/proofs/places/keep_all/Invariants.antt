@@ -1,8 +1,8 @@
 use Rattle.std.proofs.Common.{ℕ, ◌≡◌, ◌++◌, List, map, Some, slice_get}
-use Rattle.cdi_class_lives.proofs.steps.keep_steps.Given as goal
+use Rattle.cdi_class_lives.proofs.places.keep_all.Given as goal
 
-abbrev pub invariant-loop-step : goal.invariant-loop-step
-invariant-loop-step l =
+abbrev pub invariant-loop-item : goal.invariant-loop-item
+invariant-loop-item g l =
     record {
       kept : l.kept ≡ l.initial.kept ++ l.yielded;
       added : List ℕ;

@@ -1,0 +1,4 @@
+mod Below
+mod Declared
+mod Overriding
+mod Rising

@@ -1,0 +1,2 @@
+pub mod Beans
+pub mod Lives
