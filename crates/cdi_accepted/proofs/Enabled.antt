@@ -10,7 +10,7 @@ use Rattle.cdi_event_tables.specs.Observers.{managed_bean}
 use Rattle.cdi_resolve.specs.Filters.{enabled_of, is_enabled}
 use Rattle.cdi_run_tables.specs.Machine.{bean_at, bean_with, id_of, machine_bean, machine_kind, planned_at}
 use Rattle.cdi_run_tables.specs.Planned.{IsTabled}
-use Rattle.cdi_run_tables.specs.declared.planned.PlannedBean.{PlannedBean}
+use Rattle.cdi_run_tables.specs.Parts.{PlannedBean}
 use Rattle.cdi_run_tables.specs.declared.tables.RunTables.{RunTables}
 use Rattle.cdi_accepted.proofs.Lists.{Among, among_filter, of_filter}
 use Rattle.cdi_accepted.proofs.Positions.{found_at, numbered_at}

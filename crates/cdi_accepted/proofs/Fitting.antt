@@ -20,7 +20,7 @@ use Rattle.cdi_plans.specs.declared.plan.Plan.TheVariants as plans
 use Rattle.cdi_event_tables.specs.Observers.{managed_bean}
 use Rattle.cdi_run_tables.specs.Machine.{bean_with, id_of, machine_kind, machine_tables, product_with}
 use Rattle.cdi_run_tables.specs.Planned.{IsPlanned, plan_tables}
-use Rattle.cdi_run_tables.specs.declared.planned.PlannedBean.{PlannedBean}
+use Rattle.cdi_run_tables.specs.Parts.{PlannedBean}
 use Rattle.cdi_run_tables.specs.declared.tables.RunTables.{RunTables}
 use Rattle.cdi_whole.specs.Fits.{FitsClass}
 use Rattle.cdi_accepted.proofs.Beans.{beside, stands_listed, target}

@@ -39,7 +39,7 @@ use Rattle.cdi_plans.specs.declared.plan.Step.TheVariants as steps
 use Rattle.cdi_event_tables.specs.Observers.{managed_bean}
 use Rattle.cdi_run_tables.specs.Machine.{bean_at, bean_with, does_something, id_of, machine_bean, machine_code, machine_kind, machine_managed, machine_member, machine_methods, machine_observer, machine_source, machine_step, machine_steps, observer_with, planned_at, product_with}
 use Rattle.cdi_run_tables.specs.Planned.{IsPlanned, IsTabled, plan_tables}
-use Rattle.cdi_run_tables.specs.declared.planned.PlannedBean.{PlannedBean}
+use Rattle.cdi_run_tables.specs.Parts.{PlannedBean}
 use Rattle.cdi_run_tables.specs.declared.tables.RunTables.{RunTables}
 use Rattle.cdi_types.specs.Declarations.{declarations_of}
 use Rattle.cdi_types.specs.Line.{IsLineOf, class_named}

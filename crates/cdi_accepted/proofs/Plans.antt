@@ -16,7 +16,7 @@ use Rattle.cdi_plans.specs.declared.plan.Plan.{Plan}
 use Rattle.cdi_plans.specs.declared.plan.Plan.TheVariants as plans
 use Rattle.cdi_plans.specs.declared.plan.ProductPlan.{ProductPlan}
 use Rattle.cdi_run_tables.specs.Planned.{IsPlanned}
-use Rattle.cdi_run_tables.specs.declared.planned.PlannedBean.{PlannedBean}
+use Rattle.cdi_run_tables.specs.Parts.{PlannedBean}
 use Rattle.cdi_accepted.proofs.OneLine.{neither, one_line}
 use Rattle.cdi_accepted.proofs.DeterminedLists.{one_listed, one_zipped}
 

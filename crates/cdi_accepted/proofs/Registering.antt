@@ -50,7 +50,7 @@ use Rattle.cdi_run_tables.specs.Machine.{AreIdsOf, declared_at, id_of, planned_a
 use Rattle.cdi_run_tables.specs.Observers.{planned_groups}
 use Rattle.cdi_run_tables.specs.Planned.{IsPlanned, IsTabled, plan_tables}
 use Rattle.cdi_run_tables.specs.Registered.{are_registered, is_registered, registers_body, registers_group, registers_interceptor, registers_member, registers_plan, registers_source, registers_step}
-use Rattle.cdi_run_tables.specs.declared.planned.PlannedBean.{PlannedBean}
+use Rattle.cdi_run_tables.specs.Parts.{PlannedBean}
 use Rattle.cdi_run_tables.specs.declared.tables.RunTables.{RunTables}
 use Rattle.cdi_types.specs.Line.{class_named}
 use Rattle.cdi_types.specs.Members.{members_of}

@@ -32,7 +32,7 @@ use Rattle.cdi_resolve.specs.Filters.{enabled_of}
 use Rattle.cdi_run_tables.specs.Machine.{AreIdsOf, bean_with, first_values, id_of, machine_kind, machine_member, machine_source, machine_tables, product_with}
 use Rattle.cdi_run_tables.specs.Planned.{IsPlanned, IsTabled, plan_tables}
 use Rattle.cdi_run_tables.specs.Texts.{has_texts}
-use Rattle.cdi_run_tables.specs.declared.planned.PlannedBean.{PlannedBean}
+use Rattle.cdi_run_tables.specs.Parts.{PlannedBean}
 use Rattle.cdi_run_tables.specs.declared.tables.RunTables.{RunTables}
 use Rattle.cdi_shape_check.specs.OwnParts.{has_field}
 use Rattle.cdi_whole.specs.Fits.{FitsBean, FitsMember, FitsSource}

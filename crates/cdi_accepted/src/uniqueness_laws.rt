@@ -10,7 +10,7 @@ ghost use Rattle.cdi_deployment.specs.declared.deployment.Deployment.{Deployment
 ghost use Rattle.cdi_planner.specs.Tables.{PlanTables};
 ghost use Rattle.cdi_problems.specs.declared.problem.Problem.{Problem};
 ghost use Rattle.cdi_run_tables.specs.Planned.{IsPlanned};
-ghost use Rattle.cdi_run_tables.specs.declared.planned.PlannedBean.{PlannedBean};
+ghost use Rattle.cdi_run_tables.specs.Parts.{PlannedBean};
 ghost use Rattle.cdi_resolve.specs.BeanTables.{AreTablesOf};
 ghost use Rattle.cdi_resolve.specs.declared.bean_tables.BeanTables.{BeanTables};
 

@@ -17,7 +17,7 @@ use Rattle.cdi_run_tables.specs.Numbered.{has_few_beans, is_numbered}
 use Rattle.cdi_run_tables.specs.Observers.{group_has_numbers, planned_groups}
 use Rattle.cdi_run_tables.specs.Planned.{IsPlanned, IsTabled, plan_tables}
 use Rattle.cdi_run_tables.specs.Sizes.{has_few_fields}
-use Rattle.cdi_run_tables.specs.declared.planned.PlannedBean.{PlannedBean}
+use Rattle.cdi_run_tables.specs.Parts.{PlannedBean}
 use Rattle.cdi_run_tables.specs.declared.tables.RunTables.{RunTables}
 use Rattle.cdi_report.proofs.Each.{all_pass, each_item, each_zipped}
 use Rattle.cdi_report.proofs.EnabledCounts.{few_of_deployment}

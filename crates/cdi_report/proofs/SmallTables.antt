@@ -19,7 +19,7 @@ use Rattle.cdi_run_tables.specs.Managed.{injections_of, managed_of}
 use Rattle.cdi_run_tables.specs.Planned.{IsPlanned, IsTabled, plan_tables}
 use Rattle.cdi_run_tables.specs.Numbered.{has_few_beans}
 use Rattle.cdi_run_tables.specs.Sizes.{has_few_fields, has_few_injections, is_small}
-use Rattle.cdi_run_tables.specs.declared.planned.PlannedBean.{PlannedBean}
+use Rattle.cdi_run_tables.specs.Parts.{PlannedBean}
 use Rattle.cdi_run_tables.specs.declared.tables.RunTables.{RunTables}
 use Rattle.cdi_resolve.specs.declared.bean_tables.BeanTables.{BeanTables}
 use Rattle.cdi_report.proofs.BeanCounts.{as_many, few_beans}

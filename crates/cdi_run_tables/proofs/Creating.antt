@@ -25,7 +25,7 @@ use Rattle.cdi_run_tables.specs.Interceptors.{injecting, plan_of}
 use Rattle.cdi_run_tables.specs.Machine.{injection, interceptor_at, machine_interceptor, machine_resolution}
 use Rattle.cdi_run_tables.specs.Numbered as spec
 use Rattle.cdi_run_tables.specs.Sizes.{has_few_fields}
-use Rattle.cdi_run_tables.specs.declared.parts.RunParts.{RunParts}
+use Rattle.cdi_run_tables.specs.Parts.{RunParts}
 
 each_injected : (fields : List InjectedField) → map machine_injection fields ≡ map injecting (map injection fields)
 each_injected [] = refl

@@ -3,8 +3,8 @@ use Rattle.std.proofs.Common.{ℕ, ◌≡◌, Bool, true, false, cond, Option, S
 use Rattle.std.specs.Prelude.{slice_get}
 use Rattle.cdi_resolve.specs.Filters.{is_enabled}
 use Rattle.cdi_run_tables.specs.Machine.{planned_at}
-use Rattle.cdi_run_tables.specs.declared.parts.RunParts.{RunParts}
-use Rattle.cdi_run_tables.specs.declared.planned.PlannedBean.{PlannedBean}
+use Rattle.cdi_run_tables.specs.Parts.{RunParts}
+use Rattle.cdi_run_tables.specs.Parts.{PlannedBean}
 
 module _ (t : RunParts) where
   -- what is so of what stands at an index, and where there is no bean, is so of the bean with that index, if it is enabled

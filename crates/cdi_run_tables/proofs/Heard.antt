@@ -27,7 +27,7 @@ use Rattle.cdi_run_tables.specs.Machine as whole
 use Rattle.cdi_run_tables.specs.Machine.{has_none, observers_of}
 use Rattle.cdi_run_tables.specs.Observers.{heard_among, planned_groups}
 use Rattle.cdi_run_tables.specs.Planned.{plan_tables}
-use Rattle.cdi_run_tables.specs.declared.parts.RunParts.{RunParts}
+use Rattle.cdi_run_tables.specs.Parts.{RunParts}
 
 -- ---- groups as pairs
 

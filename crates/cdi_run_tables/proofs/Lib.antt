@@ -2,7 +2,8 @@ pub mod Creating
 pub mod Enabled
 pub mod Heard
 pub mod Hearing
-pub mod Indexed
+pub mod KeptAt
+pub mod KeptFrom
 pub mod NumberedParts
 pub mod Observing
 pub mod PlannedGroups

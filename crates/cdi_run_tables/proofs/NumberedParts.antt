@@ -6,8 +6,8 @@ use Rattle.cdi_numbered_plans.specs.Numbers.{has_numbers}
 use Rattle.cdi_run_tables.specs.Numbered.{has_few_beans, is_numbered}
 use Rattle.cdi_run_tables.specs.Observers.{group_has_numbers, planned_groups}
 use Rattle.cdi_run_tables.specs.Sizes.{has_few_fields}
-use Rattle.cdi_run_tables.specs.declared.parts.RunParts.{RunParts}
-use Rattle.cdi_run_tables.specs.declared.planned.PlannedBean.{PlannedBean}
+use Rattle.cdi_run_tables.specs.Parts.{RunParts}
+use Rattle.cdi_run_tables.specs.Parts.{PlannedBean}
 
 module _ (t : RunParts) where
   abbrev plans : Bool

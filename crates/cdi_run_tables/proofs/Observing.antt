@@ -28,7 +28,7 @@ use Rattle.cdi_run_tables.specs.Index.{AreEventsOf, AreGroupBy, AreObserversOf, 
 use Rattle.cdi_run_tables.specs.Machine.{machine_resolution, observers_of}
 use Rattle.cdi_run_tables.specs.Numbered.{has_few_beans, is_numbered, machine_resolve}
 use Rattle.cdi_run_tables.specs.Observers.{heard_groups, planned_groups}
-use Rattle.cdi_run_tables.specs.declared.parts.RunParts.{RunParts}
+use Rattle.cdi_run_tables.specs.Parts.{RunParts}
 
 -- ---- what was numbered by what the deployment has
 

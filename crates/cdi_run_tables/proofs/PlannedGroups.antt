@@ -19,7 +19,7 @@ use Rattle.cdi_run_tables.proofs.NumberedParts.{numbers_of}
 use Rattle.cdi_run_tables.specs.Numbered.{is_numbered}
 use Rattle.cdi_run_tables.specs.Observers.{group_has_numbers, planned_groups}
 use Rattle.cdi_run_tables.specs.Planned.{plan_tables}
-use Rattle.cdi_run_tables.specs.declared.parts.RunParts.{RunParts}
+use Rattle.cdi_run_tables.specs.Parts.{RunParts}
 
 -- ---- what is so of each that is planned
 

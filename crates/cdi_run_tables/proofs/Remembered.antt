@@ -5,7 +5,7 @@ use Rattle.lru.proofs.CallerLemmas.{Contains-put_entries}
 use Rattle.lru.specs.LruCache.{LruCache, lru_cache, put_entries}
 use Rattle.cdi_run_tables.specs.Asked.{IsTold}
 use Rattle.cdi_run_tables.specs.declared.asked.CommandAnswer.{CommandAnswer}
-use Rattle.cdi_run_tables.specs.declared.parts.RunParts.{RunParts}
+use Rattle.cdi_run_tables.specs.Parts.{RunParts}
 
 module _ (t : RunParts) where
   abbrev AllTold : List (ℕ × CommandAnswer) → Type 0

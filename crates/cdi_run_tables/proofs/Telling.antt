@@ -1,36 +1,44 @@
 -- Plans in the words of an instance's life tell what the machine is told.
 use Rattle.std.proofs.Common.{ℕ, ◌≡◌, ◌∙◌, ◌^◌, ◌<◌, ◌≤◌, Bor, Bool, true, false, cond, filter, nat_le, nat_lt, List, [], ◌∷◌, Option, Some, None, length, map, refl, sym, ap, arith, subst, zero, suc}
-use Rattle.std.specs.Prelude.{slice_get, nat_eq, option_map, option_and_then, IfSome}
-use Rattle.std.specs.HashMap.{get}
+use Rattle.std.specs.Prelude.{slice_get, option_map, option_and_then, IfSome}
 use Rattle.std.specs.List.{All, list_all}
-use Rattle.std.specs.Option.{option_copied}
+use Rattle.std.specs.Option.{is_some, option_copied}
 use Rattle.std.proofs.lemmas.Bool.{and_from, and_parts, ltb-true}
 use Rattle.std.proofs.lemmas.List.{length-map}
+use Rattle.std.proofs.lemmas.List.Elements.{All-nil}
 use Rattle.cdi_bean_check.specs.Qualifiers.{full_uses}
+use Rattle.cdi_bean_lives.specs.Beans.{fields_at, fields_if_any, method_at, method_kept, numbered_at, numbered_kept, steps_if_any}
+use Rattle.cdi_bean_lives.specs.declared.kept.KeptBean.{KeptBean}
+use Rattle.cdi_class_lives.specs.declared.lives.ClassLives.{ClassLives}
 use Rattle.cdi_event_tables.specs.Ids.{id_in}
 use Rattle.cdi_event_tables.specs.Observers.{managed_bean}
 use Rattle.cdi_event_tables.specs.declared.ids.BodyIds.{BodyIds}
 use Rattle.cdi_machine.specs.Told.{lifecycle_told, method_told, product_told, step_told}
+use Rattle.cdi_machine.specs.Resolved.{IsResolvedProduct, IsResolvedStep}
 use Rattle.cdi_machine.specs.Tables as machine
+use Rattle.cdi_machine.specs.Words.{Asked}
+use Rattle.cdi_numbered_plans.specs.Life.{NumberedPlan}
+use Rattle.cdi_numbered_plans.specs.Machine.{first_values}
 use Rattle.cdi_numbered_plans.specs.Methods.{method_by}
 use Rattle.cdi_numbered_plans.specs.Numbers.{has_numbers}
 use Rattle.cdi_numbered_plans.specs.Plans.{IsNumberedPlan, IsResolvedIfAny, TellsOf, pre_destroy_in, product_in, steps_in}
 use Rattle.cdi_numbered_plans.specs.declared.numbering.Numbering.{Numbering}
-use Rattle.cdi_numbered_plans.specs.declared.plan.NumberedPlan.{NumberedPlan}
-use Rattle.cdi_numbered_plans.specs.declared.plan.NumberedPlan.TheVariants as plans
 use Rattle.cdi_plans.specs.declared.plan.Plan.{Plan}
 use Rattle.cdi_plans.specs.declared.plan.Plan.TheVariants as plan_kinds
 use Rattle.cdi_quals.specs.declared.types.QualifierType.{QualifierType}
-use Rattle.cdi_resolve.specs.Filters.{Candidates, enabled_of}
+use Rattle.cdi_resolve.specs.Filters.{Candidates, enabled_of, is_enabled}
 use Rattle.cdi_resolve.specs.Resolution.{resolution}
-use Rattle.cdi_run_tables.proofs.Enabled.{if_enabled}
+use Rattle.cdi_run_tables.proofs.Enabled.{enabled_at, if_enabled, none_at}
 use Rattle.cdi_run_tables.proofs.NumberedParts.{numbers_of}
-use Rattle.cdi_run_tables.specs.Index.{IsIndexAt, IsNumberedOf, IsNumberingOf}
-use Rattle.cdi_run_tables.specs.Machine.{bean_with, does_something, machine_bean, machine_kind, machine_resolution, machine_step, method_in, method_of, planned_at, product_with}
+use Rattle.cdi_run_tables.proofs.KeptAt.{kept_at}
+use Rattle.cdi_run_tables.specs.Index.{IsNumberedOf, IsNumberingOf}
+use Rattle.cdi_run_tables.specs.Kept.{AreKept, IsKeptAt}
+use Rattle.cdi_run_tables.specs.Machine.{bean_at, bean_with, does_something, machine_bean, machine_kind, machine_resolution, machine_step, method_in, method_of, planned_at, product_with}
+use Rattle.cdi_run_tables.specs.Managed.{fields_of, managed_plan}
 use Rattle.cdi_run_tables.specs.Numbered as spec
-use Rattle.cdi_run_tables.specs.declared.index.BeanIndex.{BeanIndex}
-use Rattle.cdi_run_tables.specs.declared.parts.RunParts.{RunParts}
-use Rattle.cdi_run_tables.specs.declared.planned.PlannedBean.{PlannedBean}
+use Rattle.cdi_run_tables.specs.Parts.{PlannedBean, RunParts}
+use Rattle.cdi_run_tables.specs.Seen.{parts_seen}
+use Rattle.cdi_run_tables.specs.declared.parts.KeptParts.{KeptParts}
 
 -- what was numbered by what the deployment has
 module _ (t : RunParts) (n : Numbering) (of : IsNumberingOf t n) (plan : Plan) (made : Option NumberedPlan) (is : IsNumberedPlan n plan made) where
@@ -64,82 +72,151 @@ has_numbers_at [] all n = tt
 has_numbers_at (b ∷ bs) all zero = (and_parts (has_numbers b.plan) (list_all (λ (x : PlannedBean). has_numbers x.plan) bs) all).0
 has_numbers_at (b ∷ bs) all (suc n) = has_numbers_at bs (and_parts (has_numbers b.plan) (list_all (λ (x : PlannedBean). has_numbers x.plan) bs) all).1 n
 
-module _ (t : RunParts) where
-  abbrev kind_in : Option PlannedBean → Option machine.Kind
-  kind_in b = option_map (λ (bean : machine.Bean). bean.kind) (option_and_then (machine_bean (id_in t.ids) t.tables.resolver.beans) b)
+abbrev kind_in : RunParts → Option PlannedBean → Option machine.Kind
+kind_in t b = option_map (λ (bean : machine.Bean). bean.kind) (option_and_then (machine_bean (id_in t.ids) t.tables.resolver.beans) b)
 
-  told_in : (b : Option PlannedBean) (i : BeanIndex) → IsIndexAt t b (Some i) → spec.has_few_beans t ≡ true → IfSome b (λ x. has_numbers x.plan ≡ true) → TellsOf (kind_in b) i.numbered
-  told_in None i h few can = absurd h
-  told_in (Some b) i h few can =
-      subst (λ k. TellsOf k i.numbered) (kind_is b (machine_kind (id_in t.ids) t.tables.resolver.beans b.plan)) (h.numbered.tells few can)
+module _ (t : RunParts) (l : ClassLives) where
+  abbrev numbered_in : Option KeptBean → Option NumberedPlan
+  numbered_in kept = option_and_then (numbered_kept l) kept
 
-  module _ (all : spec.is_numbered t ≡ true) (n : ℕ) where
-    parts : (spec.has_few_beans t ≡ true) × (list_all (λ (b : PlannedBean). has_numbers b.plan) t.beans ≡ true)
-    parts = let numbers = numbers_of t all in (numbers.few, numbers.plans)
+  told_in : (b : Option PlannedBean) (kept : Option KeptBean) → IsKeptAt t l b kept → spec.has_few_beans t ≡ true → IfSome b (λ x. has_numbers x.plan ≡ true) → TellsOf (kind_in t b) (numbered_in kept)
+  told_in None None h few can = tt
+  told_in None (Some k) h few can = absurd h
+  told_in (Some b) None h few can = absurd h
+  told_in (Some b) (Some k) h few can =
+      subst (λ kind. TellsOf kind (numbered_kept l k)) (kind_is b (machine_kind (id_in t.ids) t.tables.resolver.beans b.plan)) (h.numbered.tells few can)
 
-    have_numbers : IfSome (planned_at t n) (λ b. has_numbers b.plan ≡ true)
-    have_numbers = if_enabled t (λ o. IfSome o (λ b. has_numbers b.plan ≡ true)) n tt (has_numbers_at t.beans parts.1 n)
+  resolved_in : (b : Option PlannedBean) (kept : Option KeptBean) → IsKeptAt t l b kept → IsResolvedIfAny (spec.machine_resolve t) (numbered_in kept)
+  resolved_in None None h = tt
+  resolved_in None (Some k) h = absurd h
+  resolved_in (Some b) None h = absurd h
+  resolved_in (Some b) (Some k) h = h.numbered.resolved
 
-    pub methods_told : (i : BeanIndex) → IsIndexAt t (planned_at t n) (Some i) → (name : ℕ) → option_map method_told (get nat_eq i.methods name) ≡ method_of t n name
-    methods_told i h name = by (planned_at t n) h have_numbers
+  method_in_both : (name : ℕ) (b : Option PlannedBean) (kept : Option KeptBean) → IsKeptAt t l b kept → IfSome b (λ x. has_numbers x.plan ≡ true)
+      → option_map method_told (option_and_then (λ (k : KeptBean). method_kept l k name) kept) ≡ option_and_then (λ (x : PlannedBean). method_in (id_in t.ids) x.plan name) b
+  method_in_both name None None h can = refl
+  method_in_both name None (Some k) h can = absurd h
+  method_in_both name (Some b) None h can = absurd h
+  method_in_both name (Some b) (Some k) h can = ap (option_map method_told) (h.methods.same can name) ∙ back (method_in (id_in t.ids) b.plan name)
+    where
+      back : (o : Option machine.Method) → option_map method_told (option_map method_by o) ≡ o
+      back None = refl
+      back (Some m) = refl
+
+module _ (t : RunParts) (all : spec.is_numbered t ≡ true) (n : ℕ) where
+  parts : (spec.has_few_beans t ≡ true) × (list_all (λ (b : PlannedBean). has_numbers b.plan) t.beans ≡ true)
+  parts = let numbers = numbers_of t all in (numbers.few, numbers.plans)
+
+  pub have_numbers : IfSome (planned_at t n) (λ b. has_numbers b.plan ≡ true)
+  have_numbers = if_enabled t (λ o. IfSome o (λ b. has_numbers b.plan ≡ true)) n tt (has_numbers_at t.beans parts.1 n)
+
+-- what is kept of a bean, if it is enabled
+module _ (p : KeptParts) (kept : AreKept p) (n : ℕ) where
+  abbrev seen : RunParts
+  seen = parts_seen p
+
+  there : IsKeptAt seen p.beans.lives (slice_get seen.beans n) (slice_get p.beans.beans n)
+  there = kept_at seen p.beans.lives seen.beans p.beans.beans kept.beans n
+
+  abbrev IsOn : RunParts → Type 0
+  IsOn t = is_enabled t.tables.resolver.flags n ≡ true
+
+  here : IsOn seen → IsKeptAt seen p.beans.lives (planned_at seen n) (slice_get p.beans.beans n)
+  here on = subst (λ o. IsKeptAt seen p.beans.lives o (slice_get p.beans.beans n)) (enabled_at seen n on) there
+
+  -- by what contracts see
+  module _ (t : RunParts) (is : seen ≡ t) (on : IsOn t) where
+    on_seen : IsOn seen
+    on_seen = subst IsOn (sym is) on
+
+    pub tells_at : spec.is_numbered t ≡ true → TellsOf (spec.kind_at t n) (numbered_at p.beans n)
+    tells_at all =
+        subst (λ (x : RunParts). spec.is_numbered x ≡ true → TellsOf (spec.kind_at x n) (numbered_at p.beans n)) is
+        (λ all. told_in seen p.beans.lives (planned_at seen n) (slice_get p.beans.beans n) (here on_seen) (parts seen all n).0 (have_numbers seen all n))
+        all
+
+    pub resolved_at : IsResolvedIfAny (spec.machine_resolve t) (numbered_at p.beans n)
+    resolved_at =
+        subst (λ (x : RunParts). IsResolvedIfAny (spec.machine_resolve x) (numbered_at p.beans n)) is
+        (resolved_in seen p.beans.lives (planned_at seen n) (slice_get p.beans.beans n) (here on_seen))
+
+    pub method_is_told : spec.is_numbered t ≡ true → (name : ℕ) → option_map method_told (method_at p.beans n name) ≡ method_of t n name
+    method_is_told all name =
+        subst (λ (x : RunParts). spec.is_numbered x ≡ true → option_map method_told (method_at p.beans n name) ≡ method_of x n name) is
+        (λ all. method_in_both seen p.beans.lives name (planned_at seen n) (slice_get p.beans.beans n) (here on_seen) (have_numbers seen all n))
+        all
+
+    pub fields_are_told : first_values (fields_at p.beans n) ≡ fields_of (option_and_then managed_plan (planned_at t n))
+    fields_are_told =
+        subst (λ (x : RunParts). first_values (fields_at p.beans n) ≡ fields_of (option_and_then managed_plan (planned_at x n))) is
+        (by (planned_at seen n) (slice_get p.beans.beans n) (here on_seen))
       where
-        back : (o : Option machine.Method) → option_map method_told (option_map method_by o) ≡ o
-        back None = refl
-        back (Some m) = refl
+        by : (b : Option PlannedBean) (k : Option KeptBean) → IsKeptAt seen p.beans.lives b k → first_values (fields_if_any p.beans.lives k) ≡ fields_of (option_and_then managed_plan b)
+        by None None h = refl
+        by None (Some k) h = absurd h
+        by (Some b) None h = absurd h
+        by (Some b) (Some k) h = h.fields
 
-        by : (b : Option PlannedBean) → IsIndexAt t b (Some i) → IfSome b (λ x. has_numbers x.plan ≡ true)
-            → option_map method_told (get nat_eq i.methods name) ≡ option_and_then (λ (x : PlannedBean). method_in (id_in t.ids) x.plan name) b
-        by None h can = absurd h
-        by (Some b) h can = ap (option_map method_told) (h.methods.same can name) ∙ back (method_in (id_in t.ids) b.plan name)
+-- of a bean that isn't enabled there is nothing
+module _ (t : RunParts) (n : ℕ) (off : is_enabled t.tables.resolver.flags n ≡ false) where
+  pub no_kind : None ≡ spec.kind_at t n
+  no_kind = ap (kind_in t) (none_at t n off)
 
-    pub numbered_told : (i : BeanIndex) → IsIndexAt t (planned_at t n) (Some i) → TellsOf (spec.kind_at t n) i.numbered
-    numbered_told i h = told_in (planned_at t n) i h parts.0 have_numbers
+  pub no_method : (name : ℕ) → None ≡ method_of t n name
+  no_method name = ap (option_and_then (λ (x : PlannedBean). method_in (id_in t.ids) x.plan name)) (none_at t n off)
 
-  pub no_methods : (n : ℕ) → IsIndexAt t (planned_at t n) None → (name : ℕ) → None ≡ method_of t n name
-  no_methods n h name = by (planned_at t n) h
-    where
-      by : (b : Option PlannedBean) → IsIndexAt t b None → None ≡ option_and_then (λ (x : PlannedBean). method_in (id_in t.ids) x.plan name) b
-      by None h = refl
-      by (Some b) h = absurd h
+  pub no_fields : [] ≡ fields_of (option_and_then managed_plan (planned_at t n))
+  no_fields = ap (λ o. fields_of (option_and_then managed_plan o)) (none_at t n off)
 
-  pub none_told : (n : ℕ) → IsIndexAt t (planned_at t n) None → TellsOf (spec.kind_at t n) None
-  none_told n h = by (planned_at t n) h
-    where
-      by : (b : Option PlannedBean) → IsIndexAt t b None → TellsOf (kind_in b) None
-      by None h = tt
-      by (Some b) h = absurd h
-
-  pub numbered_resolved : (b : Option PlannedBean) (i : BeanIndex) → IsIndexAt t b (Some i) → IsResolvedIfAny (spec.machine_resolve t) i.numbered
-  numbered_resolved None i h = absurd h
-  numbered_resolved (Some b) i h = h.numbered.resolved
+  pub no_bean : None ≡ bean_at t n
+  no_bean = ap (option_and_then (machine_bean (id_in t.ids) t.tables.resolver.beans)) (none_at t n off)
 
 -- ---- parts of what is told
 
-pub steps_told : (k : Option machine.Kind) (p : NumberedPlan) → TellsOf k (Some p) → map step_told (steps_in p) ≡ spec.plan_in k
-steps_told None p h = absurd h
-steps_told (Some (machine.Kind.Class c)) (plans.Managed life) h = h.plan
-steps_told (Some (machine.Kind.Class c)) (plans.Product product) h = absurd h
-steps_told (Some (machine.Kind.Producer x)) (plans.Managed life) h = absurd h
-steps_told (Some (machine.Kind.Producer x)) (plans.Product product) h = refl
+pub steps_told : (k : Option machine.Kind) (p : Option NumberedPlan) → TellsOf k p → map step_told (steps_if_any p) ≡ spec.plan_in k
+steps_told None None h = refl
+steps_told None (Some p) h = absurd h
+steps_told (Some k) None h = absurd h
+steps_told (Some (machine.Kind.Class c)) (Some (NumberedPlan.Managed life)) h = h.plan
+steps_told (Some (machine.Kind.Class c)) (Some (NumberedPlan.Produced product)) h = absurd h
+steps_told (Some (machine.Kind.Producer x)) (Some (NumberedPlan.Managed life)) h = absurd h
+steps_told (Some (machine.Kind.Producer x)) (Some (NumberedPlan.Produced product)) h = refl
 
-pub pre_destroy_told : (k : Option machine.Kind) (p : NumberedPlan) → TellsOf k (Some p) → option_map lifecycle_told (pre_destroy_in p) ≡ spec.pre_destroy_in k
-pre_destroy_told None p h = absurd h
-pre_destroy_told (Some (machine.Kind.Class c)) (plans.Managed life) h = ap Some h.pre_destroy
-pre_destroy_told (Some (machine.Kind.Class c)) (plans.Product product) h = absurd h
-pre_destroy_told (Some (machine.Kind.Producer x)) (plans.Managed life) h = absurd h
-pre_destroy_told (Some (machine.Kind.Producer x)) (plans.Product product) h = refl
+pub pre_destroy_told : (k : Option machine.Kind) (p : Option NumberedPlan) → TellsOf k p → option_map lifecycle_told (option_and_then pre_destroy_in p) ≡ spec.pre_destroy_in k
+pre_destroy_told None None h = refl
+pre_destroy_told None (Some p) h = absurd h
+pre_destroy_told (Some k) None h = absurd h
+pre_destroy_told (Some (machine.Kind.Class c)) (Some (NumberedPlan.Managed life)) h = ap Some h.pre_destroy
+pre_destroy_told (Some (machine.Kind.Class c)) (Some (NumberedPlan.Produced product)) h = absurd h
+pre_destroy_told (Some (machine.Kind.Producer x)) (Some (NumberedPlan.Managed life)) h = absurd h
+pre_destroy_told (Some (machine.Kind.Producer x)) (Some (NumberedPlan.Produced product)) h = refl
 
-pub product_is_told : (k : Option machine.Kind) (p : NumberedPlan) → TellsOf k (Some p) → option_map product_told (product_in p) ≡ spec.product_in k
-product_is_told None p h = absurd h
-product_is_told (Some (machine.Kind.Class c)) (plans.Managed life) h = refl
-product_is_told (Some (machine.Kind.Class c)) (plans.Product product) h = absurd h
-product_is_told (Some (machine.Kind.Producer x)) (plans.Managed life) h = absurd h
-product_is_told (Some (machine.Kind.Producer x)) (plans.Product product) h = ap Some h
+pub product_is_told : (k : Option machine.Kind) (p : Option NumberedPlan) → TellsOf k p → option_map product_told (option_and_then product_in p) ≡ spec.product_in k
+product_is_told None None h = refl
+product_is_told None (Some p) h = absurd h
+product_is_told (Some k) None h = absurd h
+product_is_told (Some (machine.Kind.Class c)) (Some (NumberedPlan.Managed life)) h = refl
+product_is_told (Some (machine.Kind.Class c)) (Some (NumberedPlan.Produced product)) h = absurd h
+product_is_told (Some (machine.Kind.Producer x)) (Some (NumberedPlan.Managed life)) h = absurd h
+product_is_told (Some (machine.Kind.Producer x)) (Some (NumberedPlan.Produced product)) h = ap Some h
 
--- where there is no plan, there is nothing
-pub no_plan : (k : Option machine.Kind) → TellsOf k None → k ≡ None
-no_plan None h = refl
-no_plan (Some k) h = absurd h
+-- the steps and the product of a plan are resolved if it is
+pub steps_resolved : (resolve : Asked → machine.Resolution) (p : Option NumberedPlan) → IsResolvedIfAny resolve p → All (IsResolvedStep resolve) (steps_if_any p)
+steps_resolved resolve None h = All-nil (IsResolvedStep resolve)
+steps_resolved resolve (Some (NumberedPlan.Managed life)) h = h
+steps_resolved resolve (Some (NumberedPlan.Produced product)) h = All-nil (IsResolvedStep resolve)
+
+pub product_resolved : (resolve : Asked → machine.Resolution) (p : Option NumberedPlan) → IsResolvedIfAny resolve p → IfSome (option_and_then product_in p) (IsResolvedProduct resolve)
+product_resolved resolve None h = tt
+product_resolved resolve (Some (NumberedPlan.Managed life)) h = tt
+product_resolved resolve (Some (NumberedPlan.Produced product)) h = h
+
+-- there is a plan where there is a kind
+pub both_or_none : (k : Option machine.Kind) (p : Option NumberedPlan) → TellsOf k p → is_some p ≡ is_some k
+both_or_none None None h = refl
+both_or_none None (Some p) h = absurd h
+both_or_none (Some k) None h = absurd h
+both_or_none (Some k) (Some p) h = refl
 
 -- ---- what is lent
 

@@ -3,7 +3,7 @@ use Rattle.std.specs.Prelude.{ℕ, ◌≡◌, Contains}
 use Rattle.cdi_run_tables.specs.Machine.{resolution_of}
 use Rattle.cdi_run_tables.specs.declared.asked.CommandAnswer.{CommandAnswer}
 use Rattle.cdi_run_tables.specs.declared.asked.CommandAnswers.{CommandAnswers}
-use Rattle.cdi_run_tables.specs.declared.parts.RunParts.{RunParts}
+use Rattle.cdi_run_tables.specs.Parts.{RunParts}
 
 -- an answer is what resolution tells
 abbrev pub IsTold : RunParts → CommandAnswer → Type 0

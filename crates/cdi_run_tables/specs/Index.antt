@@ -14,11 +14,10 @@ use Rattle.cdi_machine.specs.declared.member.Observer.{Observer}
 use Rattle.cdi_machine.specs.declared.step.Step.{Step as LifeStep}
 use Rattle.cdi_name_check.specs.NameSets.{HasDeclared, HasNames}
 use Rattle.cdi_numbered_plans.specs.Machine.{machine_observer}
-use Rattle.cdi_numbered_plans.specs.Methods.{AreMethodsBy}
 use Rattle.cdi_numbered_plans.specs.Numbers.{has_numbers, numbers_observers}
 use Rattle.cdi_numbered_plans.specs.Plans.{AreObserversBy, IsResolvedIfAny, TellsOf}
 use Rattle.cdi_numbered_plans.specs.declared.numbering.Numbering.{Numbering}
-use Rattle.cdi_numbered_plans.specs.declared.plan.NumberedPlan.{NumberedPlan}
+use Rattle.cdi_numbered_plans.specs.Life.{NumberedPlan}
 use Rattle.cdi_plans.specs.declared.plan.Plan.{Plan}
 use Rattle.cdi_resolve.specs.Filters.{Candidates, enabled_of}
 use Rattle.cdi_run_tables.specs.Asked.{AreTold}
@@ -27,10 +26,8 @@ use Rattle.cdi_run_tables.specs.Machine.{machine_interceptor, machine_kind}
 use Rattle.cdi_run_tables.specs.Numbered.{has_few_beans, machine_resolve}
 use Rattle.cdi_run_tables.specs.Observers.{planned_groups}
 use Rattle.cdi_run_tables.specs.Planned.{plan_tables}
-use Rattle.cdi_run_tables.specs.declared.index.BeanIndex.{BeanIndex}
 use Rattle.cdi_run_tables.specs.declared.index.RunIndex.{RunIndex}
-use Rattle.cdi_run_tables.specs.declared.parts.RunParts.{RunParts}
-use Rattle.cdi_run_tables.specs.declared.planned.PlannedBean.{PlannedBean}
+use Rattle.cdi_run_tables.specs.Parts.{RunParts}
 
 -- resolution is asked for among the enabled beans of these tables
 abbrev pub AsksOf : RunParts → Candidates → Type 0
@@ -52,18 +49,7 @@ pub record IsNumberedOf (t : RunParts) (plan : Plan) (made : Option NumberedPlan
       → TellsOf (machine_kind (id_in t.ids) t.tables.resolver.beans plan) made
   pub resolved : IsResolvedIfAny (machine_resolve t) made
 
--- ---- beans
-
-pub record IsBeanIndex (t : RunParts) (b : PlannedBean) (i : BeanIndex) : Type 0 where
-  pub numbered : IsNumberedOf t b.plan i.numbered
-  pub methods : AreMethodsBy (id_in t.ids) b.plan i.methods
-
--- so if there is a bean, and else there is none
-abbrev pub IsIndexAt : RunParts → Option PlannedBean → Option BeanIndex → Type 0
-IsIndexAt t None None = Unit {0}
-IsIndexAt t None (Some i) = ⊥
-IsIndexAt t (Some b) None = ⊥
-IsIndexAt t (Some b) (Some i) = IsBeanIndex t b i
+-- ---- interceptors and observers
 
 -- the steps by which an instance of an interceptor is created, with each point resolved
 pub record AreStepsOf (t : RunParts) (j : Option Interceptor) (made : List LifeStep)
@@ -93,14 +79,12 @@ pub record AreObserversOf (t : RunParts) (g : ObserverGroup) (made : List Observ
       → map observer_told made ≡ map (machine_observer (id_in t.ids)) g.observers
   pub resolved : All (IsResolvedObserver (machine_resolve t)) made
 
--- The names that the deployment declares and those of its checked exceptions; what is looked up of its events; the methods and the
--- numbered plan of each bean; the steps by which an instance of each enabled interceptor is created; the numbered observers of each
--- group.
+-- The names that the deployment declares and those of its checked exceptions; what is looked up of its events; the steps by which an
+-- instance of each enabled interceptor is created; the numbered observers of each group.
 pub record IsIndexOf (t : RunParts) (i : RunIndex) : Type 0 where
   pub names : HasDeclared t.deployment i.names
   pub checked : HasNames (is_checked t.deployment.exceptions) i.checked
   pub events : AreEventsOf t i.events
-  pub beans : AllZip (IsBeanIndex t) t.beans i.beans
   pub interceptor_steps :
       AllZip (ArePlannedBy t) t.tables.chains.interceptors i.interceptor_steps
   pub observers : AllZip (AreObserversOf t) (planned_groups t) i.observers

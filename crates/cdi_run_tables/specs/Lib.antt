@@ -1,12 +1,16 @@
 pub mod Asked
 pub mod Index
 pub mod Interceptors
+pub mod Kept
 pub mod Machine
 pub mod Managed
 pub mod Numbered
 pub mod Observers
+pub mod Parts
+pub mod Places
 pub mod Planned
 pub mod Registered
+pub mod Seen
 pub mod Sizes
 pub mod Texts
 pub mod WellFormed

@@ -26,7 +26,7 @@ use Rattle.cdi_resolve.specs.declared.resolution.Resolution.{Resolution}
 use Rattle.cdi_event_tables.specs.Events.{Group, groups_of, hears, written_uses}
 use Rattle.cdi_event_tables.specs.Ids.{id_in, AreIdsIn}
 use Rattle.cdi_event_tables.specs.Observers.{managed_bean}
-use Rattle.cdi_run_tables.specs.declared.planned.PlannedBean.{PlannedBean}
+use Rattle.cdi_run_tables.specs.Parts.{PlannedBean}
 use Rattle.cdi_run_tables.specs.declared.tables.RunTables.{RunTables}
 use Rattle.cdi_body_check.specs.WrittenPoints.{point_of_field, point_of_lookup}
 use Rattle.cdi_body_check.specs.WrittenNames.{is_event}

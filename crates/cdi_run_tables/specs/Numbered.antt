@@ -9,7 +9,8 @@ use Rattle.cdi_numbered_plans.specs.Numbers.{has_numbers}
 use Rattle.cdi_run_tables.specs.Machine.{bean_at, machine_resolution, resolution_of}
 use Rattle.cdi_run_tables.specs.Observers.{group_has_numbers, planned_groups}
 use Rattle.cdi_run_tables.specs.Sizes.{has_few_fields}
-use Rattle.cdi_run_tables.specs.declared.planned.PlannedBean.{PlannedBean}
+use Rattle.cdi_run_tables.specs.Parts.{PlannedBean}
+use Rattle.cdi_run_tables.specs.declared.planned.PlacedBean.{PlacedBean}
 use Rattle.cdi_run_tables.specs.declared.tables.RunTables.{RunTables}
 
 -- at most 4,294,967,296 beans
@@ -28,7 +29,7 @@ abbrev pub machine_resolve : RunTables → Asked → machine.Resolution
 machine_resolve t asked = machine_resolution (resolution_of t asked.type asked.qualifiers)
 
 -- where a bean stands, and its scope
-abbrev pub head_of : PlannedBean → Place × Scope
+abbrev pub head_of : PlacedBean → Place × Scope
 head_of b = (b.place, b.scope)
 
 abbrev pub kind_at : RunTables → ℕ → Option machine.Kind

@@ -8,7 +8,7 @@ use Rattle.cdi_machine.specs.declared.member.Observer.{Observer}
 use Rattle.cdi_numbered_plans.specs.Numbers.{observers_have_numbers}
 use Rattle.cdi_run_tables.specs.Machine.{has_none}
 use Rattle.cdi_run_tables.specs.Planned.{plan_tables}
-use Rattle.cdi_run_tables.specs.declared.parts.RunParts.{RunParts}
+use Rattle.cdi_run_tables.specs.Parts.{RunParts}
 
 -- all that are notified at all, in groups by ascending priority
 abbrev pub planned_groups : RunParts → List ObserverGroup

@@ -14,7 +14,7 @@ use Rattle.cdi_plans.specs.declared.plan.Step.{Step}
 use Rattle.cdi_plans.specs.declared.plan.Step.TheVariants as steps
 use Rattle.cdi_run_tables.specs.Machine.{declared_at, id_of, planned_at}
 use Rattle.cdi_run_tables.specs.Observers.{planned_groups}
-use Rattle.cdi_run_tables.specs.declared.planned.PlannedBean.{PlannedBean}
+use Rattle.cdi_run_tables.specs.Parts.{PlannedBean}
 use Rattle.cdi_run_tables.specs.declared.tables.RunTables.{RunTables}
 
 module _ (ids : ℕ → Option ℕ) where

@@ -3,7 +3,7 @@ use Rattle.std.specs.Prelude.{◌^◌, ◌&&◌, Bool, length, nat_le, nat_lt}
 use Rattle.std.specs.List.{list_all}
 use Rattle.cdi_deployment.specs.declared.deployment.Interceptor.{Interceptor}
 use Rattle.cdi_run_tables.specs.Managed.{injections_of, managed_plan}
-use Rattle.cdi_run_tables.specs.declared.planned.PlannedBean.{PlannedBean}
+use Rattle.cdi_run_tables.specs.Parts.{PlannedBean}
 use Rattle.cdi_run_tables.specs.declared.tables.RunTables.{RunTables}
 
 abbrev pub has_few_injections : PlannedBean → Bool

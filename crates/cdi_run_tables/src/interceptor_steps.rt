@@ -7,8 +7,9 @@ ghost use Rattle.cdi_run_tables.specs.Index as index;
 ghost use Rattle.cdi_run_tables.specs.Interceptors as spec;
 ghost use Rattle.cdi_run_tables.specs.Machine.{interceptor_at, machine_tables};
 ghost use Rattle.cdi_run_tables.specs.Numbered.{is_numbered};
+ghost use Rattle.cdi_run_tables.specs.Seen.{parts_seen};
 
-use crate::parts::RunParts;
+use crate::parts::KeptParts;
 use crate::tables::RunTables;
 use cdi_base::Seq;
 use cdi_beans::EnabledInterceptor;
@@ -21,15 +22,15 @@ use std::alloc::{AllocError, Global};
 /// The steps by which an instance of an enabled interceptor is created: its injected fields, in the order of their declaration.
 fn steps_of(
     alloc: Global,
-    parts: &RunParts,
+    parts: &KeptParts,
     numbering: &Numbering<'_>,
     lookup: &mut Lookup<&Resolver>,
     interceptor: &EnabledInterceptor,
 ) -> Result<Seq<Step>, AllocError>
-    requires numbering { index.IsNumberingOf parts.now numbering.now }
-    requires asks { index.AsksOf parts.now lookup.old.now }
-    ensures steps { IfOk result (index.ArePlannedBy parts.now interceptor.now) }
-    ensures kept { index.AsksOf parts.now lookup.new.now }
+    requires numbering { index.IsNumberingOf (parts_seen parts.now) numbering.now }
+    requires asks { index.AsksOf (parts_seen parts.now) lookup.old.now }
+    ensures steps { IfOk result (index.ArePlannedBy (parts_seen parts.now) interceptor.now) }
+    ensures kept { index.AsksOf (parts_seen parts.now) lookup.new.now }
 {
     match parts.deployment.interceptors.get(interceptor.index) {
         Some(declared) => injections_by(alloc, numbering, lookup, declared.inject.as_slice()),
@@ -40,15 +41,15 @@ fn steps_of(
 /// Those of all enabled interceptors, in their order.
 pub(crate) fn all_steps(
     alloc: Global,
-    parts: &RunParts,
+    parts: &KeptParts,
     numbering: &Numbering<'_>,
     lookup: &mut Lookup<&Resolver>,
 ) -> Result<Seq<Seq<Step>>, AllocError>
-    requires numbering { index.IsNumberingOf parts.now numbering.now }
-    requires asks { index.AsksOf parts.now lookup.old.now }
+    requires numbering { index.IsNumberingOf (parts_seen parts.now) numbering.now }
+    requires asks { index.AsksOf (parts_seen parts.now) lookup.old.now }
     ensures all { IfOk result
-        (AllZip (index.ArePlannedBy parts.now) parts.now.tables.chains.interceptors) }
-    ensures kept { index.AsksOf parts.now lookup.new.now }
+        (AllZip (index.ArePlannedBy (parts_seen parts.now)) parts.now.tables.chains.interceptors) }
+    ensures kept { index.AsksOf (parts_seen parts.now) lookup.new.now }
 {
     let mut all = Seq::empty(alloc);
     for interceptor in parts.tables.chains.interceptors() {

@@ -20,5 +20,5 @@ mod sizes;
 pub mod tables;
 mod well_formed;
 
-pub use planned::PlannedBean;
+pub use planned::PlacedBean;
 pub use tables::RunTables;

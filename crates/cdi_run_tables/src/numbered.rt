@@ -1,27 +1,16 @@
 //! What is asked of a bean in the words of an instance's life.
 ghost use Rattle.std.specs.Prelude.{◌≡◌, length, option_map, slice_get, IfSome, IsTrue};
-ghost use Rattle.std.specs.Option.{option_copied};
 ghost use Rattle.cdi_machine.specs.Resolved.{IsResolvedProduct, IsResolvedStep};
 ghost use Rattle.cdi_machine.specs.Told.{lifecycle_told, method_told, product_told, step_told};
-ghost use Rattle.std.specs.List.{list_all};
-ghost use Rattle.cdi_numbered_plans.specs.Numbers as numbers;
-ghost use Rattle.cdi_numbered_plans.specs.Plans.{IsResolvedIfAny, TellsOf};
 ghost use Rattle.cdi_run_tables.specs.Machine.{bean_at, machine_tables, method_of};
 ghost use Rattle.cdi_run_tables.specs.Numbered as spec;
 
 use crate::observers::groups_have_numbers;
-use crate::planned::PlannedBean;
+use crate::planned::PlacedBean;
 use crate::sizes::have_few_fields;
 use crate::tables::RunTables;
 use cdi_base::Name;
 use cdi_machine::{Lifecycle, Method, Product, Step};
-use cdi_numbered_plans::{NumberedPlan, has_numbers};
-
-fn have_numbers(beans: &[PlannedBean]) -> bool
-    ensures { result ≡ list_all (λ b. numbers.has_numbers b.plan) beans.now }
-{
-    beans.iter().all(|bean| has_numbers(&bean.plan))
-}
 
 impl RunTables {
     /// Whether what the plans of the beans and the observers name has numbers of 32 bits: the beans, the steps of each plan, the
@@ -30,32 +19,24 @@ impl RunTables {
         ensures { result ≡ spec.is_numbered self.now }
     {
         self.parts.tables.resolver.beans().len() <= 4_294_967_296
-            && have_numbers(self.parts.beans.as_slice())
+            && self.parts.beans.have_numbers()
             && have_few_fields(self.parts.deployment.interceptors.as_slice())
             && groups_have_numbers(self.observer_groups())
     }
 
-    /// The plan of the bean with an index, in the words of an instance's life, if the bean is enabled.
-    fn numbered(&self, bean: u32) -> Option<&NumberedPlan>
-        requires { IsTrue (spec.is_numbered self.now) }
-        ensures tells { TellsOf (spec.kind_at self.now bean) (option_copied result) }
-        ensures resolved { IsResolvedIfAny (spec.machine_resolve self.now) (option_copied result) }
-    {
-        match self.bean_index(bean as usize) {
-            Some(index) => index.numbered.as_ref(),
-            None => None,
-        }
-    }
-
     /// The bean with an index, if instances of it can be made: it is enabled, and a managed bean or a product that one declares. What the
     /// plans name has to be numbered ([`RunTables::is_numbered`]).
-    pub fn instantiable(&self, bean: u32) -> Option<&PlannedBean>
+    pub fn instantiable(&self, bean: u32) -> Option<PlacedBean>
         requires { IsTrue (spec.is_numbered self.now) }
-        ensures { option_map (λ b. spec.head_of b.now) result
+        ensures { option_map spec.head_of result
             ≡ option_map (λ b. (b.place, b.scope)) (bean_at self.now bean) }
     {
-        self.numbered(bean)?;
-        self.planned(bean as usize)
+        let index = bean as usize;
+        if self.is_enabled(index) && self.parts.beans.is_instantiable(index) {
+            let bean = self.parts.tables.resolver.beans().get(index)?;
+            return Some(PlacedBean::new(bean));
+        }
+        None
     }
 
     /// How many steps create an instance of the bean with an index; for a product, and for a bean that isn't enabled, there are none. They have to be numbered
@@ -64,10 +45,10 @@ impl RunTables {
         requires { IsTrue (spec.is_numbered self.now) }
         ensures { result ≡ length (spec.plan_in (spec.kind_at self.now bean)) }
     {
-        match self.numbered(bean) {
-            Some(plan) => plan.steps().len() as u32,
-            None => 0,
+        if self.is_enabled(bean as usize) {
+            return self.parts.beans.step_count(bean as usize) as u32;
         }
+        0
     }
 
     /// The step at a place among those by which an instance of the bean with an index is created (Jakarta CDI 4.0, *Lifecycle of managed
@@ -79,7 +60,10 @@ impl RunTables {
         ensures resolved { IfSome result
             (λ s. IsResolvedStep (machine_tables self.now).resolve s.now) }
     {
-        self.numbered(bean)?.steps().get(at as usize)
+        if self.is_enabled(bean as usize) {
+            return self.parts.beans.step(bean as usize, at as usize);
+        }
+        None
     }
 
     /// What runs where an instance of the bean with an index is destroyed (Jakarta Interceptors 2.1, *Interceptor Methods for Lifecycle
@@ -89,7 +73,10 @@ impl RunTables {
         ensures { option_map (λ l. lifecycle_told l.now) result
             ≡ spec.pre_destroy_in (spec.kind_at self.now bean) }
     {
-        self.numbered(bean)?.pre_destroy()
+        if self.is_enabled(bean as usize) {
+            return self.parts.beans.pre_destroy(bean as usize);
+        }
+        None
     }
 
     /// A business method of the bean with an index (Jakarta CDI 4.0, *Container invocations and interception*), if its body is registered;
@@ -98,10 +85,10 @@ impl RunTables {
         requires { IsTrue (spec.is_numbered self.now) }
         ensures { option_map (λ m. method_told m.now) result ≡ method_of self.now bean name }
     {
-        match self.bean_index(bean as usize) {
-            Some(index) => index.methods.get(&name),
-            None => None,
+        if self.is_enabled(bean as usize) {
+            return self.parts.beans.method(bean as usize, name);
         }
+        None
     }
 
     /// What an instance of the bean with an index comes from, and what disposes of it (Jakarta CDI 4.0, *Lifecycle of producer methods*),
@@ -113,6 +100,9 @@ impl RunTables {
         ensures resolved { IfSome result
             (λ p. IsResolvedProduct (machine_tables self.now).resolve p.now) }
     {
-        self.numbered(bean)?.product()
+        if self.is_enabled(bean as usize) {
+            return self.parts.beans.product(bean as usize);
+        }
+        None
     }
 }

@@ -4,8 +4,9 @@ ghost use Rattle.std.specs.List.{AllZip, list_all};
 ghost use Rattle.cdi_numbered_plans.specs.Numbered.{AsksOf};
 ghost use Rattle.cdi_run_tables.specs.Index as index;
 ghost use Rattle.cdi_run_tables.specs.Observers as spec;
+ghost use Rattle.cdi_run_tables.specs.Seen.{parts_seen};
 
-use crate::parts::RunParts;
+use crate::parts::KeptParts;
 use crate::tables::RunTables;
 use cdi_base::Seq;
 use cdi_cache::Lookup;
@@ -37,17 +38,17 @@ fn all_observers(
 /// Those of what is looked up of the events of a deployment.
 pub(crate) fn observers_of(
     alloc: Global,
-    _parts: &RunParts,
+    _parts: &KeptParts,
     numbering: &Numbering<'_>,
     lookup: &mut Lookup<&Resolver>,
     events: &EventTables,
 ) -> Result<Seq<Seq<Observer>>, AllocError>
-    requires numbering { index.IsNumberingOf _parts.now numbering.now }
-    requires events { index.AreEventsOf _parts.now events.now }
-    requires asks { index.AsksOf _parts.now lookup.old.now }
+    requires numbering { index.IsNumberingOf (parts_seen _parts.now) numbering.now }
+    requires events { index.AreEventsOf (parts_seen _parts.now) events.now }
+    requires asks { index.AsksOf (parts_seen _parts.now) lookup.old.now }
     ensures all { IfOk result
-        (AllZip (index.AreObserversOf _parts.now) (spec.planned_groups _parts.now)) }
-    ensures kept { index.AsksOf _parts.now lookup.new.now }
+        (AllZip (index.AreObserversOf (parts_seen _parts.now)) (spec.planned_groups (parts_seen _parts.now))) }
+    ensures kept { index.AsksOf (parts_seen _parts.now) lookup.new.now }
 {
     all_observers(alloc, numbering, lookup, events.observers.as_slice())
 }

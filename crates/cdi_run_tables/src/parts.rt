@@ -1,38 +1,43 @@
-//! A deployment with its tables and the plans of its beans.
-ghost use Rattle.std.specs.Prelude.{◌≡◌, slice_get, option_map, IfOk};
-ghost use Rattle.std.specs.List.{AllZip};
+//! What is kept of a deployment for a run.
+ghost use Rattle.std.specs.Prelude.{◌≡◌, IfOk};
 ghost use Rattle.cdi_bodies.specs.Gives.{lookups_of};
 ghost use Rattle.cdi_bodies.specs.Table.{entries_of};
 ghost use Rattle.cdi_resolve.specs.BeanTables.{AreTablesOf};
 ghost use Rattle.cdi_event_tables.specs.Tables.{AreEventTables};
 ghost use Rattle.cdi_run_tables.specs.Index.{AreEventsOf};
+ghost use Rattle.cdi_run_tables.specs.Kept.{AreBeansOf, AreKept};
 ghost use Rattle.cdi_run_tables.specs.Machine as spec;
-ghost use Rattle.cdi_run_tables.specs.Planned.{IsPlanned, IsTabled, plan_tables};
+ghost use Rattle.cdi_run_tables.specs.Planned.{IsTabled, plan_tables};
+ghost use Rattle.cdi_run_tables.specs.Seen.{parts_seen};
 
-use crate::planned::{PlannedBean, planned_beans};
+use crate::index::REMEMBERED;
 use cdi_base::Seq;
+use cdi_bean_lives::KeptBeans;
 use cdi_bodies::{Bodies, Lookup};
+use cdi_cache::Lookup as Lookups;
 use cdi_deployment::Deployment;
 use cdi_event_tables::{BodyIds, EventTables};
+use cdi_numbered_plans::Numbering;
 use cdi_planner::Planner;
 use cdi_planner::laws::{law_beans_are_declared, law_observers_are_declared};
 use cdi_resolve::BeanTables;
 use std::alloc::{AllocError, Global};
+use std::num::NonZeroUsize;
 
-/// A deployment with its tables, the plans of its beans, and the numbers and lookups of its bodies.
-pub struct RunParts {
+/// A deployment with its tables, what is kept of its beans, and the numbers and lookups of its bodies.
+pub struct KeptParts {
     pub(crate) deployment: Deployment,
     pub(crate) tables: BeanTables,
-    pub(crate) beans: Seq<PlannedBean>,
+    pub(crate) beans: KeptBeans,
     pub(crate) ids: BodyIds,
     /// Those of each registered body, by its number.
     pub(crate) lookups: Seq<Seq<Lookup>>,
 }
 
 /// In one call, so that the proof of each function that owns all parts has one step here, and not one for each of them.
-impl Drop for RunParts {
+impl Drop for KeptParts {
     fn drop(self) {
-        let RunParts {
+        let KeptParts {
             deployment: _deployment,
             tables: _tables,
             beans: _beans,
@@ -43,14 +48,35 @@ impl Drop for RunParts {
 }
 
 /// What is planned of a deployment: its beans, in their order, and what is looked up of its events.
-#[derive(Drop)]
 struct Plans {
-    beans: Seq<PlannedBean>,
+    beans: KeptBeans,
     events: EventTables,
 }
 
+/// What is kept of the beans of a deployment whose names and beans have no problem, with the tables of its bean list and the numbers of
+/// its bodies.
+fn kept_beans(
+    alloc: Global,
+    deployment: &Deployment,
+    tables: &BeanTables,
+    ids: &BodyIds,
+    planner: &Planner<'_>,
+) -> Result<KeptBeans, AllocError>
+    requires tables { AreTablesOf deployment.now tables.now }
+    requires planner { planner.now ≡ plan_tables deployment.now tables.now }
+    ensures { IfOk result (AreBeansOf deployment.now tables.now ids.now) }
+{
+    law_beans_are_declared();
+    let capacity = NonZeroUsize::new(REMEMBERED).unwrap();
+    let mut lookup = Lookups::new(alloc, &tables.resolver, capacity)?;
+    let qualifiers = &tables.declared.qualifiers;
+    let resolver = &tables.resolver;
+    let numbering = Numbering::build(alloc, ids, &deployment.names, qualifiers, resolver)?;
+    KeptBeans::build(alloc, planner, &numbering, &mut lookup, resolver.beans())
+}
+
 impl Plans {
-    /// Those of a deployment with its tables and the numbers of its bodies.
+    /// Those of a deployment whose names and beans have no problem, with the tables of its bean list and the numbers of its bodies.
     fn build(
         alloc: Global,
         deployment: &Deployment,
@@ -58,13 +84,11 @@ impl Plans {
         ids: &BodyIds,
     ) -> Result<Plans, AllocError>
         requires { AreTablesOf deployment.now tables.now }
-        ensures beans { IfOk result (λ plans. AllZip
-            (IsPlanned (plan_tables deployment.now tables.now))
-            tables.now.resolver.beans plans.beans) }
+        ensures beans { IfOk result
+            (λ plans. AreBeansOf deployment.now tables.now ids.now plans.beans) }
         ensures events { IfOk result (λ plans. AreEventTables
             (plan_tables deployment.now tables.now) tables.now ids.now plans.events) }
     {
-        law_beans_are_declared();
         law_observers_are_declared();
         let planner = Planner::build(
             alloc,
@@ -73,25 +97,16 @@ impl Plans {
             &tables.declared.qualifiers,
             &tables.chains,
         )?;
-        let beans = planned_beans(alloc, &planner, tables.resolver.beans())?;
+        let beans = kept_beans(alloc, deployment, tables, ids, &planner)?;
         let events = EventTables::build(alloc, deployment, tables, &planner, ids)?;
         Ok(Plans { beans, events })
-    }
-}
-
-impl RunParts {
-    /// The bean with an index.
-    pub(crate) fn bean(&self, bean: usize) -> Option<&PlannedBean>
-        ensures { option_map (λ b. b.now) result ≡ slice_get self.now.beans bean }
-    {
-        self.beans.as_slice().get(bean)
     }
 }
 
 /// The parts of a deployment with what is looked up of its events.
 #[derive(Drop)]
 pub(crate) struct PartsWithEvents {
-    pub(crate) parts: RunParts,
+    pub(crate) parts: KeptParts,
     pub(crate) events: EventTables,
 }
 
@@ -107,17 +122,19 @@ impl PartsWithEvents {
         requires { AreTablesOf deployment tables }
         ensures deployment { IfOk result (λ t. t.parts.deployment ≡ deployment) }
         ensures tables { IfOk result (λ t. t.parts.tables ≡ tables) }
-        ensures tabled { IfOk result (λ t. IsTabled t.parts) }
-        ensures ids { IfOk result (λ t. spec.AreIdsOf (entries_of bodies.now) t.parts) }
+        ensures tabled { IfOk result (λ t. IsTabled (parts_seen t.parts)) }
+        ensures kept { IfOk result (λ t. AreKept t.parts) }
+        ensures ids { IfOk result
+            (λ t. spec.AreIdsOf (entries_of bodies.now) (parts_seen t.parts)) }
         ensures lookups { IfOk result (λ t.
             t.parts.lookups ≡ lookups_of (entries_of bodies.now)) }
-        ensures events { IfOk result (λ t. AreEventsOf t.parts t.events) }
+        ensures events { IfOk result (λ t. AreEventsOf (parts_seen t.parts) t.events) }
     {
         let ids = BodyIds::build(alloc, &deployment, bodies)?;
         let plans = Plans::build(alloc, &deployment, &tables, &ids)?;
         let lookups = bodies.lookups(alloc)?;
         let Plans { beans, events } = plans;
-        let parts = RunParts {
+        let parts = KeptParts {
             deployment,
             tables,
             beans,

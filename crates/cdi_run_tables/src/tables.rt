@@ -1,18 +1,15 @@
 //! All that the machine asks of a deployment.
-ghost use Rattle.std.specs.Prelude.{◌≡◌, slice_get, option_map, IfOk};
-ghost use Rattle.std.specs.Option.{option_copied};
+ghost use Rattle.std.specs.Prelude.{◌≡◌, IfOk};
 ghost use Rattle.cdi_bodies.specs.Gives.{lookups_of};
 ghost use Rattle.cdi_bodies.specs.Table.{entries_of};
 ghost use Rattle.cdi_name_check.specs.NameSets.{HasDeclared};
 ghost use Rattle.cdi_resolve.specs.BeanTables.{AreTablesOf};
 ghost use Rattle.cdi_resolve.specs.Filters.{is_enabled};
-ghost use Rattle.cdi_run_tables.specs.Index.{IsIndexAt};
 ghost use Rattle.cdi_run_tables.specs.Machine as spec;
 ghost use Rattle.cdi_run_tables.specs.Planned.{IsTabled};
 
-use crate::index::{BeanIndex, RunIndex};
-use crate::parts::{PartsWithEvents, RunParts};
-use crate::planned::PlannedBean;
+use crate::index::RunIndex;
+use crate::parts::{KeptParts, PartsWithEvents};
 use cdi_base::{Name, Use};
 use cdi_bodies::Bodies;
 use cdi_cache::WrittenQuestion;
@@ -27,7 +24,7 @@ use std::marker::Model;
 /// call names ([`RunTables::ask`]), if it is none of the last ones, goes over the enabled beans that have the type, and who hears an event ([`RunTables::observers`])
 /// is asked of each observer of an enabled bean.
 pub struct RunTables {
-    pub(crate) parts: RunParts,
+    pub(crate) parts: KeptParts,
     pub(crate) index: RunIndex,
 }
 
@@ -42,18 +39,16 @@ impl Drop for RunTables {
 }
 
 impl Model for RunTables {
-    ghost use Rattle.cdi_run_tables.specs.declared.parts.RunParts.{RunParts};
-    ghost use Rattle.cdi_run_tables.specs.contracts.parts.RunParts as run_parts;
+    ghost use Rattle.cdi_run_tables.specs.Parts.{RunParts};
 
     ghost Value = { RunParts };
 
-    ghost coded = { run_parts.the_row.coded };
+    ghost use Rattle.cdi_run_tables.specs.Kept.{AreRunTables};
+    ghost use Rattle.cdi_run_tables.specs.Seen.{parts_seen};
 
-    ghost use Rattle.cdi_run_tables.specs.Index.{IsIndexOf};
+    ghost view = { λ t. parts_seen t.parts };
 
-    ghost view = { λ t. t.parts };
-
-    ghost invariant = { λ t. IsIndexOf t.parts t.index };
+    ghost invariant = { λ t. AreRunTables t.parts t.index };
 }
 
 impl RunTables {
@@ -88,41 +83,14 @@ impl RunTables {
         &self.parts.deployment
     }
 
-    /// The bean with an index in the bean list, enabled or not, with its plan.
-    pub fn bean(&self, bean: usize) -> Option<&PlannedBean>
-        ensures { option_map (λ b. b.now) result ≡ slice_get self.now.beans bean }
-    {
-        self.parts.bean(bean)
-    }
-
     /// Whether the bean with an index is enabled.
-    fn is_enabled(&self, bean: usize) -> bool
+    pub(crate) fn is_enabled(&self, bean: usize) -> bool
         ensures { result ≡ is_enabled self.now.tables.resolver.flags bean }
     {
         match self.parts.tables.resolver.flags().get(bean) {
             Some(flag) => *flag,
             None => false,
         }
-    }
-
-    /// The bean with an index, with its plan, if it is enabled: of no other one is an instance made.
-    pub(crate) fn planned(&self, bean: usize) -> Option<&PlannedBean>
-        ensures { option_map (λ b. b.now) result ≡ spec.planned_at self.now bean }
-    {
-        if self.is_enabled(bean) {
-            return self.parts.bean(bean);
-        }
-        None
-    }
-
-    /// What is looked up of the bean with an index, if it is enabled.
-    pub(crate) fn bean_index(&self, bean: usize) -> Option<&BeanIndex>
-        ensures { IsIndexAt self.now (spec.planned_at self.now bean) (option_copied result) }
-    {
-        if self.is_enabled(bean) {
-            return self.index.beans.get(bean);
-        }
-        None
     }
 
     /// What a type and qualifiers, as they were written, resolve to among the enabled beans (Jakarta CDI 4.0, *Typesafe resolution*).

@@ -36,7 +36,7 @@ use Rattle.cdi_run_tables.specs.Machine as tables
 use Rattle.cdi_run_tables.specs.Machine.{AreIdsOf, bean_at, bean_with, body_number, declared_at, does_something, has_none, id_of, interceptor_at, machine_code, machine_interceptor, machine_lifecycle, machine_member, machine_methods, machine_source, machine_step, machine_steps, machine_tables, method_with, planned_at, product_with}
 use Rattle.cdi_run_tables.proofs.Heard.{heard_observers, hears_it}
 use Rattle.cdi_run_tables.specs.Observers.{heard_among, planned_groups}
-use Rattle.cdi_run_tables.specs.declared.planned.PlannedBean.{PlannedBean}
+use Rattle.cdi_run_tables.specs.Parts.{PlannedBean}
 use Rattle.cdi_run_tables.specs.declared.tables.RunTables.{RunTables}
 use Rattle.cdi_runtime.proofs.Lists.{mapped_at, passes_at}
 use Rattle.cdi_runtime.specs.Knowing.{DrivesRegistered}

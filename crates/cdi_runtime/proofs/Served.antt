@@ -1,5 +1,5 @@
 -- What the engine is told of beans that are served.
-use Rattle.std.proofs.Common.{ℕ, ◌≡◌, ◌∙◌, ◌<◌, ◌≤◌, ◌^◌, ◌&&◌, Bor, true, nat_le, List, [], length, Option, Some, None, IsSome, is_some, refl, sym, ap, arith}
+use Rattle.std.proofs.Common.{ℕ, ◌≡◌, ◌∙◌, ◌<◌, ◌≤◌, ◌^◌, ◌&&◌, true, nat_le, List, [], length, Option, Some, None, IsSome, is_some, refl, sym, ap, arith}
 use Rattle.std.specs.Prelude.{option_map, option_and_then, slice_get}
 use Rattle.std.specs.List.{list_all}
 use Rattle.std.proofs.lemmas.Bool.{and_parts, leb-true}
@@ -25,7 +25,8 @@ use Rattle.cdi_run_tables.specs.Managed as managed
 use Rattle.cdi_run_tables.specs.Managed.{managed_plan}
 use Rattle.cdi_run_tables.specs.Numbered as numbered
 use Rattle.cdi_run_tables.specs.Sizes.{has_few_fields, has_few_injections, is_small}
-use Rattle.cdi_run_tables.specs.declared.planned.PlannedBean.{PlannedBean}
+use Rattle.cdi_run_tables.specs.Parts.{PlannedBean}
+use Rattle.cdi_run_tables.specs.declared.planned.PlacedBean.{PlacedBean}
 use Rattle.cdi_run_tables.specs.declared.tables.RunTables.{RunTables}
 use Rattle.cdi_runtime.proofs.Lists.{within}
 use Rattle.cdi_runtime.specs.Standing.{HasNumber, IsServable}
@@ -84,15 +85,15 @@ abbrev pub placed : Place × Scope → BeanHead
 placed p = record { place = p.0; scope = p.1 }
 
 -- the head of a bean that instances can be made of
-pub head_is : (x : Option machine.Bean) (found : Option (Bor PlannedBean)) → option_map (λ b. numbered.head_of b.now) found ≡ option_map (λ (b : machine.Bean). (b.place, b.scope)) x
-    → option_map head_of x ≡ option_map (λ b. placed (numbered.head_of b.now)) found
+pub head_is : (x : Option machine.Bean) (found : Option PlacedBean) → option_map numbered.head_of found ≡ option_map (λ (b : machine.Bean). (b.place, b.scope)) x
+    → option_map head_of x ≡ option_map (λ b. placed (numbered.head_of b)) found
 head_is x found e = of_machine x ∙ sym (ap (option_map placed) e) ∙ of_tables found
   where
     of_machine : (x : Option machine.Bean) → option_map head_of x ≡ option_map placed (option_map (λ (b : machine.Bean). (b.place, b.scope)) x)
     of_machine None = refl
     of_machine (Some b) = refl
 
-    of_tables : (found : Option (Bor PlannedBean)) → option_map placed (option_map (λ b. numbered.head_of b.now) found) ≡ option_map (λ b. placed (numbered.head_of b.now)) found
+    of_tables : (found : Option PlacedBean) → option_map placed (option_map numbered.head_of found) ≡ option_map (λ b. placed (numbered.head_of b)) found
     of_tables None = refl
     of_tables (Some b) = refl
 

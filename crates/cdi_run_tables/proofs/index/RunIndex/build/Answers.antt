@@ -1,3 +1,4 @@
+use Rattle.cdi_run_tables.specs.Seen.{parts_seen}
 use Rattle.cdi_run_tables.proofs.index.RunIndex.build.Goals as goal
 
 pub returns : goal.returns
@@ -5,8 +6,7 @@ returns c = record {
   names = c.requires.names;
   checked = rw c.as_slice.ensures at c.in_ok-checked_exceptions.ensures;
   events = c.requires.events;
-  beans = c.in_ok-bean_indices.ensures.all;
   interceptor_steps = c.in_ok-all_steps.ensures.all;
   observers = c.in_ok-observers_of.ensures.all;
-  asked = c.in_ok-new.ensures c.args.parts.now;
+  asked = c.in_ok-new.ensures (parts_seen c.args.parts.now);
 }

@@ -1,14 +1,13 @@
-use Rattle.std.proofs.Common.{◌∙◌, ap, option_map}
+use Rattle.std.proofs.Common.{◌∙◌, ap, option_map, sym}
 use Rattle.cdi_machine.specs.Told.{method_told}
-use Rattle.cdi_run_tables.proofs.Telling.{lent, methods_told, no_methods}
+use Rattle.cdi_run_tables.proofs.Telling.{lent, method_is_told, no_method}
 use Rattle.cdi_run_tables.proofs.tables.RunTables.business_method.Goals as goal
 
-pub returns-in-Some : goal.returns-in-Some
-returns-in-Some c =
-    let t = c.args.self.now in
-    lent method_told c.get.result ∙ ap (option_map method_told) c.get.ensures.value ∙ methods_told t c.requires c.args.bean c.in-Some.index.now c.in-Some.ensures c.args.name
+pub returns-then-is_enabled : goal.returns-then-is_enabled
+returns-then-is_enabled c =
+    let on = sym c.is_enabled.ensures ∙ c.if-is_enabled.true in
+    lent method_told c.method.result ∙ ap (option_map method_told) c.method.ensures
+    ∙ method_is_told c.self.inside.parts c.self.invariant.kept c.args.bean c.args.self.now c.self.view_is on c.requires c.args.name
 
-pub returns-in-None : goal.returns-in-None
-returns-in-None c =
-    let t = c.args.self.now in
-    no_methods t c.args.bean c.in-None.ensures c.args.name
+pub returns : goal.returns
+returns c = no_method c.args.self.now c.args.bean (sym c.is_enabled.ensures ∙ c.if-is_enabled.false) c.args.name

@@ -6,4 +6,4 @@ use Rattle.cdi_run_tables.proofs.tables.RunTables.numbered_observers.Goals as go
 
 pub returns : goal.returns
 returns c =
-    rw c.as_slice.ensures (subst (λ p. AllZip (AreObserversOf p) (planned_groups p) c.self.inside.index.observers) c.self.view_is c.self.invariant.observers)
+    rw c.as_slice.ensures (subst (λ p. AllZip (AreObserversOf p) (planned_groups p) c.self.inside.index.observers) c.self.view_is c.self.invariant.index.observers)

@@ -9,13 +9,13 @@ pub returns-in-Some : goal.returns-in-Some
 returns-in-Some c =
     let tables = c.self.inside.tables in
     let b = c.in-Some.bean in
-    let found : option_map head_of (bean_at tables c.args.bean) ≡ Some (placed (numbered.head_of b.now)) =
-    head_is (bean_at tables c.args.bean) c.instantiable.result c.instantiable.ensures ∙ ap (option_map (λ x. placed (numbered.head_of x.now))) c.in-Some.is in
-    subst (λ t. option_map head_of (bean_at t c.args.bean) ≡ Some (placed (numbered.head_of b.now))) c.self.view_is found
+    let found : option_map head_of (bean_at tables c.args.bean) ≡ Some (placed (numbered.head_of b)) =
+    head_is (bean_at tables c.args.bean) c.instantiable.result c.instantiable.ensures ∙ ap (option_map (λ x. placed (numbered.head_of x))) c.in-Some.is in
+    subst (λ t. option_map head_of (bean_at t c.args.bean) ≡ Some (placed (numbered.head_of b))) c.self.view_is found
 
 pub returns-in-None : goal.returns-in-None
 returns-in-None c =
     let tables = c.self.inside.tables in
     let found : option_map head_of (bean_at tables c.args.bean) ≡ None =
-    head_is (bean_at tables c.args.bean) c.instantiable.result c.instantiable.ensures ∙ ap (option_map (λ x. placed (numbered.head_of x.now))) c.in-None.is in
+    head_is (bean_at tables c.args.bean) c.instantiable.result c.instantiable.ensures ∙ ap (option_map (λ x. placed (numbered.head_of x))) c.in-None.is in
     subst (λ t. option_map head_of (bean_at t c.args.bean) ≡ None) c.self.view_is found
