@@ -96,15 +96,15 @@ module _ {X : Type 0} (kept : List X) where
 module _ (steps more : List Step) (fields others : List Field) (maps those : MethodMaps)
     (grown : length steps ≤ length more) (wider : length fields ≤ length others) (still : (map : ℕ) → IsMap maps map → IsMap those map)
   where
-  pub is_kept_still : (life : ClassLife) → IsKept steps fields maps life → IsKept more others those life
-  is_kept_still life is = record {
-    step_places = are_below_more (length steps) (length more) life.injections grown is.step_places;
-    field_places = are_below_more (length fields) (length others) life.fields wider is.field_places;
-    map = λ map e. still map (is.map map e);
-  }
+    pub is_kept_still : (life : ClassLife) → IsKept steps fields maps life → IsKept more others those life
+    is_kept_still life is = record {
+      step_places = are_below_more (length steps) (length more) life.injections grown is.step_places;
+      field_places = are_below_more (length fields) (length others) life.fields wider is.field_places;
+      map = λ map e. still map (is.map map e);
+    }
 
-  pub are_kept_still : (lives : List ClassLife) → AreKept steps fields maps lives → AreKept more others those lives
-  are_kept_still lives are = λ class life e. is_kept_still life (are class life e)
+    pub are_kept_still : (lives : List ClassLife) → AreKept steps fields maps lives → AreKept more others those lives
+    are_kept_still lives are = λ class life e. is_kept_still life (are class life e)
 
 -- what a class has of its direct superclass
 pub is_kept_below : (steps : List Step) (fields : List Field) (maps : MethodMaps) (above : Option ClassLife) (class : ℕ) (declared : List ℕ)

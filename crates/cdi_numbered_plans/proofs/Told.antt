@@ -1,5 +1,5 @@
 -- What is numbered tells what the machine is told, with each point resolved.
-use Rattle.std.proofs.Common.{ℕ, ◌≡◌, ◌∙◌, List, [], ◌∷◌, map, filter, true, false, Option, Some, None, Result, Ok, Err, refl, sym, subst}
+use Rattle.std.proofs.Common.{ℕ, ◌≡◌, ◌∙◌, List, [], ◌∷◌, map, filter, true, false, Option, Some, None, Result, Ok, Err, refl, sym, ap, subst}
 use Rattle.std.specs.Prelude.{option_map, IfOk}
 use Rattle.std.specs.declared.alloc.AllocError.{AllocError}
 use Rattle.std.proofs.lemmas.Bool.{true≢false}
@@ -157,6 +157,12 @@ is_numbered_plan n plan can = record { tells = λ h. tells n plan; none = λ h. 
 
 -- so is what is made of a product's
 pub product_made : (n : Numbering) (plan : ProductPlan) → can_number n (plans.Product plan) ≡ true → (r : Result (Option Product) AllocError)
-    → IfOk r (λ m. option_map NumberedPlan.Produced m ≡ plan_by n (plans.Product plan)) → IfOk r (IsNumberedProduct n plan)
-product_made n plan can (Ok m) e = subst (IsNumberedPlan n (plans.Product plan)) (sym e) (is_numbered_plan n (plans.Product plan) can)
+    → IfOk r (λ m. m ≡ option_map (product_by n plan) (managed_bean n.resolver.now.beans plan.declaring)) → IfOk r (IsNumberedProduct n plan)
+product_made n plan can (Ok m) e =
+    subst (IsNumberedPlan n (plans.Product plan)) (sym (ap (option_map NumberedPlan.Produced) e ∙ by (managed_bean n.resolver.now.beans plan.declaring)))
+    (is_numbered_plan n (plans.Product plan) can)
+  where
+    by : (b : Option ℕ) → option_map NumberedPlan.Produced (option_map (product_by n plan) b) ≡ option_map (λ k. NumberedPlan.Produced (product_by n plan k)) b
+    by None = refl
+    by (Some b) = refl
 product_made n plan can (Err x) e = tt

@@ -20,9 +20,7 @@ use cdi_base::{InterceptorMethod, Name, Seq};
 use cdi_beans::{Bean, BeanKind, ObserverMethod};
 use cdi_deployment::{Class, Constructor, Deployment, Member, Observer};
 use cdi_plans::Chains;
-use cdi_plans::plan::{
-    BusinessMethod, Code, InjectedMethod, Lifecycle, ProductPlan, Step,
-};
+use cdi_plans::plan::{BusinessMethod, Code, InjectedMethod, Lifecycle, ProductPlan, Step};
 use cdi_quals::QualifierTypes;
 use cdi_types::{ClassIndex, ClassLine, ClassPart, TypeTable};
 use std::alloc::{AllocError, Global};
@@ -130,7 +128,12 @@ impl<'a> Planner<'a> {
     /// Where an instance of a product comes from, and what disposes of it (Jakarta CDI 4.0, *Lifecycle of producer methods*, *Lifecycle of
     /// producer fields*), by its class and its kind. The first class of this name has to declare its producer, as it does for the beans of a
     /// deployment whose names have no problem ([`law_beans_are_declared`](crate::laws::law_beans_are_declared)).
-    pub fn product(&self, alloc: Global, class: Name, kind: BeanKind) -> Result<ProductPlan, AllocError>
+    pub fn product(
+        &self,
+        alloc: Global,
+        class: Name,
+        kind: BeanKind,
+    ) -> Result<ProductPlan, AllocError>
         requires { IsSome (producer_of self.now.classes class kind) }
         ensures { IfOk result (IsProductPlan self.now class kind) }
     {

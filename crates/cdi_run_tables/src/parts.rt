@@ -48,6 +48,7 @@ impl Drop for KeptParts {
 }
 
 /// What is planned of a deployment: its beans, in their order, and what is looked up of its events.
+#[derive(Drop)]
 struct Plans {
     beans: KeptBeans,
     events: EventTables,

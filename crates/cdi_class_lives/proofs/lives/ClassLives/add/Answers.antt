@@ -1,4 +1,4 @@
-use Rattle.std.proofs.Common.{◌≡◌, ◌∙◌, ℕ, List, Result, Ok, Err, cond, map, slice_get, ◌++◌, ◌∷◌, [], refl, sym, ap, subst, None, Some, arith}
+use Rattle.std.proofs.Common.{◌≡◌, ◌∙◌, List, Result, Ok, Err, cond, map, slice_get, ◌++◌, ◌∷◌, [], refl, sym, ap, subst, None, Some, arith}
 use Rattle.std.specs.Option.{option_or}
 use Rattle.std.specs.Prelude.{OnOk, OnErr}
 use Rattle.std.proofs.lemmas.Option.{same_Some}
