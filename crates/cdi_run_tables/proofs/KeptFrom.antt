@@ -1,12 +1,16 @@
 -- What is kept of the beans of a deployment is by their plans.
-use Rattle.std.proofs.Common.{ℕ, ◌≡◌, ◌∙◌, ◌^◌, ◌<◌, ◌≤◌, true, nat_le, nat_lt, List, [], ◌∷◌, Option, Some, None, length, refl, sym, ap, subst, arith}
+use Rattle.std.proofs.Common.{ℕ, ◌≡◌, ◌∙◌, ◌^◌, ◌<◌, ◌≤◌, true, nat_le, nat_lt, List, [], ◌∷◌, Option, Some, None, Result, Ok, Err, length, refl, sym, ap, subst, arith}
+use Rattle.std.specs.Prelude.{IfOk}
 use Rattle.std.specs.List.{AllZip, cons_option, filter_map}
+use Rattle.std.specs.declared.alloc.AllocError.{AllocError}
 use Rattle.std.proofs.lemmas.Bool.{and_parts, lt-ltb, ltb-true}
-use Rattle.cdi_bean_lives.specs.Beans.{IsKeptBean, fields_kept, method_kept, numbered_kept, plan_kept}
+use Rattle.cdi_bean_lives.specs.Beans.{AreFew, AreKeptBeans, IsKeptBean, fields_kept, method_kept, numbered_kept, plan_kept}
 use Rattle.cdi_bean_lives.specs.declared.kept.KeptBean.{KeptBean}
 use Rattle.cdi_bean_lives.specs.declared.kept.KeptBean.TheVariants as kept_beans
+use Rattle.cdi_bean_lives.specs.declared.kept.KeptBeans.{KeptBeans}
 use Rattle.cdi_beans.specs.declared.bean.Bean.{Bean}
 use Rattle.cdi_class_lives.specs.declared.lives.ClassLives.{ClassLives}
+use Rattle.cdi_deployment.specs.declared.deployment.Deployment.{Deployment}
 use Rattle.cdi_event_tables.specs.Ids.{id_in}
 use Rattle.cdi_event_tables.specs.declared.ids.BodyIds.{BodyIds}
 use Rattle.cdi_numbered_plans.specs.Machine.{first_values}
@@ -19,6 +23,7 @@ use Rattle.cdi_plans.specs.declared.plan.Plan.TheVariants as plans
 use Rattle.cdi_planner.specs.Tables.{PlanTables}
 use Rattle.cdi_resolve.specs.BeanTables.{AreTablesOf}
 use Rattle.cdi_resolve.specs.Filters.{Candidates}
+use Rattle.cdi_resolve.specs.declared.bean_tables.BeanTables.{BeanTables}
 use Rattle.cdi_run_tables.proofs.Telling.{numbered_of}
 use Rattle.cdi_run_tables.specs.Index.{IsNumberingOf}
 use Rattle.cdi_run_tables.specs.Kept.{AreBeansOf, AreKept, IsKeptOf}
@@ -107,3 +112,20 @@ module _ (p : KeptParts) (is : AreBeansOf p.deployment p.tables p.ids p.beans) w
 
   pub is_tabled : AreTablesOf p.deployment p.tables → IsTabled t
   is_tabled made = record { tables = made; planned = all_planned tables l is.n p.tables.resolver.beans p.beans.beans is.are }
+
+-- what was made of the beans, if there was memory
+pub beans_made : (d : Deployment) (t : BeanTables) (ids : BodyIds) (tables : PlanTables) (n : Numbering) (beans : List Bean)
+    → tables ≡ plan_tables d t → n.ids.now ≡ ids → n.names.now ≡ d.names → n.qualifiers.now ≡ t.declared.qualifiers → n.resolver.now ≡ t.resolver
+    → beans ≡ t.resolver.beans → (r : Result KeptBeans AllocError) → IfOk r (AreKeptBeans tables n beans) → IfOk r (λ kept. AreFew tables n)
+    → IfOk r (AreBeansOf d t ids)
+beans_made d t ids tables n beans same ids_are names qualifiers resolver all (Ok kept) are few =
+    record {
+      n = n;
+      ids_are = ids_are;
+      names = names;
+      qualifiers = qualifiers;
+      resolver = resolver;
+      few = subst (λ (p : PlanTables). AreFew p n) same few;
+      are = subst (λ (p : PlanTables). AreKeptBeans p n t.resolver.beans kept) same (subst (λ bs. AreKeptBeans tables n bs kept) all are);
+    }
+beans_made d t ids tables n beans same ids_are names qualifiers resolver all (Err x) are few = tt

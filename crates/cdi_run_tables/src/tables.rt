@@ -39,9 +39,13 @@ impl Drop for RunTables {
 }
 
 impl Model for RunTables {
+    ghost use Rattle.std.specs.Coded.{codes};
+    ghost use Rattle.cdi_deployment.specs.contracts.deployment.Deployment as deployments;
     ghost use Rattle.cdi_run_tables.specs.Parts.{RunParts};
 
     ghost Value = { RunParts };
+
+    ghost coded = { Prim.hlevel (codes, deployments.the_row.coded) };
 
     ghost use Rattle.cdi_run_tables.specs.Kept.{AreRunTables};
     ghost use Rattle.cdi_run_tables.specs.Seen.{parts_seen};
