@@ -1,5 +1,5 @@
 -- In the line of a class, each class has the part of the line up to it for a line.
-use Rattle.std.proofs.Common.{ℕ, ◌≡◌, ◌∙◌, ◌+◌, ◌<◌, ◌≤◌, ◌⊎◌, inl, inr, Bool, true, false, cond, nat_eq, List, [], ◌∷◌, ◌++◌, length, length-append, take, get_or, Option, Some, None, slice_get, refl, sym, ap, subst, append-nil, arith}
+use Rattle.std.proofs.Common.{ℕ, ◌≡◌, ◌∙◌, ◌+◌, ◌<◌, ◌⊎◌, inl, inr, Bool, true, false, cond, nat_eq, List, [], ◌∷◌, ◌++◌, length, take, Option, Some, None, slice_get, refl, sym, ap, subst, append-nil, arith}
 use Rattle.std.proofs.lemmas.Bool.{cases_order, eqb-true}
 use Rattle.std.proofs.lemmas.List.{get_or_append_left, get_or_push, length_push, take-append-le, take_all}
 use Rattle.std.proofs.lemmas.List.Elements.{filter_map-append}
@@ -11,7 +11,7 @@ use Rattle.cdi_types.specs.Lineage.{IsLineage}
 use Rattle.cdi_types.specs.declared.declaration.TypeDeclaration.{TypeDeclaration}
 
 -- a class that is found by a name has it
-named_so : (classes : List Class) (name : ℕ) (c : Class) → class_named classes name ≡ Some c → c.name ≡ name
+pub named_so : (classes : List Class) (name : ℕ) (c : Class) → class_named classes name ≡ Some c → c.name ≡ name
 named_so [] name c e = absurd cc
 named_so (d ∷ classes) name c e = by (nat_eq d.name name) refl (named_so classes name c) e
   where

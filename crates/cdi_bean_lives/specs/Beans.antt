@@ -1,13 +1,14 @@
 -- What is kept of the beans of a deployment for the lives of their instances.
-use Rattle.std.specs.Prelude.{ℕ, ◌≡◌, ◌^◌, ◌≤◌, Bool, true, List, [], ◌++◌, length, Option, Some, None, option_and_then, option_map, slice_get}
+use Rattle.std.specs.Prelude.{ℕ, ◌≡◌, ◌^◌, ◌≤◌, Bool, true, List, [], length, Option, Some, None, option_and_then, option_map, slice_get, IsSome}
 use Rattle.std.specs.List.{AllZip, list_all}
 use Rattle.cdi_bean_lives.specs.Lives.{classes_named}
+use Rattle.cdi_bean_lives.specs.Steps.{has_few_steps, kept_steps}
 use Rattle.cdi_bean_lives.specs.declared.bean.BeanLife.{BeanLife}
 use Rattle.cdi_bean_lives.specs.declared.kept.KeptBean.{KeptBean}
 use Rattle.cdi_bean_lives.specs.declared.kept.KeptBean.TheVariants as kept_beans
 use Rattle.cdi_bean_lives.specs.declared.kept.KeptBeans.{KeptBeans}
 use Rattle.cdi_beans.specs.declared.bean.Bean.{Bean}
-use Rattle.cdi_class_lives.specs.ClassLives.{fields_of, injections_of, life_of, line_in, method_of}
+use Rattle.cdi_class_lives.specs.ClassLives.{fields_of, life_of, line_in, line_of, method_of}
 use Rattle.cdi_class_lives.specs.declared.lives.ClassLives.{ClassLives}
 use Rattle.cdi_deployment.specs.declared.deployment.Class.{Class}
 use Rattle.cdi_deployment.specs.declared.deployment.Field.{Field}
@@ -15,7 +16,7 @@ use Rattle.cdi_machine.specs.declared.member.Method.{Method}
 use Rattle.cdi_machine.specs.declared.member.Product.{Product}
 use Rattle.cdi_machine.specs.declared.step.Lifecycle.{Lifecycle}
 use Rattle.cdi_machine.specs.declared.step.Step.{Step}
-use Rattle.cdi_numbered_plans.specs.Life.{ManagedLife, NumberedPlan}
+use Rattle.cdi_numbered_plans.specs.Life.{NumberedPlan}
 use Rattle.cdi_numbered_plans.specs.Methods.{AreMethodsBy}
 use Rattle.cdi_numbered_plans.specs.Numbered.{bodies_by, has_few_beans}
 use Rattle.cdi_numbered_plans.specs.Numbers.{has_numbers, numbers_product}
@@ -31,10 +32,6 @@ use Rattle.cdi_plans.specs.declared.plan.Plan.TheVariants as plans
 -- the classes of its line
 abbrev pub kept_line : List Class → ClassLives → BeanLife → List Class
 kept_line classes l life = classes_named classes (line_in l (life_of l life.class))
-
--- the steps by which an instance is created
-abbrev pub kept_steps : ClassLives → BeanLife → List Step
-kept_steps l life = life.first ++ injections_of l life.class ++ life.last
 
 -- its plan
 abbrev pub plan_kept : PlanTables → ClassLives → Bean → KeptBean → Plan
@@ -77,6 +74,18 @@ pub record IsKeptBean (t : PlanTables) (n : Numbering) (l : ClassLives) (b : Bea
       (life : BeanLife) → kept ≡ kept_beans.Managed life
       → fields_of l life.class
       ≡ (managed_plan t.chains (constructor_of t.classes b.class) b (kept_line t.classes l life)).fields
+
+-- the line of its class is kept, if it is a managed bean
+abbrev pub HasLine : ClassLives → KeptBean → Type 0
+HasLine l (kept_beans.Managed life) = IsSome (line_of l life.class)
+HasLine l (kept_beans.Product product) = Unit {0}
+
+-- so it stays by its plan while more classes are kept
+pub record IsKeptWith (t : PlanTables) (n : Numbering) (l : ClassLives) (b : Bean) (kept : KeptBean)
+    : Type 0 where
+  pub by_plan : IsKeptBean t n l b kept
+  pub has_line : HasLine l kept
+  pub few_steps : has_few_steps l kept ≡ true
 
 -- ---- of all beans
 

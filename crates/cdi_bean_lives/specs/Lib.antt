@@ -1,2 +1,5 @@
 pub mod Beans
+pub mod Completed
 pub mod Lives
+pub mod Parts
+pub mod Steps

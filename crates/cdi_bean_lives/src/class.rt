@@ -22,8 +22,8 @@ pub(crate) struct KeptClass {
 }
 
 /// Whether a class has the methods that it inherits in the chains that they have above it.
-fn inherits_methods(planner: &Planner<'_>, class: Name, above: Option<KeptClass>) -> bool
-    ensures { spec.InheritsIf planner.now class above result }
+fn inherits_methods(planner: &Planner<'_>, class: Name, above: &Option<KeptClass>) -> bool
+    ensures { spec.InheritsIf planner.now class above.now result }
 {
     match above {
         Some(above) => planner.have_same_chains(class, above.name),
@@ -50,7 +50,7 @@ pub(crate) fn add_class(
     ensures added { IfOk result (spec.IsClassAdded lives.old above class.now.name lives.new) }
     ensures kept { numbered.AsksNumbered numbering.now lookup.new.now }
 {
-    let inherits = inherits_methods(planner, class.name, above);
+    let inherits = inherits_methods(planner, class.name, &above);
     let own = own_life(alloc, planner, numbering, lookup, class, inherits)?;
     let place = lives.add(alloc, above.map(|above| above.place), inherits, own)?;
     Ok(place)

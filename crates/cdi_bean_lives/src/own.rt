@@ -16,6 +16,7 @@ use cdi_numbered_plans::{Numbering, codes_of, named_methods, steps_of};
 use cdi_planner::Planner;
 use cdi_resolve::Resolver;
 use std::alloc::{AllocError, Global};
+use std::mem;
 
 /// The names of these members.
 fn names_of(alloc: Global, members: &[Member]) -> Result<Seq<Name>, AllocError>
@@ -58,7 +59,7 @@ pub(crate) fn own_life(
         (spec.IsOwnLife planner.now numbering.now class.now inherits_methods) }
     ensures kept { numbered.AsksNumbered numbering.now lookup.new.now }
 {
-    let parts = planner.own_parts(alloc, class)?;
+    let mut parts = planner.own_parts(alloc, class)?;
     let ids = numbering.ids();
     let methods = if inherits_methods {
         named_methods(alloc, ids, parts.methods.as_slice())?
@@ -68,7 +69,7 @@ pub(crate) fn own_life(
     Ok(OwnLife {
         class: class.name,
         declared: names_of(alloc, class.members.as_slice())?,
-        fields: parts.fields,
+        fields: mem::replace(&mut parts.fields, Seq::empty(alloc)),
         injections: steps_of(alloc, numbering, lookup, parts.injections.as_slice())?,
         post_constructs: codes_of(alloc, ids, parts.post_constructs.as_slice())?,
         pre_destroys: codes_of(alloc, ids, parts.pre_destroys.as_slice())?,
