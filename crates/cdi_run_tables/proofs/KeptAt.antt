@@ -1,8 +1,8 @@
 -- What is kept of a bean stands at its index.
-use Rattle.std.proofs.Common.{ℕ, zero, suc, ◌≡◌, ◌∙◌, ◌^◌, ◌<◌, Bool, true, false, cond, nat_lt, List, [], ◌∷◌, Option, Some, None, filter, length, refl, sym, ap, arith}
+use Rattle.std.proofs.Common.{ℕ, zero, suc, ◌≡◌, ◌∙◌, true, List, [], ◌∷◌, refl, sym, ap}
 use Rattle.std.specs.Prelude.{slice_get, ◌&&◌}
-use Rattle.std.specs.List.{AllZip, filter_map, list_all, cons_option}
-use Rattle.std.proofs.lemmas.Bool.{and_from, and_parts, lt-ltb, ltb-true}
+use Rattle.std.specs.List.{AllZip, list_all}
+use Rattle.std.proofs.lemmas.Bool.{and_from}
 use Rattle.cdi_bean_lives.specs.Beans.{numbers_kept}
 use Rattle.cdi_bean_lives.specs.declared.kept.KeptBean.{KeptBean}
 use Rattle.cdi_class_lives.specs.declared.lives.ClassLives.{ClassLives}

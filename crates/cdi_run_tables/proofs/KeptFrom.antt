@@ -1,5 +1,5 @@
 -- What is kept of the beans of a deployment is by their plans.
-use Rattle.std.proofs.Common.{ℕ, ◌≡◌, ◌∙◌, ◌^◌, ◌<◌, ◌≤◌, true, nat_le, nat_lt, List, [], ◌∷◌, Option, Some, None, Result, Ok, Err, length, refl, sym, ap, subst, arith}
+use Rattle.std.proofs.Common.{suc, ◌≡◌, ◌^◌, ◌≤◌, true, nat_le, nat_lt, List, [], ◌∷◌, Option, Some, None, Result, Ok, Err, length, refl, ap, subst, arith}
 use Rattle.std.specs.Prelude.{IfOk}
 use Rattle.std.specs.List.{AllZip, cons_option, filter_map}
 use Rattle.std.specs.declared.alloc.AllocError.{AllocError}
@@ -17,7 +17,6 @@ use Rattle.cdi_numbered_plans.specs.Machine.{first_values}
 use Rattle.cdi_numbered_plans.specs.Methods.{AreMethodsBy}
 use Rattle.cdi_numbered_plans.specs.Numbers.{has_numbers}
 use Rattle.cdi_numbered_plans.specs.declared.numbering.Numbering.{Numbering}
-use Rattle.cdi_plans.specs.declared.plan.ManagedPlan.{ManagedPlan}
 use Rattle.cdi_plans.specs.declared.plan.Plan.{Plan}
 use Rattle.cdi_plans.specs.declared.plan.Plan.TheVariants as plans
 use Rattle.cdi_planner.specs.Tables.{PlanTables}
@@ -28,7 +27,7 @@ use Rattle.cdi_run_tables.proofs.Telling.{numbered_of}
 use Rattle.cdi_run_tables.specs.Index.{IsNumberingOf}
 use Rattle.cdi_run_tables.specs.Kept.{AreBeansOf, AreKept, IsKeptOf}
 use Rattle.cdi_run_tables.specs.Managed.{fields_of, injected, injections_of, managed_of, managed_plan}
-use Rattle.cdi_run_tables.specs.Parts.{PlannedBean, RunParts}
+use Rattle.cdi_run_tables.specs.Parts.{RunParts}
 use Rattle.cdi_run_tables.specs.Planned.{IsPlanned, IsTabled}
 use Rattle.cdi_run_tables.specs.Places.{plan_tables}
 use Rattle.cdi_run_tables.specs.Seen.{parts_seen, planned_bean, planned_beans}
@@ -57,7 +56,7 @@ module _ (t : PlanTables) (l : ClassLives) where
   as_many n [] [] a = refl
   as_many n [] (k ∷ ks) a = absurd a
   as_many n (b ∷ bs) [] a = absurd a
-  as_many n (b ∷ bs) (k ∷ ks) a = ap (λ m. 1 + m) (as_many n bs ks a.1)
+  as_many n (b ∷ bs) (k ∷ ks) a = ap suc (as_many n bs ks a.1)
 
   all_planned : (n : Numbering) (beans : List Bean) (kept : List KeptBean) → AllZip (IsKeptBean t n l) beans kept → AllZip (IsPlanned t) beans (planned_beans t l beans kept)
   all_planned n [] [] a = tt
@@ -114,11 +113,11 @@ module _ (p : KeptParts) (is : AreBeansOf p.deployment p.tables p.ids p.beans) w
   is_tabled made = record { tables = made; planned = all_planned tables l is.n p.tables.resolver.beans p.beans.beans is.are }
 
 -- what was made of the beans, if there was memory
-pub beans_made : (d : Deployment) (t : BeanTables) (ids : BodyIds) (tables : PlanTables) (n : Numbering) (beans : List Bean)
-    → tables ≡ plan_tables d t → n.ids.now ≡ ids → n.names.now ≡ d.names → n.qualifiers.now ≡ t.declared.qualifiers → n.resolver.now ≡ t.resolver
-    → beans ≡ t.resolver.beans → (r : Result KeptBeans AllocError) → IfOk r (AreKeptBeans tables n beans) → IfOk r (λ kept. AreFew tables n)
+pub beans_made : (d : Deployment) (t : BeanTables) (ids : BodyIds) (planner : PlanTables) (n : Numbering) (beans : List Bean)
+    → planner ≡ plan_tables d t → n.ids.now ≡ ids → n.names.now ≡ d.names → n.qualifiers.now ≡ t.declared.qualifiers → n.resolver.now ≡ t.resolver
+    → beans ≡ t.resolver.beans → (r : Result KeptBeans AllocError) → IfOk r (AreKeptBeans planner n beans) → IfOk r (λ kept. AreFew planner n)
     → IfOk r (AreBeansOf d t ids)
-beans_made d t ids tables n beans same ids_are names qualifiers resolver all (Ok kept) are few =
+beans_made d t ids planner n beans same ids_are names qualifiers resolver all (Ok kept) are few =
     record {
       n = n;
       ids_are = ids_are;
@@ -126,6 +125,6 @@ beans_made d t ids tables n beans same ids_are names qualifiers resolver all (Ok
       qualifiers = qualifiers;
       resolver = resolver;
       few = subst (λ (p : PlanTables). AreFew p n) same few;
-      are = subst (λ (p : PlanTables). AreKeptBeans p n t.resolver.beans kept) same (subst (λ bs. AreKeptBeans tables n bs kept) all are);
+      are = subst (λ (p : PlanTables). AreKeptBeans p n t.resolver.beans kept) same (subst (λ bs. AreKeptBeans planner n bs kept) all are);
     }
-beans_made d t ids tables n beans same ids_are names qualifiers resolver all (Err x) are few = tt
+beans_made d t ids planner n beans same ids_are names qualifiers resolver all (Err x) are few = tt

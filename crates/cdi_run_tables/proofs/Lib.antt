@@ -1,6 +1,7 @@
 pub mod Creating
 pub mod Enabled
 pub mod Heard
+pub mod Heads
 pub mod Hearing
 pub mod KeptAt
 pub mod KeptFrom

@@ -21,7 +21,7 @@ use Rattle.cdi_numbered_plans.specs.Life.{NumberedPlan}
 use Rattle.cdi_numbered_plans.specs.Machine.{first_values}
 use Rattle.cdi_numbered_plans.specs.Methods.{method_by}
 use Rattle.cdi_numbered_plans.specs.Numbers.{has_numbers}
-use Rattle.cdi_numbered_plans.specs.Plans.{IsNumberedPlan, IsResolvedIfAny, TellsOf, pre_destroy_in, product_in, steps_in}
+use Rattle.cdi_numbered_plans.specs.Plans.{IsNumberedPlan, IsResolvedIfAny, TellsOf, pre_destroy_in, product_in}
 use Rattle.cdi_numbered_plans.specs.declared.numbering.Numbering.{Numbering}
 use Rattle.cdi_plans.specs.declared.plan.Plan.{Plan}
 use Rattle.cdi_plans.specs.declared.plan.Plan.TheVariants as plan_kinds
@@ -72,7 +72,7 @@ has_numbers_at [] all n = tt
 has_numbers_at (b ∷ bs) all zero = (and_parts (has_numbers b.plan) (list_all (λ (x : PlannedBean). has_numbers x.plan) bs) all).0
 has_numbers_at (b ∷ bs) all (suc n) = has_numbers_at bs (and_parts (has_numbers b.plan) (list_all (λ (x : PlannedBean). has_numbers x.plan) bs) all).1 n
 
-abbrev kind_in : RunParts → Option PlannedBean → Option machine.Kind
+abbrev pub kind_in : RunParts → Option PlannedBean → Option machine.Kind
 kind_in t b = option_map (λ (bean : machine.Bean). bean.kind) (option_and_then (machine_bean (id_in t.ids) t.tables.resolver.beans) b)
 
 module _ (t : RunParts) (l : ClassLives) where

@@ -1,5 +1,5 @@
 -- What is looked up of a deployment in a run.
-use Rattle.std.specs.Prelude.{◌≡◌, true, List, map, Option, Some, None, option_map, slice_get}
+use Rattle.std.specs.Prelude.{◌≡◌, true, List, map, Option, option_map, slice_get}
 use Rattle.std.specs.List.{All, AllZip}
 use Rattle.cdi_beans.specs.declared.bean.EnabledInterceptor.{EnabledInterceptor}
 use Rattle.cdi_body_check.specs.Exceptions.{is_checked}

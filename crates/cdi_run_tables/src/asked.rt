@@ -2,7 +2,7 @@
 ghost use Rattle.std.specs.Prelude.{◌≡◌, true, [], IfOk, IfSome};
 ghost use Rattle.cdi_run_tables.specs.Asked as spec;
 ghost use Rattle.cdi_run_tables.specs.Machine.{resolution_of};
-ghost use Rattle.cdi_run_tables.specs.declared.parts.RunParts.{RunParts as Parts};
+ghost use Rattle.cdi_run_tables.specs.Parts.{RunParts as Parts};
 
 use cdi_base::{Name, Seq, Use};
 use cdi_cache::WrittenQuestion;

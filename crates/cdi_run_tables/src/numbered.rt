@@ -1,9 +1,12 @@
 //! What is asked of a bean in the words of an instance's life.
 ghost use Rattle.std.specs.Prelude.{◌≡◌, length, option_map, slice_get, IfSome, IsTrue};
+ghost use Rattle.std.specs.List.{list_all};
 ghost use Rattle.cdi_machine.specs.Resolved.{IsResolvedProduct, IsResolvedStep};
 ghost use Rattle.cdi_machine.specs.Told.{lifecycle_told, method_told, product_told, step_told};
+ghost use Rattle.cdi_numbered_plans.specs.Numbers.{has_numbers};
 ghost use Rattle.cdi_run_tables.specs.Machine.{bean_at, machine_tables, method_of};
 ghost use Rattle.cdi_run_tables.specs.Numbered as spec;
+ghost use Rattle.cdi_run_tables.specs.Places.{place_of};
 
 use crate::observers::groups_have_numbers;
 use crate::planned::PlacedBean;
@@ -13,15 +16,31 @@ use cdi_base::Name;
 use cdi_machine::{Lifecycle, Method, Product, Step};
 
 impl RunTables {
+    /// Whether what the plans of the beans name has numbers.
+    fn have_numbers(&self) -> bool
+        ensures { result ≡ list_all (λ b. has_numbers b.plan) self.now.beans }
+    {
+        self.parts.beans.have_numbers()
+    }
+
     /// Whether what the plans of the beans and the observers name has numbers of 32 bits: the beans, the steps of each plan, the
     /// interceptors, and the injected fields of each of these.
     pub fn is_numbered(&self) -> bool
         ensures { result ≡ spec.is_numbered self.now }
     {
         self.parts.tables.resolver.beans().len() <= 4_294_967_296
-            && self.parts.beans.have_numbers()
+            && self.have_numbers()
             && have_few_fields(self.parts.deployment.interceptors.as_slice())
             && groups_have_numbers(self.observer_groups())
+    }
+
+    /// Where the bean with an index stands, and its scope, if there is one.
+    fn placed(&self, bean: usize) -> Option<PlacedBean>
+        ensures { option_map spec.head_of result ≡ option_map (λ b. (place_of b, b.scope))
+            (slice_get self.now.tables.resolver.beans bean) }
+    {
+        let bean = self.parts.tables.resolver.beans().get(bean)?;
+        Some(PlacedBean::new(bean))
     }
 
     /// The bean with an index, if instances of it can be made: it is enabled, and a managed bean or a product that one declares. What the
@@ -32,11 +51,14 @@ impl RunTables {
             ≡ option_map (λ b. (b.place, b.scope)) (bean_at self.now bean) }
     {
         let index = bean as usize;
-        if self.is_enabled(index) && self.parts.beans.is_instantiable(index) {
-            let bean = self.parts.tables.resolver.beans().get(index)?;
-            return Some(PlacedBean::new(bean));
+        if !self.is_enabled(index) {
+            return None;
         }
-        None
+        if self.parts.beans.is_instantiable(index) {
+            self.placed(index)
+        } else {
+            None
+        }
     }
 
     /// How many steps create an instance of the bean with an index; for a product, and for a bean that isn't enabled, there are none. They have to be numbered

@@ -41,11 +41,18 @@ impl Drop for RunTables {
 impl Model for RunTables {
     ghost use Rattle.std.specs.Coded.{codes};
     ghost use Rattle.cdi_deployment.specs.contracts.deployment.Deployment as deployments;
+    ghost use Rattle.cdi_event_tables.specs.contracts.ids.BodyIds as body_ids;
+    ghost use Rattle.cdi_resolve.specs.contracts.bean_tables.BeanTables as bean_tables;
     ghost use Rattle.cdi_run_tables.specs.Parts.{RunParts};
 
     ghost Value = { RunParts };
 
-    ghost coded = { Prim.hlevel (codes, deployments.the_row.coded) };
+    ghost coded = { Prim.hlevel (
+      codes,
+      deployments.the_row.coded,
+      bean_tables.the_row.coded,
+      body_ids.the_row.coded,
+    ) };
 
     ghost use Rattle.cdi_run_tables.specs.Kept.{AreRunTables};
     ghost use Rattle.cdi_run_tables.specs.Seen.{parts_seen};

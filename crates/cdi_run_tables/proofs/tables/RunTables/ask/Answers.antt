@@ -1,6 +1,5 @@
 use Rattle.std.proofs.Common.{◌∙◌, sym, ap}
 use Rattle.cdi_run_tables.specs.Asked.{AreTold}
-use Rattle.cdi_run_tables.specs.Index.{IsIndexOf}
 use Rattle.cdi_run_tables.specs.Kept.{AreRunTables}
 use Rattle.cdi_run_tables.specs.Machine.{resolution_of}
 use Rattle.cdi_run_tables.specs.Seen.{parts_seen}

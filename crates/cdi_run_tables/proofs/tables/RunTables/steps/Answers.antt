@@ -15,7 +15,11 @@ overflow_cast-result c =
     record { fits = subst (λ n. n < 2 ^ 32) (sym same) (few_steps t c.requires c.args.bean) }
 
 pub returns-then-is_enabled : goal.returns-then-is_enabled
-returns-then-is_enabled c = ?
+returns-then-is_enabled c =
+    let t = c.args.self.now in
+    let beans = c.self.inside.parts.beans in
+    let told = tells_at c.self.inside.parts c.self.invariant.kept c.args.bean t c.self.view_is (sym c.is_enabled.ensures ∙ c.if-is_enabled.true) c.requires in
+    c.step_count.ensures ∙ sym (length-map (steps_at beans c.args.bean) step_told) ∙ ap length (steps_told (spec.kind_at t c.args.bean) (numbered_at beans c.args.bean) told)
 
 pub returns : goal.returns
 returns c =
