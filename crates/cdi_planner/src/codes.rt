@@ -3,6 +3,7 @@ ghost use Rattle.std.specs.Prelude.{◌≡◌, ◌++◌, ◌∷◌, [], IfOk, On
 ghost use Rattle.std.specs.List.{filter_map};
 ghost use Rattle.cdi_base.specs.declared.place.Place.TheVariants as places;
 ghost use Rattle.cdi_planner.specs.Codes as spec;
+ghost use Rattle.cdi_plans.specs.Chains.{plain_chain};
 
 use crate::copies::copy_points;
 use cdi_base::{InterceptorMethod, Name, Place, Seq};
@@ -131,14 +132,38 @@ pub(crate) fn pre_destroys(
     Ok(callbacks)
 }
 
+/// The chain of a business method of this name of a bean, which the class declares, by that of the methods without bindings of their own.
+fn method_chain(
+    alloc: Global,
+    chains: &Chains,
+    bean: Name,
+    plain: &[usize],
+    class: &Class,
+    name: Name,
+) -> Result<Seq<usize>, AllocError>
+    requires { plain.now ≡ plain_chain chains.now bean }
+    ensures { IfOk result (λ chain. chain ≡ spec.member_chain chains.now bean class.now name) }
+{
+    let member = BeanMember {
+        class: class.name,
+        name,
+    };
+    if chains.is_plain(member) {
+        return Ok(Seq::new(Vec::from_slice(alloc, plain)?));
+    }
+    member_chain(alloc, chains, bean, class, name)
+}
+
 /// Adds a member of a bean, if it is a business method.
 fn add_method(
     alloc: Global,
     chains: &Chains,
     bean: Name,
+    plain: &[usize],
     member: &ClassPart<'_, Member>,
     methods: &mut Seq<BusinessMethod>,
 ) -> Result<(), AllocError>
+    requires { plain.now ≡ plain_chain chains.now bean }
     ensures { OnOk result (methods.new
         ≡ methods.old ++ filter_map (spec.business_method chains.now bean) (member.now ∷ [])) }
 {
@@ -148,7 +173,7 @@ fn add_method(
                 name: method.name,
                 code: member_code(member.class, method.name, method.body),
                 count: method.args,
-                chain: member_chain(alloc, chains, bean, member.class, method.name)?,
+                chain: method_chain(alloc, chains, bean, plain, member.class, method.name)?,
             })?;
             Ok(())
         }
@@ -166,9 +191,10 @@ pub(crate) fn business_methods(
     ensures { IfOk result
         (λ methods. methods ≡ filter_map (spec.business_method chains.now bean) members.now) }
 {
+    let plain = chains.plain_chain(bean).places(alloc)?;
     let mut methods = Seq::empty(alloc);
     for member in members {
-        add_method(alloc, chains, bean, member, &mut methods)?;
+        add_method(alloc, chains, bean, plain.as_slice(), member, &mut methods)?;
     }
     Ok(methods)
 }

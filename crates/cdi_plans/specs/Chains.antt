@@ -62,6 +62,10 @@ abbrev pub invoke_chain : ChainTables → ℕ → BeanMember → List ℕ
 invoke_chain t bean m =
     chain_with methods.AroundInvoke (member_level t m) (class_level t bean) t.interceptors
 
+-- that of a member without bindings of its own
+abbrev pub plain_chain : ChainTables → ℕ → List ℕ
+plain_chain t bean = chain_with methods.AroundInvoke (Some []) (class_level t bean) t.interceptors
+
 -- each member is in the same chain for two beans
 abbrev pub HaveSameChains : ChainTables → ℕ → ℕ → Type 0
 HaveSameChains t bean other = (m : BeanMember) → invoke_chain t bean m ≡ invoke_chain t other m

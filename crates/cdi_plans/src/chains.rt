@@ -1,5 +1,5 @@
 //! The chains of all beans.
-ghost use Rattle.std.specs.Prelude.{◌≡◌, ◌==◌, [], ℕ, position, nat_eq, map, option_map, option_and_then, IfOk, IsTrue};
+ghost use Rattle.std.specs.Prelude.{◌≡◌, ◌==◌, [], Some, ℕ, position, nat_eq, map, option_map, option_and_then, IfOk, IsTrue};
 ghost use Rattle.std.specs.HashMap.{get};
 ghost use Rattle.std.specs.List.{find, list_any};
 ghost use Rattle.std.specs.Option.{option_copied};
@@ -171,6 +171,24 @@ impl Chains {
             self.member_level(member),
             self.class_level(bean),
         )
+    }
+
+    /// Whether the calls of a member are intercepted by the class-level bindings alone: it has none of its own.
+    pub fn is_plain(&self, member: BeanMember) -> bool
+        ensures { IsTrue result → spec.member_level self.now member ≡ Some [] }
+    {
+        match self.member_level(member) {
+            Some(own) => own.is_empty(),
+            None => false,
+        }
+    }
+
+    /// The chain of the members of a bean that have no bindings of their own ([`Chains::is_plain`]).
+    pub fn plain_chain(&self, bean: Name) -> Chain<'_>
+        ensures { result ≡ spec.plain_chain self.now bean }
+    {
+        let interceptors = self.interceptors.as_slice();
+        Chain::of_member(interceptors, Some(&[]), self.class_level(bean))
     }
 
     /// Whether each member is in the same chain for two beans, which are told by their classes: no interceptor is enabled, or both classes
