@@ -14,7 +14,8 @@ place_of types name = position (λ d. d.name == name) types
 abbrev pub graph_of : (ℕ → Option ℕ) → List TypeDeclaration → List (List ℕ)
 graph_of place types = map (λ d. filter_map place (supertypes_of types d.name)) types
 
-pub record IsGraphOf (types : List TypeDeclaration) (index : TypeIndex) (graph : List (List ℕ))
-    : Type 0 where
+pub record IsGraphOf (types : List TypeDeclaration) (index : TypeIndex) (first : List (Option ℕ))
+    (graph : List (List ℕ)) : Type 0 where
   pub places : (name : ℕ) → place_in index name ≡ place_of types name
+  pub firsts : first ≡ map (λ d. place_in index d.name) types
   pub edges : graph ≡ graph_of (place_in index) types

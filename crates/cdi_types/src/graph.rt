@@ -1,5 +1,7 @@
 //! The declared types with the graph of what stands above what.
-ghost use Rattle.std.specs.Prelude.{◌≡◌, ◌↔◌, ℕ, IsTrue, IfOk, MatchBool};
+ghost use Rattle.std.specs.Prelude.{◌≡◌, ◌↔◌, ℕ, Some, map, slice_get, IsTrue, IfOk, MatchBool};
+ghost use Rattle.cdi_types.specs.Index.{place_in};
+ghost use Rattle.cdi_types.specs.declared.declaration.TypeDeclaration.{TypeDeclaration};
 ghost use Rattle.std.specs.List.{list_all};
 
 use crate::declaration::{TypeDeclaration, declarations_of};
@@ -17,6 +19,8 @@ use std::marker::Model;
 pub struct TypeGraph {
     types: Seq<TypeDeclaration>,
     index: TypeIndex,
+    /// Of each declaration the place of the first one of its name.
+    firsts: Seq<Option<usize>>,
     reachability: Reachability,
 }
 
@@ -26,9 +30,25 @@ impl Drop for TypeGraph {
         let Self {
             types: _types,
             index: _index,
+            firsts: _firsts,
             reachability: _reachability,
         } = self;
     }
+}
+
+/// The places of the first declarations of the names of these.
+fn first_places(
+    alloc: Global,
+    index: &TypeIndex,
+    types: &[TypeDeclaration],
+) -> Result<Seq<Option<usize>>, AllocError>
+    ensures { IfOk result (λ firsts. firsts ≡ map (λ d. place_in index.now d.name) types.now) }
+{
+    let mut firsts = Seq::empty(alloc);
+    for declared in types {
+        firsts.push(index.place(declared.name))?;
+    }
+    Ok(firsts)
 }
 
 impl Model for TypeGraph {
@@ -40,7 +60,7 @@ impl Model for TypeGraph {
 
     ghost view = { λ t. t.types };
 
-    ghost invariant = { λ t. IsGraphOf t.types t.index t.reachability };
+    ghost invariant = { λ t. IsGraphOf t.types t.index t.firsts t.reachability };
 }
 
 impl TypeGraph {
@@ -62,10 +82,12 @@ impl TypeGraph {
     {
         let index = TypeIndex::build(alloc, types.as_slice())?;
         let graph = graph_of(alloc, &index, types.as_slice())?;
+        let firsts = first_places(alloc, &index, types.as_slice())?;
         let reachability = Reachability::build(alloc, graph)?;
         Ok(TypeGraph {
             types,
             index,
+            firsts,
             reachability,
         })
     }
@@ -98,14 +120,23 @@ impl TypeGraph {
         name == BuiltIn::Object.name() || self.is_declared(name)
     }
 
-    /// Whether the name that is first declared at a place stands below a declared one, by one step up or more. A name that isn't
-    /// declared has no place, and stands below none.
-    pub(crate) fn is_below_from(&self, place: Option<usize>, above: Name) -> bool
-        ensures { (name : ℕ) → place ≡ nodes.place_of self.now name
-            → (IsTrue result
-            ↔ (IsTrue (spec.is_declared self.now above) × spec.IsBelow self.now name above)) }
+    /// The place of the first declaration of the name that is declared at a place.
+    pub(crate) fn first_place(&self, place: usize) -> Option<usize>
+        ensures { (d : TypeDeclaration) → slice_get self.now place ≡ Some d
+            → result ≡ nodes.place_of self.now d.name }
     {
-        let Some(to) = self.index.place(above) else {
+        *self.firsts.get(place)?
+    }
+
+    /// Whether a name stands below a declared one, by one step up or more, by the places of their first declarations. A name that isn't
+    /// declared has no place, and stands below none.
+    pub(crate) fn is_below_from(&self, place: Option<usize>, above: Option<usize>) -> bool
+        ensures { (name other : ℕ) → place ≡ nodes.place_of self.now name
+            → above ≡ nodes.place_of self.now other
+            → (IsTrue result
+            ↔ (IsTrue (spec.is_declared self.now other) × spec.IsBelow self.now name other)) }
+    {
+        let Some(to) = above else {
             return false;
         };
         let Some(from) = place else {
@@ -119,7 +150,7 @@ impl TypeGraph {
         requires { IsTrue (spec.is_declared self.now above) }
         ensures { IsTrue result ↔ spec.IsBelow self.now name above }
     {
-        self.is_below_from(self.place(name), above)
+        self.is_below_from(self.place(name), self.place(above))
     }
 
     /// Whether a name is its own proper supertype.
