@@ -1,5 +1,6 @@
 //! The declared types with the graph of what stands above what.
 ghost use Rattle.std.specs.Prelude.{◌≡◌, ◌↔◌, ℕ, Some, map, slice_get, IsTrue, IfOk, MatchBool};
+ghost use Rattle.cdi_types.specs.Above.{place_above};
 ghost use Rattle.cdi_types.specs.Index.{place_in};
 ghost use Rattle.cdi_types.specs.declared.declaration.TypeDeclaration.{TypeDeclaration};
 ghost use Rattle.std.specs.List.{list_all};
@@ -21,6 +22,8 @@ pub struct TypeGraph {
     index: TypeIndex,
     /// Of each declaration the place of the first one of its name.
     firsts: Seq<Option<usize>>,
+    /// Of each declaration the place of the first one of its superclass's name.
+    superclasses: Seq<Option<usize>>,
     reachability: Reachability,
 }
 
@@ -31,6 +34,7 @@ impl Drop for TypeGraph {
             types: _types,
             index: _index,
             firsts: _firsts,
+            superclasses: _superclasses,
             reachability: _reachability,
         } = self;
     }
@@ -51,6 +55,28 @@ fn first_places(
     Ok(firsts)
 }
 
+/// The place of the first declaration of the superclass that a declaration names.
+fn superclass_place(index: &TypeIndex, declared: &TypeDeclaration) -> Option<usize>
+    ensures { result ≡ place_above (place_in index.now) declared.now }
+{
+    index.place(declared.superclass?)
+}
+
+/// The places of the first declarations of the superclasses of these.
+fn superclass_places(
+    alloc: Global,
+    index: &TypeIndex,
+    types: &[TypeDeclaration],
+) -> Result<Seq<Option<usize>>, AllocError>
+    ensures { IfOk result (λ places. places ≡ map (place_above (place_in index.now)) types.now) }
+{
+    let mut places = Seq::empty(alloc);
+    for declared in types {
+        places.push(superclass_place(index, declared))?;
+    }
+    Ok(places)
+}
+
 impl Model for TypeGraph {
     ghost use Rattle.std.specs.Prelude.{List};
     ghost use Rattle.cdi_types.specs.declared.declaration.TypeDeclaration.{TypeDeclaration};
@@ -60,7 +86,8 @@ impl Model for TypeGraph {
 
     ghost view = { λ t. t.types };
 
-    ghost invariant = { λ t. IsGraphOf t.types t.index t.firsts t.reachability };
+    ghost invariant = { λ t. IsGraphOf
+        t.types t.index t.firsts t.superclasses t.reachability };
 }
 
 impl TypeGraph {
@@ -83,11 +110,13 @@ impl TypeGraph {
         let index = TypeIndex::build(alloc, types.as_slice())?;
         let graph = graph_of(alloc, &index, types.as_slice())?;
         let firsts = first_places(alloc, &index, types.as_slice())?;
+        let superclasses = superclass_places(alloc, &index, types.as_slice())?;
         let reachability = Reachability::build(alloc, graph)?;
         Ok(TypeGraph {
             types,
             index,
             firsts,
+            superclasses,
             reachability,
         })
     }
@@ -203,11 +232,26 @@ impl TypeGraph {
             .all(|declared| self.knows_above(declared))
     }
 
+    /// The class that a class extends directly, if it names one, by the place of the class's first declaration.
+    pub(crate) fn superclass_from(&self, place: Option<usize>) -> Option<Name>
+        ensures { (name : ℕ) → place ≡ nodes.place_of self.now name
+            → result ≡ superclass_of self.now name }
+    {
+        self.types.get(place?)?.superclass
+    }
+
+    /// The place of the first declaration of that class.
+    pub(crate) fn superclass_place_from(&self, place: Option<usize>) -> Option<usize>
+        ensures { (name above : ℕ) → place ≡ nodes.place_of self.now name
+            → superclass_of self.now name ≡ Some above → result ≡ nodes.place_of self.now above }
+    {
+        *self.superclasses.get(place?)?
+    }
+
     /// The class that a class extends directly, if it names one. Where a name is declared twice, the first declaration counts.
     pub fn superclass_of(&self, name: Name) -> Option<Name>
         ensures { result ≡ superclass_of self.now name }
     {
-        let place = self.place(name)?;
-        self.types.get(place)?.superclass
+        self.superclass_from(self.place(name))
     }
 }

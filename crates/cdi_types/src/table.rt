@@ -143,6 +143,6 @@ impl TypeTable {
     pub fn lineage(&self, alloc: Global, name: Name) -> Result<Seq<Name>, AllocError>
         ensures { IfOk result (λ names. lineage.IsLineage self.now name names) }
     {
-        lineage_of(alloc, &self.graph, name)
+        lineage_of(alloc, &self.graph, name, self.graph.place(name))
     }
 }

@@ -14,5 +14,6 @@ pub invariant_of-result : goal.invariant_of-result
 invariant_of-result c = record {
   places = rw c.as_slice.ensures at c.in_ok-index.ensures;
   firsts = rw c.as_slice-3.ensures at c.in_ok-firsts.ensures;
+  superclasses = rw c.as_slice-4.ensures at c.in_ok-superclasses.ensures;
   edges = c.in_ok-reachability.ensures ∙ (rw c.as_slice-2.ensures at c.in_ok-graph.ensures);
 }
