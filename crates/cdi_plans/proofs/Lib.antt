@@ -1,5 +1,4 @@
 pub mod Bound
 pub mod Places
-mod SameChains
 mod SameQualifiers
 pub mod Some

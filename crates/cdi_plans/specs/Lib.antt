@@ -1,4 +1,3 @@
 pub mod BeanBindings
 pub mod Bindings
 pub mod Chains
-pub mod Meeting

@@ -1,4 +1,3 @@
-pub mod Above
 pub mod Kinds
 pub mod Line
 pub mod Lowest

@@ -86,15 +86,9 @@ impl TypeTable {
         self.graph.is_type(name)
     }
 
-    /// Whether a type is a subtype of another, by the places of their first declarations, if they are declared.
-    fn is_subtype_from(
-        &self,
-        name: Name,
-        place: Option<usize>,
-        above: Name,
-        above_place: Option<usize>,
-    ) -> bool
-        ensures { place ≡ place_of self.now name → above_place ≡ place_of self.now above
+    /// Whether a type, whose first declaration stands at this place, if it is declared, is a subtype of another.
+    fn is_subtype_from(&self, name: Name, place: Option<usize>, above: Name) -> bool
+        ensures { place ≡ place_of self.now name
             → (IsTrue result ↔ spec.IsSubtype self.now name above) }
     {
         if name == above {
@@ -103,15 +97,14 @@ impl TypeTable {
         if above == BuiltIn::Object.name() {
             return true;
         }
-        self.graph.is_below_from(place, above_place)
+        self.graph.is_below_from(place, above)
     }
 
     /// Whether one type is a subtype of another (Jakarta CDI 4.0, *Bean types*).
     pub fn is_subtype(&self, name: Name, above: Name) -> bool
         ensures { IsTrue result ↔ spec.IsSubtype self.now name above }
     {
-        let place = self.graph.place(name);
-        self.is_subtype_from(name, place, above, self.graph.place(above))
+        self.is_subtype_from(name, self.graph.place(name), above)
     }
 
     /// The types that a type is a subtype of, in the order of their declaration, and `Object` behind them. They are the bean types
@@ -122,9 +115,8 @@ impl TypeTable {
     {
         let place = self.graph.place(name);
         let mut found = Seq::empty(alloc);
-        for (index, declared) in self.graph.declarations().iter().enumerate() {
-            let above_place = self.graph.first_place(index);
-            if self.is_subtype_from(name, place, declared.name, above_place) {
+        for declared in self.graph.declarations() {
+            if self.is_subtype_from(name, place, declared.name) {
                 found.push(declared.name)?;
             }
         }
@@ -143,6 +135,6 @@ impl TypeTable {
     pub fn lineage(&self, alloc: Global, name: Name) -> Result<Seq<Name>, AllocError>
         ensures { IfOk result (λ names. lineage.IsLineage self.now name names) }
     {
-        lineage_of(alloc, &self.graph, name, self.graph.place(name))
+        lineage_of(alloc, &self.graph, name)
     }
 }
