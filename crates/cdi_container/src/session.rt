@@ -3,28 +3,57 @@ ghost use Rattle.std.specs.Prelude.{IsTrue, OnOk};
 ghost use Rattle.cdi_lines.specs.Served.{Blames};
 
 use crate::container::Container;
-use cdi_base::{OrMemory, Refusal, Reply};
+use crate::known_lines::KnownLines;
+use crate::left::Unadmitted;
+use cdi_base::{Command, OrMemory, Refusal, Reply};
 use cdi_lines::{MAX_INPUT, Responder, ServeFault, Sink, Source, serve_lines};
 use cdi_machine::Driver;
+use cdi_steps::Job;
 use cdi_text::{JsonReader, read_command, write_reply, write_trace};
 use std::alloc::{AllocError, Global};
 use std::marker::Model;
 
 impl<D: Driver> Container<D> {
-    ghost use Rattle.std.specs.Prelude.{◌≡◌, IfOk, OnErr};
+    ghost use Rattle.std.specs.Prelude.{◌≡◌, IfOk, Ok, OnErr};
     ghost use Rattle.cdi_text.specs.Command.{command_in};
+    ghost use Rattle.cdi_container.specs.Commands.{machine_command};
+    ghost use Rattle.cdi_container.specs.KnownLines.{AreKnown};
     ghost use Rattle.cdi_container.specs.Standing.{SameParts, names_of, state_of, tables_of};
     ghost use Rattle.cdi_container.specs.Sessions.{AnswersRead};
+    ghost use Rattle.cdi_container.specs.Turns.{AdmitsCommand};
 
-    /// The reply to a line, whose command is carried out by turns of so many entries. If memory runs out for reading it, nothing
-    /// changes.
+    /// Admits a command that was read, or refuses it. What its line asks for is kept.
+    fn admit_read(
+        &mut self,
+        known_lines: &mut KnownLines,
+        line: &[u8],
+        command: &Command,
+    ) -> Result<Job, Unadmitted>
+        requires read { command_in line.now ≡ Ok command.now }
+        requires known { AreKnown (names_of self.old) (tables_of self.old) known_lines.old }
+        ensures admits { AdmitsCommand (tables_of self.old) (state_of self.old)
+            (machine_command (names_of self.old) command.now) result (state_of self.new) }
+        ensures same { SameParts
+            (D.legal self.old.runtime.driver) (D.legal self.new.runtime.driver) self.old self.new }
+        ensures known { AreKnown (names_of self.old) (tables_of self.old) known_lines.new }
+    {
+        let admitted = self.admit(command);
+        if let Ok(job) = &admitted {
+            known_lines.keep(self.alloc(), line, job);
+        }
+        admitted
+    }
+
+    /// The reply to a line, whose command is carried out by turns of so many entries. A line that was read lately isn't read anew. If
+    /// memory runs out for reading it, nothing changes.
     fn reply_to(
         &mut self,
-        alloc: Global,
         reader: &mut JsonReader,
+        known_lines: &mut KnownLines,
         line: &[u8],
         slice: u64,
     ) -> Result<Reply, AllocError>
+        requires { AreKnown (names_of self.old) (tables_of self.old) known_lines.old }
         ensures answers { IfOk result (λ reply.
             AnswersRead (names_of self.old) (tables_of self.old)
             (D.legal self.old.runtime.driver) (Unit {0})
@@ -32,12 +61,18 @@ impl<D: Driver> Container<D> {
         ensures same { SameParts
             (D.legal self.old.runtime.driver) (D.legal self.new.runtime.driver) self.old self.new }
         ensures err { OnErr result (self.new ≡ self.old) }
+        ensures known { AreKnown (names_of self.old) (tables_of self.old) known_lines.new }
     {
-        match read_command(alloc, reader, line) {
-            Ok(command) => Ok(self.command_by_turns(&command, slice)),
-            Err(OrMemory::Fault(_)) => Ok(self.refuse(Refusal::BadLine)),
-            Err(OrMemory::Memory) => Err(AllocError),
-        }
+        let alloc = self.alloc();
+        let admitted = match known_lines.find(alloc, line) {
+            Some(job) => self.admit_job(job),
+            None => match read_command(alloc, reader, line) {
+                Ok(command) => self.admit_read(known_lines, line, &command),
+                Err(OrMemory::Fault(_)) => return Ok(self.refuse(Refusal::BadLine)),
+                Err(OrMemory::Memory) => return Err(AllocError),
+            },
+        };
+        Ok(self.carry_out(admitted, slice))
     }
 }
 
@@ -46,6 +81,8 @@ pub struct Session<D: Driver> {
     container: Container<D>,
     /// What reads the lines.
     reader: JsonReader,
+    /// Those that were read lately.
+    known_lines: KnownLines,
     shows_trace: bool,
     /// By turns of so many entries each command is carried out.
     slice: u64,
@@ -57,6 +94,7 @@ impl<D: Driver + Drop> Drop for Session<D> {
         let Self {
             container: _container,
             reader: _reader,
+            known_lines: _known_lines,
             shows_trace: _shows_trace,
             slice: _slice,
         } = self;
@@ -66,7 +104,9 @@ impl<D: Driver + Drop> Drop for Session<D> {
 impl<D: Driver> Model for Session<D> {
     ghost use Rattle.std.specs.Coded.{codes};
     ghost use Rattle.cdi_run_tables.specs.contracts.tables.RunTables as run_tables;
+    ghost use Rattle.cdi_container.specs.KnownLines.{AreKnown};
     ghost use Rattle.cdi_container.specs.Sessions.{SessionParts};
+    ghost use Rattle.cdi_container.specs.Standing.{names_of, tables_of};
 
     ghost Value = { SessionParts D };
 
@@ -77,6 +117,8 @@ impl<D: Driver> Model for Session<D> {
       shows_trace = s.shows_trace;
       slice = s.slice;
     } };
+
+    ghost invariant = { λ s. AreKnown (names_of s.container) (tables_of s.container) s.known_lines };
 }
 
 impl<D: Driver> Responder for Session<D> {
@@ -86,8 +128,8 @@ impl<D: Driver> Responder for Session<D> {
         (D.legal s.container.runtime.driver) (D.legal t.container.runtime.driver) s line text t };
 
     fn answer(&mut self, alloc: Global, line: &[u8]) -> Result<Vec<u8>, AllocError> {
-        let reader = &mut self.reader;
-        let reply = self.container.reply_to(alloc, reader, line, self.slice)?;
+        let (reader, known_lines) = (&mut self.reader, &mut self.known_lines);
+        let reply = self.container.reply_to(reader, known_lines, line, self.slice)?;
         self.text_of(alloc, &reply)
     }
 }
@@ -107,6 +149,7 @@ impl<D: Driver> Session<D> {
         Session {
             container,
             reader: JsonReader::new(alloc),
+            known_lines: KnownLines::new(),
             shows_trace,
             slice,
         }

@@ -73,6 +73,7 @@ fn use_of(
     let used = BeanUse {
         bean_type: names.name_for(bean_type),
         qualifiers: Seq::empty(alloc),
+        resolved: None,
         purpose,
     };
     let used = Box::new(alloc, used)?;
