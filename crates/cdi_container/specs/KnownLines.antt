@@ -18,10 +18,13 @@ pub record Asks (names : List (List ℕ)) (tables : Tables) (line : List ℕ) (j
   pub rightly : JobTellsRightly tables job
 
 abbrev pub IsKnown : List (List ℕ) → Tables → KnownLine → Type 0
-IsKnown names tables known = Asks names tables known.line known.job
+IsKnown names tables known = Asks names tables known.line.items known.job
 
--- so it is with each that is kept
+-- so it is with each of these
+abbrev pub AreAllKnown : List (List ℕ) → Tables → List (ℕ × KnownLine) → Type 0
+AreAllKnown names tables entries =
+    (hash : ℕ) (known : KnownLine) → Contains entries (hash, known) → IsKnown names tables known
+
 abbrev pub AreKnown : List (List ℕ) → Tables → KnownLines → Type 0
 AreKnown names tables kept =
-    IfSome kept.lines (λ lines.
-    (hash : ℕ) (known : KnownLine) → Contains lines.entries (hash, known) → IsKnown names tables known)
+    IfSome kept.lines (λ lines. AreAllKnown names tables lines.entries)

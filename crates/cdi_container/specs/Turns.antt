@@ -55,24 +55,20 @@ pub data IsLeftOf (tables : Tables) (legal : Legal) (s : ContainerState)
   starves : {c : Command} {t : ContainerState} → refusal_in_state (machine_state s) c ≡ None
       → t ≡ after_refusal s → IsLeftOf tables legal s c lefts.Starves t
 
--- a job that isn't refused, of which it is told what the use of a bean resolves to
-pub record IsAdmitted (tables : Tables) (s : ContainerState) (job : Job) : Type 0 where
+-- a job that isn't refused, and tells what the use of a bean resolves to
+pub record CanBegin (tables : Tables) (s : ContainerState) (job : Job) : Type 0 where
   pub unrefused : refusal tables (machine_state s) (command_of job) ≡ None
   pub known : KnownJob tables s.world job
 
 -- A command is admitted as this job, and nothing changes; or all but the trace is as it was, and it is refused, or memory was
 -- wanting.
-pub data AdmitsCommand (tables : Tables) (s : ContainerState) (c : Command)
-    : Result Job Unadmitted → ContainerState → Type 0 where
-  admits : {job : Job} {t : ContainerState} → command_of job ≡ c → IsAdmitted tables s job
-      → JobTellsRightly tables job → t ≡ s
-      → AdmitsCommand tables s c (Ok job) t
-  refuses : {r : Refusal} {t : ContainerState} → refusal tables (machine_state s) c ≡ Some r
-      → t ≡ after_refusal s
-      → AdmitsCommand tables s c (Err (unadmitted.Refused r)) t
-  starves : {t : ContainerState} → refusal_in_state (machine_state s) c ≡ None
-      → t ≡ after_refusal s
-      → AdmitsCommand tables s c (Err unadmitted.Starves) t
+abbrev pub AdmitsCommand : Tables → ContainerState → Command → Result Job Unadmitted → ContainerState → Type 0
+AdmitsCommand tables s c (Ok job) t =
+    (command_of job ≡ c) × CanBegin tables s job × JobTellsRightly tables job × (t ≡ s)
+AdmitsCommand tables s c (Err (unadmitted.Refused r)) t =
+    (refusal tables (machine_state s) c ≡ Some r) × (t ≡ after_refusal s)
+AdmitsCommand tables s c (Err unadmitted.Starves) t =
+    (refusal_in_state (machine_state s) c ≡ None) × (t ≡ after_refusal s)
 
 -- A command is begun, and this is left of it; or it is refused, and all but the trace is as it was.
 abbrev pub BeginsCommand : Tables → Legal → ContainerState → Command

@@ -1,5 +1,5 @@
 //! The container: it carries out commands, one after the other.
-ghost use Rattle.std.specs.Prelude.{◌≡◌, [], None, Some, IfOk, length, map};
+ghost use Rattle.std.specs.Prelude.{◌≡◌, [], None, Some, IfOk, OnOk, length, map};
 ghost use Rattle.std.specs.Option.{is_some};
 ghost use Rattle.cdi_base.specs.Maps.{at};
 ghost use Rattle.cdi_machine.specs.Commands.{task};
@@ -15,7 +15,7 @@ ghost use Rattle.cdi_container.specs.Standing as spec;
 ghost use Rattle.cdi_container.specs.States.{AnswersCommand, CarriesOut, after_refusal, machine_state};
 ghost use Rattle.cdi_container.specs.States.{cause_of, refusal_in_state, without_memory};
 ghost use Rattle.cdi_container.specs.Replies.{reply_of};
-ghost use Rattle.cdi_container.specs.Turns.{AdmitsCommand, BeginsCommand, IsAdmitted, IsLeftOf};
+ghost use Rattle.cdi_container.specs.Turns.{AdmitsCommand, BeginsCommand, CanBegin, IsLeftOf};
 ghost use Rattle.cdi_container.specs.Turns.{KeepsOn, KnownLeft, WritesMost};
 ghost use Rattle.cdi_container.specs.Turns.{busy_refusal, left_in, stack_of, turned_of};
 ghost use Rattle.cdi_base.specs.declared.reply.Reply.TheVariants.{Halted, Refused};
@@ -273,7 +273,7 @@ impl<D: Driver> Container<D> {
 
     /// Begins a job that isn't refused: what is left of it then.
     pub(crate) fn begin_admitted(&mut self, job: Job) -> Left
-        requires { IsAdmitted (spec.tables_of self.old) (spec.state_of self.old) job }
+        requires { CanBegin (spec.tables_of self.old) (spec.state_of self.old) job }
         ensures left { IsLeftOf (spec.tables_of self.old) (D.legal self.old.runtime.driver)
             (spec.state_of self.old) (command_of job) result (spec.state_of self.new) }
         ensures known { KnownLeft (spec.tables_of self.new) (spec.state_of self.new) (Some result) }
@@ -294,6 +294,7 @@ impl<D: Driver> Container<D> {
         requires { JobTellsRightly (spec.tables_of self.old) job }
         ensures admits { AdmitsCommand (spec.tables_of self.old) (spec.state_of self.old)
             (command_of job) result (spec.state_of self.new) }
+        ensures kept { OnOk result (self.new ≡ self.old) }
         ensures same { spec.SameParts
             (D.legal self.old.runtime.driver) (D.legal self.new.runtime.driver) self.old self.new }
     {
@@ -311,6 +312,7 @@ impl<D: Driver> Container<D> {
     pub(crate) fn admit(&mut self, command: &Command) -> Result<Job, Unadmitted>
         ensures admits { AdmitsCommand (spec.tables_of self.old) (spec.state_of self.old)
             (machine_command (spec.names_of self.old) command.now) result (spec.state_of self.new) }
+        ensures kept { OnOk result (self.new ≡ self.old) }
         ensures same { spec.SameParts
             (D.legal self.old.runtime.driver) (D.legal self.new.runtime.driver) self.old self.new }
     {

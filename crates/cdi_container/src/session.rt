@@ -4,7 +4,6 @@ ghost use Rattle.cdi_lines.specs.Served.{Blames};
 
 use crate::container::Container;
 use crate::known_lines::KnownLines;
-use crate::left::Unadmitted;
 use cdi_base::{Command, OrMemory, Refusal, Reply};
 use cdi_lines::{MAX_INPUT, Responder, ServeFault, Sink, Source, serve_lines};
 use cdi_machine::Driver;
@@ -20,28 +19,44 @@ impl<D: Driver> Container<D> {
     ghost use Rattle.cdi_container.specs.KnownLines.{AreKnown};
     ghost use Rattle.cdi_container.specs.Standing.{SameParts, names_of, state_of, tables_of};
     ghost use Rattle.cdi_container.specs.Sessions.{AnswersRead};
-    ghost use Rattle.cdi_container.specs.Turns.{AdmitsCommand};
+    ghost use Rattle.cdi_container.specs.States.{AnswersCommand};
+    ghost use Rattle.cdi_steps.specs.Known.{JobTellsRightly};
+    ghost use Rattle.cdi_steps.specs.Words.{command_of};
 
-    /// Admits a command that was read, or refuses it. What its line asks for is kept.
-    fn admit_read(
+    /// Carries a job out that asks for a command, or refuses it, by turns of so many entries.
+    fn carry_out_known(&mut self, job: Job, slice: u64) -> Reply
+        requires { JobTellsRightly (tables_of self.old) job }
+        ensures answers { AnswersCommand
+            (tables_of self.old) (D.legal self.old.runtime.driver) (Unit {0})
+            (state_of self.old) (command_of job) result (state_of self.new) }
+        ensures same { SameParts
+            (D.legal self.old.runtime.driver) (D.legal self.new.runtime.driver) self.old self.new }
+    {
+        let admitted = self.admit_job(job);
+        self.carry_out_admitted(admitted, slice)
+    }
+
+    /// Carries a command out that was read, or refuses it, by turns of so many entries. What its line asks for is kept.
+    fn carry_out_read(
         &mut self,
         known_lines: &mut KnownLines,
         line: &[u8],
         command: &Command,
-    ) -> Result<Job, Unadmitted>
+        slice: u64,
+    ) -> Reply
         requires read { command_in line.now ≡ Ok command.now }
         requires known { AreKnown (names_of self.old) (tables_of self.old) known_lines.old }
-        ensures admits { AdmitsCommand (tables_of self.old) (state_of self.old)
-            (machine_command (names_of self.old) command.now) result (state_of self.new) }
+        ensures answers { AnswersCommand
+            (tables_of self.old) (D.legal self.old.runtime.driver) (Unit {0})
+            (state_of self.old) (machine_command (names_of self.old) command.now)
+            result (state_of self.new) }
         ensures same { SameParts
             (D.legal self.old.runtime.driver) (D.legal self.new.runtime.driver) self.old self.new }
         ensures known { AreKnown (names_of self.old) (tables_of self.old) known_lines.new }
     {
         let admitted = self.admit(command);
-        if let Ok(job) = &admitted {
-            known_lines.keep(self.alloc(), line, job);
-        }
-        admitted
+        known_lines.keep_admitted(self.alloc(), line, &admitted);
+        self.carry_out_admitted(admitted, slice)
     }
 
     /// The reply to a line, whose command is carried out by turns of so many entries. A line that was read lately isn't read anew. If
@@ -64,15 +79,14 @@ impl<D: Driver> Container<D> {
         ensures known { AreKnown (names_of self.old) (tables_of self.old) known_lines.new }
     {
         let alloc = self.alloc();
-        let admitted = match known_lines.find(alloc, line) {
-            Some(job) => self.admit_job(job),
+        match known_lines.find(alloc, line) {
+            Some(job) => Ok(self.carry_out_known(job, slice)),
             None => match read_command(alloc, reader, line) {
-                Ok(command) => self.admit_read(known_lines, line, &command),
-                Err(OrMemory::Fault(_)) => return Ok(self.refuse(Refusal::BadLine)),
-                Err(OrMemory::Memory) => return Err(AllocError),
+                Ok(command) => Ok(self.carry_out_read(known_lines, line, &command, slice)),
+                Err(OrMemory::Fault(_)) => Ok(self.refuse(Refusal::BadLine)),
+                Err(OrMemory::Memory) => Err(AllocError),
             },
-        };
-        Ok(self.carry_out(admitted, slice))
+        }
     }
 }
 
@@ -128,7 +142,8 @@ impl<D: Driver> Responder for Session<D> {
         (D.legal s.container.runtime.driver) (D.legal t.container.runtime.driver) s line text t };
 
     fn answer(&mut self, alloc: Global, line: &[u8]) -> Result<Vec<u8>, AllocError> {
-        let (reader, known_lines) = (&mut self.reader, &mut self.known_lines);
+        let reader = &mut self.reader;
+        let known_lines = &mut self.known_lines;
         let reply = self.container.reply_to(reader, known_lines, line, self.slice)?;
         self.text_of(alloc, &reply)
     }

@@ -5,7 +5,7 @@ ghost use Rattle.cdi_steps.specs.Words.{command_of};
 ghost use Rattle.cdi_container.specs.Commands.{machine_command};
 ghost use Rattle.cdi_container.specs.Standing.{SameParts, names_of, state_of, tables_of};
 ghost use Rattle.cdi_container.specs.States.{AnswersCommand, ContainerState};
-ghost use Rattle.cdi_container.specs.Turns.{AdmitsCommand, IsAdmitted};
+ghost use Rattle.cdi_container.specs.Turns.{AdmitsCommand, CanBegin};
 
 use crate::container::Container;
 use crate::left::{Progress, Unadmitted};
@@ -16,7 +16,7 @@ use cdi_steps::Job;
 impl<D: Driver> Container<D> {
     /// Carries a job out that isn't refused, by turns of so many entries, of which 0 counts as 1.
     fn carry_out_job(&mut self, job: Job, most: u64) -> Reply
-        requires { IsAdmitted (tables_of self.old) (state_of self.old) job }
+        requires { CanBegin (tables_of self.old) (state_of self.old) job }
         ensures answers { AnswersCommand
             (tables_of self.old) (D.legal self.old.runtime.driver) (Unit {0})
             (state_of self.old) (command_of job) result (state_of self.new) }
@@ -34,8 +34,8 @@ impl<D: Driver> Container<D> {
     }
 
     /// Carries out what a command was admitted as, by turns of so many entries, or tells why it isn't carried out.
-    pub(crate) fn carry_out(&mut self, admitted: Result<Job, Unadmitted>, most: u64) -> Reply
-        requires { IfOk admitted (IsAdmitted (tables_of self.old) (state_of self.old)) }
+    pub(crate) fn carry_out_admitted(&mut self, admitted: Result<Job, Unadmitted>, most: u64) -> Reply
+        requires { IfOk admitted (CanBegin (tables_of self.old) (state_of self.old)) }
         ensures answers { (s : ContainerState) (c : Command)
             → AdmitsCommand (tables_of self.old) s c admitted (state_of self.old)
             → AnswersCommand (tables_of self.old) (D.legal self.old.runtime.driver) (Unit {0})
@@ -61,7 +61,7 @@ impl<D: Driver> Container<D> {
             (D.legal self.old.runtime.driver) (D.legal self.new.runtime.driver) self.old self.new }
     {
         let admitted = self.admit(command);
-        self.carry_out(admitted, most)
+        self.carry_out_admitted(admitted, most)
     }
 
     /// Carries a command out, or refuses it: the first refusal that holds, in the order of [`Refusal`](cdi_base::Refusal). A
