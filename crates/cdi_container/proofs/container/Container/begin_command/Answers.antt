@@ -21,4 +21,8 @@ pub returns-in-Ok-clause-same : goal.returns-in-Ok-clause-same
 returns-in-Ok-clause-same g c = same_then c.admit.ensures.same c.begin_admitted.ensures.same
 
 pub returns-in-Err-Starves-clause-begins : goal.returns-in-Err-Starves-clause-begins
-returns-in-Err-Starves-clause-begins g c = let told = c.in-Err-Starves.ensures.admits in IsLeftOf.starves told.0 told.1
+returns-in-Err-Starves-clause-begins g c =
+    let told = rw c.in-Err-Starves.field-0-is at c.in-Err-Starves.ensures.admits in IsLeftOf.starves told.0 told.1
+
+pub returns-in-Err-Refused-clause-begins : goal.returns-in-Err-Refused-clause-begins
+returns-in-Err-Refused-clause-begins g c = rw c.in-Err-Refused.field-0-is at c.in-Err-Refused.ensures.admits
