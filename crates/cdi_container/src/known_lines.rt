@@ -71,12 +71,7 @@ fn is_line(known: &KnownLine, line: &[u8]) -> bool
 }
 
 /// What a line asks for, if it is the one with a hash and there is memory for a copy.
-fn job_at(
-    alloc: Global,
-    lines: &LruCache<u64, KnownLine>,
-    hash: u64,
-    line: &[u8],
-) -> Option<Job>
+fn job_at(alloc: Global, lines: &LruCache<u64, KnownLine>, hash: u64, line: &[u8]) -> Option<Job>
     ensures { (names : List (List ℕ)) (tables : Tables)
         → spec.AreAllKnown names tables lines.now.entries
         → IfSome result (λ job. spec.Asks names tables line.now job) }

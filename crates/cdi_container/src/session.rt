@@ -144,7 +144,9 @@ impl<D: Driver> Responder for Session<D> {
     fn answer(&mut self, alloc: Global, line: &[u8]) -> Result<Vec<u8>, AllocError> {
         let reader = &mut self.reader;
         let known_lines = &mut self.known_lines;
-        let reply = self.container.reply_to(reader, known_lines, line, self.slice)?;
+        let reply = self
+            .container
+            .reply_to(reader, known_lines, line, self.slice)?;
         self.text_of(alloc, &reply)
     }
 }

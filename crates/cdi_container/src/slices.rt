@@ -34,7 +34,11 @@ impl<D: Driver> Container<D> {
     }
 
     /// Carries out what a command was admitted as, by turns of so many entries, or tells why it isn't carried out.
-    pub(crate) fn carry_out_admitted(&mut self, admitted: Result<Job, Unadmitted>, most: u64) -> Reply
+    pub(crate) fn carry_out_admitted(
+        &mut self,
+        admitted: Result<Job, Unadmitted>,
+        most: u64,
+    ) -> Reply
         requires { IfOk admitted (CanBegin (tables_of self.old) (state_of self.old)) }
         ensures answers { (s : ContainerState) (c : Command)
             → AdmitsCommand (tables_of self.old) s c admitted (state_of self.old)

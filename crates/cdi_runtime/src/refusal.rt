@@ -68,11 +68,7 @@ fn refuses_resolved(
 
 /// What the type and the qualifiers of a use resolve to, if all their names are known. It is remembered, and isn't asked for again
 /// if the use tells it.
-fn resolution_for(
-    alloc: Global,
-    tables: &mut ServedTables,
-    used: &BeanUse,
-) -> Option<Resolution>
+fn resolution_for(alloc: Global, tables: &mut ServedTables, used: &BeanUse) -> Option<Resolution>
     requires { TellsRightly (machine_tables tables.old) used.now }
     ensures told { option_map machine_resolution result
         ≡ known_resolution (machine_tables tables.old) used.now }
