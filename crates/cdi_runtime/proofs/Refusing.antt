@@ -13,9 +13,9 @@ use Rattle.cdi_machine.specs.Container.{idle_state, refusal, refused_by_contexts
 use Rattle.cdi_run_tables.specs.Machine.{machine_tables}
 use Rattle.cdi_run_tables.specs.declared.tables.RunTables.{RunTables}
 use Rattle.cdi_host.specs.Asked.{asked_for, method_at, method_in, product_in, product_of}
-use Rattle.cdi_runtime.specs.Refusals.{method_refusal, read_refusal, bean_refusal, resolved_refusal, use_refusal, contexts_refusal, otherwise}
+use Rattle.cdi_runtime.specs.Refusals.{method_refusal, read_refusal, bean_refusal, known_resolution, resolved_refusal, use_refusal, contexts_refusal, otherwise}
 use Rattle.cdi_runtime.specs.Standing.{IsServable}
-use Rattle.cdi_steps.specs.Known.{KnownJob}
+use Rattle.cdi_steps.specs.Known.{asked_by, KnownJob}
 use Rattle.cdi_steps.specs.Words.{command_of, use_command}
 use Rattle.cdi_steps.specs.declared.task.BeanPurpose.{BeanPurpose}
 use Rattle.cdi_steps.specs.declared.task.BeanPurpose.TheVariants as bean_purposes
@@ -97,6 +97,15 @@ refused_in_order t w halted c e d = rw (e, d) (first_is (refused_by_contexts w.c
 pub use_refused : (t : RunTables) → IsServable t → (request : Option (List ℕ)) (used : BeanUse)
     → first_that_holds (refused_by_tables (machine_tables t) (use_command request (asked_for used.bean_type used.qualifiers) used.purpose)) ≡ use_refusal (machine_tables t) used
 use_refused t h request u = used (machine_tables t) (asked_for u.bean_type u.qualifiers) (h.there (asked_for u.bean_type u.qualifiers)) request u.purpose
+
+-- the use of what its type and qualifiers resolve to, if all names are known
+pub refused_known : (t : machine.Tables) (u : BeanUse) (r : machine.Resolution) → Some r ≡ known_resolution t u → resolved_refusal t r u.purpose ≡ use_refusal t u
+refused_known t u r = by (t.is_known (asked_by u))
+  where
+    by : (known : Bool) → Some r ≡ (if known then Some (t.resolve (asked_by u)) else None)
+        → resolved_refusal t r u.purpose ≡ (if known then resolved_refusal t (t.resolve (asked_by u)) u.purpose else Some refusals.UnknownName)
+    by true e = let same : r ≡ t.resolve (asked_by u) = cc in ap (λ x. resolved_refusal t x u.purpose) same
+    by false e = absurd cc
 
 -- a job that the contexts don't refuse and that uses no bean
 pub known_beside : (t : machine.Tables) (w : World) (job : Job) → contexts_refusal w.contexts (command_of job) ≡ None

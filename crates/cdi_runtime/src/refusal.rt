@@ -73,12 +73,14 @@ fn resolution_for(alloc: Global, tables: &mut ServedTables, used: &BeanUse) -> O
     ensures told { option_map machine_resolution result
         ≡ known_resolution (machine_tables tables.old) used.now }
     ensures kept { tables.new ≡ tables.old }
+    ensures servable { IsServable tables.old }
 {
+    let run_tables = tables.run_tables();
     if let Some(resolution) = used.resolved {
         return Some(resolution);
     }
     let qualifiers = used.qualifiers.as_slice();
-    if !tables.run_tables().is_known(used.bean_type, qualifiers) {
+    if !run_tables.is_known(used.bean_type, qualifiers) {
         return None;
     }
     Some(tables.ask(alloc, used.bean_type, qualifiers))
