@@ -30,11 +30,11 @@ answered_more tables i s t c reply (AnswersCommand.carries_out o e k halts is) =
 answered_more tables i s t c reply (AnswersCommand.lacks_memory x asks e is halts) = AnswersCommand.lacks_memory x asks e is halts
 
 admitted_begins : (tables : Tables) (s t : ContainerState) (c : Command) (r : Result Job Unadmitted) → AdmitsCommand tables s c r t → IfOk r (CanBegin tables t)
-admitted_begins tables s t c (Ok job) told = subst (λ x. CanBegin tables x job) (sym told.1.1.1) told.1.0
+admitted_begins tables s t c (Ok job) told = subst (λ x. CanBegin tables x job) (sym told.3) told.1
 admitted_begins tables s t c (Err (unadmitted.Refused r)) told = tt
 admitted_begins tables s t c (Err unadmitted.Starves) told = tt
 
-module _ {Driving : Type 0} {before after : Legal} {a b : ContainerParts Driving} (same : SameParts before after a b) {c : Command} (r : Result Job Unadmitted) (admits : AdmitsCommand (tables_of a) (state_of a) c r (state_of b)) where
+module _ {Driving : Type 0} {before after : Legal} {a b : ContainerParts Driving} (same : SameParts before after a b) (c : Command) (r : Result Job Unadmitted) (admits : AdmitsCommand (tables_of a) (state_of a) c r (state_of b)) where
   admits_there : AdmitsCommand (tables_of b) (state_of a) c r (state_of b)
   admits_there = subst (λ tables. AdmitsCommand tables (state_of a) c r (state_of b)) (sym same.parts.tables) admits
 
@@ -52,11 +52,11 @@ module _ {Driving : Type 0} {before after : Legal} {a b : ContainerParts Driving
 
 -- a line asks for what its command was admitted as
 pub asked_if : (names : List (List ℕ)) (line : List ℕ) (command : Read) → command_in line ≡ Ok command
-    → {tables : Tables} {s t : ContainerState} (r : Result Job Unadmitted) → AdmitsCommand tables s (machine_command names command) r t
+    → (tables : Tables) (s t : ContainerState) (r : Result Job Unadmitted) → AdmitsCommand tables s (machine_command names command) r t
     → IfOk r (λ job. Asks names tables line job)
-asked_if names line command read (Ok job) told = record { command = command; read = read; asks = told.0; rightly = told.1.1.0 }
-asked_if names line command read (Err (unadmitted.Refused r)) told = tt
-asked_if names line command read (Err unadmitted.Starves) told = tt
+asked_if names line command read tables s t (Ok job) told = record { command = command; read = read; asks = told.0; rightly = told.2 }
+asked_if names line command read tables s t (Err (unadmitted.Refused r)) told = tt
+asked_if names line command read tables s t (Err unadmitted.Starves) told = tt
 
 -- a line is answered as its job is
 pub answers_asked : (names : List (List ℕ)) (tables : Tables) (line : List ℕ) (job : Job) → Asks names tables line job

@@ -1,6 +1,6 @@
 //! Carries commands out by turns, up to their end.
 ghost use Rattle.std.specs.Prelude.{IfOk};
-ghost use Rattle.cdi_machine.specs.Commands.{Command};
+ghost use Rattle.cdi_machine.specs.Commands.{Command as MachineCommand};
 ghost use Rattle.cdi_steps.specs.Words.{command_of};
 ghost use Rattle.cdi_container.specs.Commands.{machine_command};
 ghost use Rattle.cdi_container.specs.Standing.{SameParts, names_of, state_of, tables_of};
@@ -40,7 +40,7 @@ impl<D: Driver> Container<D> {
         most: u64,
     ) -> Reply
         requires { IfOk admitted (CanBegin (tables_of self.old) (state_of self.old)) }
-        ensures answers { (s : ContainerState) (c : Command)
+        ensures answers { (s : ContainerState) (c : MachineCommand)
             → AdmitsCommand (tables_of self.old) s c admitted (state_of self.old)
             → AnswersCommand (tables_of self.old) (D.legal self.old.runtime.driver) (Unit {0})
             s c result (state_of self.new) }

@@ -13,7 +13,7 @@ returns-in-Ok-clause-answers g c = λ s k admits.
     let t = state_of c.carry_out_job.new.self in
     let answers =
     subst (λ x. AnswersCommand (tables_of old) (g.D.Driver.legal old.runtime.driver) (Unit {0}) (state_of old) x c.carry_out_job.result t) told.0 c.carry_out_job.ensures.answers in
-    subst (λ x. AnswersCommand (tables_of old) (g.D.Driver.legal old.runtime.driver) (Unit {0}) x k c.carry_out_job.result t) told.1.1.1 answers
+    subst (λ x. AnswersCommand (tables_of old) (g.D.Driver.legal old.runtime.driver) (Unit {0}) x k c.carry_out_job.result t) told.3 answers
 
 pub returns-in-Err-Refused-clause-answers : goal.returns-in-Err-Refused-clause-answers
 returns-in-Err-Refused-clause-answers g c = λ s k admits.
