@@ -17,11 +17,14 @@ returns-in-Ok-clause-answers g c = λ s k admits.
 
 pub returns-in-Err-Refused-clause-answers : goal.returns-in-Err-Refused-clause-answers
 returns-in-Err-Refused-clause-answers g c = λ s k admits.
-    let told = subst (λ r. AdmitsCommand (tables_of c.args.self.now) s k r (state_of c.args.self.now)) (c.in-Err-Refused.is ∙ ap Err c.in-Err-Refused.field-0-is) admits in
+    let old = c.args.self.now in
+    let first = subst (λ r. AdmitsCommand (tables_of old) s k r (state_of old)) c.in-Err-Refused.is admits in
+    let told = subst (λ why. AdmitsCommand (tables_of old) s k (Err why) (state_of old)) c.in-Err-Refused.field-0-is first in
     refuses c.in-Err-Refused.refusal told.0 refl told.1
 
 pub returns-in-Err-Starves-clause-answers : goal.returns-in-Err-Starves-clause-answers
 returns-in-Err-Starves-clause-answers g c = λ s k admits.
     let old = c.args.self.now in
-    let told = subst (λ r. AdmitsCommand (tables_of old) s k r (state_of old)) (c.in-Err-Starves.is ∙ ap Err c.in-Err-Starves.field-0-is) admits in
+    let first = subst (λ r. AdmitsCommand (tables_of old) s k r (state_of old)) c.in-Err-Starves.is admits in
+    let told = subst (λ why. AdmitsCommand (tables_of old) s k (Err why) (state_of old)) c.in-Err-Starves.field-0-is first in
     starved_answer (tables_of old) (g.D.Driver.legal old.runtime.driver) s (state_of c.starve.new.self) c.starve.result c.starve.ensures.reply (c.starve.ensures.state ∙ ap without_memory told.1) k told.0
