@@ -1,5 +1,5 @@
 //! Carries commands out by turns, up to their end.
-ghost use Rattle.std.specs.Prelude.{IfOk};
+ghost use Rattle.std.specs.Prelude.{Err, IfOk};
 ghost use Rattle.cdi_machine.specs.Commands.{Command as MachineCommand};
 ghost use Rattle.cdi_steps.specs.Words.{command_of};
 ghost use Rattle.cdi_container.specs.Commands.{machine_command};
@@ -33,6 +33,21 @@ impl<D: Driver> Container<D> {
         }
     }
 
+    /// Tells why a command isn't carried out, and halts if memory was wanting for what it asks with.
+    fn answer_unadmitted(&mut self, why: Unadmitted) -> Reply
+        ensures answers { (s : ContainerState) (c : MachineCommand)
+            → AdmitsCommand (tables_of self.old) s c (Err why) (state_of self.old)
+            → AnswersCommand (tables_of self.old) (D.legal self.old.runtime.driver) (Unit {0})
+            s c result (state_of self.new) }
+        ensures same { SameParts
+            (D.legal self.old.runtime.driver) (D.legal self.new.runtime.driver) self.old self.new }
+    {
+        match why {
+            Unadmitted::Refused(refusal) => Reply::Refused(refusal),
+            Unadmitted::Starves => self.starve(),
+        }
+    }
+
     /// Carries out what a command was admitted as, by turns of so many entries, or tells why it isn't carried out.
     pub(crate) fn carry_out_admitted(
         &mut self,
@@ -49,8 +64,7 @@ impl<D: Driver> Container<D> {
     {
         match admitted {
             Ok(job) => self.carry_out_job(job, most),
-            Err(Unadmitted::Refused(refusal)) => Reply::Refused(refusal),
-            Err(Unadmitted::Starves) => self.starve(),
+            Err(why) => self.answer_unadmitted(why),
         }
     }
 
