@@ -1,5 +1,5 @@
 //! What classes have for the lives of their instances.
-ghost use Rattle.std.specs.Prelude.{◌≡◌, ℕ, None, Some, length, slice_get, IfOk, IsTrue};
+ghost use Rattle.std.specs.Prelude.{◌≡◌, ◌↔◌, ℕ, None, Some, length, slice_get, IfOk, IsTrue};
 ghost use Rattle.std.specs.Option.{option_copied};
 ghost use Rattle.cdi_class_lives.specs.Kept.{AreKept, IsKept};
 ghost use Rattle.cdi_class_lives.specs.Lives.{inherited};
@@ -63,7 +63,7 @@ impl ClassLives {
 
     /// Whether a class is kept with this line, the topmost class first.
     pub fn has_line(&self, class: usize, line: &[Name]) -> bool
-        ensures { IsTrue result → spec.line_of self.now class ≡ Some line.now }
+        ensures { IsTrue result ↔ (spec.line_of self.now class ≡ Some line.now) }
     {
         match self.lives.get(class) {
             Some(life) => life.line.as_slice() == line,

@@ -1,6 +1,8 @@
 pub mod Accepting
+pub mod Admitting
 pub mod Faultless
 pub mod Halted
+pub mod KeptLines
 pub mod Replying
 pub mod Refusing
 pub mod Starving

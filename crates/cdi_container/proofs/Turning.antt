@@ -35,7 +35,7 @@ module _ (tables : Tables) {small large : Legal} (i : IsWithin small large) wher
   carried_after a b w u v o steps (CarriesOut.starves x r) =
       CarriesOut.starves x (steps_run tables large (Unit {0}) a b w u steps o v (wider tables small large i (program_of b) u v o r))
 
-  carried_more : (p : Prog Given) (w v : World) (o : Outcome) → CarriesOut tables small (Unit {0}) p w o v → CarriesOut tables large (Unit {0}) p w o v
+  pub carried_more : (p : Prog Given) (w v : World) (o : Outcome) → CarriesOut tables small (Unit {0}) p w o v → CarriesOut tables large (Unit {0}) p w o v
   carried_more p w v o (CarriesOut.ends r) = CarriesOut.ends (wider tables small large i p w v o r)
   carried_more p w v o (CarriesOut.starves x r) = CarriesOut.starves x (wider tables small large i p w v o r)
 

@@ -1,6 +1,7 @@
 pub mod Accepted
 pub mod States
 pub mod Commands
+pub mod KnownLines
 pub mod Standing
 pub mod Sessions
 pub mod Replies

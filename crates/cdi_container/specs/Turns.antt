@@ -12,6 +12,7 @@ use Rattle.cdi_machine.specs.Container.{refusal}
 use Rattle.cdi_machine.specs.Runs.{Legal}
 use Rattle.cdi_machine.specs.Tables.{Tables}
 use Rattle.cdi_machine.specs.World.{at_begin}
+use Rattle.cdi_steps.specs.Known.{JobTellsRightly, KnownJob}
 use Rattle.cdi_steps.specs.Words.{command_of, outcome_of}
 use Rattle.cdi_steps.specs.declared.task.Job.{Job}
 use Rattle.cdi_steps.specs.declared.task.Outcome.{Outcome}
@@ -21,6 +22,8 @@ use Rattle.cdi_container.specs.Standing.{ContainerParts, state_of}
 use Rattle.cdi_container.specs.States.{ContainerState, AnswersCommand, CarriesOut, after_refusal, cause_of, machine_state, refusal_in_state, without_memory}
 use Rattle.cdi_container.specs.declared.left.Left.{Left}
 use Rattle.cdi_container.specs.declared.left.Left.TheVariants as lefts
+use Rattle.cdi_container.specs.declared.left.Unadmitted.{Unadmitted}
+use Rattle.cdi_container.specs.declared.left.Unadmitted.TheVariants as unadmitted
 use Rattle.cdi_container.specs.declared.left.Progress.{Progress}
 use Rattle.cdi_container.specs.declared.left.Progress.TheVariants as progresses
 use Rattle.cdi_container.specs.declared.turns.Turned.{Turned}
@@ -51,6 +54,21 @@ pub data IsLeftOf (tables : Tables) (legal : Legal) (s : ContainerState)
       → IsLeftOf tables legal s Command.Live lefts.Tells t
   starves : {c : Command} {t : ContainerState} → refusal_in_state (machine_state s) c ≡ None
       → t ≡ after_refusal s → IsLeftOf tables legal s c lefts.Starves t
+
+-- a job that isn't refused, and tells what the use of a bean resolves to
+pub record CanBegin (tables : Tables) (s : ContainerState) (job : Job) : Type 0 where
+  pub unrefused : refusal tables (machine_state s) (command_of job) ≡ None
+  pub known : KnownJob tables s.world job
+
+-- A command is admitted as this job, and nothing changes; or all but the trace is as it was, and it is refused, or memory was
+-- wanting.
+abbrev pub AdmitsCommand : Tables → ContainerState → Command → Result Job Unadmitted → ContainerState → Type 0
+AdmitsCommand tables s c (Ok job) t =
+    (command_of job ≡ c) × CanBegin tables s job × JobTellsRightly tables job × (t ≡ s)
+AdmitsCommand tables s c (Err (unadmitted.Refused r)) t =
+    (refusal tables (machine_state s) c ≡ Some r) × (t ≡ after_refusal s)
+AdmitsCommand tables s c (Err unadmitted.Starves) t =
+    (refusal_in_state (machine_state s) c ≡ None) × (t ≡ after_refusal s)
 
 -- A command is begun, and this is left of it; or it is refused, and all but the trace is as it was.
 abbrev pub BeginsCommand : Tables → Legal → ContainerState → Command

@@ -1,11 +1,14 @@
 //! What a command asks for, with the names of a deployment.
-ghost use Rattle.std.specs.Prelude.{◌≡◌, map, IfOk};
+ghost use Rattle.std.specs.Prelude.{◌≡◌, map, IfOk, None};
 ghost use Rattle.std.specs.Option.{option_copied};
 ghost use Rattle.cdi_base.specs.Name.{number_of};
 ghost use Rattle.cdi_container.specs.Commands as spec;
+ghost use Rattle.cdi_machine.specs.Tables.{Tables};
+ghost use Rattle.cdi_steps.specs.Known.{JobTellsRightly};
 ghost use Rattle.cdi_steps.specs.Words.{command_of, use_command};
 ghost use Rattle.cdi_steps.specs.declared.task.BeanPurpose.TheVariants as purposes;
 
+use crate::copies::copy_of;
 use cdi_base::{Command, MemberValue, Names, Seq, Text, Use, Value, WrittenMember, WrittenUse};
 use cdi_steps::{BeanPurpose, BeanUse, Event, Job};
 use std::alloc::{AllocError, Global};
@@ -64,12 +67,14 @@ fn bean_use(
     ensures { IfOk result (λ used. used.value ≡ record {
       bean_type = number_of names.now bean_type.now;
       qualifiers = spec.uses_for names.now qualifiers.now;
+      resolved = None;
       purpose = purpose;
     }) }
 {
     let used = BeanUse {
         bean_type: names.name_for(bean_type.as_str()),
         qualifiers: uses_for(alloc, names, qualifiers)?,
+        resolved: None,
         purpose,
     };
     Ok(Box::new(alloc, used)?)
@@ -118,16 +123,6 @@ pub(crate) fn text_of(name: Option<&Text>) -> Option<&str>
     }
 }
 
-/// A copy of a name, if there is one.
-fn copy_of(name: &Option<Text>) -> Result<Option<Text>, AllocError>
-    ensures { IfOk result (λ copy. copy ≡ name.now) }
-{
-    match name {
-        Some(name) => Ok(Some(name.clone()?)),
-        None => Ok(None),
-    }
-}
-
 /// The use of a bean, in a request or in none.
 fn use_job(
     alloc: Global,
@@ -137,8 +132,9 @@ fn use_job(
     qualifiers: &Seq<WrittenUse>,
     purpose: BeanPurpose,
 ) -> Result<Job, AllocError>
-    ensures { IfOk result (λ job. command_of job ≡ use_command request.now
+    ensures command { IfOk result (λ job. command_of job ≡ use_command request.now
         (spec.asked_in names.now bean_type.now qualifiers.now) purpose) }
+    ensures rightly { IfOk result (λ job. (tables : Tables) → JobTellsRightly tables job) }
 {
     Ok(Job::Use {
         request: copy_of(request)?,
@@ -146,9 +142,11 @@ fn use_job(
     })
 }
 
-/// What a command asks the engine for, with the names of the deployment.
+/// What a command asks the engine for, with the names of the deployment. What the use of a bean resolves to isn't told yet.
 pub(crate) fn job_for(alloc: Global, names: &Names, command: &Command) -> Result<Job, AllocError>
-    ensures { IfOk result (λ job. command_of job ≡ spec.machine_command names.now command.now) }
+    ensures command { IfOk result (λ job.
+        command_of job ≡ spec.machine_command names.now command.now) }
+    ensures rightly { IfOk result (λ job. (tables : Tables) → JobTellsRightly tables job) }
 {
     match command {
         Command::Begin { request, session } => Ok(Job::Begin {

@@ -1,5 +1,5 @@
 //! The container: it carries out commands, one after the other.
-ghost use Rattle.std.specs.Prelude.{◌≡◌, [], None, Some, IfOk, length, map};
+ghost use Rattle.std.specs.Prelude.{◌≡◌, [], None, Some, IfOk, OnOk, length, map};
 ghost use Rattle.std.specs.Option.{is_some};
 ghost use Rattle.cdi_base.specs.Maps.{at};
 ghost use Rattle.cdi_machine.specs.Commands.{task};
@@ -10,17 +10,18 @@ ghost use Rattle.cdi_runtime.specs.Standing.{IsServable};
 ghost use Rattle.cdi_frames.specs.Stacks.{AddsAtMost, KeepsCount, KnownStack, KnownTurn, TurnsTo};
 ghost use Rattle.cdi_steps.specs.Driving.{Drives};
 ghost use Rattle.cdi_steps.specs.Words.{command_of, outcome_of};
-ghost use Rattle.cdi_steps.specs.Known.{KnownJob};
+ghost use Rattle.cdi_steps.specs.Known.{JobTellsRightly, KnownJob};
 ghost use Rattle.cdi_container.specs.Standing as spec;
 ghost use Rattle.cdi_container.specs.States.{AnswersCommand, CarriesOut, after_refusal, machine_state};
 ghost use Rattle.cdi_container.specs.States.{cause_of, refusal_in_state, without_memory};
 ghost use Rattle.cdi_container.specs.Replies.{reply_of};
-ghost use Rattle.cdi_container.specs.Turns.{BeginsCommand, IsLeftOf, KeepsOn, KnownLeft, WritesMost};
+ghost use Rattle.cdi_container.specs.Turns.{AdmitsCommand, BeginsCommand, CanBegin, IsLeftOf};
+ghost use Rattle.cdi_container.specs.Turns.{KeepsOn, KnownLeft, WritesMost};
 ghost use Rattle.cdi_container.specs.Turns.{busy_refusal, left_in, stack_of, turned_of};
 ghost use Rattle.cdi_base.specs.declared.reply.Reply.TheVariants.{Halted, Refused};
 
 use crate::asked::{job_for, text_of};
-use crate::left::{Left, Progress};
+use crate::left::{Left, Progress, Unadmitted};
 use crate::reply::{asks_for_live, cause, has_value, reply_of};
 use cdi_base::{Cause, Command, Entry, Limits, Names, Refusal, Reply, Seq};
 use cdi_frames::run::{run, turn};
@@ -67,7 +68,7 @@ impl<D: Driver> Model for Container<D> {
 
 /// A job begins, with a trace of its own: what is to be done for it.
 fn begun<D: Driver>(runtime: &mut Runtime<D>, job: Job) -> Stack
-    requires { KnownJob runtime.old.world job }
+    requires { KnownJob (spec.tables_in runtime.old) runtime.old.world job }
     ensures stack { result ≡ stack_of job }
     ensures known { KnownStack (spec.tables_in runtime.new) runtime.new.world result }
     ensures begins { runtime.new ≡ record runtime.old { world = at_begin runtime.old.world } }
@@ -99,7 +100,7 @@ fn turn_of<D: Driver>(runtime: &mut Runtime<D>, stack: Stack, most: u64) -> Resu
 
 /// Carries a job out, with a trace of its own. It is cut if memory runs out, and a driver that ends cuts it in the same way.
 fn carry_out<D: Driver>(runtime: &mut Runtime<D>, job: Job) -> Outcome
-    requires { KnownJob runtime.old.world job }
+    requires { KnownJob (spec.tables_in runtime.old) runtime.old.world job }
     ensures carries { CarriesOut
         (spec.tables_in runtime.old) (D.legal runtime.old.driver) (Unit {0})
         (task (command_of job)) (at_begin runtime.old.world) (outcome_of result) runtime.new.world }
@@ -140,6 +141,11 @@ impl<D: Driver> Container<D> {
             halted: cause(&outcome),
             booted: reply_of(false, outcome),
         }
+    }
+
+    /// What it allocates with.
+    pub(crate) fn alloc(&self) -> Global {
+        self.runtime.alloc
     }
 
     /// The names of the deployment.
@@ -204,17 +210,22 @@ impl<D: Driver> Container<D> {
         Reply::Refused(refusal)
     }
 
-    /// Why what a job asks for is refused, if it is.
-    fn refusal(&mut self, job: &Job) -> Option<Refusal>
+    /// Why what a job asks for is refused, if it is. What the use of a bean resolves to is written into the job.
+    fn refusal(&mut self, job: &mut Job) -> Option<Refusal>
+        requires { JobTellsRightly (spec.tables_of self.old) job.old }
         ensures refusal { result ≡ machine_refusal
-            (spec.tables_of self.old) (machine_state (spec.state_of self.old)) (command_of job.now) }
+            (spec.tables_of self.old) (machine_state (spec.state_of self.old)) (command_of job.old) }
+        ensures command { command_of job.new ≡ command_of job.old }
+        ensures rightly { JobTellsRightly (spec.tables_of self.old) job.new }
+        ensures known { result ≡ None → KnownJob
+            (spec.tables_of self.old) (spec.state_of self.old).world job.new }
         ensures kept { self.new ≡ self.old }
     {
         self.runtime.refusal(self.halted.is_some(), job)
     }
 
     /// Halts, since memory is wanting for what a command asks with: nothing of it was carried out.
-    fn starve(&mut self) -> Reply
+    pub(crate) fn starve(&mut self) -> Reply
         ensures reply { result ≡ Halted Cause.Memory }
         ensures state { spec.state_of self.new ≡ without_memory (spec.state_of self.old) }
         ensures same { spec.SameParts
@@ -261,10 +272,8 @@ impl<D: Driver> Container<D> {
     }
 
     /// Begins a job that isn't refused: what is left of it then.
-    fn begin_admitted(&mut self, job: Job) -> Left
-        requires { machine_refusal
-            (spec.tables_of self.old) (machine_state (spec.state_of self.old)) (command_of job)
-            ≡ None }
+    pub(crate) fn begin_admitted(&mut self, job: Job) -> Left
+        requires { CanBegin (spec.tables_of self.old) (spec.state_of self.old) job }
         ensures left { IsLeftOf (spec.tables_of self.old) (D.legal self.old.runtime.driver)
             (spec.state_of self.old) (command_of job) result (spec.state_of self.new) }
         ensures known { KnownLeft (spec.tables_of self.new) (spec.state_of self.new) (Some result) }
@@ -280,21 +289,45 @@ impl<D: Driver> Container<D> {
         Left::Runs(stack, is_valued)
     }
 
-    /// Begins a job, or refuses it.
-    fn begin_job(&mut self, job: Job) -> Result<Left, Refusal>
-        ensures begins { BeginsCommand (spec.tables_of self.old) (D.legal self.old.runtime.driver)
-            (spec.state_of self.old) (command_of job) result (spec.state_of self.new) }
-        ensures known { IfOk result (λ left.
-            KnownLeft (spec.tables_of self.new) (spec.state_of self.new) (Some left)) }
+    /// Admits a job, or refuses it. Of one that is admitted, what the use of a bean resolves to is told.
+    pub(crate) fn admit_job(&mut self, job: Job) -> Result<Job, Unadmitted>
+        requires { JobTellsRightly (spec.tables_of self.old) job }
+        ensures admits { AdmitsCommand (spec.tables_of self.old) (spec.state_of self.old)
+            (command_of job) result (spec.state_of self.new) }
+        ensures kept { OnOk result (self.new ≡ self.old) }
         ensures same { spec.SameParts
             (D.legal self.old.runtime.driver) (D.legal self.new.runtime.driver) self.old self.new }
     {
-        match self.refusal(&job) {
+        let mut job = job;
+        match self.refusal(&mut job) {
             Some(refusal) => {
                 self.forget();
-                Err(refusal)
+                Err(Unadmitted::Refused(refusal))
             }
-            None => Ok(self.begin_admitted(job)),
+            None => Ok(job),
+        }
+    }
+
+    /// Admits a command, or refuses it: what it asks for then.
+    pub(crate) fn admit(&mut self, command: &Command) -> Result<Job, Unadmitted>
+        ensures admits { AdmitsCommand (spec.tables_of self.old) (spec.state_of self.old)
+            (machine_command (spec.names_of self.old) command.now) result (spec.state_of self.new) }
+        ensures kept { OnOk result (self.new ≡ self.old) }
+        ensures same { spec.SameParts
+            (D.legal self.old.runtime.driver) (D.legal self.new.runtime.driver) self.old self.new }
+    {
+        match self.refusal_in_state(command) {
+            Some(refusal) => {
+                self.forget();
+                Err(Unadmitted::Refused(refusal))
+            }
+            None => match job_for(self.runtime.alloc, self.names(), command) {
+                Ok(job) => self.admit_job(job),
+                Err(_) => {
+                    self.forget();
+                    Err(Unadmitted::Starves)
+                }
+            },
         }
     }
 
@@ -308,18 +341,10 @@ impl<D: Driver> Container<D> {
         ensures same { spec.SameParts
             (D.legal self.old.runtime.driver) (D.legal self.new.runtime.driver) self.old self.new }
     {
-        match self.refusal_in_state(command) {
-            Some(refusal) => {
-                self.forget();
-                Err(refusal)
-            }
-            None => match job_for(self.runtime.alloc, self.names(), command) {
-                Ok(job) => self.begin_job(job),
-                Err(_) => {
-                    self.forget();
-                    Ok(Left::Starves)
-                }
-            },
+        match self.admit(command) {
+            Ok(job) => Ok(self.begin_admitted(job)),
+            Err(Unadmitted::Refused(refusal)) => Err(refusal),
+            Err(Unadmitted::Starves) => Ok(Left::Starves),
         }
     }
 

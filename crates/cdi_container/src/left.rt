@@ -1,9 +1,18 @@
 //! What is left of a command that was started.
 ghost use Rattle.std.specs.Prelude.{◌≡◌};
 
-use cdi_base::Reply;
+use cdi_base::{Refusal, Reply};
 use cdi_frames::stack::Stack;
 use std::marker::Model;
+
+/// Why a command isn't carried out.
+#[derive(Drop)]
+pub enum Unadmitted {
+    /// It is refused.
+    Refused(Refusal),
+    /// Memory was wanting for what it asks with.
+    Starves,
+}
 
 /// What is left of a command that was started, and how it is answered in the end.
 #[derive(Drop)]

@@ -4,6 +4,8 @@
 mod acceptance;
 mod asked;
 mod container;
+mod copies;
+pub mod known_lines;
 pub mod laws;
 pub mod left;
 mod reply;

@@ -3,28 +3,72 @@ ghost use Rattle.std.specs.Prelude.{IsTrue, OnOk};
 ghost use Rattle.cdi_lines.specs.Served.{Blames};
 
 use crate::container::Container;
-use cdi_base::{OrMemory, Refusal, Reply};
+use crate::known_lines::KnownLines;
+use cdi_base::{Command, OrMemory, Refusal, Reply};
 use cdi_lines::{MAX_INPUT, Responder, ServeFault, Sink, Source, serve_lines};
 use cdi_machine::Driver;
+use cdi_steps::Job;
 use cdi_text::{JsonReader, read_command, write_reply, write_trace};
 use std::alloc::{AllocError, Global};
 use std::marker::Model;
 
 impl<D: Driver> Container<D> {
-    ghost use Rattle.std.specs.Prelude.{◌≡◌, IfOk, OnErr};
+    ghost use Rattle.std.specs.Prelude.{◌≡◌, IfOk, Ok, OnErr};
     ghost use Rattle.cdi_text.specs.Command.{command_in};
+    ghost use Rattle.cdi_container.specs.Commands.{machine_command};
+    ghost use Rattle.cdi_container.specs.KnownLines.{AreKnown};
     ghost use Rattle.cdi_container.specs.Standing.{SameParts, names_of, state_of, tables_of};
     ghost use Rattle.cdi_container.specs.Sessions.{AnswersRead};
+    ghost use Rattle.cdi_container.specs.States.{AnswersCommand};
+    ghost use Rattle.cdi_steps.specs.Known.{JobTellsRightly};
+    ghost use Rattle.cdi_steps.specs.Words.{command_of};
 
-    /// The reply to a line, whose command is carried out by turns of so many entries. If memory runs out for reading it, nothing
-    /// changes.
+    /// Carries a job out that asks for a command, or refuses it, by turns of so many entries.
+    fn carry_out_known(&mut self, job: Job, slice: u64) -> Reply
+        requires { JobTellsRightly (tables_of self.old) job }
+        ensures answers { AnswersCommand
+            (tables_of self.old) (D.legal self.old.runtime.driver) (Unit {0})
+            (state_of self.old) (command_of job) result (state_of self.new) }
+        ensures same { SameParts
+            (D.legal self.old.runtime.driver) (D.legal self.new.runtime.driver) self.old self.new }
+    {
+        let admitted = self.admit_job(job);
+        self.carry_out_admitted(admitted, slice)
+    }
+
+    /// Carries a command out that was read, or refuses it, by turns of so many entries. What its line asks for is kept.
+    fn carry_out_read(
+        &mut self,
+        known_lines: &mut KnownLines,
+        line: &[u8],
+        command: &Command,
+        slice: u64,
+    ) -> Reply
+        requires read { command_in line.now ≡ Ok command.now }
+        requires known { AreKnown (names_of self.old) (tables_of self.old) known_lines.old }
+        ensures answers { AnswersCommand
+            (tables_of self.old) (D.legal self.old.runtime.driver) (Unit {0})
+            (state_of self.old) (machine_command (names_of self.old) command.now)
+            result (state_of self.new) }
+        ensures same { SameParts
+            (D.legal self.old.runtime.driver) (D.legal self.new.runtime.driver) self.old self.new }
+        ensures known { AreKnown (names_of self.old) (tables_of self.old) known_lines.new }
+    {
+        let admitted = self.admit(command);
+        known_lines.keep_admitted(self.alloc(), line, &admitted);
+        self.carry_out_admitted(admitted, slice)
+    }
+
+    /// The reply to a line, whose command is carried out by turns of so many entries. A line that was read lately isn't read anew. If
+    /// memory runs out for reading it, nothing changes.
     fn reply_to(
         &mut self,
-        alloc: Global,
         reader: &mut JsonReader,
+        known_lines: &mut KnownLines,
         line: &[u8],
         slice: u64,
     ) -> Result<Reply, AllocError>
+        requires { AreKnown (names_of self.old) (tables_of self.old) known_lines.old }
         ensures answers { IfOk result (λ reply.
             AnswersRead (names_of self.old) (tables_of self.old)
             (D.legal self.old.runtime.driver) (Unit {0})
@@ -32,11 +76,16 @@ impl<D: Driver> Container<D> {
         ensures same { SameParts
             (D.legal self.old.runtime.driver) (D.legal self.new.runtime.driver) self.old self.new }
         ensures err { OnErr result (self.new ≡ self.old) }
+        ensures known { AreKnown (names_of self.old) (tables_of self.old) known_lines.new }
     {
-        match read_command(alloc, reader, line) {
-            Ok(command) => Ok(self.command_by_turns(&command, slice)),
-            Err(OrMemory::Fault(_)) => Ok(self.refuse(Refusal::BadLine)),
-            Err(OrMemory::Memory) => Err(AllocError),
+        let alloc = self.alloc();
+        match known_lines.find(alloc, line) {
+            Some(job) => Ok(self.carry_out_known(job, slice)),
+            None => match read_command(alloc, reader, line) {
+                Ok(command) => Ok(self.carry_out_read(known_lines, line, &command, slice)),
+                Err(OrMemory::Fault(_)) => Ok(self.refuse(Refusal::BadLine)),
+                Err(OrMemory::Memory) => Err(AllocError),
+            },
         }
     }
 }
@@ -46,6 +95,8 @@ pub struct Session<D: Driver> {
     container: Container<D>,
     /// What reads the lines.
     reader: JsonReader,
+    /// Those that were read lately.
+    known_lines: KnownLines,
     shows_trace: bool,
     /// By turns of so many entries each command is carried out.
     slice: u64,
@@ -57,6 +108,7 @@ impl<D: Driver + Drop> Drop for Session<D> {
         let Self {
             container: _container,
             reader: _reader,
+            known_lines: _known_lines,
             shows_trace: _shows_trace,
             slice: _slice,
         } = self;
@@ -66,7 +118,9 @@ impl<D: Driver + Drop> Drop for Session<D> {
 impl<D: Driver> Model for Session<D> {
     ghost use Rattle.std.specs.Coded.{codes};
     ghost use Rattle.cdi_run_tables.specs.contracts.tables.RunTables as run_tables;
+    ghost use Rattle.cdi_container.specs.KnownLines.{AreKnown};
     ghost use Rattle.cdi_container.specs.Sessions.{SessionParts};
+    ghost use Rattle.cdi_container.specs.Standing.{names_of, tables_of};
 
     ghost Value = { SessionParts D };
 
@@ -77,6 +131,8 @@ impl<D: Driver> Model for Session<D> {
       shows_trace = s.shows_trace;
       slice = s.slice;
     } };
+
+    ghost invariant = { λ s. AreKnown (names_of s.container) (tables_of s.container) s.known_lines };
 }
 
 impl<D: Driver> Responder for Session<D> {
@@ -87,7 +143,10 @@ impl<D: Driver> Responder for Session<D> {
 
     fn answer(&mut self, alloc: Global, line: &[u8]) -> Result<Vec<u8>, AllocError> {
         let reader = &mut self.reader;
-        let reply = self.container.reply_to(alloc, reader, line, self.slice)?;
+        let known_lines = &mut self.known_lines;
+        let reply = self
+            .container
+            .reply_to(reader, known_lines, line, self.slice)?;
         self.text_of(alloc, &reply)
     }
 }
@@ -107,6 +166,7 @@ impl<D: Driver> Session<D> {
         Session {
             container,
             reader: JsonReader::new(alloc),
+            known_lines: KnownLines::new(),
             shows_trace,
             slice,
         }

@@ -1,4 +1,5 @@
 pub mod Bound
 pub mod Places
+mod SameChains
 mod SameQualifiers
 pub mod Some

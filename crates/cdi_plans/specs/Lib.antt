@@ -1,3 +1,4 @@
 pub mod BeanBindings
 pub mod Bindings
 pub mod Chains
+pub mod Meeting

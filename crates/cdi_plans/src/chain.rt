@@ -52,7 +52,7 @@ fn names_type(own: &[Qualifier], other: &Qualifier) -> bool
 }
 
 /// Whether one of some bindings is a required one.
-fn have(own: &[Qualifier], required: &Qualifier) -> bool
+pub(crate) fn have(own: &[Qualifier], required: &Qualifier) -> bool
     ensures { result ≡ has own.now required.now }
 {
     own.iter().any(|binding| required.same_binding(binding))

@@ -1,16 +1,17 @@
 //! The chains of all beans.
 ghost use Rattle.std.specs.Prelude.{◌≡◌, ◌==◌, [], Some, ℕ, position, nat_eq, map, option_map, option_and_then, IfOk, IsTrue};
 ghost use Rattle.std.specs.HashMap.{get};
-ghost use Rattle.std.specs.List.{find, list_any};
+ghost use Rattle.std.specs.List.{find, list_all, list_any};
 ghost use Rattle.std.specs.Option.{option_copied};
 ghost use Rattle.cdi_beans.specs.declared.bean.EnabledInterceptor.{EnabledInterceptor as Enabled};
 ghost use Rattle.cdi_plans.specs.BeanBindings as gathered;
 ghost use Rattle.cdi_plans.specs.Bindings.{class_bindings};
 ghost use Rattle.cdi_plans.specs.Chains as spec;
+ghost use Rattle.cdi_plans.specs.Meeting as meeting;
 
 use crate::bean_bindings::{BeanBindings, stands_in_lifecycle};
 use crate::bindings::{ClassBindings, MemberBindings, bindings_of_classes};
-use crate::chain::{Chain, is_bound};
+use crate::chain::{Chain, have, is_bound};
 use cdi_base::{InterceptorMethod, Name, Seq};
 use cdi_beans::{Bean, BeanMember, EnabledInterceptor};
 use cdi_deployment::Deployment;
@@ -106,6 +107,41 @@ fn is_some_bound_to(
     ))
 }
 
+/// Whether both of these class-level bindings meet a required one, or neither do.
+fn meet_both(some: &[Qualifier], others: &[Qualifier], required: &Qualifier) -> bool
+    ensures { result ≡ meeting.meet_both some.now others.now required.now }
+{
+    if have(some, required) {
+        have(others, required)
+    } else {
+        !have(others, required)
+    }
+}
+
+/// Whether both of these class-level bindings meet the same bindings of an interceptor.
+fn meet_same(some: &[Qualifier], others: &[Qualifier], interceptor: &EnabledInterceptor) -> bool
+    ensures { result ≡ meeting.meet_same some.now others.now interceptor.now }
+{
+    interceptor
+        .bindings
+        .as_slice()
+        .iter()
+        .all(|required| meet_both(some, others, required))
+}
+
+/// Whether they do of each of some interceptors.
+fn meet_same_of_all(
+    some: &[Qualifier],
+    others: &[Qualifier],
+    interceptors: &[EnabledInterceptor],
+) -> bool
+    ensures { result ≡ list_all (meeting.meet_same some.now others.now) interceptors.now }
+{
+    interceptors
+        .iter()
+        .all(|interceptor| meet_same(some, others, interceptor))
+}
+
 impl Chains {
     /// The chains of the beans of a deployment, with the types of its bindings and its enabled interceptors in their order.
     pub fn build(
@@ -191,12 +227,14 @@ impl Chains {
         Chain::of_member(interceptors, Some(&[]), self.class_level(bean))
     }
 
-    /// Whether each member is in the same chain for two beans, which are told by their classes: no interceptor is enabled, or both classes
-    /// have the same class-level bindings. It doesn't look for other reasons.
+    /// Whether each member is in the same chain for two beans, which are told by their classes: both classes have the same class-level
+    /// bindings, or meet the same bindings of the enabled interceptors by theirs. It doesn't look for other reasons.
     pub fn have_same_chains(&self, bean: Name, other: Name) -> bool
         ensures { IsTrue result → spec.HaveSameChains self.now bean other }
     {
-        self.interceptors.is_empty() || self.class_level(bean) == self.class_level(other)
+        let of_bean = self.class_level(bean);
+        let of_other = self.class_level(other);
+        of_bean == of_other || meet_same_of_all(of_bean, of_other, self.interceptors.as_slice())
     }
 
     /// The chain round the construction of a bean, or round its post-construct or pre-destroy callbacks (Jakarta Interceptors 2.1,

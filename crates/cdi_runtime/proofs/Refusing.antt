@@ -1,5 +1,6 @@
 -- What is refused is so as the machine's definition has it.
 use Rattle.std.proofs.Common.{ℕ, ◌≡◌, ◌++◌, [], ◌∷◌, List, Option, Some, None, IsSome, Bool, true, false, length, refl, ap, sym}
+use Rattle.std.specs.Global.{Box}
 use Rattle.std.specs.Prelude.{option_map, option_and_then, not, if◌then◌else◌}
 use Rattle.cdi_base.specs.declared.reply.Refusal.{Refusal}
 use Rattle.cdi_base.specs.declared.reply.Refusal.TheVariants as refusals
@@ -12,9 +13,9 @@ use Rattle.cdi_machine.specs.Container.{idle_state, refusal, refused_by_contexts
 use Rattle.cdi_run_tables.specs.Machine.{machine_tables}
 use Rattle.cdi_run_tables.specs.declared.tables.RunTables.{RunTables}
 use Rattle.cdi_host.specs.Asked.{asked_for, method_at, method_in, product_in, product_of}
-use Rattle.cdi_runtime.specs.Refusals.{method_refusal, read_refusal, bean_refusal, resolved_refusal, use_refusal, contexts_refusal, otherwise}
+use Rattle.cdi_runtime.specs.Refusals.{method_refusal, read_refusal, bean_refusal, known_resolution, resolved_refusal, use_refusal, contexts_refusal, otherwise}
 use Rattle.cdi_runtime.specs.Standing.{IsServable}
-use Rattle.cdi_steps.specs.Known.{KnownJob}
+use Rattle.cdi_steps.specs.Known.{asked_by, KnownJob}
 use Rattle.cdi_steps.specs.Words.{command_of, use_command}
 use Rattle.cdi_steps.specs.declared.task.BeanPurpose.{BeanPurpose}
 use Rattle.cdi_steps.specs.declared.task.BeanPurpose.TheVariants as bean_purposes
@@ -97,20 +98,23 @@ pub use_refused : (t : RunTables) → IsServable t → (request : Option (List �
     → first_that_holds (refused_by_tables (machine_tables t) (use_command request (asked_for used.bean_type used.qualifiers) used.purpose)) ≡ use_refusal (machine_tables t) used
 use_refused t h request u = used (machine_tables t) (asked_for u.bean_type u.qualifiers) (h.there (asked_for u.bean_type u.qualifiers)) request u.purpose
 
--- what isn't refused can be carried out
-pub admitted : (t : machine.Tables) (w : World) (halted : Bool) (job : Job) → refusal t (idle_state w halted) (command_of job) ≡ None → KnownJob w job
-admitted t w halted (jobs.Begin r s) e = by halted w.down e
+-- the use of what its type and qualifiers resolve to, if all names are known
+pub refused_known : (t : machine.Tables) (u : BeanUse) (r : machine.Resolution) → Some r ≡ known_resolution t u → resolved_refusal t r u.purpose ≡ use_refusal t u
+refused_known t u r = by (t.is_known (asked_by u))
   where
-    by : (h d : Bool)
-        → first_that_holds ((h, refusals.Halted) ∷ (d, refusals.Down) ∷ (false, refusals.Busy) ∷ begin_refusals w.contexts r s ++ []) ≡ None
-        → begin_refusal w.contexts r s ≡ None
-    by true d e = absurd cc
-    by false true e = absurd cc
-    by false false e = e
-admitted t w halted jobs.Boot e = tt
-admitted t w halted (jobs.End r) e = tt
-admitted t w halted (jobs.Invalidate s) e = tt
-admitted t w halted (jobs.Use r u) e = tt
-admitted t w halted (jobs.Fire r event) e = tt
-admitted t w halted jobs.Live e = tt
-admitted t w halted jobs.Shutdown e = tt
+    by : (known : Bool) → Some r ≡ (if known then Some (t.resolve (asked_by u)) else None)
+        → resolved_refusal t r u.purpose ≡ (if known then resolved_refusal t (t.resolve (asked_by u)) u.purpose else Some refusals.UnknownName)
+    by true e = let same : r ≡ t.resolve (asked_by u) = cc in ap (λ x. resolved_refusal t x u.purpose) same
+    by false e = absurd cc
+
+-- a job that the contexts don't refuse and that uses no bean
+pub known_beside : (t : machine.Tables) (w : World) (job : Job) → contexts_refusal w.contexts (command_of job) ≡ None
+    → ((r : Option (List ℕ)) (u : Box BeanUse) → job ≡ jobs.Use r u → ⊥) → KnownJob t w job
+known_beside t w (jobs.Begin r s) e not_use = e
+known_beside t w jobs.Boot e not_use = tt
+known_beside t w (jobs.End r) e not_use = tt
+known_beside t w (jobs.Invalidate s) e not_use = tt
+known_beside t w (jobs.Use r u) e not_use = absurd (not_use r u refl)
+known_beside t w (jobs.Fire r event) e not_use = tt
+known_beside t w jobs.Live e not_use = tt
+known_beside t w jobs.Shutdown e not_use = tt

@@ -5,10 +5,11 @@ use Rattle.cdi_base.specs.declared.reply.Refusal.TheVariants as refusals
 use Rattle.cdi_base.specs.declared.uses.Use.{Use}
 use Rattle.cdi_contexts.specs.Contexts.{Contexts}
 use Rattle.cdi_contexts.specs.Refusals.{first_that_holds}
-use Rattle.cdi_host.specs.Asked.{asked_for, method_at, product_of}
+use Rattle.cdi_host.specs.Asked.{method_at, product_of}
 use Rattle.cdi_machine.specs.Tables.{Tables, Method, Product, Resolution, One}
 use Rattle.cdi_machine.specs.Commands.{Command}
 use Rattle.cdi_machine.specs.Container.{no_method, refused_by_contexts, wrong_count}
+use Rattle.cdi_steps.specs.Known.{asked_by}
 use Rattle.cdi_steps.specs.declared.task.BeanPurpose.{BeanPurpose}
 use Rattle.cdi_steps.specs.declared.task.BeanPurpose.TheVariants.{Call, Read}
 use Rattle.cdi_steps.specs.declared.task.BeanUse.{BeanUse}
@@ -34,11 +35,16 @@ abbrev pub resolved_refusal : Tables → Resolution → BeanPurpose → Option R
 resolved_refusal t (One b) purpose = bean_refusal t b purpose
 resolved_refusal t _ purpose = None
 
+-- what a use resolves to, if all its names are known
+abbrev pub known_resolution : Tables → BeanUse → Option Resolution
+known_resolution t used =
+    if t.is_known (asked_by used) then Some (t.resolve (asked_by used)) else None
+
 -- the use of what a type and qualifiers resolve to
 abbrev pub use_refusal : Tables → BeanUse → Option Refusal
 use_refusal t used =
-    if t.is_known (asked_for used.bean_type used.qualifiers)
-    then resolved_refusal t (t.resolve (asked_for used.bean_type used.qualifiers)) used.purpose
+    if t.is_known (asked_by used)
+    then resolved_refusal t (t.resolve (asked_by used)) used.purpose
     else Some refusals.UnknownName
 
 -- an event of a class with qualifiers

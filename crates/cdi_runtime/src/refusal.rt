@@ -1,22 +1,22 @@
 //! Which commands are refused.
 ghost use Rattle.std.specs.Prelude.{◌≡◌, None, option_map};
+ghost use Rattle.cdi_host.specs.Asked.{machine_resolution};
 ghost use Rattle.std.specs.Option.{option_copied};
 ghost use Rattle.cdi_contexts.specs.Refusals.{first_that_holds};
 ghost use Rattle.cdi_machine.specs.Container as machine;
-ghost use Rattle.cdi_run_tables.specs.Machine.{machine_resolution, machine_tables};
-ghost use Rattle.cdi_steps.specs.Known.{KnownJob};
+ghost use Rattle.cdi_run_tables.specs.Machine.{machine_tables};
+ghost use Rattle.cdi_steps.specs.Known.{IsResolved, JobTellsRightly, KnownJob, TellsRightly};
 ghost use Rattle.cdi_steps.specs.Words.{command_of};
 ghost use Rattle.cdi_machine.specs.Told.{method_told};
-ghost use Rattle.cdi_runtime.specs.Standing.{HasNumber, IsServable};
+ghost use Rattle.cdi_runtime.specs.Standing.{IsServable};
 ghost use Rattle.cdi_runtime.specs.Refusals.{bean_refusal, contexts_refusal, event_refusal, method_refusal};
-ghost use Rattle.cdi_runtime.specs.Refusals.{resolved_refusal, use_refusal};
+ghost use Rattle.cdi_runtime.specs.Refusals.{known_resolution, resolved_refusal, use_refusal};
 
 use crate::runtime::Runtime;
 use crate::served_tables::ServedTables;
 use cdi_base::{Refusal, Text};
-use cdi_host::{Method, Tables};
+use cdi_host::{Method, Resolution, Tables};
 use cdi_machine::Driver;
-use cdi_resolve::Resolution;
 use cdi_run_tables::RunTables;
 use cdi_steps::{BeanPurpose, BeanUse, Event, Job};
 use cdi_world::World;
@@ -57,29 +57,50 @@ fn refuses_resolved(
     resolution: Resolution,
     purpose: &BeanPurpose,
 ) -> Option<Refusal>
-    requires { HasNumber resolution }
     ensures { result ≡ resolved_refusal
         (machine_tables tables.now) (machine_resolution resolution) purpose.now }
 {
     match resolution {
-        Resolution::One(bean) => refuses_purpose(tables, bean as u32, purpose),
+        Resolution::One(bean) => refuses_purpose(tables, bean, purpose),
         Resolution::Nothing | Resolution::Many => None,
     }
 }
 
-/// Why the use of the bean with a type and qualifiers is refused: one of these isn't known, or they resolve to a bean with which
-/// that can't be done. What they resolve to is remembered.
-fn refuses_use(alloc: Global, tables: &mut ServedTables, used: &BeanUse) -> Option<Refusal>
-    ensures refusal { result ≡ use_refusal (machine_tables tables.old) used.now }
+/// What the type and the qualifiers of a use resolve to, if all their names are known. It is remembered, and isn't asked for again
+/// if the use tells it.
+fn resolution_for(alloc: Global, tables: &mut ServedTables, used: &BeanUse) -> Option<Resolution>
+    requires { TellsRightly (machine_tables tables.old) used.now }
+    ensures told { option_map machine_resolution result
+        ≡ known_resolution (machine_tables tables.old) used.now }
     ensures kept { tables.new ≡ tables.old }
     ensures servable { IsServable tables.old }
 {
-    let qualifiers = used.qualifiers.as_slice();
-    let known = tables.run_tables().is_known(used.bean_type, qualifiers);
-    if !known {
-        return Some(Refusal::UnknownName);
+    let run_tables = tables.run_tables();
+    if let Some(resolution) = used.resolved {
+        return Some(resolution);
     }
-    let resolution = tables.ask(alloc, used.bean_type, qualifiers);
+    let qualifiers = used.qualifiers.as_slice();
+    if !run_tables.is_known(used.bean_type, qualifiers) {
+        return None;
+    }
+    Some(tables.ask(alloc, used.bean_type, qualifiers))
+}
+
+/// Why the use of the bean with a type and qualifiers is refused: one of these isn't known, or they resolve to a bean with which
+/// that can't be done. What they resolve to is written into the use, if they are known.
+fn refuses_use(alloc: Global, tables: &mut ServedTables, used: &mut BeanUse) -> Option<Refusal>
+    requires { TellsRightly (machine_tables tables.old) used.old }
+    ensures refusal { result ≡ use_refusal (machine_tables tables.old) used.old }
+    ensures used { used.new ≡ record used.old { resolved = used.new.resolved } }
+    ensures rightly { TellsRightly (machine_tables tables.old) used.new }
+    ensures resolved { result ≡ None → IsResolved (machine_tables tables.old) used.new }
+    ensures kept { tables.new ≡ tables.old }
+    ensures servable { IsServable tables.old }
+{
+    let Some(resolution) = resolution_for(alloc, tables, used) else {
+        return Some(Refusal::UnknownName);
+    };
+    used.resolved = Some(resolution);
     refuses_resolved(tables, resolution, &used.purpose)
 }
 
@@ -129,12 +150,16 @@ fn text_of(name: Option<&Text>) -> Option<&str>
 
 impl<D: Driver> Runtime<D> {
     /// Why what a command asks for is refused, if it is: the first refusal that holds, in the order of [`Refusal`]. A
-    /// container that has halted or is down refuses all, and none is ever busy. What isn't refused can be carried out. Nothing
-    /// changes.
-    pub fn refusal(&mut self, halted: bool, job: &Job) -> Option<Refusal>
+    /// container that has halted or is down refuses all, and none is ever busy. What isn't refused can be carried out: what the
+    /// use of a bean resolves to is written into the job, unless it tells that already. Nothing else changes.
+    pub fn refusal(&mut self, halted: bool, job: &mut Job) -> Option<Refusal>
+        requires { JobTellsRightly (machine_tables self.old.tables) job.old }
         ensures refusal { result ≡ machine.refusal (machine_tables self.old.tables)
-            (machine.idle_state self.old.world halted) (command_of job.now) }
-        ensures known { result ≡ None → KnownJob self.old.world job.now }
+            (machine.idle_state self.old.world halted) (command_of job.old) }
+        ensures command { command_of job.new ≡ command_of job.old }
+        ensures rightly { JobTellsRightly (machine_tables self.old.tables) job.new }
+        ensures known { result ≡ None
+            → KnownJob (machine_tables self.old.tables) self.old.world job.new }
         ensures kept { self.new ≡ self.old }
     {
         if halted {
@@ -150,7 +175,7 @@ impl<D: Driver> Runtime<D> {
             Job::Use {
                 request: _request,
                 used,
-            } => refuses_use(self.alloc, &mut self.tables, used),
+            } => refuses_use(self.alloc, &mut self.tables, &mut **used),
             Job::Fire {
                 request: _request,
                 event,

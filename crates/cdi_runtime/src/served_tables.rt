@@ -1,8 +1,8 @@
 //! The tables of a deployment that is served.
 ghost use Rattle.std.specs.Prelude.{◌≡◌};
 ghost use Rattle.cdi_run_tables.specs.Machine.{machine_tables};
-ghost use Rattle.cdi_run_tables.specs.Machine.{machine_resolution as machine_told, resolution_of};
-ghost use Rattle.cdi_host.specs.Asked.{machine_resolution};
+ghost use Rattle.cdi_run_tables.specs.Machine.{machine_resolution as machine_told};
+ghost use Rattle.cdi_host.specs.Asked.{asked_for, machine_resolution};
 ghost use Rattle.cdi_runtime.specs.Standing.{HasNumber, IsServable};
 
 use cdi_base::{Fields, InterceptorMethod, Name, Seq, Use};
@@ -66,11 +66,12 @@ impl ServedTables {
 
     /// What a type and qualifiers, as they were written, resolve to (Jakarta CDI 4.0, *Typesafe resolution*). It is
     /// remembered.
-    pub(crate) fn ask(&mut self, alloc: Global, bean_type: Name, qualifiers: &[Use]) -> Resolved
-        ensures told { result ≡ resolution_of self.old bean_type qualifiers.now }
+    pub(crate) fn ask(&mut self, alloc: Global, bean_type: Name, qualifiers: &[Use]) -> Resolution
+        ensures told { (machine_tables self.old).resolve (asked_for bean_type qualifiers.now)
+            ≡ machine_resolution result }
         ensures kept { self.new ≡ self.old }
     {
-        self.tables.ask(alloc, bean_type, qualifiers)
+        numbered(self.tables.ask(alloc, bean_type, qualifiers))
     }
 }
 

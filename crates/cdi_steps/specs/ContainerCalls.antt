@@ -14,7 +14,7 @@ use Rattle.cdi_machine.specs.Programs.{Given, Result, Prog, ret, see, complete, 
 use Rattle.cdi_machine.specs.Bodies.{invoke}
 use Rattle.cdi_machine.specs.Contexts.{direct_reference, reach_instance, resolve_points}
 use Rattle.cdi_machine.specs.Creation.{accept, create_by}
-use Rattle.cdi_machine.specs.Destruction.{borrow_for, dispose, obtain_receiver}
+use Rattle.cdi_machine.specs.Destruction.{dispose, obtain_receiver}
 use Rattle.cdi_host.specs.Asked.{product_of}
 use Rattle.cdi_machine.specs.Told.{member_told}
 use Rattle.cdi_steps.specs.declared.task.Callee.{Callee}

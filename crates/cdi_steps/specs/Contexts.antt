@@ -6,7 +6,7 @@ use Rattle.cdi_base.specs.declared.built_in.BuiltIn.TheVariants as built_in
 use Rattle.cdi_store.specs.declared.instance.Context.{Context}
 use Rattle.cdi_store.specs.declared.instance.Context.TheVariants.{Request, Session}
 use Rattle.cdi_store.specs.declared.instance.Owner.TheVariants as owners
-use Rattle.cdi_machine.specs.Programs.{Given, Completion, Prog, complete, ◌>>=◌, ◌>>◌}
+use Rattle.cdi_machine.specs.Programs.{Given, Completion, Prog, complete, ◌>>◌}
 use Rattle.cdi_machine.specs.Commands.{stand_in, stand_alone_in}
 use Rattle.cdi_steps.specs.Words.{scope_of}
 use Rattle.cdi_steps.specs.Meanings.{finish_context, close_context, after_close, close_then}

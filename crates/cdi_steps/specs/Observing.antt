@@ -1,13 +1,11 @@
 -- The delivery of events: to an observer that was picked, to the others of its group, and to the other groups (Jakarta CDI 4.0,
 -- *Observer notification*).
-use Rattle.std.specs.Prelude.{List, map}
+use Rattle.std.specs.Prelude.{map}
 use Rattle.cdi_base.specs.declared.built_in.BuiltIn.TheVariants as built_in
-use Rattle.cdi_machine.specs.Tables.{Observer}
 use Rattle.cdi_machine.specs.Programs as machine
 use Rattle.cdi_machine.specs.Programs.{Given, Prog, handle, complete, call, finish, each, groups_of, rethrow, ◌>>=◌, ◌>>◌}
 use Rattle.cdi_machine.specs.Events.{deliver}
 use Rattle.cdi_machine.specs.Told.{observer_told}
-use Rattle.cdi_machine.specs.declared.member.Observer.{Observer as CodeObserver}
 use Rattle.cdi_steps.specs.declared.task.Delivery.{Delivery}
 use Rattle.cdi_steps.specs.declared.task.Event.{Event}
 use Rattle.cdi_steps.specs.declared.task.Groups.{Groups}

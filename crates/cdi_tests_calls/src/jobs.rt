@@ -15,10 +15,12 @@
 //! | `count` | how many these are | the number |
 //! | `live` | how many instances live | the number |
 //! | `next` | the next number of an instance | it, or `none` |
-ghost use Rattle.std.specs.Prelude.{◌≡◌, None, IfOk};
+ghost use Rattle.std.specs.Prelude.{◌≡◌, None, IfOk, true};
 ghost use Rattle.cdi_frames.specs.Stacks.{KnownStack, KnownTurn};
 ghost use Rattle.cdi_run_tables.specs.Machine.{machine_tables};
-ghost use Rattle.cdi_steps.specs.Known.{KnownJob};
+ghost use Rattle.cdi_machine.specs.Tables.{Tables};
+ghost use Rattle.cdi_machine.specs.World.{World};
+ghost use Rattle.cdi_steps.specs.Known.{JobTellsRightly, KnownJob};
 
 use crate::entries::{push_entries, push_name, push_value};
 use crate::heard::{beans_of, hear};
@@ -73,6 +75,7 @@ fn use_of(
     let used = BeanUse {
         bean_type: names.name_for(bean_type),
         qualifiers: Seq::empty(alloc),
+        resolved: None,
         purpose,
     };
     let used = Box::new(alloc, used)?;
@@ -151,21 +154,44 @@ fn job_of(alloc: Global, names: &Names, words: &[&str]) -> Result<Option<Job>, A
     }
 }
 
-/// Why a job is refused, if it is. The start, a call and the shutdown are carried out in any case.
-fn refusal_of<D: Driver>(runtime: &mut Runtime<D>, job: &Job) -> Option<Refusal>
-    ensures known { result ≡ None → KnownJob runtime.new.world job.now }
+/// Nothing is told of what a job resolves to.
+fn forget_resolution(job: &mut Job)
+    ensures { (tables : Tables) → JobTellsRightly tables job.new }
+{
+    if let Job::Use {
+        request: _request,
+        used,
+    } = job
+    {
+        used.resolved = None;
+    }
+}
+
+/// Whether a job is a call that tells what it resolves to.
+fn is_resolved_call(job: &Job) -> bool
+    ensures { result ≡ true → (tables : Tables) (world : World)
+        → JobTellsRightly tables job.now → KnownJob tables world job.now }
 {
     match job {
-        Job::Boot | Job::Shutdown => None,
         Job::Use {
             request: _request,
             used,
-        } => match &used.purpose {
-            BeanPurpose::Call { .. } => None,
-            BeanPurpose::Read => runtime.refusal(false, job),
-        },
-        _ => runtime.refusal(false, job),
+        } => used.resolved.is_some() && matches!(used.purpose, BeanPurpose::Call { .. }),
+        _ => false,
     }
+}
+
+/// Why a job is refused, if it is. The start, the shutdown and a call whose names are known are carried out in any case.
+fn refusal_of<D: Driver>(runtime: &mut Runtime<D>, job: &mut Job) -> Option<Refusal>
+    ensures known { result ≡ None
+        → KnownJob (machine_tables runtime.new.tables) runtime.new.world job.new }
+{
+    forget_resolution(job);
+    let refusal = runtime.refusal(false, job);
+    if is_resolved_call(job) {
+        return None;
+    }
+    refusal
 }
 
 fn push_end(text: &mut String, names: &Names, outcome: &Outcome) -> Result<(), AllocError> {
@@ -188,7 +214,7 @@ const MOST_TURNS: u32 = 1_000_000;
 
 /// A job begins that is carried out in turns.
 fn start_turns<D: Driver>(runtime: &mut Runtime<D>, job: Job) -> Stack
-    requires { KnownJob runtime.old.world job }
+    requires { KnownJob (machine_tables runtime.old.tables) runtime.old.world job }
     ensures known { KnownStack (machine_tables runtime.new.tables) runtime.new.world result }
 {
     runtime.begin();
@@ -212,7 +238,7 @@ fn take_turn<D: Driver>(runtime: &mut Runtime<D>, stack: Stack, most: u64) -> Re
 
 /// How a job ends that is carried out in turns of so many entries.
 fn end_of_turns<D: Driver>(runtime: &mut Runtime<D>, most: u64, job: Job) -> Option<Outcome>
-    requires { KnownJob runtime.old.world job }
+    requires { KnownJob (machine_tables runtime.old.tables) runtime.old.world job }
 {
     let mut stack = start_turns(runtime, job);
     'turns: for _ in 0..MOST_TURNS {
@@ -227,7 +253,7 @@ fn end_of_turns<D: Driver>(runtime: &mut Runtime<D>, most: u64, job: Job) -> Opt
 
 /// How a job ends that is carried out at once.
 fn end_of_run<D: Driver>(runtime: &mut Runtime<D>, job: Job) -> Option<Outcome>
-    requires { KnownJob runtime.old.world job }
+    requires { KnownJob (machine_tables runtime.old.tables) runtime.old.world job }
 {
     runtime.begin();
     let task = Task::Begin(job);
@@ -247,7 +273,7 @@ fn carry_out<D: Driver>(
     ledger: &mut Ledger,
     job: Job,
 ) -> Result<(), AllocError>
-    requires { KnownJob runtime.old.world job }
+    requires { KnownJob (machine_tables runtime.old.tables) runtime.old.world job }
 {
     let ends_all = matches!(job, Job::Shutdown);
     let ended = match told.slice {
@@ -281,7 +307,7 @@ fn carry_out_in_turns<D: Driver>(
     most: u64,
     job: Job,
 ) -> Result<(), AllocError>
-    requires { KnownJob runtime.old.world job }
+    requires { KnownJob (machine_tables runtime.old.tables) runtime.old.world job }
 {
     let ends_all = matches!(job, Job::Shutdown);
     let mut stack = start_turns(runtime, job);
@@ -348,7 +374,7 @@ fn push_told<D: Driver>(
     words: &[&str],
 ) -> Result<(), AllocError> {
     match job_of(alloc, &runtime.tables().deployment().names, words)? {
-        Some(job) => match refusal_of(runtime, &job) {
+        Some(mut job) => match refusal_of(runtime, &mut job) {
             Some(refusal) => write!(told.text, "refused {refusal:?}"),
             None => carry_out(told, runtime, ledger, job),
         },
@@ -366,7 +392,7 @@ fn push_turns<D: Driver>(
     words: &[&str],
 ) -> Result<(), AllocError> {
     match job_of(alloc, &runtime.tables().deployment().names, words)? {
-        Some(job) => match refusal_of(runtime, &job) {
+        Some(mut job) => match refusal_of(runtime, &mut job) {
             Some(refusal) => write!(text, "refused {refusal:?}"),
             None => carry_out_in_turns(text, runtime, ledger, most, job),
         },

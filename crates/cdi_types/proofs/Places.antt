@@ -1,15 +1,16 @@
 -- The place of the first declaration of a name, where one declaration more is looked at.
-use Rattle.std.proofs.Common.{◌≡◌, ◌∙◌, ℕ, ◌+◌, ◌<◌, ◌≤◌, Bool, true, false, cond, not, ◌||◌, nat_eq, List, [], ◌∷◌, ◌++◌, length, take, get_or, slice_get, option_and_then, position, Option, Some, None, refl, sym, ap, arith, length-append}
+use Rattle.std.proofs.Common.{◌≡◌, ◌∙◌, ℕ, ◌+◌, ◌<◌, ◌≤◌, Bool, true, false, cond, not, ◌||◌, nat_eq, List, [], ◌∷◌, ◌++◌, length, take, get_or, slice_get, option_and_then, option_map, map, position, Option, Some, None, refl, sym, ap, arith, length-append}
 use Rattle.std.proofs.lemmas.Bool.{true≢false}
 use Rattle.std.proofs.lemmas.Bool.Decides.{nat_tests}
 use Rattle.std.proofs.lemmas.Grind.{common_steps}
 use Rattle.std.proofs.lemmas.List.{take_more}
 use Rattle.std.proofs.lemmas.List.Folds.{find_at, position_or_len_push}
-use Rattle.std.proofs.lemmas.Option.{slice_get_past}
+use Rattle.std.proofs.lemmas.Option.{slice_get_past, slice_get-map}
 use Rattle.std.proofs.lemmas.List.Sums.{prefix_len-le-length}
 use Rattle.std.specs.Bool.{nat_lt}
 use Rattle.std.specs.List.{list_any, find, position_or_len}
 use Rattle.std.specs.Option.{is_some}
+use Rattle.cdi_types.specs.Above.{place_above}
 use Rattle.cdi_types.specs.declared.declaration.TypeDeclaration.{TypeDeclaration}
 use Rattle.cdi_types.specs.Lineage.{superclass_of}
 use Rattle.cdi_types.specs.Nodes.{place_of}
@@ -96,3 +97,13 @@ superclass_at types name i e = ap (option_and_then (λ (d : TypeDeclaration). d.
 
 pub superclass_nowhere : (types : List TypeDeclaration) (name : ℕ) → place_of types name ≡ None → superclass_of types name ≡ None
 superclass_nowhere types name e = ap (option_and_then (λ (d : TypeDeclaration). d.superclass)) (no_place (λ d. nat_eq d.name name) types e)
+
+-- the place of the superclass that is named there
+pub place_above_at : (types : List TypeDeclaration) (place : ℕ → Option ℕ) (name above i : ℕ) → place_of types name ≡ Some i → superclass_of types name ≡ Some above
+    → slice_get (map (place_above place) types) i ≡ Some (place above)
+place_above_at types place name above i e extends =
+    slice_get-map (place_above place) types i ∙ by (slice_get types i) (sym (superclass_at types name i e) ∙ extends)
+  where
+    by : (o : Option TypeDeclaration) → option_and_then (λ d. d.superclass) o ≡ Some above → option_map (place_above place) o ≡ Some (place above)
+    by None h = absurd cc
+    by (Some d) h = ap (λ s. Some (option_and_then place s)) h

@@ -1,3 +1,4 @@
+pub mod Above
 pub mod Kinds
 pub mod Line
 pub mod Lowest

@@ -3,6 +3,7 @@ use Rattle.std.specs.Prelude.{ℕ, ◌==◌, ◌≡◌, List, Option, map, posit
 use Rattle.std.specs.List.{filter_map}
 use Rattle.cdi_types.specs.declared.declaration.TypeDeclaration.{TypeDeclaration}
 use Rattle.cdi_types.specs.declared.index.TypeIndex.{TypeIndex}
+use Rattle.cdi_types.specs.Above.{place_above}
 use Rattle.cdi_types.specs.Index.{place_in}
 use Rattle.cdi_types.specs.Subtype.{supertypes_of}
 
@@ -14,7 +15,9 @@ place_of types name = position (λ d. d.name == name) types
 abbrev pub graph_of : (ℕ → Option ℕ) → List TypeDeclaration → List (List ℕ)
 graph_of place types = map (λ d. filter_map place (supertypes_of types d.name)) types
 
-pub record IsGraphOf (types : List TypeDeclaration) (index : TypeIndex) (graph : List (List ℕ))
-    : Type 0 where
+pub record IsGraphOf (types : List TypeDeclaration) (index : TypeIndex) (first above : List (Option ℕ))
+    (graph : List (List ℕ)) : Type 0 where
   pub places : (name : ℕ) → place_in index name ≡ place_of types name
+  pub firsts : first ≡ map (λ d. place_in index d.name) types
+  pub superclasses : above ≡ map (place_above (place_in index)) types
   pub edges : graph ≡ graph_of (place_in index) types

@@ -1,5 +1,8 @@
 //! The declared types with the graph of what stands above what.
-ghost use Rattle.std.specs.Prelude.{◌≡◌, ◌↔◌, ℕ, IsTrue, IfOk, MatchBool};
+ghost use Rattle.std.specs.Prelude.{◌≡◌, ◌↔◌, ℕ, Some, map, slice_get, IsTrue, IfOk, MatchBool};
+ghost use Rattle.cdi_types.specs.Above.{place_above};
+ghost use Rattle.cdi_types.specs.Index.{place_in};
+ghost use Rattle.cdi_types.specs.declared.declaration.TypeDeclaration.{TypeDeclaration};
 ghost use Rattle.std.specs.List.{list_all};
 
 use crate::declaration::{TypeDeclaration, declarations_of};
@@ -17,6 +20,10 @@ use std::marker::Model;
 pub struct TypeGraph {
     types: Seq<TypeDeclaration>,
     index: TypeIndex,
+    /// Of each declaration the place of the first one of its name.
+    firsts: Seq<Option<usize>>,
+    /// Of each declaration the place of the first one of its superclass's name.
+    superclasses: Seq<Option<usize>>,
     reachability: Reachability,
 }
 
@@ -26,9 +33,48 @@ impl Drop for TypeGraph {
         let Self {
             types: _types,
             index: _index,
+            firsts: _firsts,
+            superclasses: _superclasses,
             reachability: _reachability,
         } = self;
     }
+}
+
+/// The places of the first declarations of the names of these.
+fn first_places(
+    alloc: Global,
+    index: &TypeIndex,
+    types: &[TypeDeclaration],
+) -> Result<Seq<Option<usize>>, AllocError>
+    ensures { IfOk result (λ firsts. firsts ≡ map (λ d. place_in index.now d.name) types.now) }
+{
+    let mut firsts = Seq::empty(alloc);
+    for declared in types {
+        firsts.push(index.place(declared.name))?;
+    }
+    Ok(firsts)
+}
+
+/// The place of the first declaration of the superclass that a declaration names.
+fn superclass_place(index: &TypeIndex, declared: &TypeDeclaration) -> Option<usize>
+    ensures { result ≡ place_above (place_in index.now) declared.now }
+{
+    index.place(declared.superclass?)
+}
+
+/// The places of the first declarations of the superclasses of these.
+fn superclass_places(
+    alloc: Global,
+    index: &TypeIndex,
+    types: &[TypeDeclaration],
+) -> Result<Seq<Option<usize>>, AllocError>
+    ensures { IfOk result (λ places. places ≡ map (place_above (place_in index.now)) types.now) }
+{
+    let mut places = Seq::empty(alloc);
+    for declared in types {
+        places.push(superclass_place(index, declared))?;
+    }
+    Ok(places)
 }
 
 impl Model for TypeGraph {
@@ -40,7 +86,8 @@ impl Model for TypeGraph {
 
     ghost view = { λ t. t.types };
 
-    ghost invariant = { λ t. IsGraphOf t.types t.index t.reachability };
+    ghost invariant = { λ t. IsGraphOf
+        t.types t.index t.firsts t.superclasses t.reachability };
 }
 
 impl TypeGraph {
@@ -62,10 +109,14 @@ impl TypeGraph {
     {
         let index = TypeIndex::build(alloc, types.as_slice())?;
         let graph = graph_of(alloc, &index, types.as_slice())?;
+        let firsts = first_places(alloc, &index, types.as_slice())?;
+        let superclasses = superclass_places(alloc, &index, types.as_slice())?;
         let reachability = Reachability::build(alloc, graph)?;
         Ok(TypeGraph {
             types,
             index,
+            firsts,
+            superclasses,
             reachability,
         })
     }
@@ -98,14 +149,23 @@ impl TypeGraph {
         name == BuiltIn::Object.name() || self.is_declared(name)
     }
 
-    /// Whether the name that is first declared at a place stands below a declared one, by one step up or more. A name that isn't
-    /// declared has no place, and stands below none.
-    pub(crate) fn is_below_from(&self, place: Option<usize>, above: Name) -> bool
-        ensures { (name : ℕ) → place ≡ nodes.place_of self.now name
-            → (IsTrue result
-            ↔ (IsTrue (spec.is_declared self.now above) × spec.IsBelow self.now name above)) }
+    /// The place of the first declaration of the name that is declared at a place.
+    pub(crate) fn first_place(&self, place: usize) -> Option<usize>
+        ensures { (d : TypeDeclaration) → slice_get self.now place ≡ Some d
+            → result ≡ nodes.place_of self.now d.name }
     {
-        let Some(to) = self.index.place(above) else {
+        *self.firsts.get(place)?
+    }
+
+    /// Whether a name stands below a declared one, by one step up or more, by the places of their first declarations. A name that isn't
+    /// declared has no place, and stands below none.
+    pub(crate) fn is_below_from(&self, place: Option<usize>, above: Option<usize>) -> bool
+        ensures { (name other : ℕ) → place ≡ nodes.place_of self.now name
+            → above ≡ nodes.place_of self.now other
+            → (IsTrue result
+            ↔ (IsTrue (spec.is_declared self.now other) × spec.IsBelow self.now name other)) }
+    {
+        let Some(to) = above else {
             return false;
         };
         let Some(from) = place else {
@@ -119,7 +179,7 @@ impl TypeGraph {
         requires { IsTrue (spec.is_declared self.now above) }
         ensures { IsTrue result ↔ spec.IsBelow self.now name above }
     {
-        self.is_below_from(self.place(name), above)
+        self.is_below_from(self.place(name), self.place(above))
     }
 
     /// Whether a name is its own proper supertype.
@@ -172,11 +232,26 @@ impl TypeGraph {
             .all(|declared| self.knows_above(declared))
     }
 
+    /// The class that a class extends directly, if it names one, by the place of the class's first declaration.
+    pub(crate) fn superclass_from(&self, place: Option<usize>) -> Option<Name>
+        ensures { (name : ℕ) → place ≡ nodes.place_of self.now name
+            → result ≡ superclass_of self.now name }
+    {
+        self.types.get(place?)?.superclass
+    }
+
+    /// The place of the first declaration of that class.
+    pub(crate) fn superclass_place_from(&self, place: Option<usize>) -> Option<usize>
+        ensures { (name above : ℕ) → place ≡ nodes.place_of self.now name
+            → superclass_of self.now name ≡ Some above → result ≡ nodes.place_of self.now above }
+    {
+        *self.superclasses.get(place?)?
+    }
+
     /// The class that a class extends directly, if it names one. Where a name is declared twice, the first declaration counts.
     pub fn superclass_of(&self, name: Name) -> Option<Name>
         ensures { result ≡ superclass_of self.now name }
     {
-        let place = self.place(name)?;
-        self.types.get(place)?.superclass
+        self.superclass_from(self.place(name))
     }
 }

@@ -86,9 +86,15 @@ impl TypeTable {
         self.graph.is_type(name)
     }
 
-    /// Whether a type, whose first declaration stands at this place, if it is declared, is a subtype of another.
-    fn is_subtype_from(&self, name: Name, place: Option<usize>, above: Name) -> bool
-        ensures { place ≡ place_of self.now name
+    /// Whether a type is a subtype of another, by the places of their first declarations, if they are declared.
+    fn is_subtype_from(
+        &self,
+        name: Name,
+        place: Option<usize>,
+        above: Name,
+        above_place: Option<usize>,
+    ) -> bool
+        ensures { place ≡ place_of self.now name → above_place ≡ place_of self.now above
             → (IsTrue result ↔ spec.IsSubtype self.now name above) }
     {
         if name == above {
@@ -97,14 +103,15 @@ impl TypeTable {
         if above == BuiltIn::Object.name() {
             return true;
         }
-        self.graph.is_below_from(place, above)
+        self.graph.is_below_from(place, above_place)
     }
 
     /// Whether one type is a subtype of another (Jakarta CDI 4.0, *Bean types*).
     pub fn is_subtype(&self, name: Name, above: Name) -> bool
         ensures { IsTrue result ↔ spec.IsSubtype self.now name above }
     {
-        self.is_subtype_from(name, self.graph.place(name), above)
+        let place = self.graph.place(name);
+        self.is_subtype_from(name, place, above, self.graph.place(above))
     }
 
     /// The types that a type is a subtype of, in the order of their declaration, and `Object` behind them. They are the bean types
@@ -115,8 +122,9 @@ impl TypeTable {
     {
         let place = self.graph.place(name);
         let mut found = Seq::empty(alloc);
-        for declared in self.graph.declarations() {
-            if self.is_subtype_from(name, place, declared.name) {
+        for (index, declared) in self.graph.declarations().iter().enumerate() {
+            let above_place = self.graph.first_place(index);
+            if self.is_subtype_from(name, place, declared.name, above_place) {
                 found.push(declared.name)?;
             }
         }
@@ -135,6 +143,6 @@ impl TypeTable {
     pub fn lineage(&self, alloc: Global, name: Name) -> Result<Seq<Name>, AllocError>
         ensures { IfOk result (λ names. lineage.IsLineage self.now name names) }
     {
-        lineage_of(alloc, &self.graph, name)
+        lineage_of(alloc, &self.graph, name, self.graph.place(name))
     }
 }

@@ -2,7 +2,7 @@
 ghost use Rattle.std.specs.Prelude.{◌≡◌, IfOk, OnErr};
 ghost use Rattle.cdi_machine.specs.World.{after_change};
 ghost use Rattle.cdi_machine.specs.World.Change.{Return};
-ghost use Rattle.cdi_steps.specs.Known.{KnownJob};
+ghost use Rattle.cdi_steps.specs.Known.{IsResolved, KnownJob};
 ghost use Rattle.cdi_steps.specs.Steps.{Moves, GoesOn};
 ghost use Rattle.cdi_steps.specs.declared.task.Outcome.{Outcome};
 
@@ -23,7 +23,7 @@ pub(super) fn begin<T: Tables, W: Contents>(
     world: &mut W,
     job: Job,
 ) -> Result<Next, AllocError>
-    requires { KnownJob (W.world world.old) job }
+    requires { KnownJob (T.tables tables.now) (W.world world.old) job }
     ensures step { IfOk result (λ next. Moves (T.tables tables.now) (Task.Begin job)
         (W.world world.old) next (W.world world.new)) }
     ensures kept { OnErr result (W.world world.new ≡ W.world world.old) }
@@ -53,7 +53,7 @@ fn begin_request<T: Tables, W: Contents>(
     request: Text,
     session: Option<Text>,
 ) -> Result<Next, AllocError>
-    requires { KnownJob (W.world world.old) (Job.Begin request session) }
+    requires { KnownJob (T.tables _tables.now) (W.world world.old) (Job.Begin request session) }
     ensures step { IfOk result (λ next. Moves (T.tables _tables.now)
         (Task.Begin (Job.Begin request session)) (W.world world.old) next (W.world world.new)) }
     ensures kept { OnErr result (W.world world.new ≡ W.world world.old) }
@@ -127,6 +127,7 @@ fn use_bean<T: Tables, W: Contents>(
     request: Option<Text>,
     used: Box<BeanUse>,
 ) -> Result<Next, AllocError>
+    requires { IsResolved (T.tables _tables.now) used.value }
     ensures step { IfOk result (λ next. Moves (T.tables _tables.now)
         (Task.Begin (Job.Use request used)) (W.world world.old) next (W.world world.new)) }
     ensures kept { OnErr result (W.world world.new ≡ W.world world.old) }

@@ -13,6 +13,6 @@ returns-clause-known g c =
       frames = subst (KnownFrames (machine_tables t.tables)) (sym c.start.ensures.frames) tt;
       pending =
           subst (KnownPending (machine_tables t.tables) t.world) (sym c.start.ensures.pending)
-          (subst (λ (r : RuntimeParts _). KnownJob r.world c.args.job) (sym c.begin.ensures) c.requires);
+          (subst (λ (r : RuntimeParts _). KnownJob (machine_tables r.tables) r.world c.args.job) (sym c.begin.ensures) c.requires);
       invoked = subst (λ (r : RuntimeParts _). AllInvoked (machine_tables r.tables) r.world) c.runtime.view_is c.runtime.invariant.invoked;
     }

@@ -28,4 +28,4 @@ returns-clause-carries g c =
 -- a command that begins changes no contexts
 pub run-requires-clause-known : goal.run-requires-clause-known
 run-requires-clause-known g c =
-    subst (λ (r : RuntimeParts _). KnownJob r.world c.args.job) (sym (c.runtime.view_is ∙ c.begin.ensures)) c.requires
+    subst (λ (r : RuntimeParts _). KnownJob (machine_tables r.tables) r.world c.args.job) (sym (c.runtime.view_is ∙ c.begin.ensures)) c.requires

@@ -1,4 +1,5 @@
 use Rattle.std.proofs.Common.{◌∙◌, sym, subst}
+use Rattle.cdi_run_tables.specs.Machine.{machine_tables}
 use Rattle.cdi_runtime.specs.Standing.{RuntimeParts}
 use Rattle.cdi_steps.specs.Known.{KnownJob}
 use Rattle.cdi_steps.proofs.Driving.{still_drives}
@@ -10,4 +11,4 @@ invariant_of-runtime g c =
 
 pub run-ended-requires-clause-known : goal.run-ended-requires-clause-known
 run-ended-requires-clause-known g c =
-    subst (λ (r : RuntimeParts _). KnownJob r.world c.args.job) (sym (c.runtime.view_is ∙ c.begin.ensures)) c.requires
+    subst (λ (r : RuntimeParts _). KnownJob (machine_tables r.tables) r.world c.args.job) (sym (c.runtime.view_is ∙ c.begin.ensures)) c.requires

@@ -9,7 +9,7 @@ returns g c =
     record {
       known = record {
         frames = rw c.start.ensures.frames tt;
-        pending = rw c.start.ensures.pending (subst (λ (r : RuntimeParts _). KnownJob r.world c.args.job) (sym c.begin.ensures) c.requires);
+        pending = rw c.start.ensures.pending (subst (λ (r : RuntimeParts _). KnownJob (machine_tables r.tables) r.world c.args.job) (sym c.begin.ensures) c.requires);
         invoked = subst (λ (r : RuntimeParts _). AllInvoked (machine_tables r.tables) r.world) c.runtime.view_is c.runtime.invariant.invoked;
       };
     }

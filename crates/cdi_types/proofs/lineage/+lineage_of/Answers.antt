@@ -13,13 +13,15 @@ returns-then-eq t c =
 
 pub lineage_of-requires : goal.lineage_of-requires
 lineage_of-requires t c =
-    let falls = steps-fall c.args.graph.now c.requires c.args.name c.in-Some.above (sym c.in-Some.ensures) in
-    (omega (arith, falls, c.decreases), c.requires)
+    let extends = sym (c.superclass_from.ensures c.args.name c.requires.place) ∙ c.in-Some.is in
+    let falls = steps-fall c.args.graph.now c.requires.acyclic c.args.name c.in-Some.above extends in
+    (omega (arith, falls, c.decreases), (c.requires.acyclic, c.superclass_place_from.ensures c.args.name c.in-Some.above c.requires.place extends))
 
 pub returns : goal.returns
 returns t c =
     let other : c.args.name ≢ object = λ e. eqb-false _ _ (sym c.if-eq.ensures) (e ∙ sym c.name.ensures.number) in
-    rw c.in_ok-push.ensures.ok (elim c.match-superclass_of.branch [
-      | in-Some+in_ok-names-in-Some w ↦ rw w.names-is (IsLineage.next other (sym w.in-Some.ensures) w.in_ok-names-in-Some.ensures)
-      | in-None w ↦ rw (w.names-is, w.empty-names.ensures) (IsLineage.top other (sym w.in-None.ensures))
+    let extends = sym (c.superclass_from.ensures c.args.name c.requires.place) in
+    rw c.in_ok-push.ensures.ok (elim c.match-superclass_from.branch [
+      | in-Some+in_ok-names-in-Some w ↦ rw w.names-is (IsLineage.next other (extends ∙ w.in-Some.is) w.in_ok-names-in-Some.ensures)
+      | in-None w ↦ rw (w.names-is, w.empty-names.ensures) (IsLineage.top other (extends ∙ w.in-None.is))
     ])

@@ -1,42 +1,16 @@
-use Rattle.std.proofs.Common.{refl, subst}
 use Rattle.cdi_container.specs.Commands.{machine_command}
-use Rattle.cdi_container.specs.Standing.{names_of, state_of, tables_of}
-use Rattle.cdi_container.specs.States.AnswersCommand.{refuses}
-use Rattle.cdi_container.specs.Turns.{KeepsOn}
-use Rattle.cdi_container.specs.declared.left.Progress.TheVariants as progresses
+use Rattle.cdi_container.specs.Standing.{names_of, state_of}
+use Rattle.cdi_container.proofs.Admitting.{answered_before, ready}
 use Rattle.cdi_container.proofs.TurnCounts.{same_then}
-use Rattle.cdi_container.proofs.Turning.{by_turns}
 use Rattle.cdi_container.proofs.container.Container.command_by_turns.Goals as goal
 
-pub turns-init : goal.turns-init
-turns-init g c = record {
-  so_far = c.in-Ok.ensures.begins;
-  known = c.in-Ok.ensures.known;
-  same = c.begin_command.ensures.same;
-}
+pub carry_out_admitted-requires : goal.carry_out_admitted-requires
+carry_out_admitted-requires g c = ready c.admit-admitted.ensures.same (machine_command (names_of c.args.self.now) c.args.command.now) c.admit-admitted.result c.admit-admitted.ensures.admits
 
-pub returns-in-Err-clause-answers : goal.returns-in-Err-clause-answers
-returns-in-Err-clause-answers g c = let told = c.in-Err.ensures.begins in refuses c.in-Err.refusal told.0 refl told.1
+pub returns-clause-answers : goal.returns-clause-answers
+returns-clause-answers g c =
+    answered_before c.admit-admitted.ensures.same (machine_command (names_of c.args.self.now) c.args.command.now) c.admit-admitted.result c.admit-admitted.ensures.admits
+    (c.carry_out_admitted.ensures.answers (state_of c.args.self.now) (machine_command (names_of c.args.self.now) c.args.command.now))
 
-pub turns-preserved : goal.turns-preserved
-turns-preserved g c =
-    let old = c.args.self.now in
-    let goes =
-    subst (λ tables. KeepsOn tables (g.D.Driver.legal c.turns.self.runtime.driver) c.turns.left (state_of c.turns.self) (progresses.Running c.in-Running.rest) (state_of c.go_on.new.self))
-    c.turns.invariant.same.parts.tables c.in-Running.ensures.goes in
-    record {
-      so_far = by_turns (tables_of old) c.turns.invariant.same.parts.legal (state_of old) (state_of c.turns.self) (state_of c.go_on.new.self) (machine_command (names_of old) c.args.command.now) c.turns.left (progresses.Running c.in-Running.rest) c.turns.invariant.so_far goes;
-      known = c.in-Running.ensures.known;
-      same = same_then c.turns.invariant.same c.go_on.ensures.same;
-    }
-
-pub returns-in-Finished-clause-answers : goal.returns-in-Finished-clause-answers
-returns-in-Finished-clause-answers g c =
-    let old = c.args.self.now in
-    let goes =
-    subst (λ tables. KeepsOn tables (g.D.Driver.legal c.turns.self.runtime.driver) c.turns.left (state_of c.turns.self) (progresses.Finished c.in-Finished.reply) (state_of c.go_on.new.self))
-    c.turns.invariant.same.parts.tables c.in-Finished.ensures.goes in
-    by_turns (tables_of old) c.turns.invariant.same.parts.legal (state_of old) (state_of c.turns.self) (state_of c.go_on.new.self) (machine_command (names_of old) c.args.command.now) c.turns.left (progresses.Finished c.in-Finished.reply) c.turns.invariant.so_far goes
-
-pub returns-in-Finished-clause-same : goal.returns-in-Finished-clause-same
-returns-in-Finished-clause-same g c = same_then c.turns.invariant.same c.go_on.ensures.same
+pub returns-clause-same : goal.returns-clause-same
+returns-clause-same g c = same_then c.admit-admitted.ensures.same c.carry_out_admitted.ensures.same

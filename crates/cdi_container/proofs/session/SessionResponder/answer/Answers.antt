@@ -1,6 +1,7 @@
 use Rattle.std.proofs.Common.{◌∙◌, ℕ, List, Result, Ok, Err, OnErr, IfOk, inr, refl, ap, subst}
 use Rattle.cdi_container.specs.Standing.{names_of, state_of}
 use Rattle.cdi_container.specs.Sessions.{AnswersSo, SessionParts, reply_in}
+use Rattle.cdi_container.proofs.Admitting.{stay_known}
 use Rattle.cdi_container.proofs.session.SessionResponder.answer.Goals as goal
 
 if_ok : {T E : Type 0} {P Q : T → Type 0} (r : Result T E) → ((x : T) → P x → Q x) → IfOk r P → IfOk r Q
@@ -10,6 +11,12 @@ if_ok (Err e) f p = tt
 on_err : {T E : Type 0} {P : Type 0} (r : Result T E) → P → OnErr r P
 on_err (Ok x) p = tt
 on_err (Err e) p = p
+
+pub reply_to-requires : goal.reply_to-requires
+reply_to-requires g c = c.self.invariant
+
+pub invariant_of-self : goal.invariant_of-self
+invariant_of-self g c = stay_known c.reply_to.ensures.same c.reply_to.new.known_lines c.reply_to.ensures.known
 
 pub returns-clause-replies : goal.returns-clause-replies
 returns-clause-replies g c =
