@@ -1,7 +1,7 @@
 use Rattle.std.proofs.Common.{sym, subst}
 use Rattle.cdi_run_tables.specs.Machine.{machine_tables}
 use Rattle.cdi_runtime.specs.Standing.{RuntimeParts}
-use Rattle.cdi_steps.specs.Known.{JobTellsRightly, KnownJob}
+use Rattle.cdi_steps.specs.Known.{KnownJob}
 use Rattle.cdi_tests_calls.proofs.jobs.refusal_of.Goals as goal
 
 pub refusal-refusal-requires : goal.refusal-refusal-requires
