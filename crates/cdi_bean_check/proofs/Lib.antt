@@ -2,3 +2,4 @@ pub mod LostTypes
 pub mod Mapped
 pub mod NameLists
 pub mod PlaceSets
+pub mod SharedNames

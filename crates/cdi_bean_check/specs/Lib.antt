@@ -6,3 +6,4 @@ pub mod MemberPlaces
 pub mod NameSets
 pub mod Qualifiers
 pub mod Repeated
+pub mod SharedNames

@@ -10,6 +10,7 @@ pub mod bindings;
 pub mod lost_types;
 pub mod member_places;
 pub mod repeated;
+mod shared_names;
 pub mod specialization;
 pub mod typed;
 

@@ -1,11 +1,13 @@
 //! Names that a superclass has already.
-ghost use Rattle.std.specs.Prelude.{◌≡◌, ◌==◌, ◌++◌, ◌||◌, map, filter, IfOk, OnOk};
+ghost use Rattle.std.specs.Prelude.{◌≡◌, ◌==◌, ◌++◌, ◌||◌, map, filter, Contains, IfOk, OnOk};
 ghost use Rattle.std.specs.List.{list_any};
 ghost use Rattle.cdi_bean_check.specs.MemberPlaces.{MemberPlace, same_place, has_place as is_place_of, HasPlaces, AddsPlaces};
 ghost use Rattle.cdi_bean_check.specs.Repeated as spec;
+ghost use Rattle.cdi_bean_check.specs.SharedNames.{HasShared};
 ghost use Rattle.cdi_deployment.specs.Member.{member_name as name_of};
 
 use crate::member_places::has_place;
+use crate::shared_names::{has_any_of, shared_names};
 use cdi_base::{Name, Seq};
 use cdi_deployment::{Class, Field, InjectedField, Member};
 use cdi_problems::{Element, Rule};
@@ -171,14 +173,25 @@ fn add_of_line(
     Ok(())
 }
 
-/// Adds the places of the names of a class that one of its superclasses has already.
+/// Whether one of these classes has a name.
+fn has_class(classes: &[&Class], name: Name) -> bool
+    ensures { result ≡ list_any (λ c. c.now.name == name) classes.now }
+{
+    classes.iter().any(|class| class.name == name)
+}
+
+/// Adds the places of the names of a class that one of its superclasses has already. If none of its names is declared elsewhere, and it
+/// isn't above itself, there are none.
 fn add_of_class(
     alloc: Global,
     index: &ClassIndex<'_>,
     types: &TypeTable,
+    shared: &HashSet<Name>,
     class: &Class,
     found: &mut HashSet<(Name, Name)>,
 ) -> Result<(), AllocError>
+    requires shared { HasShared index.now shared.now }
+    requires listed { Contains index.now class.now }
     ensures { OnOk result
         (AddsPlaces (spec.RepeatsAt index.now types.now class.now) found.old found.new) }
 {
@@ -186,11 +199,14 @@ fn add_of_class(
         return Ok(());
     };
     let line = index.line(alloc, types, direct)?;
+    if !has_any_of(shared, class) && !has_class(line.classes(), class.name) {
+        return Ok(());
+    }
     add_of_line(alloc, class, line.classes(), found)
 }
 
 /// Where classes repeat names of their superclasses: the name of a class, and that of a field or a member. This is the index of the
-/// classes. For each class it goes over all its superclasses.
+/// classes. For each class with a name that is declared elsewhere, too, it compares all names with those of all its superclasses.
 pub fn repeated_of_superclasses(
     alloc: Global,
     classes: &[Class],
@@ -200,9 +216,10 @@ pub fn repeated_of_superclasses(
     requires { index.now ≡ classes.now }
     ensures { IfOk result (HasPlaces (spec.IsRepeatedAt classes.now types.now)) }
 {
+    let shared = shared_names(alloc, classes)?;
     let mut found = HashSet::new(alloc);
     for class in classes {
-        add_of_class(alloc, index, types, class, &mut found)?;
+        add_of_class(alloc, index, types, &shared, class, &mut found)?;
     }
     Ok(found)
 }
