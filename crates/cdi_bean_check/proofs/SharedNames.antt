@@ -1,24 +1,25 @@
--- How often names stand in lists, and that a class which declares no shared name repeats none.
-use Rattle.std.proofs.Common.{◌≡◌, ◌∙◌, ◌||◌, ◌&&◌, ◌⊎◌, inl, inr, ℕ, ◌+◌, ◌<◌, ◌≤◌, Bool, true, false, cond, nat_eq, not, List, [], ◌∷◌, ◌++◌, filter, length, map, take, get_or, Some, refl, sym, ap, subst, arith}
+-- How often names stand in lists, and that a class whose fields have no shared names and whose members no mixed ones repeats none.
+use Rattle.std.proofs.Common.{◌≡◌, ◌∙◌, ◌||◌, ◌&&◌, ◌⊎◌, inl, inr, ℕ, ◌+◌, ◌<◌, ◌≤◌, Bool, true, false, cond, nat_eq, List, [], ◌∷◌, ◌++◌, filter, length, map, take, get_or, Some, refl, sym, ap, subst, arith}
 use Rattle.std.proofs.lemmas.Bool.{cases_Bool, lt-ltb, ltb-true, ltb-false}
-use Rattle.std.proofs.lemmas.Bool.Decides.{Decides-eqb}
 use Rattle.std.proofs.lemmas.List.Elements.{Contains-append_cases, Contains-append_right, Contains-push_cases}
-use Rattle.std.proofs.lemmas.List.Folds.{list_any-append, list_any_at}
+use Rattle.std.proofs.lemmas.List.Folds.{list_any-append}
 use Rattle.std.proofs.lemmas.List.Sums.{sum_by-append, sum_by-cons, sum_by_more}
 use Rattle.std.specs.HashSet.{HashSet, contains}
 use Rattle.std.specs.List.{Contains, find, flat_map, list_any}
 use Rattle.std.specs.Prelude.{nat_lt}
 use Rattle.cdi_base.proofs.Tables.{list_any-map}
 use Rattle.cdi_deployment.specs.declared.deployment.Class.{Class}
-use Rattle.cdi_deployment.specs.declared.deployment.Member.{Member}
 use Rattle.cdi_deployment.specs.Member.{member_name}
 use Rattle.cdi_types.proofs.Listed.{filter_map-from}
 use Rattle.cdi_types.specs.Line.{IsLineOf, class_named}
 use Rattle.cdi_types.specs.declared.declaration.TypeDeclaration.{TypeDeclaration}
-use Rattle.cdi_bean_check.proofs.PlaceSets.{either}
+use Rattle.cdi_bean_check.proofs.Tests.{contained, none_implied, same_name}
+use Rattle.cdi_bean_check.proofs.MixedNames.{no_other_member}
 use Rattle.cdi_bean_check.specs.MemberPlaces.{MemberPlace, same_place}
-use Rattle.cdi_bean_check.specs.Repeated.{has_field, has_other_member, is_alike, repeated_names, repeats_at}
-use Rattle.cdi_bean_check.specs.SharedNames.{names_in, occurrences, HasShared}
+use Rattle.cdi_bean_check.specs.MixedNames.{has_mixed, HasSeenAll}
+use Rattle.cdi_bean_check.specs.declared.mixed_names.MixedNames.{MixedNames}
+use Rattle.cdi_bean_check.specs.Repeated.{has_field, has_other_member, repeated_names, repeats_at}
+use Rattle.cdi_bean_check.specs.SharedNames.{fields_in, occurrences, HasShared}
 
 -- one name more, in the terms of what was counted before
 module _ (n : ℕ) where
@@ -47,13 +48,13 @@ module _ (q : ℕ) where
   is_it n = nat_eq n q
 
   abbrev total : List Class → ℕ
-  total classes = occurrences (flat_map names_in classes) q
+  total classes = occurrences (flat_map fields_in classes) q
 
   abbrev own : Class → ℕ
-  own c = occurrences (names_in c) q
+  own c = occurrences (fields_in c) q
 
   one_class_more : (c : Class) (cs : List Class) → total (c ∷ cs) ≡ own c + total cs
-  one_class_more c cs = sum_by-append (λ n. cond (is_it n) 1 0) (names_in c) (flat_map names_in cs)
+  one_class_more c cs = sum_by-append (λ n. cond (is_it n) 1 0) (fields_in c) (flat_map fields_in cs)
 
   stands : (names : List ℕ) → list_any is_it names ≡ true → 0 < occurrences names q
   stands [] e = absurd cc
@@ -94,29 +95,19 @@ module _ (q : ℕ) where
 
   -- a name that two classes declare is shared
   pub is_shared : {S : Type 0} (classes : List Class) (set : HashSet ℕ S) → HasShared classes set → (a c : Class) → Contains classes a → Contains classes c → (a ≡ c → ⊥)
-      → list_any is_it (names_in a) ≡ true → list_any is_it (names_in c) ≡ true → contains nat_eq set q ≡ true
+      → list_any is_it (fields_in a) ≡ true → list_any is_it (fields_in c) ≡ true → contains nat_eq set q ≡ true
   is_shared classes set shared a c h k differ in_a in_c =
-      let one = stands (names_in a) in_a in
-      let other = stands (names_in c) in_c in
+      let one = stands (fields_in a) in_a in
+      let other = stands (fields_in c) in_c in
       let both = two_within classes a c h k differ in
       shared q ∙ lt-ltb 1 (total classes) (omega arith)
 
--- a test of some name that a class declares, in its parts
-pub any_name : (p : ℕ → Bool) (c : Class) → list_any p (names_in c) ≡ (list_any (λ f. p f.name) c.fields || (list_any (λ f. p f.name) c.inject || list_any (λ m. p (member_name m)) c.members))
+-- a test of the name of some field of a class, in its parts
+pub any_name : (p : ℕ → Bool) (c : Class) → list_any p (fields_in c) ≡ (list_any (λ f. p f.name) c.fields || list_any (λ f. p f.name) c.inject)
 any_name p c =
-    list_any-append p (map (λ f. f.name) c.fields) (map (λ f. f.name) c.inject ++ map member_name c.members)
-    ∙ ap (λ b. b || list_any p (map (λ f. f.name) c.inject ++ map member_name c.members)) (list_any-map p (λ f. f.name) c.fields)
-    ∙ ap (λ b. list_any (λ f. p f.name) c.fields || b) (
-    list_any-append p (map (λ f. f.name) c.inject) (map member_name c.members)
-    ∙ ap (λ b. b || list_any p (map member_name c.members)) (list_any-map p (λ f. f.name) c.inject)
-    ∙ ap (λ b. list_any (λ f. p f.name) c.inject || b) (list_any-map p member_name c.members)
-    )
-
-pub equal_names : (a b : ℕ) → nat_eq a b ≡ true → a ≡ b
-equal_names a b e = (Decides-eqb a b).0 e
-
-same_name : (n : ℕ) → nat_eq n n ≡ true
-same_name n = (Decides-eqb n n).1 refl
+    list_any-append p (map (λ f. f.name) c.fields) (map (λ f. f.name) c.inject)
+    ∙ ap (λ b. b || list_any p (map (λ f. f.name) c.inject)) (list_any-map p (λ f. f.name) c.fields)
+    ∙ ap (λ b. list_any (λ f. p f.name) c.fields || b) (list_any-map p (λ f. f.name) c.inject)
 
 filter_none : {X : Type 0} (p : X → Bool) (xs : List X) → list_any p xs ≡ false → filter p xs ≡ []
 filter_none p [] e = refl
@@ -126,26 +117,11 @@ filter_none p (x ∷ xs) e = by (p x) e (filter_none p xs)
     by true e later = absurd cc
     by false e later = later e
 
--- where a test holds of an item only if another one does, and that one holds of none
-none_implied : {X : Type 0} (p r : X → Bool) (xs : List X) → ((x : X) → Contains xs x → p x ≡ true → r x ≡ true) → list_any r xs ≡ false → list_any p xs ≡ false
-none_implied p r [] implies e = refl
-none_implied {X} p r (x ∷ xs) implies e =
-    by (p x) (r x) (implies x (0, omega arith, refl)) (none_implied p r xs (λ y h. implies y (Contains-append_right (x ∷ []) xs y h))) e
-  where
-    by : (b c : Bool) → (b ≡ true → c ≡ true) → (list_any r xs ≡ false → list_any p xs ≡ false) → (c || list_any r xs) ≡ false → (b || list_any p xs) ≡ false
-    by true true first later e = absurd cc
-    by true false first later e = let holds = first refl in absurd cc
-    by false true first later e = absurd cc
-    by false false first later e = later e
-
-contained : {X : Type 0} (p : X → Bool) (xs : List X) (x : X) → Contains xs x → p x ≡ true → list_any p xs ≡ true
-contained p xs x h holds = list_any_at p xs h.0 x h.1 (ap p h.2 ∙ holds)
-
-first_part : (a b : Bool) → (a || b) ≡ false → a ≡ false
+pub first_part : (a b : Bool) → (a || b) ≡ false → a ≡ false
 first_part true b e = e
 first_part false b e = refl
 
-other_part : (a b : Bool) → (a || b) ≡ false → b ≡ false
+pub other_part : (a b : Bool) → (a || b) ≡ false → b ≡ false
 other_part true b e = absurd cc
 other_part false b e = e
 
@@ -162,80 +138,41 @@ both_hold true b e = refl
 both_hold false b e = e
 
 module _ {S : Type 0} (classes : List Class) (set : HashSet ℕ S) (shared : HasShared classes set) (a c : Class) (above : Contains classes a) (listed : Contains classes c) (differ : a ≡ c → ⊥)
-    (free : list_any (contains nat_eq set) (names_in c) ≡ false) where
+    (free : list_any (contains nat_eq set) (fields_in c) ≡ false) where
   abbrev shares : ℕ → Bool
   shares = contains nat_eq set
 
-  parts : (list_any (λ f. shares f.name) c.fields || (list_any (λ f. shares f.name) c.inject || list_any (λ m. shares (member_name m)) c.members)) ≡ false
+  parts : (list_any (λ f. shares f.name) c.fields || list_any (λ f. shares f.name) c.inject) ≡ false
   parts = sym (any_name shares c) ∙ free
 
-  others : (list_any (λ f. shares f.name) c.inject || list_any (λ m. shares (member_name m)) c.members) ≡ false
-  others = other_part (list_any (λ f. shares f.name) c.fields) (list_any (λ f. shares f.name) c.inject || list_any (λ m. shares (member_name m)) c.members) parts
-
   -- a field's name, which the class has, and the class above it
-  field_shared : (q : ℕ) → list_any (is_it q) (names_in c) ≡ true → has_field q a ≡ true → shares q ≡ true
-  field_shared q own had = is_shared q classes set shared a c above listed differ (any_name (is_it q) a ∙ there) own
-    where
-      there : (list_any (λ f. is_it q f.name) a.fields || (list_any (λ f. is_it q f.name) a.inject || list_any (λ m. is_it q (member_name m)) a.members)) ≡ true
-      there = elim (either (list_any (λ f. is_it q f.name) a.fields) (list_any (λ f. is_it q f.name) a.inject) had) [
-        | inl one ↦ first_holds (list_any (λ f. is_it q f.name) a.fields) (list_any (λ f. is_it q f.name) a.inject || list_any (λ m. is_it q (member_name m)) a.members) one
-        | inr one ↦ other_holds (list_any (λ f. is_it q f.name) a.fields) (list_any (λ f. is_it q f.name) a.inject || list_any (λ m. is_it q (member_name m)) a.members)
-            (first_holds (list_any (λ f. is_it q f.name) a.inject) (list_any (λ m. is_it q (member_name m)) a.members) one)
-      ]
+  field_shared : (q : ℕ) → list_any (is_it q) (fields_in c) ≡ true → has_field q a ≡ true → shares q ≡ true
+  field_shared q own had = is_shared q classes set shared a c above listed differ (any_name (is_it q) a ∙ had) own
 
-  own_field : (q : ℕ) → list_any (λ f. is_it q f.name) c.fields ≡ true → list_any (is_it q) (names_in c) ≡ true
-  own_field q one = any_name (is_it q) c ∙ first_holds (list_any (λ f. is_it q f.name) c.fields) (list_any (λ f. is_it q f.name) c.inject || list_any (λ m. is_it q (member_name m)) c.members) one
+  own_field : (q : ℕ) → list_any (λ f. is_it q f.name) c.fields ≡ true → list_any (is_it q) (fields_in c) ≡ true
+  own_field q one = any_name (is_it q) c ∙ first_holds (list_any (λ f. is_it q f.name) c.fields) (list_any (λ f. is_it q f.name) c.inject) one
 
-  own_injected : (q : ℕ) → list_any (λ f. is_it q f.name) c.inject ≡ true → list_any (is_it q) (names_in c) ≡ true
-  own_injected q one =
-      any_name (is_it q) c
-      ∙ other_holds (list_any (λ f. is_it q f.name) c.fields) (list_any (λ f. is_it q f.name) c.inject || list_any (λ m. is_it q (member_name m)) c.members)
-      (first_holds (list_any (λ f. is_it q f.name) c.inject) (list_any (λ m. is_it q (member_name m)) c.members) one)
-
-  own_member : (q : ℕ) → list_any (λ m. is_it q (member_name m)) c.members ≡ true → list_any (is_it q) (names_in c) ≡ true
-  own_member q one =
-      any_name (is_it q) c
-      ∙ other_holds (list_any (λ f. is_it q f.name) c.fields) (list_any (λ f. is_it q f.name) c.inject || list_any (λ m. is_it q (member_name m)) c.members)
-      (other_holds (list_any (λ f. is_it q f.name) c.inject) (list_any (λ m. is_it q (member_name m)) c.members) one)
+  own_injected : (q : ℕ) → list_any (λ f. is_it q f.name) c.inject ≡ true → list_any (is_it q) (fields_in c) ≡ true
+  own_injected q one = any_name (is_it q) c ∙ other_holds (list_any (λ f. is_it q f.name) c.fields) (list_any (λ f. is_it q f.name) c.inject) one
 
   no_field : list_any (λ f. has_field f.name a) c.fields ≡ false
   no_field = none_implied (λ f. has_field f.name a) (λ f. shares f.name) c.fields
       (λ f h had. field_shared f.name (own_field f.name (contained (λ g. is_it f.name g.name) c.fields f h (same_name f.name))) had)
-      (first_part (list_any (λ f. shares f.name) c.fields) (list_any (λ f. shares f.name) c.inject || list_any (λ m. shares (member_name m)) c.members) parts)
+      (first_part (list_any (λ f. shares f.name) c.fields) (list_any (λ f. shares f.name) c.inject) parts)
 
   no_injected : list_any (λ f. has_field f.name a) c.inject ≡ false
   no_injected = none_implied (λ f. has_field f.name a) (λ f. shares f.name) c.inject
       (λ f h had. field_shared f.name (own_injected f.name (contained (λ g. is_it f.name g.name) c.inject f h (same_name f.name))) had)
-      (first_part (list_any (λ f. shares f.name) c.inject) (list_any (λ m. shares (member_name m)) c.members) others)
+      (other_part (list_any (λ f. shares f.name) c.fields) (list_any (λ f. shares f.name) c.inject) parts)
 
-  any_alike : (q : ℕ) (test : Member → Bool) (ms : List Member) → list_any (λ n. is_it q (member_name n) && test n) ms ≡ true → list_any (λ n. is_it q (member_name n)) ms ≡ true
-  any_alike q test [] e = e
-  any_alike q test (m ∷ ms) e = elim (either (is_it q (member_name m) && test m) (list_any (λ n. is_it q (member_name n) && test n) ms) e) [
-    | inl here ↦ first_holds (is_it q (member_name m)) (list_any (λ n. is_it q (member_name n)) ms) (both_hold (is_it q (member_name m)) (test m) here)
-    | inr later ↦ other_holds (is_it q (member_name m)) (list_any (λ n. is_it q (member_name n)) ms) (any_alike q test ms later)
-  ]
-
-  member_shared : (m : Member) → list_any (is_it (member_name m)) (names_in c) ≡ true → has_other_member m a ≡ true → shares (member_name m) ≡ true
-  member_shared m own had = is_shared (member_name m) classes set shared a c above listed differ (
-      any_name (is_it (member_name m)) a
-      ∙ other_holds (list_any (λ f. is_it (member_name m) f.name) a.fields) (list_any (λ f. is_it (member_name m) f.name) a.inject || list_any (λ n. is_it (member_name m) (member_name n)) a.members)
-      (other_holds (list_any (λ f. is_it (member_name m) f.name) a.inject) (list_any (λ n. is_it (member_name m) (member_name n)) a.members)
-      (any_alike (member_name m) (λ n. not (is_alike n m)) a.members had))
-      ) own
-
-  no_member : list_any (λ m. has_other_member m a) c.members ≡ false
-  no_member = none_implied (λ m. has_other_member m a) (λ m. shares (member_name m)) c.members
-      (λ m h had. member_shared m (own_member (member_name m) (contained (λ n. is_it (member_name m) (member_name n)) c.members m h (same_name (member_name m)))) had)
-      (other_part (list_any (λ f. shares f.name) c.inject) (list_any (λ m. shares (member_name m)) c.members) others)
-
-  pub no_names : repeated_names a c ≡ []
-  no_names =
+  pub no_names : list_any (λ m. has_other_member m a) c.members ≡ false → repeated_names a c ≡ []
+  no_names no_member =
       ap (λ fs. (map (λ f. f.name) fs ++ map (λ f. f.name) (filter (λ f. has_field f.name a) c.inject)) ++ map member_name (filter (λ m. has_other_member m a) c.members)) (filter_none (λ f. has_field f.name a) c.fields no_field)
       ∙ ap (λ fs. map (λ f. f.name) fs ++ map member_name (filter (λ m. has_other_member m a) c.members)) (filter_none (λ f. has_field f.name a) c.inject no_injected)
       ∙ ap (map member_name) (filter_none (λ m. has_other_member m a) c.members no_member)
 
-  pub repeats_none : (place : MemberPlace) → repeats_at c place a ≡ false
-  repeats_none place = ap (list_any (λ name. same_place (c.name, name) place)) no_names
+  pub repeats_none : list_any (λ m. has_other_member m a) c.members ≡ false → (place : MemberPlace) → repeats_at c place a ≡ false
+  repeats_none no_member place = ap (list_any (λ name. same_place (c.name, name) place)) (no_names no_member)
 
 found : (p : Class → Bool) (classes : List Class) (c : Class) → find p classes ≡ Some c → Contains classes c
 found p [] c e = absurd cc
@@ -245,9 +182,10 @@ found p (x ∷ xs) c e = by (p x) e (found p xs c)
     by true e later = let P : Class → Type 0 = λ y. Contains (x ∷ xs) y in let same : x ≡ c = cc in subst P same (0, omega arith, refl)
     by false e later = Contains-append_right (x ∷ []) xs c (later e)
 
--- A class whose names are not shared, and that isn't above itself, repeats none of the names of the classes of a line.
-module _ {S : Type 0} (classes : List Class) (types : List TypeDeclaration) (set : HashSet ℕ S) (shared : HasShared classes set) (c : Class) (listed : Contains classes c) (direct : ℕ)
-    (line : List Class) (is_line : IsLineOf types classes direct line) (free : list_any (contains nat_eq set) (names_in c) ≡ false) (alone : list_any (λ a. nat_eq a.name c.name) line ≡ false) where
+-- Such a class, if it isn't above itself, repeats none of the names of the classes of a line.
+module _ {S : Type 0} (classes : List Class) (types : List TypeDeclaration) (set : HashSet ℕ S) (shared : HasShared classes set) (names : MixedNames) (seen : HasSeenAll classes names)
+    (c : Class) (listed : Contains classes c) (direct : ℕ) (line : List Class) (is_line : IsLineOf types classes direct line)
+    (free : list_any (contains nat_eq set) (fields_in c) ≡ false) (unmixed : has_mixed names c.members ≡ false) (alone : list_any (λ a. nat_eq a.name c.name) line ≡ false) where
   in_classes : (a : Class) → Contains line a → Contains classes a
   in_classes a h =
       let P : List Class → Type 0 = λ cs. Contains cs a in
@@ -260,7 +198,8 @@ module _ {S : Type 0} (classes : List Class) (types : List TypeDeclaration) (set
         | inl same ↦ same
         | inr other ↦ (
             let differ : a ≡ c → ⊥ = λ is. (let t = same_name c.name in let u : nat_eq a.name c.name ≡ nat_eq c.name c.name = ap (λ (d : Class). nat_eq d.name c.name) is in absurd cc) in
-            let none = repeats_none classes set shared a c (in_classes a h) listed differ free place in
+            let alike = no_other_member classes names seen a c (in_classes a h) listed unmixed in
+            let none = repeats_none classes set shared a c (in_classes a h) listed differ free alike place in
             absurd cc
             )
       ])

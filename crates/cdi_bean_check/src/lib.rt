@@ -9,6 +9,7 @@ pub mod bean_types;
 pub mod bindings;
 pub mod lost_types;
 pub mod member_places;
+mod mixed_names;
 pub mod repeated;
 mod shared_names;
 pub mod specialization;

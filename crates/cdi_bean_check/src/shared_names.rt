@@ -1,12 +1,11 @@
-//! Names that the classes of a deployment declare more than once.
+//! Names of fields that the classes of a deployment declare more than once.
 ghost use Rattle.std.specs.Prelude.{◌≡◌, ◌++◌, map, nat_eq, IfOk, OnOk};
 ghost use Rattle.std.specs.HashSet.{contains};
 ghost use Rattle.std.specs.List.{flat_map, list_any};
 ghost use Rattle.cdi_bean_check.specs.SharedNames as spec;
-ghost use Rattle.cdi_deployment.specs.Member.{member_name as name_of};
 
 use cdi_base::{Name, Seq};
-use cdi_deployment::{Class, Field, InjectedField, Member};
+use cdi_deployment::{Class, Field, InjectedField};
 use std::alloc::{AllocError, Global};
 use std::collections::HashSet;
 
@@ -28,27 +27,17 @@ fn add_injected(fields: &[InjectedField], names: &mut Seq<Name>) -> Result<(), A
     Ok(())
 }
 
-fn add_members(members: &[Member], names: &mut Seq<Name>) -> Result<(), AllocError>
-    ensures { OnOk result (names.new ≡ names.old ++ map name_of members.now) }
-{
-    for member in members {
-        names.push(member.name())?;
-    }
-    Ok(())
-}
-
-/// Adds the names of what a class declares.
+/// Adds the names of the fields of a class.
 fn add_names(class: &Class, names: &mut Seq<Name>) -> Result<(), AllocError>
-    ensures { OnOk result (names.new ≡ names.old ++ spec.names_in class.now) }
+    ensures { OnOk result (names.new ≡ names.old ++ spec.fields_in class.now) }
 {
     add_fields(class.fields.as_slice(), names)?;
-    add_injected(class.inject.as_slice(), names)?;
-    add_members(class.members.as_slice(), names)
+    add_injected(class.inject.as_slice(), names)
 }
 
-/// The names of what classes declare.
+/// The names of the fields of classes.
 fn names_of(alloc: Global, classes: &[Class]) -> Result<Seq<Name>, AllocError>
-    ensures { IfOk result (λ names. names ≡ flat_map spec.names_in classes.now) }
+    ensures { IfOk result (λ names. names ≡ flat_map spec.fields_in classes.now) }
 {
     let mut names = Seq::empty(alloc);
     for class in classes {
@@ -73,7 +62,7 @@ fn repeated_in(alloc: Global, names: &[Name]) -> Result<HashSet<Name>, AllocErro
     Ok(repeated)
 }
 
-/// The names of fields, injected or not, and of members that classes declare more than once.
+/// The names of fields, injected or not, that classes declare more than once.
 pub(crate) fn shared_names(alloc: Global, classes: &[Class]) -> Result<HashSet<Name>, AllocError>
     ensures { IfOk result (spec.HasShared classes.now) }
 {
@@ -93,18 +82,10 @@ fn has_injected(shared: &HashSet<Name>, fields: &[InjectedField]) -> bool
     fields.iter().any(|field| shared.contains(&field.name))
 }
 
-fn has_member(shared: &HashSet<Name>, members: &[Member]) -> bool
-    ensures { result ≡ list_any (λ m. contains nat_eq shared.now (name_of m)) members.now }
-{
-    members.iter().any(|member| shared.contains(&member.name()))
-}
-
-/// Whether a set has a name of what a class declares.
+/// Whether a set has the name of a field of a class.
 #[tactic(auto, using(crate::proofs::SharedNames::any_name))]
 pub(crate) fn has_any_of(shared: &HashSet<Name>, class: &Class) -> bool
-    ensures { result ≡ list_any (contains nat_eq shared.now) (spec.names_in class.now) }
+    ensures { result ≡ list_any (contains nat_eq shared.now) (spec.fields_in class.now) }
 {
-    has_field(shared, class.fields.as_slice())
-        || has_injected(shared, class.inject.as_slice())
-        || has_member(shared, class.members.as_slice())
+    has_field(shared, class.fields.as_slice()) || has_injected(shared, class.inject.as_slice())
 }

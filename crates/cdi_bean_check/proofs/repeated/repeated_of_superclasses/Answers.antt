@@ -18,3 +18,6 @@ returns c =
     let all : length classes ≤ c.loop-class.class-index = omega (arith, end) in
     let P : List Class → Type 0 = λ cs. HasPlaces (IsOfSome (RepeatsAt classes c.args.types.now) cs) c.loop-class.found in
     subst P (take_all c.loop-class.class-index classes all) c.loop-class.invariant
+
+pub add_of_class-requires-clause-members : goal.add_of_class-requires-clause-members
+add_of_class-requires-clause-members c = rw c.requires c.in_ok-suspects.ensures.members
