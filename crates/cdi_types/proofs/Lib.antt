@@ -1,4 +1,4 @@
-pub mod Had
+pub mod LastClass
 pub mod OfKind
 pub mod KindLists
 pub mod Lines

@@ -7,11 +7,11 @@ use Rattle.std.specs.List.{list_any, position_or_len}
 use Rattle.std.specs.Option.{is_some}
 use Rattle.cdi_deployment.specs.declared.deployment.Class.{Class}
 use Rattle.cdi_deployment.specs.declared.deployment.Member.{Member}
-use Rattle.cdi_types.specs.Had.{is_had}
+use Rattle.cdi_types.specs.LastClass.{is_had}
 use Rattle.cdi_types.specs.Kinds.{has_kind, of_kind, declares_kind}
 use Rattle.cdi_types.specs.Members.{declares, comes_down, parts_of, members_of}
 use Rattle.cdi_types.specs.declared.kind.MemberKind.{MemberKind}
-use Rattle.cdi_types.proofs.Had.{line, had, same_filter, end, first_of_line}
+use Rattle.cdi_types.proofs.LastClass.{line, had, same_filter, end, first_of_line}
 use Rattle.cdi_types.proofs.Places.{is_some-position}
 
 module _ (kind : MemberKind) where

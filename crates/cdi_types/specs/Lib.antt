@@ -2,7 +2,7 @@ pub mod Above
 pub mod Kinds
 pub mod Line
 pub mod NameSet
-pub mod Had
+pub mod LastClass
 pub mod Members
 pub mod ListsThose
 pub mod Declarations

@@ -14,12 +14,12 @@ abbrev pub place_named : List Class → ℕ → Option ℕ
 place_named classes name = position (λ c. c.name == name) classes
 
 -- the place of the class that a class extends; place tells the places of names
-abbrev pub place_extended : (ℕ → Option ℕ) → Class → Option ℕ
-place_extended place class = option_and_then place class.extends
+abbrev pub place_of_superclass : (ℕ → Option ℕ) → Class → Option ℕ
+place_of_superclass place class = option_and_then place class.extends
 
 -- what the class at a place extends
-abbrev pub extended_at : List Class → ℕ → Option ℕ
-extended_at classes place = option_and_then (λ c. c.extends) (slice_get classes place)
+abbrev pub superclass_at : List Class → ℕ → Option ℕ
+superclass_at classes place = option_and_then (λ c. c.extends) (slice_get classes place)
 
 -- the classes of these that the lineage of a name names; names of no class are passed over
 pub record IsLineOf (types : List TypeDeclaration) (classes : List Class) (name : ℕ)

@@ -2,7 +2,7 @@
 ghost use Rattle.std.specs.Prelude.{◌≡◌, ◌==◌, ◌↔◌, ℕ, List, Some, position, nat_eq, map, slice_get, option_and_then, IfOk, IsTrue};
 ghost use Rattle.std.specs.HashMap.{get};
 ghost use Rattle.std.specs.Option.{option_copied};
-ghost use Rattle.cdi_types.specs.Line.{class_named, place_named, place_extended, extended_at, IsLineOf};
+ghost use Rattle.cdi_types.specs.Line.{class_named, place_named, place_of_superclass, superclass_at, IsLineOf};
 ghost use Rattle.cdi_types.specs.Nodes.{place_of};
 ghost use Rattle.cdi_types.specs.Subtype.{IsAcyclic};
 
@@ -28,7 +28,7 @@ impl<'a> Model for ClassIndex<'a> {
     ghost use Rattle.std.specs.Prelude.{List, ◌≡◌, ◌==◌, ℕ, position, nat_eq, map};
     ghost use Rattle.std.specs.HashMap.{get};
     ghost use Rattle.cdi_deployment.specs.declared.deployment.Class.{Class};
-    ghost use Rattle.cdi_types.specs.Line.{place_named, place_extended};
+    ghost use Rattle.cdi_types.specs.Line.{place_named, place_of_superclass};
 
     ghost Value = { List Class };
 
@@ -36,7 +36,7 @@ impl<'a> Model for ClassIndex<'a> {
 
     ghost invariant = { λ t.
         ((name : ℕ) → get nat_eq t.places name ≡ place_named t.classes.now name)
-        × (t.above ≡ map (place_extended (place_named t.classes.now)) t.classes.now) };
+        × (t.above ≡ map (place_of_superclass (place_named t.classes.now)) t.classes.now) };
 }
 
 /// The place of the first class of each name.
@@ -55,7 +55,7 @@ fn places_of(alloc: Global, classes: &[Class]) -> Result<HashMap<Name, usize>, A
 
 /// The place of the first class of the name that a class extends.
 fn place_above(places: &HashMap<Name, usize>, class: &Class) -> Option<usize>
-    ensures { result ≡ place_extended (get nat_eq places.now) class.now }
+    ensures { result ≡ place_of_superclass (get nat_eq places.now) class.now }
 {
     places.get(&class.extends?).copied()
 }
@@ -67,7 +67,7 @@ fn places_above(
     classes: &[Class],
 ) -> Result<Seq<Option<usize>>, AllocError>
     ensures { IfOk result (λ above. above
-        ≡ map (place_extended (get nat_eq places.now)) classes.now) }
+        ≡ map (place_of_superclass (get nat_eq places.now)) classes.now) }
 {
     let mut above = Seq::empty(alloc);
     for class in classes {
@@ -113,7 +113,7 @@ impl<'a> ClassIndex<'a> {
 
     /// Whether the class at a place extends the class of a name.
     fn extends(&self, place: usize, superclass: Name) -> bool
-        ensures { IsTrue result ↔ (extended_at self.now place ≡ Some superclass) }
+        ensures { IsTrue result ↔ (superclass_at self.now place ≡ Some superclass) }
     {
         match self.classes.get(place) {
             Some(class) => class.extends == Some(superclass),
@@ -123,13 +123,13 @@ impl<'a> ClassIndex<'a> {
 
     /// The place of the first class of the name that the class at a place extends.
     fn place_above(&self, place: usize) -> Option<usize>
-        ensures { result ≡ option_and_then (place_named self.now) (extended_at self.now place) }
+        ensures { result ≡ option_and_then (place_named self.now) (superclass_at self.now place) }
     {
         *self.above.get(place)?
     }
 
     /// The place of the first class of a superclass's name, if one has it. Where the class at a place extends it, nothing is looked up.
-    fn place_from(&self, place: Option<usize>, superclass: Name) -> Option<usize>
+    fn superclass_place(&self, place: Option<usize>, superclass: Name) -> Option<usize>
         ensures { result ≡ place_named self.now superclass }
     {
         match place {
@@ -146,11 +146,11 @@ impl<'a> ClassIndex<'a> {
         graph: &TypeGraph,
         name: Name,
         place: Option<usize>,
-        class: Option<usize>,
+        class_place: Option<usize>,
     ) -> Result<Seq<&'a Class>, AllocError>
         requires acyclic { IsAcyclic graph.now }
         requires place { place ≡ place_of graph.now name }
-        requires class { class ≡ place_named self.now name }
+        requires class { class_place ≡ place_named self.now name }
         ensures { IfOk result
             (λ line. IsLineOf graph.now self.now name (map (λ c. c.now) line)) }
     {
@@ -163,11 +163,11 @@ impl<'a> ClassIndex<'a> {
                 graph,
                 above,
                 graph.superclass_place_from(place),
-                self.place_from(class, above),
+                self.superclass_place(class_place, above),
             )?,
             None => Seq::empty(alloc),
         };
-        if let Some(class) = self.at(class) {
+        if let Some(class) = self.at(class_place) {
             line.push(class)?;
         }
         Ok(line)

@@ -1,6 +1,6 @@
 //! A class with its superclasses.
 ghost use Rattle.std.specs.Prelude.{◌≡◌, ◌++◌, map, filter, reverse, IfOk, OnOk};
-ghost use Rattle.cdi_types.specs.Had as had;
+ghost use Rattle.cdi_types.specs.LastClass as last;
 ghost use Rattle.cdi_types.specs.Kinds.{has_kind, of_kind};
 ghost use Rattle.cdi_types.specs.NameSet.{has};
 ghost use Rattle.cdi_types.specs.Members as spec;
@@ -45,7 +45,7 @@ fn add_parts<'a, T>(
 
 /// Whether the last class of a line has a member of a class of the line. The classes below that declare these names.
 fn is_had(member: &Member, is_last: bool, below: &NameSet) -> bool
-    ensures { result ≡ had.is_had (has below.now) is_last member.now }
+    ensures { result ≡ last.is_had (has below.now) is_last member.now }
 {
     is_last || (is_inherited(member) && !below.contains(member.name()))
 }
@@ -58,7 +58,7 @@ fn add_members<'a>(
     found: &mut Seq<ClassPart<'a, Member>>,
 ) -> Result<(), AllocError>
     ensures { OnOk result (reverse found.new ≡ spec.parts_of class.now
-        (filter (had.is_had (has below.now) is_last) class.now.members) ++ reverse found.old) }
+        (filter (last.is_had (has below.now) is_last) class.now.members) ++ reverse found.old) }
 {
     let members = class.members.as_slice();
     for place in (0..members.len()).rev() {
@@ -79,7 +79,7 @@ fn add_members_of_kind<'a>(
     found: &mut Seq<ClassPart<'a, Member>>,
 ) -> Result<(), AllocError>
     ensures { OnOk result (reverse found.new ≡ spec.parts_of class.now
-        (filter (had.is_had (has below.now) is_last)
+        (filter (last.is_had (has below.now) is_last)
         (filter (has_kind kind) class.now.members)) ++ reverse found.old) }
 {
     let members = class.members.as_slice();

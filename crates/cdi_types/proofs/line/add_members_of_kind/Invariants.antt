@@ -1,5 +1,5 @@
 use Rattle.std.proofs.Common.{◌≡◌, ◌++◌, filter, drop, reverse}
-use Rattle.cdi_types.specs.Had.{is_had}
+use Rattle.cdi_types.specs.LastClass.{is_had}
 use Rattle.cdi_types.specs.Kinds.{has_kind}
 use Rattle.cdi_types.specs.Members.{parts_of}
 use Rattle.cdi_types.specs.NameSet.{has}

@@ -19,7 +19,7 @@ pub line_from-requires : goal.line_from-requires
 line_from-requires t c =
     let extends = sym (c.superclass_from.ensures c.args.name c.requires.place) ∙ c.in-Some.is in
     let falls = steps-fall c.args.graph.now c.requires.acyclic c.args.name c.in-Some.above extends in
-    (omega (arith, falls, c.decreases), (c.requires.acyclic, (c.superclass_place_from.ensures c.args.name c.in-Some.above c.requires.place extends, c.place_from.ensures)))
+    (omega (arith, falls, c.decreases), (c.requires.acyclic, (c.superclass_place_from.ensures c.args.name c.in-Some.above c.requires.place extends, c.superclass_place.ensures)))
 
 pub returns : goal.returns
 returns t c =

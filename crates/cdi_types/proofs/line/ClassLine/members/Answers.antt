@@ -1,6 +1,6 @@
 use Rattle.std.proofs.Common.{◌≡◌, ◌<◌, ◌+◌, ◌-◌, ℕ, length, reverse, refl, arith}
 use Rattle.cdi_types.specs.NameSet.{has}
-use Rattle.cdi_types.proofs.Had.{knows_more, finds_more}
+use Rattle.cdi_types.proofs.LastClass.{knows_more, finds_more}
 use Rattle.cdi_types.proofs.line.ClassLine.members.Goals as goal
 
 pub loop-place-preserved-in-Continue-branch-2 : goal.loop-place-preserved-in-Continue-branch-2

@@ -4,7 +4,7 @@ use Rattle.cdi_deployment.specs.declared.deployment.Class.{Class}
 use Rattle.cdi_types.specs.Kinds.{of_kind, declares_kind}
 use Rattle.cdi_types.specs.Members.{members_of}
 use Rattle.cdi_types.specs.NameSet.{has}
-use Rattle.cdi_types.proofs.Had.{line, knows_more}
+use Rattle.cdi_types.proofs.LastClass.{line, knows_more}
 use Rattle.cdi_types.proofs.OfKind.{none_of_kind, from_topmost, finds_more_of_kind}
 use Rattle.cdi_types.proofs.line.ClassLine.members_of_kind.Goals as goal
 

@@ -6,7 +6,7 @@ use Rattle.std.proofs.Math.Seq.{drop-cons}
 use Rattle.std.specs.List.{list_any}
 use Rattle.cdi_deployment.specs.declared.deployment.Class.{Class}
 use Rattle.cdi_deployment.specs.declared.deployment.Member.{Member}
-use Rattle.cdi_types.specs.Had.{is_had}
+use Rattle.cdi_types.specs.LastClass.{is_had}
 use Rattle.cdi_types.specs.Members.{is_inherited, declares, comes_down, parts_of, members_of}
 use Rattle.cdi_deployment.specs.Member.{member_name}
 
