@@ -1,7 +1,9 @@
-pub mod Inherited
+pub mod LastClass
 pub mod OfKind
 pub mod KindLists
 pub mod Lines
+pub mod LineSteps
+pub mod WordsGrown
 pub mod ClassPlaces
 pub mod Listings
 pub mod Cycles

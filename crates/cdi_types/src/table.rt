@@ -6,7 +6,6 @@ ghost use Rattle.cdi_types.specs.Table.{IsSound, IsRefused};
 use crate::declaration::TypeDeclaration;
 use crate::fault::TypesFault;
 use crate::graph::TypeGraph;
-use crate::lineage::lineage_of;
 use cdi_base::{BuiltIn, Name, OrMemory, Seq};
 use cdi_deployment::Deployment;
 use std::alloc::{AllocError, Global};
@@ -139,10 +138,11 @@ impl TypeTable {
         self.graph.superclass_of(name)
     }
 
-    /// A class with its superclasses below `Object`, the topmost first.
-    pub fn lineage(&self, alloc: Global, name: Name) -> Result<Seq<Name>, AllocError>
-        ensures { IfOk result (λ names. lineage.IsLineage self.now name names) }
+    /// The types with the graph of what stands above what, which has no cycle.
+    pub(crate) fn graph(&self) -> &TypeGraph
+        ensures graph { result.now ≡ self.now }
+        ensures acyclic { spec.IsAcyclic self.now }
     {
-        lineage_of(alloc, &self.graph, name, self.graph.place(name))
+        &self.graph
     }
 }
