@@ -6,6 +6,7 @@ pub mod Settings
 pub mod Enabled
 pub mod Live
 pub mod LiveSets
+pub mod MemberSets
 pub mod Points
 pub mod PointProblems
 pub mod ResolvedPoints

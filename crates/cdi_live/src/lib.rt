@@ -8,6 +8,7 @@ mod cycles;
 pub mod deployment_tables;
 mod graph;
 pub mod live_tables;
+mod member_set;
 mod needed_at_points;
 mod needs;
 pub mod node;

@@ -4,8 +4,10 @@ ghost use Rattle.std.specs.HashSet.{contains};
 ghost use Rattle.std.specs.List.{Any};
 ghost use Rattle.cdi_live.specs.Live as spec;
 ghost use Rattle.cdi_live.specs.LiveSets.{HasThose, AreLive};
+ghost use Rattle.cdi_live.specs.MemberSets.{HasLast};
 ghost use Rattle.cdi_name_check.specs.NameSets.{HasNames, HasPairs, same_pair};
 
+use crate::member_set::{LastClasses, add_member};
 use cdi_base::Name;
 use cdi_beans::EnabledInterceptor;
 use cdi_deployment::Class;
@@ -41,12 +43,18 @@ fn classes_of(alloc: Global, enabled: &[EnabledBean<'_>]) -> Result<HashSet<Name
 }
 
 /// Adds the members of a bean.
-fn add_members(bean: &EnabledBean<'_>, set: &mut HashSet<(Name, Name)>) -> Result<(), AllocError>
-    ensures { OnOk result ((class name : ℕ) → contains same_pair set.new (class, name)
+fn add_members(
+    bean: &EnabledBean<'_>,
+    set: &mut HashSet<(Name, Name)>,
+    last: &mut LastClasses,
+) -> Result<(), AllocError>
+    requires { HasLast set.old last.old }
+    ensures set { OnOk result ((class name : ℕ) → contains same_pair set.new (class, name)
         ≡ (contains same_pair set.old (class, name) || spec.has_member class name bean.now)) }
+    ensures last { OnOk result (HasLast set.new last.new) }
 {
     for member in bean.members() {
-        set.insert((member.class, member.name))?;
+        add_member(member, set, last)?;
     }
     Ok(())
 }
@@ -59,8 +67,9 @@ fn members_of(
     ensures { IfOk result (HasPairs (spec.is_live_member enabled.now)) }
 {
     let mut set = HashSet::new(alloc);
+    let mut last = LastClasses::none(alloc);
     for bean in enabled {
-        add_members(bean, &mut set)?;
+        add_members(bean, &mut set, &mut last)?;
     }
     Ok(set)
 }
