@@ -13,4 +13,5 @@ pub mod Places
 pub mod Refined
 pub mod Steps
 pub mod Supertypes
+pub mod TypesOf
 pub mod SameGraph

@@ -1,5 +1,6 @@
 //! A dense set of names.
 ghost use Rattle.std.specs.Prelude.{◌≡◌, ◌==◌, ◌||◌, ℕ, false, OnOk};
+ghost use Rattle.std.specs.List.{list_any};
 ghost use Rattle.cdi_types.specs.Members.{declares};
 ghost use Rattle.cdi_types.specs.NameSet.{has};
 
@@ -9,13 +10,13 @@ use std::alloc::{AllocError, Global};
 
 /// A set of names, by the bits of their numbers, 64 to a word. It has as many words as the greatest number in it needs.
 #[derive(Drop)]
-pub(crate) struct NameSet {
+pub struct NameSet {
     words: Vec<u64>,
 }
 
 impl NameSet {
     /// No names.
-    pub(crate) fn new(alloc: Global) -> NameSet
+    pub fn new(alloc: Global) -> NameSet
         ensures { (name : ℕ) → has result name ≡ false }
     {
         NameSet {
@@ -24,7 +25,7 @@ impl NameSet {
     }
 
     /// Whether a name is in the set.
-    pub(crate) fn contains(&self, name: Name) -> bool
+    pub fn contains(&self, name: Name) -> bool
         ensures { result ≡ has self.now name }
     {
         let bit = name.number() as usize;
@@ -35,7 +36,7 @@ impl NameSet {
     }
 
     /// Puts a name into the set.
-    pub(crate) fn insert(&mut self, name: Name) -> Result<(), AllocError>
+    pub fn insert(&mut self, name: Name) -> Result<(), AllocError>
         ensures { OnOk result ((n : ℕ) → has self.new n ≡ (name == n || has self.old n)) }
     {
         let bit = name.number() as usize;
@@ -43,6 +44,17 @@ impl NameSet {
             self.words.resize(bit / 64 + 1, 0)?;
         }
         self.words[bit / 64] |= 1 << (bit % 64);
+        Ok(())
+    }
+
+    /// Puts names into the set.
+    pub(crate) fn insert_all(&mut self, names: &[Name]) -> Result<(), AllocError>
+        ensures { OnOk result ((name : ℕ) → has self.new name
+            ≡ (list_any (λ n. n == name) names.now || has self.old name)) }
+    {
+        for name in names {
+            self.insert(*name)?;
+        }
         Ok(())
     }
 

@@ -1,11 +1,13 @@
 //! The table of the types.
-ghost use Rattle.std.specs.Prelude.{◌≡◌, ◌≢◌, ◌↔◌, IsTrue, IfOk, OnOk, IfErr};
+ghost use Rattle.std.specs.Prelude.{◌≡◌, ◌≢◌, ◌↔◌, ◌⊎◌, ℕ, IsTrue, IfOk, OnOk, IfErr};
+ghost use Rattle.cdi_types.specs.NameSet.{has};
 ghost use Rattle.cdi_types.specs.ListsThose.{ListsThose};
 ghost use Rattle.cdi_types.specs.Table.{IsSound, IsRefused};
 
 use crate::declaration::TypeDeclaration;
 use crate::fault::TypesFault;
 use crate::graph::TypeGraph;
+use crate::name_set::NameSet;
 use cdi_base::{BuiltIn, Name, OrMemory, Seq};
 use cdi_deployment::Deployment;
 use std::alloc::{AllocError, Global};
@@ -129,6 +131,23 @@ impl TypeTable {
         }
         found.push(BuiltIn::Object.name())?;
         Ok(found)
+    }
+
+    /// Puts the types that a type is a subtype of into a set of names.
+    pub fn add_types_of(
+        &self,
+        alloc: Global,
+        name: Name,
+        names: &mut NameSet,
+    ) -> Result<(), AllocError>
+        ensures { OnOk result ((other : ℕ) → IsTrue (has names.new other)
+            ↔ (spec.IsSubtype self.now name other ⊎ IsTrue (has names.old other))) }
+    {
+        self.law_sound();
+        let found = self.types_of(alloc, name)?;
+        names.insert(name)?;
+        names.insert_all(found.as_slice())?;
+        Ok(())
     }
 
     /// The class that a class extends directly, if it names one. Where a name is declared twice, the first declaration counts.
