@@ -1,3 +1,4 @@
+pub mod Above
 pub mod Growing
 pub mod Initializers
 pub mod Members

@@ -6,13 +6,14 @@ ghost use Rattle.cdi_live.specs.Live as spec;
 ghost use Rattle.cdi_live.specs.LiveSets.{HasThose, AreLive};
 ghost use Rattle.cdi_live.specs.MemberSets.{HasLast};
 ghost use Rattle.cdi_name_check.specs.NameSets.{HasNames, HasPairs, same_pair};
+ghost use Rattle.cdi_types.specs.NameSet.{has as has_name};
 
 use crate::member_set::{LastClasses, add_member};
 use cdi_base::Name;
 use cdi_beans::EnabledInterceptor;
 use cdi_deployment::Class;
 use cdi_resolve::EnabledBean;
-use cdi_types::TypeTable;
+use cdi_types::{NameSet, TypeTable};
 use std::alloc::{AllocError, Global};
 use std::collections::HashSet;
 
@@ -74,18 +75,22 @@ fn members_of(
     Ok(set)
 }
 
-/// Whether a managed bean is of a class or of one below it.
-fn is_below(types: &TypeTable, bean: &EnabledBean<'_>, class: Name) -> bool
-    ensures { IsTrue result ↔ spec.IsBeanBelow types.now class bean.now }
+/// The classes of managed beans, and all types above them.
+fn types_of_beans(
+    alloc: Global,
+    types: &TypeTable,
+    enabled: &[EnabledBean<'_>],
+) -> Result<NameSet, AllocError>
+    ensures { IfOk result (λ names. (class : ℕ) → IsTrue (has_name names class)
+        ↔ Any (spec.IsBeanBelow types.now class) enabled.now) }
 {
-    bean.is_managed() && types.is_subtype(bean.class(), class)
-}
-
-/// Whether one of some beans is a managed one of a class or of one below it.
-fn has_below(types: &TypeTable, enabled: &[EnabledBean<'_>], class: Name) -> bool
-    ensures { IsTrue result ↔ Any (spec.IsBeanBelow types.now class) enabled.now }
-{
-    enabled.iter().any(|bean| is_below(types, bean, class))
+    let mut names = NameSet::new(alloc);
+    for bean in enabled {
+        if bean.is_managed() {
+            types.add_types_of(alloc, bean.class(), &mut names)?;
+        }
+    }
+    Ok(names)
 }
 
 /// Those of some classes that are of managed beans, or above these.
@@ -97,9 +102,10 @@ fn classes_with_fields(
 ) -> Result<HashSet<Name>, AllocError>
     ensures { IfOk result (HasThose (spec.HasFieldsOf classes.now types.now enabled.now)) }
 {
+    let above = types_of_beans(alloc, types, enabled)?;
     let mut set = HashSet::new(alloc);
     for class in classes {
-        if has_below(types, enabled, class.name) {
+        if above.contains(class.name) {
             set.insert(class.name)?;
         }
     }
