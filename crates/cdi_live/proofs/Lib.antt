@@ -6,5 +6,6 @@ pub mod NeedyProducts
 pub mod Paths
 pub mod Rows
 pub mod Within
+pub mod FieldNeeds
 pub mod FieldSets
 pub mod MemberSets

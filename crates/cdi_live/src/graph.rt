@@ -1,10 +1,12 @@
 //! The graph of what needs what.
 ghost use Rattle.std.specs.Prelude.{◌≡◌, ◌+◌, ◌<◌, ◌^◌, All, length, IfOk, OnOk};
 ghost use Rattle.std.specs.List.{filter_map};
+ghost use Rattle.cdi_live.specs.FieldNeeds.{AreFieldNeeds};
 ghost use Rattle.cdi_live.specs.Graphs as spec;
 ghost use Rattle.cdi_live.specs.Settings.{setting_of, counts_of};
 
 use crate::deployment_tables::DeploymentTables;
+use crate::field_needs::FieldNeeds;
 use crate::node::Node;
 use cdi_base::Seq;
 use std::alloc::{AllocError, Global};
@@ -70,13 +72,19 @@ impl DeploymentTables<'_> {
     }
 
     /// The row of a bean: the numbers of what it needs, if it is enabled.
-    fn bean_row(&self, alloc: Global, index: usize) -> Result<Seq<usize>, AllocError>
+    fn bean_row(
+        &self,
+        alloc: Global,
+        fields: &FieldNeeds,
+        index: usize,
+    ) -> Result<Seq<usize>, AllocError>
+        requires { AreFieldNeeds (setting_of self.now) fields.now }
         ensures { IfOk result
             (spec.IsRowOf (setting_of self.now) (counts_of self.now) (Node.Bean index)) }
     {
         match self.beans.resolver.bean(index) {
             Some(bean) => {
-                let needs = self.bean_needs(alloc, bean)?;
+                let needs = self.bean_needs(alloc, fields, bean)?;
                 let row = self.counts().numbers_of(alloc, needs.as_slice())?;
                 Ok(row)
             }
@@ -95,13 +103,14 @@ impl DeploymentTables<'_> {
     }
 
     /// The rows of the beans.
-    fn bean_rows(&self, alloc: Global) -> Result<Seq<Seq<usize>>, AllocError>
+    fn bean_rows(&self, alloc: Global, fields: &FieldNeeds) -> Result<Seq<Seq<usize>>, AllocError>
+        requires { AreFieldNeeds (setting_of self.now) fields.now }
         ensures { IfOk result (spec.HasBeanRows (setting_of self.now) (counts_of self.now)
             (counts_of self.now).beans) }
     {
         let mut graph = Seq::empty(alloc);
         for index in 0..self.beans.resolver.beans().len() {
-            graph.push(self.bean_row(alloc, index)?)?;
+            graph.push(self.bean_row(alloc, fields, index)?)?;
         }
         Ok(graph)
     }
@@ -111,7 +120,8 @@ impl DeploymentTables<'_> {
         ensures { IfOk result (spec.HasRows (setting_of self.now) (counts_of self.now)
             (counts_of self.now).interceptors) }
     {
-        let mut graph = self.bean_rows(alloc)?;
+        let fields = FieldNeeds::build(alloc, self)?;
+        let mut graph = self.bean_rows(alloc, &fields)?;
         for place in 0..self.live.interceptors().len() {
             graph.push(self.interceptor_row(alloc, place)?)?;
         }
