@@ -11,7 +11,7 @@ use Rattle.cdi_deployment.specs.declared.deployment.Class.{Class}
 use Rattle.cdi_deployment.specs.declared.deployment.InjectedField.{InjectedField}
 use Rattle.cdi_types.specs.Line.{class_named, IsLineOf}
 use Rattle.cdi_types.specs.Members.{injected_fields_of, parts_of}
-use Rattle.cdi_live.specs.FieldNeeds.{needs_of_fields, listed, AreFieldNeeds, AreNamed}
+use Rattle.cdi_live.specs.FieldNeeds.{needs_of_fields, list_of, AreFieldNeeds, AreNamed}
 use Rattle.cdi_live.specs.Needs.{needed_at}
 use Rattle.cdi_live.specs.OwnPoints.{Inventory}
 use Rattle.cdi_live.specs.Points.{field_point}
@@ -41,19 +41,19 @@ module _ (s : Inventory) where
 
   -- what a line needs, class by class
   module _ (t : FieldNeeds) (are : AreFieldNeeds s t) where
-    of_class : (c : Class) → class_named classes c.name ≡ Some c → listed t c.name ≡ needs_of_fields s c
+    of_class : (c : Class) → class_named classes c.name ≡ Some c → list_of t c.name ≡ needs_of_fields s c
     of_class c e = ap (λ o. unwrap_or o []) (are.told c.name ∙ ap (option_map (needs_of_fields s)) e)
 
     own_points : (c : Class) (fields : List InjectedField) → map (λ (p : Class × InjectedField). field_point p.1) (parts_of c fields) ≡ map field_point fields
     own_points c [] = refl
     own_points c (f ∷ fields) = ap (λ ps. field_point f ∷ ps) (own_points c fields)
 
-    pub of_line : (line : List Class) → AreNamed s line → flat_map (λ c. listed t c.name) line ≡ filter_map (needed_at s) (map (λ p. field_point p.1) (injected_fields_of line))
+    pub of_line : (line : List Class) → AreNamed s line → flat_map (λ c. list_of t c.name) line ≡ filter_map (needed_at s) (map (λ p. field_point p.1) (injected_fields_of line))
     of_line [] named = refl
     of_line (c ∷ line) named =
         let own = parts_of c c.inject in
         let more = injected_fields_of line in
-        ap (λ ns. ns ++ flat_map (λ k. listed t k.name) line) (of_class c (named 0 c (omega arith)))
+        ap (λ ns. ns ++ flat_map (λ k. list_of t k.name) line) (of_class c (named 0 c (omega arith)))
         ∙ ap (λ ns. needs_of_fields s c ++ ns) (of_line line (λ k d lt. named (suc k) d (omega arith)))
         ∙ ap (λ ps. filter_map (needed_at s) ps ++ filter_map (needed_at s) (map (λ p. field_point p.1) more)) (sym (own_points c c.inject))
         ∙ sym (ap (filter_map (needed_at s)) (map-append (λ p. field_point p.1) own more) ∙ filter_map-append (needed_at s) (map (λ p. field_point p.1) own) (map (λ p. field_point p.1) more))

@@ -4,6 +4,7 @@ pub mod Members
 pub mod Needy
 pub mod NeedyProducts
 pub mod Paths
+pub mod RowNumbers
 pub mod Rows
 pub mod Within
 pub mod FieldNeeds

@@ -15,8 +15,8 @@ abbrev pub needs_of_fields : Inventory → Class → List Node
 needs_of_fields s class = filter_map (needed_at s) (map field_point class.inject)
 
 -- what a table tells of the class of a name
-abbrev pub listed : FieldNeeds → ℕ → List Node
-listed t name = unwrap_or (get nat_eq t.lists name) []
+abbrev pub list_of : FieldNeeds → ℕ → List Node
+list_of t name = unwrap_or (get nat_eq t.lists name) []
 
 -- a table tells this of each class of the deployment, and of no other name
 pub record AreFieldNeeds (s : Inventory) (t : FieldNeeds) : Type 0 where

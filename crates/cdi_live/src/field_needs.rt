@@ -62,7 +62,7 @@ impl FieldNeeds {
 
     /// What the injected fields of a class need.
     fn of(&self, class: Name) -> &[Node]
-        ensures { result.now ≡ spec.listed self.now class }
+        ensures { result.now ≡ spec.list_of self.now class }
     {
         match self.lists.get(&class) {
             Some(nodes) => nodes.as_slice(),
@@ -73,7 +73,7 @@ impl FieldNeeds {
     /// Adds what the injected fields of some classes need.
     pub(crate) fn add_of(&self, classes: &[&Class], needs: &mut Seq<Node>) -> Result<(), AllocError>
         ensures { OnOk result (needs.new ≡ needs.old
-            ++ flat_map (λ c. spec.listed self.now c.name) (map (λ c. c.now) classes.now)) }
+            ++ flat_map (λ c. spec.list_of self.now c.name) (map (λ c. c.now) classes.now)) }
     {
         for class in classes {
             add_nodes(self.of(class.name), needs)?;

@@ -1,6 +1,7 @@
 //! The graph of what needs what.
-ghost use Rattle.std.specs.Prelude.{◌≡◌, ◌+◌, ◌<◌, ◌^◌, All, length, IfOk, OnOk};
+ghost use Rattle.std.specs.Prelude.{◌≡◌, ◌+◌, ◌<◌, ◌^◌, ◌++◌, ◌∷◌, [], true, if◌then◌else◌, vec_len, slice_set, length, IfOk, OnOk};
 ghost use Rattle.std.specs.List.{filter_map};
+ghost use Rattle.cdi_live.specs.Cycles.{flag};
 ghost use Rattle.cdi_live.specs.FieldNeeds.{AreFieldNeeds};
 ghost use Rattle.cdi_live.specs.Graphs as spec;
 ghost use Rattle.cdi_live.specs.Settings.{setting_of, counts_of};
@@ -16,6 +17,20 @@ use std::alloc::{AllocError, Global};
 pub(crate) struct Counts {
     pub(crate) beans: usize,
     pub(crate) interceptors: usize,
+}
+
+/// Adds a number to a row, unless its flag tells that it is listed there.
+fn add_number(number: usize, listed: &mut Vec<bool>, row: &mut Seq<usize>) -> Result<(), AllocError>
+    requires { number < vec_len listed.old }
+    ensures flags { OnOk result (listed.new.items ≡ slice_set listed.old.items number true) }
+    ensures row { OnOk result (row.new ≡ (if flag listed.old.items number then row.old
+        else row.old ++ number ∷ [])) }
+{
+    if !listed[number] {
+        listed[number] = true;
+        row.push(number)?;
+    }
+    Ok(())
 }
 
 impl Counts {
@@ -43,19 +58,20 @@ impl Counts {
         }
     }
 
-    /// The numbers of some nodes.
+    /// The numbers of some nodes, each once.
     fn numbers_of(self, alloc: Global, nodes: &[Node]) -> Result<Seq<usize>, AllocError>
         requires { self.beans + self.interceptors < 2 ^ 64 }
-        ensures { IfOk result (λ numbers. numbers ≡ filter_map (spec.number_of
-            (record { beans = self.beans; interceptors = self.interceptors })) nodes.now) }
+        ensures { IfOk result (λ row. spec.HaveSameItems row (filter_map (spec.number_of
+            (record { beans = self.beans; interceptors = self.interceptors })) nodes.now)) }
     {
-        let mut numbers = Seq::empty(alloc);
+        let mut listed = vec![in alloc; false; self.beans + self.interceptors]?;
+        let mut row = Seq::empty(alloc);
         for node in nodes {
             if let Some(number) = self.number_of(*node) {
-                numbers.push(number)?;
+                add_number(number, &mut listed, &mut row)?;
             }
         }
-        Ok(numbers)
+        Ok(row)
     }
 }
 

@@ -5,7 +5,7 @@ use Rattle.cdi_deployment.specs.declared.deployment.Point.{Point}
 use Rattle.cdi_types.specs.Kinds.{of_kind}
 use Rattle.cdi_types.specs.Members.{members_of, injected_fields_of}
 use Rattle.cdi_types.specs.declared.kind.MemberKind.TheVariants as kinds
-use Rattle.cdi_live.specs.FieldNeeds.{listed}
+use Rattle.cdi_live.specs.FieldNeeds.{list_of}
 use Rattle.cdi_live.specs.Points.{field_point}
 use Rattle.cdi_live.specs.Needs.{needed_at}
 use Rattle.cdi_live.specs.OwnPoints.{initializer_points}
@@ -25,7 +25,7 @@ returns c =
     let has = members_of line in
     let injected : List Point = map (λ p. field_point p.1) (injected_fields_of line) in
     let initialized : List Point = flat_map initializer_points has in
-    let told : List Class → List Node = flat_map (λ k. listed t k.name) in
+    let told : List Class → List Node = flat_map (λ k. list_of t k.name) in
     let first : c.add_of.new.needs ≡ c.args.needs.now ++ filter_map f injected = c.in_ok-add_of.ensures ∙ ap (λ cs. c.args.needs.now ++ told cs) c.classes.ensures ∙ ap (λ ns. c.args.needs.now ++ ns) (of_line s t c.requires.are line c.requires.named) in
     let among : c.add_initializers.new.needs ≡ c.add_of.new.needs ++ filter_map f (flat_map initializer_points (of_kind kinds.Initializer has)) =
     rw (← c.in_ok-initializers.ensures, ← c.as_slice.ensures) c.in_ok-add_initializers.ensures in
