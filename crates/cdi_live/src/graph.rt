@@ -1,6 +1,6 @@
 //! The graph of what needs what.
-ghost use Rattle.std.specs.Prelude.{◌≡◌, ◌+◌, ◌<◌, ◌^◌, ◌++◌, ◌∷◌, [], true, if◌then◌else◌, vec_len, slice_set, length, IfOk, OnOk};
-ghost use Rattle.std.specs.List.{filter_map};
+ghost use Rattle.std.specs.Prelude.{◌≡◌, ◌+◌, ◌<◌, ◌^◌, ◌++◌, ◌∷◌, [], true, if◌then◌else◌, nat_eq, vec_len, slice_set, length, IfOk, OnOk};
+ghost use Rattle.std.specs.List.{filter_map, IsDistinct};
 ghost use Rattle.cdi_live.specs.Cycles.{flag};
 ghost use Rattle.cdi_live.specs.FieldNeeds.{AreFieldNeeds};
 ghost use Rattle.cdi_live.specs.Graphs as spec;
@@ -61,8 +61,9 @@ impl Counts {
     /// The numbers of some nodes, each once.
     fn numbers_of(self, alloc: Global, nodes: &[Node]) -> Result<Seq<usize>, AllocError>
         requires { self.beans + self.interceptors < 2 ^ 64 }
-        ensures { IfOk result (λ row. spec.HaveSameItems row (filter_map (spec.number_of
+        ensures same { IfOk result (λ row. spec.HaveSameItems row (filter_map (spec.number_of
             (record { beans = self.beans; interceptors = self.interceptors })) nodes.now)) }
+        ensures once { IfOk result (IsDistinct nat_eq) }
     {
         let mut listed = vec![in alloc; false; self.beans + self.interceptors]?;
         let mut row = Seq::empty(alloc);

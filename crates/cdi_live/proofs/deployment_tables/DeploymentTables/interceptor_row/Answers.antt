@@ -6,5 +6,5 @@ use Rattle.cdi_live.proofs.deployment_tables.DeploymentTables.interceptor_row.Go
 pub returns : goal.returns
 returns c =
     let those = c.in_ok-needs.needs in
-    let is : HaveSameItems c.in_ok-row.row (filter_map (number_of (counts_of c.args.self.now)) those) = (rw (c.counts.ensures.counts, c.as_slice.ensures) at c.in_ok-row.ensures) in
+    let is : HaveSameItems c.in_ok-row.row (filter_map (number_of (counts_of c.args.self.now)) those) = (rw (c.counts.ensures.counts, c.as_slice.ensures) at c.in_ok-row.ensures.same) in
     IsRowOf.needing those c.in_ok-needs.ensures is

@@ -1,10 +1,16 @@
-use Rattle.std.proofs.Common.{◌∙◌, ℕ, ◌+◌, List, take, sym}
+use Rattle.std.proofs.Common.{◌≡◌, ◌∙◌, ℕ, ◌+◌, false, List, replicate, take, rules, sym}
 use Rattle.std.specs.List.{filter_map}
 use Rattle.cdi_live.specs.Graphs.{Counts, number_of}
-use Rattle.cdi_live.proofs.RowNumbers.{number_more, with_number, without_number}
+use Rattle.cdi_live.proofs.RowNumbers.{none_yet, number_more, with_number, without_number}
 use Rattle.cdi_live.proofs.Rows.{number_below}
 use Rattle.cdi_live.proofs.graph.Counts.numbers_of.Goals as goal
 use Rattle.cdi_live.proofs.graph.Counts.numbers_of.Goals.{in-Some+in_ok-add_number, in_default}
+
+pub loop-node-init : goal.loop-node-init
+loop-node-init c =
+    let count = c.args.self.beans + c.args.self.interceptors in
+    let none : c.in_ok-listed.listed.items ≡ replicate count false = search rules in
+    rw (none, c.empty-row.ensures) (none_yet count)
 
 pub loop-node-preserved : goal.loop-node-preserved
 loop-node-preserved c =
