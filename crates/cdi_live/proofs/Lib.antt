@@ -5,7 +5,9 @@ pub mod Members
 pub mod Needy
 pub mod NeedyProducts
 pub mod Paths
+pub mod RowNumbers
 pub mod Rows
 pub mod Within
+pub mod FieldNeeds
 pub mod FieldSets
 pub mod MemberSets

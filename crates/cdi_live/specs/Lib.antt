@@ -4,6 +4,7 @@ pub mod Needs
 pub mod OwnPoints
 pub mod Settings
 pub mod Enabled
+pub mod FieldNeeds
 pub mod Live
 pub mod LiveSets
 pub mod MemberSets

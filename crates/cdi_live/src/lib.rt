@@ -6,6 +6,7 @@
 pub mod cycle_rule;
 mod cycles;
 pub mod deployment_tables;
+mod field_needs;
 mod graph;
 pub mod live_tables;
 mod member_set;
