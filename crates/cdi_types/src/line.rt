@@ -10,7 +10,7 @@ use crate::member::is_inherited;
 use crate::name_set::NameSet;
 use crate::part::ClassPart;
 use cdi_base::Seq;
-use cdi_deployment::{Class, Field, InjectedField, Member};
+use cdi_deployment::{Class, Field, Member};
 use std::alloc::{AllocError, Global};
 use std::marker::Model;
 
@@ -123,21 +123,6 @@ impl<'a> ClassLine<'a> {
         let mut fields = Seq::empty(alloc);
         for class in self.classes.as_slice() {
             add_parts(class, class.fields.as_slice(), &mut fields)?;
-        }
-        Ok(fields)
-    }
-
-    /// The injected fields that the last class of the line has (Jakarta CDI 4.0, *Inheritance of member-level metadata*): those of
-    /// all its classes, none of which is overridden.
-    pub fn injected_fields(
-        &self,
-        alloc: Global,
-    ) -> Result<Seq<ClassPart<'a, InjectedField>>, AllocError>
-        ensures { IfOk result (λ fields. fields ≡ spec.injected_fields_of self.now) }
-    {
-        let mut fields = Seq::empty(alloc);
-        for class in self.classes.as_slice() {
-            add_parts(class, class.inject.as_slice(), &mut fields)?;
         }
         Ok(fields)
     }
