@@ -8,7 +8,7 @@ use crate::left::Unadmitted;
 use cdi_steps::Job;
 use lru::LruCache;
 use std::alloc::Global;
-use std::hash::{BuildHasher, BuildHasherDefault, FoldHasher, Hash, Hasher};
+use std::hash::{BuildHasher, BuildHasherDefault, FoldHasher, Hasher};
 use std::num::NonZeroUsize;
 
 /// So many lines are kept.
@@ -48,7 +48,7 @@ pub(crate) struct KnownLines {
 /// A hash of a line. Others may have the same.
 fn hash_of(line: &[u8]) -> u64 {
     let mut state: FoldHasher = BuildHasherDefault::new().build_hasher();
-    line.hash(&mut state);
+    state.write(line);
     state.finish()
 }
 

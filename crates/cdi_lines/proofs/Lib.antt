@@ -1,3 +1,4 @@
+pub mod FirstPlaces
 pub mod Lines
 pub mod Mapped
 pub mod Reading

@@ -7,6 +7,7 @@ ghost use Rattle.cdi_lines.specs.Served.{Answered, Blames};
 use crate::fault::ServeFault;
 use crate::responder::Responder;
 use crate::sink::Sink;
+use memchr::memchr;
 use std::alloc::Global;
 
 /// The byte that ends a line.
@@ -34,7 +35,7 @@ fn answer_line<W: Sink, A: Responder>(
 fn line_end(bytes: &[u8]) -> Option<usize>
     ensures { result ≡ position (λ byte. byte == 10) bytes.now }
 {
-    bytes.iter().position(|byte| *byte == LINE_FEED)
+    memchr(LINE_FEED, bytes)
 }
 
 /// Answers each line that ends in a piece of the input. The line that has begun before it stands in `line`, and
