@@ -20,16 +20,16 @@ ghost use Rattle.cdi_frames.specs.Stacks.{KnownStack, KnownTurn};
 ghost use Rattle.cdi_run_tables.specs.Machine.{machine_tables};
 ghost use Rattle.cdi_machine.specs.Tables.{Tables};
 ghost use Rattle.cdi_machine.specs.World.{World};
-ghost use Rattle.cdi_steps.specs.Known.{JobTellsRightly, KnownJob};
+ghost use Rattle.cdi_steps.specs.Known.{JobTellsRightly, KnownJob, TellsRightly};
 
 use crate::entries::{push_entries, push_name, push_value};
 use crate::heard::{beans_of, hear};
 use cdi_base::{Names, Refusal, Seq, Text, Value};
 use cdi_frames::run::{run, turn};
 use cdi_frames::stack::{Stack, Turn};
-use cdi_host::Contents;
+use cdi_host::{Contents, Resolution, Tables as HostTables};
 use cdi_machine::{Driver, Failure};
-use cdi_runtime::Runtime;
+use cdi_runtime::{Runtime, ServedTables};
 use cdi_steps::task::Task;
 use cdi_steps::{BeanPurpose, BeanUse, Completion, Event, Given, Job, Outcome};
 use cdi_tests_player::Ledger;
@@ -154,16 +154,31 @@ fn job_of(alloc: Global, names: &Names, words: &[&str]) -> Result<Option<Job>, A
     }
 }
 
-/// Nothing is told of what a job resolves to.
-fn forget_resolution(job: &mut Job)
-    ensures { (tables : Tables) → JobTellsRightly tables job.new }
+/// What the use of a bean resolves to, if it is a call whose names are known.
+fn resolution_of(tables: &ServedTables, used: &BeanUse) -> Option<Resolution>
+    ensures { TellsRightly (machine_tables tables.now)
+        (record used.now { resolved = result }) }
+{
+    let qualifiers = used.qualifiers.as_slice();
+    if !tables.run_tables().is_known(used.bean_type, qualifiers) {
+        return None;
+    }
+    match used.purpose {
+        BeanPurpose::Call { .. } => Some(tables.resolve(used.bean_type, qualifiers)),
+        BeanPurpose::Read => None,
+    }
+}
+
+/// Tells what a job resolves to, if it is a call whose names are known, and nothing otherwise.
+fn tell_resolution(tables: &ServedTables, job: &mut Job)
+    ensures { JobTellsRightly (machine_tables tables.now) job.new }
 {
     if let Job::Use {
         request: _request,
         used,
     } = job
     {
-        used.resolved = None;
+        used.resolved = resolution_of(tables, &**used);
     }
 }
 
@@ -186,12 +201,11 @@ fn refusal_of<D: Driver>(runtime: &mut Runtime<D>, job: &mut Job) -> Option<Refu
     ensures known { result ≡ None
         → KnownJob (machine_tables runtime.new.tables) runtime.new.world job.new }
 {
-    forget_resolution(job);
-    let refusal = runtime.refusal(false, job);
+    tell_resolution(&runtime.tables, job);
     if is_resolved_call(job) {
         return None;
     }
-    refusal
+    runtime.refusal(false, job)
 }
 
 fn push_end(text: &mut String, names: &Names, outcome: &Outcome) -> Result<(), AllocError> {
